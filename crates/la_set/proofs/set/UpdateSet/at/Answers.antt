@@ -1,0 +1,25 @@
+use Rattle.std.proofs.Common.{sym, ◌∙◌, ap, arith, length}
+use Rattle.std.specs.List.{slice_get}
+use Rattle.std.proofs.lemmas.Option.{slice_get_past}
+use Rattle.la_set.specs.Histories.{history, updates}
+use Rattle.la_set.proofs.NumberedLists.{length-numbered}
+use Rattle.la_set.proofs.Places.{count_before, count_before-more, updates_count_before, count_before_none, updates-place}
+use Rattle.la_set.proofs.set.UpdateSet.at.Goals as goal
+
+pub loop-replica-init : goal.loop-replica-init
+loop-replica-init c = omega (arith, count_before_none c.args.self.now)
+
+pub loop-replica-preserved : goal.loop-replica-preserved
+loop-replica-preserved c = omega (arith, count_before-more c.args.self.now c.loop-replica.replica, c.loop-replica.invariant, ap length c.updates_of-mine.ensures.updates, length-numbered c.loop-replica.replica 1 (history c.args.self.now c.loop-replica.replica))
+
+pub returns-then-left-mine : goal.returns-then-left-mine
+returns-then-left-mine c =
+    let s = c.args.self.now in let r = c.loop-replica.replica in
+    c.nth.ensures
+    ∙ ap (λ us. slice_get us c.loop-replica.left) c.updates_of-mine.ensures.updates
+    ∙ sym (ap (slice_get (updates s)) c.loop-replica.invariant ∙ updates-place s r c.loop-replica.left (omega arith) (omega (arith, ap length c.updates_of-mine.ensures.updates, length-numbered r 1 (history s r))))
+
+pub returns : goal.returns
+returns c =
+    let s = c.args.self.now in
+    sym (slice_get_past (updates s) c.args.place (omega (arith, c.loop-replica.invariant, ap (count_before s) {x = c.loop-replica.replica} {y = 8} (omega arith), updates_count_before s)))

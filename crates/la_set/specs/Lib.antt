@@ -1,0 +1,10 @@
+pub mod Ids
+pub mod Tags
+pub mod Deeds
+pub mod Histories
+pub mod Inclusion
+pub mod Join
+pub mod Difference
+pub mod Agreement
+pub mod Kept
+pub mod Refusals
