@@ -79,7 +79,7 @@ get_id : (s : Histories) (id : UpdateId) (u : Update) → get s id ≡ Some u �
 get_id s id u e = got_id id (deed_number (history s id.replica) id.number) u e
 
 -- sets with a clash are not compatible
-clash_compatible : (a b : Histories) (id : UpdateId) → ClashesAt a b id → IsCompatible a b → ⊥
+pub clash_compatible : (a b : Histories) (id : UpdateId) → ClashesAt a b id → IsCompatible a b → ⊥
 clash_compatible a b id clash one = clash_got (get a id) (get b id) clash ⊥ (λ u v in_a in_b differ.
     let u_id = get_id a id u in_a in let v_id = get_id b id v in_b in
     differ (one u v (ap (get a) u_id ∙ in_a) (ap (get b) v_id ∙ in_b) (u_id ∙ sym v_id)))

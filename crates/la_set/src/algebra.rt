@@ -126,8 +126,9 @@ impl UpdateSet {
         self.first_clash(other).is_none()
     }
 
-    // The least id that has different updates in the two sets.
-    fn first_clash(&self, other: &UpdateSet) -> Option<UpdateId>
+    /// The least id that has different updates in the two sets, or `None` where no id has. The cost is
+    /// that of comparing the updates that both have, up to the first that differs.
+    pub fn first_clash(&self, other: &UpdateSet) -> Option<UpdateId>
         ensures { MatchOption result (IsCompatible self.now other.now) (λ id. IsLeastClash self.now other.now id) }
     {
         for replica in 0..REPLICAS {

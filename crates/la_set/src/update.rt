@@ -1,4 +1,5 @@
-ghost use Rattle.std.specs.Prelude.{◌≡◌, ◌↔◌, IsTrue, IfOk};
+ghost use Rattle.std.specs.Prelude.{◌≡◌, ◌↔◌, IsOk, IsTrue, IfOk};
+ghost use Rattle.la_set.specs.Deeds.{CopiesInPlace};
 
 use crate::Tags;
 use std::alloc::AllocError;
@@ -37,7 +38,8 @@ impl Op {
     ///
     /// [`INLINE_TAGS`]: crate::INLINE_TAGS
     pub fn copy(&self) -> Result<Op, AllocError>
-        ensures { IfOk result (λ op. op ≡ self.now) }
+        ensures ok { IfOk result (λ op. op ≡ self.now) }
+        ensures room { CopiesInPlace self.now → IsOk result }
     {
         Ok(match self {
             Op::Inc(by) => Op::Inc(*by),
@@ -98,7 +100,8 @@ impl Update {
 
     /// A copy, which takes memory only where [`Op::copy`] does.
     pub fn copy(&self) -> Result<Update, AllocError>
-        ensures { IfOk result (λ update. update ≡ self.now) }
+        ensures ok { IfOk result (λ update. update ≡ self.now) }
+        ensures room { CopiesInPlace self.now.op → IsOk result }
     {
         Ok(Update {
             id: self.id,

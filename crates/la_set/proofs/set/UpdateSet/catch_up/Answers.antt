@@ -26,7 +26,7 @@ pub append-requires : goal.append-requires
 append-requires c =
     let s = c.args.self.now in let t = c.args.other.now in let r = c.args.replica in
     caught-next s t r c.requires c.loop-update.update-index c.loop-update.self c.loop-update.invariant c.in_ok-copy.field-0
-    (got s t r c.loop-update.update-index c.updates_of-have.result.now c.updates_of-theirs.result.now c.update-item.result c.in_ok-copy.field-0 c.updates_of-have.ensures.updates c.updates_of-theirs.ensures.updates c.loop-update-test.true c.update-item.is c.in_ok-copy.ensures)
+    (got s t r c.loop-update.update-index c.updates_of-have.result.now c.updates_of-theirs.result.now c.update-item.result c.in_ok-copy.field-0 c.updates_of-have.ensures.updates c.updates_of-theirs.ensures.updates c.loop-update-test.true c.update-item.is c.in_ok-copy.ensures.ok)
     (omega (arith, c.updates_of-theirs.ensures.limit, ap length c.updates_of-theirs.ensures.updates, length-numbered r 1 (history t r)))
 
 pub returns-in_err-append-clause-kept : goal.returns-in_err-append-clause-kept
@@ -37,7 +37,7 @@ loop-update-preserved c =
     let s = c.args.self.now in let t = c.args.other.now in let r = c.args.replica in
     c.in_ok-append.ensures.ok
     ∙ caught-more s t r c.requires c.loop-update.update-index c.loop-update.self c.loop-update.invariant c.in_ok-copy.field-0
-    (got s t r c.loop-update.update-index c.updates_of-have.result.now c.updates_of-theirs.result.now c.update-item.result c.in_ok-copy.field-0 c.updates_of-have.ensures.updates c.updates_of-theirs.ensures.updates c.loop-update-test.true c.update-item.is c.in_ok-copy.ensures)
+    (got s t r c.loop-update.update-index c.updates_of-have.result.now c.updates_of-theirs.result.now c.update-item.result c.in_ok-copy.field-0 c.updates_of-have.ensures.updates c.updates_of-theirs.ensures.updates c.loop-update-test.true c.update-item.is c.in_ok-copy.ensures.ok)
 
 pub returns-after-loop-update-clause-ok : goal.returns-after-loop-update-clause-ok
 returns-after-loop-update-clause-ok c =

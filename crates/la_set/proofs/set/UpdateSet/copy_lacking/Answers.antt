@@ -21,7 +21,7 @@ loop-update-preserved c =
       | then-not-has+in_ok-copy+in_ok-push w ↦
           let new : lacks s u ≡ true = not_from_false (has_update s u) (false_from_ne_true _ (λ there. both_ways _ w.if-not-has.true (c.has.ensures.1 ((has_update-Decides s u).0 there)))) in
           w.into-is ∙ w.in_ok-push.ensures.ok
-          ∙ ap (λ v. c.loop-update.into ++ v ∷ []) w.in_ok-copy.ensures
+          ∙ ap (λ v. c.loop-update.into ++ v ∷ []) w.in_ok-copy.ensures.ok
           ∙ ap (λ vs. vs ++ u ∷ []) c.loop-update.invariant
           ∙ append_assoc c.args.into.now before (u ∷ [])
           ∙ ap (λ vs. c.args.into.now ++ vs) (sym (one_more ∙ ap (λ b. before ++ cond b (u ∷ []) []) new))

@@ -22,7 +22,7 @@ pub returns-in_err-insert-in-Err-2-clause-error : goal.returns-in_err-insert-in-
 returns-in_err-insert-in-Err-2-clause-error c =
     let had : length c.self.inside.ids.items ≡ length c.args.self.now = ap length c.self.view_is in
     let refused = err_from_is_err_and c.from_residual.result c.from_residual.ensures.1 in
-    rw (refused.1, refused.2) (absent c, full c, omega (arith, c.if-len-ge-MAX_TAGS.false))
+    rw (refused.1, refused.2) (absent c, full c, omega arith)
 
 pub returns-in_err-insert-in-Err-2-clause-room : goal.returns-in_err-insert-in-Err-2-clause-room
 returns-in_err-insert-in-Err-2-clause-room c few = absurd (omega (arith, full c, few))
@@ -33,5 +33,5 @@ invariant_of-self-in-Err-2 c =
     c.in_ok-insert-in-Err-2.ensures.ok ∙ ap (λ ids. insert ids c.in-Err.field-0 c.args.id) (sym c.as_slice.ensures) ∙ c.in-Err.ensures.belongs in
     record {
       ascending = subst (AllPairs IsBelow) (sym now) c.in-Err-2.ensures.ascending;
-      within = omega (arith, c.in_ok-insert-in-Err-2.ensures.len, c.if-len-ge-MAX_TAGS.false);
+      within = omega (arith, c.in_ok-insert-in-Err-2.ensures.len);
     }

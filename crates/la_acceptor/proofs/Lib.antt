@@ -1,0 +1,3 @@
+pub mod Shortenings
+pub mod Replies
+pub mod Accepting
