@@ -82,6 +82,28 @@ impl Acceptor {
         }
     }
 
+    /// Answers an offer as [`Acceptor::offer`] does, with the reply and a copy of it: one to send, and
+    /// one to keep. The refusals are the same, and after each the accepted set is unchanged, also
+    /// where only the copy was refused.
+    pub fn offer_with_copy(&mut self, offered: &UpdateSet) -> Result<(Reply, Reply), AcceptorError>
+        ensures reply { IfOk result (λ replies. replies.0 ≡ answer self.old offered.now) }
+        ensures copy { IfOk result (λ replies. replies.1 ≡ answer self.old offered.now) }
+        ensures accepted { OnOk result (self.new ≡ union self.old offered.now) }
+        ensures compatible { OnOk result (IsCompatible self.old offered.now) }
+        ensures error { IfErr result (IsOfferRefusal self.old offered.now) }
+        ensures err { OnErr result (self.new ≡ self.old) }
+    {
+        let before = counts_of(&self.accepted);
+        let reply = self.offer(offered)?;
+        match reply.copy() {
+            Ok(copy) => Ok((reply, copy)),
+            Err(_refused) => {
+                take_back(&mut self.accepted, &before);
+                Err(AcceptorError::Memory)
+            }
+        }
+    }
+
     // Adds the offer to the accepted set.
     fn join(&mut self, offered: &UpdateSet) -> Result<(), AcceptorError>
         ensures ok { OnOk result (self.new ≡ union self.old offered.now) }

@@ -141,8 +141,10 @@ impl UpdateSet {
         None
     }
 
-    // Adds what the other set has beyond this one's counts, or takes back what it added.
-    fn join(&mut self, other: &UpdateSet) -> Result<(), AllocError>
+    /// Adds what the other set has beyond this one's counts, without looking for clashes: the join,
+    /// which is the union where no id has two updates, as where one set contains the other. After
+    /// a refusal the set is unchanged. The cost is that of copying the updates that are added.
+    pub fn join(&mut self, other: &UpdateSet) -> Result<(), AllocError>
         ensures ok { OnOk result (self.new ≡ union self.old other.now) }
         ensures err { OnErr result (self.new ≡ self.old) }
     {
