@@ -1,0 +1,25 @@
+-- Stored runs, computed from the definitions.
+pub mod Words
+pub mod FirstRun
+pub mod RepeatedReply
+pub mod OldBallot
+pub mod RefusalAndRefinement
+pub mod RefinementBesideABuffer
+pub mod LateTell
+pub mod LearntSmallerThanTheView
+pub mod HeavyVoter
+pub mod ExactHalf
+pub mod DecideTwice
+pub mod Unanimous
+pub mod OneReplica
+pub mod NotYetSent
+pub mod Cap
+pub mod OneOfferTwice
+pub mod BufferAndTells
+pub mod LateDissenter
+pub mod NobodySole
+pub mod OwnVoteSoleAlone
+pub mod ByReplicas
+pub mod Taken
+pub mod ToldTwice
+pub mod OneValueAlone
