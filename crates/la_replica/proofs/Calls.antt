@@ -1,5 +1,5 @@
 -- From what one instance does to what the replica does
-use Rattle.std.proofs.Common.{◌≡◌, ◌≢◌, ◌⊎◌, ℕ, ◌<◌, ◌≤◌, true, List, length, get_or, slice_get, slice_set, Option, Some, None, IsSomeAnd, option_map, Result, Ok, Err, IfOk, IfErr, OnErr, All, refl, sym, ap, subst, ◌∙◌, inl, inr}
+use Rattle.std.proofs.Common.{◌≡◌, ◌⊎◌, ℕ, ◌<◌, true, length, get_or, slice_get, slice_set, Some, IsSomeAnd, option_map, Result, Ok, Err, IfOk, IfErr, OnErr, All, refl, sym, ap, subst, ◌∙◌, inl, inr}
 use Rattle.std.proofs.lemmas.Option.{slice_get_read}
 use Rattle.la_set.specs.Deeds.{Deed}
 use Rattle.la_set.specs.Histories.{Histories}

@@ -1,13 +1,13 @@
 -- When a set is strictly larger than the view, and what is then taken
-use Rattle.std.proofs.Common.{◌≡◌, ◌≢◌, Bool, true, false, not, ◌&&◌, cond, Option, Some, None, inl, inr, refl, sym, ◌∙◌, ap, subst}
+use Rattle.std.proofs.Common.{◌≡◌, true, false, not, sym, ◌∙◌}
 use Rattle.std.specs.Bool.{Decides}
-use Rattle.std.proofs.lemmas.Bool.{cases_Bool, cond-true, cond-false}
-use Rattle.std.proofs.lemmas.Bool.Decides.{Decides-and, Decides-not, not_from_Decides}
+use Rattle.std.proofs.lemmas.Bool.{cond-true, cond-false}
+use Rattle.std.proofs.lemmas.Bool.Decides.{Decides-and, Decides-not}
 use Rattle.la_set.specs.Histories.{Histories}
-use Rattle.la_set.specs.Inclusion.{IsSubset, is_subset, IsOrderOf}
+use Rattle.la_set.specs.Inclusion.{IsSubset, is_subset}
 use Rattle.la_set.specs.Join.{union, IsCompatible}
 use Rattle.la_set.proofs.Decisions.{is_subset-Decides}
-use Rattle.la_set.proofs.Inclusions.{subset-refl, compatible-subset}
+use Rattle.la_set.proofs.Inclusions.{compatible-subset}
 use Rattle.la_set.proofs.Unions.{union-subset}
 use Rattle.la_replica.specs.Views.{is_larger, view_after}
 

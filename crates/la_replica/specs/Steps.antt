@@ -1,5 +1,5 @@
 -- What one instance of a replica does with a submission or a message: what is said and sent, and what stands afterwards.
-use Rattle.std.specs.Prelude.{ℕ, ◌+◌, ◌==◌, Bool, List, [], ◌∷◌, Option, Some, None, if◌then◌else◌}
+use Rattle.std.specs.Prelude.{ℕ, ◌+◌, ◌==◌, List, [], ◌∷◌, Option, Some, None, if◌then◌else◌}
 use Rattle.la_set.specs.Deeds.{Deed}
 use Rattle.la_set.specs.Histories.{Histories, empty}
 use Rattle.la_set.specs.Join.{union}
@@ -19,7 +19,7 @@ use Rattle.la_replica.specs.declared.out.Said.{Said}
 use Rattle.la_replica.specs.declared.out.Said.TheVariants.{Opened, Held, Answered, Counted, Ignored, Refined, Learnt, Took, Kept}
 use Rattle.la_replica.specs.declared.sender.Sender.{Sender}
 use Rattle.la_replica.specs.Messages.{offers_of_next, reply_to, mail_of}
-use Rattle.la_replica.specs.Views.{is_larger, view_after, view_after_learning}
+use Rattle.la_replica.specs.Views.{is_larger, view_after_learning}
 
 -- what is said and sent, and what the instance and the replica's view are afterwards
 pub record Step : Type 0 where

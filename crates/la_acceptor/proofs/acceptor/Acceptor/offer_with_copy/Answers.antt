@@ -9,7 +9,7 @@ pub returns-in-Err-clause-err : goal.returns-in-Err-clause-err
 returns-in-Err-clause-err c =
     let before = c.args.self.now in
     let back : c.take_back.new.set ≡ before =
-        c.take_back.ensures before
-        (subst (IsSubset before) (sym (c.self-2.view_is ∙ c.in_ok-reply.ensures.accepted)) (subset-union_left before c.args.offered.now))
-        (λ r lt. c.counts_of-before.ensures r lt ∙ ap (λ s. count s r) c.self.view_is) in
+    c.take_back.ensures before
+    (subst (IsSubset before) (sym (c.self-2.view_is ∙ c.in_ok-reply.ensures.accepted)) (subset-union_left before c.args.offered.now))
+    (λ r lt. c.counts_of-before.ensures r lt ∙ ap (λ s. count s r) c.self.view_is) in
     elim c.match-reply.branch [ in-No-1 w ↦ w.self-is ∙ back | in-Yes-1 w ↦ w.self-is ∙ back ]

@@ -1,7 +1,5 @@
-use Rattle.std.proofs.Common.{rules, ◌≡◌, ◌<◌, ℕ, length, Some, IfOk, IfErr, slice_set, subst, sym, ap, ◌∙◌, arith, refl}
-use Rattle.la_set.specs.Histories.{Histories}
+use Rattle.std.proofs.Common.{rules, ◌≡◌, Some, IfOk, IfErr, slice_set, subst, sym, ap, ◌∙◌, refl}
 use Rattle.la_proposer.specs.Majority.{votes_of}
-use Rattle.la_replica.specs.declared.message.Message.{Message}
 use Rattle.la_replica.specs.Members.{Member, receives, sender_of}
 use Rattle.la_replica.specs.Refusals.{IsFor, IsReceivable, IsReceiveRefusal}
 use Rattle.la_replica.proofs.Replicas.{step_is}
