@@ -1,1 +1,13 @@
 mod Runs
+mod Lists
+mod Happens
+mod Accepted
+mod Quorum
+mod GrowingViews
+mod Chains
+mod Honest
+mod Growth
+mod TakenUpdates
+mod Validity
+mod LearntOrder
+mod LargestViews

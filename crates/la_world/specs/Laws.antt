@@ -1,5 +1,5 @@
--- What is to hold of every list of events, whatever is lost, repeated or delivered late. The newest
--- event of a list is first. No contract cites these statements yet, so nothing here is proved.
+-- What holds of every list of events, whatever is lost, repeated or delivered late. The newest event
+-- of a list is first. src/laws.rt has a law for each of these statements.
 use Rattle.std.specs.Prelude.{◌≡◌, ℕ, ◌⊎◌, ◌+◌, ◌<◌, List, [], ◌∷◌, length, drop, slice_get, Some, Contains}
 use Rattle.la_set.specs.Histories.{Histories, empty}
 use Rattle.la_set.specs.Inclusion.{IsSubset}

@@ -9,6 +9,7 @@
 mod config;
 mod error;
 mod event;
+pub mod laws;
 mod report;
 mod step;
 

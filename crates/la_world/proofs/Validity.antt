@@ -1,0 +1,62 @@
+-- A learnt set holds what its replica had submitted when the series of refinements opened, and only
+-- what was submitted until its place.
+use Rattle.std.proofs.Common.{◌≡◌, ℕ, suc, ◌+◌, List, [], ◌∷◌, length, drop, Option, refl, sym, ◌∙◌, ap, subst, arith}
+use Rattle.la_world.specs.declared.step.Learnt.{Learnt}
+use Rattle.la_replica.specs.declared.message.Message.{Message}
+use Rattle.la_world.specs.Groups.{Group}
+use Rattle.la_world.specs.Events.{Event}
+use Rattle.la_world.specs.Trace.{Did, Entry, Trace}
+use Rattle.la_world.specs.Ballots.{learnt_by, round}
+use Rattle.la_world.specs.Learnings.{learning_of, learnt}
+use Rattle.la_world.specs.Playing.{entry, trace}
+use Rattle.la_world.specs.Laws.{LearntAreValid}
+use Rattle.la_world.proofs.Lists.{AllIn, AllIn-append, AllIn-each, AllIn_at, contains_IsIn}
+use Rattle.la_world.proofs.Happens.{Happens, silent, opens, answers_offer, refines, learns, round_is_of, happens}
+use Rattle.la_world.proofs.Quorum.{learnt_ballot}
+use Rattle.la_world.proofs.Chains.{learning_stands, trace_drop}
+use Rattle.la_world.proofs.Honest.{IsSubmitted, submitted_more, Honest, honest, round_honest}
+use Rattle.la_world.proofs.TakenUpdates.{has_taken}
+
+-- when it was learnt, all of it had been submitted
+record WasSubmitted (t : Trace) (l : Learnt) : Type 0 where
+  later : ℕ
+  until_place : length (drop later t) ≡ l.place + 1
+  submitted : IsSubmitted (drop later t) l.instance l.updates
+
+new_submitted : (g : Group) (x : Entry) (t : Trace) (v : Event) (m : Option Message) (d : Did) → Honest g t → Happens g t v m d → AllIn (WasSubmitted (x ∷ t)) (learning_of (length t) (learnt_by d))
+new_submitted g x t v m d h (silent o l s) = subst (λ z. AllIn (WasSubmitted (x ∷ t)) (learning_of (length t) z)) (sym l) tt
+new_submitted g x t v m d h (opens b o) = tt
+new_submitted g x t v m d h (answers_offer c s e) = tt
+new_submitted g x t v m d h (refines b o) = tt
+new_submitted g x t v m d h (learns c a next e q y o) =
+    let b = round t c.instance c.to in
+    let of = round_is_of t c.instance c.to in
+    (record { later = 0; until_place = omega arith; submitted = submitted_more x t b.instance b.updates (subst (λ i. IsSubmitted t i b.updates) (sym of.instance) (round_honest g t h c.instance c.to)) }, tt)
+
+were_submitted : (g : Group) (events : List Event) → AllIn (WasSubmitted (trace g events)) (learnt (trace g events))
+unfolding trace learnt
+were_submitted g [] = tt
+were_submitted g (e ∷ events) =
+    let t = trace g events in
+    let x = entry g t e in
+    AllIn-append (WasSubmitted (x ∷ t)) (learnt t) (learning_of (length t) (learnt_by x.did))
+    (AllIn-each (WasSubmitted t) (WasSubmitted (x ∷ t)) (λ l k. record { later = suc k.later; until_place = k.until_place; submitted = k.submitted }) (learnt t) (were_submitted g events))
+    (new_submitted g x t x.event x.delivered x.did (honest g events) (happens g t e))
+
+length_trace : (g : Group) (events : List Event) → length (trace g events) ≡ length events
+unfolding trace
+length_trace g [] = refl
+length_trace g (e ∷ events) = ap suc (length_trace g events)
+
+pub learnt_valid : LearntAreValid
+learnt_valid g events l c =
+    let t = trace g events in
+    let i = contains_IsIn (learnt t) l c in
+    let s = learning_stands g events l i in
+    let w = AllIn_at (WasSubmitted t) (learnt t) l (were_submitted g events) i in
+    record {
+      own = has_taken g events l.instance l.replica (learnt_ballot l) s.opened;
+      later = w.later;
+      until_place = sym (length_trace g (drop w.later events)) ∙ ap length (sym (trace_drop g w.later events)) ∙ w.until_place;
+      submitted = subst (λ u. IsSubmitted u l.instance l.updates) (trace_drop g w.later events) w.submitted;
+    }
