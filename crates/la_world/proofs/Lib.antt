@@ -11,3 +11,24 @@ mod TakenUpdates
 mod Validity
 mod LearntOrder
 mod LargestViews
+pub mod OwnHistories
+pub mod Elements
+pub mod Sizes
+pub mod Openings
+pub mod Elsewhere
+pub mod Known
+pub mod Members
+pub mod SentMessages
+pub mod Taking
+pub mod Submitting
+pub mod Quiet
+pub mod Replying
+pub mod Delivering
+pub mod Legal
+pub mod Fitting
+pub mod Starting
+pub mod KeptMessages
+pub mod Shown
+pub mod Standing
+pub mod Allowing
+pub mod SentCounts

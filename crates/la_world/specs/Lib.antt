@@ -16,3 +16,4 @@ pub mod Members
 pub mod Messages
 pub mod StandsFor
 pub mod Laws
+pub mod Following

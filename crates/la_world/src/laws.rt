@@ -1,6 +1,7 @@
 // What holds of every group and every list of events, whatever is lost, repeated or delivered late:
 // laws over the definitions, which no code runs.
 ghost use Rattle.la_world.specs.Laws.{LearntAreComparable, AcknowledgementsHavePlaces, LearntAreValid, BallotsGrow, LearntGrow, ViewsGrow, ViewsAreLargest};
+ghost use Rattle.la_world.specs.Following.{SubmissionsFollow, DeliveriesFollow, SubmissionsFit, DeliveriesFit};
 
 /// Any two sets that were learnt in one instance are comparable.
 pub fn learnt_sets_are_comparable()
@@ -39,4 +40,26 @@ pub fn views_grow()
 /// each, and is one of them, or empty where there is none.
 pub fn views_are_largest()
     ensures { ViewsAreLargest }
+{}
+
+/// In a group without adopt-commit objects a replica's own step at a submission is what the trace says:
+/// what is said, what is sent, and what the replica keeps; every other replica stays as it was.
+pub fn submissions_follow_the_trace()
+    ensures { SubmissionsFollow }
+{}
+
+/// The same of the delivery of a message that was sent.
+pub fn deliveries_follow_the_trace()
+    ensures { DeliveriesFollow }
+{}
+
+/// There a submission is refused where the cap is reached, and else for want of memory alone.
+pub fn submissions_fit()
+    ensures { SubmissionsFit }
+{}
+
+/// There the delivery of a message that was sent is refused for want of memory alone: it never clashes,
+/// and ballots are never spent.
+pub fn deliveries_fit()
+    ensures { DeliveriesFit }
 {}
