@@ -1,4 +1,4 @@
-ghost use Rattle.std.specs.Prelude.{◌≡◌, true, false, ℕ, ◌<◌, ◌≤◌, length, [], ◌∷◌, IfOk, IfErr, OnOk, OnErr, None};
+ghost use Rattle.std.specs.Prelude.{◌≡◌, true, false, ℕ, ◌<◌, ◌≤◌, length, [], ◌∷◌, IfOk, IfErr, OnOk, OnErr, Some, None, if◌then◌else◌};
 ghost use Rattle.la_set.specs.Histories.{Histories};
 ghost use Rattle.la_set.specs.Join.{IsCompatible};
 ghost use Rattle.la_proposer.specs.declared.proposer.TheConstants.{MAX_CAP};
@@ -8,7 +8,7 @@ ghost use Rattle.la_proposer.specs.Refusals.{ReplySpends};
 ghost use Rattle.la_proposer.specs.Clashes.{Fits};
 ghost use Rattle.la_replica.specs.Messages.{reply_in};
 ghost use Rattle.la_replica.specs.Views.{view_after_learning};
-ghost use Rattle.la_replica.specs.Steps.{Step, fresh, submits, answers, said_of_told, last_learnt_after, view_after_hearing, hears, receives};
+ghost use Rattle.la_replica.specs.Steps.{Step, fresh, submits, answers, said_of, said_of_told, copied, last_learnt_after, view_after_hearing, hears, receives};
 ghost use Rattle.la_replica.specs.Refusals.{IsSubmissionRefusal, IsAnswerRefusal, IsHearingRefusal, IsBodyRefusal, IsTellRefusal, FitsBody};
 
 use crate::sender::Sender;
@@ -84,26 +84,29 @@ impl Instance {
         Ok(Out { said, mail })
     }
 
-    // Does what a message to this instance asks for.
+    // Does what a message to this instance asks for, and copies what is learnt by it, if that is
+    // asked for.
     pub fn receive(
         &mut self,
         alloc: Global,
         sender: &Sender,
         message: &Message,
         view: &mut UpdateSet,
-    ) -> Result<Out, ReplicaError>
+        copying: bool,
+    ) -> Result<(Out, Option<UpdateSet>), ReplicaError>
         requires known { message.now.from < length self.old.proposer.votes }
         requires instance { sender.now.instance ≡ message.now.instance }
-        ensures step { IfOk result (λ out. receives sender.now self.old view.old message.now ≡ record { said = out.said; mail = out.mail; at = self.new; view = view.new }) }
+        ensures step { IfOk result (λ made. receives sender.now self.old view.old message.now ≡ record { said = made.0.said; mail = made.0.mail; at = self.new; view = view.new }) }
+        ensures copy { IfOk result (λ made. made.1 ≡ copied copying made.0.said) }
         ensures fits { IfOk result (λ _. FitsBody self.old message.now message.now.body) }
         ensures error { IfErr result (IsBodyRefusal self.old view.old message.now message.now.body) }
         ensures err { OnErr result (self.new ≡ self.old) }
         ensures err_view { OnErr result (view.new ≡ view.old) }
     {
         match &message.body {
-            Body::Offer(offered) => self.answer(alloc, message, offered),
-            Body::Yes | Body::No(_) => self.hear(alloc, sender, message, view),
-            Body::Tell(told) => hear_tell(alloc, sender, view, told),
+            Body::Offer(offered) => Ok((self.answer(alloc, message, offered)?, None)),
+            Body::Yes | Body::No(_) => self.hear(alloc, sender, message, view, copying),
+            Body::Tell(told) => Ok((hear_tell(alloc, sender, view, told)?, None)),
         }
     }
 
@@ -126,16 +129,18 @@ impl Instance {
         })
     }
 
-    // Hears a reply. The step is taken once its mail is there.
+    // Hears a reply. The step is taken once its mail, and the copy that is asked for, are there.
     fn hear(
         &mut self,
         alloc: Global,
         sender: &Sender,
         message: &Message,
         view: &mut UpdateSet,
-    ) -> Result<Out, ReplicaError>
+        copying: bool,
+    ) -> Result<(Out, Option<UpdateSet>), ReplicaError>
         requires { message.now.from < length self.old.proposer.votes }
-        ensures step { IfOk result (λ out. hears sender.now self.old view.old message.now (reply_in message.now.body) ≡ record { said = out.said; mail = out.mail; at = self.new; view = view.new }) }
+        ensures step { IfOk result (λ made. hears sender.now self.old view.old message.now (reply_in message.now.body) ≡ record { said = made.0.said; mail = made.0.mail; at = self.new; view = view.new }) }
+        ensures copy { IfOk result (λ made. made.1 ≡ copied copying made.0.said) }
         ensures fits { IfOk result (λ _. counts self.old.proposer message.now.from message.now.ballot ≡ true → Fits self.old.proposer (reply_in message.now.body)) }
         ensures error { IfErr result (IsHearingRefusal self.old.proposer message.now (reply_in message.now.body)) }
         ensures err { OnErr result (self.new ≡ self.old) }
@@ -145,38 +150,40 @@ impl Instance {
             .proposer
             .foresee(message.from, message.ballot, message.refusal())?;
         if let Heard::Ignored = heard {
-            return Ok(Out::silent(alloc, Said::Ignored));
+            return Ok((Out::silent(alloc, Said::Ignored), None));
         }
         let mail = sender.mail(alloc, message.ballot, &heard)?;
-        self.follow(sender, message, &heard, view)?;
-        Ok(Out {
-            said: Said::from(heard),
-            mail,
-        })
+        let copy = self.follow(sender, message, &heard, view, copying)?;
+        let said = Said::from(heard);
+        Ok((Out { said, mail }, copy))
     }
 
-    // Hears what was foreseen, and keeps what is learnt by it.
+    // Hears what was foreseen, keeps what is learnt by it, and copies that, if asked to.
     fn follow(
         &mut self,
         sender: &Sender,
         message: &Message,
         heard: &Heard,
         view: &mut UpdateSet,
-    ) -> Result<(), AllocError>
+        copying: bool,
+    ) -> Result<Option<UpdateSet>, AllocError>
         requires known { message.now.from < length self.old.proposer.votes }
         requires fits { counts self.old.proposer message.now.from message.now.ballot ≡ true → Fits self.old.proposer (reply_in message.now.body) }
         requires spares { counts self.old.proposer message.now.from message.now.ballot ≡ true → ¬ ReplySpends (with_reply self.old.proposer message.now.from (reply_in message.now.body)) }
         requires foreseen { heard.now ≡ heard_of self.old.proposer message.now.from message.now.ballot (reply_in message.now.body) }
         ensures ok { OnOk result (self.new ≡ record self.old { proposer = after_reply self.old.proposer message.now.from message.now.ballot (reply_in message.now.body); learnt = last_learnt_after self.old.learnt heard.now }) }
         ensures view { OnOk result (view.new ≡ view_after_hearing sender.now.instance view.old heard.now) }
+        ensures copy { IfOk result (λ copy. copy ≡ copied copying (said_of heard.now)) }
         ensures err { OnErr result (self.new ≡ self.old) }
         ensures err_view { OnErr result (view.new ≡ view.old) }
     {
         let (from, ballot, refusal) = (message.from, message.ballot, message.refusal());
         let Heard::Learnt(learnt, _) = heard else {
-            return self.proposer.follow(from, ballot, refusal, heard);
+            self.proposer.follow(from, ballot, refusal, heard)?;
+            return Ok(None);
         };
         let last = learnt.copy()?;
+        let copy = copy_if(learnt, copying)?;
         let seen = if sender.instance == 0 {
             if_larger(view, learnt)?
         } else {
@@ -187,8 +194,15 @@ impl Instance {
         if let Some(larger) = seen {
             *view = larger;
         }
-        Ok(())
+        Ok(copy)
     }
+}
+
+// A copy, if that is asked for.
+fn copy_if(updates: &UpdateSet, copying: bool) -> Result<Option<UpdateSet>, AllocError>
+    ensures { IfOk result (λ copy. copy ≡ (if copying then Some updates.now else None)) }
+{
+    Ok(if copying { Some(updates.copy()?) } else { None })
 }
 
 // Takes a told set as the view where it is strictly larger.

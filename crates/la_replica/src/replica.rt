@@ -1,9 +1,11 @@
-ghost use Rattle.std.specs.Prelude.{◌≡◌, ℕ, ◌+◌, ◌*◌, ◌<◌, ◌≤◌, length, Some, IfOk, IfErr, OnErr};
+ghost use Rattle.std.specs.Prelude.{◌≡◌, ℕ, ◌+◌, ◌*◌, ◌<◌, ◌≤◌, length, slice_get, true, Some, option_map, IfOk, IfErr, OnErr};
 ghost use Rattle.std.specs.Option.{option_copied};
 ghost use Rattle.la_set.specs.Deeds.{Deed};
 ghost use Rattle.la_proposer.specs.declared.proposer.TheConstants.{MAX_CAP};
 ghost use Rattle.la_proposer.specs.Majority.{votes_of};
+ghost use Rattle.la_proposer.specs.Proposing.{submitted};
 ghost use Rattle.la_replica.specs.Members.{Member, start, submits, receives, sender_of, last_learnt};
+ghost use Rattle.la_replica.specs.Steps.{copied};
 ghost use Rattle.la_replica.specs.Refusals.{IsSubmitRefusal, IsReceiveRefusal, IsReceivable, HasRoom};
 
 use crate::instance::Instance;
@@ -101,6 +103,14 @@ impl Replica {
         self.instances.get(instance as usize)?.learnt.as_ref()
     }
 
+    /// How many updates it has submitted in an instance; `None` where there is no such instance.
+    pub fn submitted(&self, instance: u8) -> Option<u32>
+        ensures { result ≡ option_map (λ at. submitted at.proposer) (slice_get self.now.instances instance) }
+    {
+        let at = self.instances.get(instance as usize)?;
+        Some(at.proposer.submitted())
+    }
+
     /// Submits an update for an object in an instance, under the replica's next number there. A
     /// ballot opens, and is offered to every replica; or the update waits while one is open.
     ///
@@ -140,6 +150,37 @@ impl Replica {
         ensures error { IfErr result (IsReceiveRefusal self.old message.now) }
         ensures err { OnErr result (self.new ≡ self.old) }
     {
+        let (out, _) = self.receive_as(message, false)?;
+        Ok(out)
+    }
+
+    /// Receives a message as [`Replica::receive`] does, and copies the set that is learnt by it, if
+    /// one is. Where there is no memory for the copy, `Memory`, and the replica is as before.
+    pub fn receive_with_copy(
+        &mut self,
+        message: &Message,
+    ) -> Result<(Out, Option<UpdateSet>), ReplicaError>
+        ensures step { IfOk result (λ made. receives self.old message.now ≡ Some (made.0, self.new)) }
+        ensures copy { IfOk result (λ made. made.1 ≡ copied true made.0.said) }
+        ensures fits { IfOk result (λ _. IsReceivable self.old message.now) }
+        ensures error { IfErr result (IsReceiveRefusal self.old message.now) }
+        ensures err { OnErr result (self.new ≡ self.old) }
+    {
+        self.receive_as(message, true)
+    }
+
+    // Receives a message, with a copy of what is learnt, if that is asked for.
+    fn receive_as(
+        &mut self,
+        message: &Message,
+        copying: bool,
+    ) -> Result<(Out, Option<UpdateSet>), ReplicaError>
+        ensures step { IfOk result (λ made. receives self.old message.now ≡ Some (made.0, self.new)) }
+        ensures copy { IfOk result (λ made. made.1 ≡ copied copying made.0.said) }
+        ensures fits { IfOk result (λ _. IsReceivable self.old message.now) }
+        ensures error { IfErr result (IsReceiveRefusal self.old message.now) }
+        ensures err { OnErr result (self.new ≡ self.old) }
+    {
         if message.from as usize >= self.votes.len() || message.to != self.own {
             return Err(ReplicaError::NoSuchReplica);
         }
@@ -148,7 +189,7 @@ impl Replica {
         let Some(at) = self.instances.get_mut(message.instance as usize) else {
             return Err(ReplicaError::NoSuchInstance);
         };
-        at.receive(alloc, &sender, message, &mut self.view)
+        at.receive(alloc, &sender, message, &mut self.view, copying)
     }
 
     // Where the replica's messages of an instance come from.

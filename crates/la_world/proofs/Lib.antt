@@ -11,6 +11,7 @@ mod TakenUpdates
 mod Validity
 mod LearntOrder
 mod LargestViews
+mod Order
 pub mod OwnHistories
 pub mod Elements
 pub mod Sizes
@@ -29,6 +30,9 @@ pub mod Fitting
 pub mod Starting
 pub mod KeptMessages
 pub mod Shown
+pub mod TellCounts
 pub mod Standing
 pub mod Allowing
 pub mod SentCounts
+pub mod Worlds
+pub mod Playback

@@ -9,12 +9,18 @@
 mod config;
 mod error;
 mod event;
+mod journal;
 pub mod laws;
+mod player;
 mod report;
+mod speaker;
 mod step;
+mod world;
 
 pub use config::Config;
 pub use error::{Refusal, WorldError};
 pub use event::Event;
+pub use player::run;
 pub use report::{Learnings, Line, Report, Steps, Views};
 pub use step::{Did, Learnt, Opening, Step};
+pub use world::World;

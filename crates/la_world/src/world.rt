@@ -1,0 +1,296 @@
+ghost use Rattle.std.specs.Prelude.{◌≡◌, ℕ, ◌+◌, ◌<◌, ◌^◌, [], length, map, slice_get, option_map, None, IfOk, IfErr, OnOk, OnErr};
+ghost use Rattle.std.specs.Option.{option_copied};
+ghost use Rattle.la_set.specs.Deeds.{Deed};
+ghost use Rattle.la_world.specs.Events.{Past, Submit, Deliver, event_of};
+ghost use Rattle.la_world.specs.Groups.{group_of, replicas};
+ghost use Rattle.la_world.specs.Playing.{trace};
+ghost use Rattle.la_world.specs.Sent.{sent};
+ghost use Rattle.la_world.specs.Learnings.{learnt};
+ghost use Rattle.la_world.specs.Report.{refused, views};
+ghost use Rattle.la_world.specs.Printable.{IsPrintable};
+ghost use Rattle.la_world.specs.StandsFor.{StandsFor};
+ghost use Rattle.la_world.specs.Calls.{IsPlayable, IsMakingRefusal, members_at_start, Plays, IsAllowed, IsPlayRefusal, StandsForMessage, submitted_in, view_in, view_of, report_with};
+
+use crate::journal::Journal;
+use crate::speaker::Speaker;
+use crate::{Config, Event, Learnings, Learnt, Report, Step, Steps, Views, WorldError};
+use la_replica::{Message, Replica};
+use la_set::{Op, UpdateSet};
+use std::alloc::{AllocError, Global};
+use std::marker::Model;
+
+/// A group of replicas and all that was ever sent between them. Any message that was sent may be
+/// delivered at any later time, again and in any order.
+///
+/// It keeps every message and every learnt set, so its memory grows by what is sent and learnt.
+#[derive(Debug, Drop)]
+pub struct World {
+    config: Config,
+    replicas: Vec<Replica>,
+    journal: Journal,
+}
+
+impl Model for World {
+    ghost use Rattle.la_world.specs.StandsFor.{World};
+    ghost use Rattle.la_world.specs.Calls.{IsKept};
+
+    ghost Value = { World };
+
+    ghost view = { λ w. record { config = w.config; members = w.replicas.items; messages = w.journal.messages.items; learnt = w.journal.learnt.items; count = w.journal.count } };
+
+    ghost invariant = { λ w. IsKept (record { config = w.config; members = w.replicas.items; messages = w.journal.messages.items; learnt = w.journal.learnt.items; count = w.journal.count }) };
+}
+
+impl World {
+    /// A group in which nothing has happened.
+    ///
+    /// `BadConfig` comes exactly where a value is out of its range, there are votes for another number
+    /// of replicas, or there are adopt-commit objects, which no world plays yet; else `Memory`.
+    pub fn new(alloc: Global, config: Config) -> Result<World, WorldError>
+        ensures config { IfOk result (λ world. world.config ≡ config) }
+        ensures stands { IfOk result (λ world. StandsFor world []) }
+        ensures playable { OnOk result (IsPlayable config) }
+        ensures error { IfErr result (IsMakingRefusal config) }
+    {
+        if !config.is_playable() {
+            return Err(WorldError::BadConfig);
+        }
+        Ok(World {
+            config,
+            replicas: start(alloc, config)?,
+            journal: Journal::new(alloc),
+        })
+    }
+
+    /// Plays an event: a replica submits, or a message that was sent is delivered.
+    ///
+    /// In this order: `NoSuchReplica` where the group has no such replica; `Full` where it has
+    /// submitted its cap; `NoSuchMessage` where fewer messages were sent; `Memory`. After each the
+    /// world is as before. Fewer than 2^64 - 1 events may be accepted.
+    ///
+    /// The cost is that of the replica's step, which copies the sets that are sent or said; a set that
+    /// is learnt is copied three times more, for the replica, the world and the step.
+    pub fn play(&mut self, event: &Event) -> Result<Step, WorldError>
+        requires { self.old.count + 1 < 2 ^ 64 }
+        ensures step { (events : Past) → StandsFor self.old events → IfOk result (λ step. Plays self.old events (event_of event.now) step self.new) }
+        ensures printable { IfOk result IsPrintable }
+        ensures error { (events : Past) → StandsFor self.old events → IfErr result (IsPlayRefusal (group_of self.old.config) (trace (group_of self.old.config) events) (event_of event.now)) }
+        ensures err { OnErr result (self.new ≡ self.old) }
+    {
+        match event {
+            Event::Submit {
+                replica,
+                object,
+                op,
+            } => self.submit(*replica, *object, op),
+            Event::Deliver(number) => self.deliver(*number),
+        }
+    }
+
+    fn submit(&mut self, replica: u8, object: u16, op: &Op) -> Result<Step, WorldError>
+        requires { self.old.count + 1 < 2 ^ 64 }
+        ensures step { (events : Past) → StandsFor self.old events → IfOk result (λ step. Plays self.old events (Submit replica (record { object = object; op = op.now })) step self.new) }
+        ensures printable { IfOk result IsPrintable }
+        ensures error { (events : Past) → StandsFor self.old events → IfErr result (IsPlayRefusal (group_of self.old.config) (trace (group_of self.old.config) events) (Submit replica (record { object = object; op = op.now }))) }
+        ensures err { OnErr result (self.new ≡ self.old) }
+    {
+        self.may_submit(replica)?;
+        match self.submit_freely(replica, object, op) {
+            Ok(step) => Ok(step),
+            Err(AllocError) => Err(WorldError::Memory),
+        }
+    }
+
+    // Plays a submission that is refused for want of memory alone.
+    fn submit_freely(&mut self, replica: u8, object: u16, op: &Op) -> Result<Step, AllocError>
+        requires count { self.old.count + 1 < 2 ^ 64 }
+        requires known { replica < length self.old.members }
+        requires allowed { IsAllowed self.old (Submit replica (record { object = object; op = op.now })) }
+        ensures step { (events : Past) → StandsFor self.old events → IfOk result (λ step. Plays self.old events (Submit replica (record { object = object; op = op.now })) step self.new) }
+        ensures printable { IfOk result IsPrintable }
+        ensures err { OnErr result (self.new ≡ self.old) }
+    {
+        let op = op.copy()?;
+        self.journal.reserve(self.config.replicas)?;
+        let Ok(out) = self.replicas[replica as usize].submit(0, object, op) else {
+            return Err(AllocError);
+        };
+        let speaker = Speaker {
+            replicas: self.config.replicas,
+            replica,
+            instance: 0,
+            ballot: 0,
+        };
+        Ok(self.journal.note(&speaker, out, None))
+    }
+
+    // Whether a replica may submit, whatever it submits: by the first refusal that fits.
+    #[tactic(auto, using(crate::proofs::Worlds::submitter_known))]
+    fn may_submit(&self, replica: u8) -> Result<(), WorldError>
+        ensures known { OnOk result (replica < length self.now.members) }
+        ensures allowed { (events : Past) → StandsFor self.now events → OnOk result ((deed : Deed) → refused (group_of self.now.config) (trace (group_of self.now.config) events) (Submit replica deed) ≡ None) }
+        ensures error { (events : Past) → StandsFor self.now events → IfErr result (λ e. (deed : Deed) → IsPlayRefusal (group_of self.now.config) (trace (group_of self.now.config) events) (Submit replica deed) e) }
+    {
+        match submitted_among(&self.replicas, replica) {
+            None => Err(WorldError::NoSuchReplica),
+            Some(count) if count >= self.config.cap => Err(WorldError::Full),
+            Some(_) => Ok(()),
+        }
+    }
+
+    fn deliver(&mut self, number: u64) -> Result<Step, WorldError>
+        requires { self.old.count + 1 < 2 ^ 64 }
+        ensures step { (events : Past) → StandsFor self.old events → IfOk result (λ step. Plays self.old events (Deliver number) step self.new) }
+        ensures printable { IfOk result IsPrintable }
+        ensures error { (events : Past) → StandsFor self.old events → IfErr result (IsPlayRefusal (group_of self.old.config) (trace (group_of self.old.config) events) (Deliver number)) }
+        ensures err { OnErr result (self.new ≡ self.old) }
+    {
+        if number >= self.sent() {
+            return Err(WorldError::NoSuchMessage);
+        }
+        match self.deliver_freely(number as usize) {
+            Ok(step) => Ok(step),
+            Err(AllocError) => Err(WorldError::Memory),
+        }
+    }
+
+    // Delivers a message that was sent, which is refused for want of memory alone.
+    fn deliver_freely(&mut self, number: usize) -> Result<Step, AllocError>
+        requires count { self.old.count + 1 < 2 ^ 64 }
+        requires known { number < length self.old.messages }
+        ensures step { (events : Past) → StandsFor self.old events → IfOk result (λ step. Plays self.old events (Deliver number) step self.new) }
+        ensures printable { IfOk result IsPrintable }
+        ensures err { OnErr result (self.new ≡ self.old) }
+    {
+        self.journal.reserve(self.config.replicas)?;
+        let message = &self.journal.messages[number];
+        let speaker = Speaker {
+            replicas: self.config.replicas,
+            replica: message.to,
+            instance: message.instance,
+            ballot: message.ballot,
+        };
+        let Ok((out, copy)) = self.replicas[message.to as usize].receive_with_copy(message) else {
+            return Err(AllocError);
+        };
+        Ok(self.journal.note(&speaker, out, copy))
+    }
+
+    /// How many events were accepted.
+    pub fn events(&self) -> u64
+        ensures value { result ≡ self.now.count }
+        ensures stands { (events : Past) → StandsFor self.now events → result ≡ length events }
+    {
+        self.journal.count
+    }
+
+    /// How many messages were sent.
+    #[tactic(auto, using(crate::proofs::Worlds::sent_is))]
+    pub fn sent(&self) -> u64
+        ensures value { result ≡ length self.now.messages }
+        ensures stands { (events : Past) → StandsFor self.now events → result ≡ length (sent (replicas (group_of self.now.config)) (trace (group_of self.now.config) events)) }
+    {
+        self.journal.messages.len() as u64
+    }
+
+    /// The message with a number, from 0 in the order in which they were sent; `None` where fewer were
+    /// sent.
+    #[tactic(auto, using(crate::proofs::Worlds::message_found))]
+    pub fn message(&self, number: u64) -> Option<&Message>
+        ensures value { option_copied result ≡ slice_get self.now.messages number }
+        ensures stands { (events : Past) → StandsFor self.now events → StandsForMessage (option_copied result) (slice_get (sent (replicas (group_of self.now.config)) (trace (group_of self.now.config) events)) number) }
+    {
+        self.kept(number)
+    }
+
+    fn kept(&self, number: u64) -> Option<&Message>
+        ensures { option_copied result ≡ slice_get self.now.messages number }
+    {
+        self.journal.messages.get(number as usize)
+    }
+
+    /// The view of a replica; `None` where the group has no such replica.
+    #[tactic(auto, using(crate::proofs::Worlds::view_is))]
+    pub fn view(&self, replica: u8) -> Option<&UpdateSet>
+        ensures value { option_copied result ≡ view_in self.now replica }
+        ensures stands { (events : Past) → StandsFor self.now events → option_copied result ≡ view_of (group_of self.now.config) (trace (group_of self.now.config) events) replica }
+    {
+        view_among(&self.replicas, replica)
+    }
+
+    /// A report of these lines, of what was learnt and of the views, at the cost of copying the learnt
+    /// sets and the views. It refuses with want of memory alone.
+    #[tactic(auto, using(crate::proofs::Worlds::views_are))]
+    pub fn report(&self, steps: Steps) -> Result<Report, AllocError>
+        ensures value { IfOk result (λ report. report ≡ report_with self.now steps) }
+        ensures stands { (events : Past) → StandsFor self.now events → IfOk result (λ report. report ≡ record { config = self.now.config; steps = steps; learnt = learnt (trace (group_of self.now.config) events); views = views (group_of self.now.config) (trace (group_of self.now.config) events) }) }
+    {
+        Ok(Report {
+            config: self.config,
+            steps,
+            learnt: Learnings::from(copy_learnings(&self.journal.learnt)?),
+            views: Views::from(copy_views(&self.replicas)?),
+        })
+    }
+}
+
+// How much a replica has submitted in instance 0, if there is one with this number.
+fn submitted_among(replicas: &[Replica], replica: u8) -> Option<u32>
+    ensures { result ≡ submitted_in replicas.now replica }
+{
+    match replicas.get(replica as usize) {
+        Some(replica) => replica.submitted(0),
+        None => None,
+    }
+}
+
+// The view of a replica, if there is one with this number.
+fn view_among(replicas: &[Replica], replica: u8) -> Option<&UpdateSet>
+    ensures { option_copied result ≡ option_map (λ m. m.view) (slice_get replicas.now replica) }
+{
+    match replicas.get(replica as usize) {
+        Some(replica) => Some(replica.view()),
+        None => None,
+    }
+}
+
+// The replicas of a group in which nothing has happened.
+fn start(alloc: Global, config: Config) -> Result<Vec<Replica>, AllocError>
+    requires { IsPlayable config }
+    ensures { IfOk result (λ members. members.items ≡ members_at_start config) }
+{
+    let mut replicas = Vec::with_capacity(alloc, config.replicas as usize)?;
+    for own in 0..config.replicas {
+        replicas.push(Replica::new(
+            alloc,
+            config.replicas,
+            own,
+            config.cap,
+            config.commits,
+            config.votes,
+        )?)?;
+    }
+    Ok(replicas)
+}
+
+// A copy of a list of learnt sets.
+fn copy_learnings(learnt: &Vec<Learnt>) -> Result<Vec<Learnt>, AllocError>
+    ensures { IfOk result (λ copy. copy.items ≡ learnt.now.items) }
+{
+    let mut copy = Vec::with_capacity(*learnt.allocator(), learnt.len())?;
+    for learning in learnt {
+        copy.push(learning.copy()?)?;
+    }
+    Ok(copy)
+}
+
+// A copy of every replica's view.
+fn copy_views(replicas: &Vec<Replica>) -> Result<Vec<UpdateSet>, AllocError>
+    ensures { IfOk result (λ views. views.items ≡ map (λ m. m.view) replicas.now.items) }
+{
+    let mut views = Vec::with_capacity(*replicas.allocator(), replicas.len())?;
+    for replica in replicas {
+        views.push(replica.view().copy()?)?;
+    }
+    Ok(views)
+}
