@@ -1,0 +1,14 @@
+use Rattle.std.proofs.Common.{◌∙◌, ap, List, map}
+use Rattle.la_world.specs.declared.event.Event.{Event}
+use Rattle.la_world.specs.Events.{event_of}
+use Rattle.la_world.specs.Report.{report}
+use Rattle.la_script.specs.Text.{text_of}
+use Rattle.lattice.proofs.play.answer_to.Goals as goal
+
+pub returns-clause-ok : goal.returns-clause-ok
+returns-clause-ok c = record {
+  script = c.in_ok-script.script;
+  says = record { said = c.in_ok-script.ensures.ok; config = c.in_ok-script.ensures.config };
+  is_text = c.in_ok-text.ensures
+      ∙ ap text_of (c.in-Ok.ensures.report ∙ ap (λ (events : List Event). report c.in_ok-script.script.config (map event_of events)) c.all.ensures);
+}
