@@ -232,6 +232,24 @@ impl World {
             views: Views::from(copy_views(&self.replicas)?),
         })
     }
+
+    /// The report that [`World::report`] would make, of a world that goes: what was learnt is handed
+    /// out, and the views are copied. It refuses with want of memory alone, and then the world is lost.
+    #[tactic(auto, using(crate::proofs::Worlds::views_are))]
+    pub fn into_report(self, steps: Steps) -> Result<Report, AllocError>
+        ensures value { IfOk result (λ report. report ≡ report_with self steps) }
+        ensures stands { (events : Past) → StandsFor self events → IfOk result (λ report. report ≡ record { config = self.config; steps = steps; learnt = learnt (trace (group_of self.config) events); views = views (group_of self.config) (trace (group_of self.config) events) }) }
+    {
+        let views = copy_views(&self.replicas)?;
+        let config = self.config;
+        let journal = self.journal;
+        Ok(Report {
+            config,
+            steps,
+            learnt: Learnings::from(journal.learnt),
+            views: Views::from(views),
+        })
+    }
 }
 
 // How much a replica has submitted in instance 0, if there is one with this number.
