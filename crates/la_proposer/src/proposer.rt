@@ -1,22 +1,20 @@
-ghost use Rattle.std.specs.Prelude.{◌≡◌, true, false, not, ℕ, ◌+◌, ◌<◌, ◌≤◌, [], ◌∷◌, ◌++◌, length, take, Option, Some, None, IsOk, IfOk, IfErr, OnOk, OnErr, option_copied};
-ghost use Rattle.la_set.specs.Deeds.{Deed};
+ghost use Rattle.std.specs.Prelude.{◌≡◌, true, false, ◌<◌, ◌≤◌, length, IfOk, IfErr, OnOk, OnErr, option_copied};
 ghost use Rattle.la_set.specs.Histories.{empty};
 ghost use Rattle.la_proposer.specs.Majority.{votes_of};
 ghost use Rattle.la_proposer.specs.Tally.{reply_with, has_counted};
-ghost use Rattle.la_proposer.specs.Proposing.{Proposing, start, submitted, status_of, submission_opens, with_waiting, after_submission, counts, with_reply, heard_of, after_reply, heard_by, next_ballot, refined_ballot, learning_opens, closed, is_nothing};
-ghost use Rattle.la_proposer.specs.Refusals.{SubmissionSpends, ReplySpends, IsSubmitRefusal, IsReplyRefusal, IsAdmitted, StepSpends, opens_by};
-ghost use Rattle.la_proposer.specs.Clashes.{Fits, IsLeastOf, IsUnknownOwn, ReplyClashesAt};
-ghost use Rattle.la_proposer.specs.Kept.{waiting_deed};
-ghost use Rattle.la_proposer.specs.Steps.{MayHear, MayRefine, MayOpen, after_heard, refined_at, opened_at};
+ghost use Rattle.la_proposer.specs.Proposing.{start, submitted, status_of, submission_opens, after_submission, counts, with_reply, heard_of, after_reply};
+ghost use Rattle.la_proposer.specs.Refusals.{SubmissionSpends, ReplySpends, IsSubmitRefusal, IsReplyRefusal};
+ghost use Rattle.la_proposer.specs.Clashes.{Fits};
 
-use crate::joins::{
-    add_next, add_waiting, clash_in_tally, earlier, join_refusal, join_refusals, turn_to,
-};
-use crate::tally::{self, Counted, Verdict, verdict_with};
+mod following;
+mod foreseeing;
+
+use crate::joins::add_next;
+use crate::tally::{self, Counted};
 use crate::waiting::{Waiting, copy_waiting};
 use crate::{Ballot, Heard, ProposerError, Status, Votes};
 use la_acceptor::Reply;
-use la_set::{Op, UpdateId, UpdateSet};
+use la_set::{Op, UpdateSet};
 use smallvec::SmallVec;
 use std::alloc::{AllocError, Global};
 use std::marker::Model;
@@ -272,205 +270,6 @@ impl Proposer {
             Heard::Counted => self.keep(from, reply_of(refusal)?),
             other => self.advance(other),
         }
-    }
-
-    // The verdict with one more reply, where that counts: with this refused set, or else a Yes.
-    // Whatever else than want of memory refuses the reply comes here.
-    fn admits(
-        &self,
-        from: u8,
-        ballot: u32,
-        refusal: Option<&UpdateSet>,
-    ) -> Result<Option<Verdict>, ProposerError>
-        ensures in_group { IfOk result (λ _. from < length self.now.votes) }
-        ensures ok { IfOk result (IsAdmitted self.now from ballot (reply_with (option_copied refusal.entry))) }
-        ensures error { IfErr result (IsReplyRefusal self.now from ballot (reply_with (option_copied refusal.entry))) }
-    {
-        if from as usize >= self.votes.len() {
-            return Err(ProposerError::NoSuchReplica);
-        }
-        if !self.takes(from, ballot) {
-            return Ok(None);
-        }
-        if let Some(id) = self.clash(refusal) {
-            return Err(ProposerError::Clash(id));
-        }
-        let verdict = verdict_with(&self.votes, self.tally.as_slice(), from, refusal);
-        if self.opens_by(verdict) && self.last.number >= MAX_BALLOTS {
-            return Err(ProposerError::BallotsSpent);
-        }
-        Ok(Some(verdict))
-    }
-
-    // Whether a reply to this ballot counts.
-    fn takes(&self, from: u8, ballot: u32) -> bool
-        ensures { result ≡ counts self.now from ballot }
-    {
-        self.is_asking && self.last.number == ballot && !self.has_counted(from)
-    }
-
-    // The least id at which a reply with this refused set, or else an acknowledgement, does not fit
-    // what the proposer knows.
-    fn clash(&self, refusal: Option<&UpdateSet>) -> Option<UpdateId>
-        ensures { IsLeastOf (ReplyClashesAt self.now (reply_with (option_copied refusal.entry))) result }
-    {
-        match refusal {
-            None => None,
-            Some(refused) => {
-                let known = earlier(
-                    self.last.updates.first_clash(refused),
-                    self.unknown_own(refused),
-                );
-                earlier(known, clash_in_tally(self.tally.as_slice(), refused))
-            }
-        }
-    }
-
-    // The proposer's own update that a set has and the last ballot's set lacks, the first one.
-    fn unknown_own(&self, refused: &UpdateSet) -> Option<UpdateId>
-        ensures { IsLeastOf (IsUnknownOwn self.now refused.now) result }
-    {
-        let known = self.last.updates.count_of(self.own);
-        if refused.count_of(self.own) <= known {
-            return None;
-        }
-        Some(UpdateId {
-            replica: self.own,
-            number: known + 1,
-        })
-    }
-
-    // Whether a verdict opens a ballot.
-    fn opens_by(&self, verdict: Verdict) -> bool
-        ensures { result ≡ opens_by self.now verdict }
-    {
-        match verdict {
-            Verdict::Waits => false,
-            Verdict::Refines => true,
-            Verdict::Learns => !self.waiting.is_empty(),
-        }
-    }
-
-    // What one more reply comes to, by this verdict: with this refused set, or else a Yes.
-    fn outcome(&self, refusal: Option<&UpdateSet>, verdict: Verdict) -> Result<Heard, AllocError>
-        requires { ¬ StepSpends (opens_by self.now verdict) self.now }
-        ensures { (from : ℕ) → IfOk result (λ heard. heard ≡ heard_by (with_reply self.now from (reply_with (option_copied refusal.entry))) verdict) }
-    {
-        Ok(match verdict {
-            Verdict::Waits => Heard::Counted,
-            Verdict::Refines => Heard::Refined(self.refined_ballot(refusal)?),
-            Verdict::Learns => Heard::Learnt(self.last.updates.copy()?, self.learning_opens()?),
-        })
-    }
-
-    // The ballot that joins what was refused, this set with it.
-    fn refined_ballot(&self, refusal: Option<&UpdateSet>) -> Result<Ballot, AllocError>
-        requires { self.now.number < MAX_BALLOTS }
-        ensures { (from : ℕ) → IfOk result (λ ballot. ballot ≡ refined_ballot (with_reply self.now from (reply_with (option_copied refusal.entry)))) }
-    {
-        let mut updates = self.last.updates.copy()?;
-        join_refusals(&mut updates, self.tally.as_slice())?;
-        join_refusal(&mut updates, refusal)?;
-        Ok(Ballot {
-            number: self.last.number + 1,
-            updates,
-        })
-    }
-
-    // The ballot that opens at once where the last one's set is learnt, if one does.
-    fn learning_opens(&self) -> Result<Option<Ballot>, AllocError>
-        requires { ¬ StepSpends (not (is_nothing self.now.waiting)) self.now }
-        ensures { IfOk result (λ ballot. ballot ≡ learning_opens self.now) }
-    {
-        if self.waiting.is_empty() {
-            return Ok(None);
-        }
-        Ok(Some(self.next_ballot()?))
-    }
-
-    // The ballot that takes what waits.
-    fn next_ballot(&self) -> Result<Ballot, AllocError>
-        requires { self.now.number < MAX_BALLOTS }
-        ensures { IfOk result (λ ballot. ballot ≡ next_ballot self.now) }
-    {
-        let mut updates = self.last.updates.copy()?;
-        add_waiting(&mut updates, self.own, self.waiting.as_slice())?;
-        Ok(Ballot {
-            number: self.last.number + 1,
-            updates,
-        })
-    }
-
-    // Puts a submission into the buffer.
-    fn wait(&mut self, submission: Waiting) -> Result<(), AllocError>
-        requires { submitted self.old < self.old.cap }
-        ensures ok { OnOk result (self.new ≡ with_waiting self.old (waiting_deed submission)) }
-        ensures err { OnErr result (self.new ≡ self.old) }
-    {
-        self.waiting.push(submission)?;
-        Ok(())
-    }
-
-    // Puts a reply into the tally.
-    fn keep(&mut self, from: u8, reply: Reply) -> Result<(), AllocError>
-        requires asking { self.old.is_asking ≡ true }
-        requires in_group { from < length self.old.votes }
-        requires fits { Fits self.old reply }
-        ensures ok { OnOk result (self.new ≡ with_reply self.old from reply) }
-        ensures err { OnErr result (self.new ≡ self.old) }
-    {
-        self.tally.push(Counted { from, reply })?;
-        Ok(())
-    }
-
-    // Does what was heard, where that is more than to keep a reply.
-    fn advance(&mut self, heard: &Heard) -> Result<(), AllocError>
-        requires { MayHear self.old heard.now }
-        ensures ok { OnOk result (self.new ≡ after_heard self.old heard.now) }
-        ensures ignored { heard.now ≡ Heard.Ignored → IsOk result }
-        ensures err { OnErr result (self.new ≡ self.old) }
-    {
-        match heard {
-            Heard::Counted | Heard::Ignored => Ok(()),
-            Heard::Refined(ballot) => self.refine(ballot),
-            Heard::Learnt(_, Some(ballot)) => self.open(ballot),
-            Heard::Learnt(_, None) => {
-                self.close();
-                Ok(())
-            }
-        }
-    }
-
-    // Ends the open ballot, and opens this one: what waits goes on waiting.
-    fn refine(&mut self, ballot: &Ballot) -> Result<(), AllocError>
-        requires { MayRefine self.old ballot.now }
-        ensures ok { OnOk result (self.new ≡ refined_at self.old ballot.now) }
-        ensures err { OnErr result (self.new ≡ self.old) }
-    {
-        turn_to(&mut self.last, ballot)?;
-        self.tally.clear();
-        Ok(())
-    }
-
-    // Opens this ballot, which takes what waits.
-    fn open(&mut self, ballot: &Ballot) -> Result<(), AllocError>
-        requires { MayOpen self.old ballot.now }
-        ensures ok { OnOk result (self.new ≡ opened_at self.old ballot.now) }
-        ensures err { OnErr result (self.new ≡ self.old) }
-    {
-        turn_to(&mut self.last, ballot)?;
-        self.is_asking = true;
-        self.tally.clear();
-        self.waiting.clear();
-        Ok(())
-    }
-
-    // Ends the open ballot, and opens none.
-    fn close(&mut self)
-        ensures { self.new ≡ closed self.old }
-    {
-        self.is_asking = false;
-        self.tally.clear();
     }
 }
 
