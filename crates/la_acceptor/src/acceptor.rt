@@ -1,5 +1,6 @@
-ghost use Rattle.std.specs.Prelude.{◌≡◌, IfOk, IfErr, OnOk, OnErr};
+ghost use Rattle.std.specs.Prelude.{◌≡◌, IsOk, IfOk, IfErr, OnOk, OnErr};
 ghost use Rattle.la_set.specs.Histories.{empty};
+ghost use Rattle.la_set.specs.Inclusion.{IsSubset};
 ghost use Rattle.la_set.specs.Join.{IsCompatible, union};
 ghost use Rattle.la_acceptor.specs.Answer.{answer};
 ghost use Rattle.la_acceptor.specs.Refusals.{IsOfferRefusal};
@@ -56,6 +57,7 @@ impl Acceptor {
     ///
     /// `Clash` comes exactly where an id has two different updates, and names the least such id.
     /// `Memory` comes only where there is no clash. After a refusal the accepted set is unchanged.
+    /// An offer of exactly what is accepted is answered `Yes` without memory.
     ///
     /// The cost is that of comparing the updates that both sets have, once, and of copying those
     /// that are added. A `No` also copies the union, once. A `Yes` copies nothing that was accepted
@@ -66,6 +68,7 @@ impl Acceptor {
         ensures compatible { OnOk result (IsCompatible self.old offered.now) }
         ensures error { IfErr result (IsOfferRefusal self.old offered.now) }
         ensures err { OnErr result (self.new ≡ self.old) }
+        ensures again { offered.now ≡ self.old → result ≡ Ok Reply.Yes }
     {
         let before = counts_of(&self.accepted);
         self.join(offered)?;
@@ -84,7 +87,7 @@ impl Acceptor {
 
     /// Answers an offer as [`Acceptor::offer`] does, with the reply and a copy of it: one to send, and
     /// one to keep. The refusals are the same, and after each the accepted set is unchanged, also
-    /// where only the copy was refused.
+    /// where only the copy was refused. The offer that takes no memory takes none here either.
     pub fn offer_with_copy(&mut self, offered: &UpdateSet) -> Result<(Reply, Reply), AcceptorError>
         ensures reply { IfOk result (λ replies. replies.0 ≡ answer self.old offered.now) }
         ensures copy { IfOk result (λ replies. replies.1 ≡ answer self.old offered.now) }
@@ -92,6 +95,7 @@ impl Acceptor {
         ensures compatible { OnOk result (IsCompatible self.old offered.now) }
         ensures error { IfErr result (IsOfferRefusal self.old offered.now) }
         ensures err { OnErr result (self.new ≡ self.old) }
+        ensures again { offered.now ≡ self.old → result ≡ Ok (Reply.Yes, Reply.Yes) }
     {
         let before = counts_of(&self.accepted);
         let reply = self.offer(offered)?;
@@ -110,6 +114,7 @@ impl Acceptor {
         ensures compatible { OnOk result (IsCompatible self.old offered.now) }
         ensures error { IfErr result (IsOfferRefusal self.old offered.now) }
         ensures err { OnErr result (self.new ≡ self.old) }
+        ensures room { IsSubset offered.now self.old → IsOk result }
     {
         match self.accepted.union(offered) {
             Ok(()) => Ok(()),

@@ -1,14 +1,14 @@
 -- The join of two sets: its histories and its members.
-use Rattle.std.proofs.Common.{◌≡◌, ◌⊎◌, ℕ, zero, suc, ◌+◌, ◌-◌, ◌<◌, ◌≤◌, List, [], ◌∷◌, length, drop, Some, refl, ap, sym, ◌∙◌, subst, arith, inl, inr}
+use Rattle.std.proofs.Common.{◌≡◌, ◌⊎◌, ℕ, zero, suc, ◌+◌, ◌-◌, ◌<◌, ◌≤◌, List, [], ◌∷◌, ◌++◌, append-nil, length, drop, Some, refl, ap, sym, ◌∙◌, subst, arith, inl, inr}
 use Rattle.std.specs.List.{slice_get}
-use Rattle.std.proofs.lemmas.List.{take_at}
+use Rattle.std.proofs.lemmas.List.{take_at, drop_all}
 use Rattle.std.proofs.lemmas.Option.{none-some, slice_get-get_or}
 use Rattle.std.proofs.lemmas.Bool.{cases_lt, cases_eq}
 use Rattle.la_set.specs.declared.update.Update.{Update}
 use Rattle.la_set.specs.Deeds.{Deed, deed_of}
 use Rattle.la_set.specs.Histories.{Histories, history, deed_number, ContainsUpdate, with_history, empty}
 use Rattle.la_set.specs.Inclusion.{IsSubset}
-use Rattle.la_set.specs.Join.{joined, union, IsCompatible}
+use Rattle.la_set.specs.Join.{joined, union, HasNoMore, IsCompatible}
 use Rattle.la_set.proofs.NumberedLists.{slice_get-append_left, slice_get-append_right}
 use Rattle.la_set.proofs.Prefixes.{IsPrefix, IsPrefix-from_reads}
 use Rattle.la_set.proofs.SetHistories.{same_histories, history-from_histories, history_past, history-empty, history-with_same, history-with_other}
@@ -89,6 +89,10 @@ union-superset a b sub = subset-antisym _ _ (union-least a b a (subset-refl a) s
 
 pub union-empty : (s : Histories) → union empty s ≡ s
 union-empty s = same_histories _ _ (λ r lt. history-union empty s r ∙ ap (λ xs. joined xs (history s r)) (history-empty r))
+
+-- a join that has nothing to add
+pub union-nothing : (a b : Histories) → HasNoMore b a → union a b ≡ a
+union-nothing a b less = same_histories _ _ (λ r lt. history-union a b r ∙ ap (λ ds. history a r ++ ds) (drop_all (length (history a r)) (history b r) (less r)) ∙ append-nil (history a r))
 
 module _ (f : Histories) where
   pub union_comm : (a b : Histories) → IsSubset a f → IsSubset b f → union a b ≡ union b a

@@ -1,8 +1,8 @@
 // What sets say of one another, over what `set` offers.
-ghost use Rattle.std.specs.Prelude.{◌≡◌, ℕ, ◌++◌, ◌<◌, ◌≤◌, ◌↔◌, length, take, filter, slice_index, IsTrue, IfOk, IfErr, OnOk, OnErr, MatchOption};
+ghost use Rattle.std.specs.Prelude.{◌≡◌, ℕ, ◌++◌, ◌<◌, ◌≤◌, ◌↔◌, length, take, filter, slice_index, All, IsOk, IsTrue, IfOk, IfErr, OnOk, OnErr, MatchOption};
 ghost use Rattle.la_set.specs.Histories.{ContainsUpdate, history, with_history, count, updates};
 ghost use Rattle.la_set.specs.Inclusion.{IsSubset, is_subset, IsOrderOf};
-ghost use Rattle.la_set.specs.Join.{IsCompatible, IsLeastClash, joined, union};
+ghost use Rattle.la_set.specs.Join.{HasNoMore, IsCompatible, IsLeastClash, joined, union};
 ghost use Rattle.la_set.specs.Difference.{beyond, lacks};
 ghost use Rattle.la_set.specs.Agreement.{AgreeBelow, IsFirstDifference};
 ghost use Rattle.la_set.specs.Refusals.{IsUnionRefusal};
@@ -49,13 +49,16 @@ impl UpdateSet {
     }
 
     /// Adds what the other set has. `Clash` comes exactly where an id has two different updates, and
-    /// names the least such id. After a refusal the set is unchanged. The cost is that of comparing
-    /// the updates that both have, and of copying those that are added.
+    /// names the least such id. After a refusal the set is unchanged. Where the other set lies in this
+    /// one nothing changes, and no memory is taken. The cost is that of comparing the updates that both
+    /// have, and of copying those that are added.
     pub fn union(&mut self, other: &UpdateSet) -> Result<(), SetError>
         ensures ok { OnOk result (self.new ≡ union self.old other.now) }
         ensures compatible { OnOk result (IsCompatible self.old other.now) }
         ensures error { IfErr result (IsUnionRefusal self.old other.now) }
         ensures err { OnErr result (self.new ≡ self.old) }
+        ensures room { IsSubset other.now self.old → IsOk result }
+        ensures nothing { IsSubset other.now self.old → self.new ≡ self.old }
     {
         if let Some(id) = self.first_clash(other) {
             return Err(SetError::Clash(id));
@@ -74,9 +77,11 @@ impl UpdateSet {
     }
 
     /// Copies of this set's updates that the other has not, in the order of ids: set difference by
-    /// the update itself, also where an id has two. The cost is linear in this set's length.
+    /// the update itself, also where an id has two. Where this set lies in the other no memory is
+    /// taken. The cost is linear in this set's length.
     pub fn beyond(&self, other: &UpdateSet) -> Result<Updates, AllocError>
-        ensures { IfOk result (λ updates. updates ≡ beyond self.now other.now) }
+        ensures room { IsSubset self.now other.now → IsOk result }
+        ensures ok { IfOk result (λ updates. updates ≡ beyond self.now other.now) }
     {
         let mut updates = Updates::new(self.allocator());
         for replica in 0..REPLICAS {
@@ -97,7 +102,8 @@ impl UpdateSet {
 
     // Puts copies of the updates that the set lacks last in the list.
     fn copy_lacking(&self, updates: &[Update], into: &mut Updates) -> Result<(), AllocError>
-        ensures { OnOk result (into.new ≡ into.old ++ filter (lacks self.now) updates.now) }
+        ensures room { All (λ update. ContainsUpdate self.now update) updates.now → IsOk result }
+        ensures ok { OnOk result (into.new ≡ into.old ++ filter (lacks self.now) updates.now) }
     {
         for update in updates {
             if !self.has(update) {
@@ -109,7 +115,7 @@ impl UpdateSet {
 
     // Whether the other set has as many updates of each replica, or more.
     fn has_no_more(&self, other: &UpdateSet) -> bool
-        ensures { IsTrue result ↔ ((r : ℕ) → count self.now r ≤ count other.now r) }
+        ensures { IsTrue result ↔ HasNoMore self.now other.now }
     {
         for replica in 0..REPLICAS {
             if self.count_of(replica) > other.count_of(replica) {
@@ -143,10 +149,13 @@ impl UpdateSet {
 
     /// Adds what the other set has beyond this one's counts, without looking for clashes: the join,
     /// which is the union where no id has two updates, as where one set contains the other. After
-    /// a refusal the set is unchanged. The cost is that of copying the updates that are added.
+    /// a refusal the set is unchanged. Where this set has of each replica as many updates or more
+    /// nothing changes, and no memory is taken. The cost is that of copying the updates that are added.
     pub fn join(&mut self, other: &UpdateSet) -> Result<(), AllocError>
         ensures ok { OnOk result (self.new ≡ union self.old other.now) }
         ensures err { OnErr result (self.new ≡ self.old) }
+        ensures room { HasNoMore other.now self.old → IsOk result }
+        ensures nothing { HasNoMore other.now self.old → self.new ≡ self.old }
     {
         let counts = self.counts();
         for replica in 0..REPLICAS {
@@ -163,6 +172,7 @@ impl UpdateSet {
         requires { replica < REPLICAS }
         ensures ok { OnOk result (self.new ≡ with_history self.old replica (joined (history self.old replica) (history other.now replica))) }
         ensures kept { IsSubset self.old self.new }
+        ensures room { count other.now replica ≤ count self.old replica → IsOk result }
     {
         let have = self.updates_of(replica).len();
         let theirs = other.updates_of(replica);

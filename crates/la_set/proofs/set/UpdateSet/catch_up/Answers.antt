@@ -1,4 +1,4 @@
-use Rattle.std.proofs.Common.{◌≡◌, ◌+◌, ◌-◌, ◌<◌, arith, ◌∙◌, sym, ap, subst, length, take, drop, Some, refl, List, ℕ, get_or}
+use Rattle.std.proofs.Common.{◌≡◌, ◌+◌, ◌-◌, ◌<◌, ◌≤◌, arith, ◌∙◌, sym, ap, subst, length, take, drop, Some, refl, List, ℕ, get_or}
 use Rattle.std.specs.List.{slice_get}
 use Rattle.std.proofs.lemmas.Option.{slice_get_read}
 use Rattle.la_set.specs.declared.update.Update.{Update}
@@ -55,3 +55,16 @@ returns-else-have-theirs-clause-ok c =
     let s = c.args.self.now in let t = c.args.other.now in let r = c.args.replica in
     nothing_further s t r c.requires
     (omega (arith, c.if-have-theirs.false, ap length c.updates_of-have.ensures.updates, ap length c.updates_of-theirs.ensures.updates, length-numbered r 1 (history s r), length-numbered r 1 (history t r)))
+
+-- where nothing is missing, no growth is asked for
+none_missing : (s t : Histories) (r : ℕ) (us vs : List Update) → us ≡ numbered r 1 (history s r) → vs ≡ numbered r 1 (history t r) → length us < length vs → count t r ≤ count s r → ⊥
+none_missing s t r us vs mine theirs lt le = omega (arith, ap length mine, ap length theirs, length-numbered r 1 (history s r), length-numbered r 1 (history t r))
+
+pub returns-in_err-make_room-clause-room : goal.returns-in_err-make_room-clause-room
+returns-in_err-make_room-clause-room c le = absurd (none_missing c.args.self.now c.args.other.now c.args.replica c.updates_of-have.result.now c.updates_of-theirs.result.now c.updates_of-have.ensures.updates c.updates_of-theirs.ensures.updates c.if-have-theirs.true le)
+
+pub returns-in_err-copy-clause-room : goal.returns-in_err-copy-clause-room
+returns-in_err-copy-clause-room c le = absurd (none_missing c.args.self.now c.args.other.now c.args.replica c.updates_of-have.result.now c.updates_of-theirs.result.now c.updates_of-have.ensures.updates c.updates_of-theirs.ensures.updates c.if-have-theirs.true le)
+
+pub returns-in_err-append-clause-room : goal.returns-in_err-append-clause-room
+returns-in_err-append-clause-room c le = absurd (none_missing c.args.self.now c.args.other.now c.args.replica c.updates_of-have.result.now c.updates_of-theirs.result.now c.updates_of-have.ensures.updates c.updates_of-theirs.ensures.updates c.if-have-theirs.true le)

@@ -31,5 +31,5 @@ loop-update-preserved c =
           ∙ ap (λ vs. c.args.into.now ++ vs) (sym (one_more ∙ ap (λ b. before ++ cond b (u ∷ []) []) old ∙ append-nil before))
     ]
 
-pub returns : goal.returns
-returns c = c.loop-update.invariant ∙ ap (λ us. c.args.into.now ++ filter (lacks c.args.self.now) us) (take_all c.loop-update.update-index c.args.updates.now c.loop-update-test.false)
+pub returns-clause-ok : goal.returns-clause-ok
+returns-clause-ok c = c.loop-update.invariant ∙ ap (λ us. c.args.into.now ++ filter (lacks c.args.self.now) us) (take_all c.loop-update.update-index c.args.updates.now c.loop-update-test.false)

@@ -1,6 +1,6 @@
-use Rattle.std.proofs.Common.{arith, get_or}
+use Rattle.std.proofs.Common.{arith, get_or, ◌∙◌}
 use Rattle.la_set.proofs.Inclusions.{subset-trans}
-use Rattle.la_set.proofs.Unions.{joined_none, joined-more, joined-all, joined-contains}
+use Rattle.la_set.proofs.Unions.{joined_none, joined-more, joined-all, joined-contains, union-nothing}
 use Rattle.la_set.proofs.CatchingUp.{cut_back}
 use Rattle.la_set.proofs.set.UpdateSet.join.Goals as goal
 
@@ -20,3 +20,6 @@ loop-replica-preserved c = joined-more c.args.self.now c.args.other.now c.loop-r
 
 pub returns-clause-ok : goal.returns-clause-ok
 returns-clause-ok c = joined-all c.args.self.now c.args.other.now c.loop-replica.self c.loop-replica.replica c.loop-replica.invariant (omega arith)
+
+pub returns-clause-nothing : goal.returns-clause-nothing
+returns-clause-nothing c less = joined-all c.args.self.now c.args.other.now c.loop-replica.self c.loop-replica.replica c.loop-replica.invariant (omega arith) ∙ union-nothing c.args.self.now c.args.other.now less
