@@ -6,6 +6,7 @@ ghost use Rattle.la_proposer.specs.declared.proposer.TheConstants.{MAX_CAP};
 ghost use Rattle.la_proposer.specs.Majority.{votes_of};
 ghost use Rattle.la_proposer.specs.Proposing.{submitted};
 ghost use Rattle.la_replica.specs.Members.{Member, start, submits, receives, sender_of, last_learnt};
+ghost use Rattle.la_replica.specs.Kept.{IsMember};
 ghost use Rattle.la_replica.specs.Steps.{copied};
 ghost use Rattle.la_replica.specs.Refusals.{IsSubmitRefusal, IsReceiveRefusal, IsReceivable, HasRoom, SubmittingSpares, ReceivingSpares};
 ghost use Rattle.la_replica.specs.Memory.{IsFree};
@@ -87,6 +88,15 @@ impl Replica {
             instances: copy_instances(&self.instances)?,
             view: self.view.copy()?,
         })
+    }
+
+    /// Which replica of its group it is. The group has at most 8, and the proposers of all its instances
+    /// are this replica of that group.
+    pub fn own(&self) -> u8
+        ensures own { result ≡ self.now.own }
+        ensures of_group { IsMember self.now }
+    {
+        self.own
     }
 
     /// What the replica answers questions from: the largest of the sets of instance 0 that it learnt
