@@ -1,10 +1,11 @@
-ghost use Rattle.std.specs.Prelude.{◌≡◌, true, false, ◌<◌, ◌≤◌, length, IfOk, IfErr, OnOk, OnErr, option_copied};
+ghost use Rattle.std.specs.Prelude.{◌≡◌, true, false, ◌<◌, ◌≤◌, length, None, IsOk, IfOk, IfErr, OnOk, OnErr, option_copied};
 ghost use Rattle.la_set.specs.Histories.{empty};
 ghost use Rattle.la_proposer.specs.Majority.{votes_of};
 ghost use Rattle.la_proposer.specs.Tally.{reply_with, has_counted};
 ghost use Rattle.la_proposer.specs.Proposing.{start, submitted, status_of, submission_opens, after_submission, counts, with_reply, heard_of, after_reply};
-ghost use Rattle.la_proposer.specs.Refusals.{SubmissionSpends, ReplySpends, IsSubmitRefusal, IsReplyRefusal};
+ghost use Rattle.la_proposer.specs.Refusals.{SubmissionSpends, ReplySpends, IsSubmitRefusal, IsReplyRefusal, ReplySpares, SubmissionWaits, IsIgnored, OnlyCounts, CountsInPlace};
 ghost use Rattle.la_proposer.specs.Clashes.{Fits};
+ghost use Rattle.la_proposer.specs.Kept.{IsProposing};
 
 mod following;
 mod foreseeing;
@@ -25,6 +26,9 @@ pub const MAX_BALLOTS: u32 = 8_000_000;
 /// The largest cap on a proposer's submissions.
 pub const MAX_CAP: u32 = 1_000_000;
 
+/// How many replies may count in a ballot without a growth.
+pub const INLINE_TALLY: usize = 4;
+
 /// Asks a group's acceptors to acknowledge its updates, and learns sets that a majority
 /// acknowledged.
 #[derive(Debug, Drop)]
@@ -34,7 +38,7 @@ pub struct Proposer {
     votes: Votes,
     last: Ballot,
     is_asking: bool,
-    tally: SmallVec<Counted, 4>,
+    tally: SmallVec<Counted, INLINE_TALLY>,
     waiting: Vec<Waiting>,
 }
 
@@ -91,9 +95,11 @@ impl Proposer {
         })
     }
 
-    /// Whether a ballot is open, and its number.
+    /// Whether a ballot is open, and its number. Its contract also tells what holds of every
+    /// proposer: so a caller learns it at any time.
     pub fn status(&self) -> Status
-        ensures { result ≡ status_of self.now }
+        ensures status { result ≡ status_of self.now }
+        ensures kept { IsProposing self.now }
     {
         if self.is_asking {
             Status::Asking(self.last.number)
@@ -139,11 +145,13 @@ impl Proposer {
     ///
     /// In this order: `Full` comes where the proposer has submitted its cap; `BallotsSpent` where a
     /// ballot would open with a number over [`MAX_BALLOTS`]; `Memory`. After each nothing is
-    /// submitted. The cost of a ballot is that of copying its set.
+    /// submitted. The cost of a ballot is that of copying its set; a submission that waits takes
+    /// memory only where the buffer grows, and then `Memory` may come.
     pub fn submit(&mut self, object: u16, op: Op) -> Result<Option<Ballot>, ProposerError>
         ensures opened { IfOk result (λ ballot. ballot ≡ submission_opens self.old (record { object = object; op = op })) }
         ensures ok { OnOk result (self.new ≡ after_submission self.old (record { object = object; op = op })) }
         ensures room { OnOk result (submitted self.old < self.old.cap) }
+        ensures spares { IfOk result (λ _. ¬ SubmissionSpends self.old) }
         ensures error { IfErr result (IsSubmitRefusal self.old) }
         ensures err { OnErr result (self.new ≡ self.old) }
     {
@@ -159,6 +167,7 @@ impl Proposer {
         ensures opened { IfOk result (λ ballot. ballot ≡ submission_opens self.now (record { object = object; op = op.now })) }
         ensures room { IfOk result (λ _. submitted self.now < self.now.cap) }
         ensures spares { IfOk result (λ _. ¬ SubmissionSpends self.now) }
+        ensures waits { SubmissionWaits self.now → result ≡ Ok None }
         ensures error { IfErr result (IsSubmitRefusal self.now) }
     {
         if self.submitted() >= self.cap {
@@ -209,10 +218,14 @@ impl Proposer {
     /// `No` among them refines. `BallotsSpent` comes where a ballot that opens would have a number
     /// over [`MAX_BALLOTS`], and `Memory` after all else. After each the proposer is as before, and
     /// the reply has not counted. The cost is that of comparing a `No` with the sets known here, and
-    /// for a learning or a ballot that of copying its set.
+    /// for a learning or a ballot that of copying its set. A reply that counts, and leaves the ballot
+    /// open, takes no memory either while fewer than [`INLINE_TALLY`] have counted.
     pub fn reply(&mut self, from: u8, ballot: u32, reply: Reply) -> Result<Heard, ProposerError>
         ensures in_group { IfOk result (λ _. from < length self.old.votes) }
         ensures fits { IfOk result (λ _. counts self.old from ballot ≡ true → Fits self.old reply) }
+        ensures spares { IfOk result (λ _. ReplySpares self.old from ballot reply) }
+        ensures ignored { IsIgnored self.old from ballot → result ≡ Ok Heard.Ignored }
+        ensures counted { CountsInPlace self.old from ballot reply → result ≡ Ok Heard.Counted }
         ensures heard { IfOk result (λ heard. heard ≡ heard_of self.old from ballot reply) }
         ensures ok { OnOk result (self.new ≡ after_reply self.old from ballot reply) }
         ensures error { IfErr result (IsReplyRefusal self.old from ballot reply) }
@@ -239,6 +252,8 @@ impl Proposer {
         ensures in_group { IfOk result (λ _. from < length self.now.votes) }
         ensures fits { IfOk result (λ _. counts self.now from ballot ≡ true → Fits self.now (reply_with (option_copied refusal.entry))) }
         ensures spares { IfOk result (λ _. counts self.now from ballot ≡ true → ¬ ReplySpends (with_reply self.now from (reply_with (option_copied refusal.entry)))) }
+        ensures ignored { IsIgnored self.now from ballot → result ≡ Ok Heard.Ignored }
+        ensures counted { OnlyCounts self.now from ballot (reply_with (option_copied refusal.entry)) → result ≡ Ok Heard.Counted }
         ensures heard { IfOk result (λ heard. heard ≡ heard_of self.now from ballot (reply_with (option_copied refusal.entry))) }
         ensures error { IfErr result (IsReplyRefusal self.now from ballot (reply_with (option_copied refusal.entry))) }
     {
@@ -250,8 +265,9 @@ impl Proposer {
 
     /// Hears what was foreseen: with the answer of [`Proposer::foresee`] for this reply, and the
     /// proposer as it was then, this does what [`Proposer::reply`] would do. It copies the refused
-    /// set where the reply only counts, and else the updates that a new ballot adds. After a refusal
-    /// the proposer is as before.
+    /// set where the reply only counts, and else the updates that a new ballot adds: so an ignored
+    /// reply takes no memory, nor does an acknowledgement that only counts, while fewer than
+    /// [`INLINE_TALLY`] have counted. After a refusal the proposer is as before.
     pub fn follow(
         &mut self,
         from: u8,
@@ -263,6 +279,8 @@ impl Proposer {
         requires fits { counts self.old from ballot ≡ true → Fits self.old (reply_with (option_copied refusal)) }
         requires spares { counts self.old from ballot ≡ true → ¬ ReplySpends (with_reply self.old from (reply_with (option_copied refusal))) }
         requires foreseen { heard.now ≡ heard_of self.old from ballot (reply_with (option_copied refusal)) }
+        ensures ignored { counts self.old from ballot ≡ false → IsOk result }
+        ensures acknowledged { refusal.entry ≡ None → CountsInPlace self.old from ballot Reply.Yes → IsOk result }
         ensures ok { OnOk result (self.new ≡ after_reply self.old from ballot (reply_with (option_copied refusal.entry))) }
         ensures err { OnErr result (self.new ≡ self.old) }
     {
@@ -285,7 +303,8 @@ fn refusal_of(reply: &Reply) -> Option<&UpdateSet>
 
 // The reply with a copy of this refused set, or else an acknowledgement.
 fn reply_of(refusal: Option<&UpdateSet>) -> Result<Reply, AllocError>
-    ensures { IfOk result (λ reply. reply ≡ reply_with (option_copied refusal.entry)) }
+    ensures reply { IfOk result (λ reply. reply ≡ reply_with (option_copied refusal.entry)) }
+    ensures yes { refusal.entry ≡ None → result ≡ Ok Reply.Yes }
 {
     Ok(match refusal {
         None => Reply::Yes,

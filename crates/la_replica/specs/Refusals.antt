@@ -93,5 +93,18 @@ FitsBody x m (Tell told) = Unit {0}
 abbrev pub IsReceivable : Member → Message → Type 0
 IsReceivable m message = IsFor m message × IsSomeAnd (slice_get m.instances message.instance) (λ x. FitsBody x message message.body)
 
+-- no ballot that opens has too large a number
+abbrev pub SparesBody : Instance → Message → Body → Type 0
+SparesBody x m (Offer offered) = Unit {0}
+SparesBody x m Yes = counts x.proposer m.from m.ballot ≡ true → ¬ ReplySpends (with_reply x.proposer m.from replied.Yes)
+SparesBody x m (No accepted) = counts x.proposer m.from m.ballot ≡ true → ¬ ReplySpends (with_reply x.proposer m.from (replied.No accepted))
+SparesBody x m (Tell told) = Unit {0}
+
+abbrev pub ReceivingSpares : Member → Message → Type 0
+ReceivingSpares m message = IsSomeAnd (slice_get m.instances message.instance) (λ x. SparesBody x message message.body)
+
+abbrev pub SubmittingSpares : Member → (instance : ℕ) → Type 0
+SubmittingSpares m i = IsSomeAnd (slice_get m.instances i) (λ x. ¬ SubmissionSpends x.proposer)
+
 abbrev pub HasRoom : Member → (instance : ℕ) → Type 0
 HasRoom m i = IsSomeAnd (slice_get m.instances i) (λ x. submitted x.proposer < x.proposer.cap)

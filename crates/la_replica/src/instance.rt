@@ -1,15 +1,17 @@
 ghost use Rattle.std.specs.Prelude.{◌≡◌, true, false, ℕ, ◌<◌, ◌≤◌, length, [], ◌∷◌, IfOk, IfErr, OnOk, OnErr, Some, None, if◌then◌else◌};
+ghost use Rattle.std.specs.Result.{IsOk};
 ghost use Rattle.la_set.specs.Histories.{Histories};
 ghost use Rattle.la_set.specs.Join.{IsCompatible};
 ghost use Rattle.la_proposer.specs.declared.proposer.TheConstants.{MAX_CAP};
 ghost use Rattle.la_proposer.specs.Majority.{votes_of};
 ghost use Rattle.la_proposer.specs.Proposing.{submitted, counts, with_reply, heard_of, after_reply};
-ghost use Rattle.la_proposer.specs.Refusals.{ReplySpends};
+ghost use Rattle.la_proposer.specs.Refusals.{SubmissionSpends, ReplySpends};
 ghost use Rattle.la_proposer.specs.Clashes.{Fits};
 ghost use Rattle.la_replica.specs.Messages.{reply_in};
 ghost use Rattle.la_replica.specs.Views.{view_after_learning};
 ghost use Rattle.la_replica.specs.Steps.{Step, fresh, submits, answers, said_of, said_of_told, copied, last_learnt_after, view_after_hearing, hears, receives};
-ghost use Rattle.la_replica.specs.Refusals.{IsSubmissionRefusal, IsAnswerRefusal, IsHearingRefusal, IsBodyRefusal, IsTellRefusal, FitsBody};
+ghost use Rattle.la_replica.specs.Refusals.{IsSubmissionRefusal, IsAnswerRefusal, IsHearingRefusal, IsBodyRefusal, IsTellRefusal, FitsBody, SparesBody};
+ghost use Rattle.la_replica.specs.Memory.{IsFreeReply, IsFreeTell, IsFreeBody};
 
 use crate::sender::Sender;
 use crate::view::{if_larger, is_larger, take_larger};
@@ -67,6 +69,7 @@ impl Instance {
         requires { self.old.proposer.own ≡ sender.now.from }
         ensures step { IfOk result (λ out. (view : Histories) → submits sender.now self.old view (record { object = object; op = op }) ≡ record { said = out.said; mail = out.mail; at = self.new; view = view }) }
         ensures room { IfOk result (λ _. submitted self.old.proposer < self.old.proposer.cap) }
+        ensures spares { IfOk result (λ _. ¬ SubmissionSpends self.old.proposer) }
         ensures error { IfErr result (IsSubmissionRefusal self.old.proposer) }
         ensures err { OnErr result (self.new ≡ self.old) }
     {
@@ -99,6 +102,8 @@ impl Instance {
         ensures step { IfOk result (λ made. receives sender.now self.old view.old message.now ≡ record { said = made.0.said; mail = made.0.mail; at = self.new; view = view.new }) }
         ensures copy { IfOk result (λ made. made.1 ≡ copied copying made.0.said) }
         ensures fits { IfOk result (λ _. FitsBody self.old message.now message.now.body) }
+        ensures spares { IfOk result (λ _. SparesBody self.old message.now message.now.body) }
+        ensures free { IsFreeBody self.old view.old message.now message.now.body → IsOk result }
         ensures error { IfErr result (IsBodyRefusal self.old view.old message.now message.now.body) }
         ensures err { OnErr result (self.new ≡ self.old) }
         ensures err_view { OnErr result (view.new ≡ view.old) }
@@ -142,6 +147,8 @@ impl Instance {
         ensures step { IfOk result (λ made. hears sender.now self.old view.old message.now (reply_in message.now.body) ≡ record { said = made.0.said; mail = made.0.mail; at = self.new; view = view.new }) }
         ensures copy { IfOk result (λ made. made.1 ≡ copied copying made.0.said) }
         ensures fits { IfOk result (λ _. counts self.old.proposer message.now.from message.now.ballot ≡ true → Fits self.old.proposer (reply_in message.now.body)) }
+        ensures spares { IfOk result (λ _. counts self.old.proposer message.now.from message.now.ballot ≡ true → ¬ ReplySpends (with_reply self.old.proposer message.now.from (reply_in message.now.body))) }
+        ensures free { IsFreeReply self.old.proposer message.now (reply_in message.now.body) → IsOk result }
         ensures error { IfErr result (IsHearingRefusal self.old.proposer message.now (reply_in message.now.body)) }
         ensures err { OnErr result (self.new ≡ self.old) }
         ensures err_view { OnErr result (view.new ≡ view.old) }
@@ -215,6 +222,7 @@ fn hear_tell(
     ensures said { IfOk result (λ out. out.said ≡ said_of_told sender.now.instance view.old told.now) }
     ensures mail { IfOk result (λ out. out.mail ≡ []) }
     ensures ok { OnOk result (view.new ≡ view_after_learning sender.now.instance view.old told.now) }
+    ensures free { IsFreeTell sender.now.instance view.old told.now → IsOk result }
     ensures error { IfErr result (IsTellRefusal sender.now.instance view.old told.now) }
     ensures err { OnErr result (view.new ≡ view.old) }
 {

@@ -1,12 +1,15 @@
 ghost use Rattle.std.specs.Prelude.{◌≡◌, ℕ, ◌+◌, ◌*◌, ◌<◌, ◌≤◌, length, slice_get, true, Some, option_map, IfOk, IfErr, OnErr};
 ghost use Rattle.std.specs.Option.{option_copied};
+ghost use Rattle.std.specs.Result.{IsOk};
 ghost use Rattle.la_set.specs.Deeds.{Deed};
 ghost use Rattle.la_proposer.specs.declared.proposer.TheConstants.{MAX_CAP};
 ghost use Rattle.la_proposer.specs.Majority.{votes_of};
 ghost use Rattle.la_proposer.specs.Proposing.{submitted};
 ghost use Rattle.la_replica.specs.Members.{Member, start, submits, receives, sender_of, last_learnt};
+ghost use Rattle.la_replica.specs.Kept.{IsMember};
 ghost use Rattle.la_replica.specs.Steps.{copied};
-ghost use Rattle.la_replica.specs.Refusals.{IsSubmitRefusal, IsReceiveRefusal, IsReceivable, HasRoom};
+ghost use Rattle.la_replica.specs.Refusals.{IsSubmitRefusal, IsReceiveRefusal, IsReceivable, HasRoom, SubmittingSpares, ReceivingSpares};
+ghost use Rattle.la_replica.specs.Memory.{IsFree};
 
 use crate::instance::Instance;
 use crate::sender::Sender;
@@ -87,6 +90,15 @@ impl Replica {
         })
     }
 
+    /// Which replica of its group it is. The group has at most 8, and the proposers of all its instances
+    /// are this replica of that group.
+    pub fn own(&self) -> u8
+        ensures own { result ≡ self.now.own }
+        ensures of_group { IsMember self.now }
+    {
+        self.own
+    }
+
     /// What the replica answers questions from: the largest of the sets of instance 0 that it learnt
     /// or was told, taken one after the other; empty at first.
     pub fn view(&self) -> &UpdateSet
@@ -121,6 +133,7 @@ impl Replica {
     pub fn submit(&mut self, instance: u8, object: u16, op: Op) -> Result<Out, ReplicaError>
         ensures step { IfOk result (λ out. submits self.old instance (record { object = object; op = op }) ≡ Some (out, self.new)) }
         ensures room { IfOk result (λ _. HasRoom self.old instance) }
+        ensures spares { IfOk result (λ _. SubmittingSpares self.old instance) }
         ensures error { IfErr result (IsSubmitRefusal self.old instance) }
         ensures err { OnErr result (self.new ≡ self.old) }
     {
@@ -147,6 +160,8 @@ impl Replica {
     pub fn receive(&mut self, message: &Message) -> Result<Out, ReplicaError>
         ensures step { IfOk result (λ out. receives self.old message.now ≡ Some (out, self.new)) }
         ensures fits { IfOk result (λ _. IsReceivable self.old message.now) }
+        ensures spares { IfOk result (λ _. ReceivingSpares self.old message.now) }
+        ensures free { IsFree self.old message.now → IsOk result }
         ensures error { IfErr result (IsReceiveRefusal self.old message.now) }
         ensures err { OnErr result (self.new ≡ self.old) }
     {
@@ -163,6 +178,8 @@ impl Replica {
         ensures step { IfOk result (λ made. receives self.old message.now ≡ Some (made.0, self.new)) }
         ensures copy { IfOk result (λ made. made.1 ≡ copied true made.0.said) }
         ensures fits { IfOk result (λ _. IsReceivable self.old message.now) }
+        ensures spares { IfOk result (λ _. ReceivingSpares self.old message.now) }
+        ensures free { IsFree self.old message.now → IsOk result }
         ensures error { IfErr result (IsReceiveRefusal self.old message.now) }
         ensures err { OnErr result (self.new ≡ self.old) }
     {
@@ -178,6 +195,8 @@ impl Replica {
         ensures step { IfOk result (λ made. receives self.old message.now ≡ Some (made.0, self.new)) }
         ensures copy { IfOk result (λ made. made.1 ≡ copied copying made.0.said) }
         ensures fits { IfOk result (λ _. IsReceivable self.old message.now) }
+        ensures spares { IfOk result (λ _. ReceivingSpares self.old message.now) }
+        ensures free { IsFree self.old message.now → IsOk result }
         ensures error { IfErr result (IsReceiveRefusal self.old message.now) }
         ensures err { OnErr result (self.new ≡ self.old) }
     {

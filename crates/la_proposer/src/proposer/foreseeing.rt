@@ -1,8 +1,8 @@
 // What a reply or a submission would come to: the verdict, and the ballot that would open.
-ghost use Rattle.std.specs.Prelude.{◌≡◌, not, ℕ, ◌<◌, length, IfOk, IfErr, option_copied};
+ghost use Rattle.std.specs.Prelude.{◌≡◌, not, ℕ, ◌<◌, length, Some, None, IfOk, IfErr, option_copied};
 ghost use Rattle.la_proposer.specs.Tally.{reply_with};
 ghost use Rattle.la_proposer.specs.Proposing.{counts, with_reply, heard_by, next_ballot, refined_ballot, learning_opens, is_nothing};
-ghost use Rattle.la_proposer.specs.Refusals.{IsReplyRefusal, IsAdmitted, StepSpends, opens_by};
+ghost use Rattle.la_proposer.specs.Refusals.{IsReplyRefusal, IsAdmitted, StepSpends, opens_by, IsIgnored, OnlyCounts};
 ghost use Rattle.la_proposer.specs.Clashes.{IsLeastOf, IsUnknownOwn, ReplyClashesAt};
 
 use super::{MAX_BALLOTS, Proposer};
@@ -23,6 +23,8 @@ impl Proposer {
     ) -> Result<Option<Verdict>, ProposerError>
         ensures in_group { IfOk result (λ _. from < length self.now.votes) }
         ensures ok { IfOk result (IsAdmitted self.now from ballot (reply_with (option_copied refusal.entry))) }
+        ensures ignored { IsIgnored self.now from ballot → result ≡ Ok None }
+        ensures counted { OnlyCounts self.now from ballot (reply_with (option_copied refusal.entry)) → result ≡ Ok (Some Verdict.Waits) }
         ensures error { IfErr result (IsReplyRefusal self.now from ballot (reply_with (option_copied refusal.entry))) }
     {
         if from as usize >= self.votes.len() {
@@ -97,7 +99,8 @@ impl Proposer {
         verdict: Verdict,
     ) -> Result<Heard, AllocError>
         requires { ¬ StepSpends (opens_by self.now verdict) self.now }
-        ensures { (from : ℕ) → IfOk result (λ heard. heard ≡ heard_by (with_reply self.now from (reply_with (option_copied refusal.entry))) verdict) }
+        ensures heard { (from : ℕ) → IfOk result (λ heard. heard ≡ heard_by (with_reply self.now from (reply_with (option_copied refusal.entry))) verdict) }
+        ensures waits { verdict ≡ Verdict.Waits → result ≡ Ok Heard.Counted }
     {
         Ok(match verdict {
             Verdict::Waits => Heard::Counted,

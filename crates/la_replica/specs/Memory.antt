@@ -1,0 +1,31 @@
+-- What a replica does without memory: it copies no set, and sends nothing that carries one.
+use Rattle.std.specs.Prelude.{◌≡◌, ◌≢◌, ◌⊎◌, ℕ, true, false, slice_get, IsSomeAnd}
+use Rattle.la_set.specs.Histories.{Histories}
+use Rattle.la_acceptor.specs.declared.reply.Reply.{Reply}
+use Rattle.la_acceptor.specs.declared.reply.Reply.TheVariants as replied
+use Rattle.la_proposer.specs.Proposing.{Proposing, counts}
+use Rattle.la_replica.specs.declared.instance.Instance.{Instance}
+use Rattle.la_replica.specs.declared.message.Message.{Message}
+use Rattle.la_replica.specs.declared.message.Body.{Body}
+use Rattle.la_replica.specs.declared.message.Body.TheVariants.{Offer, Yes, No, Tell}
+use Rattle.la_replica.specs.Views.{is_larger}
+use Rattle.la_replica.specs.Members.{Member}
+use Rattle.la_replica.specs.Refusals.{IsFor}
+
+-- a reply that does not count
+abbrev pub IsFreeReply : Proposing → Message → Reply → Type 0
+IsFreeReply p m reply = counts p m.from m.ballot ≡ false
+
+-- a told set of another instance than 0, or one that is not larger than the view
+abbrev pub IsFreeTell : (instance : ℕ) → (view told : Histories) → Type 0
+IsFreeTell i view told = (i ≢ 0) ⊎ (is_larger view told ≡ false)
+
+abbrev pub IsFreeBody : Instance → (view : Histories) → Message → Body → Type 0
+IsFreeBody x view m (Offer offered) = ⊥
+IsFreeBody x view m Yes = IsFreeReply x.proposer m replied.Yes
+IsFreeBody x view m (No accepted) = IsFreeReply x.proposer m (replied.No accepted)
+IsFreeBody x view m (Tell told) = IsFreeTell m.instance view told
+
+-- a message that this replica receives without memory
+abbrev pub IsFree : Member → Message → Type 0
+IsFree m message = IsFor m message × IsSomeAnd (slice_get m.instances message.instance) (λ x. IsFreeBody x m.view message message.body)

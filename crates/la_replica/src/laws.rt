@@ -1,0 +1,26 @@
+// What the definitions mean: laws that no code runs.
+ghost use Rattle.std.specs.Prelude.{◌≡◌, ℕ, ◌*◌, ◌<◌, ◌≤◌, List, Some, None};
+ghost use Rattle.la_set.specs.Deeds.{Deed};
+ghost use Rattle.la_replica.specs.declared.message.Message.{Message};
+ghost use Rattle.la_replica.specs.declared.out.Out.{Out};
+ghost use Rattle.la_replica.specs.declared.replica.TheConstants.{MAX_COMMITS};
+ghost use Rattle.la_replica.specs.Members.{Member, start, cap_in, submits, receives};
+
+/// The limit, as a number.
+pub fn limits()
+    ensures { MAX_COMMITS ≡ 16 }
+{}
+
+/// A new replica has the group's cap in instance 0 and a cap of 1 in each other instance, of which
+/// there are two for each adopt-commit object.
+pub fn caps_at_first()
+    ensures first { (votes : List ℕ) (own cap commits : ℕ) → cap_in (start votes own cap commits) 0 ≡ Some cap }
+    ensures others { (votes : List ℕ) (own cap commits i : ℕ) → 0 < i → i ≤ 2 * commits → cap_in (start votes own cap commits) i ≡ Some 1 }
+    ensures no_more { (votes : List ℕ) (own cap commits i : ℕ) → 2 * commits < i → cap_in (start votes own cap commits) i ≡ None }
+{}
+
+/// No step changes a cap, and none makes or ends an instance.
+pub fn caps_stay()
+    ensures submission { (m after : Member) (out : Out) (i j : ℕ) (d : Deed) → submits m i d ≡ Some (out, after) → cap_in after j ≡ cap_in m j }
+    ensures message { (m after : Member) (out : Out) (j : ℕ) (message : Message) → receives m message ≡ Some (out, after) → cap_in after j ≡ cap_in m j }
+{}
