@@ -1,0 +1,121 @@
+// Callers that promise what only exact contracts let them: each calls a function twice, knows nothing
+// but its contract, and has one answer.
+ghost use Rattle.std.specs.Prelude.{◌≡◌, ◌<◌, ◌^◌, length, IfOk, IfSome, IsTrue};
+ghost use Rattle.la_script.specs.Scripts.{said_by};
+ghost use Rattle.la_world.specs.Printable.{IsPrintableReport};
+
+use la_script::{Events, ReadError, Script, ScriptFault, Text, print, read};
+use la_world::{Event, Report};
+use std::alloc::{AllocError, AllocFailed, Global};
+
+fn scripts_are_one(alloc: Global, bytes: &[u8]) -> Result<(Script, Script), ReadError>
+    requires { length bytes.now < 2 ^ 32 }
+    ensures { IfOk result (λ both. said_by both.0 ≡ said_by both.1) }
+{
+    Ok((read(alloc, bytes)?, read(alloc, bytes)?))
+}
+
+fn faults_are_one(alloc: Global, bytes: &[u8]) -> Option<(ScriptFault, ScriptFault)>
+    requires { length bytes.now < 2 ^ 32 }
+    ensures { IfSome result (λ both. both.0 ≡ both.1) }
+{
+    match (read(alloc, bytes), read(alloc, bytes)) {
+        (Err(ReadError::Fault(one)), Err(ReadError::Fault(other))) => Some((one, other)),
+        _ => None,
+    }
+}
+
+// What is read once has no fault, unless memory is refused.
+fn read_or_refused(alloc: Global, bytes: &[u8]) -> bool
+    requires { length bytes.now < 2 ^ 32 }
+    ensures { IsTrue result }
+{
+    match (read(alloc, bytes), read(alloc, bytes)) {
+        (Ok(_), Err(ReadError::Fault(_))) => false,
+        _ => true,
+    }
+}
+
+fn texts_are_one(alloc: Global, report: &Report) -> Result<(Text, Text), AllocError>
+    requires { IsPrintableReport report.now }
+    ensures { IfOk result (λ both. both.0 ≡ both.1) }
+{
+    Ok((print(alloc, report)?, print(alloc, report)?))
+}
+
+fn new_events_are_one(alloc: Global) -> (Events, Events)
+    ensures { result.0 ≡ result.1 }
+{
+    (Events::new(alloc), Events::new(alloc))
+}
+
+fn len_is_exact(events: &Events) -> (usize, usize)
+    ensures { result.0 ≡ result.1 }
+{
+    (events.len(), events.len())
+}
+
+fn at_is_exact(events: &Events, place: usize) -> Option<(&Event, &Event)>
+    ensures { IfSome result (λ both. both.0.now ≡ both.1.now) }
+{
+    Some((events.at(place)?, events.at(place)?))
+}
+
+fn at_is_there_or_not(events: &Events, place: usize) -> (bool, bool)
+    ensures { result.0 ≡ result.1 }
+{
+    (events.at(place).is_some(), events.at(place).is_some())
+}
+
+fn all_is_exact(events: &Events) -> (&[Event], &[Event])
+    ensures { result.0.now ≡ result.1.now }
+{
+    (events.all(), events.all())
+}
+
+fn pushes_are_one(one: &mut Events, other: &mut Events, message: u64) -> Result<(), AllocError>
+    requires { one.old ≡ other.old }
+    ensures { IfOk result (λ _. one.new ≡ other.new) }
+{
+    one.push(Event::Deliver(message))?;
+    other.push(Event::Deliver(message))?;
+    Ok(())
+}
+
+fn events_are_their_list(one: Events, other: Events) -> (Events, Events)
+    requires { one ≡ other }
+    ensures { result.0 ≡ result.1 }
+{
+    (Events::from(Vec::from(one)), Events::from(Vec::from(other)))
+}
+
+fn bytes_are_exact(text: &Text) -> (&[u8], &[u8])
+    ensures { result.0.now ≡ result.1.now }
+{
+    (text.bytes(), text.bytes())
+}
+
+fn texts_are_their_strings(one: Text, other: Text) -> (Text, Text)
+    requires { one ≡ other }
+    ensures { result.0 ≡ result.1 }
+{
+    (
+        Text::from(String::from(one)),
+        Text::from(String::from(other)),
+    )
+}
+
+fn want_of_memory_is_one_error(one: AllocError, other: AllocError) -> (ReadError, ReadError)
+    ensures { result.0 ≡ result.1 }
+{
+    (ReadError::from(one), ReadError::from(other))
+}
+
+fn a_refused_push_is_the_same_error(
+    one: AllocFailed<Event>,
+    other: AllocError,
+) -> (ReadError, ReadError)
+    ensures { result.0 ≡ result.1 }
+{
+    (ReadError::from(one), ReadError::from(other))
+}
