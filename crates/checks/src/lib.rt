@@ -1,6 +1,10 @@
-//! Nothing but checks of the crates below: tests, and callers that promise what only exact contracts
-//! let them.
+//! Checks of the crates below, and nothing else: tests of what no contract says, and callers that promise
+//! what only exact contracts let them. They stand here, at the top, so that each is proved once.
 #![tactic(auto)]
 
 #[cfg(test)]
+mod acceptor;
+#[cfg(test)]
 mod script;
+#[cfg(test)]
+mod set;

@@ -12,7 +12,7 @@ use std::alloc::{AllocError, Global};
 use std::marker::Model;
 
 /// One acceptor. It holds the accepted set: the union of all offers that it answered.
-#[derive(Debug, Drop)]
+#[derive(Drop)]
 pub struct Acceptor {
     accepted: UpdateSet,
 }

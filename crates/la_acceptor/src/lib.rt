@@ -10,8 +10,6 @@ mod acceptor;
 mod error;
 pub mod laws;
 mod reply;
-#[cfg(test)]
-mod tests;
 mod undo;
 
 pub use acceptor::Acceptor;

@@ -17,7 +17,7 @@ pub const MAX_NUMBER: u32 = 1_000_000;
 /// A set of updates, one for each id, in which each replica's numbers run from 1 without a gap.
 ///
 /// It keeps a list for each replica, in the order of the numbers, so that an id is found at once.
-#[derive(Debug, Drop)]
+#[derive(Drop)]
 pub struct UpdateSet {
     of: [Vec<Update>; 8],
 }

@@ -14,7 +14,7 @@ pub struct UpdateId {
 }
 
 /// What an update does to its object.
-#[derive(Debug, Drop)]
+#[derive(Drop)]
 pub enum Op {
     /// Adds to a counter.
     Inc(u32),
@@ -82,7 +82,7 @@ impl Op {
 }
 
 /// One operation on one object, under an id that no other update has.
-#[derive(Debug, Drop)]
+#[derive(Drop)]
 pub struct Update {
     pub id: UpdateId,
     /// The number of the object that the operation is for.

@@ -1,0 +1,60 @@
+-- What a contract of la_set leaves open: one order, one least clash, one refusal.
+use Rattle.std.proofs.Common.{◌≡◌, Option, Some, None, MatchOption, Ordering, refl, ap, subst, inl, inr}
+use Rattle.std.specs.declared.cmp.Ordering.TheVariants.{Less, Equal, Greater}
+use Rattle.la_set.specs.declared.update.UpdateId.{UpdateId}
+use Rattle.la_set.specs.declared.error.SetError.{SetError}
+use Rattle.la_set.specs.declared.error.SetError.TheVariants.{TooManyTags, Gap, Clash, Memory}
+use Rattle.la_set.specs.Histories.{Histories}
+use Rattle.la_set.specs.Inclusion.{IsSubset, IsOrderOf}
+use Rattle.la_set.specs.Join.{IsCompatible, IsLeastClash}
+use Rattle.la_set.specs.Refusals.{IsUnionRefusal}
+use Rattle.la_set.proofs.IdOrder.{id_cases}
+use Rattle.la_set.proofs.Agreements.{clash_compatible}
+
+within : (a b : Histories) → a ≡ b → IsSubset a b
+within a b e = subst (IsSubset a) e (λ u has. has)
+
+around : (a b : Histories) → a ≡ b → IsSubset b a
+around a b e = subst (λ s. IsSubset s a) e (λ u has. has)
+
+pub one_order : (a b : Histories) (x y : Option Ordering) → IsOrderOf a b x → IsOrderOf a b y → x ≡ y
+one_order a b (Some Less) (Some Less) p q = refl
+one_order a b (Some Less) (Some Equal) p q = absurd (p.1 (around a b q))
+one_order a b (Some Less) (Some Greater) p q = absurd (p.1 q.0)
+one_order a b (Some Less) None p q = absurd (q.0 p.0)
+one_order a b (Some Equal) (Some Less) p q = absurd (q.1 (around a b p))
+one_order a b (Some Equal) (Some Equal) p q = refl
+one_order a b (Some Equal) (Some Greater) p q = absurd (q.1 (within a b p))
+one_order a b (Some Equal) None p q = absurd (q.0 (within a b p))
+one_order a b (Some Greater) (Some Less) p q = absurd (p.1 q.0)
+one_order a b (Some Greater) (Some Equal) p q = absurd (p.1 (within a b q))
+one_order a b (Some Greater) (Some Greater) p q = refl
+one_order a b (Some Greater) None p q = absurd (q.1 p.0)
+one_order a b None (Some Less) p q = absurd (p.0 q.0)
+one_order a b None (Some Equal) p q = absurd (p.0 (within a b q))
+one_order a b None (Some Greater) p q = absurd (p.1 q.0)
+one_order a b None None p q = refl
+
+pub one_least : (a b : Histories) (x y : UpdateId) → IsLeastClash a b x → IsLeastClash a b y → x ≡ y
+one_least a b x y p q = elim (id_cases x y) [
+  | inl below ↦ absurd (q.none_below x below.0 p.clashes)
+  | inr more ↦ elim more [ inl same ↦ same.0 | inr above ↦ absurd (p.none_below y above.0 q.clashes) ]
+]
+
+pub one_clash : (a b : Histories) (x y : Option UpdateId) → MatchOption x (IsCompatible a b) (λ id. IsLeastClash a b id) → MatchOption y (IsCompatible a b) (λ id. IsLeastClash a b id) → x ≡ y
+one_clash a b (Some x) (Some y) p q = ap Some (one_least a b x y p q)
+one_clash a b (Some x) None p q = absurd (clash_compatible a b x p.clashes q)
+one_clash a b None (Some y) p q = absurd (clash_compatible a b y q.clashes p)
+one_clash a b None None p q = refl
+
+pub one_union_refusal : (a b : Histories) (e f : SetError) → IsUnionRefusal a b e → IsUnionRefusal a b f → e ≡ f
+one_union_refusal a b (Clash x) (Clash y) p q = ap Clash (one_least a b x y p q)
+one_union_refusal a b (Clash x) Memory p q = absurd (clash_compatible a b x p.clashes q)
+one_union_refusal a b Memory (Clash y) p q = absurd (clash_compatible a b y q.clashes p)
+one_union_refusal a b Memory Memory p q = refl
+one_union_refusal a b TooManyTags f p q = absurd p
+one_union_refusal a b Gap f p q = absurd p
+one_union_refusal a b (Clash x) Gap p q = absurd q
+one_union_refusal a b (Clash x) TooManyTags p q = absurd q
+one_union_refusal a b Memory Gap p q = absurd q
+one_union_refusal a b Memory TooManyTags p q = absurd q

@@ -1,0 +1,4 @@
+// la_acceptor: runs as tables, the texts of its errors, and callers that know nothing but its clauses.
+mod exactness;
+mod runs;
+mod texts;

@@ -1,0 +1,85 @@
+// Callers that know nothing but the contracts: each makes a call twice, or on two equal values, and
+// promises equal answers. Where memory may run out for one call and not for the other, it promises
+// them where both succeed; and where both are refused, one refusal.
+ghost use Rattle.std.specs.Prelude.{◌≡◌, ◌↔◌, [], ◌∷◌, IsTrue, IfOk, IfErr, OnOk, OnErr};
+ghost use Rattle.la_acceptor.specs.Offers.{AreAnsweredAfter};
+
+use la_acceptor::{Acceptor, AcceptorError, Reply};
+use la_set::UpdateSet;
+use std::alloc::{AllocError, Global};
+
+fn new_is_exact(alloc: Global) -> (Acceptor, Acceptor)
+    ensures { result.0 ≡ result.1 }
+{
+    (Acceptor::new(alloc), Acceptor::new(alloc))
+}
+
+fn accepted_is_exact(acceptor: &Acceptor) -> (&UpdateSet, &UpdateSet)
+    ensures { result.0.now ≡ result.1.now }
+{
+    (acceptor.accepted(), acceptor.accepted())
+}
+
+fn copies_are_one(acceptor: &Acceptor) -> Result<(Acceptor, Acceptor), AllocError>
+    ensures { IfOk result (λ both. both.0 ≡ both.1) }
+{
+    Ok((acceptor.copy()?, acceptor.copy()?))
+}
+
+fn offer_is_exact(
+    one: &mut Acceptor,
+    other: &mut Acceptor,
+    offered: &UpdateSet,
+) -> (Result<Reply, AcceptorError>, Result<Reply, AcceptorError>)
+    requires { one.old ≡ other.old }
+    ensures reply { IfOk result.0 (λ a. IfOk result.1 (λ b. a ≡ b)) }
+    ensures accepted { OnOk result.0 (OnOk result.1 (one.new ≡ other.new)) }
+    ensures refusal { IfErr result.0 (λ e. IfErr result.1 (λ f. e ≡ f)) }
+    ensures unchanged { OnErr result.0 (OnErr result.1 (one.new ≡ other.new)) }
+{
+    (one.offer(offered), other.offer(offered))
+}
+
+// The reply and its copy are the reply of an offer without a copy.
+fn offer_with_copy_is_exact(
+    one: &mut Acceptor,
+    other: &mut Acceptor,
+    offered: &UpdateSet,
+) -> (
+    Result<(Reply, Reply), AcceptorError>,
+    Result<Reply, AcceptorError>,
+)
+    requires { one.old ≡ other.old }
+    ensures reply { IfOk result.0 (λ a. IfOk result.1 (λ b. a.0 ≡ b)) }
+    ensures copy { IfOk result.0 (λ a. IfOk result.1 (λ b. a.1 ≡ b)) }
+    ensures accepted { OnOk result.0 (OnOk result.1 (one.new ≡ other.new)) }
+    ensures refusal { IfErr result.0 (λ e. IfErr result.1 (λ f. e ≡ f)) }
+    ensures unchanged { OnErr result.0 (OnErr result.1 (one.new ≡ other.new)) }
+{
+    (one.offer_with_copy(offered), other.offer(offered))
+}
+
+fn reply_copies_are_one(reply: &Reply) -> Result<(Reply, Reply), AllocError>
+    ensures { IfOk result (λ both. both.0 ≡ both.1) }
+{
+    Ok((reply.copy()?, reply.copy()?))
+}
+
+fn reply_same_is_exact(reply: &Reply, other: &Reply) -> (bool, bool)
+    ensures { IsTrue result.0 ↔ IsTrue result.1 }
+{
+    (reply.same(other), reply.same(other))
+}
+
+// An acceptor that answers is one whose offers are answered, in the words of the law on their union.
+fn what_answers_is_answered(
+    acceptor: &mut Acceptor,
+    first: &UpdateSet,
+    second: &UpdateSet,
+) -> Result<(), AcceptorError>
+    ensures { OnOk result (AreAnsweredAfter acceptor.old (first.now ∷ second.now ∷ [])) }
+{
+    let _first = acceptor.offer(first)?;
+    let _second = acceptor.offer(second)?;
+    Ok(())
+}

@@ -1,0 +1,255 @@
+// Callers that know nothing but the contracts: each makes a call twice, or on two equal values, and
+// promises equal answers. Where memory may run out for one call and not for the other, it promises
+// them where both succeed; and where both are refused, one refusal.
+ghost use Rattle.std.specs.Prelude.{◌≡◌, ◌↔◌, IsTrue, IfOk, IfErr, OnOk, option_copied};
+
+use la_set::{Op, SetError, Tags, Update, UpdateId, UpdateSet, Updates};
+use std::alloc::{AllocError, Global};
+use std::cmp::Ordering;
+
+// ## Updates
+
+fn op_copies_are_one(op: &Op) -> Result<(Op, Op), AllocError>
+    ensures { IfOk result (λ both. both.0 ≡ both.1) }
+{
+    Ok((op.copy()?, op.copy()?))
+}
+
+fn op_same_is_exact(op: &Op, other: &Op) -> (bool, bool)
+    ensures { IsTrue result.0 ↔ IsTrue result.1 }
+{
+    (op.same(other), op.same(other))
+}
+
+fn update_copies_are_one(update: &Update) -> Result<(Update, Update), AllocError>
+    ensures { IfOk result (λ both. both.0 ≡ both.1) }
+{
+    Ok((update.copy()?, update.copy()?))
+}
+
+fn update_same_is_exact(update: &Update, other: &Update) -> (bool, bool)
+    ensures { IsTrue result.0 ↔ IsTrue result.1 }
+{
+    (update.same(other), update.same(other))
+}
+
+// ## Lists of updates
+
+fn list_new_is_exact(alloc: Global) -> (Updates, Updates)
+    ensures { result.0 ≡ result.1 }
+{
+    (Updates::new(alloc), Updates::new(alloc))
+}
+
+fn list_len_is_exact(list: &Updates) -> (usize, usize)
+    ensures { result.0 ≡ result.1 }
+{
+    (list.len(), list.len())
+}
+
+fn list_at_is_exact(list: &Updates, place: usize) -> (Option<&Update>, Option<&Update>)
+    ensures { option_copied result.0 ≡ option_copied result.1 }
+{
+    (list.at(place), list.at(place))
+}
+
+fn list_all_is_exact(list: &Updates) -> (&[Update], &[Update])
+    ensures { result.0.now ≡ result.1.now }
+{
+    (list.all(), list.all())
+}
+
+fn list_push_is_exact(
+    one: &mut Updates,
+    other: &mut Updates,
+    update: Update,
+    again: Update,
+) -> (Result<(), AllocError>, Result<(), AllocError>)
+    requires sets { one.old ≡ other.old }
+    requires updates { update ≡ again }
+    ensures { OnOk result.0 (OnOk result.1 (one.new ≡ other.new)) }
+{
+    (one.push(update), other.push(again))
+}
+
+fn from_a_vec_is_exact(one: Vec<Update>, other: Vec<Update>) -> (Updates, Updates)
+    requires { one.items ≡ other.items }
+    ensures { result.0 ≡ result.1 }
+{
+    (Updates::from(one), Updates::from(other))
+}
+
+fn into_a_vec_is_exact(one: Updates, other: Updates) -> (Vec<Update>, Vec<Update>)
+    requires { one ≡ other }
+    ensures { result.0.items ≡ result.1.items }
+{
+    (one.into(), other.into())
+}
+
+// ## Tags
+
+fn tags_new_is_exact(alloc: Global) -> (Tags, Tags)
+    ensures { result.0 ≡ result.1 }
+{
+    (Tags::new(alloc), Tags::new(alloc))
+}
+
+fn tags_len_is_exact(tags: &Tags) -> (usize, usize)
+    ensures { result.0 ≡ result.1 }
+{
+    (tags.len(), tags.len())
+}
+
+fn tags_at_is_exact(tags: &Tags, place: usize) -> (Option<&UpdateId>, Option<&UpdateId>)
+    ensures { option_copied result.0 ≡ option_copied result.1 }
+{
+    (tags.at(place), tags.at(place))
+}
+
+fn has_is_exact(tags: &Tags, id: UpdateId) -> (bool, bool)
+    ensures { IsTrue result.0 ↔ IsTrue result.1 }
+{
+    (tags.has(id), tags.has(id))
+}
+
+fn tags_push_is_exact(
+    one: &mut Tags,
+    other: &mut Tags,
+    id: UpdateId,
+) -> (Result<bool, SetError>, Result<bool, SetError>)
+    requires { one.old ≡ other.old }
+    ensures answer { IfOk result.0 (λ new. IfOk result.1 (λ also. IsTrue new ↔ IsTrue also)) }
+    ensures tags { OnOk result.0 (OnOk result.1 (one.new ≡ other.new)) }
+    ensures refusal { IfErr result.0 (λ e. IfErr result.1 (λ f. e ≡ f)) }
+{
+    (one.push(id), other.push(id))
+}
+
+fn tags_copies_are_one(tags: &Tags) -> Result<(Tags, Tags), AllocError>
+    ensures { IfOk result (λ both. both.0 ≡ both.1) }
+{
+    Ok((tags.copy()?, tags.copy()?))
+}
+
+fn tags_same_is_exact(tags: &Tags, other: &Tags) -> (bool, bool)
+    ensures { IsTrue result.0 ↔ IsTrue result.1 }
+{
+    (tags.same(other), tags.same(other))
+}
+
+// ## Sets
+
+fn new_is_exact(alloc: Global) -> (UpdateSet, UpdateSet)
+    ensures { result.0 ≡ result.1 }
+{
+    (UpdateSet::new(alloc), UpdateSet::new(alloc))
+}
+
+fn count_of_is_exact(set: &UpdateSet, replica: u8) -> (u32, u32)
+    ensures { result.0 ≡ result.1 }
+{
+    (set.count_of(replica), set.count_of(replica))
+}
+
+fn len_is_exact(set: &UpdateSet) -> (usize, usize)
+    ensures { result.0 ≡ result.1 }
+{
+    (set.len(), set.len())
+}
+
+fn get_is_exact(set: &UpdateSet, id: UpdateId) -> (Option<&Update>, Option<&Update>)
+    ensures { option_copied result.0 ≡ option_copied result.1 }
+{
+    (set.get(id), set.get(id))
+}
+
+fn at_is_exact(set: &UpdateSet, place: usize) -> (Option<&Update>, Option<&Update>)
+    ensures { option_copied result.0 ≡ option_copied result.1 }
+{
+    (set.at(place), set.at(place))
+}
+
+fn push_is_exact(
+    one: &mut UpdateSet,
+    other: &mut UpdateSet,
+    update: Update,
+    again: Update,
+) -> (Result<(), SetError>, Result<(), SetError>)
+    requires sets { one.old ≡ other.old }
+    requires updates { update ≡ again }
+    ensures set { OnOk result.0 (OnOk result.1 (one.new ≡ other.new)) }
+    ensures refusal { IfErr result.0 (λ e. IfErr result.1 (λ f. e ≡ f)) }
+{
+    (one.push(update), other.push(again))
+}
+
+fn pop_is_exact(
+    one: &mut UpdateSet,
+    other: &mut UpdateSet,
+    replica: u8,
+) -> (Option<Update>, Option<Update>)
+    requires { one.old ≡ other.old }
+    ensures last { result.0 ≡ result.1 }
+    ensures rest { one.new ≡ other.new }
+{
+    (one.pop(replica), other.pop(replica))
+}
+
+fn contains_all_is_exact(set: &UpdateSet, other: &UpdateSet) -> (bool, bool)
+    ensures { result.0 ≡ result.1 }
+{
+    (set.contains_all(other), set.contains_all(other))
+}
+
+fn same_is_exact(set: &UpdateSet, other: &UpdateSet) -> (bool, bool)
+    ensures { IsTrue result.0 ↔ IsTrue result.1 }
+{
+    (set.same(other), set.same(other))
+}
+
+fn order_is_exact(set: &UpdateSet, other: &UpdateSet) -> (Option<Ordering>, Option<Ordering>)
+    ensures { result.0 ≡ result.1 }
+{
+    (set.order(other), set.order(other))
+}
+
+fn union_is_exact(
+    one: &mut UpdateSet,
+    also: &mut UpdateSet,
+    other: &UpdateSet,
+) -> (Result<(), SetError>, Result<(), SetError>)
+    requires { one.old ≡ also.old }
+    ensures set { OnOk result.0 (OnOk result.1 (one.new ≡ also.new)) }
+    ensures refusal { IfErr result.0 (λ e. IfErr result.1 (λ f. e ≡ f)) }
+{
+    (one.union(other), also.union(other))
+}
+
+fn join_is_exact(
+    one: &mut UpdateSet,
+    also: &mut UpdateSet,
+    other: &UpdateSet,
+) -> (Result<(), AllocError>, Result<(), AllocError>)
+    requires { one.old ≡ also.old }
+    ensures { OnOk result.0 (OnOk result.1 (one.new ≡ also.new)) }
+{
+    (one.join(other), also.join(other))
+}
+
+fn first_clash_is_exact(set: &UpdateSet, other: &UpdateSet) -> (Option<UpdateId>, Option<UpdateId>)
+    ensures { result.0 ≡ result.1 }
+{
+    (set.first_clash(other), set.first_clash(other))
+}
+
+fn copies_are_one(set: &UpdateSet) -> Result<(UpdateSet, UpdateSet), AllocError>
+    ensures { IfOk result (λ both. both.0 ≡ both.1) }
+{
+    Ok((set.copy()?, set.copy()?))
+}
+
+fn beyond_is_exact(set: &UpdateSet, other: &UpdateSet) -> Result<(Updates, Updates), AllocError>
+    ensures { IfOk result (λ both. both.0 ≡ both.1) }
+{
+    Ok((set.beyond(other)?, set.beyond(other)?))
+}

@@ -1,0 +1,123 @@
+// Updates and sets from tables. Each helper calls again where memory was refused, after a look at
+// what stands: so the tests pass with every single allocation failing too.
+use la_set::{Op, SetError, Tags, Update, UpdateId, UpdateSet};
+use std::alloc::Global;
+use std::process::Abort;
+
+// What an update of a table does.
+#[derive(Clone, Copy)]
+pub enum Does {
+    Inc(u32),
+    Dec(u32),
+    Raise(u64),
+    Put(u64),
+    // Removes the tags 7.1 to this number of them: more than two take memory.
+    Remove(u32),
+    Mark,
+    Vote(u64, bool),
+}
+
+// The replica, the number, and what is done to object 1.
+pub type Row = (u8, u32, Does);
+
+pub fn id(replica: u8, number: u32) -> UpdateId {
+    UpdateId { replica, number }
+}
+
+pub fn tag(rt: &impl Abort, tags: &mut Tags, id: UpdateId) -> Result<bool, SetError> {
+    let before = tags.len();
+    let first = tags.push(id);
+    if first != Err(SetError::Memory) {
+        return first;
+    }
+    assert!(rt; tags.len() == before);
+    tags.push(id)
+}
+
+// The tags of this replica from 1 to a number, pushed from the last down.
+pub fn tags_down(rt: &impl Abort, alloc: Global, replica: u8, count: u32) -> Tags {
+    let mut tags = Tags::new(alloc);
+    for below in 0..count {
+        assert!(rt;
+            tag(rt, &mut tags, id(replica, count - below)) == Ok(true),
+            "{below}"
+        );
+    }
+    tags
+}
+
+fn op_of(rt: &impl Abort, alloc: Global, does: &Does) -> Op {
+    match *does {
+        Does::Inc(by) => Op::Inc(by),
+        Does::Dec(by) => Op::Dec(by),
+        Does::Raise(to) => Op::Raise(to),
+        Does::Put(element) => Op::Put(element),
+        Does::Remove(count) => Op::Remove(tags_down(rt, alloc, 7, count)),
+        Does::Mark => Op::Mark,
+        Does::Vote(value, sole) => Op::Vote { value, sole },
+    }
+}
+
+pub fn update_of(rt: &impl Abort, alloc: Global, row: &Row) -> Update {
+    let (replica, number, does) = row;
+    Update {
+        id: id(*replica, *number),
+        object: 1,
+        op: op_of(rt, alloc, does),
+    }
+}
+
+pub fn push(
+    rt: &impl Abort,
+    alloc: Global,
+    set: &mut UpdateSet,
+    row: &Row,
+) -> Result<(), SetError> {
+    let before = set.len();
+    let first = set.push(update_of(rt, alloc, row));
+    if first != Err(SetError::Memory) {
+        return first;
+    }
+    assert!(rt; set.len() == before);
+    set.push(update_of(rt, alloc, row))
+}
+
+pub fn set_of(rt: &impl Abort, alloc: Global, rows: &[Row]) -> UpdateSet {
+    let mut set = UpdateSet::new(alloc);
+    for row in rows {
+        assert!(rt; push(rt, alloc, &mut set, row) == Ok(()));
+    }
+    set
+}
+
+pub fn copy_of(rt: &impl Abort, set: &UpdateSet) -> UpdateSet {
+    match set.copy() {
+        Ok(copy) => copy,
+        Err(_) => set.copy().expect(rt, "memory is there again"),
+    }
+}
+
+pub fn copy_of_tags(rt: &impl Abort, tags: &Tags) -> Tags {
+    match tags.copy() {
+        Ok(copy) => copy,
+        Err(_) => tags.copy().expect(rt, "memory is there again"),
+    }
+}
+
+pub fn copy_of_update(rt: &impl Abort, update: &Update) -> Update {
+    match update.copy() {
+        Ok(copy) => copy,
+        Err(_) => update.copy().expect(rt, "memory is there again"),
+    }
+}
+
+// Adds what another set has, and looks that a refusal for want of memory leaves the set as it was.
+pub fn unite(rt: &impl Abort, set: &mut UpdateSet, other: &UpdateSet) -> Result<(), SetError> {
+    let before = set.len();
+    let first = set.union(other);
+    if first != Err(SetError::Memory) {
+        return first;
+    }
+    assert!(rt; set.len() == before);
+    set.union(other)
+}
