@@ -1,12 +1,13 @@
-mod Runs
 mod Lists
 mod Happens
 mod Accepted
 mod Quorum
 mod GrowingViews
 mod Chains
+mod Within
 mod Honest
 mod Growth
+mod KnownBallots
 mod TakenUpdates
 mod Validity
 mod LearntOrder
@@ -36,3 +37,4 @@ pub mod Allowing
 pub mod SentCounts
 pub mod Worlds
 pub mod Playback
+pub mod Proposals

@@ -9,13 +9,13 @@ use Rattle.la_world.specs.Trace.{Did, Entry, Trace}
 use Rattle.la_world.specs.Ballots.{learnt_by, round}
 use Rattle.la_world.specs.Learnings.{learning_of, learnt}
 use Rattle.la_world.specs.Playing.{entry, trace}
-use Rattle.la_world.specs.Laws.{LearntAreValid}
+use Rattle.la_world.specs.Laws.{LearntAreValid, LearntHoldWhatWasTaken}
 use Rattle.la_world.proofs.Lists.{AllIn, AllIn-append, AllIn-each, AllIn_at, contains_IsIn}
 use Rattle.la_world.proofs.Happens.{Happens, silent, opens, answers_offer, refines, learns, round_is_of, happens}
 use Rattle.la_world.proofs.Quorum.{learnt_ballot}
 use Rattle.la_world.proofs.Chains.{learning_stands, trace_drop}
 use Rattle.la_world.proofs.Honest.{IsSubmitted, submitted_more, Honest, honest, round_honest}
-use Rattle.la_world.proofs.TakenUpdates.{has_taken}
+use Rattle.la_world.proofs.TakenUpdates.{taken_within, has_taken}
 
 -- when it was learnt, all of it had been submitted
 record WasSubmitted (t : Trace) (l : Learnt) : Type 0 where
@@ -55,8 +55,12 @@ learnt_valid g events l c =
     let s = learning_stands g events l i in
     let w = AllIn_at (WasSubmitted t) (learnt t) l (were_submitted g events) i in
     record {
-      own = has_taken g events l.instance l.replica (learnt_ballot l) s.opened;
+      own = taken_within g events l.instance l.replica (learnt_ballot l) s.opened;
       later = w.later;
       until_place = sym (length_trace g (drop w.later events)) ∙ ap length (sym (trace_drop g w.later events)) ∙ w.until_place;
       submitted = subst (λ u. IsSubmitted u l.instance l.updates) (trace_drop g w.later events) w.submitted;
     }
+
+pub learnt_taken : LearntHoldWhatWasTaken
+learnt_taken g events l c few =
+    has_taken g events l.instance l.replica few (learnt_ballot l) (learning_stands g events l (contains_IsIn (learnt (trace g events)) l c)).opened

@@ -23,7 +23,7 @@ use std::marker::Model;
 /// delivered at any later time, again and in any order.
 ///
 /// It keeps every message and every learnt set, so its memory grows by what is sent and learnt.
-#[derive(Debug, Drop)]
+#[derive(Drop)]
 pub struct World {
     config: Config,
     replicas: Vec<Replica>,
