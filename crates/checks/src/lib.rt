@@ -5,6 +5,8 @@
 #[cfg(test)]
 mod acceptor;
 #[cfg(test)]
+mod proposer;
+#[cfg(test)]
 mod script;
 #[cfg(test)]
 mod set;

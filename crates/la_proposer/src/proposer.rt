@@ -31,7 +31,7 @@ pub const INLINE_TALLY: usize = 4;
 
 /// Asks a group's acceptors to acknowledge its updates, and learns sets that a majority
 /// acknowledged.
-#[derive(Debug, Drop)]
+#[derive(Drop)]
 pub struct Proposer {
     own: u8,
     cap: u32,

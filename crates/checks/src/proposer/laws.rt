@@ -1,0 +1,141 @@
+// The laws and the clauses on memory and limits, each by what follows from it.
+ghost use Rattle.std.specs.Prelude.{◌≡◌, ℕ, ◌<◌, ◌≤◌, Bool, true, false, [], length, replicate, None, IsTrue, IfOk, OnOk};
+ghost use Rattle.la_set.specs.Inclusion.{IsSubset};
+ghost use Rattle.la_proposer.specs.declared.tally.Verdict.TheVariants.{Refines};
+ghost use Rattle.la_proposer.specs.Majority.{is_majority, how_many};
+ghost use Rattle.la_proposer.specs.Tally.{verdict};
+ghost use Rattle.la_proposer.specs.Proposing.{submitted, counts, with_reply};
+ghost use Rattle.la_proposer.specs.Refusals.{CountsInPlace};
+
+use la_acceptor::Reply;
+use la_proposer::{
+    BadConfig, Ballot, Heard, INLINE_TALLY, MAX_BALLOTS, MAX_CAP, MAX_VOTES, Proposer,
+    ProposerError, Votes, laws,
+};
+use la_set::Op;
+
+// Of three replicas with a vote each, two majorities share one.
+fn two_majorities_of_three_meet()
+    ensures { (p q : ℕ → Bool) → IsTrue (is_majority (replicate 3 1) p) → IsTrue (is_majority (replicate 3 1) q) → (r : ℕ) × (r < 3) × (p r ≡ true) × (q r ≡ true) }
+{
+    laws::majorities_share_a_replica();
+}
+
+fn three_of_five_are_a_majority()
+    ensures { (p : ℕ → Bool) → 3 ≤ how_many 5 p → IsTrue (is_majority (replicate 5 1) p) }
+{
+    laws::one_vote_each();
+}
+
+fn limits_as_numbers() -> (u16, u32, u32, usize)
+    ensures votes { result.0 ≡ 1000 }
+    ensures ballots { result.1 ≡ 8000000 }
+    ensures cap { result.2 ≡ 1000000 }
+    ensures inline { result.3 ≡ 4 }
+{
+    laws::limits();
+    (MAX_VOTES, MAX_BALLOTS, MAX_CAP, INLINE_TALLY)
+}
+
+fn groups_have_at_most_eight(votes: &[u16]) -> Result<Votes, BadConfig>
+    ensures { IfOk result (λ _. length votes.now ≤ 8) }
+{
+    laws::limits();
+    Votes::new(votes)
+}
+
+// What holds of every proposer is told.
+fn no_proposer_submits_more(proposer: &Proposer) -> u32
+    ensures number { proposer.now.number ≤ 8000000 }
+    ensures submitted { result ≤ 1000000 }
+{
+    let _kept = proposer.status();
+    proposer.submitted()
+}
+
+fn a_submission_keeps_the_set(
+    proposer: &mut Proposer,
+    object: u16,
+    by: u32,
+) -> Result<Option<Ballot>, ProposerError>
+    ensures { OnOk result (IsSubset proposer.old.updates proposer.new.updates) }
+{
+    laws::ballots_grow();
+    let _kept = proposer.status();
+    proposer.submit(object, Op::Inc(by))
+}
+
+fn a_late_reply_changes_nothing(
+    proposer: &mut Proposer,
+    from: u8,
+    ballot: u32,
+    reply: Reply,
+) -> Result<Heard, ProposerError>
+    requires late { ballot < proposer.old.number }
+    requires in_group { from < length proposer.old.votes }
+    ensures answer { result ≡ Ok Heard.Ignored }
+    ensures stays { proposer.new ≡ proposer.old }
+{
+    laws::a_learning_alone_takes_what_waits();
+    proposer.reply(from, ballot, reply)
+}
+
+fn nothing_is_buffered_at_rest(proposer: &mut Proposer, from: u8, ballot: u32, reply: Reply) -> u32
+    requires { proposer.old.is_asking ≡ false → proposer.old.waiting ≡ [] }
+    ensures { proposer.new.is_asking ≡ false → result ≡ 0 }
+{
+    laws::nothing_waits_at_rest();
+    let _heard = proposer.reply(from, ballot, reply);
+    proposer.buffered()
+}
+
+// ## Memory
+
+fn what_waits_is_foreseen_without_memory(
+    proposer: &Proposer,
+    object: u16,
+    op: &Op,
+) -> Result<Option<Ballot>, ProposerError>
+    requires asking { proposer.now.is_asking ≡ true }
+    requires room { submitted proposer.now < proposer.now.cap }
+    ensures { result ≡ Ok None }
+{
+    proposer.foresee_submission(object, op)
+}
+
+fn an_acknowledgement_counts_without_memory(
+    proposer: &mut Proposer,
+    from: u8,
+    ballot: u32,
+) -> Result<Heard, ProposerError>
+    requires { CountsInPlace proposer.old from ballot Reply.Yes }
+    ensures { result ≡ Ok Heard.Counted }
+{
+    proposer.reply(from, ballot, Reply::Yes)
+}
+
+// ## Ballots that are not spent
+
+fn what_opens_has_a_number(
+    proposer: &mut Proposer,
+    object: u16,
+    by: u32,
+) -> Result<Option<Ballot>, ProposerError>
+    requires { proposer.old.is_asking ≡ false }
+    ensures { OnOk result (proposer.old.number < 8000000) }
+{
+    proposer.submit(object, Op::Inc(by))
+}
+
+fn what_refines_has_a_number(
+    proposer: &mut Proposer,
+    from: u8,
+    ballot: u32,
+    reply: Reply,
+) -> Result<Heard, ProposerError>
+    requires counts { counts proposer.old from ballot ≡ true }
+    requires refines { verdict proposer.old.votes (with_reply proposer.old from reply).tally ≡ Refines }
+    ensures { OnOk result (proposer.old.number < 8000000) }
+{
+    proposer.reply(from, ballot, reply)
+}

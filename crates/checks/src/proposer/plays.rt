@@ -1,0 +1,200 @@
+// Plays a table of inputs at one proposer. Each call is made again where memory was refused: so the
+// tests pass with every single allocation failing too.
+use la_acceptor::Reply;
+use la_proposer::{Ballot, Heard, Proposer, ProposerError, Status, Votes};
+use la_set::{Op, Update, UpdateId, UpdateSet};
+use std::alloc::Global;
+use std::process::Abort;
+
+/// An update of a table: its replica, its number, and by how much it adds.
+pub type Given = (u8, u32, u32);
+
+pub enum Input {
+    /// A submission that adds so much.
+    Submits(u32),
+    /// An acceptor's reply to a ballot: a refusal with these updates, or else a Yes.
+    Replies(u8, u32, Option<&'static [Given]>),
+}
+
+/// What an input came to, with the number of the ballot that opens.
+#[derive(Clone, Copy, PartialEq, Eq)]
+pub enum Outcome {
+    Opened(u32),
+    Waits,
+    Counted,
+    Ignored,
+    Refined(u32),
+    /// How many updates the learnt set has, and the ballot that opens at once.
+    Learnt(usize, Option<u32>),
+    Refused(ProposerError),
+}
+
+/// An input and what it comes to; then the last ballot's set, the number of the ballot that is open,
+/// and how many submissions wait.
+pub struct Step(
+    pub Input,
+    pub Outcome,
+    pub &'static [Given],
+    pub Option<u32>,
+    pub u32,
+);
+
+/// A group's votes, which of its replicas the proposer is, its cap, and its inputs.
+pub struct Play {
+    pub name: &'static str,
+    pub votes: &'static [u16],
+    pub own: u8,
+    pub cap: u32,
+    pub steps: &'static [Step],
+}
+
+/// Plays a table at one proposer: each input is foreseen, and then heard.
+pub fn plays(rt: &impl Abort, alloc: Global, play: &Play) {
+    let votes = Votes::new(play.votes).expect(rt, "votes of a group");
+    let mut proposer = proposer_of(rt, alloc, play, votes);
+    for (place, step) in play.steps.iter().enumerate() {
+        let foreseen = foresees(rt, alloc, &proposer, &step.0);
+        let came = hears(rt, alloc, &mut proposer, &step.0);
+        assert!(rt;
+            foreseen == step.1 && came == step.1,
+            "{}: outcome {place}",
+            play.name
+        );
+        assert!(rt;
+            stands(rt, alloc, &proposer, step),
+            "{}: after {place}",
+            play.name
+        );
+    }
+}
+
+fn proposer_of(rt: &impl Abort, alloc: Global, play: &Play, votes: Votes) -> Proposer {
+    let replicas = votes.len() as u8;
+    assert!(rt;
+        play.own < replicas && 1 <= play.cap && play.cap <= 1000,
+        "a proposer"
+    );
+    Proposer::new(alloc, replicas, play.own, play.cap, votes)
+}
+
+fn foresees(rt: &impl Abort, alloc: Global, proposer: &Proposer, input: &Input) -> Outcome {
+    match input {
+        Input::Submits(by) => match foresees_submission(proposer, *by) {
+            Outcome::Refused(ProposerError::Memory) => foresees_submission(proposer, *by),
+            outcome => outcome,
+        },
+        Input::Replies(from, ballot, refused) => {
+            let reply = reply_with(rt, alloc, *refused);
+            match foresees_reply(proposer, *from, *ballot, &reply) {
+                Outcome::Refused(ProposerError::Memory) => foresees_reply(
+                    proposer, *from, *ballot, &reply,
+                ),
+                outcome => outcome,
+            }
+        }
+    }
+}
+
+fn hears(rt: &impl Abort, alloc: Global, proposer: &mut Proposer, input: &Input) -> Outcome {
+    match input {
+        Input::Submits(by) => match submits(proposer, *by) {
+            Outcome::Refused(ProposerError::Memory) => submits(proposer, *by),
+            outcome => outcome,
+        },
+        Input::Replies(from, ballot, refused) => {
+            match replies(proposer, *from, *ballot, reply_with(rt, alloc, *refused)) {
+                Outcome::Refused(ProposerError::Memory) => replies(
+                    proposer,
+                    *from,
+                    *ballot,
+                    reply_with(rt, alloc, *refused),
+                ),
+                outcome => outcome,
+            }
+        }
+    }
+}
+
+fn submits(proposer: &mut Proposer, by: u32) -> Outcome {
+    opened(&proposer.submit(1, Op::Inc(by)))
+}
+
+fn foresees_submission(proposer: &Proposer, by: u32) -> Outcome {
+    opened(&proposer.foresee_submission(1, &Op::Inc(by)))
+}
+
+fn replies(proposer: &mut Proposer, from: u8, ballot: u32, reply: Reply) -> Outcome {
+    heard(&proposer.reply(from, ballot, reply))
+}
+
+fn foresees_reply(proposer: &Proposer, from: u8, ballot: u32, reply: &Reply) -> Outcome {
+    match reply {
+        Reply::Yes => heard(&proposer.foresee(from, ballot, None)),
+        Reply::No(refused) => heard(&proposer.foresee(from, ballot, Some(refused))),
+    }
+}
+
+fn reply_with(rt: &impl Abort, alloc: Global, refused: Option<&[Given]>) -> Reply {
+    match refused {
+        None => Reply::Yes,
+        Some(updates) => Reply::No(set_of(rt, alloc, updates)),
+    }
+}
+
+/// The set of these updates, each of an operation that takes no memory.
+pub fn set_of(rt: &impl Abort, alloc: Global, updates: &[Given]) -> UpdateSet {
+    let mut set = UpdateSet::new(alloc);
+    for given in updates {
+        assert!(rt; set.push(update(given)).is_ok() || set.push(update(given)).is_ok());
+    }
+    set
+}
+
+fn update(given: &Given) -> Update {
+    Update {
+        id: UpdateId {
+            replica: given.0,
+            number: given.1,
+        },
+        object: 1,
+        op: Op::Inc(given.2),
+    }
+}
+
+// Whether this is what stands after a step, at the proposer and at a copy of it.
+fn stands(rt: &impl Abort, alloc: Global, proposer: &Proposer, step: &Step) -> bool {
+    let set = set_of(rt, alloc, step.2);
+    is_at(proposer, step, &set)
+        && (copy_is_at(proposer, step, &set) || copy_is_at(proposer, step, &set))
+}
+
+fn is_at(proposer: &Proposer, step: &Step, set: &UpdateSet) -> bool {
+    let status = match step.3 {
+        None => Status::Idle,
+        Some(number) => Status::Asking(number),
+    };
+    proposer.status() == status && proposer.buffered() == step.4 && proposer.updates().same(set)
+}
+
+fn copy_is_at(proposer: &Proposer, step: &Step, set: &UpdateSet) -> bool {
+    matches!(&proposer.copy(), Ok(copy) if is_at(copy, step, set))
+}
+
+fn opened(answer: &Result<Option<Ballot>, ProposerError>) -> Outcome {
+    match answer {
+        Ok(Some(ballot)) => Outcome::Opened(ballot.number),
+        Ok(None) => Outcome::Waits,
+        Err(error) => Outcome::Refused(*error),
+    }
+}
+
+fn heard(answer: &Result<Heard, ProposerError>) -> Outcome {
+    match answer {
+        Ok(Heard::Counted) => Outcome::Counted,
+        Ok(Heard::Ignored) => Outcome::Ignored,
+        Ok(Heard::Refined(ballot)) => Outcome::Refined(ballot.number),
+        Ok(Heard::Learnt(set, None)) => Outcome::Learnt(set.len(), None),
+        Ok(Heard::Learnt(set, Some(ballot))) => Outcome::Learnt(set.len(), Some(ballot.number)),
+        Err(error) => Outcome::Refused(*error),
+    }
+}

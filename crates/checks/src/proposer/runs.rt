@@ -1,0 +1,276 @@
+// Runs of one proposer, worked by hand.
+use super::plays::Input::{Replies, Submits};
+use super::plays::Outcome::{Counted, Ignored, Learnt, Opened, Refined, Refused, Waits};
+use super::plays::{Given, Play, Step, plays, set_of};
+use la_proposer::ProposerError::{Clash, Full, NoSuchReplica};
+use la_proposer::{BadConfig, Proposer, Votes};
+use la_set::{Op, UpdateId, UpdateSet};
+
+const OWN: &[Given] = &[(0, 1, 5)];
+
+const OTHER_OWN: &[Given] = &[(0, 1, 6)];
+
+const UNKNOWN_OWN: &[Given] = &[(0, 1, 5), (0, 2, 5)];
+
+const OF_2: &[Given] = &[(2, 1, 7)];
+
+const OTHER_OF_2: &[Given] = &[(2, 1, 8)];
+
+const OF_1: &[Given] = &[(1, 1, 9)];
+
+const WITH_2: &[Given] = &[(0, 1, 5), (2, 1, 7)];
+
+const WITH_1: &[Given] = &[(0, 1, 5), (1, 1, 9)];
+
+const WITH_BOTH: &[Given] = &[(0, 1, 5), (1, 1, 9), (2, 1, 7)];
+
+const OWN_1: UpdateId = UpdateId {
+    replica: 0,
+    number: 1,
+};
+
+const OWN_2: UpdateId = UpdateId {
+    replica: 0,
+    number: 2,
+};
+
+const FIRST_OF_2: UpdateId = UpdateId {
+    replica: 2,
+    number: 1,
+};
+
+const REFINES: &[Step] = &[
+    Step(Submits(5), Opened(1), OWN, Some(1), 0),
+    Step(Replies(3, 1, None), Refused(NoSuchReplica), OWN, Some(1), 0),
+    Step(Replies(0, 1, None), Counted, OWN, Some(1), 0),
+    Step(
+        Replies(1, 1, Some(OTHER_OWN)),
+        Refused(Clash(OWN_1)),
+        OWN,
+        Some(1),
+        0,
+    ),
+    Step(
+        Replies(1, 1, Some(UNKNOWN_OWN)),
+        Refused(Clash(OWN_2)),
+        OWN,
+        Some(1),
+        0,
+    ),
+    Step(Replies(2, 1, Some(OF_2)), Refined(2), WITH_2, Some(2), 0),
+    Step(Replies(1, 1, None), Ignored, WITH_2, Some(2), 0),
+    Step(Replies(0, 2, None), Counted, WITH_2, Some(2), 0),
+    Step(Replies(1, 2, None), Learnt(2, None), WITH_2, None, 0),
+    Step(Replies(2, 2, None), Ignored, WITH_2, None, 0),
+];
+
+const FIRST: &[Given] = &[(1, 1, 1)];
+
+const ALL: &[Given] = &[(1, 1, 1), (1, 2, 2), (1, 3, 3)];
+
+const FILLS: &[Step] = &[
+    Step(Submits(1), Opened(1), FIRST, Some(1), 0),
+    Step(Submits(2), Waits, FIRST, Some(1), 1),
+    Step(Submits(3), Waits, FIRST, Some(1), 2),
+    Step(Submits(4), Refused(Full), FIRST, Some(1), 2),
+    Step(Replies(2, 1, None), Counted, FIRST, Some(1), 2),
+    Step(Replies(2, 1, None), Ignored, FIRST, Some(1), 2),
+    Step(Replies(0, 1, None), Learnt(1, Some(2)), ALL, Some(2), 0),
+    Step(Replies(1, 1, None), Ignored, ALL, Some(2), 0),
+    Step(Replies(1, 2, None), Counted, ALL, Some(2), 0),
+    Step(Replies(0, 2, None), Learnt(3, None), ALL, None, 0),
+];
+
+// A majority of votes, beside a refusal.
+const WEIGHS: &[Step] = &[
+    Step(Submits(5), Opened(1), OWN, Some(1), 0),
+    Step(Replies(0, 1, Some(WITH_2)), Counted, OWN, Some(1), 0),
+    Step(Replies(1, 1, None), Learnt(1, None), OWN, None, 0),
+];
+
+// A reply to a ballot that is not open yet does not count, then or later.
+const EARLY: &[Step] = &[
+    Step(Submits(5), Opened(1), OWN, Some(1), 0),
+    Step(Replies(1, 2, None), Ignored, OWN, Some(1), 0),
+    Step(Replies(0, 1, Some(WITH_2)), Counted, OWN, Some(1), 0),
+    Step(Replies(2, 1, Some(WITH_2)), Refined(2), WITH_2, Some(2), 0),
+    Step(Replies(1, 2, None), Counted, WITH_2, Some(2), 0),
+];
+
+// What waits goes on waiting through a refinement, and the learning takes it.
+const WAITS_ON: &[Step] = &[
+    Step(Submits(5), Opened(1), OWN, Some(1), 0),
+    Step(Submits(6), Waits, OWN, Some(1), 1),
+    Step(Replies(1, 1, Some(OF_1)), Counted, OWN, Some(1), 1),
+    Step(Replies(2, 1, None), Refined(2), WITH_1, Some(2), 1),
+    Step(Replies(2, 2, None), Counted, WITH_1, Some(2), 1),
+    Step(
+        Replies(0, 2, None),
+        Learnt(2, Some(3)),
+        &[(0, 1, 5), (0, 2, 6), (1, 1, 9)],
+        Some(3),
+        0,
+    ),
+];
+
+const CLASHES: &[Step] = &[
+    Step(Submits(5), Opened(1), OWN, Some(1), 0),
+    Step(
+        Replies(3, 1, Some(OF_2)),
+        Refused(NoSuchReplica),
+        OWN,
+        Some(1),
+        0,
+    ),
+    Step(Replies(1, 2, Some(OF_2)), Ignored, OWN, Some(1), 0),
+    Step(
+        Replies(1, 1, Some(OTHER_OWN)),
+        Refused(Clash(OWN_1)),
+        OWN,
+        Some(1),
+        0,
+    ),
+    Step(Replies(1, 1, Some(OF_2)), Counted, OWN, Some(1), 0),
+    Step(Replies(1, 1, Some(OTHER_OWN)), Ignored, OWN, Some(1), 0),
+    Step(
+        Replies(2, 1, Some(OTHER_OF_2)),
+        Refused(Clash(FIRST_OF_2)),
+        OWN,
+        Some(1),
+        0,
+    ),
+    Step(Replies(2, 1, Some(OF_1)), Refined(2), WITH_BOTH, Some(2), 0),
+];
+
+// All refusals of a refinement are joined, and the fifth reply that counts takes memory.
+const EIGHT: &[Step] = &[
+    Step(Submits(5), Opened(1), OWN, Some(1), 0),
+    Step(Replies(1, 1, Some(&[(1, 1, 7)])), Counted, OWN, Some(1), 0),
+    Step(Replies(2, 1, Some(&[(2, 1, 7)])), Counted, OWN, Some(1), 0),
+    Step(Replies(3, 1, Some(&[(3, 1, 7)])), Counted, OWN, Some(1), 0),
+    Step(Replies(4, 1, Some(&[(4, 1, 7)])), Counted, OWN, Some(1), 0),
+    Step(
+        Replies(5, 1, None),
+        Refined(2),
+        &[(0, 1, 5), (1, 1, 7), (2, 1, 7), (3, 1, 7), (4, 1, 7)],
+        Some(2),
+        0,
+    ),
+];
+
+const PLAYS: [Play; 7] = [
+    Play {
+        name: "refines",
+        votes: &[1, 1, 1],
+        own: 0,
+        cap: 10,
+        steps: REFINES,
+    },
+    Play {
+        name: "fills",
+        votes: &[1, 1, 1],
+        own: 1,
+        cap: 3,
+        steps: FILLS,
+    },
+    Play {
+        name: "weighs",
+        votes: &[1, 3, 1],
+        own: 0,
+        cap: 10,
+        steps: WEIGHS,
+    },
+    Play {
+        name: "early",
+        votes: &[1, 1, 1],
+        own: 0,
+        cap: 10,
+        steps: EARLY,
+    },
+    Play {
+        name: "waits on",
+        votes: &[1, 1, 1],
+        own: 0,
+        cap: 2,
+        steps: WAITS_ON,
+    },
+    Play {
+        name: "clashes",
+        votes: &[1, 1, 1],
+        own: 0,
+        cap: 10,
+        steps: CLASHES,
+    },
+    Play {
+        name: "eight",
+        votes: &[1; 8],
+        own: 0,
+        cap: 1,
+        steps: EIGHT,
+    },
+];
+
+#[test]
+fn runs_come_to_what_is_worked(rt: HostRuntime) {
+    for play in &PLAYS {
+        plays(&rt, rt.alloc(), play);
+    }
+}
+
+fn follows_submission(proposer: &mut Proposer) -> bool {
+    match &proposer.foresee_submission(1, &Op::Inc(5)) {
+        Ok(opened) => proposer.follow_submission(1, Op::Inc(5), opened).is_ok(),
+        Err(_) => false,
+    }
+}
+
+fn follows_reply(proposer: &mut Proposer, from: u8, refusal: Option<&UpdateSet>) -> bool {
+    match &proposer.foresee(from, 1, refusal) {
+        Ok(heard) => proposer.follow(from, 1, refusal, heard).is_ok(),
+        Err(_) => false,
+    }
+}
+
+#[test]
+fn what_is_foreseen_is_followed(rt: HostRuntime) {
+    let alloc = rt.alloc();
+    let refused = set_of(&rt, alloc, OF_1);
+    let mut proposer = Proposer::new(alloc, 3, 0, 1, Votes::one_each(3));
+    assert!(rt; follows_submission(&mut proposer) || follows_submission(&mut proposer));
+    for (from, refusal) in [(0, None), (1, Some(&refused))] {
+        let follows = follows_reply(&mut proposer, from, refusal);
+        assert!(rt;
+            follows || follows_reply(&mut proposer, from, refusal),
+            "of {from}"
+        );
+    }
+    assert!(rt; proposer.updates().same(&set_of(&rt, alloc, WITH_1)));
+}
+
+// Whether there are so many replicas, the last of them with these votes.
+fn weighs(votes: &Votes, replicas: u8, last: (u8, u16), total: u32) -> bool {
+    votes.len() == replicas as usize
+        && votes.of(last.0) == Some(last.1)
+        && votes.of(replicas).is_none()
+        && votes.total() == total
+}
+
+#[test]
+fn votes_of_a_group(rt: HostRuntime) {
+    assert!(rt; matches!(&Votes::new(&[3, 1, 2]), Ok(votes) if weighs(votes, 3, (2, 2), 6)));
+    assert!(rt; matches!(&Votes::new(&[1000; 8]), Ok(votes) if weighs(votes, 8, (7, 1000), 8000)));
+    assert!(rt; weighs(&Votes::one_each(8), 8, (7, 1), 8));
+}
+
+const NO_GROUPS: [&[u16]; 4] = [&[], &[1, 0], &[1001], &[1; 9]];
+
+#[test]
+fn votes_of_no_group(rt: HostRuntime) {
+    for votes in &NO_GROUPS {
+        assert!(rt;
+            matches!(Votes::new(votes), Err(BadConfig)),
+            "{} votes",
+            votes.len()
+        );
+    }
+}

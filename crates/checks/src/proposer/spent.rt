@@ -1,0 +1,35 @@
+// A proposer whose ballots are spent.
+use la_acceptor::Reply;
+use la_proposer::{Heard, MAX_BALLOTS, Proposer, ProposerError, Status, Votes};
+use la_set::{Op, UpdateSet};
+use std::alloc::Global;
+
+fn opens(proposer: &mut Proposer) -> bool {
+    matches!(&proposer.submit(1, Op::Mark), Ok(Some(ballot)) if ballot.number == 1)
+}
+
+fn refines(alloc: Global, proposer: &mut Proposer, number: u32) -> bool {
+    let nothing = Reply::No(UpdateSet::new(alloc));
+    matches!(&proposer.reply(0, number, nothing), Ok(Heard::Refined(ballot)) if ballot.number == number + 1)
+}
+
+fn is_spent(alloc: Global, proposer: &mut Proposer) -> bool {
+    let nothing = Reply::No(UpdateSet::new(alloc));
+    matches!(
+        &proposer.reply(0, MAX_BALLOTS, nothing),
+        Err(ProposerError::BallotsSpent)
+    )
+}
+
+#[test]
+fn ballots_are_spent(rt: HostRuntime) {
+    let alloc = rt.alloc();
+    let mut proposer = Proposer::new(alloc, 1, 0, 1, Votes::one_each(1));
+    assert!(rt; opens(&mut proposer) || opens(&mut proposer));
+    for number in 1..MAX_BALLOTS {
+        let refined = refines(alloc, &mut proposer, number)
+            || refines(alloc, &mut proposer, number);
+        assert!(rt; refined, "ballot {number}");
+    }
+    assert!(rt; is_spent(alloc, &mut proposer) && proposer.status() == Status::Asking(MAX_BALLOTS));
+}
