@@ -63,7 +63,6 @@ impl UpdateSet {
         if let Some(id) = self.first_clash(other) {
             return Err(SetError::Clash(id));
         }
-        let _copy = other.copy()?;
         self.join(other)?;
         Ok(())
     }
