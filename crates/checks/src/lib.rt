@@ -7,6 +7,8 @@ mod acceptor;
 #[cfg(test)]
 mod proposer;
 #[cfg(test)]
+mod replica;
+#[cfg(test)]
 mod script;
 #[cfg(test)]
 mod set;

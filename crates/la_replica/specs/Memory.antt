@@ -4,6 +4,7 @@ use Rattle.la_set.specs.Histories.{Histories}
 use Rattle.la_acceptor.specs.declared.reply.Reply.{Reply}
 use Rattle.la_acceptor.specs.declared.reply.Reply.TheVariants as replied
 use Rattle.la_proposer.specs.Proposing.{Proposing, counts}
+use Rattle.la_proposer.specs.Refusals.{CountsInPlace}
 use Rattle.la_replica.specs.declared.instance.Instance.{Instance}
 use Rattle.la_replica.specs.declared.message.Message.{Message}
 use Rattle.la_replica.specs.declared.message.Body.{Body}
@@ -12,9 +13,9 @@ use Rattle.la_replica.specs.Views.{is_larger}
 use Rattle.la_replica.specs.Members.{Member}
 use Rattle.la_replica.specs.Refusals.{IsFor}
 
--- a reply that does not count
+-- a reply that does not count, or an acknowledgement that only counts, where the tally keeps it without growing
 abbrev pub IsFreeReply : Proposing → Message → Reply → Type 0
-IsFreeReply p m reply = counts p m.from m.ballot ≡ false
+IsFreeReply p m reply = (counts p m.from m.ballot ≡ false) ⊎ ((reply ≡ replied.Yes) × CountsInPlace p m.from m.ballot replied.Yes)
 
 -- a told set of another instance than 0, or one that is not larger than the view
 abbrev pub IsFreeTell : (instance : ℕ) → (view told : Histories) → Type 0

@@ -1,11 +1,10 @@
-ghost use Rattle.std.specs.Prelude.{◌≡◌, true, false, ℕ, ◌<◌, ◌≤◌, length, [], ◌∷◌, IfOk, IfErr, OnOk, OnErr, Some, None, if◌then◌else◌};
-ghost use Rattle.std.specs.Result.{IsOk};
+ghost use Rattle.std.specs.Prelude.{◌≡◌, true, false, ℕ, ◌<◌, ◌≤◌, length, [], ◌∷◌, IsOk, IfOk, IfErr, OnOk, OnErr, Some, None, if◌then◌else◌};
 ghost use Rattle.la_set.specs.Histories.{Histories};
 ghost use Rattle.la_set.specs.Join.{IsCompatible};
 ghost use Rattle.la_proposer.specs.declared.proposer.TheConstants.{MAX_CAP};
 ghost use Rattle.la_proposer.specs.Majority.{votes_of};
 ghost use Rattle.la_proposer.specs.Proposing.{submitted, counts, with_reply, heard_of, after_reply};
-ghost use Rattle.la_proposer.specs.Refusals.{SubmissionSpends, ReplySpends};
+ghost use Rattle.la_proposer.specs.Refusals.{SubmissionSpends, ReplySpends, CountsInPlace};
 ghost use Rattle.la_proposer.specs.Clashes.{Fits};
 ghost use Rattle.la_replica.specs.Messages.{reply_in};
 ghost use Rattle.la_replica.specs.Views.{view_after_learning};
@@ -181,6 +180,7 @@ impl Instance {
         ensures ok { OnOk result (self.new ≡ record self.old { proposer = after_reply self.old.proposer message.now.from message.now.ballot (reply_in message.now.body); learnt = last_learnt_after self.old.learnt heard.now }) }
         ensures view { OnOk result (view.new ≡ view_after_hearing sender.now.instance view.old heard.now) }
         ensures copy { IfOk result (λ copy. copy ≡ copied copying (said_of heard.now)) }
+        ensures free { heard.now ≡ Heard.Counted → reply_in message.now.body ≡ Reply.Yes → CountsInPlace self.old.proposer message.now.from message.now.ballot Reply.Yes → IsOk result }
         ensures err { OnErr result (self.new ≡ self.old) }
         ensures err_view { OnErr result (view.new ≡ view.old) }
     {

@@ -1,6 +1,5 @@
-ghost use Rattle.std.specs.Prelude.{◌≡◌, ℕ, ◌+◌, ◌*◌, ◌<◌, ◌≤◌, length, slice_get, true, Some, option_map, IfOk, IfErr, OnErr};
+ghost use Rattle.std.specs.Prelude.{◌≡◌, ℕ, ◌+◌, ◌*◌, ◌<◌, ◌≤◌, length, slice_get, true, Some, option_map, IsOk, IfOk, IfErr, OnErr};
 ghost use Rattle.std.specs.Option.{option_copied};
-ghost use Rattle.std.specs.Result.{IsOk};
 ghost use Rattle.la_set.specs.Deeds.{Deed};
 ghost use Rattle.la_proposer.specs.declared.proposer.TheConstants.{MAX_CAP};
 ghost use Rattle.la_proposer.specs.Majority.{votes_of};
@@ -129,7 +128,7 @@ impl Replica {
     /// In this order: `NoSuchInstance`; `Full` where the replica has submitted the instance's cap;
     /// `BallotsSpent` where a ballot would open with a number over 8,000,000; `Memory`. After each the
     /// replica is as before. A ballot costs a copy of its set for each replica and one to say; an
-    /// update that waits costs none.
+    /// update that waits takes memory only where the buffer grows.
     pub fn submit(&mut self, instance: u8, object: u16, op: Op) -> Result<Out, ReplicaError>
         ensures step { IfOk result (λ out. submits self.old instance (record { object = object; op = op }) ≡ Some (out, self.new)) }
         ensures room { IfOk result (λ _. HasRoom self.old instance) }
@@ -155,8 +154,10 @@ impl Replica {
     /// counting reply that does not fit what the proposer knows, with the least id; `BallotsSpent`
     /// where a reply would open a ballot with a number over 8,000,000; `Memory`. After each the
     /// replica is as before. A reply that does not count is answered `Ignored` before its set is
-    /// looked at, and takes no memory. The cost is that of comparing the sets at hand, and of copying
-    /// each set that is said, sent or kept.
+    /// looked at. The cost is that of comparing the sets at hand, and of copying each set that is
+    /// said, sent or kept. So no memory is taken by a reply that does not count, by an acknowledgement
+    /// that only counts, while fewer than [`la_proposer::INLINE_TALLY`] have, and by a told set that
+    /// is not taken as the view: these succeed.
     pub fn receive(&mut self, message: &Message) -> Result<Out, ReplicaError>
         ensures step { IfOk result (λ out. receives self.old message.now ≡ Some (out, self.new)) }
         ensures fits { IfOk result (λ _. IsReceivable self.old message.now) }

@@ -1,0 +1,250 @@
+// Callers that know nothing but the contracts: each makes a call twice and promises equal answers.
+ghost use Rattle.std.specs.Prelude.{◌≡◌, ◌≢◌, ◌↔◌, ◌≤◌, ◌<◌, length, IsTrue, IfOk, IfErr, OnOk, OnErr, option_copied};
+ghost use Rattle.la_proposer.specs.Majority.{votes_of};
+ghost use Rattle.la_replica.specs.Kept.{IsMember};
+
+use la_acceptor::{AcceptorError, Reply};
+use la_proposer::{Heard, MAX_CAP, ProposerError, Votes};
+use la_replica::{Body, MAX_COMMITS, Mail, Message, Out, Replica, ReplicaError, Said, laws};
+use la_set::{Op, UpdateSet};
+use smallvec::SmallVec;
+use std::alloc::{AllocError, Global};
+
+// ## Bodies and messages
+
+fn body_copies_are_one(body: &Body) -> Result<(Body, Body), AllocError>
+    ensures { IfOk result (λ both. both.0 ≡ both.1) }
+{
+    Ok((body.copy()?, body.copy()?))
+}
+
+fn bodies_are_the_same_alike(body: &Body, other: &Body) -> (bool, bool)
+    ensures { IsTrue result.0 ↔ IsTrue result.1 }
+{
+    (body.same(other), body.same(other))
+}
+
+fn message_copies_are_one(message: &Message) -> Result<(Message, Message), AllocError>
+    ensures { IfOk result (λ both. both.0 ≡ both.1) }
+{
+    Ok((message.copy()?, message.copy()?))
+}
+
+// A copy of an acknowledgement takes no memory.
+fn acknowledgements_are_copied(
+    message: &Message,
+) -> (Result<Message, AllocError>, Result<Body, AllocError>)
+    requires { message.now.body ≡ Body.Yes }
+    ensures message { result.0 ≡ Ok message.now }
+    ensures body { result.1 ≡ Ok Body.Yes }
+{
+    (message.copy(), message.body.copy())
+}
+
+fn messages_are_the_same_alike(message: &Message, other: &Message) -> (bool, bool)
+    ensures { IsTrue result.0 ↔ IsTrue result.1 }
+{
+    (message.same(other), message.same(other))
+}
+
+fn bodies_of_replies_are_one(replies: (Reply, Reply)) -> (Body, Body)
+    requires { replies.0 ≡ replies.1 }
+    ensures { result.0 ≡ result.1 }
+{
+    (Body::from(replies.0), Body::from(replies.1))
+}
+
+fn sayings_are_one(heard: (Heard, Heard)) -> (Said, Said)
+    requires { heard.0 ≡ heard.1 }
+    ensures { result.0 ≡ result.1 }
+{
+    (Said::from(heard.0), Said::from(heard.1))
+}
+
+// ## Mail
+
+fn new_mail_is_exact(alloc: Global) -> (Mail, Mail)
+    ensures { result.0 ≡ result.1 }
+{
+    (Mail::new(alloc), Mail::new(alloc))
+}
+
+fn one_message_is_exact(alloc: Global, messages: (Message, Message)) -> (Mail, Mail)
+    requires { messages.0 ≡ messages.1 }
+    ensures { result.0 ≡ result.1 }
+{
+    (Mail::one(alloc, messages.0), Mail::one(alloc, messages.1))
+}
+
+fn len_is_exact(mail: &Mail) -> (usize, usize)
+    ensures { result.0 ≡ result.1 }
+{
+    (mail.len(), mail.len())
+}
+
+fn at_is_exact<'a>(mail: &'a Mail, place: usize) -> (Option<&'a Message>, Option<&'a Message>)
+    ensures { option_copied result.0 ≡ option_copied result.1 }
+{
+    (mail.at(place), mail.at(place))
+}
+
+fn all_is_exact<'a>(mail: &'a Mail) -> (&'a [Message], &'a [Message])
+    ensures { result.0.now ≡ result.1.now }
+{
+    (mail.all(), mail.all())
+}
+
+fn push_is_exact(
+    one: &mut Mail,
+    other: &mut Mail,
+    messages: (Message, Message),
+) -> (Result<(), AllocError>, Result<(), AllocError>)
+    requires mail { one.old ≡ other.old }
+    requires messages { messages.0 ≡ messages.1 }
+    ensures { OnOk result.0 (OnOk result.1 (one.new ≡ other.new)) }
+{
+    (one.push(messages.0), other.push(messages.1))
+}
+
+fn lists_are_one(mails: (Mail, Mail)) -> (SmallVec<Message, 1>, SmallVec<Message, 1>)
+    requires { mails.0 ≡ mails.1 }
+    ensures { result.0.items ≡ result.1.items }
+{
+    (SmallVec::from(mails.0), SmallVec::from(mails.1))
+}
+
+fn mails_of_lists_are_one(lists: (SmallVec<Message, 1>, SmallVec<Message, 1>)) -> (Mail, Mail)
+    requires { lists.0.items ≡ lists.1.items }
+    ensures { result.0 ≡ result.1 }
+{
+    (Mail::from(lists.0), Mail::from(lists.1))
+}
+
+// ## Errors
+
+fn errors_of_acceptors_are_one(refused: AcceptorError) -> (ReplicaError, ReplicaError)
+    ensures { result.0 ≡ result.1 }
+{
+    (ReplicaError::from(refused), ReplicaError::from(refused))
+}
+
+fn errors_of_proposers_are_one(refused: ProposerError) -> (ReplicaError, ReplicaError)
+    ensures { result.0 ≡ result.1 }
+{
+    (ReplicaError::from(refused), ReplicaError::from(refused))
+}
+
+// ## What a replica tells
+
+fn new_is_exact(
+    alloc: Global,
+    own: u8,
+    cap: u32,
+    commits: u8,
+    votes: Votes,
+) -> Result<(Replica, Replica), AllocError>
+    requires group { 3 ≡ length (votes_of votes) }
+    requires known { own < 3 }
+    requires some { 1 ≤ cap }
+    requires few { cap ≤ MAX_CAP }
+    requires commits { commits ≤ MAX_COMMITS }
+    ensures { IfOk result (λ both. both.0 ≡ both.1) }
+{
+    Ok((
+        Replica::new(alloc, 3, own, cap, commits, votes)?,
+        Replica::new(alloc, 3, own, cap, commits, votes)?,
+    ))
+}
+
+fn copies_are_one(replica: &Replica) -> Result<(Replica, Replica), AllocError>
+    ensures { IfOk result (λ both. both.0 ≡ both.1) }
+{
+    Ok((replica.copy()?, replica.copy()?))
+}
+
+// A replica is one of a group of at most 8.
+fn own_is_exact(replica: &Replica) -> (u8, u8)
+    ensures alike { result.0 ≡ result.1 }
+    ensures known { result.0 < length replica.now.votes }
+    ensures few { length replica.now.votes ≤ 8 }
+{
+    (replica.own(), replica.own())
+}
+
+fn view_is_exact(replica: &Replica) -> bool
+    ensures { IsTrue result }
+{
+    replica.view().same(replica.view())
+}
+
+fn last_learnt_is_exact<'a>(
+    replica: &'a Replica,
+    instance: u8,
+) -> (Option<&'a UpdateSet>, Option<&'a UpdateSet>)
+    ensures { option_copied result.0 ≡ option_copied result.1 }
+{
+    (replica.last_learnt(instance), replica.last_learnt(instance))
+}
+
+fn submitted_is_exact(replica: &Replica, instance: u8) -> (Option<u32>, Option<u32>)
+    ensures { result.0 ≡ result.1 }
+{
+    (replica.submitted(instance), replica.submitted(instance))
+}
+
+// At most 16 adopt-commit objects, and so at most 33 instances.
+fn instances_are_few(commits: u8) -> u8
+    requires { commits ≤ MAX_COMMITS }
+    ensures { result ≤ 33 }
+{
+    laws::limits();
+    2 * commits + 1
+}
+
+// ## Steps: two equal replicas answer alike, save that memory may be refused to one
+
+type Answer = Result<Out, ReplicaError>;
+
+type Copied = Result<(Out, Option<UpdateSet>), ReplicaError>;
+
+fn submit_is_exact(
+    one: &mut Replica,
+    other: &mut Replica,
+    instance: u8,
+    by: u32,
+) -> (Answer, Answer)
+    requires { one.old ≡ other.old }
+    ensures answers { IfOk result.0 (λ a. IfOk result.1 (λ b. a ≡ b)) }
+    ensures steps { OnOk result.0 (OnOk result.1 (one.new ≡ other.new)) }
+    ensures stays { OnErr result.0 (one.new ≡ one.old) }
+{
+    (
+        one.submit(instance, 1, Op::Inc(by)),
+        other.submit(instance, 1, Op::Inc(by)),
+    )
+}
+
+fn receive_is_exact(one: &mut Replica, other: &mut Replica, message: &Message) -> (Answer, Answer)
+    requires { one.old ≡ other.old }
+    ensures answers { IfOk result.0 (λ a. IfOk result.1 (λ b. a ≡ b)) }
+    ensures steps { OnOk result.0 (OnOk result.1 (one.new ≡ other.new)) }
+    ensures stays { OnErr result.0 (one.new ≡ one.old) }
+{
+    (one.receive(message), other.receive(message))
+}
+
+fn receive_with_copy_is_exact(
+    one: &mut Replica,
+    other: &mut Replica,
+    message: &Message,
+) -> (Copied, Copied)
+    requires { one.old ≡ other.old }
+    ensures answers { IfOk result.0 (λ a. IfOk result.1 (λ b. a ≡ b)) }
+    ensures steps { OnOk result.0 (OnOk result.1 (one.new ≡ other.new)) }
+    ensures stays { OnErr result.0 (one.new ≡ one.old) }
+{
+    (
+        one.receive_with_copy(message),
+        other.receive_with_copy(message),
+    )
+}

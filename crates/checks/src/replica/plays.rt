@@ -1,0 +1,310 @@
+// Plays a table of inputs at one replica. Each call is made again where memory was refused, after a
+// look at what stands: so the tests pass with every single allocation failing too.
+use la_acceptor::Reply;
+use la_proposer::{Ballot, Votes};
+use la_replica::{Body, Mail, Message, Out, Replica, ReplicaError, Said};
+use la_set::{Op, Update, UpdateId, UpdateSet};
+use std::alloc::Global;
+use std::process::Abort;
+
+/// An update of a table: its replica, its number, and by how much it adds to object 1.
+pub type Given = (u8, u32, u32);
+
+pub enum Input {
+    /// A submission in an instance that adds 5 to object 1.
+    Submits(u8),
+    /// A message to replica 0: its instance, where it comes from, its ballot's number, and its body.
+    Offer(u8, u8, u32, &'static [Given]),
+    Yes(u8, u8, u32),
+    No(u8, u8, u32, &'static [Given]),
+    Tell(u8, u8, u32, &'static [Given]),
+    /// An acknowledgement that goes to replica 1.
+    Astray(u8, u8),
+}
+
+/// What an input came to, with the number of a ballot and how many updates a set has.
+#[derive(Clone, Copy, PartialEq, Eq)]
+pub enum Outcome {
+    Opened(u32, usize),
+    Held(u32),
+    Acknowledged,
+    Refused(usize),
+    Counted,
+    Ignored,
+    Refined(u32, usize),
+    /// How many updates the learnt set has, and the ballot that opens at once.
+    Learnt(usize, Option<u32>),
+    Took(usize),
+    Kept,
+    Fails(ReplicaError),
+}
+
+/// An input and what it comes to; the mail, as for each message a letter and the replica that it goes
+/// to; then the view, and the set that was learnt last in instance 0.
+pub struct Step(
+    pub Input,
+    pub Outcome,
+    pub &'static [(u8, u8)],
+    pub &'static [Given],
+    pub Option<&'static [Given]>,
+);
+
+/// Inputs of replica 0 of three with one vote each, a cap of 3 and one adopt-commit object.
+pub struct Play {
+    pub name: &'static str,
+    pub steps: &'static [Step],
+}
+
+/// Plays a table at one replica, by `receive` or by `receive_with_copy`.
+pub fn plays(rt: &impl Abort, alloc: Global, play: &Play, copying: bool) {
+    let mut replica = fresh(rt, alloc);
+    for (place, step) in play.steps.iter().enumerate() {
+        let came = comes_to(rt, alloc, &mut replica, step, copying);
+        assert!(rt; came, "{}: outcome {place}", play.name);
+        assert!(rt;
+            stands(rt, alloc, &replica, step),
+            "{}: after {place}",
+            play.name
+        );
+    }
+}
+
+/// Plays a table with a copy of the replica in its place before each step.
+pub fn plays_copied(rt: &impl Abort, alloc: Global, play: &Play) {
+    let mut replica = fresh(rt, alloc);
+    for (place, step) in play.steps.iter().enumerate() {
+        replica = copy_of(rt, &replica);
+        let came = comes_to(rt, alloc, &mut replica, step, false);
+        assert!(rt; came, "{}: outcome {place}", play.name);
+    }
+}
+
+pub fn fresh(rt: &impl Abort, alloc: Global) -> Replica {
+    match Replica::new(alloc, 3, 0, 3, 1, Votes::one_each(3)) {
+        Ok(replica) => replica,
+        Err(_) => Replica::new(alloc, 3, 0, 3, 1, Votes::one_each(3)).expect(rt, "memory again"),
+    }
+}
+
+fn copy_of(rt: &impl Abort, replica: &Replica) -> Replica {
+    match replica.copy() {
+        Ok(copy) => copy,
+        Err(_) => replica.copy().expect(rt, "memory is there again"),
+    }
+}
+
+/// The set of these updates.
+pub fn set_of(rt: &impl Abort, alloc: Global, updates: &[Given]) -> UpdateSet {
+    let mut set = UpdateSet::new(alloc);
+    for given in updates {
+        assert!(rt; set.push(update(given)).is_ok() || set.push(update(given)).is_ok());
+    }
+    set
+}
+
+fn update(given: &Given) -> Update {
+    Update {
+        id: UpdateId {
+            replica: given.0,
+            number: given.1,
+        },
+        object: 1,
+        op: Op::Inc(given.2),
+    }
+}
+
+// Whether a step's input comes to what the step says.
+fn comes_to(
+    rt: &impl Abort,
+    alloc: Global,
+    replica: &mut Replica,
+    step: &Step,
+    copying: bool,
+) -> bool {
+    let answer = match message_of(rt, alloc, &step.0) {
+        None => submit(rt, replica, instance_of(&step.0)),
+        Some(message) if copying => receive_with_copy(rt, replica, &message),
+        Some(message) => receive(rt, replica, &message),
+    };
+    is_said(&answer, step.1) && sends(&answer, step.2)
+}
+
+fn instance_of(input: &Input) -> u8 {
+    match input {
+        Input::Submits(instance) => *instance,
+        _ => 0,
+    }
+}
+
+fn message_of(rt: &impl Abort, alloc: Global, input: &Input) -> Option<Message> {
+    Some(match input {
+        Input::Submits(_) => return None,
+        Input::Offer(instance, from, ballot, updates) => {
+            to_0(
+                *instance,
+                *from,
+                *ballot,
+                Body::Offer(set_of(rt, alloc, updates)),
+            )
+        }
+        Input::Yes(instance, from, ballot) => to_0(*instance, *from, *ballot, Body::Yes),
+        Input::No(instance, from, ballot, updates) => {
+            to_0(
+                *instance,
+                *from,
+                *ballot,
+                Body::No(set_of(rt, alloc, updates)),
+            )
+        }
+        Input::Tell(instance, from, ballot, updates) => {
+            to_0(
+                *instance,
+                *from,
+                *ballot,
+                Body::Tell(set_of(rt, alloc, updates)),
+            )
+        }
+        Input::Astray(instance, from) => Message {
+            instance: *instance,
+            from: *from,
+            to: 1,
+            ballot: 1,
+            body: Body::Yes,
+        },
+    })
+}
+
+fn to_0(instance: u8, from: u8, ballot: u32, body: Body) -> Message {
+    Message {
+        instance,
+        from,
+        to: 0,
+        ballot,
+        body,
+    }
+}
+
+// What is compared around a call that is refused.
+fn standing(replica: &Replica) -> (usize, bool, Option<u32>) {
+    (
+        replica.view().len(),
+        replica.last_learnt(0).is_some(),
+        replica.submitted(0),
+    )
+}
+
+fn submit(rt: &impl Abort, replica: &mut Replica, instance: u8) -> Result<Out, ReplicaError> {
+    let before = standing(replica);
+    match replica.submit(instance, 1, Op::Inc(5)) {
+        Err(ReplicaError::Memory) => {
+            assert!(rt; standing(replica) == before);
+            replica.submit(instance, 1, Op::Inc(5))
+        }
+        answer => answer,
+    }
+}
+
+fn receive(rt: &impl Abort, replica: &mut Replica, message: &Message) -> Result<Out, ReplicaError> {
+    let before = standing(replica);
+    match replica.receive(message) {
+        Err(ReplicaError::Memory) => {
+            assert!(rt; standing(replica) == before);
+            replica.receive(message)
+        }
+        answer => answer,
+    }
+}
+
+// Receives, and has a copy of what was learnt exactly where something was.
+fn receive_with_copy(
+    rt: &impl Abort,
+    replica: &mut Replica,
+    message: &Message,
+) -> Result<Out, ReplicaError> {
+    let before = standing(replica);
+    let (out, copy) = match replica.receive_with_copy(message) {
+        Err(ReplicaError::Memory) => {
+            assert!(rt; standing(replica) == before);
+            replica.receive_with_copy(message)
+        }
+        answer => answer,
+    }?;
+    assert!(rt; is_copy_of(&copy, &out.said));
+    Ok(out)
+}
+
+fn is_copy_of(copy: &Option<UpdateSet>, said: &Said) -> bool {
+    match (copy, said) {
+        (Some(copied), Said::Learnt(learnt, _)) => copied.same(learnt),
+        (None, Said::Learnt(_, _)) => false,
+        (None, _) => true,
+        (Some(_), _) => false,
+    }
+}
+
+fn is_said(answer: &Result<Out, ReplicaError>, outcome: Outcome) -> bool {
+    match answer {
+        Ok(out) => brief(&out.said) == outcome,
+        Err(error) => Outcome::Fails(*error) == outcome,
+    }
+}
+
+fn brief(said: &Said) -> Outcome {
+    match said {
+        Said::Opened(ballot) => Outcome::Opened(ballot.number, ballot.updates.len()),
+        Said::Held(id) => Outcome::Held(id.number),
+        Said::Answered(Reply::Yes) => Outcome::Acknowledged,
+        Said::Answered(Reply::No(joined)) => Outcome::Refused(joined.len()),
+        Said::Counted => Outcome::Counted,
+        Said::Ignored => Outcome::Ignored,
+        Said::Refined(ballot) => Outcome::Refined(ballot.number, ballot.updates.len()),
+        Said::Learnt(learnt, next) => Outcome::Learnt(learnt.len(), number_of(next)),
+        Said::Took(told) => Outcome::Took(told.len()),
+        Said::Kept => Outcome::Kept,
+    }
+}
+
+fn number_of(ballot: &Option<Ballot>) -> Option<u32> {
+    match ballot {
+        Some(opened) => Some(opened.number),
+        None => None,
+    }
+}
+
+// Whether these messages are sent, and nothing by a refusal.
+fn sends(answer: &Result<Out, ReplicaError>, mail: &[(u8, u8)]) -> bool {
+    match answer {
+        Ok(out) => is_mail(&out.mail, mail),
+        Err(_) => mail.is_empty(),
+    }
+}
+
+fn is_mail(mail: &Mail, sent: &[(u8, u8)]) -> bool {
+    for (message, (letter, to)) in mail.all().iter().zip(sent) {
+        if letter_of(&message.body) != *letter || message.to != *to || message.from != 0 {
+            return false;
+        }
+    }
+    mail.len() == sent.len()
+}
+
+fn letter_of(body: &Body) -> u8 {
+    match body {
+        Body::Offer(_) => b'O',
+        Body::Yes => b'Y',
+        Body::No(_) => b'N',
+        Body::Tell(_) => b'T',
+    }
+}
+
+fn stands(rt: &impl Abort, alloc: Global, replica: &Replica, step: &Step) -> bool {
+    replica.view().same(&set_of(rt, alloc, step.3)) && has_learnt(rt, alloc, replica, step.4)
+}
+
+fn has_learnt(rt: &impl Abort, alloc: Global, replica: &Replica, set: Option<&[Given]>) -> bool {
+    match (replica.last_learnt(0), set) {
+        (Some(learnt), Some(updates)) => learnt.same(&set_of(rt, alloc, updates)),
+        (None, None) => true,
+        _ => false,
+    }
+}

@@ -1,0 +1,319 @@
+// Runs of one replica, as tables.
+use super::plays::{Given, Input, Outcome, Play, Step, plays, plays_copied};
+use la_replica::{ReplicaError, laws};
+use la_set::UpdateId;
+
+const NOTHING: &[Given] = &[];
+
+const OWN: &[Given] = &[(0, 1, 5)];
+
+const OWN_TWO: &[Given] = &[(0, 1, 5), (0, 2, 5)];
+
+const OTHER: &[Given] = &[(1, 1, 7)];
+
+const BOTH: &[Given] = &[(0, 1, 5), (1, 1, 7)];
+
+const MORE: &[Given] = &[(0, 1, 5), (0, 2, 5), (1, 1, 7)];
+
+const THIRD: &[Given] = &[(2, 1, 7)];
+
+const CLASHES: &[Given] = &[(1, 1, 8)];
+
+const OFFERS: &[(u8, u8)] = &[(b'O', 0), (b'O', 1), (b'O', 2)];
+
+const TELLS: &[(u8, u8)] = &[(b'T', 1), (b'T', 2)];
+
+const TELLS_AND_OFFERS: &[(u8, u8)] = &[(b'T', 1), (b'T', 2), (b'O', 0), (b'O', 1), (b'O', 2)];
+
+const CLASH: ReplicaError = ReplicaError::Clash(UpdateId {
+    replica: 1,
+    number: 1,
+});
+
+// A ballot is refined, and what waits is taken only once its set is learnt.
+const LEARNS: &[Step] = &[
+    Step(
+        Input::Submits(0),
+        Outcome::Opened(1, 1),
+        OFFERS,
+        NOTHING,
+        None,
+    ),
+    Step(Input::Submits(0), Outcome::Held(2), &[], NOTHING, None),
+    Step(
+        Input::No(0, 2, 1, BOTH),
+        Outcome::Counted,
+        &[],
+        NOTHING,
+        None,
+    ),
+    Step(Input::Yes(0, 2, 1), Outcome::Ignored, &[], NOTHING, None),
+    Step(
+        Input::Yes(0, 1, 1),
+        Outcome::Refined(2, 2),
+        OFFERS,
+        NOTHING,
+        None,
+    ),
+    Step(Input::Yes(0, 0, 1), Outcome::Ignored, &[], NOTHING, None),
+    Step(Input::Yes(0, 0, 2), Outcome::Counted, &[], NOTHING, None),
+    Step(
+        Input::Yes(0, 1, 2),
+        Outcome::Learnt(2, Some(3)),
+        TELLS_AND_OFFERS,
+        BOTH,
+        Some(BOTH),
+    ),
+    Step(Input::Submits(0), Outcome::Held(3), &[], BOTH, Some(BOTH)),
+    Step(
+        Input::Submits(0),
+        Outcome::Fails(ReplicaError::Full),
+        &[],
+        BOTH,
+        Some(BOTH),
+    ),
+];
+
+// The view only grows: a learnt set that is smaller leaves it, an equal told set too.
+const VIEWS: &[Step] = &[
+    Step(
+        Input::Tell(1, 1, 1, OTHER),
+        Outcome::Ignored,
+        &[],
+        NOTHING,
+        None,
+    ),
+    Step(
+        Input::Tell(0, 1, 1, BOTH),
+        Outcome::Took(2),
+        &[],
+        BOTH,
+        None,
+    ),
+    Step(Input::Tell(0, 2, 1, BOTH), Outcome::Kept, &[], BOTH, None),
+    Step(Input::Tell(0, 2, 1, OTHER), Outcome::Kept, &[], BOTH, None),
+    Step(Input::Tell(0, 2, 1, THIRD), Outcome::Kept, &[], BOTH, None),
+    Step(Input::Submits(0), Outcome::Opened(1, 1), OFFERS, BOTH, None),
+    Step(Input::Yes(0, 2, 1), Outcome::Counted, &[], BOTH, None),
+    Step(
+        Input::Yes(0, 0, 1),
+        Outcome::Learnt(1, None),
+        TELLS,
+        BOTH,
+        Some(OWN),
+    ),
+    Step(
+        Input::Tell(0, 2, 9, MORE),
+        Outcome::Took(3),
+        &[],
+        MORE,
+        Some(OWN),
+    ),
+    Step(
+        Input::Submits(0),
+        Outcome::Opened(2, 2),
+        OFFERS,
+        MORE,
+        Some(OWN),
+    ),
+    Step(Input::Yes(0, 2, 2), Outcome::Counted, &[], MORE, Some(OWN)),
+    Step(
+        Input::Yes(0, 1, 2),
+        Outcome::Learnt(2, None),
+        TELLS,
+        MORE,
+        Some(OWN_TWO),
+    ),
+];
+
+// The acceptor answers, also the replica's own offer, and a set that clashes leaves it as it was.
+const ANSWERS: &[Step] = &[
+    Step(
+        Input::Offer(0, 0, 1, OWN),
+        Outcome::Acknowledged,
+        &[(b'Y', 0)],
+        NOTHING,
+        None,
+    ),
+    Step(
+        Input::Offer(0, 1, 1, OTHER),
+        Outcome::Refused(2),
+        &[(b'N', 1)],
+        NOTHING,
+        None,
+    ),
+    Step(
+        Input::Offer(0, 2, 1, CLASHES),
+        Outcome::Fails(CLASH),
+        &[],
+        NOTHING,
+        None,
+    ),
+    Step(
+        Input::Offer(0, 1, 2, BOTH),
+        Outcome::Acknowledged,
+        &[(b'Y', 1)],
+        NOTHING,
+        None,
+    ),
+    Step(
+        Input::Offer(1, 2, 1, CLASHES),
+        Outcome::Acknowledged,
+        &[(b'Y', 2)],
+        NOTHING,
+        None,
+    ),
+    Step(
+        Input::Submits(0),
+        Outcome::Opened(1, 1),
+        OFFERS,
+        NOTHING,
+        None,
+    ),
+    Step(
+        Input::No(0, 1, 1, BOTH),
+        Outcome::Counted,
+        &[],
+        NOTHING,
+        None,
+    ),
+    Step(
+        Input::No(0, 2, 1, CLASHES),
+        Outcome::Fails(CLASH),
+        &[],
+        NOTHING,
+        None,
+    ),
+];
+
+// An instance above 0 takes one update, and what is learnt there is not told and no view.
+const COMMITS: &[Step] = &[
+    Step(
+        Input::Submits(2),
+        Outcome::Opened(1, 1),
+        OFFERS,
+        NOTHING,
+        None,
+    ),
+    Step(
+        Input::Submits(2),
+        Outcome::Fails(ReplicaError::Full),
+        &[],
+        NOTHING,
+        None,
+    ),
+    Step(Input::Yes(1, 1, 1), Outcome::Ignored, &[], NOTHING, None),
+    Step(Input::Yes(2, 1, 1), Outcome::Counted, &[], NOTHING, None),
+    Step(
+        Input::Yes(2, 2, 1),
+        Outcome::Learnt(1, None),
+        &[],
+        NOTHING,
+        None,
+    ),
+    Step(
+        Input::Submits(1),
+        Outcome::Opened(1, 1),
+        OFFERS,
+        NOTHING,
+        None,
+    ),
+];
+
+// A message is refused by the first name that fits.
+const REFUSES: &[Step] = &[
+    Step(
+        Input::Submits(3),
+        Outcome::Fails(ReplicaError::NoSuchInstance),
+        &[],
+        NOTHING,
+        None,
+    ),
+    Step(
+        Input::Yes(3, 1, 1),
+        Outcome::Fails(ReplicaError::NoSuchInstance),
+        &[],
+        NOTHING,
+        None,
+    ),
+    Step(
+        Input::Yes(3, 3, 1),
+        Outcome::Fails(ReplicaError::NoSuchReplica),
+        &[],
+        NOTHING,
+        None,
+    ),
+    Step(
+        Input::Yes(0, 3, 1),
+        Outcome::Fails(ReplicaError::NoSuchReplica),
+        &[],
+        NOTHING,
+        None,
+    ),
+    Step(
+        Input::Astray(0, 1),
+        Outcome::Fails(ReplicaError::NoSuchReplica),
+        &[],
+        NOTHING,
+        None,
+    ),
+    Step(
+        Input::Astray(3, 1),
+        Outcome::Fails(ReplicaError::NoSuchReplica),
+        &[],
+        NOTHING,
+        None,
+    ),
+    Step(Input::Yes(0, 2, 1), Outcome::Ignored, &[], NOTHING, None),
+];
+
+const PLAYS: [Play; 5] = [
+    Play {
+        name: "learns",
+        steps: LEARNS,
+    },
+    Play {
+        name: "views",
+        steps: VIEWS,
+    },
+    Play {
+        name: "answers",
+        steps: ANSWERS,
+    },
+    Play {
+        name: "commits",
+        steps: COMMITS,
+    },
+    Play {
+        name: "refuses",
+        steps: REFUSES,
+    },
+];
+
+#[test]
+fn a_replica_does_what_its_tables_say(rt: HostRuntime) {
+    for play in &PLAYS {
+        plays(&rt, rt.alloc(), play, false);
+    }
+}
+
+#[test]
+fn a_receive_with_a_copy_does_the_same(rt: HostRuntime) {
+    for play in &PLAYS {
+        plays(&rt, rt.alloc(), play, true);
+    }
+}
+
+#[test]
+fn a_copy_goes_on_alike(rt: HostRuntime) {
+    for play in &PLAYS {
+        plays_copied(&rt, rt.alloc(), play);
+    }
+}
+
+#[test]
+fn laws_hold() {
+    laws::limits();
+    laws::caps_at_first();
+    laws::caps_stay();
+}
