@@ -21,8 +21,9 @@ IsFreeReply p m reply = (counts p m.from m.ballot ≡ false) ⊎ ((reply ≡ rep
 abbrev pub IsFreeTell : (instance : ℕ) → (view told : Histories) → Type 0
 IsFreeTell i view told = (i ≢ 0) ⊎ (is_larger view told ≡ false)
 
+-- an offer of exactly what is accepted, or one of the above
 abbrev pub IsFreeBody : Instance → (view : Histories) → Message → Body → Type 0
-IsFreeBody x view m (Offer offered) = ⊥
+IsFreeBody x view m (Offer offered) = offered ≡ x.acceptor
 IsFreeBody x view m Yes = IsFreeReply x.proposer m replied.Yes
 IsFreeBody x view m (No accepted) = IsFreeReply x.proposer m (replied.No accepted)
 IsFreeBody x view m (Tell told) = IsFreeTell m.instance view told

@@ -21,7 +21,7 @@ use la_set::{Op, UpdateId, UpdateSet};
 use std::alloc::{AllocError, Global};
 
 /// What a replica keeps of one instance.
-#[derive(Debug, Drop)]
+#[derive(Drop)]
 pub struct Instance {
     pub acceptor: Acceptor,
     pub proposer: Proposer,
@@ -123,6 +123,7 @@ impl Instance {
     ) -> Result<Out, ReplicaError>
         ensures step { IfOk result (λ out. (view : Histories) → answers self.old view message.now offered.now ≡ record { said = out.said; mail = out.mail; at = self.new; view = view }) }
         ensures fits { IfOk result (λ _. IsCompatible self.old.acceptor offered.now) }
+        ensures free { offered.now ≡ self.old.acceptor → IsOk result }
         ensures error { IfErr result (IsAnswerRefusal self.old.acceptor offered.now) }
         ensures err { OnErr result (self.new ≡ self.old) }
     {

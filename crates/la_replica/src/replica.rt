@@ -24,7 +24,7 @@ pub const MAX_COMMITS: u8 = 16;
 /// One replica of a group: in each instance an acceptor, a proposer and what it learnt last; and the
 /// view. Instance 0 carries the objects' updates, and adopt-commit object k, from 0, uses the
 /// instances 2k+1 and 2k+2.
-#[derive(Debug, Drop)]
+#[derive(Drop)]
 pub struct Replica {
     votes: Votes,
     own: u8,
@@ -155,9 +155,10 @@ impl Replica {
     /// where a reply would open a ballot with a number over 8,000,000; `Memory`. After each the
     /// replica is as before. A reply that does not count is answered `Ignored` before its set is
     /// looked at. The cost is that of comparing the sets at hand, and of copying each set that is
-    /// said, sent or kept. So no memory is taken by a reply that does not count, by an acknowledgement
-    /// that only counts, while fewer than [`la_proposer::INLINE_TALLY`] have, and by a told set that
-    /// is not taken as the view: these succeed.
+    /// said, sent or kept. So no memory is taken by an offer of exactly what is accepted, by a reply
+    /// that does not count, by an acknowledgement that only counts, while fewer than
+    /// [`la_proposer::INLINE_TALLY`] have, and by a told set that is not taken as the view: these
+    /// succeed.
     pub fn receive(&mut self, message: &Message) -> Result<Out, ReplicaError>
         ensures step { IfOk result (λ out. receives self.old message.now ≡ Some (out, self.new)) }
         ensures fits { IfOk result (λ _. IsReceivable self.old message.now) }
