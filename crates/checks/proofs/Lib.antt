@@ -1,3 +1,5 @@
 pub mod Twice
 pub mod SetAnswers
 pub mod OfferAnswers
+pub mod SameWorlds
+pub mod WorldLaws

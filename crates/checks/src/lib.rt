@@ -12,3 +12,5 @@ mod replica;
 mod script;
 #[cfg(test)]
 mod set;
+#[cfg(test)]
+mod world;

@@ -1,0 +1,78 @@
+-- What follows from the laws of la_world.
+use Rattle.std.proofs.Common.{◌≡◌, ℕ, ◌+◌, ◌<◌, ◌≤◌, List, [], ◌∷◌, ◌++◌, length, drop, slice_get, Some, None, Contains, refl, sym, ◌∙◌, ap, subst, arith}
+use Rattle.std.specs.Prelude.{reverse, Result, Ok, Err, IfOk}
+use Rattle.la_set.specs.Histories.{Histories, history}
+use Rattle.la_set.specs.Inclusion.{IsSubset}
+use Rattle.la_replica.specs.declared.message.Message.{Message}
+use Rattle.la_replica.specs.declared.message.Body.TheVariants.{Yes}
+use Rattle.la_world.specs.declared.config.Config.{Config}
+use Rattle.la_world.specs.declared.error.WorldError.{WorldError}
+use Rattle.la_world.specs.declared.error.Refusal.TheVariants.{AlreadyProposed}
+use Rattle.la_world.specs.declared.report.Report.{Report}
+use Rattle.la_world.specs.declared.step.Opening.{Opening}
+use Rattle.la_world.specs.declared.step.Learnt.{Learnt}
+use Rattle.la_world.specs.Groups.{Group, group_of, replicas, IsConfig}
+use Rattle.la_world.specs.Events.{Event, Decide}
+use Rattle.la_world.specs.Sent.{sent}
+use Rattle.la_world.specs.Acceptors.{accepted}
+use Rattle.la_world.specs.Ballots.{ballots}
+use Rattle.la_world.specs.Submissions.{submitted, taken}
+use Rattle.la_world.specs.Playing.{trace}
+use Rattle.la_world.specs.Report.{report, refused, runs, trace_of}
+use Rattle.la_world.specs.Laws.{AreComparable, LearntAreComparable, AcknowledgementsHavePlaces, LearntHoldWhatWasTaken, NumbersNameBallots, BallotsGrow, LearntGrow, SecondProposalsAreRefused, ProposalsAreTestedInOrder, LimitsAre}
+
+-- ## Of a run
+
+abbrev played : Config → List Event → List Event
+played c events = (runs (group_of c) (reverse events)).accepted
+
+pub run_own : LearntHoldWhatWasTaken → (c : Config) (events : List Event) (r : Result Report WorldError) → IfOk r (λ made. made ≡ report c events)
+    → IfOk r (λ (made : Report). (x : Learnt) → Contains made.learnt x → x.replica < 8 → history x.updates x.replica ≡ taken (trace_of (group_of c) events) x.instance x.replica x.ballot)
+run_own law c events (Ok made) e = λ x i lt. law (group_of c) (played c events) x (subst (λ (m : Report). Contains m.learnt x) e i) lt
+run_own law c events (Err d) e = tt
+
+pub run_comparable : LearntAreComparable → (c : Config) (events : List Event) (r : Result Report WorldError) → IfOk r (λ made. made ≡ report c events)
+    → IfOk r (λ (made : Report). (x y : Learnt) → Contains made.learnt x → Contains made.learnt y → x.instance ≡ y.instance → AreComparable x.updates y.updates)
+run_comparable law c events (Ok made) e = λ x y i j same. law (group_of c) (played c events) x y (subst (λ (m : Report). Contains m.learnt x) e i) (subst (λ (m : Report). Contains m.learnt y) e j) same
+run_comparable law c events (Err d) e = tt
+
+pub run_grows : LearntGrow → (c : Config) (events : List Event) (r : Result Report WorldError) → IfOk r (λ made. made ≡ report c events)
+    → IfOk r (λ (made : Report). (j k : ℕ) (x y : Learnt) → slice_get made.learnt j ≡ Some x → slice_get made.learnt k ≡ Some y → x.instance ≡ y.instance → x.replica ≡ y.replica → j < k → IsSubset x.updates y.updates)
+run_grows law c events (Ok made) e = λ j k x y p q ei er lt.
+    (law (group_of c) (played c events) j k x y (subst (λ (m : Report). slice_get m.learnt j ≡ Some x) e p) (subst (λ (m : Report). slice_get m.learnt k ≡ Some y) e q) ei er lt).0
+run_grows law c events (Err d) e = tt
+
+-- ## Acknowledgements
+
+pub acknowledged : AcknowledgementsHavePlaces → NumbersNameBallots → (g : Group) (events : List Event) (m : Message) (b : Opening) → Contains (sent (replicas g) (trace g events)) m → m.body ≡ Yes
+    → Contains (ballots (trace g events) m.instance m.to) b → b.ballot ≡ m.ballot → (later : ℕ) × (accepted (trace g (drop later events)) m.instance m.from ≡ b.updates)
+acknowledged places one g events m b i acknowledges j n =
+    let p = places g events m i acknowledges in
+    (p.later, p.was ∙ ap (λ (o : Opening). o.updates) (one g events m.instance m.to p.ballot b p.opened j (p.number ∙ sym n)))
+
+-- ## Proposals
+
+none_yet : (g : Group) (i r : ℕ) → length (submitted (trace g []) i r) < 1
+unfolding trace submitted
+none_yet g i r = omega arith
+
+pub for_good : ProposalsAreTestedInOrder → SecondProposalsAreRefused → (g : Group) (more : List Event) → 1 ≤ replicas g → 1 ≤ g.commits → refused g (trace g (more ++ Decide 0 0 7 ∷ [])) (Decide 0 0 8) ≡ Some AlreadyProposed
+for_good order second g more some objects = second g [] more 0 0 7 8 ((order g [] 0 0 7).first (omega arith) (omega arith) (none_yet g 1 0))
+
+-- ## Limits
+
+pub limits_most : LimitsAre → (c : Config) → IsConfig c → (c.replicas ≤ 8) × (c.commits ≤ 16) × (c.cap ≤ 1000000)
+limits_most law c h = let l = (law c).0 h in (l.few, l.commits, l.cap_most)
+
+pub limits_least : LimitsAre → (c : Config) → IsConfig c → (1 ≤ c.replicas) × (1 ≤ c.cap)
+limits_least law c h = let l = (law c).0 h in (l.some, l.cap_some)
+
+pub limits_taken : LimitsAre → (c : Config) → IsConfig c → IsConfig (record { replicas = c.replicas; commits = 16; cap = 1000000; votes = c.votes })
+limits_taken law c h =
+    let l = (law c).0 h in
+    (law (record { replicas = c.replicas; commits = 16; cap = 1000000; votes = c.votes })).1 (record { replicas = l.replicas; some = l.some; few = l.few; commits = omega arith; cap_some = omega arith; cap_most = omega arith })
+
+-- ## Ballots
+
+pub ballots_contain : BallotsGrow → (g : Group) (events : List Event) (i r : ℕ) (b c : Opening) → Contains (ballots (trace g events) i r) b → Contains (ballots (trace g events) i r) c → b.ballot + 1 ≤ c.ballot → IsSubset b.updates c.updates
+ballots_contain law g events i r b c p q le = (law g events i r b c p q (omega arith)).0

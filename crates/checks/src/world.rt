@@ -1,0 +1,11 @@
+// la_world: runs that no row of the program can say, want of memory, groups that are out of their
+// ranges, the texts of its errors, and callers that know nothing but its clauses.
+mod configs;
+mod events;
+mod exactness;
+mod laws;
+mod many;
+mod plays;
+mod runs;
+mod shown;
+mod texts;

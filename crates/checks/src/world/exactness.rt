@@ -1,0 +1,280 @@
+// Callers that know nothing but the contracts: each makes a call twice and promises equal answers.
+ghost use Rattle.std.specs.Prelude.{◌≡◌, ◌+◌, ◌<◌, ◌^◌, IfOk, IfErr, OnOk, option_copied};
+ghost use Rattle.la_world.specs.Events.{Past};
+ghost use Rattle.la_world.specs.StandsFor.{StandsFor};
+ghost use Rattle.la_world.specs.Calls.{IsPlayable};
+
+use la_replica::Message;
+use la_set::UpdateSet;
+use la_world::{
+    Config, Event, Learnings, Learnt, Line, Report, Step, Steps, Views, World, WorldError, run,
+};
+use std::alloc::{AllocError, Global};
+
+// ## A world
+
+#[tactic(auto, using(crate::proofs::SameWorlds::made_worlds_agree, crate::proofs::SameWorlds::makings_agree))]
+fn new_worlds_are_one(
+    alloc: Global,
+    config: Config,
+) -> (Result<World, WorldError>, Result<World, WorldError>)
+    ensures worlds { IfOk result.0 (λ a. IfOk result.1 (λ b. a ≡ b)) }
+    ensures alike { IfErr result.0 (λ d. IfErr result.1 (λ e. d ≡ e)) }
+    ensures playable { OnOk result.0 (IsPlayable config) }
+{
+    (World::new(alloc, config), World::new(alloc, config))
+}
+
+#[tactic(auto, using(crate::proofs::SameWorlds::steps_agree, crate::proofs::SameWorlds::worlds_agree, crate::proofs::SameWorlds::refusals_agree, crate::proofs::SameWorlds::unchanged_agree))]
+fn play_is_exact(
+    one: &mut World,
+    other: &mut World,
+    event: &Event,
+) -> (Result<Step, WorldError>, Result<Step, WorldError>)
+    requires same { one.old ≡ other.old }
+    requires count { one.old.count + 1 < 2 ^ 64 }
+    ensures steps { (events : Past) → StandsFor one.old events → IfOk result.0 (λ a. IfOk result.1 (λ b. a ≡ b)) }
+    ensures worlds { (events : Past) → StandsFor one.old events → IfOk result.0 (λ _. IfOk result.1 (λ _. one.new ≡ other.new)) }
+    ensures alike { (events : Past) → StandsFor one.old events → IfErr result.0 (λ d. IfErr result.1 (λ e. d ≡ e)) }
+    ensures unchanged { IfErr result.0 (λ _. IfErr result.1 (λ _. one.new ≡ other.new)) }
+{
+    (one.play(event), other.play(event))
+}
+
+#[tactic(auto, using(crate::proofs::SameWorlds::makings_agree))]
+fn runs_are_one(
+    alloc: Global,
+    config: Config,
+    events: &[Event],
+) -> (Result<Report, WorldError>, Result<Report, WorldError>)
+    ensures reports { IfOk result.0 (λ a. IfOk result.1 (λ b. a ≡ b)) }
+    ensures alike { IfErr result.0 (λ d. IfErr result.1 (λ e. d ≡ e)) }
+    ensures playable { OnOk result.0 (IsPlayable config) }
+{
+    (run(alloc, config, events), run(alloc, config, events))
+}
+
+fn events_is_exact(world: &World) -> (u64, u64)
+    ensures { result.0 ≡ result.1 }
+{
+    (world.events(), world.events())
+}
+
+fn sent_is_exact(world: &World) -> (u64, u64)
+    ensures { result.0 ≡ result.1 }
+{
+    (world.sent(), world.sent())
+}
+
+fn message_is_exact(world: &World, number: u64) -> (Option<&Message>, Option<&Message>)
+    ensures { option_copied result.0 ≡ option_copied result.1 }
+{
+    (world.message(number), world.message(number))
+}
+
+fn view_is_exact(world: &World, replica: u8) -> (Option<&UpdateSet>, Option<&UpdateSet>)
+    ensures { option_copied result.0 ≡ option_copied result.1 }
+{
+    (world.view(replica), world.view(replica))
+}
+
+fn reports_are_one(world: &World, steps: Steps, same: Steps) -> Result<(Report, Report), AllocError>
+    requires { steps ≡ same }
+    ensures { IfOk result (λ both. both.0 ≡ both.1) }
+{
+    Ok((world.report(steps)?, world.report(same)?))
+}
+
+fn last_reports_are_one(
+    one: World,
+    other: World,
+    steps: Steps,
+    same: Steps,
+) -> Result<(Report, Report), AllocError>
+    requires worlds { one ≡ other }
+    requires lines { steps ≡ same }
+    ensures { IfOk result (λ both. both.0 ≡ both.1) }
+{
+    Ok((one.into_report(steps)?, other.into_report(same)?))
+}
+
+fn a_last_report_is_a_report(
+    one: World,
+    other: World,
+    steps: Steps,
+    same: Steps,
+) -> Result<(Report, Report), AllocError>
+    requires worlds { one ≡ other }
+    requires lines { steps ≡ same }
+    ensures { IfOk result (λ both. both.0 ≡ both.1) }
+{
+    Ok((one.report(steps)?, other.into_report(same)?))
+}
+
+fn copies_are_one(learnt: &Learnt) -> Result<(Learnt, Learnt), AllocError>
+    ensures { IfOk result (λ both. both.0 ≡ both.1) }
+{
+    Ok((learnt.copy()?, learnt.copy()?))
+}
+
+// ## Steps
+
+fn new_steps_are_one(alloc: Global) -> (Steps, Steps)
+    ensures { result.0 ≡ result.1 }
+{
+    (Steps::new(alloc), Steps::new(alloc))
+}
+
+fn len_of_steps_is_exact(list: &Steps) -> (usize, usize)
+    ensures { result.0 ≡ result.1 }
+{
+    (list.len(), list.len())
+}
+
+fn at_of_steps_is_exact(list: &Steps, place: usize) -> (Option<&Line>, Option<&Line>)
+    ensures { option_copied result.0 ≡ option_copied result.1 }
+{
+    (list.at(place), list.at(place))
+}
+
+fn all_of_steps_is_exact(list: &Steps) -> (&[Line], &[Line])
+    ensures { result.0.now ≡ result.1.now }
+{
+    (list.all(), list.all())
+}
+
+fn push_to_steps_is_exact(
+    one: &mut Steps,
+    other: &mut Steps,
+    item: Line,
+    same: Line,
+) -> (Result<(), AllocError>, Result<(), AllocError>)
+    requires lists { one.old ≡ other.old }
+    requires items { item ≡ same }
+    ensures ok { IfOk result.0 (λ _. IfOk result.1 (λ _. one.new ≡ other.new)) }
+    ensures err { IfErr result.0 (λ _. IfErr result.1 (λ _. one.new ≡ other.new)) }
+{
+    (one.push(item), other.push(same))
+}
+
+fn steps_from_items_are_one(one: Vec<Line>, other: Vec<Line>) -> (Steps, Steps)
+    requires { one.items ≡ other.items }
+    ensures { result.0 ≡ result.1 }
+{
+    (Steps::from(one), Steps::from(other))
+}
+
+fn items_of_steps_are_one(one: Steps, other: Steps) -> (Vec<Line>, Vec<Line>)
+    requires { one ≡ other }
+    ensures { result.0.items ≡ result.1.items }
+{
+    (Vec::from(one), Vec::from(other))
+}
+
+// ## Learnings
+
+fn new_learnings_are_one(alloc: Global) -> (Learnings, Learnings)
+    ensures { result.0 ≡ result.1 }
+{
+    (Learnings::new(alloc), Learnings::new(alloc))
+}
+
+fn len_of_learnings_is_exact(list: &Learnings) -> (usize, usize)
+    ensures { result.0 ≡ result.1 }
+{
+    (list.len(), list.len())
+}
+
+fn at_of_learnings_is_exact(list: &Learnings, place: usize) -> (Option<&Learnt>, Option<&Learnt>)
+    ensures { option_copied result.0 ≡ option_copied result.1 }
+{
+    (list.at(place), list.at(place))
+}
+
+fn all_of_learnings_is_exact(list: &Learnings) -> (&[Learnt], &[Learnt])
+    ensures { result.0.now ≡ result.1.now }
+{
+    (list.all(), list.all())
+}
+
+fn push_to_learnings_is_exact(
+    one: &mut Learnings,
+    other: &mut Learnings,
+    item: Learnt,
+    same: Learnt,
+) -> (Result<(), AllocError>, Result<(), AllocError>)
+    requires lists { one.old ≡ other.old }
+    requires items { item ≡ same }
+    ensures ok { IfOk result.0 (λ _. IfOk result.1 (λ _. one.new ≡ other.new)) }
+    ensures err { IfErr result.0 (λ _. IfErr result.1 (λ _. one.new ≡ other.new)) }
+{
+    (one.push(item), other.push(same))
+}
+
+fn learnings_from_items_are_one(one: Vec<Learnt>, other: Vec<Learnt>) -> (Learnings, Learnings)
+    requires { one.items ≡ other.items }
+    ensures { result.0 ≡ result.1 }
+{
+    (Learnings::from(one), Learnings::from(other))
+}
+
+fn items_of_learnings_are_one(one: Learnings, other: Learnings) -> (Vec<Learnt>, Vec<Learnt>)
+    requires { one ≡ other }
+    ensures { result.0.items ≡ result.1.items }
+{
+    (Vec::from(one), Vec::from(other))
+}
+
+// ## Views
+
+fn new_views_are_one(alloc: Global) -> (Views, Views)
+    ensures { result.0 ≡ result.1 }
+{
+    (Views::new(alloc), Views::new(alloc))
+}
+
+fn len_of_views_is_exact(list: &Views) -> (usize, usize)
+    ensures { result.0 ≡ result.1 }
+{
+    (list.len(), list.len())
+}
+
+fn at_of_views_is_exact(list: &Views, place: usize) -> (Option<&UpdateSet>, Option<&UpdateSet>)
+    ensures { option_copied result.0 ≡ option_copied result.1 }
+{
+    (list.at(place), list.at(place))
+}
+
+fn all_of_views_is_exact(list: &Views) -> (&[UpdateSet], &[UpdateSet])
+    ensures { result.0.now ≡ result.1.now }
+{
+    (list.all(), list.all())
+}
+
+fn push_to_views_is_exact(
+    one: &mut Views,
+    other: &mut Views,
+    item: UpdateSet,
+    same: UpdateSet,
+) -> (Result<(), AllocError>, Result<(), AllocError>)
+    requires lists { one.old ≡ other.old }
+    requires items { item ≡ same }
+    ensures ok { IfOk result.0 (λ _. IfOk result.1 (λ _. one.new ≡ other.new)) }
+    ensures err { IfErr result.0 (λ _. IfErr result.1 (λ _. one.new ≡ other.new)) }
+{
+    (one.push(item), other.push(same))
+}
+
+fn views_from_items_are_one(one: Vec<UpdateSet>, other: Vec<UpdateSet>) -> (Views, Views)
+    requires { one.items ≡ other.items }
+    ensures { result.0 ≡ result.1 }
+{
+    (Views::from(one), Views::from(other))
+}
+
+fn items_of_views_are_one(one: Views, other: Views) -> (Vec<UpdateSet>, Vec<UpdateSet>)
+    requires { one ≡ other }
+    ensures { result.0.items ≡ result.1.items }
+{
+    (Vec::from(one), Vec::from(other))
+}

@@ -1,0 +1,95 @@
+// The laws, each by what follows from it.
+ghost use Rattle.std.specs.Prelude.{◌≡◌, ℕ, ◌+◌, ◌<◌, ◌≤◌, [], ◌∷◌, ◌++◌, drop, map, slice_get, Some, Contains, IfOk};
+ghost use Rattle.la_set.specs.Histories.{Histories, history};
+ghost use Rattle.la_set.specs.Inclusion.{IsSubset};
+ghost use Rattle.la_replica.specs.declared.message.Message.{Message};
+ghost use Rattle.la_replica.specs.declared.message.Body.TheVariants.{Yes};
+ghost use Rattle.la_world.specs.declared.config.Config.{Config};
+ghost use Rattle.la_world.specs.declared.error.Refusal.TheVariants.{AlreadyProposed};
+ghost use Rattle.la_world.specs.declared.step.Opening.{Opening};
+ghost use Rattle.la_world.specs.declared.step.Learnt.{Learnt};
+ghost use Rattle.la_world.specs.Groups.{Group, group_of, replicas, IsConfig};
+ghost use Rattle.la_world.specs.Events.{Past, event_of, Decide};
+ghost use Rattle.la_world.specs.Sent.{sent};
+ghost use Rattle.la_world.specs.Acceptors.{accepted};
+ghost use Rattle.la_world.specs.Ballots.{ballots};
+ghost use Rattle.la_world.specs.Submissions.{taken};
+ghost use Rattle.la_world.specs.Views.{seen, view};
+ghost use Rattle.la_world.specs.Playing.{trace};
+ghost use Rattle.la_world.specs.Report.{refused, trace_of};
+ghost use Rattle.la_world.specs.Laws.{AreComparable};
+
+use la_world::{Config, Event, Report, WorldError, laws, run};
+use std::alloc::Global;
+
+// What a run's learnt sets hold of their own replicas is what was taken, and any two of one instance
+// are comparable.
+#[tactic(auto, using(crate::proofs::WorldLaws::run_own, crate::proofs::WorldLaws::run_comparable))]
+fn learnt_sets_of_a_run(
+    alloc: Global,
+    config: Config,
+    events: &[Event],
+) -> Result<Report, WorldError>
+    ensures own { IfOk result (λ made. (x : Learnt) → Contains made.learnt x → x.replica < 8 → history x.updates x.replica ≡ taken (trace_of (group_of config) (map event_of events.now)) x.instance x.replica x.ballot) }
+    ensures comparable { IfOk result (λ made. (x y : Learnt) → Contains made.learnt x → Contains made.learnt y → x.instance ≡ y.instance → AreComparable x.updates y.updates) }
+{
+    laws::learnt_sets_hold_what_was_taken();
+    laws::learnt_sets_are_comparable();
+    run(alloc, config, events)
+}
+
+// An acknowledgement's acceptor had accepted exactly the set of each ballot that has this number, since
+// there is one.
+#[tactic(auto, using(crate::proofs::WorldLaws::acknowledged))]
+fn an_acknowledged_ballot_is_one()
+    ensures { (g : Group) (events : Past) (m : Message) (b : Opening) → Contains (sent (replicas g) (trace g events)) m → m.body ≡ Yes → Contains (ballots (trace g events) m.instance m.to) b → b.ballot ≡ m.ballot → (later : ℕ) × (accepted (trace g (drop later events)) m.instance m.from ≡ b.updates) }
+{
+    laws::acknowledgements_have_places();
+    laws::a_number_names_one_ballot();
+}
+
+// Where there is a replica and an object: after the first proposal another one is refused, whatever comes
+// between.
+#[tactic(auto, using(crate::proofs::WorldLaws::for_good))]
+fn a_proposal_is_for_good()
+    ensures { (g : Group) (more : Past) → 1 ≤ replicas g → 1 ≤ g.commits → refused g (trace g (more ++ Decide 0 0 7 ∷ [])) (Decide 0 0 8) ≡ Some AlreadyProposed }
+{
+    laws::proposals_are_tested_in_order();
+    laws::second_proposals_are_refused();
+}
+
+#[tactic(auto, using(crate::proofs::WorldLaws::limits_most, crate::proofs::WorldLaws::limits_least, crate::proofs::WorldLaws::limits_taken))]
+fn groups_have_these_limits()
+    ensures most { (c : Config) → IsConfig c → (c.replicas ≤ 8) × (c.commits ≤ 16) × (c.cap ≤ 1000000) }
+    ensures least { (c : Config) → IsConfig c → (1 ≤ c.replicas) × (1 ≤ c.cap) }
+    ensures taken { (c : Config) → IsConfig c → c.commits ≡ 0 → IsConfig (record { replicas = c.replicas; commits = 16; cap = 1000000; votes = c.votes }) }
+{
+    laws::limits();
+}
+
+// Of one replica's ballots a later one contains an earlier one.
+fn later_ballots_contain_earlier()
+    ensures { (g : Group) (events : Past) (i r : ℕ) (b c : Opening) → Contains (ballots (trace g events) i r) b → Contains (ballots (trace g events) i r) c → b.ballot + 1 ≤ c.ballot → IsSubset b.updates c.updates }
+{
+    laws::ballots_grow();
+}
+
+// What a view is: it contains each set that was seen.
+fn views_contain_what_is_seen()
+    ensures { (g : Group) (events : Past) (r : ℕ) (s : Histories) → Contains (seen (trace g events) r) s → IsSubset s (view (trace g events) r) }
+{
+    laws::views_are_largest();
+}
+
+// Of the sets of a run that one replica learnt in one instance the later contains the earlier.
+#[tactic(auto, using(crate::proofs::WorldLaws::run_grows))]
+fn learnt_sets_of_a_run_grow(
+    alloc: Global,
+    config: Config,
+    events: &[Event],
+) -> Result<Report, WorldError>
+    ensures { IfOk result (λ made. (j k : ℕ) (x y : Learnt) → slice_get made.learnt j ≡ Some x → slice_get made.learnt k ≡ Some y → x.instance ≡ y.instance → x.replica ≡ y.replica → j < k → IsSubset x.updates y.updates) }
+{
+    laws::learnt_sets_grow();
+    run(alloc, config, events)
+}

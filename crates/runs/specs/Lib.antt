@@ -1,0 +1,14 @@
+pub mod Words
+pub mod FirstRun
+pub mod RefusalAndRefinement
+pub mod ExactHalf
+pub mod RemoveOfALearntAdd
+pub mod DecideTwice
+pub mod RefusalOrder
+pub mod OneValueAlone
+pub mod ProposedForGood
+pub mod Unanimous
+pub mod NobodySole
+pub mod OwnVoteSoleAlone
+pub mod LateDissenter
+pub mod ByReplicas
