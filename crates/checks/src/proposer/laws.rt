@@ -1,10 +1,11 @@
 // The laws and the clauses on memory and limits, each by what follows from it.
 ghost use Rattle.std.specs.Prelude.{◌≡◌, ℕ, ◌<◌, ◌≤◌, Bool, true, false, [], length, replicate, None, IsTrue, IfOk, OnOk};
+ghost use Rattle.la_set.specs.Deeds.{Deed};
 ghost use Rattle.la_set.specs.Inclusion.{IsSubset};
 ghost use Rattle.la_proposer.specs.declared.tally.Verdict.TheVariants.{Refines};
 ghost use Rattle.la_proposer.specs.Majority.{is_majority, how_many};
 ghost use Rattle.la_proposer.specs.Tally.{verdict};
-ghost use Rattle.la_proposer.specs.Proposing.{submitted, counts, with_reply};
+ghost use Rattle.la_proposer.specs.Proposing.{Proposing, submitted, after_submission, counts, with_reply};
 ghost use Rattle.la_proposer.specs.Refusals.{CountsInPlace};
 
 use la_acceptor::Reply;
@@ -53,16 +54,11 @@ fn no_proposer_submits_more(proposer: &Proposer) -> u32
     proposer.submitted()
 }
 
-fn a_submission_keeps_the_set(
-    proposer: &mut Proposer,
-    object: u16,
-    by: u32,
-) -> Result<Option<Ballot>, ProposerError>
-    ensures { OnOk result (IsSubset proposer.old.updates proposer.new.updates) }
+// A submission leaves the last ballot's set as it is, or opens a ballot with a larger one.
+fn a_submission_keeps_the_set()
+    ensures { (p : Proposing) (deed : Deed) → p.own < 8 → IsSubset p.updates (after_submission p deed).updates }
 {
     laws::ballots_grow();
-    let _kept = proposer.status();
-    proposer.submit(object, Op::Inc(by))
 }
 
 fn a_late_reply_changes_nothing(
