@@ -1,5 +1,5 @@
 -- What a replica does without memory: it copies no set, and sends nothing that carries one.
-use Rattle.std.specs.Prelude.{◌≡◌, ◌≢◌, ◌⊎◌, ℕ, true, false, slice_get, IsSomeAnd}
+use Rattle.std.specs.Prelude.{◌≡◌, ◌≢◌, ◌⊎◌, ℕ, false, slice_get, IsSomeAnd}
 use Rattle.la_set.specs.Histories.{Histories}
 use Rattle.la_acceptor.specs.declared.reply.Reply.{Reply}
 use Rattle.la_acceptor.specs.declared.reply.Reply.TheVariants as replied

@@ -1,6 +1,6 @@
 -- Every set of an instance lies within a bound, where the bound grows from event to event and the sets of new ballots
 -- are within it: no set comes from elsewhere.
-use Rattle.std.proofs.Common.{◌≡◌, ℕ, ◌+◌, Bool, true, false, cond, ◌&&◌, ◌==◌, List, [], ◌∷◌, ◌++◌, length, fold, Option, Some, None, refl, sym, ◌∙◌, ap, subst, subst₂, eqb-true, inl, inr}
+use Rattle.std.proofs.Common.{◌≡◌, ℕ, Bool, true, false, cond, ◌&&◌, ◌==◌, List, [], ◌∷◌, ◌++◌, fold, Option, Some, None, refl, sym, subst, eqb-true}
 use Rattle.std.proofs.lemmas.Bool.{and_parts}
 use Rattle.std.specs.List.{cons_option}
 use Rattle.la_set.specs.Histories.{Histories, empty}

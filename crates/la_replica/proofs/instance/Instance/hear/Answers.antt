@@ -1,6 +1,6 @@
 use Rattle.std.proofs.Common.{◌≡◌, ◌∙◌, ap, subst, inl, inr, Bool, true, cond, Err, IsOk, is_ok}
 use Rattle.std.proofs.lemmas.Bool.{false≢true}
-use Rattle.la_proposer.specs.declared.heard.Heard.TheVariants.{Ignored, Counted}
+use Rattle.la_proposer.specs.declared.heard.Heard.TheVariants.{Ignored}
 use Rattle.la_proposer.specs.Proposing.{heard_of, heard_counting, with_reply}
 use Rattle.la_replica.specs.Messages.{reply_in}
 use Rattle.la_replica.proofs.Calls.{free_heard}
