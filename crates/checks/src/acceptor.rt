@@ -1,4 +1,3 @@
-// la_acceptor: runs as tables, the texts of its errors, and callers that know nothing but its clauses.
+// la_acceptor: runs as tables, and callers that know nothing but its clauses.
 mod exactness;
 mod runs;
-mod texts;

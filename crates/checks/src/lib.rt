@@ -5,6 +5,8 @@
 #[cfg(test)]
 mod acceptor;
 #[cfg(test)]
+mod given;
+#[cfg(test)]
 mod proposer;
 #[cfg(test)]
 mod replica;
@@ -12,5 +14,7 @@ mod replica;
 mod script;
 #[cfg(test)]
 mod set;
+#[cfg(test)]
+mod texts;
 #[cfg(test)]
 mod world;

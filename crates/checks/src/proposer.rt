@@ -1,7 +1,6 @@
-// la_proposer: runs as tables, the texts of its errors, and callers that know nothing but its clauses.
+// la_proposer: runs as tables, and callers that know nothing but its clauses.
 mod exactness;
 mod laws;
 mod plays;
 mod runs;
 mod spent;
-mod texts;

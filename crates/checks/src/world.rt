@@ -1,5 +1,5 @@
 // la_world: runs that no row of the program can say, want of memory, groups that are out of their
-// ranges, the texts of its errors, and callers that know nothing but its clauses.
+// ranges, and callers that know nothing but its clauses.
 mod configs;
 mod events;
 mod exactness;
@@ -8,4 +8,3 @@ mod many;
 mod plays;
 mod runs;
 mod shown;
-mod texts;

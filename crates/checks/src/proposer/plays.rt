@@ -1,13 +1,11 @@
 // Plays a table of inputs at one proposer. Each call is made again where memory was refused: so the
 // tests pass with every single allocation failing too.
+use crate::given::{Given, set_of};
 use la_acceptor::Reply;
 use la_proposer::{Ballot, Heard, Proposer, ProposerError, Status, Votes};
-use la_set::{Op, Update, UpdateId, UpdateSet};
+use la_set::{Op, UpdateSet};
 use std::alloc::Global;
 use std::process::Abort;
-
-/// An update of a table: its replica, its number, and by how much it adds.
-pub type Given = (u8, u32, u32);
 
 pub enum Input {
     /// A submission that adds so much.
@@ -138,26 +136,6 @@ fn reply_with(rt: &impl Abort, alloc: Global, refused: Option<&[Given]>) -> Repl
     match refused {
         None => Reply::Yes,
         Some(updates) => Reply::No(set_of(rt, alloc, updates)),
-    }
-}
-
-/// The set of these updates, each of an operation that takes no memory.
-pub fn set_of(rt: &impl Abort, alloc: Global, updates: &[Given]) -> UpdateSet {
-    let mut set = UpdateSet::new(alloc);
-    for given in updates {
-        assert!(rt; set.push(update(given)).is_ok() || set.push(update(given)).is_ok());
-    }
-    set
-}
-
-fn update(given: &Given) -> Update {
-    Update {
-        id: UpdateId {
-            replica: given.0,
-            number: given.1,
-        },
-        object: 1,
-        op: Op::Inc(given.2),
     }
 }
 

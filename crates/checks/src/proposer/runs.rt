@@ -1,7 +1,8 @@
 // Runs of one proposer, worked by hand.
 use super::plays::Input::{Replies, Submits};
 use super::plays::Outcome::{Counted, Ignored, Learnt, Opened, Refined, Refused, Waits};
-use super::plays::{Given, Play, Step, plays, set_of};
+use super::plays::{Play, Step, plays};
+use crate::given::{Given, set_of};
 use la_proposer::ProposerError::{Clash, Full, NoSuchReplica};
 use la_proposer::{BadConfig, Proposer, Votes};
 use la_set::{Op, UpdateId, UpdateSet};

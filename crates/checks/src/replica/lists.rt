@@ -1,5 +1,5 @@
 // Messages and mail, each call once.
-use super::plays::set_of;
+use crate::given::set_of;
 use la_replica::{Body, Mail, Message};
 use smallvec::SmallVec;
 use std::process::Abort;

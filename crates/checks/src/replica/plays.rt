@@ -1,14 +1,12 @@
 // Plays a table of inputs at one replica. Each call is made again where memory was refused, after a
 // look at what stands: so the tests pass with every single allocation failing too.
+use crate::given::{Given, set_of};
 use la_acceptor::Reply;
 use la_proposer::{Ballot, Votes};
 use la_replica::{Body, Mail, Message, Out, Replica, ReplicaError, Said};
-use la_set::{Op, Update, UpdateId, UpdateSet};
+use la_set::{Op, UpdateId, UpdateSet};
 use std::alloc::Global;
 use std::process::Abort;
-
-/// An update of a table: its replica, its number, and by how much it adds to object 1.
-pub type Given = (u8, u32, u32);
 
 pub enum Input {
     /// A submission in an instance that adds 5 to object 1.
@@ -90,26 +88,6 @@ fn copy_of(rt: &impl Abort, replica: &Replica) -> Replica {
     match replica.copy() {
         Ok(copy) => copy,
         Err(_) => replica.copy().expect(rt, "memory is there again"),
-    }
-}
-
-/// The set of these updates.
-pub fn set_of(rt: &impl Abort, alloc: Global, updates: &[Given]) -> UpdateSet {
-    let mut set = UpdateSet::new(alloc);
-    for given in updates {
-        assert!(rt; set.push(update(given)).is_ok() || set.push(update(given)).is_ok());
-    }
-    set
-}
-
-fn update(given: &Given) -> Update {
-    Update {
-        id: UpdateId {
-            replica: given.0,
-            number: given.1,
-        },
-        object: 1,
-        op: Op::Inc(given.2),
     }
 }
 

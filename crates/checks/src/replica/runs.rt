@@ -1,5 +1,6 @@
 // Runs of one replica, as tables.
-use super::plays::{Given, Input, Outcome, Play, Step, plays, plays_copied};
+use super::plays::{Input, Outcome, Play, Step, plays, plays_copied};
+use crate::given::Given;
 use la_replica::{ReplicaError, laws};
 use la_set::UpdateId;
 

@@ -1,0 +1,119 @@
+// The texts of the errors, as programs print them, against fixed strings.
+use la_acceptor::AcceptorError;
+use la_proposer::{BadConfig, ProposerError};
+use la_replica::ReplicaError;
+use la_script::{FaultName, ReadError, ScriptFault};
+use la_set::{SetError, UpdateId};
+use la_world::WorldError;
+use std::alloc::Global;
+use std::fmt::Display;
+
+const ID: UpdateId = UpdateId {
+    replica: 7,
+    number: 1_000_000,
+};
+
+const OF_SETS: [(SetError, &str); 4] = [
+    (SetError::TooManyTags, "more than 64 tags"),
+    (SetError::Gap, "not the replica's next update"),
+    (SetError::Clash(ID), "two updates under the id 7.1000000"),
+    (SetError::Memory, "out of memory"),
+];
+
+const OF_ACCEPTORS: [(AcceptorError, &str); 2] = [
+    (
+        AcceptorError::Clash(ID),
+        "two updates under the id 7.1000000",
+    ),
+    (AcceptorError::Memory, "out of memory"),
+];
+
+const OF_VOTES: [(BadConfig, &str); 1] = [(BadConfig, "not the votes of a group")];
+
+const OF_PROPOSERS: [(ProposerError, &str); 5] = [
+    (ProposerError::Full, "the cap is reached"),
+    (ProposerError::NoSuchReplica, "no such replica"),
+    (
+        ProposerError::Clash(ID),
+        "two updates under the id 7.1000000",
+    ),
+    (ProposerError::BallotsSpent, "no ballot is left"),
+    (ProposerError::Memory, "out of memory"),
+];
+
+const OF_REPLICAS: [(ReplicaError, &str); 6] = [
+    (ReplicaError::NoSuchReplica, "no such replica"),
+    (ReplicaError::NoSuchInstance, "no such instance"),
+    (ReplicaError::Full, "the cap is reached"),
+    (
+        ReplicaError::Clash(ID),
+        "two updates under the id 7.1000000",
+    ),
+    (ReplicaError::BallotsSpent, "no ballot is left"),
+    (ReplicaError::Memory, "out of memory"),
+];
+
+const OF_WORLDS: [(WorldError, &str); 5] = [
+    (WorldError::BadConfig, "not a group that can be played"),
+    (WorldError::NoSuchReplica, "no such replica"),
+    (WorldError::Full, "the cap is reached"),
+    (WorldError::NoSuchMessage, "no such message"),
+    (WorldError::Memory, "out of memory"),
+];
+
+const FIRST: ScriptFault = ScriptFault {
+    line: 1,
+    name: FaultName::BadHeader,
+};
+
+const LAST: ScriptFault = ScriptFault {
+    line: 4294967295,
+    name: FaultName::BadLine,
+};
+
+const OF_LINES: [(FaultName, &str); 3] = [
+    (FaultName::BadHeader, "BadHeader"),
+    (FaultName::BadLine, "BadLine"),
+    (FaultName::BadNumber, "BadNumber"),
+];
+
+const OF_SCRIPTS: [(ScriptFault, &str); 2] = [
+    (FIRST, "line 1: BadHeader"),
+    (LAST, "line 4294967295: BadLine"),
+];
+
+const OF_READING: [(ReadError, &str); 3] = [
+    (ReadError::Fault(FIRST), "line 1: BadHeader"),
+    (ReadError::Fault(LAST), "line 4294967295: BadLine"),
+    (ReadError::Memory, "out of memory"),
+];
+
+// Whether an error is shown so; `false` also for want of memory.
+fn shows<E: Display>(alloc: Global, error: &E, text: &str) -> bool {
+    matches!(&format!(in alloc; "{error}"), Ok(shown) if shown.as_str() == text)
+}
+
+// Whether each error of a table is shown by its text.
+fn all_show<E: Display>(alloc: Global, table: &[(E, &str)]) -> bool {
+    for (error, text) in table {
+        if !shows(alloc, error, text) && !shows(alloc, error, text) {
+            return false;
+        }
+    }
+    true
+}
+
+#[test]
+fn errors_of_the_protocol_are_shown_so(rt: HostRuntime) {
+    let alloc = rt.alloc();
+    assert!(rt; all_show(alloc, &OF_SETS) && all_show(alloc, &OF_ACCEPTORS));
+    assert!(rt; all_show(alloc, &OF_VOTES) && all_show(alloc, &OF_PROPOSERS));
+    assert!(rt; all_show(alloc, &OF_REPLICAS) && all_show(alloc, &OF_WORLDS));
+}
+
+#[test]
+fn faults_of_scripts_are_shown_so(rt: HostRuntime) {
+    let alloc = rt.alloc();
+    assert!(rt; all_show(alloc, &OF_LINES) && all_show(alloc, &OF_SCRIPTS));
+    assert!(rt; all_show(alloc, &OF_READING));
+}
