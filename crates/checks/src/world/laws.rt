@@ -9,11 +9,12 @@ ghost use Rattle.la_world.specs.declared.error.Refusal.TheVariants.{AlreadyPropo
 ghost use Rattle.la_world.specs.declared.step.Opening.{Opening};
 ghost use Rattle.la_world.specs.declared.step.Learnt.{Learnt};
 ghost use Rattle.la_world.specs.Groups.{Group, group_of, replicas, IsConfig};
-ghost use Rattle.la_world.specs.Events.{Past, event_of, Decide};
+ghost use Rattle.la_world.specs.Events.{Past, Event as Occurrence, event_of, Decide};
+ghost use Rattle.la_world.specs.Learnings.{learnt};
 ghost use Rattle.la_world.specs.Sent.{sent};
 ghost use Rattle.la_world.specs.Acceptors.{accepted};
 ghost use Rattle.la_world.specs.Ballots.{ballots};
-ghost use Rattle.la_world.specs.Submissions.{taken};
+ghost use Rattle.la_world.specs.Submissions.{taken, whole};
 ghost use Rattle.la_world.specs.Views.{seen, view};
 ghost use Rattle.la_world.specs.Playing.{trace};
 ghost use Rattle.la_world.specs.Report.{refused, trace_of};
@@ -92,4 +93,19 @@ fn learnt_sets_of_a_run_grow(
 {
     laws::learnt_sets_grow();
     run(alloc, config, events)
+}
+
+// No view shrinks over two further events.
+fn a_view_stays_over_two_events()
+    ensures { (g : Group) (events : Past) (e f : Occurrence) (r : ℕ) → IsSubset (view (trace g events) r) (view (trace g (f ∷ e ∷ events)) r) }
+{
+    laws::views_grow();
+    la_set::laws::inclusion_is_an_order();
+}
+
+// A learnt set has only what was submitted in its instance until some event.
+fn a_learnt_set_has_only_what_was_submitted()
+    ensures { (g : Group) (events : Past) (x : Learnt) → Contains (learnt (trace g events)) x → (later : ℕ) × IsSubset x.updates (whole (trace g (drop later events)) x.instance) }
+{
+    laws::learnt_sets_are_valid();
 }
