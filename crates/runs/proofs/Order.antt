@@ -1,5 +1,5 @@
 -- The premises of the laws on order are met in the run with the removal.
-use Rattle.std.proofs.Common.{◌≡◌, zero, suc, ◌<◌, List, [], ◌∷◌, ◌++◌, length, slice_index_or, Contains, refl, subst, arith}
+use Rattle.std.proofs.Common.{zero, suc, [], ◌∷◌, Contains, refl, subst, arith}
 use Rattle.std.specs.Prelude.{IsSome}
 use Rattle.la_set.specs.declared.update.UpdateId.{UpdateId}
 use Rattle.la_set.specs.Histories.{history, from_histories, empty, updates, with_history, get}
@@ -15,7 +15,7 @@ use Rattle.la_world.specs.Views.{seen, view}
 use Rattle.la_world.specs.Playing.{submits, counts, after_learning, hears, answers, is_told, trace}
 use Rattle.la_world.specs.Learnings.{learnt}
 use Rattle.la_world.specs.Laws.{IsSubmittedLater, next_id, WasLearnt}
-use Rattle.runs.specs.RemoveOfALearntAdd.{add, removal, first, second, g, until_learnt, more, t}
+use Rattle.runs.specs.RemoveOfALearntAdd.{add, first, second, g, until_learnt, t}
 
 pub first_then : Contains (learnt (trace g until_learnt)) first
 unfolding history from_histories empty updates with_history is_subset union is_majority sent offers accepted ballots round is_open replies counted submitted seen view submits counts after_learning hears answers is_told trace learnt
