@@ -27,6 +27,7 @@ pub mod Quiet
 pub mod Replying
 pub mod Delivering
 pub mod Legal
+pub mod KnownViews
 pub mod Fitting
 pub mod Starting
 pub mod KeptMessages
