@@ -1,5 +1,5 @@
 -- A view lies in what is known of instance 0: it is empty, or a set that was learnt there.
-use Rattle.std.proofs.Common.{ℕ, ◌≡◌, List, inl, inr, sym, ◌∙◌, subst}
+use Rattle.std.proofs.Common.{ℕ, List, inl, inr, sym, subst}
 use Rattle.la_set.specs.Histories.{Histories}
 use Rattle.la_set.specs.Inclusion.{IsSubset}
 use Rattle.la_world.specs.Groups.{Group}

@@ -36,6 +36,7 @@ pub mod TellCounts
 pub mod Standing
 pub mod Allowing
 pub mod SentCounts
+pub mod Receivers
 pub mod Worlds
 pub mod Playback
 pub mod Proposals
