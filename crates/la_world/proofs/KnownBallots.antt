@@ -15,8 +15,7 @@ use Rattle.la_world.specs.Trace.{Entry, Trace}
 use Rattle.la_world.specs.Ballots.{opened_by, only, round}
 use Rattle.la_world.specs.Submissions.{submitted}
 use Rattle.la_world.specs.Playing.{entry, trace}
-use Rattle.la_world.proofs.Happens.{Opens, Source, gathers, joins, heard, only_is, only_same, happens}
-use Rattle.la_world.proofs.Quorum.{happens_opens}
+use Rattle.la_world.proofs.Happens.{Opens, Source, gathers, joins, heard, only_is, only_same, happens, happens_opens}
 use Rattle.la_world.proofs.Within.{IsMessageWithin, AreWithin, round_within, joined_within, within_more, within_start, delivered_within}
 use Rattle.la_world.proofs.Honest.{prefix_same}
 use Rattle.la_world.proofs.OwnHistories.{own_others}

@@ -146,7 +146,7 @@ module _ (bound : Trace → (i : ℕ) → Histories) where
       let of = round_is_of t c.instance c.to in
       let here : IsWithin (x ∷ t) b.instance b.updates = within_later x t up b.instance b.updates (subst (λ i. IsWithin t i b.updates) (sym of.instance) (round_within g t h c.instance c.to)) in
       AllIn-append (IsMessageWithin (x ∷ t)) (tells_for (replicas g) b) (offers_for_next (replicas g) next)
-      (tells_all (IsMessageWithin (x ∷ t)) (replicas g) b (λ z to. here))
+      (tells_all (IsMessageWithin (x ∷ t)) (replicas g) b (λ z to lt. here))
       (next_within (replicas g) (x ∷ t) next w)
 
   -- ## Acceptors and replies
