@@ -240,7 +240,7 @@ module _ (g : Group) (t : Trace) (m : Message) (h : Holds g t) (was_sent : IsIn 
       message_fits seen = record {
         receivable = ((between.from, refl), here (λ x. FitsBody x m m.body) (body_fits m.body refl));
         spares = here (λ x. SparesBody x m m.body) (body_spares m.body refl);
-        told = λ e s is. compatible-within (view t r) s (known t 0) seen (subst (λ j. IsSubset s (known t j)) e (body_known (Tell s) is));
+        told = λ s is. compatible-within (view t r) s (known t 0) seen (subst (λ j. IsSubset s (known t j)) (between.told s is) (body_known (Tell s) is));
         learnt = λ e. here (λ x. IsCompatible (view t r) x.proposer.updates) (compatible-within (view t r) last.updates (known t 0) seen (subst (λ j. IsSubset last.updates (known t j)) e (round_known g t h i r)));
       }
 

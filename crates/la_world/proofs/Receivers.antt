@@ -54,6 +54,6 @@ fits_from at m some h = record {
     in_some some (slice_get at.instances m.instance) (λ y. FitsBody y m m.body) (λ y. body_fits some y m m.body) (λ x. (h x).receivable.1),
   );
   spares = in_some some (slice_get at.instances m.instance) (λ y. SparesBody y m m.body) (λ y. body_spares some y m m.body) (λ x. (h x).spares);
-  told = λ e s is. compatible_from some at.view s (λ x. (h x).told e s is);
+  told = λ s is. compatible_from some at.view s (λ x. (h x).told s is);
   learnt = λ e. in_some some (slice_get at.instances m.instance) (λ y. IsCompatible at.view y.proposer.updates) (λ y. compatible_from some at.view y.proposer.updates) (λ x. (h x).learnt e);
 }
