@@ -28,8 +28,8 @@ use Rattle.la_world.specs.Playing.{counts, entry, trace}
 use Rattle.la_world.specs.Report.{refused}
 use Rattle.la_world.specs.StandsFor.{IsLegal}
 use Rattle.la_world.proofs.Lists.{IsIn, AllIn, AllIn-append, AllIn-made, AllIn_at}
-use Rattle.la_world.proofs.Happens.{Opens, Source, gathers, joins, Happens, silent, opens, answers_offer, refines, learns, only_is, round_is_of, happens, happens_opens}
-use Rattle.la_world.proofs.Quorum.{counts_is, open_in, tells_all, group_within, happens_learns, delivered_in}
+use Rattle.la_world.proofs.Happens.{Opens, Source, gathers, joins, Happens, silent, opens, answers_offer, refines, learns, only_is, round_is_of, Step, step_opens, step}
+use Rattle.la_world.proofs.Quorum.{counts_is, open_in, tells_all, group_within, happens_learns}
 use Rattle.la_world.proofs.Honest.{alone_within}
 use Rattle.la_world.proofs.Allowing.{submitter_known, submitter_room, proposer_known, object_known}
 
@@ -85,7 +85,7 @@ module _ (g : Group) (t : Trace) (h : Grouped g t) where
   counted_grouped : (m : Message) → counts t m ≡ true → IsOfGroup g m.instance m.to
   counted_grouped m c = open_grouped m.instance m.to (open_in t m.instance m.to (counts_is t m c).0)
 
-  module _ (x : Entry) (new : (s : Submission) → submission_by x.event x.did ≡ Some s → IsOfGroup g s.instance s.replica) (does : Happens g t x.event x.delivered x.did) (was_sent : (m : Message) → x.delivered ≡ Some m → IsBetween g m) where
+  module _ (x : Entry) (step : Step g t x) (new : (s : Submission) → submission_by x.event x.did ≡ Some s → IsOfGroup g s.instance s.replica) where
     submissions_more : (i r : ℕ) → (submitted (x ∷ t) i r ≡ []) ⊎ IsOfGroup g i r
     submissions_more i r = elim (submitted_by x t i r) [
       | inl e ↦ subst (λ zs. (zs ≡ []) ⊎ IsOfGroup g i r) (sym e) (h.submissions i r)
@@ -110,7 +110,7 @@ module _ (g : Group) (t : Trace) (h : Grouped g t) where
         go None e = h.ballots i r
         go (Some b) e =
             let p = only_is i r (opened_by x.did) b e in
-            (subst₂ (IsOfGroup g) p.1 p.2 (opened_grouped b (happens_opens g t x.event x.delivered x.did does b p.0)), h.ballots i r)
+            (subst₂ (IsOfGroup g) p.1 p.2 (opened_grouped b (step_opens g t x step b p.0)), h.ballots i r)
 
     offers_between : (b : Opening) → IsOfGroup g b.instance b.replica → AllIn (IsBetween g) (offers_for (replicas g) b)
     offers_between b ok = AllIn-made (IsBetween g) (offer_to (sender_for (replicas g) b) (ballot_of b)) (λ q. q < replicas g) (λ q lt. record { instance = ok.instance; from = ok.replica; to = lt; told = λ s e. cc }) (group (replicas g)) (group_within (replicas g))
@@ -138,7 +138,7 @@ module _ (g : Group) (t : Trace) (h : Grouped g t) where
       submissions = submissions_more;
       ballots = ballots_more;
       messages = AllIn-append (IsBetween g) (sent (replicas g) t) (sent_by (replicas g) x.delivered x.did) h.messages
-          (new_between x.event x.delivered x.did does (λ b e. opened_grouped b (happens_opens g t x.event x.delivered x.did does b e)) was_sent);
+          (new_between x.event x.delivered x.did step.happens (λ b e. opened_grouped b (step_opens g t x step b e)) (λ m e. AllIn_at (IsBetween g) (sent (replicas g) t) m h.messages (step.was_sent m e)));
     }
 
 -- ## What is not refused
@@ -176,7 +176,7 @@ submits_grouped g t (Deliver k) h allowed s e =
     let x = entry g t (Deliver k) in
     let v = vote_after (learnt_by x.did) s e in
     let b = v.0 in
-    let end = happens_learns g t x.event x.delivered x.did (happens g t (Deliver k)) b v.1 in
+    let end = happens_learns g t x.event x.delivered x.did (step g t (Deliver k)).happens b v.1 in
     let ok = open_grouped g t h b.instance b.replica (open_in t b.instance b.replica end.asking) in
     let is = second_vote_is b s v.2 in
     record {
@@ -194,7 +194,7 @@ grouped g [] legal = grouped_start g
 grouped g (e ∷ events) legal =
     let t = trace g events in
     let h = grouped g events legal.1 in
-    grouped_more g t h (entry g t e) (submits_grouped g t e h legal.0) (happens g t e) (λ m is. AllIn_at (IsBetween g) (sent (replicas g) t) m h.messages (delivered_in g t e m is))
+    grouped_more g t h (entry g t e) (step g t e) (submits_grouped g t e h legal.0)
 
 -- ## How much was submitted
 

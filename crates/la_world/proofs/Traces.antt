@@ -21,13 +21,14 @@ use Rattle.la_world.specs.Counting.{reply_at, replies, counted}
 use Rattle.la_world.specs.Submissions.{submitted, whole}
 use Rattle.la_world.specs.Playing.{trace}
 use Rattle.la_world.proofs.Lists.{IsIn, AllIn, AllIn-append, AllIn_at}
+use Rattle.la_world.proofs.Happens.{Step, each}
 use Rattle.la_world.proofs.Sizes.{total, total_strict}
-use Rattle.la_world.proofs.Quorum.{Numbered, last_number, numbered_below, MessageStands, ReplyStands, IsCountBacked, firsts_all, reply_backed, Sound, sound}
-use Rattle.la_world.proofs.Within.{IsMessageWithin, IsCountWithin, AreWithin, round_within}
-use Rattle.la_world.proofs.Honest.{history-whole, Honest, honest, round_honest}
+use Rattle.la_world.proofs.Quorum.{Numbered, last_number, numbered_below, MessageStands, ReplyStands, IsCountBacked, firsts_all, reply_backed, Sound, sound_start, sound_more}
+use Rattle.la_world.proofs.Within.{IsMessageWithin, IsCountWithin, AreWithin, round_within, within_start}
+use Rattle.la_world.proofs.Honest.{history-whole, Honest, honest_more, round_honest}
 use Rattle.la_world.proofs.Known.{known}
-use Rattle.la_world.proofs.KnownBallots.{all_known}
-use Rattle.la_world.proofs.Growth.{Growing, growing}
+use Rattle.la_world.proofs.KnownBallots.{known_more}
+use Rattle.la_world.proofs.Growth.{Growing, growing_more}
 
 pub record Holds (g : Group) (t : Trace) : Type 0 where
   -- numbers name ballots, and acknowledgements have places
@@ -38,8 +39,24 @@ pub record Holds (g : Group) (t : Trace) : Type 0 where
   -- each ballot is strictly larger than the one before
   pub growing : (i r : ℕ) → Growing i r (ballots t i r)
 
+holds_start : (g : Group) → Holds g []
+unfolding ballots
+holds_start g = record { sound = sound_start g; honest = within_start whole g; within = within_start known g; growing = λ i r. tt }
+
+holds_more : (g : Group) (t : Trace) (x : Entry) → Step g t x → Holds g t → Holds g (x ∷ t)
+holds_more g t x step h = record {
+  sound = sound_more g t x step h.sound;
+  honest = honest_more g t x step h.honest;
+  within = known_more g t x step h.within;
+  growing = λ i r. growing_more g t x step h.sound h.honest i r (h.growing i r);
+}
+
 pub holds : (g : Group) (events : List Event) → Holds g (trace g events)
-holds g events = record { sound = sound g events; honest = honest g events; within = all_known g events; growing = growing g events }
+holds g events = each g (Holds g) (holds_start g) (holds_more g) events
+
+-- what is kept by each event where all this holds, holds of every list of events
+pub always : (g : Group) (P : Trace → Type 0) → P [] → ((t : Trace) (x : Entry) → Step g t x → Holds g t → P t → P (x ∷ t)) → (events : List Event) → P (trace g events)
+always g P start more events = (each g (λ t. Holds g t × P t) (holds_start g, start) (λ t x step h. (holds_more g t x step h.0, more t x step h.0 h.1)) events).1
 
 -- ## Ballots
 
