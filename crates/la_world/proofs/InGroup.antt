@@ -159,7 +159,7 @@ second_vote_is b s e = go (is_first_instance b.instance) refl (own_vote b.update
 second_within : (g : Group) (i : ℕ) → is_first_instance i ≡ true → i < instances g → second_instance (commit_of i) < instances g
 second_within g i first lt = let odd = eqb-true (i % 2) 1 first in omega (arith, div-add-mod i 2)
 
-vote_after : (o : Option Opening) (s : Submission) → second_vote_after o ≡ Some s → (b : Opening) × (o ≡ Some b) × (second_vote b ≡ Some s)
+pub vote_after : (o : Option Opening) (s : Submission) → second_vote_after o ≡ Some s → (b : Opening) × (o ≡ Some b) × (second_vote b ≡ Some s)
 vote_after None s e = absurd (none-some s e)
 vote_after (Some b) s e = (b, refl, e)
 

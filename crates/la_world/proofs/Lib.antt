@@ -22,6 +22,7 @@ pub mod Members
 pub mod Allowing
 pub mod InGroup
 pub mod Traces
+pub mod Once
 pub mod Taking
 pub mod Submitting
 pub mod Quiet
