@@ -163,8 +163,7 @@ module _ (g : Group) (t : Trace) (h : Holds g t) (v : VotesOnce t) where
       let is = second_vote_is b s.submission w.2 in
       let ei : b.instance ≡ first_instance k = voted_first b.instance k is.0 (sym is.1 ∙ s.instance) in
       let er : b.replica ≡ r = sym is.2 ∙ s.replica in
-      let asking = subst₂ (λ i q. is_open t i q ≡ true) ei er (happens_learns g t x.event x.delivered x.did (step g t (Deliver j)).happens b w.1).asking in
-      (
+      let asking = subst₂ (λ i q. is_open t i q ≡ true) ei er (happens_learns g t x.event x.delivered x.did (step g t (Deliver j)).happens b w.1).asking in (
         now_done g t x h (step g t (Deliver j)) k r (first_more (Deliver j) allowed k r) b s.submission w.1 w.2 ei er,
         elim (v.done k r) [
           | inl none ↦ omega (arith, ap length none, ap length s.all ∙ length_push (submitted t (second_instance k) r) s.submission.deed)
