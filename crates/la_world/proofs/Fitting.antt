@@ -56,7 +56,7 @@ use Rattle.la_world.proofs.Once.{submitted_most}
 use Rattle.la_world.proofs.Members.{get_instance}
 use Rattle.la_world.proofs.Replying.{before, with_new, waits, tally_then, refined_within, something_length}
 use Rattle.la_world.proofs.Replying.{counts_is as same_counts}
-use Rattle.la_world.proofs.KnownViews.{view_known}
+use Rattle.la_world.proofs.LargestViews.{view_known}
 use Rattle.la_world.proofs.Legal.{legal_between}
 
 -- ## No clash

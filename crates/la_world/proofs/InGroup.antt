@@ -28,10 +28,11 @@ use Rattle.la_world.specs.Playing.{counts, entry, trace}
 use Rattle.la_world.specs.Report.{refused}
 use Rattle.la_world.specs.StandsFor.{IsLegal}
 use Rattle.la_world.proofs.Lists.{IsIn, AllIn, AllIn-append, AllIn-made, AllIn_at}
-use Rattle.la_world.proofs.Happens.{Opens, Source, gathers, joins, Happens, silent, opens, answers_offer, refines, learns, only_is, round_is_of, Step, step_opens, step}
+use Rattle.la_world.proofs.Happens.{Opens, Source, gathers, joins, Happens, silent, opens, answers_offer, refines, learns, Step, step_opens, step}
 use Rattle.la_world.proofs.Quorum.{counts_is, open_in, tells_all, group_within, happens_learns}
 use Rattle.la_world.proofs.Honest.{alone_within}
 use Rattle.la_world.proofs.Allowing.{submitter_known, submitter_room, proposer_known, object_known}
+use Rattle.la_world.proofs.Openings.{only_is, round_is}
 
 pub record IsOfGroup (g : Group) (i r : ℕ) : Type 0 where
   pub instance : i < instances g
@@ -126,7 +127,7 @@ module _ (g : Group) (t : Trace) (h : Grouped g t) where
     new_between v m d (refines b o) ok k = offers_between b (ok b refl)
     new_between v m d (learns c a next e q y o) ok k =
         let b = round t c.instance c.to in
-        let of = round_is_of t c.instance c.to in
+        let of = round_is t c.instance c.to in
         let here = subst₂ (IsOfGroup g) (sym of.instance) (sym of.replica) (counted_grouped c q) in
         AllIn-append (IsBetween g) (tells_for (replicas g) b) (offers_for_next (replicas g) next)
         (tells_all (IsBetween g) (replicas g) b (λ z to lt. record { instance = here.instance; from = here.replica; to = lt; told = λ s f. z }))

@@ -7,7 +7,6 @@ mod Chains
 mod Within
 mod Honest
 mod Growth
-mod KnownBallots
 mod TakenUpdates
 mod Validity
 mod LearntOrder
@@ -25,11 +24,9 @@ pub mod Traces
 pub mod Once
 pub mod Taking
 pub mod Submitting
-pub mod Quiet
 pub mod Replying
 pub mod Delivering
 pub mod Legal
-pub mod KnownViews
 pub mod Fitting
 pub mod Starting
 pub mod KeptMessages

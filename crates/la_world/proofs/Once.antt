@@ -22,8 +22,8 @@ use Rattle.la_world.specs.Submissions.{submitted, alone, is_refined}
 use Rattle.la_world.specs.Playing.{entry, trace}
 use Rattle.la_world.specs.Report.{refused}
 use Rattle.la_world.specs.StandsFor.{IsLegal}
-use Rattle.la_world.proofs.Openings.{only_of, round-same, is_open-same, is_open-learnt}
-use Rattle.la_world.proofs.Happens.{Source, gathers, joins, only_is, Step, step_opens, step}
+use Rattle.la_world.proofs.Openings.{only_of, round-same, is_open-same, is_open-learnt, only_is}
+use Rattle.la_world.proofs.Happens.{Source, gathers, joins, Step, step_opens, step}
 use Rattle.la_world.proofs.Quorum.{counts_is, happens_learns}
 use Rattle.la_world.proofs.OwnHistories.{IsPrefix-trans}
 use Rattle.la_world.proofs.Honest.{alone_within, prefix_same, submitted_prefix}
