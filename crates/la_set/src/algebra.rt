@@ -167,6 +167,28 @@ impl UpdateSet {
         Ok(())
     }
 
+    /// Whether each update of the other set is in this one, where no id has two updates: that is, whether
+    /// this set has of each replica as many updates or more. The cost is constant.
+    pub fn contains_compatible(&self, other: &UpdateSet) -> bool
+        requires { IsCompatible self.now other.now }
+        ensures { result ≡ is_subset other.now self.now }
+    {
+        other.has_no_more(self)
+    }
+
+    /// Adds what the other set has, where no id has two updates. After a refusal the set is unchanged.
+    /// Where this set has of each replica as many updates or more nothing changes, and no memory is
+    /// taken.
+    pub fn join_compatible(&mut self, other: &UpdateSet) -> Result<(), AllocError>
+        requires { IsCompatible self.old other.now }
+        ensures ok { OnOk result (self.new ≡ union self.old other.now) }
+        ensures err { OnErr result (self.new ≡ self.old) }
+        ensures room { HasNoMore other.now self.old → IsOk result }
+        ensures nothing { HasNoMore other.now self.old → self.new ≡ self.old }
+    {
+        self.join(other)
+    }
+
     // Adds what the other set has of one replica beyond this one's count, as far as memory lasts.
     fn catch_up(&mut self, other: &UpdateSet, replica: u8) -> Result<(), AllocError>
         requires { replica < REPLICAS }
