@@ -44,16 +44,15 @@ pub struct Proposer {
 }
 
 impl Model for Proposer {
-    ghost use Rattle.la_proposer.specs.Majority.{votes_of};
     ghost use Rattle.la_proposer.specs.Proposing.{Proposing};
 
     ghost Value = { Proposing };
 
-    ghost use Rattle.la_proposer.specs.Kept.{proposing_of, IsKept};
+    ghost use Rattle.la_proposer.specs.Fields.{stands_for, HasKept};
 
-    ghost view = { λ p. proposing_of (votes_of p.votes) p.own p.cap p.last p.is_asking p.tally.items p.submissions };
+    ghost view = { stands_for };
 
-    ghost invariant = { λ p. IsKept (proposing_of (votes_of p.votes) p.own p.cap p.last p.is_asking p.tally.items p.submissions) p.submissions };
+    ghost invariant = { HasKept };
 }
 
 impl Proposer {

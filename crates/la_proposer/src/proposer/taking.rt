@@ -19,7 +19,8 @@ impl Proposer {
         ensures ok { OnOk result (self.new ≡ with_waiting self.old (record { object = object; op = op })) }
         ensures err { OnErr result (self.new ≡ self.old) }
     {
-        add_next(&mut self.submissions, self.own, object, op)
+        add_next(&mut self.submissions, self.own, object, op)?;
+        Ok(())
     }
 
     // Opens the ballot that takes what waits.
