@@ -11,7 +11,7 @@ use Rattle.la_proposer.specs.declared.tally.Counted.{Counted}
 use Rattle.la_proposer.specs.Proposing.{Proposing, start, submitted, with_more, with_waiting, with_reply, after_opening, after_refinement}
 use Rattle.la_proposer.specs.Inputs.{all_submitted}
 use Rattle.la_proposer.specs.Clashes.{Fits}
-use Rattle.la_proposer.specs.Kept.{alone, proposing_of, IsKept}
+use Rattle.la_proposer.specs.Fields.{alone, proposing_of, IsKept}
 use Rattle.la_proposer.proofs.Proposals.{start_is, waiting_keeps, opening_keeps, refinement_keeps, counting_keeps, history-joined}
 use Rattle.la_proposer.proofs.Submissions.{history-alone, alone-none, alone-more, waits, union-alone, alone-compatible}
 

@@ -5,7 +5,6 @@ use Rattle.std.proofs.lemmas.Bool.{cases_Bool, both_ways}
 use Rattle.std.proofs.lemmas.List.Elements.{All-nil, All-push}
 use Rattle.std.proofs.lemmas.List.Quantifiers.{all_pairs_push}
 use Rattle.la_set.specs.declared.update.UpdateId.{UpdateId}
-use Rattle.la_set.specs.declared.update.Update.{Update}
 use Rattle.la_set.specs.Deeds.{update_eq}
 use Rattle.la_set.specs.Histories.{Histories, get}
 use Rattle.la_set.specs.Join.{union, ClashesAt, IsCompatible}

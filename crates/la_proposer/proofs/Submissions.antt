@@ -1,17 +1,16 @@
 -- A proposer's own submissions as one set, and what of it waits.
-use Rattle.std.proofs.Common.{◌≡◌, ◌≢◌, ℕ, ◌<◌, List, [], ◌∷◌, ◌++◌, length, drop, append-nil, append_assoc, refl, ap, sym, ◌∙◌, subst, arith, inl, inr}
+use Rattle.std.proofs.Common.{◌≡◌, ◌≢◌, ℕ, ◌<◌, List, [], ◌++◌, drop, append-nil, refl, ap, sym, ◌∙◌, subst, inl, inr}
 use Rattle.std.proofs.Math.Seq.{drop-append_seam, drop-nil}
 use Rattle.std.proofs.lemmas.Bool.{cases_eq}
 use Rattle.la_set.specs.Deeds.{Deed}
 use Rattle.la_set.specs.Histories.{Histories, history, with_history, empty, count}
-use Rattle.la_set.specs.Inclusion.{IsSubset}
 use Rattle.la_set.specs.Join.{joined, union, IsCompatible}
 use Rattle.la_set.proofs.SetHistories.{same_histories, history-empty, history-with_same, history-with_other, with_history-with_history}
 use Rattle.la_set.proofs.Prefixes.{IsPrefix, IsPrefix-from_reads}
 use Rattle.la_set.proofs.Inclusions.{prefix-subset, compatible-within}
 use Rattle.la_set.proofs.Unions.{history-union}
 use Rattle.la_proposer.specs.Proposing.{with_more}
-use Rattle.la_proposer.specs.Kept.{alone}
+use Rattle.la_proposer.specs.Fields.{alone}
 use Rattle.la_proposer.proofs.Proposals.{more_contains}
 
 module _ (own : ℕ) (known : own < 8) where

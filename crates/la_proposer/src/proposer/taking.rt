@@ -61,12 +61,12 @@ impl Proposer {
     {
         let mut updates = self.last.updates.copy()?;
         join_refusals(&mut updates, self.tally.as_slice())?;
-        let ballot = Ballot {
+        let refined = Ballot {
             number: self.last.number + 1,
             updates,
         };
-        let opened = ballot.copy()?;
-        self.last = ballot;
+        let opened = refined.copy()?;
+        self.last = refined;
         self.tally.clear();
         Ok(opened)
     }

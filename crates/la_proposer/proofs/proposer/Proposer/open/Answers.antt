@@ -1,5 +1,4 @@
 use Rattle.std.proofs.Common.{◌≡◌, ◌+◌, ◌<◌, refl, ap, sym, ◌∙◌, subst}
-use Rattle.la_proposer.specs.declared.ballot.Ballot.{Ballot}
 use Rattle.la_proposer.specs.Proposing.{next_ballot, after_opening}
 use Rattle.la_proposer.specs.Fields.{stands_for}
 use Rattle.la_proposer.proofs.Keeping.{submissions_fit, taking_is, opening_kept, stands, stands-kept}

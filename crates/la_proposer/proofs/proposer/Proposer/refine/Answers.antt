@@ -1,8 +1,6 @@
 use Rattle.std.proofs.Common.{◌≡◌, ◌+◌, ◌<◌, refl, ap, sym, ◌∙◌, subst}
-use Rattle.la_proposer.specs.declared.ballot.Ballot.{Ballot}
 use Rattle.la_proposer.specs.Tally.{joined_with_refusals}
-use Rattle.la_proposer.specs.Clashes.{AreOneEach}
-use Rattle.la_proposer.specs.Proposing.{refined_ballot, after_refinement}
+use Rattle.la_proposer.specs.Proposing.{after_refinement}
 use Rattle.la_proposer.specs.Fields.{stands_for}
 use Rattle.la_proposer.proofs.Keeping.{refinement_kept, stands, stands-kept}
 use Rattle.la_proposer.proofs.proposer.Proposer.refine.Goals as goal
