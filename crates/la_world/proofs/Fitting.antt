@@ -21,7 +21,7 @@ use Rattle.la_proposer.specs.Tally.{verdict, joined_with_refusals}
 use Rattle.la_proposer.specs.Proposing as proposer
 use Rattle.la_proposer.specs.Proposing.{Proposing, with_reply, is_nothing}
 use Rattle.la_proposer.specs.Clashes.{ClashesWith, ClashesInTally, Fits}
-use Rattle.la_proposer.specs.Refusals.{opens_by}
+use Rattle.la_proposer.specs.Refusals.{opens_by, ReplySpends}
 use Rattle.la_proposer.proofs.LeastIds.{least-clash, get-some, some-get}
 use Rattle.la_replica.specs.declared.error.ReplicaError.{ReplicaError}
 use Rattle.la_replica.specs.declared.error.ReplicaError.TheVariants.{NoSuchReplica, NoSuchInstance, Full, Clash, BallotsSpent, Memory}
@@ -29,7 +29,8 @@ use Rattle.la_replica.specs.declared.message.Message.{Message}
 use Rattle.la_replica.specs.declared.message.Body.{Body}
 use Rattle.la_replica.specs.declared.message.Body.TheVariants.{Offer, Yes, No, Tell}
 use Rattle.la_replica.specs.Messages.{body_of}
-use Rattle.la_replica.specs.Refusals.{IsSubmissionRefusal, IsSubmitRefusal, IsHearingRefusal, IsBodyRefusal, IsReceiveRefusal}
+use Rattle.la_replica.specs.declared.instance.Instance.{Instance}
+use Rattle.la_replica.specs.Refusals.{IsSubmissionRefusal, IsSubmitRefusal, IsHearingRefusal, IsBodyRefusal, IsReceiveRefusal, FitsBody, SparesBody}
 use Rattle.la_world.specs.declared.step.Opening.{Opening}
 use Rattle.la_world.specs.Groups.{Group, replicas, instances, is_first_instance}
 use Rattle.la_world.specs.Events.{Event, Submit, Deliver, Decide}
@@ -52,7 +53,8 @@ use Rattle.la_world.proofs.Members.{get_instance}
 use Rattle.la_world.proofs.Replying.{counted_known, counts_is, before, with_new, waits, tally_then, refined_more, refined_within, something_length}
 use Rattle.la_world.proofs.Submitting.{submitted_then, submission_happens}
 use Rattle.la_world.proofs.Delivering.{message_delivers}
-use Rattle.la_world.specs.Following.{IsPlain}
+use Rattle.la_world.specs.Following.{IsPlain, FitsReceiver, DeliveriesFit}
+use Rattle.la_world.proofs.KnownViews.{view_known}
 use Rattle.la_world.proofs.Legal.{submitter_known, submitter_room, number_known, no_decision, get_within, entry_delivers, legal_sound, message_stands}
 
 -- ## No clash
@@ -147,10 +149,15 @@ module _ (g : Group) (t : Trace) (m : Message) (sound : Sound g t) (stands : Sta
 
     -- ## Refusals
 
+    -- a reply that counts leaves a number for the ballot that it opens
+    reply_spares : (reply : Reply) → m.body ≡ body_of reply → replicas g ≤ 8 → most ≤ 1000000 → proposer.counts (proposing g t i r) m.from m.ballot ≡ true → ¬ ReplySpends (with_reply (proposing g t i r) m.from reply)
+    unfolding proposing
+    reply_spares reply is few small heard h = let l = number_left reply is few heard h.0 in let k = h.1 in absurd (omega arith)
+
     hearing_refusal : (reply : Reply) → m.body ≡ body_of reply → replicas g ≤ 8 → most ≤ 1000000 → (e : ReplicaError) → IsHearingRefusal (proposing g t i r) m reply e → e ≡ Memory
     unfolding proposing
     hearing_refusal reply is few small (Clash id) h = absurd (reply_fits reply is id h.1.0)
-    hearing_refusal reply is few small BallotsSpent h = let l = number_left reply is few h.0 h.2.0 in let k = h.2.1 in absurd (omega arith)
+    hearing_refusal reply is few small BallotsSpent h = absurd (reply_spares reply is few small h.0 h.2)
     hearing_refusal reply is few small Memory h = refl
     hearing_refusal reply is few small NoSuchReplica h = absurd h
     hearing_refusal reply is few small NoSuchInstance h = absurd h
@@ -186,6 +193,34 @@ module _ (g : Group) (t : Trace) (m : Message) (sound : Sound g t) (stands : Sta
     message_refusal few small (Clash id) h = body_refusal m.body refl few small (Clash id) (there (Clash id) h.1)
     message_refusal few small BallotsSpent h = body_refusal m.body refl few small BallotsSpent (there BallotsSpent h.1)
     message_refusal few small Memory h = refl
+
+    -- ## What the receiver's step takes for granted
+
+    body_fits : (b : Body) → m.body ≡ b → FitsBody (instance_of g t r i) m b
+    unfolding instance_of
+    body_fits (Offer s) is = offer_fits s is
+    body_fits Yes is = tt
+    body_fits (No s) is = λ c. reply_fits (replied.No s) is
+    body_fits (Tell s) is = tt
+
+    body_spares : replicas g ≤ 8 → most ≤ 1000000 → (b : Body) → m.body ≡ b → SparesBody (instance_of g t r i) m b
+    unfolding instance_of
+    body_spares few small (Offer s) is = tt
+    body_spares few small Yes is = λ c. reply_spares replied.Yes is few small c
+    body_spares few small (No s) is = λ c. reply_spares (replied.No s) is few small c
+    body_spares few small (Tell s) is = tt
+
+    here : (P : Instance → Type 0) → P (instance_of g t r i) → IsSomeAnd (slice_get (member g t r).instances i) P
+    here P p = let at = stands.instance in subst (λ o. IsSomeAnd o P) (sym (get_instance g t r i (omega arith))) p
+
+    pub message_fits : replicas g ≤ 8 → most ≤ 1000000 → IsSubset (view t r) (known t 0) → FitsReceiver (member g t r) m
+    unfolding member proposing instance_of
+    message_fits few small seen = record {
+      receivable = ((stands.from, refl), here (λ x. FitsBody x m m.body) (body_fits m.body refl));
+      spares = here (λ x. SparesBody x m m.body) (body_spares few small m.body refl);
+      told = λ s is. compatible-within (view t r) s (known t 0) seen (subst (λ j. IsSubset s (known t j)) stands.instance (subst (IsKnownBody (known t i)) is stands.known));
+      learnt = λ e. here (λ x. IsCompatible (view t r) x.proposer.updates) (compatible-within (view t r) last.updates (known t 0) seen (subst (λ j. IsSubset last.updates (known t j)) e (sound.rounds i r)));
+    }
 
 -- ## How much was submitted
 
@@ -234,15 +269,14 @@ legal_capped g (e ∷ events) plain legal = event_capped g (trace g events) e pl
 pub legal_stands : (g : Group) (events : List Event) (k : ℕ) (m : Message) → IsPlain g → IsLegal g events → slice_get (sent (replicas g) (trace g events)) k ≡ Some m → Stands g (trace g events) m
 legal_stands g events k m plain legal is = message_stands g (trace g events) k m (legal_sound g events plain legal) is
 
--- a delivery is refused for want of memory alone
-pub delivery_refusal : (g : Group) (events : List Event) (k : ℕ) (m : Message) → IsPlain g → g.cap ≤ 1000000 → IsLegal g events → let t = trace g events in
-    slice_get (sent (replicas g) t) k ≡ Some m → (e : ReplicaError) → IsReceiveRefusal (member g t m.to) m e → e ≡ Memory
-delivery_refusal g events k m plain small legal is e h =
+-- a message that was sent fits its receiver, and its delivery is refused for want of memory alone
+pub delivery_fits : DeliveriesFit
+delivery_fits g events k m plain small legal is =
     let t = trace g events in
     let sound = legal_sound g events plain legal in
     let stands = message_stands g t k m sound is in
-    let caps = legal_capped g events plain legal in
-    message_refusal g t m sound stands g.cap (λ q. subst (λ j. length (submitted t j q) ≤ g.cap) (sym stands.instance) (caps q)) plain.few small e h
+    let caps : (q : ℕ) → length (submitted t m.instance q) ≤ g.cap = λ q. subst (λ j. length (submitted t j q) ≤ g.cap) (sym stands.instance) (legal_capped g events plain legal q) in
+    (message_fits g t m sound stands g.cap caps plain.few small (view_known g events m.to), message_refusal g t m sound stands g.cap caps plain.few small)
 
 -- what the proposer counts as submitted
 pub submitted_is : (g : Group) (t : Trace) (r : ℕ) → Sound g t → proposer.submitted (proposing g t 0 r) ≡ length (submitted t 0 r)

@@ -27,6 +27,7 @@ pub mod Quiet
 pub mod Replying
 pub mod Delivering
 pub mod Legal
+pub mod KnownViews
 pub mod Fitting
 pub mod Starting
 pub mod KeptMessages
@@ -35,6 +36,7 @@ pub mod TellCounts
 pub mod Standing
 pub mod Allowing
 pub mod SentCounts
+pub mod Receivers
 pub mod Worlds
 pub mod Playback
 pub mod Proposals
