@@ -1,7 +1,7 @@
-ghost use Rattle.std.specs.Prelude.{◌≡◌, ◌≢◌, true, false, ◌<◌, ◌≤◌, length, IfOk, IfErr, OnOk, OnErr};
+ghost use Rattle.std.specs.Prelude.{◌≡◌, ◌≢◌, true, false, ◌<◌, ◌≤◌, length, IfOk, IfErr, OnOk, OnErr, option_copied};
 ghost use Rattle.la_set.specs.Histories.{empty};
 ghost use Rattle.la_proposer.specs.Majority.{votes_of};
-ghost use Rattle.la_proposer.specs.Tally.{has_counted};
+ghost use Rattle.la_proposer.specs.Tally.{reply_with, has_counted};
 ghost use Rattle.la_proposer.specs.Proposing.{start, submitted, status_of, submission_opens, after_submission, counts, heard_of, after_reply};
 ghost use Rattle.la_proposer.specs.Refusals.{SubmissionSpends, IsSubmitRefusal, IsReplyRefusal, ReplySpares, IsVerdictOf, IsIgnored, CountsInPlace};
 ghost use Rattle.la_proposer.specs.Clashes.{Fits};
@@ -221,27 +221,32 @@ impl Proposer {
         ensures error { IfErr result (IsReplyRefusal self.old from ballot reply) }
         ensures err { OnErr result (self.new ≡ self.old) }
     {
-        self.admit_reply(from, ballot, &reply)?;
+        self.admit_reply(from, ballot, refusal_of(&reply))?;
         Ok(self.take_reply(from, ballot, reply)?)
     }
 
-    /// Whether a reply would be heard, memory apart: with the errors of [`Proposer::reply`], in its
-    /// order. It takes no memory, and `Memory` never comes. The cost is that of comparing the set of
-    /// a `No` that counts with the sets known here.
-    pub fn admit_reply(&self, from: u8, ballot: u32, reply: &Reply) -> Result<(), ProposerError>
+    /// Whether a reply would be heard, memory apart: a `No` with this refused set, or else a `Yes`. It has
+    /// the errors of [`Proposer::reply`], in its order. It takes no memory, and `Memory` never comes. The
+    /// cost is that of comparing the set of a `No` that counts with the sets known here.
+    pub fn admit_reply(
+        &self,
+        from: u8,
+        ballot: u32,
+        refusal: Option<&UpdateSet>,
+    ) -> Result<(), ProposerError>
         ensures in_group { OnOk result (from < length self.now.votes) }
-        ensures fits { OnOk result (counts self.now from ballot ≡ true → Fits self.now reply.now) }
-        ensures spares { OnOk result (ReplySpares self.now from ballot reply.now) }
-        ensures error { IfErr result (IsReplyRefusal self.now from ballot reply.now) }
+        ensures fits { OnOk result (counts self.now from ballot ≡ true → Fits self.now (reply_with (option_copied refusal.entry))) }
+        ensures spares { OnOk result (ReplySpares self.now from ballot (reply_with (option_copied refusal.entry))) }
+        ensures error { IfErr result (IsReplyRefusal self.now from ballot (reply_with (option_copied refusal.entry))) }
         ensures memory { result ≢ Err ProposerError.Memory }
     {
         if from as usize >= self.votes.len() {
             return Err(ProposerError::NoSuchReplica);
         }
-        let Some(verdict) = self.verdict(from, ballot, reply) else {
+        let Some(verdict) = self.verdict(from, ballot, refusal) else {
             return Ok(());
         };
-        if let Some(id) = self.clash(reply) {
+        if let Some(id) = self.clash(refusal) {
             return Err(ProposerError::Clash(id));
         }
         if self.opens_by(verdict) && self.last.number >= MAX_BALLOTS {
@@ -267,7 +272,7 @@ impl Proposer {
         ensures ok { OnOk result (self.new ≡ after_reply self.old from ballot reply) }
         ensures err { OnErr result (self.new ≡ self.old) }
     {
-        match self.verdict(from, ballot, &reply) {
+        match self.verdict(from, ballot, refusal_of(&reply)) {
             None => Ok(Heard::Ignored),
             Some(Verdict::Waits) => {
                 self.keep(from, reply)?;
@@ -284,16 +289,34 @@ impl Proposer {
         }
     }
 
-    /// What a reply would come to, without hearing it: the verdict of the counted replies with this one
-    /// among them, or `None` where it would not count, and be ignored. No set is compared: of a `No`
-    /// alone that it is one is looked at. It takes no memory, and the cost is constant.
-    pub fn verdict(&self, from: u8, ballot: u32, reply: &Reply) -> Option<Verdict>
-        ensures { IsVerdictOf self.now from ballot reply.now result }
+    /// Whether a reply of this acceptor to this ballot would count: the ballot is the open one, and the
+    /// acceptor has not counted there. The cost is constant.
+    pub fn counts(&self, from: u8, ballot: u32) -> bool
+        ensures { result ≡ counts self.now from ballot }
     {
-        if !self.takes(from, ballot) {
+        self.is_asking && self.last.number == ballot && !self.has_counted(from)
+    }
+
+    /// What a reply would come to, without hearing it: with this refused set, or else a `Yes`. It is the
+    /// verdict of the counted replies with this one among them, or `None` where it would not count, and be
+    /// ignored. The refused set is not looked at. It takes no memory, and the cost is constant.
+    pub fn verdict(&self, from: u8, ballot: u32, refusal: Option<&UpdateSet>) -> Option<Verdict>
+        ensures { IsVerdictOf self.now from ballot (reply_with (option_copied refusal.entry)) result }
+    {
+        if !self.counts(from, ballot) {
             return None;
         }
         let tally = self.tally.as_slice();
-        Some(tally::verdict_with(&self.votes, tally, from, reply))
+        Some(tally::verdict_with(&self.votes, tally, from, refusal))
+    }
+}
+
+// The set that a reply refuses an offer with, if it does.
+fn refusal_of(reply: &Reply) -> Option<&UpdateSet>
+    ensures { reply_with (option_copied result) ≡ reply.now }
+{
+    match reply {
+        Reply::Yes => None,
+        Reply::No(refused) => Some(refused),
     }
 }

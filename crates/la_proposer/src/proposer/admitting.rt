@@ -1,5 +1,6 @@
 // What a proposer knows of a reply before it is heard.
-ghost use Rattle.std.specs.Prelude.{◌≡◌};
+ghost use Rattle.std.specs.Prelude.{◌≡◌, option_copied};
+ghost use Rattle.la_proposer.specs.Tally.{reply_with};
 ghost use Rattle.la_proposer.specs.Proposing.{counts};
 ghost use Rattle.la_proposer.specs.Refusals.{opens_by};
 ghost use Rattle.la_proposer.specs.Clashes.{IsLeastOf, IsUnknownOwn, ReplyClashesAt};
@@ -7,24 +8,17 @@ ghost use Rattle.la_proposer.specs.Clashes.{IsLeastOf, IsUnknownOwn, ReplyClashe
 use super::Proposer;
 use crate::joins::{clash_in_tally, earlier};
 use crate::tally::Verdict;
-use la_acceptor::Reply;
 use la_set::{UpdateId, UpdateSet};
 
 impl Proposer {
-    // Whether a reply to this ballot counts.
-    pub(super) fn takes(&self, from: u8, ballot: u32) -> bool
-        ensures { result ≡ counts self.now from ballot }
+    // The least id at which a reply with this refused set, or else an acknowledgement, does not fit
+    // what the proposer knows.
+    pub(super) fn clash(&self, refusal: Option<&UpdateSet>) -> Option<UpdateId>
+        ensures { IsLeastOf (ReplyClashesAt self.now (reply_with (option_copied refusal.entry))) result }
     {
-        self.is_asking && self.last.number == ballot && !self.has_counted(from)
-    }
-
-    // The least id at which a reply does not fit what the proposer knows.
-    pub(super) fn clash(&self, reply: &Reply) -> Option<UpdateId>
-        ensures { IsLeastOf (ReplyClashesAt self.now reply.now) result }
-    {
-        match reply {
-            Reply::Yes => None,
-            Reply::No(refused) => {
+        match refusal {
+            None => None,
+            Some(refused) => {
                 let known = earlier(
                     self.last.updates.first_clash(refused),
                     self.unknown_own(refused),
