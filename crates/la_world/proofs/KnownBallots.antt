@@ -1,6 +1,6 @@
 -- No set of an instance has more of a replica than the last ballot that this replica opened there: every list of events,
 -- whatever it plays.
-use Rattle.std.proofs.Common.{◌≡◌, ℕ, List, [], ◌∷◌, Option, Some, None, refl, sym, ◌∙◌, ap, subst, subst₂, inl, inr}
+use Rattle.std.proofs.Common.{◌≡◌, ℕ, ◌∷◌, Option, Some, None, refl, sym, ◌∙◌, ap, subst, subst₂, inl, inr}
 use Rattle.std.proofs.lemmas.Bool.{cases_eq}
 use Rattle.la_set.specs.Histories.{Histories, history}
 use Rattle.la_set.specs.Inclusion.{IsSubset}
@@ -10,14 +10,11 @@ use Rattle.la_proposer.specs.Tally.{joined_with_refusals}
 use Rattle.la_replica.specs.declared.message.Message.{Message}
 use Rattle.la_world.specs.declared.step.Opening.{Opening}
 use Rattle.la_world.specs.Groups.{Group}
-use Rattle.la_world.specs.Events.{Event}
 use Rattle.la_world.specs.Trace.{Entry, Trace}
 use Rattle.la_world.specs.Ballots.{opened_by, only, round}
 use Rattle.la_world.specs.Submissions.{submitted}
-use Rattle.la_world.specs.Playing.{entry, trace}
-use Rattle.la_world.proofs.Happens.{Opens, Source, gathers, joins, heard, only_is, only_same, happens}
-use Rattle.la_world.proofs.Quorum.{happens_opens}
-use Rattle.la_world.proofs.Within.{IsMessageWithin, AreWithin, round_within, joined_within, within_more, within_start, delivered_within}
+use Rattle.la_world.proofs.Happens.{Opens, Source, gathers, joins, heard, only_is, only_same, Step, step_opens}
+use Rattle.la_world.proofs.Within.{IsMessageWithin, AreWithin, round_within, joined_within, within_more, delivered_within}
 use Rattle.la_world.proofs.Honest.{prefix_same}
 use Rattle.la_world.proofs.OwnHistories.{own_others}
 use Rattle.la_world.proofs.Openings.{round-opened, round-same}
@@ -61,13 +58,8 @@ module _ (t : Trace) (x : Entry) (o : (b : Opening) → opened_by x.did ≡ Some
       go (joins refined m a p body c ei er made some) = subst₂ (λ j u. IsSubset u (known (x ∷ t) j)) (sym ei) (sym made)
           (subset-trans (joined_with_refusals (round t m.instance m.to).updates (heard t m a)) (known t m.instance) (known (x ∷ t) m.instance) (joined_within known g t w m a body (d m p)) (known_grows m.instance))
 
-pub all_known : (g : Group) (events : List Event) → AreWithin known g (trace g events)
-unfolding trace
-all_known g [] = within_start known g
-all_known g (e ∷ events) =
-    let t = trace g events in
-    let x = entry g t e in
-    let w = all_known g events in
-    let d : (k : Message) → x.delivered ≡ Some k → IsMessageWithin known t k = λ k is. delivered_within known g t e w k is in
-    let o : (b : Opening) → opened_by x.did ≡ Some b → Opens t x b = λ b is. happens_opens g t x.event x.delivered x.did (happens g t e) b is in
-    within_more known g x t (known_grows t x o) w (happens g t e) d (λ b is. opened_known t x o g b w d is)
+-- an event keeps it that all lies in what is known
+pub known_more : (g : Group) (t : Trace) (x : Entry) → Step g t x → AreWithin known g t → AreWithin known g (x ∷ t)
+known_more g t x step w =
+    let o = step_opens g t x step in
+    within_more known g t x step (known_grows t x o) w (λ b e. opened_known t x o g b w (delivered_within known g t x step w) e)

@@ -12,7 +12,7 @@ use Rattle.la_world.proofs.Quorum.{learnt_ballot}
 use Rattle.la_world.proofs.Chains.{learning_stands}
 use Rattle.la_world.proofs.Within.{IsBallotWithin, empty_within}
 use Rattle.la_world.proofs.Known.{known}
-use Rattle.la_world.proofs.KnownBallots as bounded
+use Rattle.la_world.proofs.Traces.{holds}
 use Rattle.la_world.proofs.LargestViews.{IsKnown, all_known, views_largest}
 
 -- a set that was learnt in instance 0
@@ -21,7 +21,7 @@ learnt_known g events s h =
     let t = trace g events in
     let l = h.learnt_as in
     let b = learnt_ballot l in
-    let within : IsSubset l.updates (known t l.instance) = AllIn_at (IsBallotWithin known t l.instance) (ballots t l.instance l.replica) b ((bounded.all_known g events).ballot l.instance l.replica) (learning_stands g events l h.was).opened in
+    let within : IsSubset l.updates (known t l.instance) = AllIn_at (IsBallotWithin known t l.instance) (ballots t l.instance l.replica) b ((holds g events).within.ballot l.instance l.replica) (learning_stands g events l h.was).opened in
     subst (λ u. IsSubset u (known t 0)) h.set (subst (λ j. IsSubset l.updates (known t j)) h.of_objects within)
 
 pub view_known : (g : Group) (events : List Event) (r : ℕ) → IsSubset (view (trace g events) r) (known (trace g events) 0)

@@ -14,13 +14,14 @@ mod LearntOrder
 mod LargestViews
 mod Order
 pub mod OwnHistories
-pub mod Elements
 pub mod Sizes
 pub mod Openings
 pub mod Elsewhere
 pub mod Known
 pub mod Members
-pub mod SentMessages
+pub mod Allowing
+pub mod InGroup
+pub mod Traces
 pub mod Taking
 pub mod Submitting
 pub mod Quiet
@@ -34,7 +35,6 @@ pub mod KeptMessages
 pub mod Shown
 pub mod TellCounts
 pub mod Standing
-pub mod Allowing
 pub mod SentCounts
 pub mod Receivers
 pub mod Worlds

@@ -1,7 +1,7 @@
 -- The refusals of proposals, and the limits of a group in numbers.
 use Rattle.std.proofs.Common.{◌≡◌, ℕ, ◌<◌, ◌≤◌, cond, List, [], ◌∷◌, ◌++◌, length, Option, Some, None, refl, ap, ◌∙◌, arith}
 use Rattle.std.specs.Prelude.{nat_le}
-use Rattle.std.proofs.lemmas.Bool.{cond-true, cond-false, leb-false, le-leb, lt-leb}
+use Rattle.std.proofs.lemmas.Bool.{cond-true, cond-false, le-leb, lt-leb}
 use Rattle.std.proofs.lemmas.List.{length_push}
 use Rattle.la_set.proofs.Prefixes.{IsPrefix-length}
 use Rattle.la_world.specs.declared.error.Refusal.{Refusal}
@@ -15,8 +15,8 @@ use Rattle.la_world.specs.Playing.{entry, trace}
 use Rattle.la_world.specs.Report.{refused}
 use Rattle.la_world.specs.Laws.{SecondProposalsAreRefused, AreTestedInOrder, ProposalsAreTestedInOrder, LimitsAre}
 use Rattle.la_world.proofs.Happens.{submitted_with}
-use Rattle.la_world.proofs.Known.{submitted_more}
-use Rattle.la_world.proofs.Legal.{none_from_cond}
+use Rattle.la_world.proofs.Honest.{submitted_prefix}
+use Rattle.la_world.proofs.Allowing.{proposer_known, object_known}
 
 -- ## One proposal
 
@@ -48,15 +48,6 @@ module _ (g : Group) (t : Trace) (r k value : ℕ) where
     first = λ lt lk none. known_commit lt lk ∙ cond-false (nat_le 1 proposals) (Some AlreadyProposed) None (lt-leb 1 proposals none);
   }
 
-  -- what is accepted is of a replica and an object of the group
-  accepted_replica : refused g t (Decide r k value) ≡ None → r < replicas g
-  accepted_replica e = leb-false (replicas g) r (none_from_cond (nat_le (replicas g) r) NoSuchReplica by_commit e).0
-
-  accepted_commit : refused g t (Decide r k value) ≡ None → k < g.commits
-  accepted_commit e =
-      let rest = (none_from_cond (nat_le (replicas g) r) NoSuchReplica by_commit e).1 in
-      leb-false g.commits k (none_from_cond (nat_le g.commits k) NoSuchCommit by_proposals rest).0
-
 pub tested_in_order : ProposalsAreTestedInOrder
 tested_in_order g events r k value = in_order g (trace g events) r k value
 
@@ -76,12 +67,12 @@ unfolding trace
 stays_submitted g [] events i r = omega arith
 stays_submitted g (e ∷ more) events i r =
     let t = trace g (more ++ events) in
-    omega (arith, stays_submitted g more events i r, IsPrefix-length (submitted t i r) (submitted (entry g t e ∷ t) i r) (submitted_more (entry g t e) t i r))
+    omega (arith, stays_submitted g more events i r, IsPrefix-length (submitted t i r) (submitted (entry g t e ∷ t) i r) (submitted_prefix (entry g t e) t i r))
 
 pub second_refused : SecondProposalsAreRefused
 second_refused g events more r k value other e =
     let t = trace g events in
-    has_proposed g (trace g (more ++ Decide r k value ∷ events)) r k other (accepted_replica g t r k value e) (accepted_commit g t r k value e)
+    has_proposed g (trace g (more ++ Decide r k value ∷ events)) r k other (proposer_known g t r k value e) (object_known g t r k value e)
     (omega (arith, is_submitted g events r k value, stays_submitted g more (Decide r k value ∷ events) (first_instance k) r))
 
 -- ## Limits

@@ -8,13 +8,14 @@ use Rattle.la_world.specs.Events.{Event}
 use Rattle.la_world.specs.Trace.{Did, Entry, Trace}
 use Rattle.la_world.specs.Ballots.{learnt_by, round}
 use Rattle.la_world.specs.Learnings.{learning_of, learnt}
-use Rattle.la_world.specs.Playing.{entry, trace}
+use Rattle.la_world.specs.Playing.{trace}
 use Rattle.la_world.specs.Laws.{LearntAreValid, LearntHoldWhatWasTaken}
 use Rattle.la_world.proofs.Lists.{AllIn, AllIn-append, AllIn-each, AllIn_at, contains_IsIn}
-use Rattle.la_world.proofs.Happens.{Happens, silent, opens, answers_offer, refines, learns, round_is_of, happens}
+use Rattle.la_world.proofs.Happens.{Happens, silent, opens, answers_offer, refines, learns, round_is_of}
+use Rattle.la_world.proofs.Traces.{always}
 use Rattle.la_world.proofs.Quorum.{learnt_ballot}
 use Rattle.la_world.proofs.Chains.{learning_stands, trace_drop}
-use Rattle.la_world.proofs.Honest.{IsSubmitted, submitted_more, Honest, honest, round_honest}
+use Rattle.la_world.proofs.Honest.{IsSubmitted, submitted_more, Honest, round_honest}
 use Rattle.la_world.proofs.TakenUpdates.{taken_within, has_taken}
 
 -- when it was learnt, all of it had been submitted
@@ -34,14 +35,11 @@ new_submitted g x t v m d h (learns c a next e q y o) =
     (record { later = 0; until_place = omega arith; submitted = submitted_more x t b.instance b.updates (subst (λ i. IsSubmitted t i b.updates) (sym of.instance) (round_honest g t h c.instance c.to)) }, tt)
 
 were_submitted : (g : Group) (events : List Event) → AllIn (WasSubmitted (trace g events)) (learnt (trace g events))
-unfolding trace learnt
-were_submitted g [] = tt
-were_submitted g (e ∷ events) =
-    let t = trace g events in
-    let x = entry g t e in
+unfolding learnt
+were_submitted g events = always g (λ t. AllIn (WasSubmitted t) (learnt t)) tt (λ t x step h w.
     AllIn-append (WasSubmitted (x ∷ t)) (learnt t) (learning_of (length t) (learnt_by x.did))
-    (AllIn-each (WasSubmitted t) (WasSubmitted (x ∷ t)) (λ l k. record { later = suc k.later; until_place = k.until_place; submitted = k.submitted }) (learnt t) (were_submitted g events))
-    (new_submitted g x t x.event x.delivered x.did (honest g events) (happens g t e))
+    (AllIn-each (WasSubmitted t) (WasSubmitted (x ∷ t)) (λ l k. record { later = suc k.later; until_place = k.until_place; submitted = k.submitted }) (learnt t) w)
+    (new_submitted g x t x.event x.delivered x.did h.honest step.happens)) events
 
 length_trace : (g : Group) (events : List Event) → length (trace g events) ≡ length events
 unfolding trace

@@ -26,11 +26,10 @@ use Rattle.la_world.specs.Sent.{sender_for, ballot_of, offers_for, offers_for_ne
 use Rattle.la_world.specs.Acceptors.{offered, offered_to, offers, accepted}
 use Rattle.la_world.specs.Ballots.{opened_by, only, ballots, newest_of, round}
 use Rattle.la_world.specs.Counting.{reply_of, reply_at, replies, counted}
-use Rattle.la_world.specs.Playing.{delivered}
 use Rattle.la_world.proofs.Lists.{AllIn, AllIn-append, AllIn-each, AllIn-map, AllIn_at}
 use Rattle.la_world.proofs.Accepted.{accepted_moves}
-use Rattle.la_world.proofs.Happens.{Happens, heard, silent, opens, answers_offer, refines, learns, only_is, round_is_of}
-use Rattle.la_world.proofs.Quorum.{tells_all, firsts_all, delivered_in}
+use Rattle.la_world.proofs.Happens.{Happens, heard, silent, opens, answers_offer, refines, learns, only_is, round_is_of, Step}
+use Rattle.la_world.proofs.Quorum.{tells_all, firsts_all}
 
 abbrev pub refusal : Reply → Histories
 refusal replied.Yes = empty
@@ -146,7 +145,7 @@ module _ (bound : Trace → (i : ℕ) → Histories) where
       let of = round_is_of t c.instance c.to in
       let here : IsWithin (x ∷ t) b.instance b.updates = within_later x t up b.instance b.updates (subst (λ i. IsWithin t i b.updates) (sym of.instance) (round_within g t h c.instance c.to)) in
       AllIn-append (IsMessageWithin (x ∷ t)) (tells_for (replicas g) b) (offers_for_next (replicas g) next)
-      (tells_all (IsMessageWithin (x ∷ t)) (replicas g) b (λ z to. here))
+      (tells_all (IsMessageWithin (x ∷ t)) (replicas g) b (λ z to lt. here))
       (next_within (replicas g) (x ∷ t) next w)
 
   -- ## Acceptors and replies
@@ -195,23 +194,25 @@ module _ (bound : Trace → (i : ℕ) → Histories) where
       AllIn-each (IsCountWithin t i) (IsCountWithin (x ∷ t) i) (λ c k. within_later x t up i (refusal c.reply) k) (replies t i r b ++ reply_at i r b x.delivered)
       (AllIn-append (IsCountWithin t i) (replies t i r b) (reply_at i r b x.delivered) (h.reply i r b) (reply_within t i r b x.delivered d))
 
+  -- a message that an event delivers was sent
+  pub delivered_within : (g : Group) (t : Trace) (x : Entry) → Step g t x → AreWithin g t → (m : Message) → x.delivered ≡ Some m → IsMessageWithin t m
+  delivered_within g t x step h m e = AllIn_at (IsMessageWithin t) (sent (replicas g) t) m h.message (step.was_sent m e)
+
   -- an event keeps this, where the bound grows, and what opens is within it
-  pub within_more : (g : Group) (x : Entry) (t : Trace) → Grows x t → AreWithin g t → Happens g t x.event x.delivered x.did → ((k : Message) → x.delivered ≡ Some k → IsMessageWithin t k)
-      → ((b : Opening) → opened_by x.did ≡ Some b → IsWithin (x ∷ t) b.instance b.updates) → AreWithin g (x ∷ t)
+  pub within_more : (g : Group) (t : Trace) (x : Entry) → Step g t x → Grows x t → AreWithin g t → ((b : Opening) → opened_by x.did ≡ Some b → IsWithin (x ∷ t) b.instance b.updates) → AreWithin g (x ∷ t)
   unfolding sent
-  within_more g x t up h w d opened = record {
+  within_more g t x step up h opened = record {
     ballot = λ i r. ballots_within g t x up i r h opened;
     message = AllIn-append (IsMessageWithin (x ∷ t)) (sent (replicas g) t) (sent_by (replicas g) x.delivered x.did)
         (AllIn-each (IsMessageWithin t) (IsMessageWithin (x ∷ t)) (λ m k. within_later x t up m.instance (set_in m.body) k) (sent (replicas g) t) h.message)
-        (new_within g x t up x.event x.delivered x.did h w d opened);
+        (new_within g x t up x.event x.delivered x.did h step.happens d opened);
     acceptor = λ i a. accepted_within g x t up i a h d;
     reply = λ i r b. replies_within g x t up i r b h d;
   }
+    where
+      d : (m : Message) → x.delivered ≡ Some m → IsMessageWithin t m
+      d = delivered_within g t x step h
 
   pub within_start : (g : Group) → AreWithin g []
   unfolding sent ballots replies accepted offers
   within_start g = record { ballot = λ i r. tt; message = tt; acceptor = λ i a. empty_within [] i; reply = λ i r b. tt }
-
-  -- a message that an event delivers was sent
-  pub delivered_within : (g : Group) (t : Trace) (e : Event) → AreWithin g t → (m : Message) → delivered g t e ≡ Some m → IsMessageWithin t m
-  delivered_within g t e h m d = AllIn_at (IsMessageWithin t) (sent (replicas g) t) m h.message (delivered_in g t e m d)
