@@ -1,6 +1,9 @@
-ghost use Rattle.std.specs.Prelude.{◌≡◌, ℕ, ◌+◌, ◌<◌, ◌^◌, [], length, map, slice_get, option_map, None, IfOk, IfErr, OnOk, OnErr};
+ghost use Rattle.std.specs.Prelude.{◌≡◌, ℕ, ◌+◌, ◌<◌, ◌^◌, [], length, map, slice_get, option_map, Some, None, IfOk, IfErr, OnOk, OnErr};
 ghost use Rattle.std.specs.Option.{option_copied};
 ghost use Rattle.la_set.specs.Deeds.{Deed};
+ghost use Rattle.la_replica.specs.declared.out.Out.{Out};
+ghost use Rattle.la_replica.specs.Members.{Member, receives};
+ghost use Rattle.la_replica.specs.Steps.{learnt_in};
 ghost use Rattle.la_world.specs.Events.{Past, Submit, Deliver, event_of};
 ghost use Rattle.la_world.specs.Groups.{group_of, replicas};
 ghost use Rattle.la_world.specs.Playing.{trace};
@@ -170,9 +173,9 @@ impl World {
             instance: message.instance,
             ballot: message.ballot,
         };
-        let Ok((out, copy)) = self.replicas[message.to as usize].receive_with_copy(message) else {
-            return Err(AllocError);
-        };
+        let receiver = &mut self.replicas[message.to as usize];
+        let copy = learning(receiver, message)?;
+        let out = receiver.take_message(message)?;
         Ok(self.journal.note(&speaker, out, copy))
     }
 
@@ -260,6 +263,16 @@ fn submitted_among(replicas: &[Replica], replica: u8) -> Option<u32>
         Some(replica) => replica.submitted(0),
         None => None,
     }
+}
+
+// A copy of the set that a message will lead a replica to learn, if it will.
+fn learning(replica: &Replica, message: &Message) -> Result<Option<UpdateSet>, AllocError>
+    ensures { (out : Out) (after : Member) → receives replica.now message.now ≡ Some (out, after) → IfOk result (λ learnt. learnt ≡ learnt_in out.said) }
+{
+    Ok(match replica.would_learn(message) {
+        Some(learnt) => Some(learnt.copy()?),
+        None => None,
+    })
 }
 
 // The view of a replica, if there is one with this number.
