@@ -106,7 +106,7 @@ module _ (words more : List ℕ) (ids : List (ℕ × ℕ)) where
 
   stretch_same : (c : Cut) → IsCut words ids c → stretch_of (words ++ more) c ≡ stretch_of words c
   stretch_same c is =
-      ap (λ (t : List ℕ). (t, front c.replica c.count))
+      ap (λ (t : List ℕ). (t, front c.behind c.replica c.count))
       (ap (take (c.end - c.start)) (drop-append-le c.start words more (omega (arith, is.ordered, is.within)))
       ∙ take-append-le (c.end - c.start) (drop c.start words) more (omega (arith, is.ordered, is.within, length-drop c.start words)))
 
@@ -148,23 +148,23 @@ joined_if (Err e) words more text new cuts done ids old is same view is_new = tt
 
 -- ## A further stretch
 
-module _ (words : List ℕ) (cuts : List Cut) (done r n : ℕ) where
+module _ (words : List ℕ) (cuts : List Cut) (done : ℕ) (b : Bool) (r n : ℕ) where
   abbrev next_cut : Cut
-  next_cut = record { start = done; end = length words; replica = r; count = n }
+  next_cut = record { start = done; end = length words; behind = b; replica = r; count = n }
 
-  pub joined_cut : joined (parts_of words (cuts ++ next_cut ∷ []) (length words)) ≡ joined (parts_of words cuts done) ++ front r n
+  pub joined_cut : joined (parts_of words (cuts ++ next_cut ∷ []) (length words)) ≡ joined (parts_of words cuts done) ++ front b r n
   unfolding joined
   joined_cut =
       let before = flat_map stretch_text (map (stretch_of words) cuts) in
       ap (λ ss. flat_map stretch_text ss ++ drop (length words) words) (map_push (stretch_of words) cuts next_cut)
       ∙ ap (λ t. t ++ drop (length words) words) (flat_map-append stretch_text (map (stretch_of words) cuts) (stretch_of words next_cut ∷ []))
-      ∙ ap (λ t. (before ++ ((take (length words - done) (drop done words) ++ front r n) ++ [])) ++ t) (drop_all (length words) words (omega arith))
+      ∙ ap (λ t. (before ++ ((take (length words - done) (drop done words) ++ front b r n) ++ [])) ++ t) (drop_all (length words) words (omega arith))
       ∙ append-nil _
       ∙ ap (λ t. before ++ t) (append-nil _)
-      ∙ ap (λ t. before ++ (t ++ front r n)) (take_rest words done)
-      ∙ sym (append_assoc before (drop done words) (front r n))
+      ∙ ap (λ t. before ++ (t ++ front b r n)) (take_rest words done)
+      ∙ sym (append_assoc before (drop done words) (front b r n))
 
-  pub laid_cut : (ids : List (ℕ × ℕ)) → IsLaid words cuts done ids → r < 8 → n ≤ (kept_of ids r).1 → IsUtf8 (front r n) → IsLaid words (cuts ++ next_cut ∷ []) (length words) ids
+  pub laid_cut : (ids : List (ℕ × ℕ)) → IsLaid words cuts done ids → r < 8 → n ≤ (kept_of ids r).1 → IsUtf8 (front b r n) → IsLaid words (cuts ++ next_cut ∷ []) (length words) ids
   laid_cut ids is known ready utf8 = record {
     each = All-push (IsCut words ids) cuts next_cut is.each (record { ordered = is.rest; within = omega arith; known = known; ready = ready });
     rest = omega arith;
@@ -173,17 +173,17 @@ module _ (words : List ℕ) (cuts : List Cut) (done r n : ℕ) where
   }
 
 -- the stretch that was added, and the list with it
-module _ (words : List ℕ) (cuts new : List Cut) (done end r n : ℕ) (ends : end ≡ length words) (is_new : new ≡ cuts ++ (record { start = done; end = end; replica = r; count = n }) ∷ []) where
-  pub laid_next : (ids : List (ℕ × ℕ)) → IsLaid words cuts done ids → r < 8 → n ≤ (kept_of ids r).1 → IsUtf8 (front r n) → IsLaid words new end ids
+module _ (words : List ℕ) (cuts new : List Cut) (done end : ℕ) (b : Bool) (r n : ℕ) (ends : end ≡ length words) (is_new : new ≡ cuts ++ (record { start = done; end = end; behind = b; replica = r; count = n }) ∷ []) where
+  pub laid_next : (ids : List (ℕ × ℕ)) → IsLaid words cuts done ids → r < 8 → n ≤ (kept_of ids r).1 → IsUtf8 (front b r n) → IsLaid words new end ids
   laid_next ids is known ready utf8 =
       subst (λ cs. IsLaid words cs end ids) (sym is_new)
-      (subst (λ k. IsLaid words (cuts ++ (record { start = done; end = k; replica = r; count = n }) ∷ []) k ids) (sym ends) (laid_cut words cuts done r n ids is known ready utf8))
+      (subst (λ k. IsLaid words (cuts ++ (record { start = done; end = k; behind = b; replica = r; count = n }) ∷ []) k ids) (sym ends) (laid_cut words cuts done b r n ids is known ready utf8))
 
-  pub joined_next : (old : Parts) → parts_of words cuts done ≡ old → joined (parts_of words new end) ≡ joined old ++ front r n
+  pub joined_next : (old : Parts) → parts_of words cuts done ≡ old → joined (parts_of words new end) ≡ joined old ++ front b r n
   joined_next old view =
       ap (λ cs. joined (parts_of words cs end)) is_new
-      ∙ ap (λ k. joined (parts_of words (cuts ++ (record { start = done; end = k; replica = r; count = n }) ∷ []) k)) ends
-      ∙ joined_cut words cuts done r n ∙ ap (λ p. joined p ++ front r n) view
+      ∙ ap (λ k. joined (parts_of words (cuts ++ (record { start = done; end = k; behind = b; replica = r; count = n }) ∷ []) k)) ends
+      ∙ joined_cut words cuts done b r n ∙ ap (λ p. joined p ++ front b r n) view
 
 -- ## The pieces, one after another
 
@@ -203,9 +203,12 @@ join_all p i le = ap (λ xs. flat_map stretch_text xs ++ p.rest) (take_all i p.s
 
 -- the stretch at a place
 module _ (words : List ℕ) (cuts : List Cut) (done : ℕ) (ids : List (ℕ × ℕ)) (place : ℕ) (cut : Cut) (lt : place < length cuts) (read : cut ≡ get_or cuts place cut) where
-  pub stretch_at : (now : Parts) → parts_of words cuts done ≡ now → Some (stretch_of words cut) ≡ slice_get now.stretches place
-  stretch_at now view =
-      sym (ap (λ p. slice_get p.stretches place) (sym view)
+  pub stretch_at : (now : Parts) → parts_of words cuts done ≡ now → (some_words some_ids : List ℕ) → some_words ≡ take (cut.end - cut.start) (drop cut.start words) → some_ids ≡ front cut.behind cut.replica cut.count
+      → Some (some_words, some_ids) ≡ slice_get now.stretches place
+  stretch_at now view some_words some_ids words_is ids_is =
+      ap (λ (t : List ℕ). Some (t, some_ids)) words_is
+      ∙ ap (λ (t : List ℕ). Some (take (cut.end - cut.start) (drop cut.start words), t)) ids_is
+      ∙ sym (ap (λ p. slice_get p.stretches place) (sym view)
       ∙ slice_get-map (stretch_of words) cuts place
       ∙ ap (option_map (stretch_of words)) (slice_get_read cuts (length cuts) place cut refl lt read))
 

@@ -1,18 +1,18 @@
 -- How a text in pieces is kept: all words one after another, and for each stretch which of them are its words, and
 -- whose first ids stand behind them, and how many. The texts of the ids are kept ready.
-use Rattle.std.specs.Prelude.{◌≡◌, ℕ, ◌+◌, ◌-◌, ◌<◌, ◌≤◌, List, length, take, drop, map, slice_index, slice_index_or, All}
+use Rattle.std.specs.Prelude.{◌≡◌, ℕ, ◌+◌, ◌-◌, ◌<◌, ◌≤◌, true, List, length, take, drop, map, slice_index, slice_index_or, All}
 use Rattle.std.specs.Str.{IsUtf8}
 use Rattle.la_set.specs.declared.set.TheConstants.{REPLICAS}
 use Rattle.la_script.specs.declared.pieces.Cut.{Cut}
 use Rattle.la_script.specs.Pieces.{front, Parts, joined}
 
--- the text of a replica's first ids, with the place where each of them ends
+-- the text of a replica's first ids, each with a space before it, and the places where they end
 pub record IsIdText (replica : ℕ) (text ends : List ℕ) : Type 0 where
-  pub is : text ≡ front replica (length ends)
-  pub each : (k : ℕ) → k < length ends → slice_index ends k ≡ length (front replica (k + 1))
+  pub is : text ≡ front true replica (length ends)
+  pub each : (k : ℕ) → k < length ends → slice_index ends k ≡ length (front true replica (k + 1))
 
 abbrev pub stretch_of : (words : List ℕ) → Cut → List ℕ × List ℕ
-stretch_of words c = (take (c.end - c.start) (drop c.start words), front c.replica c.count)
+stretch_of words c = (take (c.end - c.start) (drop c.start words), front c.behind c.replica c.count)
 
 -- the words behind the last stretch are those from a place on
 abbrev pub parts_of : (words : List ℕ) → List Cut → (done : ℕ) → Parts

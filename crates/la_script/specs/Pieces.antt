@@ -10,10 +10,6 @@ abbrev pub ids_from : (replica n k : ℕ) → List UpdateId
 ids_from r n zero = []
 ids_from r n (suc k) = record { replica = r; number = n } ∷ ids_from r (suc n) k
 
--- the text of a replica's first ids
-unfoldable pub front : (replica count : ℕ) → List ℕ
-front r count = ids_text (ids_from r 1 count)
-
 -- whether there are ids
 abbrev pub has_ids : List UpdateId → Bool
 has_ids [] = false
@@ -22,6 +18,10 @@ has_ids (id ∷ ids) = true
 -- the text of ids that stand behind others, or do not
 abbrev pub next_ids : (behind : Bool) → List UpdateId → List ℕ
 next_ids behind ids = if behind then others_text ids else ids_text ids
+
+-- the text of a replica's first ids
+unfoldable pub front : (behind : Bool) → (replica count : ℕ) → List ℕ
+front behind r count = next_ids behind (ids_from r 1 count)
 
 -- the ids of the replicas before r, by how many each has
 abbrev pub ids_before : (counts : ℕ → ℕ) → (r : ℕ) → List UpdateId

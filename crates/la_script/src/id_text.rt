@@ -1,5 +1,5 @@
 // The text of one replica's first ids, which is kept ready.
-ghost use Rattle.std.specs.Prelude.{◌≡◌, ℕ, ◌+◌, ◌<◌, ◌≤◌, ◌==◌, [], ◌++◌, codes, length, if◌then◌else◌, OnOk, OnErr};
+ghost use Rattle.std.specs.Prelude.{◌≡◌, ℕ, ◌+◌, ◌<◌, ◌≤◌, ◌++◌, true, codes, length, OnOk, OnErr};
 ghost use Rattle.la_script.specs.Text.{id_text};
 ghost use Rattle.la_script.specs.Pieces.{front};
 
@@ -11,7 +11,7 @@ use std::marker::Model;
 // A space, a number of 8 bits, a full stop and one of 64 bits.
 type IdPiece = ArrayString<25>;
 
-/// The ids of a replica's first updates as one text, `r.1 r.2 r.3 ..`, each front of which is at hand.
+/// The ids of a replica's first updates as one text, ` r.1 r.2 r.3 ..`, each front of which is at hand.
 #[derive(Drop)]
 pub struct IdText {
     replica: u8,
@@ -32,14 +32,12 @@ impl Model for IdText {
     ghost invariant = { λ t. IsIdText t.replica t.text.items t.ends.items };
 }
 
-// An id, with a space before it where it is not the first.
+// An id, with a space before it.
 fn piece_of(replica: u8, number: usize) -> IdPiece
-    ensures { result.bytes ≡ (if number == 1 then [] else codes " ") ++ id_text (record { replica = replica; number = number }) }
+    ensures { result.bytes ≡ codes " " ++ id_text (record { replica = replica; number = number }) }
 {
     let mut piece = IdPiece::new();
-    if number != 1 {
-        piece.push_str(" ");
-    }
+    piece.push_str(" ");
     piece.push_str(Buffer::new().format(replica));
     piece.push_str(".");
     piece.push_str(Buffer::new().format(number));
@@ -71,14 +69,26 @@ impl IdText {
         Ok(())
     }
 
-    /// The text of the first ids, as many as are said, at constant cost.
-    pub fn front(&self, count: usize) -> &[u8]
+    /// The text of the first ids, as many as are said, at constant cost. Where it stands behind other
+    /// ids it begins with a space.
+    pub fn front(&self, behind: bool, count: usize) -> &[u8]
         requires { count ≤ self.now.1 }
-        ensures { result.now ≡ front self.now.0 count }
+        ensures { result.now ≡ front behind self.now.0 count }
     {
         if count == 0 {
             return &[];
         }
+        let ids = self.first(count);
+        if behind { ids } else { &ids[1..] }
+    }
+
+    // The same, with the space.
+    fn first(&self, count: usize) -> &[u8]
+        requires some { 0 < count }
+        requires kept { count ≤ self.now.1 }
+        ensures ids { result.now ≡ front true self.now.0 count }
+        ensures some { 0 < length result.now }
+    {
         &self.text[..self.ends[count - 1]]
     }
 

@@ -17,15 +17,18 @@ const SHORT: usize = 32;
 pub struct Stretch<'a> {
     /// The words, which may end within a line and have the lines before it.
     pub words: &'a [u8],
-    /// The ids, with single spaces between them. They lie in a text that many stretches share.
+    /// The ids, with single spaces between them, and one before them where they stand behind others.
+    /// They lie in a text that many stretches share.
     pub ids: &'a [u8],
 }
 
-/// Which words are a stretch's, whose first ids stand behind them, and how many.
+/// Which words are a stretch's, whose first ids stand behind them and how many, and whether they stand
+/// behind other ids.
 #[derive(Clone, Copy)]
 pub struct Cut {
     start: usize,
     end: usize,
+    behind: bool,
     replica: u8,
     count: u32,
 }
@@ -92,14 +95,20 @@ impl Pieces {
         self.push_str(Buffer::new().format(number))
     }
 
-    // Adds the ids of a replica's first updates. The cost is constant but for ids that no text had yet.
-    pub(crate) fn push_ids(&mut self, replica: u8, count: u32) -> Result<(), AllocError>
+    // Adds the ids of a replica's first updates, with a space before each where they stand behind other
+    // ids. The cost is constant but for ids that no text had yet.
+    pub(crate) fn push_ids(
+        &mut self,
+        behind: bool,
+        replica: u8,
+        count: u32,
+    ) -> Result<(), AllocError>
         requires { replica < REPLICAS }
-        ensures { OnOk result (joined self.new ≡ joined self.old ++ front replica count) }
+        ensures { OnOk result (joined self.new ≡ joined self.old ++ front behind replica count) }
     {
         let kept = &mut self.ids[replica as usize];
         kept.grow(count as usize)?;
-        let ids = kept.front(count as usize);
+        let ids = kept.front(behind, count as usize);
         if ids.len() < SHORT {
             return self.words.extend_from_slice(ids);
         }
@@ -107,6 +116,7 @@ impl Pieces {
         self.cuts.push(Cut {
             start,
             end,
+            behind,
             replica,
             count,
         })?;
@@ -128,12 +138,13 @@ impl Pieces {
         let Cut {
             start,
             end,
+            behind,
             replica,
             count,
         } = *self.cuts.get(place)?;
         Some(Stretch {
             words: &self.words[start..end],
-            ids: self.ids[replica as usize].front(count as usize),
+            ids: self.ids[replica as usize].front(behind, count as usize),
         })
     }
 

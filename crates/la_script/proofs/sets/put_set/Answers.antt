@@ -2,8 +2,8 @@ use Rattle.std.proofs.Common.{◌≡◌, ◌++◌, codes, ap, ◌∙◌, arith, 
 use Rattle.std.proofs.lemmas.Result.{on_ok_weaker}
 use Rattle.la_set.specs.Histories.{count}
 use Rattle.la_script.specs.Text.{ids_text, ids_of, set_text}
-use Rattle.la_script.specs.Pieces.{ids_before, joined}
-use Rattle.la_script.proofs.SetIds.{ids-all}
+use Rattle.la_script.specs.Pieces.{front, ids_before, joined}
+use Rattle.la_script.proofs.SetIds.{ids-all, text_more, behind_more}
 use Rattle.la_script.proofs.sets.put_set.Goals as goal
 use Rattle.la_script.proofs.sets.put_set.Goals.{After-push_str-2}
 
@@ -21,3 +21,16 @@ all c =
 
 pub returns : goal.returns
 returns c = on_ok_weaker c.push_str-2.result (λ e. e ∙ all c) c.push_str-2.ensures
+
+pub loop-replica-preserved : goal.loop-replica-preserved
+loop-replica-preserved c =
+    let counts = count c.args.set.now in
+    let r = c.loop-replica.replica in
+    let before = ids_text (ids_before counts r) in
+    record {
+      text =
+          c.in_ok-push_ids.ensures ∙ ap (λ t. t ++ front c.loop-replica.behind r c.count_of-count.result) c.loop-replica.invariant.text
+          ∙ append_assoc (joined c.push_str.new.self) before (front c.loop-replica.behind r c.count_of-count.result)
+          ∙ ap (λ t. joined c.push_str.new.self ++ t) (text_more counts r c.count_of-count.result c.loop-replica.behind c.count_of-count.ensures.count c.loop-replica.invariant.behind);
+      behind = behind_more counts r c.count_of-count.result c.loop-replica.behind c.count_of-count.ensures.count c.loop-replica.invariant.behind;
+    }

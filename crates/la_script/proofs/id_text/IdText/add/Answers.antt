@@ -1,4 +1,4 @@
-use Rattle.std.proofs.Common.{◌≡◌, ℕ, ◌+◌, length, true, not, cond, eqb, [], ◌∷◌, arith, ◌++◌, codes, ap, sym, ◌∙◌}
+use Rattle.std.proofs.Common.{◌≡◌, ℕ, ◌+◌, length, true, not, [], ◌∷◌, arith, ◌++◌, codes, ap, sym, ◌∙◌}
 use Rattle.std.specs.Result.{is_ok}
 use Rattle.la_script.specs.Text.{id_text}
 use Rattle.la_script.proofs.IdFronts.{kept_more}
@@ -11,6 +11,6 @@ invariant_of-self-else-is_err c =
     let items = rw pushed at c.push.ensures.items in
     let end : c.len.result ≡ length c.extend_from_slice.new.self.items = omega (arith, c.extend_from_slice.new.self.ok.0) in
     kept_more c.self.inside.replica c.self.inside.text.items c.self.inside.ends.items c.self.invariant c.as_bytes.result.now c.extend_from_slice.new.self.items c.push.new.self.items
-    (c.as_bytes.ensures.value ∙ c.as_str.ensures.value ∙ c.piece_of-piece.ensures ∙ ap (λ n. cond (eqb n 1) [] (codes " ") ++ id_text (record { replica = c.self.inside.replica; number = n })) number)
+    (c.as_bytes.ensures.value ∙ c.as_str.ensures.value ∙ c.piece_of-piece.ensures ∙ ap (λ n. codes " " ++ id_text (record { replica = c.self.inside.replica; number = n })) number)
     c.in_ok-extend_from_slice.ensures.items
     (items ∙ ap (λ k. c.self.inside.ends.items ++ k ∷ []) end)

@@ -1,4 +1,4 @@
-use Rattle.std.proofs.Common.{◌≡◌, ◌<◌, List, ℕ, Some, length, take, drop, get_or, ap, ◌∙◌, ◌-◌, arith}
+use Rattle.std.proofs.Common.{◌≡◌, ◌<◌, length, take, drop, get_or, ap, ◌∙◌, ◌-◌, arith}
 use Rattle.la_script.specs.declared.pieces.Cut.{Cut}
 use Rattle.la_script.specs.Pieces.{front}
 use Rattle.la_script.proofs.Laying.{stretch_at, cut_at, ids_at}
@@ -12,6 +12,6 @@ returns c =
     let is = cut_at c.self.inside.words.items c.self.inside.cuts.items c.self.inside.done c.self.inside.ids c.args.place cut lt read c.self.invariant in
     let there : cut.replica < length c.self.inside.ids = omega (arith, is.known) in
     let whose = ids_at c.self.inside.words.items c.self.inside.cuts.items c.self.inside.done c.self.inside.ids c.args.place cut lt read c.self.invariant c.index-self-replica.result there in
-    ap (λ (t : List ℕ). Some (take (cut.end - cut.start) (drop cut.start c.deref-2.result.now), t)) (c.front.ensures ∙ ap (λ r. front r cut.count) whose)
-    ∙ ap (λ (t : List ℕ). Some (take (cut.end - cut.start) (drop cut.start t), front cut.replica cut.count)) c.deref-2.ensures.value
-    ∙ stretch_at c.self.inside.words.items c.self.inside.cuts.items c.self.inside.done c.self.inside.ids c.args.place cut lt read c.args.self.now c.self.view_is
+    stretch_at c.self.inside.words.items c.self.inside.cuts.items c.self.inside.done c.self.inside.ids c.args.place cut lt read c.args.self.now c.self.view_is
+    (take (cut.end - cut.start) (drop cut.start c.deref-2.result.now)) c.front.result.now
+    (ap (λ t. take (cut.end - cut.start) (drop cut.start t)) c.deref-2.ensures.value) (c.front.ensures ∙ ap (λ r. front cut.behind r cut.count) whose)
