@@ -25,7 +25,8 @@ use std::marker::Model;
 /// A group of replicas and all that was ever sent between them. Any message that was sent may be
 /// delivered at any later time, again and in any order.
 ///
-/// It keeps every message and every learnt set, so its memory grows by what is sent and learnt.
+/// It keeps every message and every learnt set, so its memory grows by what is sent and learnt: by an
+/// entry for each, since sets share their updates.
 #[derive(Drop)]
 pub struct World {
     config: Config,
@@ -71,8 +72,9 @@ impl World {
     /// submitted its cap; `NoSuchMessage` where fewer messages were sent; `Memory`. After each the
     /// world is as before. Fewer than 2^64 - 1 events may be accepted.
     ///
-    /// The cost is that of the replica's step, which copies the sets that are sent or said; a set that
-    /// is learnt is copied three times more, for the replica, the world and the step.
+    /// The cost is that of the replica's step, in which no updates are compared: what was sent fits all
+    /// that its receiver knows. Sets that are sent, said, learnt and kept share their updates, so that an
+    /// event takes memory for what it adds: one update for a submission, its mail, and a learning's entry.
     pub fn play(&mut self, event: &Event) -> Result<Step, WorldError>
         requires { self.old.count + 1 < 2 ^ 64 }
         ensures step { (events : Past) → StandsFor self.old events → IfOk result (λ step. Plays self.old events (event_of event.now) step self.new) }
@@ -221,8 +223,8 @@ impl World {
         view_among(&self.replicas, replica)
     }
 
-    /// A report of these lines, of what was learnt and of the views, at the cost of copying the learnt
-    /// sets and the views. It refuses with want of memory alone.
+    /// A report of these lines, of what was learnt and of the views, at the cost of an entry for each learnt
+    /// set and each view; their updates are shared. It refuses with want of memory alone.
     #[tactic(auto, using(crate::proofs::Worlds::views_are))]
     pub fn report(&self, steps: Steps) -> Result<Report, AllocError>
         ensures value { IfOk result (λ report. report ≡ report_with self.now steps) }
