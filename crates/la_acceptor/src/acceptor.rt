@@ -1,13 +1,11 @@
-ghost use Rattle.std.specs.Prelude.{◌≡◌, IsOk, IfOk, IfErr, OnOk, OnErr};
-ghost use Rattle.la_set.specs.Histories.{empty};
-ghost use Rattle.la_set.specs.Inclusion.{IsSubset};
+ghost use Rattle.std.specs.Prelude.{◌≡◌, ◌≢◌, IfOk, IfErr, OnOk, OnErr};
+ghost use Rattle.la_set.specs.Histories.{Histories, empty};
 ghost use Rattle.la_set.specs.Join.{IsCompatible, union};
 ghost use Rattle.la_acceptor.specs.Answer.{answer};
 ghost use Rattle.la_acceptor.specs.Refusals.{IsOfferRefusal};
 
-use crate::undo::{counts_of, take_back};
 use crate::{AcceptorError, Reply};
-use la_set::{SetError, UpdateSet};
+use la_set::UpdateSet;
 use std::alloc::{AllocError, Global};
 use std::marker::Model;
 
@@ -59,9 +57,7 @@ impl Acceptor {
     /// `Memory` comes only where there is no clash. After a refusal the accepted set is unchanged.
     /// An offer of exactly what is accepted is answered `Yes` without memory.
     ///
-    /// The cost is that of comparing the updates that both sets have, once, and of copying those
-    /// that are added. A `No` also copies the union, once. A `Yes` copies nothing that was accepted
-    /// before.
+    /// It is [`Acceptor::admit_offer`] and then [`Acceptor::take_offer`], at the cost of the two.
     pub fn offer(&mut self, offered: &UpdateSet) -> Result<Reply, AcceptorError>
         ensures reply { IfOk result (λ reply. reply ≡ answer self.old offered.now) }
         ensures accepted { OnOk result (self.new ≡ union self.old offered.now) }
@@ -70,58 +66,56 @@ impl Acceptor {
         ensures err { OnErr result (self.new ≡ self.old) }
         ensures again { offered.now ≡ self.old → result ≡ Ok Reply.Yes }
     {
-        let before = counts_of(&self.accepted);
-        self.join(offered)?;
-        // What was accepted lies in the offer exactly where the union has nothing more than it.
-        if self.accepted.len() == offered.len() {
-            return Ok(Reply::Yes);
-        }
-        match self.accepted.copy() {
-            Ok(joined) => Ok(Reply::No(joined)),
-            Err(_refused) => {
-                take_back(&mut self.accepted, &before);
-                Err(AcceptorError::Memory)
-            }
+        self.admit_offer(offered)?;
+        Ok(self.take_offer(offered)?)
+    }
+
+    /// Whether an offer would be answered, memory apart: `Clash` comes exactly where an id has two
+    /// different updates, and names the least such id. It takes no memory, and `Memory` never comes.
+    /// The cost is that of [`UpdateSet::first_clash`].
+    pub fn admit_offer(&self, offered: &UpdateSet) -> Result<(), AcceptorError>
+        ensures compatible { OnOk result (IsCompatible self.now offered.now) }
+        ensures error { IfErr result (IsOfferRefusal self.now offered.now) }
+        ensures memory { result ≢ Err AcceptorError.Memory }
+    {
+        match self.accepted.first_clash(offered) {
+            Some(id) => Err(AcceptorError::Clash(id)),
+            None => Ok(()),
         }
     }
 
-    /// Answers an offer as [`Acceptor::offer`] does, with the reply and a copy of it: one to send, and
-    /// one to keep. The refusals are the same, and after each the accepted set is unchanged, also
-    /// where only the copy was refused. The offer that takes no memory takes none here either.
-    pub fn offer_with_copy(&mut self, offered: &UpdateSet) -> Result<(Reply, Reply), AcceptorError>
-        ensures reply { IfOk result (λ replies. replies.0 ≡ answer self.old offered.now) }
-        ensures copy { IfOk result (λ replies. replies.1 ≡ answer self.old offered.now) }
+    /// Answers an offer that is admitted, as [`Acceptor::offer`] does. It compares no updates: the
+    /// counts tell whether the offer has what was accepted. It is refused for want of memory alone;
+    /// then the accepted set is unchanged. An offer of exactly what is accepted takes none.
+    ///
+    /// The cost is that of copying what was accepted, which shares it, and of
+    /// [`UpdateSet::join_compatible`].
+    pub fn take_offer(&mut self, offered: &UpdateSet) -> Result<Reply, AllocError>
+        requires { IsCompatible self.old offered.now }
+        ensures reply { IfOk result (λ reply. reply ≡ answer self.old offered.now) }
         ensures accepted { OnOk result (self.new ≡ union self.old offered.now) }
-        ensures compatible { OnOk result (IsCompatible self.old offered.now) }
-        ensures error { IfErr result (IsOfferRefusal self.old offered.now) }
         ensures err { OnErr result (self.new ≡ self.old) }
-        ensures again { offered.now ≡ self.old → result ≡ Ok (Reply.Yes, Reply.Yes) }
+        ensures again { offered.now ≡ self.old → result ≡ Ok Reply.Yes }
     {
-        let before = counts_of(&self.accepted);
-        let reply = self.offer(offered)?;
-        match reply.copy() {
-            Ok(copy) => Ok((reply, copy)),
-            Err(_refused) => {
-                take_back(&mut self.accepted, &before);
-                Err(AcceptorError::Memory)
-            }
+        if self.accepted.contains_compatible(offered) {
+            return reply_from(&self.accepted, offered);
         }
+        let mut joined = self.accepted.copy()?;
+        joined.join_compatible(offered)?;
+        let reply = reply_from(&joined, offered)?;
+        self.accepted = joined;
+        Ok(reply)
     }
+}
 
-    // Adds the offer to the accepted set.
-    fn join(&mut self, offered: &UpdateSet) -> Result<(), AcceptorError>
-        ensures ok { OnOk result (self.new ≡ union self.old offered.now) }
-        ensures compatible { OnOk result (IsCompatible self.old offered.now) }
-        ensures error { IfErr result (IsOfferRefusal self.old offered.now) }
-        ensures err { OnErr result (self.new ≡ self.old) }
-        ensures room { IsSubset offered.now self.old → IsOk result }
-    {
-        match self.accepted.union(offered) {
-            Ok(()) => Ok(()),
-            Err(SetError::Clash(id)) => Err(AcceptorError::Clash(id)),
-            Err(SetError::Memory) => Err(AcceptorError::Memory),
-            // A union is refused in no other way.
-            Err(SetError::Gap | SetError::TooManyTags) => unreachable!(),
-        }
+// The reply to an offer, from its union with what was accepted: that lay in the offer exactly where the
+// union has nothing more than it.
+fn reply_from(joined: &UpdateSet, offered: &UpdateSet) -> Result<Reply, AllocError>
+    ensures reply { (accepted : Histories) → IsCompatible accepted offered.now → joined.now ≡ union accepted offered.now → IfOk result (λ reply. reply ≡ answer accepted offered.now) }
+    ensures yes { joined.now ≡ offered.now → result ≡ Ok Reply.Yes }
+{
+    if joined.len() == offered.len() {
+        return Ok(Reply::Yes);
     }
+    Ok(Reply::No(joined.copy()?))
 }

@@ -1,18 +1,16 @@
-ghost use Rattle.std.specs.Prelude.{◌≡◌, true, false, ◌<◌, ◌≤◌, length, None, IsOk, IfOk, IfErr, OnOk, OnErr, option_copied};
+ghost use Rattle.std.specs.Prelude.{◌≡◌, ◌≢◌, true, false, ◌<◌, ◌≤◌, length, IfOk, IfErr, OnOk, OnErr, option_copied};
 ghost use Rattle.la_set.specs.Histories.{empty};
 ghost use Rattle.la_proposer.specs.Majority.{votes_of};
 ghost use Rattle.la_proposer.specs.Tally.{reply_with, has_counted};
-ghost use Rattle.la_proposer.specs.Proposing.{start, submitted, status_of, submission_opens, after_submission, counts, with_reply, heard_of, after_reply};
-ghost use Rattle.la_proposer.specs.Refusals.{SubmissionSpends, ReplySpends, IsSubmitRefusal, IsReplyRefusal, ReplySpares, SubmissionWaits, IsIgnored, OnlyCounts, CountsInPlace};
+ghost use Rattle.la_proposer.specs.Proposing.{start, submitted, status_of, submission_opens, after_submission, counts, heard_of, after_reply};
+ghost use Rattle.la_proposer.specs.Refusals.{SubmissionSpends, IsSubmitRefusal, IsReplyRefusal, ReplySpares, IsVerdictOf, IsIgnored, CountsInPlace};
 ghost use Rattle.la_proposer.specs.Clashes.{Fits};
 ghost use Rattle.la_proposer.specs.Kept.{IsProposing};
 
-mod following;
-mod foreseeing;
+mod admitting;
+mod taking;
 
-use crate::joins::add_next;
-use crate::tally::{self, Counted};
-use crate::waiting::{Waiting, copy_waiting};
+use crate::tally::{self, Counted, Verdict};
 use crate::{Ballot, Heard, ProposerError, Status, Votes};
 use la_acceptor::Reply;
 use la_set::{Op, UpdateSet};
@@ -31,6 +29,9 @@ pub const INLINE_TALLY: usize = 4;
 
 /// Asks a group's acceptors to acknowledge its updates, and learns sets that a majority
 /// acknowledged.
+///
+/// It keeps its own submissions as one set. Those that wait are the last of them, which the last
+/// ballot's set has not.
 #[derive(Drop)]
 pub struct Proposer {
     own: u8,
@@ -39,21 +40,19 @@ pub struct Proposer {
     last: Ballot,
     is_asking: bool,
     tally: SmallVec<Counted, INLINE_TALLY>,
-    waiting: Vec<Waiting>,
+    submissions: UpdateSet,
 }
 
 impl Model for Proposer {
-    ghost use Rattle.std.specs.Prelude.{map};
-    ghost use Rattle.la_proposer.specs.Majority.{votes_of};
     ghost use Rattle.la_proposer.specs.Proposing.{Proposing};
 
     ghost Value = { Proposing };
 
-    ghost use Rattle.la_proposer.specs.Kept.{waiting_deed, IsProposing};
+    ghost use Rattle.la_proposer.specs.Fields.{stands_for, HasKept};
 
-    ghost view = { λ p. record { votes = votes_of p.votes; own = p.own; cap = p.cap; number = p.last.number; updates = p.last.updates; is_asking = p.is_asking; tally = p.tally.items; waiting = map waiting_deed p.waiting.items } };
+    ghost view = { stands_for };
 
-    ghost invariant = { λ p. IsProposing (record { votes = votes_of p.votes; own = p.own; cap = p.cap; number = p.last.number; updates = p.last.updates; is_asking = p.is_asking; tally = p.tally.items; waiting = map waiting_deed p.waiting.items }) };
+    ghost invariant = { HasKept };
 }
 
 impl Proposer {
@@ -76,11 +75,11 @@ impl Proposer {
             },
             is_asking: false,
             tally: SmallVec::new(alloc),
-            waiting: Vec::new(alloc),
+            submissions: UpdateSet::new(alloc),
         }
     }
 
-    /// A copy, at the cost of copying the last ballot's set, the counted refusals and the buffer.
+    /// A copy, at the cost of copying two sets and the counted refusals, which shares their updates.
     pub fn copy(&self) -> Result<Proposer, AllocError>
         ensures { IfOk result (λ copy. copy ≡ self.now) }
     {
@@ -91,7 +90,7 @@ impl Proposer {
             last: self.last.copy()?,
             is_asking: self.is_asking,
             tally: tally::copy_tally(&self.tally)?,
-            waiting: copy_waiting(&self.waiting)?,
+            submissions: self.submissions.copy()?,
         })
     }
 
@@ -119,14 +118,14 @@ impl Proposer {
     pub fn buffered(&self) -> u32
         ensures { result ≡ length self.now.waiting }
     {
-        self.waiting.len() as u32
+        self.submissions.count_of(self.own) - self.last.updates.count_of(self.own)
     }
 
     /// How many updates it has submitted: those that a ballot has taken, and those that wait.
     pub fn submitted(&self) -> u32
         ensures { result ≡ submitted self.now }
     {
-        self.last.updates.count_of(self.own) + self.buffered()
+        self.submissions.count_of(self.own)
     }
 
     /// Whether a reply of this acceptor has counted in the open ballot: `false` where none is open,
@@ -145,8 +144,7 @@ impl Proposer {
     ///
     /// In this order: `Full` comes where the proposer has submitted its cap; `BallotsSpent` where a
     /// ballot would open with a number over [`MAX_BALLOTS`]; `Memory`. After each nothing is
-    /// submitted. The cost of a ballot is that of copying its set; a submission that waits takes
-    /// memory only where the buffer grows, and then `Memory` may come.
+    /// submitted. It is [`Proposer::admit_submission`] and then [`Proposer::take_submission`].
     pub fn submit(&mut self, object: u16, op: Op) -> Result<Option<Ballot>, ProposerError>
         ensures opened { IfOk result (λ ballot. ballot ≡ submission_opens self.old (record { object = object; op = op })) }
         ensures ok { OnOk result (self.new ≡ after_submission self.old (record { object = object; op = op })) }
@@ -155,55 +153,46 @@ impl Proposer {
         ensures error { IfErr result (IsSubmitRefusal self.old) }
         ensures err { OnErr result (self.new ≡ self.old) }
     {
-        let opened = self.foresee_submission(object, &op)?;
-        self.follow_submission(object, op, &opened)?;
-        Ok(opened)
+        self.admit_submission()?;
+        Ok(self.take_submission(object, op)?)
     }
 
-    /// What a submission would answer, without submitting it: the ballot that it would open, or
-    /// `None` where it would wait. The errors are those of [`Proposer::submit`], in its order. The
-    /// cost of a ballot is that of copying its set; a submission that would wait takes no memory.
-    pub fn foresee_submission(&self, object: u16, op: &Op) -> Result<Option<Ballot>, ProposerError>
-        ensures opened { IfOk result (λ ballot. ballot ≡ submission_opens self.now (record { object = object; op = op.now })) }
-        ensures room { IfOk result (λ _. submitted self.now < self.now.cap) }
-        ensures spares { IfOk result (λ _. ¬ SubmissionSpends self.now) }
-        ensures waits { SubmissionWaits self.now → result ≡ Ok None }
+    /// Whether a submission would be taken, memory apart: with the errors of [`Proposer::submit`], in
+    /// its order. It takes no memory, and `Memory` never comes. The cost is constant.
+    pub fn admit_submission(&self) -> Result<(), ProposerError>
+        ensures room { OnOk result (submitted self.now < self.now.cap) }
+        ensures spares { OnOk result (¬ SubmissionSpends self.now) }
         ensures error { IfErr result (IsSubmitRefusal self.now) }
+        ensures memory { result ≢ Err ProposerError.Memory }
     {
         if self.submitted() >= self.cap {
             return Err(ProposerError::Full);
         }
-        if self.is_asking {
-            return Ok(None);
-        }
-        if self.last.number >= MAX_BALLOTS {
+        if !self.is_asking && self.last.number >= MAX_BALLOTS {
             return Err(ProposerError::BallotsSpent);
         }
-        let mut ballot = self.next_ballot()?;
-        add_next(&mut ballot.updates, self.own, object, op)?;
-        Ok(Some(ballot))
+        Ok(())
     }
 
-    /// Submits what was foreseen: with the answer of [`Proposer::foresee_submission`] for this
-    /// submission, and the proposer as it was then, this does what [`Proposer::submit`] would do.
-    /// It copies the updates that the ballot adds, and no others. After a refusal the proposer is as
-    /// before.
-    pub fn follow_submission(
-        &mut self,
-        object: u16,
-        op: Op,
-        opened: &Option<Ballot>,
-    ) -> Result<(), AllocError>
-        requires foreseen { opened.now ≡ submission_opens self.old (record { object = object; op = op }) }
+    /// Submits an update that is admitted, as [`Proposer::submit`] does. It is refused for want of
+    /// memory alone; then nothing is submitted. The cost is that of adding one update to a set; of a
+    /// ballot also that of a [`UpdateSet::join_compatible`] and of copies that share.
+    pub fn take_submission(&mut self, object: u16, op: Op) -> Result<Option<Ballot>, AllocError>
         requires room { submitted self.old < self.old.cap }
         requires spares { ¬ SubmissionSpends self.old }
+        ensures opened { IfOk result (λ ballot. ballot ≡ submission_opens self.old (record { object = object; op = op })) }
         ensures ok { OnOk result (self.new ≡ after_submission self.old (record { object = object; op = op })) }
         ensures err { OnErr result (self.new ≡ self.old) }
     {
-        match opened {
-            None => self.wait(Waiting { object, op }),
-            Some(ballot) => self.open(ballot),
+        if self.is_asking {
+            self.hold(object, op)?;
+            return Ok(None);
         }
+        let mut next = self.copy()?;
+        next.hold(object, op)?;
+        let ballot = next.open()?;
+        *self = next;
+        Ok(Some(ballot))
     }
 
     /// Hears a reply of an acceptor to a ballot.
@@ -217,9 +206,10 @@ impl Proposer {
     /// and where submissions wait opens a ballot at once; otherwise a majority of replies with a
     /// `No` among them refines. `BallotsSpent` comes where a ballot that opens would have a number
     /// over [`MAX_BALLOTS`], and `Memory` after all else. After each the proposer is as before, and
-    /// the reply has not counted. The cost is that of comparing a `No` with the sets known here, and
-    /// for a learning or a ballot that of copying its set. A reply that counts, and leaves the ballot
-    /// open, takes no memory either while fewer than [`INLINE_TALLY`] have counted.
+    /// the reply has not counted. A reply that counts, and leaves the ballot open, takes no memory
+    /// either while fewer than [`INLINE_TALLY`] have counted.
+    ///
+    /// It is [`Proposer::admit_reply`] and then [`Proposer::take_reply`], at the cost of the two.
     pub fn reply(&mut self, from: u8, ballot: u32, reply: Reply) -> Result<Heard, ProposerError>
         ensures in_group { IfOk result (λ _. from < length self.old.votes) }
         ensures fits { IfOk result (λ _. counts self.old from ballot ≡ true → Fits self.old reply) }
@@ -231,63 +221,93 @@ impl Proposer {
         ensures error { IfErr result (IsReplyRefusal self.old from ballot reply) }
         ensures err { OnErr result (self.new ≡ self.old) }
     {
-        let heard = self.foresee(from, ballot, refusal_of(&reply))?;
-        match &heard {
-            Heard::Counted => self.keep(from, reply)?,
-            other => self.advance(other)?,
-        }
-        Ok(heard)
+        self.admit_reply(from, ballot, refusal_of(&reply))?;
+        Ok(self.take_reply(from, ballot, reply)?)
     }
 
-    /// What a reply would come to, without hearing it: with this refused set, or else an
-    /// acknowledgement. The errors are those of [`Proposer::reply`], in its order. Only the sets of
-    /// the answer are copied: so a reply that would be ignored, or counted with the ballot still
-    /// open, takes no memory.
-    pub fn foresee(
+    /// Whether a reply would be heard, memory apart: a `No` with this refused set, or else a `Yes`. It has
+    /// the errors of [`Proposer::reply`], in its order. It takes no memory, and `Memory` never comes. The
+    /// cost is that of comparing the set of a `No` that counts with the sets known here.
+    pub fn admit_reply(
         &self,
         from: u8,
         ballot: u32,
         refusal: Option<&UpdateSet>,
-    ) -> Result<Heard, ProposerError>
-        ensures in_group { IfOk result (λ _. from < length self.now.votes) }
-        ensures fits { IfOk result (λ _. counts self.now from ballot ≡ true → Fits self.now (reply_with (option_copied refusal.entry))) }
-        ensures spares { IfOk result (λ _. counts self.now from ballot ≡ true → ¬ ReplySpends (with_reply self.now from (reply_with (option_copied refusal.entry)))) }
-        ensures ignored { IsIgnored self.now from ballot → result ≡ Ok Heard.Ignored }
-        ensures counted { OnlyCounts self.now from ballot (reply_with (option_copied refusal.entry)) → result ≡ Ok Heard.Counted }
-        ensures heard { IfOk result (λ heard. heard ≡ heard_of self.now from ballot (reply_with (option_copied refusal.entry))) }
+    ) -> Result<(), ProposerError>
+        ensures in_group { OnOk result (from < length self.now.votes) }
+        ensures fits { OnOk result (counts self.now from ballot ≡ true → Fits self.now (reply_with (option_copied refusal.entry))) }
+        ensures spares { OnOk result (ReplySpares self.now from ballot (reply_with (option_copied refusal.entry))) }
         ensures error { IfErr result (IsReplyRefusal self.now from ballot (reply_with (option_copied refusal.entry))) }
+        ensures memory { result ≢ Err ProposerError.Memory }
     {
-        match self.admits(from, ballot, refusal)? {
+        if from as usize >= self.votes.len() {
+            return Err(ProposerError::NoSuchReplica);
+        }
+        let Some(verdict) = self.verdict(from, ballot, refusal) else {
+            return Ok(());
+        };
+        if let Some(id) = self.clash(refusal) {
+            return Err(ProposerError::Clash(id));
+        }
+        if self.opens_by(verdict) && self.last.number >= MAX_BALLOTS {
+            return Err(ProposerError::BallotsSpent);
+        }
+        Ok(())
+    }
+
+    /// Hears a reply that is admitted, as [`Proposer::reply`] does. It compares no updates. It is
+    /// refused for want of memory alone; then the proposer is as before. A reply that is ignored
+    /// takes none, nor does one that counts and leaves the ballot open, while fewer than
+    /// [`INLINE_TALLY`] have counted.
+    ///
+    /// The cost is that of copies that share; of a learning that opens a ballot also that of one
+    /// [`UpdateSet::join_compatible`], and of a refinement that of one for each counted refusal.
+    pub fn take_reply(&mut self, from: u8, ballot: u32, reply: Reply) -> Result<Heard, AllocError>
+        requires in_group { from < length self.old.votes }
+        requires fits { counts self.old from ballot ≡ true → Fits self.old reply }
+        requires spares { ReplySpares self.old from ballot reply }
+        ensures ignored { counts self.old from ballot ≡ false → result ≡ Ok Heard.Ignored }
+        ensures counted { CountsInPlace self.old from ballot reply → result ≡ Ok Heard.Counted }
+        ensures heard { IfOk result (λ heard. heard ≡ heard_of self.old from ballot reply) }
+        ensures ok { OnOk result (self.new ≡ after_reply self.old from ballot reply) }
+        ensures err { OnErr result (self.new ≡ self.old) }
+    {
+        match self.verdict(from, ballot, refusal_of(&reply)) {
             None => Ok(Heard::Ignored),
-            Some(verdict) => Ok(self.outcome(refusal, verdict)?),
+            Some(Verdict::Waits) => {
+                self.keep(from, reply)?;
+                Ok(Heard::Counted)
+            }
+            Some(Verdict::Refines) => {
+                let mut next = self.copy()?;
+                next.keep(from, reply)?;
+                let ballot = next.refine()?;
+                *self = next;
+                Ok(Heard::Refined(ballot))
+            }
+            Some(Verdict::Learns) => self.learn(),
         }
     }
 
-    /// Hears what was foreseen: with the answer of [`Proposer::foresee`] for this reply, and the
-    /// proposer as it was then, this does what [`Proposer::reply`] would do. It copies the refused
-    /// set where the reply only counts, and else the updates that a new ballot adds: so an ignored
-    /// reply takes no memory, nor does an acknowledgement that only counts, while fewer than
-    /// [`INLINE_TALLY`] have counted. After a refusal the proposer is as before.
-    pub fn follow(
-        &mut self,
-        from: u8,
-        ballot: u32,
-        refusal: Option<&UpdateSet>,
-        heard: &Heard,
-    ) -> Result<(), AllocError>
-        requires in_group { from < length self.old.votes }
-        requires fits { counts self.old from ballot ≡ true → Fits self.old (reply_with (option_copied refusal)) }
-        requires spares { counts self.old from ballot ≡ true → ¬ ReplySpends (with_reply self.old from (reply_with (option_copied refusal))) }
-        requires foreseen { heard.now ≡ heard_of self.old from ballot (reply_with (option_copied refusal)) }
-        ensures ignored { counts self.old from ballot ≡ false → IsOk result }
-        ensures acknowledged { refusal.entry ≡ None → CountsInPlace self.old from ballot Reply.Yes → IsOk result }
-        ensures ok { OnOk result (self.new ≡ after_reply self.old from ballot (reply_with (option_copied refusal.entry))) }
-        ensures err { OnErr result (self.new ≡ self.old) }
+    /// Whether a reply of this acceptor to this ballot would count: the ballot is the open one, and the
+    /// acceptor has not counted there. The cost is constant.
+    pub fn counts(&self, from: u8, ballot: u32) -> bool
+        ensures { result ≡ counts self.now from ballot }
     {
-        match heard {
-            Heard::Counted => self.keep(from, reply_of(refusal)?),
-            other => self.advance(other),
+        self.is_asking && self.last.number == ballot && !self.has_counted(from)
+    }
+
+    /// What a reply would come to, without hearing it: with this refused set, or else a `Yes`. It is the
+    /// verdict of the counted replies with this one among them, or `None` where it would not count, and be
+    /// ignored. The refused set is not looked at. It takes no memory, and the cost is constant.
+    pub fn verdict(&self, from: u8, ballot: u32, refusal: Option<&UpdateSet>) -> Option<Verdict>
+        ensures { IsVerdictOf self.now from ballot (reply_with (option_copied refusal.entry)) result }
+    {
+        if !self.counts(from, ballot) {
+            return None;
         }
+        let tally = self.tally.as_slice();
+        Some(tally::verdict_with(&self.votes, tally, from, refusal))
     }
 }
 
@@ -299,15 +319,4 @@ fn refusal_of(reply: &Reply) -> Option<&UpdateSet>
         Reply::Yes => None,
         Reply::No(refused) => Some(refused),
     }
-}
-
-// The reply with a copy of this refused set, or else an acknowledgement.
-fn reply_of(refusal: Option<&UpdateSet>) -> Result<Reply, AllocError>
-    ensures reply { IfOk result (λ reply. reply ≡ reply_with (option_copied refusal.entry)) }
-    ensures yes { refusal.entry ≡ None → result ≡ Ok Reply.Yes }
-{
-    Ok(match refusal {
-        None => Reply::Yes,
-        Some(refused) => Reply::No(refused.copy()?),
-    })
 }

@@ -1,22 +1,25 @@
-ghost use Rattle.std.specs.Prelude.{◌≡◌, true, false, ℕ, ◌<◌, ◌≤◌, length, [], ◌∷◌, IsOk, IfOk, IfErr, OnOk, OnErr, Some, None, if◌then◌else◌};
+ghost use Rattle.std.specs.Prelude.{◌≡◌, ◌≢◌, true, ℕ, ◌<◌, ◌≤◌, length, [], ◌∷◌, IsOk, IfOk, IfErr, OnOk, OnErr};
+ghost use Rattle.std.specs.Option.{option_copied};
 ghost use Rattle.la_set.specs.Histories.{Histories};
 ghost use Rattle.la_set.specs.Join.{IsCompatible};
 ghost use Rattle.la_proposer.specs.declared.proposer.TheConstants.{MAX_CAP};
 ghost use Rattle.la_proposer.specs.Majority.{votes_of};
-ghost use Rattle.la_proposer.specs.Proposing.{submitted, counts, with_reply, heard_of, after_reply};
-ghost use Rattle.la_proposer.specs.Refusals.{SubmissionSpends, ReplySpends, CountsInPlace};
+ghost use Rattle.la_proposer.specs.Proposing.{submitted, counts};
+ghost use Rattle.la_proposer.specs.Refusals.{SubmissionSpends, ReplySpares};
 ghost use Rattle.la_proposer.specs.Clashes.{Fits};
-ghost use Rattle.la_replica.specs.Messages.{reply_in};
+ghost use Rattle.la_replica.specs.declared.out.Said.TheVariants.{Answered};
+ghost use Rattle.la_replica.specs.Messages.{reply_in, reply_to};
 ghost use Rattle.la_replica.specs.Views.{view_after_learning};
-ghost use Rattle.la_replica.specs.Steps.{Step, fresh, submits, answers, said_of, said_of_told, copied, last_learnt_after, view_after_hearing, hears, receives};
-ghost use Rattle.la_replica.specs.Refusals.{IsSubmissionRefusal, IsAnswerRefusal, IsHearingRefusal, IsBodyRefusal, IsTellRefusal, FitsBody, SparesBody};
+ghost use Rattle.la_replica.specs.Steps.{Step, learnt_in, fresh, submits, answers, said_of_told, last_learnt_after, view_after_hearing, hears, receives};
+ghost use Rattle.la_replica.specs.Refusals.{IsSubmissionRefusal, IsHearingRefusal, IsBodyRefusal, FitsBody, SparesBody};
+ghost use Rattle.la_replica.specs.Fitting.{FitsViewBody, FitsViewHeard};
 ghost use Rattle.la_replica.specs.Memory.{IsFreeReply, IsFreeTell, IsFreeBody};
 
 use crate::sender::Sender;
-use crate::view::{if_larger, is_larger, take_larger};
+use crate::view::{is_larger, take_larger};
 use crate::{Body, Mail, Message, Out, ReplicaError, Said};
 use la_acceptor::{Acceptor, Reply};
-use la_proposer::{Heard, Proposer, Votes};
+use la_proposer::{Heard, Proposer, Verdict, Votes};
 use la_set::{Op, UpdateId, UpdateSet};
 use std::alloc::{AllocError, Global};
 
@@ -57,60 +60,112 @@ impl Instance {
         })
     }
 
-    // Submits an update: its ballot opens, or it waits. The step is taken once its mail is there.
-    pub fn submit(
+    // Whether a submission would be taken, memory apart.
+    pub fn admit_submission(&self) -> Result<(), ReplicaError>
+        ensures room { OnOk result (submitted self.now.proposer < self.now.proposer.cap) }
+        ensures spares { OnOk result (¬ SubmissionSpends self.now.proposer) }
+        ensures error { IfErr result (IsSubmissionRefusal self.now.proposer) }
+        ensures memory { result ≢ Err ReplicaError.Memory }
+    {
+        Ok(self.proposer.admit_submission()?)
+    }
+
+    // Submits an update: its ballot opens, or it waits.
+    pub fn take_submission(
         &mut self,
         alloc: Global,
         sender: &Sender,
         object: u16,
         op: Op,
-    ) -> Result<Out, ReplicaError>
-        requires { self.old.proposer.own ≡ sender.now.from }
+    ) -> Result<Out, AllocError>
+        requires room { submitted self.old.proposer < self.old.proposer.cap }
+        requires spares { ¬ SubmissionSpends self.old.proposer }
+        requires own { self.old.proposer.own ≡ sender.now.from }
         ensures step { IfOk result (λ out. (view : Histories) → submits sender.now self.old view (record { object = object; op = op }) ≡ record { said = out.said; mail = out.mail; at = self.new; view = view }) }
-        ensures room { IfOk result (λ _. submitted self.old.proposer < self.old.proposer.cap) }
-        ensures spares { IfOk result (λ _. ¬ SubmissionSpends self.old.proposer) }
-        ensures error { IfErr result (IsSubmissionRefusal self.old.proposer) }
         ensures err { OnErr result (self.new ≡ self.old) }
     {
-        let opened = self.proposer.foresee_submission(object, &op)?;
+        let mut proposer = self.proposer.copy()?;
+        let opened = proposer.take_submission(object, op)?;
         let mut mail = Mail::new(alloc);
         sender.offer_next(&mut mail, &opened)?;
-        self.proposer.follow_submission(object, op, &opened)?;
         let said = match opened {
             Some(ballot) => Said::Opened(ballot),
             None => Said::Held(UpdateId {
                 replica: sender.from,
-                number: self.proposer.submitted(),
+                number: proposer.submitted(),
             }),
         };
+        self.proposer = proposer;
         Ok(Out { said, mail })
     }
 
-    // Does what a message to this instance asks for, and copies what is learnt by it, if that is
-    // asked for.
-    pub fn receive(
+    // Whether what a message to this instance asks for would be done, memory apart.
+    pub fn admit_message(&self, message: &Message) -> Result<(), ReplicaError>
+        requires { message.now.from < length self.now.proposer.votes }
+        ensures fits { OnOk result (FitsBody self.now message.now message.now.body) }
+        ensures spares { OnOk result (SparesBody self.now message.now message.now.body) }
+        ensures error { (view : Histories) → IfErr result (IsBodyRefusal self.now view message.now message.now.body) }
+        ensures memory { result ≢ Err ReplicaError.Memory }
+    {
+        match &message.body {
+            Body::Offer(offered) => Ok(self.acceptor.admit_offer(offered)?),
+            Body::Yes | Body::No(_) => self.admit_reply(message),
+            Body::Tell(_) => Ok(()),
+        }
+    }
+
+    // Whether a reply would be heard, memory apart.
+    fn admit_reply(&self, message: &Message) -> Result<(), ReplicaError>
+        requires { message.now.from < length self.now.proposer.votes }
+        ensures fits { OnOk result (counts self.now.proposer message.now.from message.now.ballot ≡ true → Fits self.now.proposer (reply_in message.now.body)) }
+        ensures spares { OnOk result (ReplySpares self.now.proposer message.now.from message.now.ballot (reply_in message.now.body)) }
+        ensures error { IfErr result (IsHearingRefusal self.now.proposer message.now (reply_in message.now.body)) }
+        ensures memory { result ≢ Err ReplicaError.Memory }
+    {
+        let (from, ballot) = (message.from, message.ballot);
+        Ok(self.proposer.admit_reply(from, ballot, message.refusal())?)
+    }
+
+    // Does what a message to this instance asks for, which is admitted. Where a set that may become the
+    // view is known to fit it, no updates are compared.
+    pub fn take_message(
         &mut self,
         alloc: Global,
         sender: &Sender,
         message: &Message,
         view: &mut UpdateSet,
-        copying: bool,
-    ) -> Result<(Out, Option<UpdateSet>), ReplicaError>
+        fits: bool,
+    ) -> Result<Out, AllocError>
         requires known { message.now.from < length self.old.proposer.votes }
         requires instance { sender.now.instance ≡ message.now.instance }
-        ensures step { IfOk result (λ made. receives sender.now self.old view.old message.now ≡ record { said = made.0.said; mail = made.0.mail; at = self.new; view = view.new }) }
-        ensures copy { IfOk result (λ made. made.1 ≡ copied copying made.0.said) }
-        ensures fits { IfOk result (λ _. FitsBody self.old message.now message.now.body) }
-        ensures spares { IfOk result (λ _. SparesBody self.old message.now message.now.body) }
+        requires fits { FitsBody self.old message.now message.now.body }
+        requires spares { SparesBody self.old message.now message.now.body }
+        requires view { fits ≡ true → FitsViewBody self.old view.old message.now message.now.body }
+        ensures step { IfOk result (λ out. receives sender.now self.old view.old message.now ≡ record { said = out.said; mail = out.mail; at = self.new; view = view.new }) }
         ensures free { IsFreeBody self.old view.old message.now message.now.body → IsOk result }
-        ensures error { IfErr result (IsBodyRefusal self.old view.old message.now message.now.body) }
         ensures err { OnErr result (self.new ≡ self.old) }
         ensures err_view { OnErr result (view.new ≡ view.old) }
     {
         match &message.body {
-            Body::Offer(offered) => Ok((self.answer(alloc, message, offered)?, None)),
-            Body::Yes | Body::No(_) => self.hear(alloc, sender, message, view, copying),
-            Body::Tell(told) => Ok((hear_tell(alloc, sender, view, told)?, None)),
+            Body::Offer(offered) => self.answer(alloc, message, offered),
+            Body::Yes | Body::No(_) => self.hear(alloc, sender, message, view, fits),
+            Body::Tell(told) => hear_tell(alloc, sender, view, told, fits),
+        }
+    }
+
+    // The set that a message to this instance would lead to learning.
+    pub fn would_learn(&self, message: &Message) -> Option<&UpdateSet>
+        ensures { (sender : Sender) (view : Histories) → option_copied result ≡ learnt_in (receives sender self.now view message.now).said }
+    {
+        match &message.body {
+            Body::Yes | Body::No(_) => {
+                let (from, ballot) = (message.from, message.ballot);
+                match self.proposer.verdict(from, ballot, message.refusal()) {
+                    Some(Verdict::Learns) => Some(self.proposer.updates()),
+                    _ => None,
+                }
+            }
+            Body::Offer(_) | Body::Tell(_) => None,
         }
     }
 
@@ -120,97 +175,116 @@ impl Instance {
         alloc: Global,
         message: &Message,
         offered: &UpdateSet,
-    ) -> Result<Out, ReplicaError>
+    ) -> Result<Out, AllocError>
+        requires { IsCompatible self.old.acceptor offered.now }
         ensures step { IfOk result (λ out. (view : Histories) → answers self.old view message.now offered.now ≡ record { said = out.said; mail = out.mail; at = self.new; view = view }) }
-        ensures fits { IfOk result (λ _. IsCompatible self.old.acceptor offered.now) }
         ensures free { offered.now ≡ self.old.acceptor → IsOk result }
-        ensures error { IfErr result (IsAnswerRefusal self.old.acceptor offered.now) }
         ensures err { OnErr result (self.new ≡ self.old) }
     {
-        let (reply, sent) = self.acceptor.offer_with_copy(offered)?;
-        Ok(Out {
-            said: Said::Answered(reply),
-            mail: Mail::one(alloc, message.answered(sent)),
-        })
+        // Where the offer lies in what is accepted, that stays, and is not copied.
+        if self.acceptor.accepted().contains_compatible(offered) {
+            let reply = self.acceptor.take_offer(offered)?;
+            return answered(alloc, message, reply);
+        }
+        let mut acceptor = self.acceptor.copy()?;
+        let reply = acceptor.take_offer(offered)?;
+        let out = answered(alloc, message, reply)?;
+        self.acceptor = acceptor;
+        Ok(out)
     }
 
-    // Hears a reply. The step is taken once its mail, and the copy that is asked for, are there.
+    // Hears a reply. One that does not count, or leaves the ballot open, sends nothing.
     fn hear(
         &mut self,
         alloc: Global,
         sender: &Sender,
         message: &Message,
         view: &mut UpdateSet,
-        copying: bool,
-    ) -> Result<(Out, Option<UpdateSet>), ReplicaError>
-        requires { message.now.from < length self.old.proposer.votes }
-        ensures step { IfOk result (λ made. hears sender.now self.old view.old message.now (reply_in message.now.body) ≡ record { said = made.0.said; mail = made.0.mail; at = self.new; view = view.new }) }
-        ensures copy { IfOk result (λ made. made.1 ≡ copied copying made.0.said) }
-        ensures fits { IfOk result (λ _. counts self.old.proposer message.now.from message.now.ballot ≡ true → Fits self.old.proposer (reply_in message.now.body)) }
-        ensures spares { IfOk result (λ _. counts self.old.proposer message.now.from message.now.ballot ≡ true → ¬ ReplySpends (with_reply self.old.proposer message.now.from (reply_in message.now.body))) }
-        ensures free { IsFreeReply self.old.proposer message.now (reply_in message.now.body) → IsOk result }
-        ensures error { IfErr result (IsHearingRefusal self.old.proposer message.now (reply_in message.now.body)) }
-        ensures err { OnErr result (self.new ≡ self.old) }
-        ensures err_view { OnErr result (view.new ≡ view.old) }
-    {
-        let heard = self
-            .proposer
-            .foresee(message.from, message.ballot, message.refusal())?;
-        if let Heard::Ignored = heard {
-            return Ok((Out::silent(alloc, Said::Ignored), None));
-        }
-        let mail = sender.mail(alloc, message.ballot, &heard)?;
-        let copy = self.follow(sender, message, &heard, view, copying)?;
-        let said = Said::from(heard);
-        Ok((Out { said, mail }, copy))
-    }
-
-    // Hears what was foreseen, keeps what is learnt by it, and copies that, if asked to.
-    fn follow(
-        &mut self,
-        sender: &Sender,
-        message: &Message,
-        heard: &Heard,
-        view: &mut UpdateSet,
-        copying: bool,
-    ) -> Result<Option<UpdateSet>, AllocError>
+        fits: bool,
+    ) -> Result<Out, AllocError>
         requires known { message.now.from < length self.old.proposer.votes }
         requires fits { counts self.old.proposer message.now.from message.now.ballot ≡ true → Fits self.old.proposer (reply_in message.now.body) }
-        requires spares { counts self.old.proposer message.now.from message.now.ballot ≡ true → ¬ ReplySpends (with_reply self.old.proposer message.now.from (reply_in message.now.body)) }
-        requires foreseen { heard.now ≡ heard_of self.old.proposer message.now.from message.now.ballot (reply_in message.now.body) }
-        ensures ok { OnOk result (self.new ≡ record self.old { proposer = after_reply self.old.proposer message.now.from message.now.ballot (reply_in message.now.body); learnt = last_learnt_after self.old.learnt heard.now }) }
-        ensures view { OnOk result (view.new ≡ view_after_hearing sender.now.instance view.old heard.now) }
-        ensures copy { IfOk result (λ copy. copy ≡ copied copying (said_of heard.now)) }
-        ensures free { heard.now ≡ Heard.Counted → reply_in message.now.body ≡ Reply.Yes → CountsInPlace self.old.proposer message.now.from message.now.ballot Reply.Yes → IsOk result }
+        requires spares { ReplySpares self.old.proposer message.now.from message.now.ballot (reply_in message.now.body) }
+        requires view { fits ≡ true → sender.now.instance ≡ 0 → IsCompatible view.old self.old.proposer.updates }
+        ensures step { IfOk result (λ out. hears sender.now self.old view.old message.now (reply_in message.now.body) ≡ record { said = out.said; mail = out.mail; at = self.new; view = view.new }) }
+        ensures free { IsFreeReply self.old.proposer message.now (reply_in message.now.body) → IsOk result }
         ensures err { OnErr result (self.new ≡ self.old) }
         ensures err_view { OnErr result (view.new ≡ view.old) }
     {
-        let (from, ballot, refusal) = (message.from, message.ballot, message.refusal());
+        let (from, ballot) = (message.from, message.ballot);
+        match self.proposer.verdict(from, ballot, message.refusal()) {
+            None => Ok(Out::silent(alloc, Said::Ignored)),
+            Some(Verdict::Waits) => {
+                self.proposer.take_reply(from, ballot, message.reply()?)?;
+                Ok(Out::silent(alloc, Said::Counted))
+            }
+            Some(_) => self.end_ballot(alloc, sender, message, view, fits),
+        }
+    }
+
+    // Hears a reply that ends the ballot, in a copy of the proposer.
+    fn end_ballot(
+        &mut self,
+        alloc: Global,
+        sender: &Sender,
+        message: &Message,
+        view: &mut UpdateSet,
+        fits: bool,
+    ) -> Result<Out, AllocError>
+        requires known { message.now.from < length self.old.proposer.votes }
+        requires fits { counts self.old.proposer message.now.from message.now.ballot ≡ true → Fits self.old.proposer (reply_in message.now.body) }
+        requires spares { ReplySpares self.old.proposer message.now.from message.now.ballot (reply_in message.now.body) }
+        requires view { fits ≡ true → sender.now.instance ≡ 0 → IsCompatible view.old self.old.proposer.updates }
+        ensures step { IfOk result (λ out. hears sender.now self.old view.old message.now (reply_in message.now.body) ≡ record { said = out.said; mail = out.mail; at = self.new; view = view.new }) }
+        ensures err { OnErr result (self.new ≡ self.old) }
+        ensures err_view { OnErr result (view.new ≡ view.old) }
+    {
+        let mut proposer = self.proposer.copy()?;
+        let heard = proposer.take_reply(message.from, message.ballot, message.reply()?)?;
+        let mail = sender.mail(alloc, message.ballot, &heard)?;
+        self.keep_learnt(sender.instance, &heard, view, fits)?;
+        self.proposer = proposer;
+        let said = Said::from(heard);
+        Ok(Out { said, mail })
+    }
+
+    // Keeps what is learnt, if something is: as the last learnt set, and where it is strictly larger than
+    // the view as the view.
+    fn keep_learnt(
+        &mut self,
+        instance: u8,
+        heard: &Heard,
+        view: &mut UpdateSet,
+        fits: bool,
+    ) -> Result<(), AllocError>
+        requires { fits ≡ true → instance ≡ 0 → FitsViewHeard view.old heard.now }
+        ensures ok { OnOk result (self.new ≡ record self.old { learnt = last_learnt_after self.old.learnt heard.now }) }
+        ensures view { OnOk result (view.new ≡ view_after_hearing instance view.old heard.now) }
+        ensures err { OnErr result (self.new ≡ self.old) }
+        ensures err_view { OnErr result (view.new ≡ view.old) }
+    {
         let Heard::Learnt(learnt, _) = heard else {
-            self.proposer.follow(from, ballot, refusal, heard)?;
-            return Ok(None);
+            return Ok(());
         };
         let last = learnt.copy()?;
-        let copy = copy_if(learnt, copying)?;
-        let seen = if sender.instance == 0 {
-            if_larger(view, learnt)?
-        } else {
-            None
-        };
-        self.proposer.follow(from, ballot, refusal, heard)?;
-        self.learnt = Some(last);
-        if let Some(larger) = seen {
-            *view = larger;
+        if instance == 0 {
+            take_larger(view, learnt, fits)?;
         }
-        Ok(copy)
+        self.learnt = Some(last);
+        Ok(())
     }
 }
 
-// A copy, if that is asked for.
-fn copy_if(updates: &UpdateSet, copying: bool) -> Result<Option<UpdateSet>, AllocError>
-    ensures { IfOk result (λ copy. copy ≡ (if copying then Some updates.now else None)) }
+// The answer to an offer: the reply is said, and a copy goes back.
+fn answered(alloc: Global, message: &Message, reply: Reply) -> Result<Out, AllocError>
+    ensures ok { IfOk result (λ out. out ≡ record { said = Answered reply; mail = reply_to message.now reply ∷ [] }) }
+    ensures free { reply ≡ Reply.Yes → IsOk result }
 {
-    Ok(if copying { Some(updates.copy()?) } else { None })
+    let sent = reply.copy()?;
+    Ok(Out {
+        said: Said::Answered(reply),
+        mail: Mail::one(alloc, message.answered(sent)),
+    })
 }
 
 // Takes a told set as the view where it is strictly larger.
@@ -219,21 +293,22 @@ fn hear_tell(
     sender: &Sender,
     view: &mut UpdateSet,
     told: &UpdateSet,
-) -> Result<Out, ReplicaError>
+    fits: bool,
+) -> Result<Out, AllocError>
+    requires { fits ≡ true → sender.now.instance ≡ 0 → IsCompatible view.old told.now }
     ensures said { IfOk result (λ out. out.said ≡ said_of_told sender.now.instance view.old told.now) }
     ensures mail { IfOk result (λ out. out.mail ≡ []) }
     ensures ok { OnOk result (view.new ≡ view_after_learning sender.now.instance view.old told.now) }
     ensures free { IsFreeTell sender.now.instance view.old told.now → IsOk result }
-    ensures error { IfErr result (IsTellRefusal sender.now.instance view.old told.now) }
     ensures err { OnErr result (view.new ≡ view.old) }
 {
     if sender.instance != 0 {
         return Ok(Out::silent(alloc, Said::Ignored));
     }
-    if !is_larger(view, told) {
+    if !is_larger(view, told, fits) {
         return Ok(Out::silent(alloc, Said::Kept));
     }
     let taken = told.copy()?;
-    take_larger(view, told)?;
+    *view = told.copy()?;
     Ok(Out::silent(alloc, Said::Took(taken)))
 }

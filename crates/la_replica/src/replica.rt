@@ -1,13 +1,13 @@
-ghost use Rattle.std.specs.Prelude.{◌≡◌, ℕ, ◌+◌, ◌*◌, ◌<◌, ◌≤◌, length, slice_get, true, Some, option_map, IsOk, IfOk, IfErr, OnErr};
+ghost use Rattle.std.specs.Prelude.{◌≡◌, ◌≢◌, ℕ, ◌+◌, ◌*◌, ◌<◌, ◌≤◌, length, slice_get, true, Some, option_map, IsSomeAnd, IsOk, IfOk, IfErr, OnOk, OnErr};
 ghost use Rattle.std.specs.Option.{option_copied};
-ghost use Rattle.la_set.specs.Deeds.{Deed};
 ghost use Rattle.la_proposer.specs.declared.proposer.TheConstants.{MAX_CAP};
 ghost use Rattle.la_proposer.specs.Majority.{votes_of};
 ghost use Rattle.la_proposer.specs.Proposing.{submitted};
 ghost use Rattle.la_replica.specs.Members.{Member, start, submits, receives, sender_of, last_learnt};
 ghost use Rattle.la_replica.specs.Kept.{IsMember};
-ghost use Rattle.la_replica.specs.Steps.{copied};
+ghost use Rattle.la_replica.specs.Steps.{learnt_in};
 ghost use Rattle.la_replica.specs.Refusals.{IsSubmitRefusal, IsReceiveRefusal, IsReceivable, HasRoom, SubmittingSpares, ReceivingSpares};
+ghost use Rattle.la_replica.specs.Fitting.{FitsViewBody, FitsReceiver};
 ghost use Rattle.la_replica.specs.Memory.{IsFree};
 
 use crate::instance::Instance;
@@ -127,8 +127,8 @@ impl Replica {
     ///
     /// In this order: `NoSuchInstance`; `Full` where the replica has submitted the instance's cap;
     /// `BallotsSpent` where a ballot would open with a number over 8,000,000; `Memory`. After each the
-    /// replica is as before. A ballot costs a copy of its set for each replica and one to say; an
-    /// update that waits takes memory only where the buffer grows.
+    /// replica is as before. It is [`Replica::admit_submission`] and then
+    /// [`Replica::take_submission`].
     pub fn submit(&mut self, instance: u8, object: u16, op: Op) -> Result<Out, ReplicaError>
         ensures step { IfOk result (λ out. submits self.old instance (record { object = object; op = op }) ≡ Some (out, self.new)) }
         ensures room { IfOk result (λ _. HasRoom self.old instance) }
@@ -136,12 +136,40 @@ impl Replica {
         ensures error { IfErr result (IsSubmitRefusal self.old instance) }
         ensures err { OnErr result (self.new ≡ self.old) }
     {
+        self.admit_submission(instance)?;
+        Ok(self.take_submission(instance, object, op)?)
+    }
+
+    /// Whether a submission would be taken, memory apart: with the errors of [`Replica::submit`], in
+    /// its order. It takes no memory, and `Memory` never comes. The cost is constant.
+    pub fn admit_submission(&self, instance: u8) -> Result<(), ReplicaError>
+        ensures room { OnOk result (HasRoom self.now instance) }
+        ensures spares { OnOk result (SubmittingSpares self.now instance) }
+        ensures error { IfErr result (IsSubmitRefusal self.now instance) }
+        ensures memory { result ≢ Err ReplicaError.Memory }
+    {
+        match self.instances.get(instance as usize) {
+            Some(at) => at.admit_submission(),
+            None => Err(ReplicaError::NoSuchInstance),
+        }
+    }
+
+    /// Submits an update that is admitted, as [`Replica::submit`] does. It is refused for want of memory
+    /// alone; then the replica is as before. The cost is that of the proposer's step, and of a copy of
+    /// the ballot's set for each replica, which share it.
+    pub fn take_submission(&mut self, instance: u8, object: u16, op: Op) -> Result<Out, AllocError>
+        requires room { HasRoom self.old instance }
+        requires spares { SubmittingSpares self.old instance }
+        ensures step { IfOk result (λ out. submits self.old instance (record { object = object; op = op }) ≡ Some (out, self.new)) }
+        ensures err { OnErr result (self.new ≡ self.old) }
+    {
         let alloc = *self.instances.allocator();
         let sender = self.sender(instance);
-        let Some(at) = self.instances.get_mut(instance as usize) else {
-            return Err(ReplicaError::NoSuchInstance);
-        };
-        at.submit(alloc, &sender, object, op)
+        match self.instances.get_mut(instance as usize) {
+            Some(at) => at.take_submission(alloc, &sender, object, op),
+            // There is room in the instance.
+            None => unreachable!(),
+        }
     }
 
     /// Receives a message, honest or not. An offer is answered, and the reply goes back. A reply is
@@ -154,11 +182,14 @@ impl Replica {
     /// counting reply that does not fit what the proposer knows, with the least id; `BallotsSpent`
     /// where a reply would open a ballot with a number over 8,000,000; `Memory`. After each the
     /// replica is as before. A reply that does not count is answered `Ignored` before its set is
-    /// looked at. The cost is that of comparing the sets at hand, and of copying each set that is
-    /// said, sent or kept. So no memory is taken by an offer of exactly what is accepted, by a reply
-    /// that does not count, by an acknowledgement that only counts, while fewer than
+    /// looked at. No memory is taken by an offer of exactly what is accepted, by a reply that does not
+    /// count, by an acknowledgement that only counts, while fewer than
     /// [`la_proposer::INLINE_TALLY`] have, and by a told set that is not taken as the view: these
     /// succeed.
+    ///
+    /// It is [`Replica::admit_message`] and then the step of [`Replica::take_message`], which here
+    /// compares the updates of a set that may become the view: the cost is that of comparing the sets
+    /// at hand.
     pub fn receive(&mut self, message: &Message) -> Result<Out, ReplicaError>
         ensures step { IfOk result (λ out. receives self.old message.now ≡ Some (out, self.new)) }
         ensures fits { IfOk result (λ _. IsReceivable self.old message.now) }
@@ -167,50 +198,72 @@ impl Replica {
         ensures error { IfErr result (IsReceiveRefusal self.old message.now) }
         ensures err { OnErr result (self.new ≡ self.old) }
     {
-        let (out, _) = self.receive_as(message, false)?;
-        Ok(out)
+        self.admit_message(message)?;
+        Ok(self.take_as(message, false)?)
     }
 
-    /// Receives a message as [`Replica::receive`] does, and copies the set that is learnt by it, if
-    /// one is. Where there is no memory for the copy, `Memory`, and the replica is as before.
-    pub fn receive_with_copy(
-        &mut self,
-        message: &Message,
-    ) -> Result<(Out, Option<UpdateSet>), ReplicaError>
-        ensures step { IfOk result (λ made. receives self.old message.now ≡ Some (made.0, self.new)) }
-        ensures copy { IfOk result (λ made. made.1 ≡ copied true made.0.said) }
-        ensures fits { IfOk result (λ _. IsReceivable self.old message.now) }
-        ensures spares { IfOk result (λ _. ReceivingSpares self.old message.now) }
-        ensures free { IsFree self.old message.now → IsOk result }
-        ensures error { IfErr result (IsReceiveRefusal self.old message.now) }
-        ensures err { OnErr result (self.new ≡ self.old) }
-    {
-        self.receive_as(message, true)
-    }
-
-    // Receives a message, with a copy of what is learnt, if that is asked for.
-    fn receive_as(
-        &mut self,
-        message: &Message,
-        copying: bool,
-    ) -> Result<(Out, Option<UpdateSet>), ReplicaError>
-        ensures step { IfOk result (λ made. receives self.old message.now ≡ Some (made.0, self.new)) }
-        ensures copy { IfOk result (λ made. made.1 ≡ copied copying made.0.said) }
-        ensures fits { IfOk result (λ _. IsReceivable self.old message.now) }
-        ensures spares { IfOk result (λ _. ReceivingSpares self.old message.now) }
-        ensures free { IsFree self.old message.now → IsOk result }
-        ensures error { IfErr result (IsReceiveRefusal self.old message.now) }
-        ensures err { OnErr result (self.new ≡ self.old) }
+    /// Whether a message would be received, memory apart: with the errors of [`Replica::receive`], in
+    /// its order. It takes no memory, and `Memory` never comes. The cost is that of comparing an
+    /// offered set with what is accepted, or a refused one that counts with what the proposer knows.
+    pub fn admit_message(&self, message: &Message) -> Result<(), ReplicaError>
+        ensures receivable { OnOk result (IsReceivable self.now message.now) }
+        ensures spares { OnOk result (ReceivingSpares self.now message.now) }
+        ensures error { IfErr result (IsReceiveRefusal self.now message.now) }
+        ensures memory { result ≢ Err ReplicaError.Memory }
     {
         if message.from as usize >= self.votes.len() || message.to != self.own {
             return Err(ReplicaError::NoSuchReplica);
         }
+        match self.instances.get(message.instance as usize) {
+            Some(at) => at.admit_message(message),
+            None => Err(ReplicaError::NoSuchInstance),
+        }
+    }
+
+    /// Receives a message that fits all that the replica knows, as [`Replica::receive`] does. It is
+    /// refused for want of memory alone; then the replica is as before. The same messages as there take
+    /// no memory.
+    ///
+    /// No updates are compared: the counts of sets that fit tell which contains which. The cost is that of
+    /// the acceptor's or the proposer's step, and of a copy of each set that is said, sent or kept, which
+    /// share it.
+    pub fn take_message(&mut self, message: &Message) -> Result<Out, AllocError>
+        requires { FitsReceiver self.old message.now }
+        ensures step { IfOk result (λ out. receives self.old message.now ≡ Some (out, self.new)) }
+        ensures free { IsFree self.old message.now → IsOk result }
+        ensures err { OnErr result (self.new ≡ self.old) }
+    {
+        self.take_as(message, true)
+    }
+
+    /// The set that a message would lead this replica to learn, if it were received: the open ballot's,
+    /// where the message is an acknowledgement or a refusal with which a majority has acknowledged it; else
+    /// `None`. It takes no memory, and the cost is constant.
+    pub fn would_learn(&self, message: &Message) -> Option<&UpdateSet>
+        ensures { (out : Out) (after : Member) → receives self.now message.now ≡ Some (out, after) → option_copied result ≡ learnt_in out.said }
+    {
+        self.instances
+            .get(message.instance as usize)?
+            .would_learn(message)
+    }
+
+    // Does what an admitted message asks for. Where a set that may become the view is known to fit it, no
+    // updates are compared.
+    fn take_as(&mut self, message: &Message, fits: bool) -> Result<Out, AllocError>
+        requires receivable { IsReceivable self.old message.now }
+        requires spares { ReceivingSpares self.old message.now }
+        requires view { fits ≡ true → IsSomeAnd (slice_get self.old.instances message.now.instance) (λ x. FitsViewBody x self.old.view message.now message.now.body) }
+        ensures step { IfOk result (λ out. receives self.old message.now ≡ Some (out, self.new)) }
+        ensures free { IsFree self.old message.now → IsOk result }
+        ensures err { OnErr result (self.new ≡ self.old) }
+    {
         let alloc = *self.instances.allocator();
         let sender = self.sender(message.instance);
-        let Some(at) = self.instances.get_mut(message.instance as usize) else {
-            return Err(ReplicaError::NoSuchInstance);
-        };
-        at.receive(alloc, &sender, message, &mut self.view, copying)
+        match self.instances.get_mut(message.instance as usize) {
+            Some(at) => at.take_message(alloc, &sender, message, &mut self.view, fits),
+            // The message is receivable.
+            None => unreachable!(),
+        }
     }
 
     // Where the replica's messages of an instance come from.

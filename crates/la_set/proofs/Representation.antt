@@ -1,13 +1,13 @@
 -- A set that is kept as eight lists: what each list is, and what an edit of one keeps.
-use Rattle.std.proofs.Common.{◌≡◌, ℕ, ◌<◌, ◌≤◌, List, [], length, get_or, map, set, Vec, Global, ap, sym, ◌∙◌, subst, arith, inl, inr}
-use Rattle.std.proofs.lemmas.List.{length-map, length-set, get_or-set_same, get_or-set_other, get_or-map, map-set}
+use Rattle.std.proofs.Common.{◌≡◌, ℕ, zero, suc, ◌+◌, ◌<◌, ◌≤◌, List, [], ◌∷◌, ◌++◌, length, get_or, map, set, replicate, ap, sym, ◌∙◌, subst, arith, inl, inr}
+use Rattle.std.proofs.lemmas.List.{length-set, get_or-set_same, get_or-set_other, get_or_default, get_or-replicate, length-map}
 use Rattle.std.proofs.lemmas.Bool.{cases_eq}
 use Rattle.la_set.specs.declared.update.Update.{Update}
-use Rattle.la_set.specs.Deeds.{Deed, deed_of}
-use Rattle.la_set.specs.Histories.{Histories, history, count, with_history, numbered, IsWithinLimit}
+use Rattle.la_set.specs.Deeds.{Deed, deed_of, update_of}
+use Rattle.la_set.specs.Histories.{Histories, empty, history, count, with_history, numbered, IsWithinLimit}
 use Rattle.la_set.specs.Kept.{kept, IsKept}
-use Rattle.la_set.proofs.NumberedLists.{deeds-numbered}
-use Rattle.la_set.proofs.SetHistories.{history-from_histories, same_histories, history-with_same, history-with_other, with_history-history}
+use Rattle.la_set.proofs.NumberedLists.{deeds-numbered, numbered-append}
+use Rattle.la_set.proofs.SetHistories.{history-from_histories, same_histories, history-with_same, history-with_other, history-empty, count-edited}
 
 -- a list of lists that holds each replica's updates
 pub kept-from : (lists : List (List Update)) (s : Histories) → ((r : ℕ) → r < 8 → get_or lists r [] ≡ numbered r 1 (history s r)) → kept lists ≡ s
@@ -19,38 +19,49 @@ IsKept-from lists s eight each within =
     let same = kept-from lists s each in
     record { eight = eight; in_order = λ r lt. each r lt ∙ ap (λ t. numbered r 1 (history t r)) (sym same); within = λ r. subst (λ t. count t r ≤ 1000000) (sym same) (within r) }
 
--- the list of a replica, in an array of vectors
-pub vec_at : (vs : List (Vec Update Global)) (s : Histories) (r : ℕ) (d : Vec Update Global) → r < 8 → IsKept (map (λ (v : Vec Update Global). v.items) vs) → kept (map (λ (v : Vec Update Global). v.items) vs) ≡ s → (get_or vs r d).items ≡ numbered r 1 (history s r)
-vec_at vs s r d lt keeps is =
-    sym (get_or-map (λ (v : Vec Update Global). v.items) vs r d [] (omega (arith, keeps.eight, length-map vs (λ (v : Vec Update Global). v.items)))) ∙ keeps.in_order r lt ∙ ap (λ t. numbered r 1 (history t r)) is
+-- the list of a replica
+pub list_at : (lists : List (List Update)) (s : Histories) (r : ℕ) (d : List Update) → r < 8 → IsKept lists → kept lists ≡ s → get_or lists r d ≡ numbered r 1 (history s r)
+list_at lists s r d lt keeps is = get_or_default lists r d [] (omega (arith, keeps.eight)) ∙ keeps.in_order r lt ∙ ap (λ t. numbered r 1 (history t r)) is
 
--- one vector in the place of another
-module _ (vs : List (Vec Update Global)) (s : Histories) (r : ℕ) (ds : List Deed) (v : Vec Update Global) (known : r < 8) (keeps : IsKept (map (λ (v : Vec Update Global). v.items) vs)) (is : kept (map (λ (v : Vec Update Global). v.items) vs) ≡ s) (listed : v.items ≡ numbered r 1 ds) where
-  lists : List (List Update)
-  lists = map (λ (w : Vec Update Global). w.items) vs
-
-  each_edited : (q : ℕ) → q < 8 → get_or (set lists r v.items) q [] ≡ numbered q 1 (history (with_history s r ds) q)
-  unfolding lists
+-- one list in the place of another
+module _ (lists : List (List Update)) (s : Histories) (r : ℕ) (us : List Update) (known : r < 8) (eight : length lists ≡ 8) (each : (q : ℕ) → q < 8 → get_or lists q [] ≡ numbered q 1 (history s q)) (listed : us ≡ numbered r 1 (map deed_of us)) where
+  each_edited : (q : ℕ) → q < 8 → get_or (set lists r us) q [] ≡ numbered q 1 (history (with_history s r (map deed_of us)) q)
   each_edited q lt = elim (cases_eq q r) [
-    | inl e ↦ ap (λ p. get_or (set lists r v.items) p []) e ∙ get_or-set_same lists r v.items [] (omega (arith, keeps.eight)) ∙ listed ∙ ap (λ p. numbered p 1 ds) (sym e) ∙ ap (numbered q 1) (sym (history-with_same s r ds q known e))
-    | inr ne ↦ get_or-set_other lists r q v.items [] ne ∙ keeps.in_order q lt ∙ ap (λ t. numbered q 1 (history t q)) is ∙ ap (numbered q 1) (sym (history-with_other s r ds q ne))
+    | inl e ↦ ap (λ p. get_or (set lists r us) p []) e ∙ get_or-set_same lists r us [] (omega (arith, eight)) ∙ listed ∙ ap (λ p. numbered p 1 (map deed_of us)) (sym e) ∙ ap (numbered q 1) (sym (history-with_same s r (map deed_of us) q known e))
+    | inr ne ↦ get_or-set_other lists r q us [] ne ∙ each q lt ∙ ap (numbered q 1) (sym (history-with_other s r (map deed_of us) q ne))
   ]
 
-  pub kept-edited : kept (map (λ (w : Vec Update Global). w.items) (set vs r v)) ≡ with_history s r ds
-  unfolding lists
-  kept-edited = ap kept (map-set (λ (w : Vec Update Global). w.items) vs r v) ∙ kept-from _ (with_history s r ds) each_edited
+  pub kept-edited : kept (set lists r us) ≡ with_history s r (map deed_of us)
+  kept-edited = kept-from _ (with_history s r (map deed_of us)) each_edited
 
-  pub IsKept-edited : IsWithinLimit (with_history s r ds) → IsKept (map (λ (w : Vec Update Global). w.items) (set vs r v))
-  unfolding lists
-  IsKept-edited within =
-      subst IsKept (sym (map-set (λ (w : Vec Update Global). w.items) vs r v))
-      (IsKept-from _ (with_history s r ds) (length-set lists r v.items ∙ keeps.eight) each_edited within)
+  pub IsKept-edited : length us ≤ 1000000 → IsWithinLimit s → IsKept (set lists r us)
+  IsKept-edited few within = IsKept-from _ (with_history s r (map deed_of us)) (length-set lists r us ∙ eight) each_edited (count-edited s r (map deed_of us) known (omega (arith, few, length-map us deed_of)) within)
 
--- one vector in its own place, with its updates as they were
-module _ (vs : List (Vec Update Global)) (s : Histories) (r : ℕ) (v : Vec Update Global) (known : r < 8) (keeps : IsKept (map (λ (v : Vec Update Global). v.items) vs)) (is : kept (map (λ (v : Vec Update Global). v.items) vs) ≡ s) (listed : v.items ≡ numbered r 1 (history s r)) where
-  pub kept-same : kept (map (λ (w : Vec Update Global). w.items) (set vs r v)) ≡ s
-  kept-same = kept-edited vs s r (history s r) v known keeps is listed ∙ with_history-history s r known
+-- a replica's updates are named by their deeds
+pub numbered-deeds : (us : List Update) (r : ℕ) (ds : List Deed) → us ≡ numbered r 1 ds → us ≡ numbered r 1 (map deed_of us)
+numbered-deeds us r ds e = e ∙ ap (numbered r 1) (sym (ap (map deed_of) e ∙ deeds-numbered r 1 ds))
 
-  pub IsKept-same : IsKept (map (λ (w : Vec Update Global). w.items) (set vs r v))
-  IsKept-same = IsKept-edited vs s r (history s r) v known keeps is listed
-      (subst IsWithinLimit (sym (with_history-history s r known)) (subst IsWithinLimit is keeps.within))
+-- a replica's list with the next update
+pub pushed-list : (s : Histories) (u : Update) (list : List Update) → u.id.number ≡ count s u.id.replica + 1 → list ≡ numbered u.id.replica 1 (history s u.id.replica) ++ u ∷ [] → list ≡ numbered u.id.replica 1 (history s u.id.replica ++ deed_of u ∷ [])
+pushed-list s u list next e =
+    let r = u.id.replica in
+    e ∙ sym (numbered-append r 1 (history s r) (deed_of u ∷ []) ∙ ap (λ n. numbered r 1 (history s r) ++ update_of r n (deed_of u) ∷ []) {x = 1 + count s r} {y = u.id.number} (omega (arith, next)))
+
+-- eight empty lists
+pub none_each : (r : ℕ) → r < 8 → get_or (replicate 8 []) r [] ≡ numbered r 1 (history empty r)
+none_each r lt = get_or-replicate 8 r [] [] lt ∙ ap (numbered r 1) (sym (history-empty r))
+
+-- eight lists, each that of one replica
+pub eight_each : (s : Histories) (a b c d e f g h : List Update)
+    → a ≡ numbered 0 1 (history s 0) → b ≡ numbered 1 1 (history s 1) → c ≡ numbered 2 1 (history s 2) → d ≡ numbered 3 1 (history s 3)
+    → e ≡ numbered 4 1 (history s 4) → f ≡ numbered 5 1 (history s 5) → g ≡ numbered 6 1 (history s 6) → h ≡ numbered 7 1 (history s 7)
+    → (r : ℕ) → r < 8 → get_or (a ∷ b ∷ c ∷ d ∷ e ∷ f ∷ g ∷ h ∷ []) r [] ≡ numbered r 1 (history s r)
+eight_each s a b c d e f g h p0 p1 p2 p3 p4 p5 p6 p7 zero lt = p0
+eight_each s a b c d e f g h p0 p1 p2 p3 p4 p5 p6 p7 (suc zero) lt = p1
+eight_each s a b c d e f g h p0 p1 p2 p3 p4 p5 p6 p7 (suc (suc zero)) lt = p2
+eight_each s a b c d e f g h p0 p1 p2 p3 p4 p5 p6 p7 (suc (suc (suc zero))) lt = p3
+eight_each s a b c d e f g h p0 p1 p2 p3 p4 p5 p6 p7 (suc (suc (suc (suc zero)))) lt = p4
+eight_each s a b c d e f g h p0 p1 p2 p3 p4 p5 p6 p7 (suc (suc (suc (suc (suc zero))))) lt = p5
+eight_each s a b c d e f g h p0 p1 p2 p3 p4 p5 p6 p7 (suc (suc (suc (suc (suc (suc zero)))))) lt = p6
+eight_each s a b c d e f g h p0 p1 p2 p3 p4 p5 p6 p7 (suc (suc (suc (suc (suc (suc (suc zero))))))) lt = p7
+eight_each s a b c d e f g h p0 p1 p2 p3 p4 p5 p6 p7 (suc (suc (suc (suc (suc (suc (suc (suc r)))))))) lt = absurd (omega arith)

@@ -1,6 +1,6 @@
 -- A set and its eight histories.
 use Rattle.std.proofs.Common.{◌≡◌, ◌≢◌, ℕ, zero, suc, ◌-◌, ◌<◌, ◌≤◌, cond, eqb, List, [], ◌∷◌, ◌++◌, length, take, refl, ap, sym, ◌∙◌, arith, inl, inr}
-use Rattle.std.proofs.lemmas.List.{get_or_past, length-append, length-take, nil_from_length}
+use Rattle.std.proofs.lemmas.List.{get_or_past, length-append, length-take, nil_from_length, take_all}
 use Rattle.std.proofs.lemmas.Bool.{cases_lt, cases_eq, eq-eqb, ne_eqb}
 use Rattle.la_set.specs.declared.update.Update.{Update}
 use Rattle.la_set.specs.Deeds.{Deed, deed_of}
@@ -77,6 +77,12 @@ count-push s u next within r =
       | inr ne ↦ omega (arith, ap length (history-with_other s q (history s q ++ deed_of u ∷ []) r ne), within r)
     ]
 
+pub count-edited : (s : Histories) (q : ℕ) (ds : List Deed) → q < 8 → length ds ≤ 1000000 → IsWithinLimit s → IsWithinLimit (with_history s q ds)
+count-edited s q ds known few within r = elim (cases_eq r q) [
+  | inl e ↦ omega (arith, ap length (history-with_same s q ds r known e))
+  | inr ne ↦ omega (arith, ap length (history-with_other s q ds r ne), within r)
+]
+
 pub count-shortened : (s : Histories) (q n : ℕ) → q < 8 → IsWithinLimit s → IsWithinLimit (with_history s q (take n (history s q)))
 count-shortened s q n known within r = elim (cases_eq r q) [
   | inl e ↦ omega (arith, ap length (history-with_same s q (take n (history s q)) r known e), length-take n (history s q), within q)
@@ -87,5 +93,12 @@ count-shortened s q n known within r = elim (cases_eq r q) [
 pub pop_none : (s : Histories) (r : ℕ) → count s r ≡ 0 → s ≡ pop s r
 pop_none s r none = same_histories _ _ (λ q lt. elim (cases_eq q r) [
   | inl e ↦ ap (history s) e ∙ nil_from_length (history s r) none ∙ sym (ap (take (count s r - 1)) (nil_from_length (history s r) none) ∙ ap (λ n. take n []) {x = count s r - 1} {y = 0} (omega (arith, none))) ∙ sym (history-with_same s r _ q (omega arith) e)
+  | inr ne ↦ sym (history-with_other s r _ q ne)
+])
+
+-- nothing to cut off
+pub shortened-none : (s : Histories) (r n : ℕ) → count s r ≤ n → s ≡ with_history s r (take n (history s r))
+shortened-none s r n le = same_histories _ _ (λ q lt. elim (cases_eq q r) [
+  | inl e ↦ ap (history s) e ∙ sym (take_all n (history s r) le) ∙ sym (history-with_same s r _ q (omega (arith, lt, e)) e)
   | inr ne ↦ sym (history-with_other s r _ q ne)
 ])

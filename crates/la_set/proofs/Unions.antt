@@ -1,17 +1,17 @@
 -- The join of two sets: its histories and its members.
-use Rattle.std.proofs.Common.{◌≡◌, ◌⊎◌, ℕ, zero, suc, ◌+◌, ◌-◌, ◌<◌, ◌≤◌, List, [], ◌∷◌, ◌++◌, append-nil, length, drop, Some, refl, ap, sym, ◌∙◌, subst, arith, inl, inr}
+use Rattle.std.proofs.Common.{◌≡◌, ◌⊎◌, ℕ, zero, suc, ◌+◌, ◌-◌, ◌≤◌, List, [], ◌∷◌, ◌++◌, append-nil, length, drop, Some, refl, ap, sym, ◌∙◌, subst, arith, inl, inr}
 use Rattle.std.specs.List.{slice_get}
 use Rattle.std.proofs.lemmas.List.{take_at, drop_all}
 use Rattle.std.proofs.lemmas.Option.{none-some, slice_get-get_or}
-use Rattle.std.proofs.lemmas.Bool.{cases_lt, cases_eq}
+use Rattle.std.proofs.lemmas.Bool.{cases_lt}
 use Rattle.la_set.specs.declared.update.Update.{Update}
 use Rattle.la_set.specs.Deeds.{Deed, deed_of}
-use Rattle.la_set.specs.Histories.{Histories, history, deed_number, ContainsUpdate, with_history, empty}
+use Rattle.la_set.specs.Histories.{Histories, history, deed_number, ContainsUpdate, empty}
 use Rattle.la_set.specs.Inclusion.{IsSubset}
 use Rattle.la_set.specs.Join.{joined, union, HasNoMore, IsCompatible}
 use Rattle.la_set.proofs.NumberedLists.{slice_get-append_left, slice_get-append_right}
 use Rattle.la_set.proofs.Prefixes.{IsPrefix, IsPrefix-from_reads}
-use Rattle.la_set.proofs.SetHistories.{same_histories, history-from_histories, history_past, history-empty, history-with_same, history-with_other}
+use Rattle.la_set.proofs.SetHistories.{same_histories, history-from_histories, history_past, history-empty}
 use Rattle.la_set.proofs.Inclusions.{deed-contains, contains-deed, prefix-subset, subset-refl, subset-antisym, compatible-agree, compatible-within}
 
 -- ## One replica's histories
@@ -119,31 +119,3 @@ module _ (f : Histories) where
         | inr p ↦ elim (contains-union_cases b c u p) [ inl q ↦ subset-union_left (union a b) c u (subset-union_right a b ab u q) | inr q ↦ subset-union_right (union a b) c ab_c u q ]
       ] in
       subset-antisym _ _ left right
-
--- ## Joining one replica after another
-
-pub record IsJoinedBelow (s t now : Histories) (r : ℕ) : Type 0 where
-  pub done : (q : ℕ) → q < r → history now q ≡ history (union s t) q
-  pub todo : (q : ℕ) → r ≤ q → history now q ≡ history s q
-
-pub joined_none : (s t : Histories) → IsJoinedBelow s t s 0
-joined_none s t = record { done = λ q lt. absurd (omega arith); todo = λ q le. refl }
-
-module _ (s t now : Histories) (r : ℕ) (joined_so_far : IsJoinedBelow s t now r) where
-  pub joined-more : r < 8 → (next : Histories) → next ≡ with_history now r (joined (history now r) (history t r)) → IsJoinedBelow s t next (r + 1)
-  joined-more lt next is = record {
-    done = λ q below. elim (cases_eq q r) [
-      | inl e ↦ ap (λ x. history x q) is ∙ history-with_same now r _ q lt e ∙ ap (λ xs. joined xs (history t r)) (joined_so_far.todo r (omega arith)) ∙ ap (λ p. joined (history s p) (history t p)) (sym e) ∙ sym (history-union s t q)
-      | inr ne ↦ ap (λ x. history x q) is ∙ history-with_other now r _ q ne ∙ joined_so_far.done q (omega arith)
-    ];
-    todo = λ q above. ap (λ x. history x q) is ∙ history-with_other now r _ q (λ e. omega arith) ∙ joined_so_far.todo q (omega arith);
-  }
-
-  pub joined-all : 8 ≤ r → now ≡ union s t
-  joined-all le = same_histories now (union s t) (λ q lt. joined_so_far.done q (omega arith))
-
-  pub joined-contains : IsSubset s now
-  joined-contains = prefix-subset s now (λ q. elim (cases_lt q r) [
-    | inl lt ↦ subst (IsPrefix (history s q)) (sym (joined_so_far.done q lt ∙ history-union s t q)) (joined_first (history s q) (history t q))
-    | inr le ↦ subst (IsPrefix (history s q)) (sym (joined_so_far.todo q le)) (IsPrefix-from_reads _ _ (λ k d e. e))
-  ])

@@ -1,3 +1,4 @@
+pub mod Links
 pub mod Ids
 pub mod Tags
 pub mod Deeds

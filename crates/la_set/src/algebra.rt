@@ -1,14 +1,17 @@
 // What sets say of one another, over what `set` offers.
-ghost use Rattle.std.specs.Prelude.{◌≡◌, ℕ, ◌++◌, ◌<◌, ◌≤◌, ◌↔◌, length, take, filter, slice_index, All, IsOk, IsTrue, IfOk, IfErr, OnOk, OnErr, MatchOption};
-ghost use Rattle.la_set.specs.Histories.{ContainsUpdate, history, with_history, count, updates};
+ghost use Rattle.std.specs.Prelude.{◌≡◌, ℕ, ◌++◌, ◌<◌, ◌≤◌, ◌↔◌, length, drop, filter, slice_get, Some, All, IsOk, IsTrue, IfOk, IfErr, OnOk, OnErr, MatchOption};
+ghost use Rattle.std.specs.Option.{option_copied};
+ghost use Rattle.la_set.specs.Histories.{ContainsUpdate, updates};
 ghost use Rattle.la_set.specs.Inclusion.{IsSubset, is_subset, IsOrderOf};
-ghost use Rattle.la_set.specs.Join.{HasNoMore, IsCompatible, IsLeastClash, joined, union};
+ghost use Rattle.la_set.specs.Join.{HasNoMore, IsCompatible, IsLeastClash, union};
 ghost use Rattle.la_set.specs.Difference.{beyond, lacks};
-ghost use Rattle.la_set.specs.Agreement.{AgreeBelow, IsFirstDifference};
+ghost use Rattle.la_set.specs.declared.set.TheConstants.{MAX_NUMBER};
+ghost use Rattle.la_set.specs.Links.{items_of};
 ghost use Rattle.la_set.specs.Refusals.{IsUnionRefusal};
 
+use crate::history::{History, Lent, begins_with, first_difference, item_at, len_of};
 use crate::{REPLICAS, SetError, Update, UpdateId, UpdateSet, Updates};
-use std::alloc::AllocError;
+use std::alloc::{AllocError, Global};
 use std::cmp::Ordering;
 
 impl UpdateSet {
@@ -48,10 +51,19 @@ impl UpdateSet {
         }
     }
 
+    /// Whether each update of the other set is in this one, where no id has two updates in the two: by
+    /// the counts alone, at constant cost.
+    pub fn contains_compatible(&self, other: &UpdateSet) -> bool
+        requires { IsCompatible self.now other.now }
+        ensures { result ≡ is_subset other.now self.now }
+    {
+        other.has_no_more(self)
+    }
+
     /// Adds what the other set has. `Clash` comes exactly where an id has two different updates, and
     /// names the least such id. After a refusal the set is unchanged. Where the other set lies in this
     /// one nothing changes, and no memory is taken. The cost is that of comparing the updates that both
-    /// have, and of copying those that are added.
+    /// have; what is added is shared.
     pub fn union(&mut self, other: &UpdateSet) -> Result<(), SetError>
         ensures ok { OnOk result (self.new ≡ union self.old other.now) }
         ensures compatible { OnOk result (IsCompatible self.old other.now) }
@@ -63,17 +75,8 @@ impl UpdateSet {
         if let Some(id) = self.first_clash(other) {
             return Err(SetError::Clash(id));
         }
-        self.join(other)?;
+        self.join_compatible(other)?;
         Ok(())
-    }
-
-    /// A copy, at linear cost, with one allocation for each replica that has updates.
-    pub fn copy(&self) -> Result<UpdateSet, AllocError>
-        ensures { IfOk result (λ copy. copy ≡ self.now) }
-    {
-        let mut copy = UpdateSet::new(self.allocator());
-        copy.join(self)?;
-        Ok(copy)
     }
 
     /// Copies of this set's updates that the other has not, in the order of ids: set difference by
@@ -85,7 +88,7 @@ impl UpdateSet {
     {
         let mut updates = Updates::new(self.allocator());
         for replica in 0..REPLICAS {
-            other.copy_lacking(self.updates_of(replica), &mut updates)?;
+            other.copy_lacking(self.history_of(replica), &mut updates)?;
         }
         Ok(updates)
     }
@@ -101,11 +104,12 @@ impl UpdateSet {
     }
 
     // Puts copies of the updates that the set lacks last in the list.
-    fn copy_lacking(&self, updates: &[Update], into: &mut Updates) -> Result<(), AllocError>
-        ensures room { All (λ update. ContainsUpdate self.now update) updates.now → IsOk result }
-        ensures ok { OnOk result (into.new ≡ into.old ++ filter (lacks self.now) updates.now) }
+    fn copy_lacking(&self, updates: Lent<'_, Update>, into: &mut Updates) -> Result<(), AllocError>
+        ensures room { All (λ update. ContainsUpdate self.now update) (items_of (option_copied updates.entry)) → IsOk result }
+        ensures ok { OnOk result (into.new ≡ into.old ++ filter (lacks self.now) (items_of (option_copied updates.entry))) }
     {
-        for update in updates {
+        for place in 0..len_of(updates) {
+            let update = item(updates, place);
             if !self.has(update) {
                 into.push(update.copy()?)?;
             }
@@ -138,8 +142,8 @@ impl UpdateSet {
         ensures { MatchOption result (IsCompatible self.now other.now) (λ id. IsLeastClash self.now other.now id) }
     {
         for replica in 0..REPLICAS {
-            let mine = self.updates_of(replica);
-            if let Some(place) = first_difference(mine, other.updates_of(replica)) {
+            let mine = self.history_of(replica);
+            if let Some(place) = first_difference(mine, other.history_of(replica)) {
                 let number = place as u32 + 1;
                 return Some(UpdateId { replica, number });
             }
@@ -147,75 +151,81 @@ impl UpdateSet {
         None
     }
 
-    /// Adds what the other set has beyond this one's counts, without looking for clashes: the join,
-    /// which is the union where no id has two updates, as where one set contains the other. After
-    /// a refusal the set is unchanged. Where this set has of each replica as many updates or more
-    /// nothing changes, and no memory is taken. The cost is that of copying the updates that are added.
+    /// Adds what the other set has beyond this one's counts, without refusing clashes: the join, which
+    /// is the union where no id has two updates, as where one set contains the other. After a refusal
+    /// the set is unchanged. Where this set has of each replica as many updates or more nothing changes,
+    /// and no memory is taken. The cost is that of comparing the updates of the replicas of which the
+    /// other set has more: where these agree what is added is shared, and else it is copied.
     pub fn join(&mut self, other: &UpdateSet) -> Result<(), AllocError>
         ensures ok { OnOk result (self.new ≡ union self.old other.now) }
         ensures err { OnErr result (self.new ≡ self.old) }
         ensures room { HasNoMore other.now self.old → IsOk result }
         ensures nothing { HasNoMore other.now self.old → self.new ≡ self.old }
     {
-        let counts = self.counts();
-        for replica in 0..REPLICAS {
-            if let Err(refused) = self.catch_up(other, replica) {
-                self.cut_back(&counts);
-                return Err(refused);
-            }
+        if other.has_no_more(self) {
+            return Ok(());
         }
+        let alloc = self.allocator();
+        let mut of = self.histories()?;
+        for replica in 0..REPLICAS {
+            catch_up(alloc, &mut of[replica as usize], other.history_of(replica))?;
+        }
+        *self = UpdateSet::keeping(alloc, of)?;
         Ok(())
     }
 
-    // Adds what the other set has of one replica beyond this one's count, as far as memory lasts.
-    fn catch_up(&mut self, other: &UpdateSet, replica: u8) -> Result<(), AllocError>
-        requires { replica < REPLICAS }
-        ensures ok { OnOk result (self.new ≡ with_history self.old replica (joined (history self.old replica) (history other.now replica))) }
-        ensures kept { IsSubset self.old self.new }
-        ensures room { count other.now replica ≤ count self.old replica → IsOk result }
+    /// The union with a set that has no other update under any id: as [`UpdateSet::join`], but nothing
+    /// is compared and all that is added is shared, at constant cost. After a refusal the set is
+    /// unchanged. Where the other set lies in this one nothing changes, and no memory is taken.
+    pub fn join_compatible(&mut self, other: &UpdateSet) -> Result<(), AllocError>
+        requires { IsCompatible self.old other.now }
+        ensures ok { OnOk result (self.new ≡ union self.old other.now) }
+        ensures err { OnErr result (self.new ≡ self.old) }
+        ensures room { HasNoMore other.now self.old → IsOk result }
+        ensures nothing { HasNoMore other.now self.old → self.new ≡ self.old }
     {
-        let have = self.updates_of(replica).len();
-        let theirs = other.updates_of(replica);
-        if have < theirs.len() {
-            let missing = &theirs[have..];
-            self.make_room(replica, missing.len())?;
-            for update in missing {
-                self.append(update.copy()?)?;
-            }
+        if other.has_no_more(self) {
+            return Ok(());
         }
+        if self.has_no_more(other) {
+            *self = other.copy()?;
+            return Ok(());
+        }
+        let alloc = self.allocator();
+        let mut of = self.histories()?;
+        for replica in 0..REPLICAS {
+            of[replica as usize].extend_from(other.history_of(replica))?;
+        }
+        *self = UpdateSet::keeping(alloc, of)?;
         Ok(())
-    }
-
-    // How many updates of each replica there are.
-    fn counts(&self) -> [u32; 8]
-        ensures { (r : ℕ) → r < REPLICAS → slice_index result r ≡ count self.now r }
-    {
-        let mut counts = [0; 8];
-        for replica in 0..REPLICAS {
-            counts[replica as usize] = self.count_of(replica);
-        }
-        counts
-    }
-
-    // Keeps of each replica as many updates as are said.
-    fn cut_back(&mut self, counts: &[u32; 8])
-        ensures { (r : ℕ) → r < REPLICAS → history self.new r ≡ take (slice_index counts.now r) (history self.old r) }
-    {
-        for replica in 0..REPLICAS {
-            self.truncate(replica, counts[replica as usize]);
-        }
     }
 }
 
-// The first place at which both lists have an update and these differ.
-fn first_difference(mine: &[Update], theirs: &[Update]) -> Option<usize>
-    ensures { MatchOption result ((n : ℕ) → AgreeBelow mine.now theirs.now n) (λ place. IsFirstDifference mine.now theirs.now place) }
+// Adds what a list has beyond another's length to that, shared if it can be.
+fn catch_up(
+    alloc: Global,
+    mine: &mut History<Update>,
+    theirs: Lent<'_, Update>,
+) -> Result<(), AllocError>
+    requires { length (items_of (option_copied theirs)) ≤ MAX_NUMBER }
+    ensures { OnOk result (mine.new ≡ mine.old ++ drop (length mine.old) (items_of (option_copied theirs.entry))) }
 {
-    for (place, update) in mine.iter().enumerate() {
-        let other = theirs.get(place)?;
-        if !update.same(other) {
-            return Some(place);
-        }
+    if begins_with(theirs, mine.link()) {
+        return mine.extend_from(theirs);
     }
-    None
+    for place in len_of(mine.link())..len_of(theirs) {
+        mine.push(alloc, item(theirs, place).copy()?)?;
+    }
+    Ok(())
+}
+
+// The update at a place that there is.
+fn item(updates: Lent<'_, Update>, place: usize) -> &Update
+    requires { place < length (items_of (option_copied updates)) }
+    ensures { slice_get (items_of (option_copied updates.entry)) place ≡ Some result.now }
+{
+    match item_at(updates, place) {
+        Some(update) => update,
+        None => unreachable!(),
+    }
 }

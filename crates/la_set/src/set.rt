@@ -1,12 +1,16 @@
-ghost use Rattle.std.specs.Prelude.{◌≡◌, ◌+◌, ◌<◌, ◌≤◌, length, take, slice_get, IfOk, IfErr, OnOk, OnErr};
+ghost use Rattle.std.specs.Prelude.{◌≡◌, ℕ, [], ◌+◌, ◌<◌, ◌≤◌, length, map, take, slice_get, slice_index_or, IfOk, IfErr, OnOk, OnErr};
 ghost use Rattle.std.specs.Option.{option_copied};
-ghost use Rattle.la_set.specs.Histories.{empty, history, updates, numbered, count, get, push, pop, with_history, IsNext};
-ghost use Rattle.la_set.specs.Join.{joined, union};
+ghost use Rattle.la_set.specs.Deeds.{deed_of};
+ghost use Rattle.la_set.specs.Histories.{empty, history, updates, numbered, count, get, push, pop, with_history, IsNext, IsWithinLimit};
 ghost use Rattle.la_set.specs.Refusals.{IsPushRefusal};
+ghost use Rattle.la_set.specs.Links.{items_of};
+ghost use Rattle.la_set.specs.Kept.{kept, IsKept};
 
+use crate::history::{History, Lent, item_at, len_of};
 use crate::{SetError, Update, UpdateId};
 use std::alloc::{AllocError, Global};
 use std::marker::Model;
+use std::sync::Arc;
 
 /// How many replicas a group may have: their numbers are 0 to 7.
 pub const REPLICAS: u8 = 8;
@@ -16,23 +20,24 @@ pub const MAX_NUMBER: u32 = 1_000_000;
 
 /// A set of updates, one for each id, in which each replica's numbers run from 1 without a gap.
 ///
-/// It keeps a list for each replica, in the order of the numbers, so that an id is found at once.
+/// It keeps a list for each replica, in the order of the numbers. The lists lie behind one pointer, and
+/// copies share them: what is added to one copy, the others don't see.
 #[derive(Drop)]
 pub struct UpdateSet {
-    of: [Vec<Update>; 8],
+    alloc: Global,
+    of: Option<Arc<[History<Update>; 8]>>,
 }
 
 impl Model for UpdateSet {
-    ghost use Rattle.std.specs.Prelude.{map};
     ghost use Rattle.la_set.specs.Histories.{Histories};
 
     ghost Value = { Histories };
 
-    ghost use Rattle.la_set.specs.Kept.{kept, IsKept};
+    ghost use Rattle.la_set.specs.Kept.{kept, lists_of, IsKept};
 
-    ghost view = { λ s. kept (map (λ v. v.items) s.of) };
+    ghost view = { λ s. kept (lists_of s.of) };
 
-    ghost invariant = { λ s. IsKept (map (λ v. v.items) s.of) };
+    ghost invariant = { λ s. IsKept (lists_of s.of) };
 }
 
 impl UpdateSet {
@@ -40,18 +45,7 @@ impl UpdateSet {
     pub fn new(alloc: Global) -> UpdateSet
         ensures { result ≡ empty }
     {
-        UpdateSet {
-            of: [
-                Vec::new(alloc),
-                Vec::new(alloc),
-                Vec::new(alloc),
-                Vec::new(alloc),
-                Vec::new(alloc),
-                Vec::new(alloc),
-                Vec::new(alloc),
-                Vec::new(alloc),
-            ],
-        }
+        UpdateSet { alloc, of: None }
     }
 
     /// How many updates of a replica there are, at most [`MAX_NUMBER`]: their numbers are 1 to
@@ -60,7 +54,10 @@ impl UpdateSet {
         ensures count { result ≡ count self.now replica }
         ensures limit { result ≤ MAX_NUMBER }
     {
-        self.updates_of(replica).len() as u32
+        if replica >= REPLICAS {
+            return 0;
+        }
+        len_of(self.history_of(replica)) as u32
     }
 
     /// How many updates there are, at most 8,000,000. The cost is constant.
@@ -75,34 +72,51 @@ impl UpdateSet {
         all
     }
 
-    /// The update with this id, at constant cost.
+    /// The update with this id, at logarithmic cost.
     pub fn get(&self, id: UpdateId) -> Option<&Update>
         ensures { option_copied result ≡ get self.now id }
     {
-        if id.number == 0 {
+        if id.number == 0 || id.replica >= REPLICAS {
             return None;
         }
-        nth(self.updates_of(id.replica), (id.number - 1) as usize)
+        item_at(self.history_of(id.replica), (id.number - 1) as usize)
     }
 
-    /// The update at a place, from 0, in the order of ids. The cost is constant.
+    /// The update at a place, from 0, in the order of ids. The cost is logarithmic.
     pub fn at(&self, place: usize) -> Option<&Update>
         ensures { option_copied result ≡ slice_get (updates self.now) place }
     {
         let mut left = place;
         for replica in 0..REPLICAS {
-            let mine = self.updates_of(replica);
-            if left < mine.len() {
-                return nth(mine, left);
+            let mine = self.history_of(replica);
+            let count = len_of(mine);
+            if left < count {
+                return item_at(mine, left);
             }
-            left -= mine.len();
+            left -= count;
         }
         None
     }
 
-    /// Adds an update that comes next of its replica. `Gap` comes exactly where it does not: where
-    /// its number is not one more than the replica's count, or is over [`MAX_NUMBER`], or where the
-    /// replica is 8 or more. After a refusal the set is unchanged, and the update is dropped.
+    /// A copy, which shares all updates, at constant cost. It takes no memory, and is refused only where
+    /// the set has as many copies as can be counted.
+    pub fn copy(&self) -> Result<UpdateSet, AllocError>
+        ensures { IfOk result (λ copy. copy ≡ self.now) }
+    {
+        let of = match &self.of {
+            Some(of) => Some(Arc::try_clone(of)?),
+            None => None,
+        };
+        Ok(UpdateSet {
+            alloc: self.alloc,
+            of,
+        })
+    }
+
+    /// Adds an update that comes next of its replica, at constant cost: whatever shares this set's other
+    /// updates goes on sharing them. `Gap` comes exactly where it does not come next: where its number is
+    /// not one more than the replica's count, or is over [`MAX_NUMBER`], or where the replica is 8 or
+    /// more. After a refusal the set is unchanged, and the update is dropped.
     pub fn push(&mut self, update: Update) -> Result<(), SetError>
         ensures ok { OnOk result (self.new ≡ push self.old update) }
         ensures next { OnOk result (IsNext self.old update.id) }
@@ -117,47 +131,100 @@ impl UpdateSet {
         Ok(())
     }
 
-    /// Takes a replica's last update out, and answers it. A replica of 8 or more has none.
-    pub fn pop(&mut self, replica: u8) -> Option<Update>
-        ensures last { result ≡ get self.old (record { replica = replica; number = count self.old replica }) }
-        ensures rest { self.new ≡ pop self.old replica }
+    /// Takes a replica's last update out, and answers a copy of it, at logarithmic cost and that of
+    /// [`Update::copy`]. A replica of 8 or more, or one without updates, has none. After a refusal the
+    /// set is unchanged.
+    pub fn pop(&mut self, replica: u8) -> Result<Option<Update>, AllocError>
+        ensures last { IfOk result (λ last. last ≡ get self.old (record { replica = replica; number = count self.old replica })) }
+        ensures rest { OnOk result (self.new ≡ pop self.old replica) }
+        ensures err { OnErr result (self.new ≡ self.old) }
     {
-        if self.count_of(replica) == 0 {
-            return None;
+        let count = self.count_of(replica);
+        let id = UpdateId {
+            replica,
+            number: count,
+        };
+        let last = match self.get(id) {
+            Some(update) => Some(update.copy()?),
+            None => return Ok(None),
+        };
+        self.truncate(replica, count - 1)?;
+        Ok(last)
+    }
+
+    /// Keeps a replica's first so many updates; all of them, where there are fewer, and then it takes no
+    /// memory. The cost is logarithmic. A replica of 8 or more has none. After a refusal the set is
+    /// unchanged.
+    pub fn truncate(&mut self, replica: u8, count: u32) -> Result<(), AllocError>
+        ensures ok { OnOk result (self.new ≡ with_history self.old replica (take count (history self.old replica))) }
+        ensures err { OnErr result (self.new ≡ self.old) }
+    {
+        if self.count_of(replica) <= count {
+            return Ok(());
         }
-        self.of[replica as usize].pop()
+        let front = History::front_of(self.history_of(replica), count as usize)?;
+        self.put(replica, front)
     }
 
     // One replica's updates, in the order of their numbers.
-    pub(crate) fn updates_of(&self, replica: u8) -> &[Update]
-        ensures updates { result.now ≡ numbered replica 1 (history self.now replica) }
-        ensures limit { length result.now ≤ MAX_NUMBER }
+    pub(crate) fn history_of(&self, replica: u8) -> Lent<'_, Update>
+        requires { replica < REPLICAS }
+        ensures updates { items_of (option_copied result) ≡ numbered replica 1 (history self.now replica) }
+        ensures limit { length (items_of (option_copied result)) ≤ MAX_NUMBER }
     {
-        if replica >= REPLICAS {
-            return &[];
+        match &self.of {
+            Some(of) => of[replica as usize].link(),
+            None => None,
         }
-        self.of[replica as usize].as_slice()
     }
 
-    // What the set allocates with.
-    pub(crate) fn allocator(&self) -> Global {
-        *self.of[0].allocator()
-    }
-
-    // Keeps a replica's first updates, as many as are said.
-    pub(crate) fn truncate(&mut self, replica: u8, count: u32)
-        requires { replica < REPLICAS }
-        ensures { self.new ≡ with_history self.old replica (take count (history self.old replica)) }
+    // What the set allocates with. The contract also tells that no number is over the limit.
+    pub(crate) fn allocator(&self) -> Global
+        ensures { IsWithinLimit self.now }
     {
-        self.of[replica as usize].truncate(count as usize);
+        self.alloc
     }
 
-    // Makes room for further updates of a replica.
-    pub(crate) fn make_room(&mut self, replica: u8, further: usize) -> Result<(), AllocError>
-        requires { replica < REPLICAS }
-        ensures { self.new ≡ self.old }
+    // All replicas' updates, each list shared.
+    pub(crate) fn histories(&self) -> Result<[History<Update>; 8], AllocError>
+        ensures eight { IfOk result (λ of. length of ≡ REPLICAS) }
+        ensures each { IfOk result (λ of. (r : ℕ) → r < REPLICAS → slice_index_or of r [] ≡ numbered r 1 (history self.now r)) }
     {
-        self.of[replica as usize].reserve(further)
+        Ok([
+            History::of(self.history_of(0))?,
+            History::of(self.history_of(1))?,
+            History::of(self.history_of(2))?,
+            History::of(self.history_of(3))?,
+            History::of(self.history_of(4))?,
+            History::of(self.history_of(5))?,
+            History::of(self.history_of(6))?,
+            History::of(self.history_of(7))?,
+        ])
+    }
+
+    // The set that keeps these lists.
+    pub(crate) fn keeping(alloc: Global, of: [History<Update>; 8]) -> Result<UpdateSet, AllocError>
+        requires { IsKept of }
+        ensures { IfOk result (λ set. set ≡ kept of) }
+    {
+        Ok(UpdateSet {
+            alloc,
+            of: Some(Arc::new(alloc, of)?),
+        })
+    }
+
+    // Puts a list in the place of a replica's.
+    fn put(&mut self, replica: u8, list: History<Update>) -> Result<(), AllocError>
+        requires known { replica < REPLICAS }
+        requires numbered { list ≡ numbered replica 1 (map deed_of list) }
+        requires within { length list ≤ MAX_NUMBER }
+        ensures ok { OnOk result (self.new ≡ with_history self.old replica (map deed_of list)) }
+        ensures err { OnErr result (self.new ≡ self.old) }
+    {
+        let mut of = self.histories()?;
+        of[replica as usize] = list;
+        *self = UpdateSet::keeping(self.allocator(), of)?;
+        Ok(())
     }
 
     // Adds an update that comes next.
@@ -166,14 +233,9 @@ impl UpdateSet {
         ensures ok { OnOk result (self.new ≡ push self.old update) }
         ensures err { OnErr result (self.new ≡ self.old) }
     {
-        let replica = update.id.replica as usize;
-        self.of[replica].push(update)?;
-        Ok(())
+        let replica = update.id.replica;
+        let mut list = History::of(self.history_of(replica))?;
+        list.push(self.alloc, update)?;
+        self.put(replica, list)
     }
-}
-
-fn nth(list: &[Update], place: usize) -> Option<&Update>
-    ensures { option_copied result ≡ slice_get list.now place }
-{
-    list.get(place)
 }

@@ -2,6 +2,7 @@ ghost use Rattle.std.specs.Prelude.{◌≡◌, ◌↔◌, IsOk, IsTrue, IfOk};
 ghost use Rattle.la_set.specs.Deeds.{CopiesInPlace};
 
 use crate::Tags;
+use crate::history::Same;
 use std::alloc::AllocError;
 
 /// Which update: the replica that made it, and the update's number among that replica's updates,
@@ -108,5 +109,11 @@ impl Update {
             object: self.object,
             op: self.op.copy()?,
         })
+    }
+}
+
+impl Same for Update {
+    fn same(&self, other: &Update) -> bool {
+        Update::same(self, other)
     }
 }

@@ -42,7 +42,8 @@ use Rattle.la_world.specs.Submissions.{submitted}
 use Rattle.la_world.specs.Views.{view}
 use Rattle.la_world.specs.Playing.{counts, trace}
 use Rattle.la_world.specs.Members.{proposing, instance_of, member}
-use Rattle.la_world.specs.Following.{FitsReceiver, SubmissionsFit, DeliveriesFit}
+use Rattle.la_replica.specs.Fitting.{FitsReceiver, FitsViewBody}
+use Rattle.la_world.specs.Following.{SubmissionsFit, DeliveriesFit}
 use Rattle.la_world.proofs.Lists.{IsIn, AllIn, IsIn_get}
 use Rattle.la_world.proofs.Sizes.{total, total_subset, total_most, total_below, total_strict}
 use Rattle.la_world.proofs.Happens.{heard, refused_contains}
@@ -236,13 +237,20 @@ module _ (g : Group) (t : Trace) (m : Message) (h : Holds g t) (was_sent : IsIn 
       here : (P : Instance → Type 0) → P (instance_of g t r i) → IsSomeAnd (slice_get (member g t r).instances i) P
       here P p = subst (λ o. IsSomeAnd o P) (sym (get_instance g t r i between.instance)) p
 
+      -- the view lies in what is known, and so does each set that may become it
+      view_fits : IsSubset (view t r) (known t 0) → (body : Body) → m.body ≡ body → FitsViewBody (instance_of g t r i) (view t r) m body
+      unfolding proposing instance_of
+      view_fits seen (Offer s) is = tt
+      view_fits seen Yes is = λ e. compatible-within (view t r) last.updates (known t 0) seen (subst (λ j. IsSubset last.updates (known t j)) e (round_known g t h i r))
+      view_fits seen (No s) is = λ e. compatible-within (view t r) last.updates (known t 0) seen (subst (λ j. IsSubset last.updates (known t j)) e (round_known g t h i r))
+      view_fits seen (Tell s) is = λ e. compatible-within (view t r) s (known t 0) seen (subst (λ j. IsSubset s (known t j)) e (body_known (Tell s) is))
+
       pub message_fits : IsSubset (view t r) (known t 0) → FitsReceiver (member g t r) m
       unfolding member proposing instance_of
       message_fits seen = record {
         receivable = ((between.from, refl), here (λ x. FitsBody x m m.body) (body_fits m.body refl));
         spares = here (λ x. SparesBody x m m.body) (body_spares m.body refl);
-        told = λ s is. compatible-within (view t r) s (known t 0) seen (subst (λ j. IsSubset s (known t j)) (between.told s is) (body_known (Tell s) is));
-        learnt = λ e. here (λ x. IsCompatible (view t r) x.proposer.updates) (compatible-within (view t r) last.updates (known t 0) seen (subst (λ j. IsSubset last.updates (known t j)) e (round_known g t h i r)));
+        view = here (λ x. FitsViewBody x (view t r) m m.body) (view_fits seen m.body refl);
       }
 
 -- ## Every legal list

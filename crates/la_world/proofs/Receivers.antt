@@ -15,7 +15,7 @@ use Rattle.la_replica.specs.declared.message.Body.{Body}
 use Rattle.la_replica.specs.declared.message.Body.TheVariants.{Offer, Yes, No, Tell}
 use Rattle.la_replica.specs.Members.{Member}
 use Rattle.la_replica.specs.Refusals.{IsFor, FitsBody, SparesBody}
-use Rattle.la_world.specs.Following.{FitsReceiver}
+use Rattle.la_replica.specs.Fitting.{FitsReceiver, FitsViewBody}
 
 module _ {A : Type 0} (some : ∥ A ∥₁) where
   never : (A → ⊥) → ⊥
@@ -40,6 +40,12 @@ module _ {A : Type 0} (some : ∥ A ∥₁) where
   body_spares at m (No s) h = λ c k. never (λ x. h x c k)
   body_spares at m (Tell s) h = tt
 
+  view_fits : (at : Instance) (view : Histories) (m : Message) (b : Body) → (A → FitsViewBody at view m b) → FitsViewBody at view m b
+  view_fits at view m (Offer s) h = tt
+  view_fits at view m Yes h = λ e. compatible_from view at.proposer.updates (λ x. h x e)
+  view_fits at view m (No s) h = λ e. compatible_from view at.proposer.updates (λ x. h x e)
+  view_fits at view m (Tell s) h = λ e. compatible_from view s (λ x. h x e)
+
   in_some : (o : Option Instance) (P : Instance → Type 0) → ((at : Instance) → (A → P at) → P at) → (A → IsSomeAnd o P) → IsSomeAnd o P
   in_some None P f h = absurd (never h)
   in_some (Some at) P f h = f at h
@@ -54,6 +60,5 @@ fits_from at m some h = record {
     in_some some (slice_get at.instances m.instance) (λ y. FitsBody y m m.body) (λ y. body_fits some y m m.body) (λ x. (h x).receivable.1),
   );
   spares = in_some some (slice_get at.instances m.instance) (λ y. SparesBody y m m.body) (λ y. body_spares some y m m.body) (λ x. (h x).spares);
-  told = λ s is. compatible_from some at.view s (λ x. (h x).told s is);
-  learnt = λ e. in_some some (slice_get at.instances m.instance) (λ y. IsCompatible at.view y.proposer.updates) (λ y. compatible_from some at.view y.proposer.updates) (λ x. (h x).learnt e);
+  view = in_some some (slice_get at.instances m.instance) (λ y. FitsViewBody y at.view m m.body) (λ y. view_fits some y at.view m m.body) (λ x. (h x).view);
 }

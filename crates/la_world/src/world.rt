@@ -1,6 +1,9 @@
-ghost use Rattle.std.specs.Prelude.{◌≡◌, ℕ, ◌+◌, ◌<◌, ◌^◌, [], length, map, slice_get, option_map, None, IfOk, IfErr, OnOk, OnErr};
+ghost use Rattle.std.specs.Prelude.{◌≡◌, ℕ, ◌+◌, ◌<◌, ◌^◌, [], length, map, slice_get, option_map, Some, None, IfOk, IfErr, OnOk, OnErr};
 ghost use Rattle.std.specs.Option.{option_copied};
 ghost use Rattle.la_set.specs.Deeds.{Deed};
+ghost use Rattle.la_replica.specs.declared.out.Out.{Out};
+ghost use Rattle.la_replica.specs.Members.{Member, receives};
+ghost use Rattle.la_replica.specs.Steps.{learnt_in};
 ghost use Rattle.la_world.specs.Events.{Past, Submit, Deliver, event_of};
 ghost use Rattle.la_world.specs.Groups.{group_of, replicas};
 ghost use Rattle.la_world.specs.Playing.{trace};
@@ -22,7 +25,8 @@ use std::marker::Model;
 /// A group of replicas and all that was ever sent between them. Any message that was sent may be
 /// delivered at any later time, again and in any order.
 ///
-/// It keeps every message and every learnt set, so its memory grows by what is sent and learnt.
+/// It keeps every message and every learnt set, so its memory grows by what is sent and learnt: by an
+/// entry for each, since sets share their updates.
 #[derive(Drop)]
 pub struct World {
     config: Config,
@@ -68,8 +72,9 @@ impl World {
     /// submitted its cap; `NoSuchMessage` where fewer messages were sent; `Memory`. After each the
     /// world is as before. Fewer than 2^64 - 1 events may be accepted.
     ///
-    /// The cost is that of the replica's step, which copies the sets that are sent or said; a set that
-    /// is learnt is copied three times more, for the replica, the world and the step.
+    /// The cost is that of the replica's step, in which no updates are compared: what was sent fits all
+    /// that its receiver knows. Sets that are sent, said, learnt and kept share their updates, so that an
+    /// event takes memory for what it adds: one update for a submission, its mail, and a learning's entry.
     pub fn play(&mut self, event: &Event) -> Result<Step, WorldError>
         requires { self.old.count + 1 < 2 ^ 64 }
         ensures step { (events : Past) → StandsFor self.old events → IfOk result (λ step. Plays self.old events (event_of event.now) step self.new) }
@@ -170,9 +175,9 @@ impl World {
             instance: message.instance,
             ballot: message.ballot,
         };
-        let Ok((out, copy)) = self.replicas[message.to as usize].receive_with_copy(message) else {
-            return Err(AllocError);
-        };
+        let receiver = &mut self.replicas[message.to as usize];
+        let copy = learning(receiver, message)?;
+        let out = receiver.take_message(message)?;
         Ok(self.journal.note(&speaker, out, copy))
     }
 
@@ -218,8 +223,8 @@ impl World {
         view_among(&self.replicas, replica)
     }
 
-    /// A report of these lines, of what was learnt and of the views, at the cost of copying the learnt
-    /// sets and the views. It refuses with want of memory alone.
+    /// A report of these lines, of what was learnt and of the views, at the cost of an entry for each learnt
+    /// set and each view; their updates are shared. It refuses with want of memory alone.
     #[tactic(auto, using(crate::proofs::Worlds::views_are))]
     pub fn report(&self, steps: Steps) -> Result<Report, AllocError>
         ensures value { IfOk result (λ report. report ≡ report_with self.now steps) }
@@ -260,6 +265,16 @@ fn submitted_among(replicas: &[Replica], replica: u8) -> Option<u32>
         Some(replica) => replica.submitted(0),
         None => None,
     }
+}
+
+// A copy of the set that a message will lead a replica to learn, if it will.
+fn learning(replica: &Replica, message: &Message) -> Result<Option<UpdateSet>, AllocError>
+    ensures { (out : Out) (after : Member) → receives replica.now message.now ≡ Some (out, after) → IfOk result (λ learnt. learnt ≡ learnt_in out.said) }
+{
+    Ok(match replica.would_learn(message) {
+        Some(learnt) => Some(learnt.copy()?),
+        None => None,
+    })
 }
 
 // The view of a replica, if there is one with this number.

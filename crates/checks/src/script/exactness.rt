@@ -2,9 +2,12 @@
 // but its contract, and has one answer.
 ghost use Rattle.std.specs.Prelude.{◌≡◌, ◌<◌, ◌^◌, length, IfOk, IfSome, IsTrue};
 ghost use Rattle.la_script.specs.Scripts.{said_by};
+ghost use Rattle.la_script.specs.Pieces.{joined};
 ghost use Rattle.la_world.specs.Printable.{IsPrintableReport};
 
-use la_script::{Events, ReadError, Script, ScriptFault, Text, print, read};
+use la_script::{
+    Events, Pieces, ReadError, Script, ScriptFault, Stretch, Text, pieces_of, print, read,
+};
 use la_world::{Event, Report};
 use std::alloc::{AllocError, AllocFailed, Global};
 
@@ -41,6 +44,38 @@ fn texts_are_one(alloc: Global, report: &Report) -> Result<(Text, Text), AllocEr
     ensures { IfOk result (λ both. both.0 ≡ both.1) }
 {
     Ok((print(alloc, report)?, print(alloc, report)?))
+}
+
+fn pieces_are_one(alloc: Global, report: &Report) -> Result<(Pieces, Pieces), AllocError>
+    requires { IsPrintableReport report.now }
+    ensures { IfOk result (λ both. joined both.0 ≡ joined both.1) }
+{
+    Ok((pieces_of(alloc, report)?, pieces_of(alloc, report)?))
+}
+
+fn len_of_pieces_is_exact(pieces: &Pieces) -> (usize, usize)
+    ensures { result.0 ≡ result.1 }
+{
+    (pieces.len(), pieces.len())
+}
+
+fn stretch_is_exact(pieces: &Pieces, place: usize) -> Option<(Stretch<'_>, Stretch<'_>)>
+    ensures words { IfSome result (λ both. both.0.words.now ≡ both.1.words.now) }
+    ensures ids { IfSome result (λ both. both.0.ids.now ≡ both.1.ids.now) }
+{
+    Some((pieces.at(place)?, pieces.at(place)?))
+}
+
+fn stretch_is_there_or_not(pieces: &Pieces, place: usize) -> (bool, bool)
+    ensures { result.0 ≡ result.1 }
+{
+    (pieces.at(place).is_some(), pieces.at(place).is_some())
+}
+
+fn rest_is_exact(pieces: &Pieces) -> (&[u8], &[u8])
+    ensures { result.0.now ≡ result.1.now }
+{
+    (pieces.rest(), pieces.rest())
 }
 
 fn new_events_are_one(alloc: Global) -> (Events, Events)

@@ -4,7 +4,7 @@ ghost use Rattle.la_world.specs.Printable.{named_by, IsPrintableLine, IsPrintabl
 
 use la_acceptor::Reply;
 use la_proposer::Votes;
-use la_script::{Events, Text, print};
+use la_script::{Events, Pieces, Stretch, Text, pieces_of, print};
 use la_set::{Op, Update, UpdateId, UpdateSet};
 use la_world::{
     Config, Did, Event, Learnings, Learnt, Line, Opening, Refusal, Report, Step, Steps, Views,
@@ -44,7 +44,7 @@ const ONE: Counts = Counts(1, 0);
 const BOTH: Counts = Counts(1, 1);
 
 // Each with the number of the first message.
-const LINES: [(What, u32); 21] = [
+const LINES: [(What, u32); 23] = [
     (Opened(Ballot(0, 0, 1, ONE)), 0),
     (Held(0, 2), 3),
     (Held(255, 4294967295), 3),
@@ -72,6 +72,8 @@ const LINES: [(What, u32); 21] = [
     (Refused(Refusal::NoSuchMessage), 0),
     (Refused(Refusal::NoSuchCommit), 0),
     (Refused(Refusal::AlreadyProposed), 0),
+    (Took(Counts(9, 8)), 19),
+    (Took(Counts(8, 7)), 19),
 ];
 
 const VIEWS: [Counts; 3] = [Counts(2, 0), Counts(0, 0), BOTH];
@@ -99,6 +101,8 @@ replicas 3 commits 0 cap 10
 19 refused NoSuchMessage
 20 refused NoSuchCommit
 21 refused AlreadyProposed
+22 took {0.1 0.2 0.3 0.4 0.5 0.6 0.7 0.8 0.9 1.1 1.2 1.3 1.4 1.5 1.6 1.7 1.8}
+23 took {0.1 0.2 0.3 0.4 0.5 0.6 0.7 0.8 1.1 1.2 1.3 1.4 1.5 1.6 1.7}
 view 0 {0.1 0.2}
 view 1 {}
 view 2 {0.1 1.1}
@@ -275,6 +279,27 @@ fn printed(alloc: Global) -> Result<Text, AllocError> {
     print(alloc, &report)
 }
 
+// What the pieces say, one after another.
+fn walked(alloc: Global, pieces: &Pieces) -> Result<Vec<u8>, AllocError> {
+    let mut text = Vec::new(alloc);
+    for place in 0..pieces.len() {
+        if let Some(Stretch { words, ids }) = pieces.at(place) {
+            text.extend_from_slice(words)?;
+            text.extend_from_slice(ids)?;
+        }
+    }
+    text.extend_from_slice(pieces.rest())?;
+    Ok(text)
+}
+
+// The ids of line 22 are lent, those of each replica as one piece, and shorter ones stand among words.
+fn comes_in_pieces(alloc: Global) -> Result<bool, AllocError> {
+    let report = report(alloc)?;
+    let pieces = pieces_of(alloc, &report)?;
+    let text = walked(alloc, &pieces)?;
+    Ok(text.as_slice() == TEXT && pieces.len() == 2 && pieces.at(2).is_none())
+}
+
 // The events go into a list and back, and the text into a string and back.
 fn events_are_a_list(alloc: Global) -> Result<bool, AllocError> {
     let mut events = Events::new(alloc);
@@ -298,6 +323,15 @@ fn a_report_is_printed(rt: HostRuntime) {
         Err(_) => printed(rt.alloc()),
     };
     assert!(rt; text.is_ok_and(is_text));
+}
+
+#[test]
+fn a_report_comes_in_pieces(rt: HostRuntime) {
+    let is = match comes_in_pieces(rt.alloc()) {
+        Ok(is) => is,
+        Err(_) => comes_in_pieces(rt.alloc()) == Ok(true),
+    };
+    assert!(rt; is);
 }
 
 #[test]

@@ -10,14 +10,14 @@ pub loop-replica-init : goal.loop-replica-init
 loop-replica-init c = omega (arith, count_before_none c.args.self.now)
 
 pub loop-replica-preserved : goal.loop-replica-preserved
-loop-replica-preserved c = omega (arith, count_before-more c.args.self.now c.loop-replica.replica, c.loop-replica.invariant, ap length c.updates_of-mine.ensures.updates, length-numbered c.loop-replica.replica 1 (history c.args.self.now c.loop-replica.replica))
+loop-replica-preserved c = omega (arith, count_before-more c.args.self.now c.loop-replica.replica, c.loop-replica.invariant, ap length c.history_of-mine.ensures.updates, length-numbered c.loop-replica.replica 1 (history c.args.self.now c.loop-replica.replica))
 
-pub returns-then-left-mine : goal.returns-then-left-mine
-returns-then-left-mine c =
+pub returns-then-left-count : goal.returns-then-left-count
+returns-then-left-count c =
     let s = c.args.self.now in let r = c.loop-replica.replica in
-    c.nth.ensures
-    ∙ ap (λ us. slice_get us c.loop-replica.left) c.updates_of-mine.ensures.updates
-    ∙ sym (ap (slice_get (updates s)) c.loop-replica.invariant ∙ updates-place s r c.loop-replica.left (omega arith) (omega (arith, ap length c.updates_of-mine.ensures.updates, length-numbered r 1 (history s r))))
+    c.item_at.ensures
+    ∙ ap (λ us. slice_get us c.loop-replica.left) c.history_of-mine.ensures.updates
+    ∙ sym (ap (slice_get (updates s)) c.loop-replica.invariant ∙ updates-place s r c.loop-replica.left (omega arith) (omega (arith, ap length c.history_of-mine.ensures.updates, length-numbered r 1 (history s r))))
 
 pub returns : goal.returns
 returns c =

@@ -2,6 +2,8 @@ use Rattle.std.proofs.Common.{◌≡◌, ◌+◌, All, subst, [], ◌++◌, filt
 use Rattle.std.proofs.lemmas.List.Elements.{filter-append}
 use Rattle.std.proofs.lemmas.Bool.{false≢true}
 use Rattle.la_set.specs.Histories.{ContainsUpdate, history, numbered, updates_from, updates}
+use Rattle.std.specs.Option.{option_copied}
+use Rattle.la_set.specs.Links.{items_of}
 use Rattle.la_set.specs.Difference.{lacks}
 use Rattle.la_set.proofs.NumberedLists.{updates_from-add}
 use Rattle.la_set.proofs.Members.{numbered-members}
@@ -13,8 +15,8 @@ loop-replica-preserved c =
     let one_more : updates_from h 0 (r + 1) ≡ updates_from h 0 r ++ numbered r 1 (h r) =
     updates_from-add h 0 r 1 ∙ ap (λ q. updates_from h 0 r ++ (numbered q 1 (h q) ++ [])) {x = 0 + r} {y = r} (omega arith) ∙ ap (λ us. updates_from h 0 r ++ us) (append-nil (numbered r 1 (h r))) in
     c.in_ok-copy_lacking.ensures.ok
-    ∙ ap (λ us. us ++ filter new c.updates_of.result.now) c.loop-replica.invariant
-    ∙ ap (λ us. filter new (updates_from h 0 r) ++ filter new us) c.updates_of.ensures.updates
+    ∙ ap (λ us. us ++ filter new (items_of (option_copied c.history_of.result))) c.loop-replica.invariant
+    ∙ ap (λ us. filter new (updates_from h 0 r) ++ filter new us) c.history_of.ensures.updates
     ∙ sym (ap (filter new) one_more ∙ filter-append new (updates_from h 0 r) (numbered r 1 (h r)))
 
 pub returns-clause-ok : goal.returns-clause-ok
@@ -23,4 +25,4 @@ returns-clause-ok c = c.loop-replica.invariant ∙ ap (λ k. filter (lacks c.arg
 
 pub returns-in_err-copy_lacking-clause-room : goal.returns-in_err-copy_lacking-clause-room
 returns-in_err-copy_lacking-clause-room c sub = absurd (false≢true (c.in_err-copy_lacking.ensures.room
-    (subst (All (ContainsUpdate c.args.other.now)) (sym c.updates_of.ensures.updates) (λ k d lt. sub _ (numbered-members c.args.self.now c.loop-replica.replica k d lt)))))
+    (subst (All (ContainsUpdate c.args.other.now)) (sym c.history_of.ensures.updates) (λ k d lt. sub _ (numbered-members c.args.self.now c.loop-replica.replica k d lt)))))

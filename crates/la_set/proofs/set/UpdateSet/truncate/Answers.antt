@@ -1,22 +1,28 @@
-use Rattle.std.proofs.Common.{◌≡◌, ◌∙◌, ap, subst, take}
-use Rattle.la_set.specs.Histories.{history, numbered, IsWithinLimit}
-use Rattle.la_set.proofs.NumberedLists.{take-numbered}
-use Rattle.la_set.proofs.SetHistories.{count-shortened}
-use Rattle.la_set.proofs.Representation.{vec_at, kept-edited, IsKept-edited}
+use Rattle.std.proofs.Common.{◌≡◌, ◌∙◌, map, ap, subst, length, take, arith, OnOk}
+use Rattle.la_set.specs.Deeds.{deed_of}
+use Rattle.la_set.specs.Histories.{history, with_history}
+use Rattle.la_set.proofs.NumberedLists.{take-numbered, deeds-numbered, length-numbered}
+use Rattle.la_set.proofs.SetHistories.{known_from_count, shortened-none}
+use Rattle.la_set.proofs.Representation.{numbered-deeds}
 use Rattle.la_set.proofs.set.UpdateSet.truncate.Goals as goal
-use Rattle.la_set.proofs.set.UpdateSet.truncate.Goals.{After-truncate}
 
-in_list : (c : After-truncate) → c.truncate.new.self.items ≡ numbered c.args.replica 1 (take c.args.count (history c.args.self.now c.args.replica))
-in_list c =
+pub returns-then-count_of-count-clause-ok : goal.returns-then-count_of-count-clause-ok
+returns-then-count_of-count-clause-ok c = shortened-none c.args.self.now c.args.replica c.args.count (omega arith)
+
+pub history_of-requires : goal.history_of-requires
+history_of-requires c = known_from_count c.args.self.now c.args.replica (omega arith)
+
+pub front_of-requires : goal.front_of-requires
+front_of-requires c = omega (arith, ap length c.history_of.ensures.updates, length-numbered c.args.replica 1 (history c.args.self.now c.args.replica))
+
+pub put-requires-clause-known : goal.put-requires-clause-known
+put-requires-clause-known c = known_from_count c.args.self.now c.args.replica (omega arith)
+
+pub put-requires-clause-numbered : goal.put-requires-clause-numbered
+put-requires-clause-numbered c = numbered-deeds c.in_ok-front.front c.args.replica _ (c.in_ok-front.ensures ∙ ap (take c.args.count) c.history_of.ensures.updates ∙ take-numbered c.args.replica 1 c.args.count (history c.args.self.now c.args.replica))
+
+pub returns-clause-ok : goal.returns-clause-ok
+returns-clause-ok c =
     let s = c.args.self.now in let r = c.args.replica in
-    c.truncate.ensures.items
-    ∙ ap (take c.args.count) (vec_at c.self.inside.of s r c.index-self-replica.result c.requires c.self.invariant c.self.view_is)
-    ∙ take-numbered r 1 c.args.count (history s r)
-
-pub invariant_of-self : goal.invariant_of-self
-invariant_of-self c =
-    let s = c.args.self.now in let r = c.args.replica in
-    IsKept-edited c.self.inside.of s r _ c.truncate.new.self c.requires c.self.invariant c.self.view_is (in_list c) (count-shortened s r c.args.count c.requires (subst IsWithinLimit c.self.view_is c.self.invariant.within))
-
-pub returns : goal.returns
-returns c = kept-edited c.self.inside.of c.args.self.now c.args.replica _ c.truncate.new.self c.requires c.self.invariant c.self.view_is (in_list c)
+    let listed = c.in_ok-front.ensures ∙ ap (take c.args.count) c.history_of.ensures.updates ∙ take-numbered r 1 c.args.count (history s r) in
+    subst (λ ds. OnOk c.put.result (c.put.new.self ≡ with_history s r ds)) (ap (map deed_of) listed ∙ deeds-numbered r 1 (take c.args.count (history s r))) c.put.ensures.ok

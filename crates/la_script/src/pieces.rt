@@ -1,0 +1,178 @@
+ghost use Rattle.std.specs.Prelude.{◌≡◌, ℕ, ◌<◌, [], ◌++◌, length, slice_get, option_map, IfOk, OnOk};
+ghost use Rattle.std.specs.Fmt.{decimal};
+ghost use Rattle.la_set.specs.declared.set.TheConstants.{REPLICAS};
+ghost use Rattle.la_script.specs.Pieces.{front, joined};
+
+use crate::Text;
+use crate::id_text::IdText;
+use itoa::Buffer;
+use std::alloc::{AllocError, Global};
+use std::marker::Model;
+
+// Texts of ids with fewer bytes are copied, so that no piece is small.
+const SHORT: usize = 32;
+
+/// A stretch of a text: words, and behind them ids of one replica.
+#[derive(Clone, Copy)]
+pub struct Stretch<'a> {
+    /// The words, which may end within a line and have the lines before it.
+    pub words: &'a [u8],
+    /// The ids, with single spaces between them, and one before them where they stand behind others.
+    /// They lie in a text that many stretches share.
+    pub ids: &'a [u8],
+}
+
+/// Which words are a stretch's, whose first ids stand behind them and how many, and whether they stand
+/// behind other ids.
+#[derive(Clone, Copy)]
+pub struct Cut {
+    start: usize,
+    end: usize,
+    behind: bool,
+    replica: u8,
+    count: u32,
+}
+
+/// A text in pieces: stretches, and the words behind the last of them.
+///
+/// It takes memory for the words, for each stretch, and for the longest text of ids of each replica,
+/// and not for each text of ids.
+#[derive(Drop)]
+pub struct Pieces {
+    words: Vec<u8>,
+    cuts: Vec<Cut>,
+    // From where on words are in no stretch yet.
+    done: usize,
+    // The text of each replica's ids.
+    ids: [IdText; 8],
+}
+
+impl Model for Pieces {
+    ghost use Rattle.la_script.specs.Pieces.{Parts};
+
+    ghost Value = { Parts };
+
+    ghost use Rattle.la_script.specs.Laid.{parts_of, IsLaid};
+
+    ghost view = { λ p. parts_of p.words.items p.cuts.items p.done };
+
+    ghost invariant = { λ p. IsLaid p.words.items p.cuts.items p.done p.ids };
+}
+
+impl Pieces {
+    // The empty text, which takes no memory.
+    pub(crate) fn new(alloc: Global) -> Pieces
+        ensures { joined result ≡ [] }
+    {
+        Pieces {
+            words: Vec::new(alloc),
+            cuts: Vec::new(alloc),
+            done: 0,
+            ids: [
+                IdText::new(alloc, 0),
+                IdText::new(alloc, 1),
+                IdText::new(alloc, 2),
+                IdText::new(alloc, 3),
+                IdText::new(alloc, 4),
+                IdText::new(alloc, 5),
+                IdText::new(alloc, 6),
+                IdText::new(alloc, 7),
+            ],
+        }
+    }
+
+    // Adds words.
+    pub(crate) fn push_str(&mut self, words: &str) -> Result<(), AllocError>
+        ensures { OnOk result (joined self.new ≡ joined self.old ++ words.now) }
+    {
+        self.words.extend_from_slice(words.as_bytes())
+    }
+
+    // Adds a number.
+    pub(crate) fn push_number(&mut self, number: u64) -> Result<(), AllocError>
+        ensures { OnOk result (joined self.new ≡ joined self.old ++ decimal number) }
+    {
+        self.push_str(Buffer::new().format(number))
+    }
+
+    // Adds the ids of a replica's first updates, with a space before each where they stand behind other
+    // ids. The cost is constant but for ids that no text had yet.
+    pub(crate) fn push_ids(
+        &mut self,
+        behind: bool,
+        replica: u8,
+        count: u32,
+    ) -> Result<(), AllocError>
+        requires { replica < REPLICAS }
+        ensures { OnOk result (joined self.new ≡ joined self.old ++ front behind replica count) }
+    {
+        let kept = &mut self.ids[replica as usize];
+        kept.grow(count as usize)?;
+        let ids = kept.front(behind, count as usize);
+        if ids.len() < SHORT {
+            return self.words.extend_from_slice(ids);
+        }
+        let (start, end) = (self.done, self.words.len());
+        self.cuts.push(Cut {
+            start,
+            end,
+            behind,
+            replica,
+            count,
+        })?;
+        self.done = end;
+        Ok(())
+    }
+
+    /// How many stretches there are.
+    pub fn len(&self) -> usize
+        ensures { result ≡ length self.now.stretches }
+    {
+        self.cuts.len()
+    }
+
+    /// The stretch at a place, from 0, at constant cost.
+    pub fn at(&self, place: usize) -> Option<Stretch<'_>>
+        ensures { option_map (λ s. (s.words.now, s.ids.now)) result ≡ slice_get self.now.stretches place }
+    {
+        let Cut {
+            start,
+            end,
+            behind,
+            replica,
+            count,
+        } = *self.cuts.get(place)?;
+        Some(Stretch {
+            words: &self.words[start..end],
+            ids: self.ids[replica as usize].front(behind, count as usize),
+        })
+    }
+
+    /// The words behind the last stretch.
+    pub fn rest(&self) -> &[u8]
+        ensures { result.now ≡ self.now.rest }
+    {
+        &self.words[self.done..]
+    }
+
+    // The pieces joined, at linear cost.
+    pub(crate) fn join(&self, alloc: Global) -> Result<Text, AllocError>
+        ensures { IfOk result (λ text. text ≡ joined self.now) }
+    {
+        // A text: so the bytes are UTF-8.
+        let _ = &self.words;
+        let mut text = Vec::new(alloc);
+        for place in 0..self.len() {
+            let Some(stretch) = self.at(place) else {
+                unreachable!()
+            };
+            text.extend_from_slice(stretch.words)?;
+            text.extend_from_slice(stretch.ids)?;
+        }
+        text.extend_from_slice(self.rest())?;
+        match String::from_utf8(text) {
+            Ok(text) => Ok(Text::from(text)),
+            Err(_) => unreachable!(),
+        }
+    }
+}

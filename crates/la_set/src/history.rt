@@ -1,0 +1,320 @@
+ghost use Rattle.std.specs.Prelude.{◌≡◌, ℕ, ◌+◌, ◌<◌, ◌≤◌, ◌↔◌, [], ◌∷◌, ◌++◌, length, take, drop, slice_get, IsTrue, IfOk, OnOk, OnErr, MatchOption};
+ghost use Rattle.std.specs.Option.{option_copied};
+ghost use Rattle.la_set.specs.Links.{items_of};
+ghost use Rattle.la_set.specs.Agreement.{AgreeBelow, IsFirstDifference, StartsWith};
+
+use std::alloc::{AllocError, Global};
+use std::marker::Model;
+use std::sync::Arc;
+
+/// The most items that a list may have.
+pub const MAX_LEN: usize = 1_000_000_000;
+
+/// What can be told apart.
+pub trait Same {
+    /// Whether two values are one.
+    fn same(&self, other: &Self) -> bool
+        ensures { IsTrue result ↔ (self.now ≡ other.now) };
+}
+
+/// What leads to a list: its last item's node, or nothing where it is empty.
+pub type Link<T> = Option<Arc<Node<T>>>;
+
+/// A link, lent.
+pub type Lent<'a, T> = Option<&'a Arc<Node<T>>>;
+
+/// An item with all that stands before it. `jump` leads to the first so many of the items before it.
+#[derive(Drop)]
+pub struct Node<T> {
+    item: T,
+    len: u32,
+    prev: Link<T>,
+    jump: Link<T>,
+}
+
+impl<T> Model for Node<T> {
+    ghost use Rattle.std.specs.Prelude.{◌≡◌, List, ◌+◌, ◌++◌, ◌∷◌, [], take, length};
+
+    ghost Value = { List T };
+
+    ghost use Rattle.la_set.specs.Links.{items_of};
+
+    ghost view = { λ n. items_of n.prev ++ n.item ∷ [] };
+
+    ghost invariant = { λ n. (n.len ≡ length (items_of n.prev) + 1) × (items_of n.jump ≡ take (length (items_of n.jump)) (items_of n.prev)) };
+
+    ghost size = { length };
+
+    ghost use Rattle.std.proofs.Common.{arith, length-append};
+    ghost use Rattle.std.proofs.lemmas.List.{length-take};
+
+    ghost size_decreases = { λ a h. Prim.grind (arith, length-append, length-take) };
+}
+
+/// A list that grows and shrinks at its end, and shares its items' memory with its copies.
+///
+/// It is a list with jumps (Myers, "An applicative random-access stack", 1983): each item lies in a node
+/// behind the one before, with a second link that leads far back. So an item takes one node, however many
+/// lists have it; a copy is one more owner of the last node; and any place is found in logarithmic time.
+pub struct History<T> {
+    last: Link<T>,
+}
+
+impl<T> Model for History<T> {
+    ghost use Rattle.std.specs.Prelude.{List};
+
+    ghost Value = { List T };
+
+    ghost use Rattle.la_set.specs.Links.{items_of};
+
+    ghost view = { λ h. items_of h.last };
+}
+
+impl<T: Drop> Drop for History<T> {
+    fn drop(self) {
+        let History { last } = self;
+        release(last);
+    }
+}
+
+// Lets a link go. The nodes that go with it go one after another, and not one within the other, so that
+// the stack doesn't grow with the list.
+fn release<T: Drop>(link: Link<T>) {
+    let mut at = link;
+    while let Some(node) = at {
+        at = match Arc::into_inner(node) {
+            Some(node) => {
+                let Node {
+                    item,
+                    len: _,
+                    prev,
+                    jump,
+                } = node;
+                drop(jump);
+                drop(item);
+                prev
+            }
+            None => None,
+        };
+    }
+}
+
+impl<T> History<T> {
+    /// What leads to the list.
+    pub fn link(&self) -> Lent<'_, T>
+        ensures { items_of (option_copied result) ≡ self.now }
+    {
+        self.last.as_ref()
+    }
+
+    /// A list of what a link leads to, which shares all items, at constant cost. It takes no memory, and is
+    /// refused only where the last node has as many owners as can be counted.
+    pub fn of(link: Lent<'_, T>) -> Result<History<T>, AllocError>
+        ensures { IfOk result (λ list. list ≡ items_of (option_copied link.entry)) }
+    {
+        Ok(History {
+            last: copy_of(link)?,
+        })
+    }
+
+    /// A list of the first so many items, which it shares, at logarithmic cost; refused as that of all is.
+    pub fn front_of(link: Lent<'_, T>, len: usize) -> Result<History<T>, AllocError>
+        requires { len ≤ length (items_of (option_copied link)) }
+        ensures { IfOk result (λ front. front ≡ take len (items_of (option_copied link.entry))) }
+    {
+        History::of(first(link, len))
+    }
+
+    /// Adds what a list that begins with this one has beyond it, and shares it: at constant cost. Where
+    /// it has nothing more, this list stays. After a refusal the list is unchanged.
+    pub fn extend_from(&mut self, other: Lent<'_, T>) -> Result<(), AllocError>
+    where
+        T: Drop,
+        requires { AgreeBelow self.old (items_of (option_copied other)) (length self.old) }
+        ensures ok { OnOk result (self.new ≡ self.old ++ drop (length self.old) (items_of (option_copied other.entry))) }
+        ensures err { OnErr result (self.new ≡ self.old) }
+    {
+        if len_of(self.link()) >= len_of(other) {
+            return Ok(());
+        }
+        let longer = History::of(other)?;
+        *self = longer;
+        Ok(())
+    }
+
+    /// Puts an item last, at constant cost: one node is taken, whatever else shares the list. Where
+    /// memory is refused the list is unchanged, and the item is dropped.
+    pub fn push(&mut self, alloc: Global, item: T) -> Result<(), AllocError>
+    where
+        T: Drop,
+        requires { length self.old < MAX_LEN }
+        ensures ok { OnOk result (self.new ≡ self.old ++ item ∷ []) }
+        ensures err { OnErr result (self.new ≡ self.old) }
+    {
+        let last = longer(alloc, self.last.as_ref(), item)?;
+        self.last = Some(last);
+        Ok(())
+    }
+}
+
+/// The item at a place, from 0, at logarithmic cost.
+pub fn item_at<T>(link: Lent<'_, T>, place: usize) -> Option<&T>
+    ensures { option_copied result ≡ slice_get (items_of (option_copied link.entry)) place }
+{
+    if place >= len_of(link) {
+        return None;
+    }
+    Some(step_back(first(link, place + 1)).item)
+}
+
+/// The first place at which both lists have an item and these differ. The cost is linear in the
+/// shorter list's length, and logarithmic in how much longer the other is.
+pub fn first_difference<T: Same>(one: Lent<'_, T>, other: Lent<'_, T>) -> Option<usize>
+    ensures { MatchOption result ((n : ℕ) → AgreeBelow (items_of (option_copied one.entry)) (items_of (option_copied other.entry)) n) (λ place. IsFirstDifference (items_of (option_copied one.entry)) (items_of (option_copied other.entry)) place) }
+{
+    let mut left = len_of(one).min(len_of(other));
+    let mut mine = first(one, left);
+    let mut theirs = first(other, left);
+    let mut found = None;
+    while left > 0 {
+        left -= 1;
+        let (ours, its) = (step_back(mine), step_back(theirs));
+        if !ours.item.same(its.item) {
+            found = Some(left);
+        }
+        mine = ours.prev;
+        theirs = its.prev;
+    }
+    found
+}
+
+/// Whether the first list begins with the second. The lengths are compared first; the cost is that of
+/// [`first_difference`].
+pub fn begins_with<T: Same>(one: Lent<'_, T>, other: Lent<'_, T>) -> bool
+    ensures { IsTrue result ↔ StartsWith (items_of (option_copied one.entry)) (items_of (option_copied other.entry)) }
+{
+    len_of(one) >= len_of(other) && first_difference(one, other).is_none()
+}
+
+// An item, and the link that it stands behind.
+#[derive(Clone, Copy)]
+struct Step<'a, T> {
+    item: &'a T,
+    prev: Lent<'a, T>,
+}
+
+/// How many items a link leads to, at constant cost.
+pub fn len_of<T>(link: Lent<'_, T>) -> usize
+    ensures { result ≡ length (items_of (option_copied link.entry)) }
+{
+    match link {
+        None => 0,
+        Some(node) => len_at(node),
+    }
+}
+
+fn len_at<T>(node: &Node<T>) -> usize
+    ensures { result ≡ length node.now }
+{
+    node.len as usize
+}
+
+fn copy_of<T>(link: Lent<'_, T>) -> Result<Link<T>, AllocError>
+    ensures { IfOk result (λ copy. items_of copy ≡ items_of (option_copied link.entry)) }
+{
+    match link {
+        None => Ok(None),
+        Some(node) => Ok(Some(Arc::try_clone(node)?)),
+    }
+}
+
+// The last item, and the link to what stands before it.
+fn step_back<T>(link: Lent<'_, T>) -> Step<'_, T>
+    requires { 0 < length (items_of (option_copied link)) }
+    ensures { items_of (option_copied link.entry) ≡ items_of (option_copied result.prev) ++ result.item.now ∷ [] }
+{
+    match link {
+        None => unreachable!(),
+        Some(node) => {
+            let node: &Node<T> = node;
+            Step {
+                item: &node.item,
+                prev: node.prev.as_ref(),
+            }
+        }
+    }
+}
+
+// The link to the first so many items.
+fn first<T>(link: Lent<'_, T>, len: usize) -> Lent<'_, T>
+    requires { len ≤ length (items_of (option_copied link)) }
+    ensures { items_of (option_copied result) ≡ take len (items_of (option_copied link.entry)) }
+{
+    let mut at = link;
+    while len_of(at) > len {
+        at = nearer(at, len);
+    }
+    at
+}
+
+// A link to fewer items, but not to fewer than so many: as far back as one step leads.
+fn nearer<T>(link: Lent<'_, T>, len: usize) -> Lent<'_, T>
+    requires { len < length (items_of (option_copied link)) }
+    ensures front { items_of (option_copied result) ≡ take (length (items_of (option_copied result))) (items_of (option_copied link.entry)) }
+    ensures fewer { length (items_of (option_copied result)) < length (items_of (option_copied link.entry)) }
+    ensures enough { len ≤ length (items_of (option_copied result)) }
+{
+    match link {
+        None => unreachable!(),
+        Some(node) => {
+            let node: &Node<T> = node;
+            if len_of(node.jump.as_ref()) >= len {
+                node.jump.as_ref()
+            } else {
+                node.prev.as_ref()
+            }
+        }
+    }
+}
+
+// A node with an item behind all that a link leads to.
+fn longer<T: Drop>(alloc: Global, link: Lent<'_, T>, item: T) -> Result<Arc<Node<T>>, AllocError>
+    requires { length (items_of (option_copied link)) < MAX_LEN }
+    ensures { IfOk result (λ node. node.value ≡ items_of (option_copied link.entry) ++ item ∷ []) }
+{
+    let jump = copy_of(far_back(link))?;
+    let node = Node {
+        item,
+        len: len_of(link) as u32 + 1,
+        prev: copy_of(link)?,
+        jump,
+    };
+    Ok(Arc::new(alloc, node)?)
+}
+
+// Where the jump of a node behind this link leads: as far again as the last two jumps, where these are of
+// one length, and else to this link.
+fn far_back<T>(link: Lent<'_, T>) -> Lent<'_, T>
+    ensures { items_of (option_copied result) ≡ take (length (items_of (option_copied result))) (items_of (option_copied link.entry)) }
+{
+    let near = jump_of(link);
+    let far = jump_of(near);
+    if len_of(link) - len_of(near) == len_of(near) - len_of(far) {
+        far
+    } else {
+        link
+    }
+}
+
+fn jump_of<T>(link: Lent<'_, T>) -> Lent<'_, T>
+    ensures front { items_of (option_copied result) ≡ take (length (items_of (option_copied result))) (items_of (option_copied link.entry)) }
+    ensures fewer { length (items_of (option_copied result)) ≤ length (items_of (option_copied link.entry)) }
+{
+    match link {
+        None => link,
+        Some(node) => {
+            let node: &Node<T> = node;
+            node.jump.as_ref()
+        }
+    }
+}
