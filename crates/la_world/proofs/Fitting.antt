@@ -1,8 +1,8 @@
 -- A message of a legal list is refused for want of memory alone, and a submission that the world does
 -- not refuse likewise: every set lies within what was submitted, and ballots' numbers stay small.
-use Rattle.std.proofs.Common.{◌≡◌, ◌⊎◌, ℕ, ◌*◌, ◌<◌, ◌≤◌, Bool, true, false, not, ◌&&◌, cond, List, [], ◌∷◌, length, slice_get, None, refl, ap, sym, ◌∙◌, subst, arith, inl, inr}
+use Rattle.std.proofs.Common.{◌≡◌, ◌⊎◌, ℕ, ◌*◌, ◌<◌, ◌≤◌, Bool, true, false, not, ◌&&◌, ◌==◌, cond, List, [], ◌∷◌, length, slice_get, None, refl, ap, sym, ◌∙◌, subst, arith, inl, inr}
 use Rattle.std.specs.Prelude.{IsSome, IsSomeAnd}
-use Rattle.std.proofs.lemmas.Bool.{true≢false, not-true}
+use Rattle.std.proofs.lemmas.Bool.{cond_both, true≢false, not-true}
 use Rattle.std.proofs.lemmas.List.{length-drop}
 use Rattle.std.proofs.lemmas.List.FromFn.{length-map-range_with_len}
 use Rattle.la_set.specs.declared.update.UpdateId.{UpdateId}
@@ -32,7 +32,7 @@ use Rattle.la_replica.specs.Messages.{body_of}
 use Rattle.la_replica.specs.declared.instance.Instance.{Instance}
 use Rattle.la_replica.specs.Refusals.{IsSubmissionRefusal, IsSubmitRefusal, IsHearingRefusal, IsBodyRefusal, IsReceiveRefusal, FitsBody, SparesBody}
 use Rattle.la_world.specs.declared.step.Opening.{Opening}
-use Rattle.la_world.specs.Groups.{Group, replicas, instances}
+use Rattle.la_world.specs.Groups.{Group, replicas, instances, cap_of}
 use Rattle.la_world.specs.Trace.{Trace}
 use Rattle.la_world.specs.Sent.{sent}
 use Rattle.la_world.specs.Acceptors.{accepted}
@@ -52,11 +52,12 @@ use Rattle.la_world.proofs.Within.{refusal, set_in, IsCountWithin, heard_within}
 use Rattle.la_world.proofs.Growth.{all_larger, refused_larger}
 use Rattle.la_world.proofs.Known.{known, history-known}
 use Rattle.la_world.proofs.Traces.{Holds, holds, size, own_count, round_known, counted_known, stands, message_known}
-use Rattle.la_world.proofs.InGroup.{IsBetween, capped}
+use Rattle.la_world.proofs.InGroup.{IsBetween}
+use Rattle.la_world.proofs.Once.{submitted_most}
 use Rattle.la_world.proofs.Members.{get_instance}
 use Rattle.la_world.proofs.Replying.{before, with_new, waits, tally_then, refined_within, something_length}
 use Rattle.la_world.proofs.Replying.{counts_is as same_counts}
-use Rattle.la_world.proofs.KnownViews.{view_known}
+use Rattle.la_world.proofs.LargestViews.{view_known}
 use Rattle.la_world.proofs.Legal.{legal_between}
 
 -- ## No clash
@@ -254,15 +255,19 @@ module _ (g : Group) (t : Trace) (m : Message) (h : Holds g t) (was_sent : IsIn 
 
 -- ## Every legal list
 
+-- a group's caps are small
+cap_small : (g : Group) (i : ℕ) → g.cap ≤ 1000000 → cap_of g i ≤ 1000000
+cap_small g i small = cond_both (i == 0) g.cap 1 (λ n. n ≤ 1000000) (λ e. small) (λ e. omega arith)
+
 pub delivery_fits : DeliveriesFit
-delivery_fits g events k m plain small legal is =
+delivery_fits g events k m few small legal is =
     let t = trace g events in
     let h = holds g events in
     let was_sent = IsIn_get (sent (replicas g) t) k m is in
     let between = legal_between g events legal k m is in
-    let first : m.instance ≡ 0 = let lt = between.instance in let none = plain.commits in omega arith in
-    let caps : (q : ℕ) → length (submitted t m.instance q) ≤ g.cap = λ q. subst (λ j. length (submitted t j q) ≤ g.cap) (sym first) (capped g events legal q) in
-    (message_fits g t m h was_sent g.cap caps between plain.few small (view_known g events m.to), message_refusal g t m h was_sent g.cap caps between plain.few small)
+    let caps = submitted_most g events legal m.instance in
+    let low = cap_small g m.instance small in
+    (message_fits g t m h was_sent (cap_of g m.instance) caps between few low (view_known g events m.to), message_refusal g t m h was_sent (cap_of g m.instance) caps between few low)
 
 -- what the proposer counts as submitted
 pub submitted_is : (g : Group) (t : Trace) (i r : ℕ) → Holds g t → proposer.submitted (proposing g t i r) ≡ length (submitted t i r)
@@ -270,37 +275,37 @@ unfolding proposing
 submitted_is g t i r h = let le = own_count g t h i r in omega (arith, length-drop (count (round t i r).updates r) (submitted t i r))
 
 -- a submission is refused where the cap is reached, and else for want of memory alone
-abbrev pub IsSubmittersRefusal : Group → (all : List Deed) → ReplicaError → Type 0
-IsSubmittersRefusal g all e = ((e ≡ Full) × (g.cap ≤ length all)) ⊎ ((e ≡ Memory) × (length all < g.cap))
+abbrev pub IsSubmittersRefusal : (cap : ℕ) → (all : List Deed) → ReplicaError → Type 0
+IsSubmittersRefusal cap all e = ((e ≡ Full) × (cap ≤ length all)) ⊎ ((e ≡ Memory) × (length all < cap))
 
-module _ (g : Group) (t : Trace) (r : ℕ) (h : Holds g t) (caps : (q : ℕ) → length (submitted t 0 q) ≤ g.cap) (in_group : r < replicas g) (few : replicas g ≤ 8) (small : g.cap ≤ 1000000) where
-  proposers_refusal : (e : ReplicaError) → IsSubmissionRefusal (proposing g t 0 r) e → IsSubmittersRefusal g (submitted t 0 r) e
+module _ (g : Group) (t : Trace) (r i : ℕ) (h : Holds g t) (caps : (q : ℕ) → length (submitted t i q) ≤ cap_of g i) (known_replica : r < 8) (there : i < instances g) (small : cap_of g i ≤ 1000000) where
+  proposers_refusal : (e : ReplicaError) → IsSubmissionRefusal (proposing g t i r) e → IsSubmittersRefusal (cap_of g i) (submitted t i r) e
   unfolding proposing
-  proposers_refusal Full w = inl (refl, subst (λ z. g.cap ≤ z) (submitted_is g t 0 r h) w)
-  proposers_refusal Memory w = inr (refl, subst (λ z. z < g.cap) (submitted_is g t 0 r h) w.0)
+  proposers_refusal Full w = inl (refl, subst (λ z. cap_of g i ≤ z) (submitted_is g t i r h) w)
+  proposers_refusal Memory w = inr (refl, subst (λ z. z < cap_of g i) (submitted_is g t i r h) w.0)
   proposers_refusal BallotsSpent w =
-      let room : length (submitted t 0 r) < g.cap = subst (λ z. z < g.cap) (submitted_is g t 0 r h) w.0 in
-      let le = own_count g t h 0 r in
-      let l = last_below g t h 0 g.cap caps r (omega arith) (omega arith) in
+      let room : length (submitted t i r) < cap_of g i = subst (λ z. z < cap_of g i) (submitted_is g t i r h) w.0 in
+      let le = own_count g t h i r in
+      let l = last_below g t h i (cap_of g i) caps r known_replica (omega arith) in
       let spent = w.1.1 in
       absurd (omega arith)
   proposers_refusal NoSuchReplica w = absurd w
   proposers_refusal NoSuchInstance w = absurd w
   proposers_refusal (Clash id) w = absurd w
 
-  first_there : (e : ReplicaError) → IsSomeAnd (slice_get (member g t r).instances 0) (λ x. IsSubmissionRefusal x.proposer e) → IsSubmissionRefusal (proposing g t 0 r) e
+  proposer_there : (e : ReplicaError) → IsSomeAnd (slice_get (member g t r).instances i) (λ x. IsSubmissionRefusal x.proposer e) → IsSubmittersRefusal (cap_of g i) (submitted t i r) e
   unfolding instance_of
-  first_there e w = subst (λ o. IsSomeAnd o (λ x. IsSubmissionRefusal x.proposer e)) (get_instance g t r 0 (omega arith)) w
+  proposer_there e w = proposers_refusal e (subst (λ o. IsSomeAnd o (λ x. IsSubmissionRefusal x.proposer e)) (get_instance g t r i there) w)
 
-  submitters_refusal : (e : ReplicaError) → IsSubmitRefusal (member g t r) 0 e → IsSubmittersRefusal g (submitted t 0 r) e
+  submitters_refusal : (e : ReplicaError) → IsSubmitRefusal (member g t r) i e → IsSubmittersRefusal (cap_of g i) (submitted t i r) e
   unfolding member
-  submitters_refusal NoSuchInstance w = absurd (omega (arith, length-map-range_with_len (instance_of g t r) 0 (instances g)))
-  submitters_refusal Full w = proposers_refusal Full (first_there Full w)
-  submitters_refusal Memory w = proposers_refusal Memory (first_there Memory w)
-  submitters_refusal BallotsSpent w = proposers_refusal BallotsSpent (first_there BallotsSpent w)
-  submitters_refusal NoSuchReplica w = proposers_refusal NoSuchReplica (first_there NoSuchReplica w)
-  submitters_refusal (Clash id) w = proposers_refusal (Clash id) (first_there (Clash id) w)
+  submitters_refusal NoSuchInstance w = absurd (omega (arith, there, w, length-map-range_with_len (instance_of g t r) 0 (instances g)))
+  submitters_refusal Full w = proposer_there Full w
+  submitters_refusal Memory w = proposer_there Memory w
+  submitters_refusal BallotsSpent w = proposer_there BallotsSpent w
+  submitters_refusal NoSuchReplica w = proposer_there NoSuchReplica w
+  submitters_refusal (Clash id) w = proposer_there (Clash id) w
 
 pub submission_refusal : SubmissionsFit
-submission_refusal g events r plain small legal in_group =
-    submitters_refusal g (trace g events) r (holds g events) (capped g events legal) in_group plain.few small
+submission_refusal g events r i few small legal in_group there =
+    submitters_refusal g (trace g events) r i (holds g events) (submitted_most g events legal i) (omega arith) there (cap_small g i small)

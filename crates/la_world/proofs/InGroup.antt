@@ -7,20 +7,14 @@ use Rattle.std.proofs.lemmas.List.{length_push}
 use Rattle.std.proofs.lemmas.Option.{same_Some, none-some}
 use Rattle.std.specs.List.{cons_option}
 use Rattle.la_set.specs.Deeds.{Deed}
-use Rattle.la_set.specs.Histories.{Histories}
 use Rattle.la_set.specs.Inclusion.{IsSubset}
-use Rattle.la_acceptor.specs.declared.reply.Reply.{Reply}
-use Rattle.la_acceptor.specs.declared.reply.Reply.TheVariants as replied
-use Rattle.la_acceptor.specs.Answer.{answer}
 use Rattle.la_replica.specs.declared.message.Message.{Message}
-use Rattle.la_replica.specs.declared.message.Body.TheVariants.{Tell}
-use Rattle.la_replica.specs.Messages.{group, offer_to, body_of}
+use Rattle.la_replica.specs.Messages.{group, offer_to}
 use Rattle.la_world.specs.declared.step.Opening.{Opening}
 use Rattle.la_world.specs.Groups.{Group, replicas, instances, first_instance, second_instance, is_first_instance, commit_of}
 use Rattle.la_world.specs.Events.{Event, Submit, Deliver, Decide}
 use Rattle.la_world.specs.Trace.{Did, Entry, Trace}
 use Rattle.la_world.specs.Sent.{sender_for, ballot_of, offers_for, offers_for_next, tells_for, sent_by, sent}
-use Rattle.la_world.specs.Acceptors.{accepted}
 use Rattle.la_world.specs.Ballots.{opened_by, learnt_by, only, ballots, round}
 use Rattle.la_world.specs.Votes.{Submission, own_vote, second_vote_of, second_vote}
 use Rattle.la_world.specs.Submissions.{submission_by, second_vote_after, deed_in, submitted, alone}
@@ -28,10 +22,11 @@ use Rattle.la_world.specs.Playing.{counts, entry, trace}
 use Rattle.la_world.specs.Report.{refused}
 use Rattle.la_world.specs.StandsFor.{IsLegal}
 use Rattle.la_world.proofs.Lists.{IsIn, AllIn, AllIn-append, AllIn-made, AllIn_at}
-use Rattle.la_world.proofs.Happens.{Opens, Source, gathers, joins, Happens, silent, opens, answers_offer, refines, learns, only_is, round_is_of, Step, step_opens, step}
+use Rattle.la_world.proofs.Happens.{Opens, Source, gathers, joins, Happens, silent, opens, answers_offer, refines, learns, Step, step_opens, step}
 use Rattle.la_world.proofs.Quorum.{counts_is, open_in, tells_all, group_within, happens_learns}
 use Rattle.la_world.proofs.Honest.{alone_within}
 use Rattle.la_world.proofs.Allowing.{submitter_known, submitter_room, proposer_known, object_known}
+use Rattle.la_world.proofs.Openings.{only_is, round_is}
 
 pub record IsOfGroup (g : Group) (i r : ℕ) : Type 0 where
   pub instance : i < instances g
@@ -41,17 +36,11 @@ pub record IsBetween (g : Group) (m : Message) : Type 0 where
   pub instance : m.instance < instances g
   pub from : m.from < replicas g
   pub to : m.to < replicas g
-  -- what is told is of instance 0
-  pub told : (s : Histories) → m.body ≡ Tell s → m.instance ≡ 0
 
 pub record Grouped (g : Group) (t : Trace) : Type 0 where
   pub submissions : (i r : ℕ) → (submitted t i r ≡ []) ⊎ IsOfGroup g i r
   pub ballots : (i r : ℕ) → AllIn (λ b. IsOfGroup g i r) (ballots t i r)
   pub messages : AllIn (IsBetween g) (sent (replicas g) t)
-
-no_tell : (a : Reply) (s : Histories) → body_of a ≡ Tell s → ⊥
-no_tell replied.Yes s e = cc
-no_tell (replied.No u) s e = cc
 
 -- ## One event more
 
@@ -113,7 +102,7 @@ module _ (g : Group) (t : Trace) (h : Grouped g t) where
             (subst₂ (IsOfGroup g) p.1 p.2 (opened_grouped b (step_opens g t x step b p.0)), h.ballots i r)
 
     offers_between : (b : Opening) → IsOfGroup g b.instance b.replica → AllIn (IsBetween g) (offers_for (replicas g) b)
-    offers_between b ok = AllIn-made (IsBetween g) (offer_to (sender_for (replicas g) b) (ballot_of b)) (λ q. q < replicas g) (λ q lt. record { instance = ok.instance; from = ok.replica; to = lt; told = λ s e. cc }) (group (replicas g)) (group_within (replicas g))
+    offers_between b ok = AllIn-made (IsBetween g) (offer_to (sender_for (replicas g) b) (ballot_of b)) (λ q. q < replicas g) (λ q lt. record { instance = ok.instance; from = ok.replica; to = lt }) (group (replicas g)) (group_within (replicas g))
 
     next_between : (o : Option Opening) → ((b : Opening) → o ≡ Some b → IsOfGroup g b.instance b.replica) → AllIn (IsBetween g) (offers_for_next (replicas g) o)
     next_between None ok = tt
@@ -122,14 +111,14 @@ module _ (g : Group) (t : Trace) (h : Grouped g t) where
     new_between : (v : Event) (m : Option Message) (d : Did) → Happens g t v m d → ((b : Opening) → opened_by d ≡ Some b → IsOfGroup g b.instance b.replica) → ((k : Message) → m ≡ Some k → IsBetween g k) → AllIn (IsBetween g) (sent_by (replicas g) m d)
     new_between v m d (silent o l s) ok k = subst (AllIn (IsBetween g)) (sym s) tt
     new_between v m d (opens b o) ok k = offers_between b (ok b refl)
-    new_between v m d (answers_offer c s e) ok k = let w = k c refl in (record { instance = w.instance; from = w.to; to = w.from; told = λ u f. absurd (no_tell (answer (accepted t c.instance c.to) s) u f) }, tt)
+    new_between v m d (answers_offer c s e) ok k = let w = k c refl in (record { instance = w.instance; from = w.to; to = w.from }, tt)
     new_between v m d (refines b o) ok k = offers_between b (ok b refl)
     new_between v m d (learns c a next e q y o) ok k =
         let b = round t c.instance c.to in
-        let of = round_is_of t c.instance c.to in
+        let of = round_is t c.instance c.to in
         let here = subst₂ (IsOfGroup g) (sym of.instance) (sym of.replica) (counted_grouped c q) in
         AllIn-append (IsBetween g) (tells_for (replicas g) b) (offers_for_next (replicas g) next)
-        (tells_all (IsBetween g) (replicas g) b (λ z to lt. record { instance = here.instance; from = here.replica; to = lt; told = λ s f. z }))
+        (tells_all (IsBetween g) (replicas g) b (λ z to lt. record { instance = here.instance; from = here.replica; to = lt }))
         (next_between next ok)
 
     grouped_more : Grouped g (x ∷ t)
@@ -159,7 +148,7 @@ second_vote_is b s e = go (is_first_instance b.instance) refl (own_vote b.update
 second_within : (g : Group) (i : ℕ) → is_first_instance i ≡ true → i < instances g → second_instance (commit_of i) < instances g
 second_within g i first lt = let odd = eqb-true (i % 2) 1 first in omega (arith, div-add-mod i 2)
 
-vote_after : (o : Option Opening) (s : Submission) → second_vote_after o ≡ Some s → (b : Opening) × (o ≡ Some b) × (second_vote b ≡ Some s)
+pub vote_after : (o : Option Opening) (s : Submission) → second_vote_after o ≡ Some s → (b : Opening) × (o ≡ Some b) × (second_vote b ≡ Some s)
 vote_after None s e = absurd (none-some s e)
 vote_after (Some b) s e = (b, refl, e)
 

@@ -7,7 +7,6 @@ mod Chains
 mod Within
 mod Honest
 mod Growth
-mod KnownBallots
 mod TakenUpdates
 mod Validity
 mod LearntOrder
@@ -22,13 +21,12 @@ pub mod Members
 pub mod Allowing
 pub mod InGroup
 pub mod Traces
+pub mod Once
 pub mod Taking
 pub mod Submitting
-pub mod Quiet
 pub mod Replying
 pub mod Delivering
 pub mod Legal
-pub mod KnownViews
 pub mod Fitting
 pub mod Starting
 pub mod KeptMessages

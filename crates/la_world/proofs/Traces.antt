@@ -26,8 +26,7 @@ use Rattle.la_world.proofs.Sizes.{total, total_strict}
 use Rattle.la_world.proofs.Quorum.{Numbered, last_number, numbered_below, MessageStands, ReplyStands, IsCountBacked, firsts_all, reply_backed, Sound, sound_start, sound_more}
 use Rattle.la_world.proofs.Within.{IsMessageWithin, IsCountWithin, AreWithin, round_within, within_start}
 use Rattle.la_world.proofs.Honest.{history-whole, Honest, honest_more, round_honest}
-use Rattle.la_world.proofs.Known.{known}
-use Rattle.la_world.proofs.KnownBallots.{known_more}
+use Rattle.la_world.proofs.Known.{known, known_more}
 use Rattle.la_world.proofs.Growth.{Growing, growing_more}
 
 pub record Holds (g : Group) (t : Trace) : Type 0 where

@@ -11,12 +11,13 @@ use Rattle.la_world.specs.Learnings.{learning_of, learnt}
 use Rattle.la_world.specs.Playing.{trace}
 use Rattle.la_world.specs.Laws.{LearntAreValid, LearntHoldWhatWasTaken}
 use Rattle.la_world.proofs.Lists.{AllIn, AllIn-append, AllIn-each, AllIn_at, contains_IsIn}
-use Rattle.la_world.proofs.Happens.{Happens, silent, opens, answers_offer, refines, learns, round_is_of}
+use Rattle.la_world.proofs.Happens.{Happens, silent, opens, answers_offer, refines, learns}
 use Rattle.la_world.proofs.Traces.{always}
 use Rattle.la_world.proofs.Quorum.{learnt_ballot}
 use Rattle.la_world.proofs.Chains.{learning_stands, trace_drop}
 use Rattle.la_world.proofs.Honest.{IsSubmitted, submitted_more, Honest, round_honest}
 use Rattle.la_world.proofs.TakenUpdates.{taken_within, has_taken}
+use Rattle.la_world.proofs.Openings.{round_is}
 
 -- when it was learnt, all of it had been submitted
 record WasSubmitted (t : Trace) (l : Learnt) : Type 0 where
@@ -31,7 +32,7 @@ new_submitted g x t v m d h (answers_offer c s e) = tt
 new_submitted g x t v m d h (refines b o) = tt
 new_submitted g x t v m d h (learns c a next e q y o) =
     let b = round t c.instance c.to in
-    let of = round_is_of t c.instance c.to in
+    let of = round_is t c.instance c.to in
     (record { later = 0; until_place = omega arith; submitted = submitted_more x t b.instance b.updates (subst (λ i. IsSubmitted t i b.updates) (sym of.instance) (round_honest g t h c.instance c.to)) }, tt)
 
 were_submitted : (g : Group) (events : List Event) → AllIn (WasSubmitted (trace g events)) (learnt (trace g events))

@@ -28,8 +28,9 @@ use Rattle.la_world.specs.Ballots.{opened_by, only, ballots, newest_of, round}
 use Rattle.la_world.specs.Counting.{reply_of, reply_at, replies, counted}
 use Rattle.la_world.proofs.Lists.{AllIn, AllIn-append, AllIn-each, AllIn-map, AllIn_at}
 use Rattle.la_world.proofs.Accepted.{accepted_moves}
-use Rattle.la_world.proofs.Happens.{Happens, heard, silent, opens, answers_offer, refines, learns, only_is, round_is_of, Step}
+use Rattle.la_world.proofs.Happens.{Happens, heard, silent, opens, answers_offer, refines, learns, Step}
 use Rattle.la_world.proofs.Quorum.{tells_all, firsts_all}
+use Rattle.la_world.proofs.Openings.{only_is, round_is}
 
 abbrev pub refusal : Reply → Histories
 refusal replied.Yes = empty
@@ -142,7 +143,7 @@ module _ (bound : Trace → (i : ℕ) → Histories) where
   new_within g x t up v m d h (refines b o) k w = offers_within (replicas g) (x ∷ t) b (w b refl)
   new_within g x t up v m d h (learns c a next e q y o) k w =
       let b = round t c.instance c.to in
-      let of = round_is_of t c.instance c.to in
+      let of = round_is t c.instance c.to in
       let here : IsWithin (x ∷ t) b.instance b.updates = within_later x t up b.instance b.updates (subst (λ i. IsWithin t i b.updates) (sym of.instance) (round_within g t h c.instance c.to)) in
       AllIn-append (IsMessageWithin (x ∷ t)) (tells_for (replicas g) b) (offers_for_next (replicas g) next)
       (tells_all (IsMessageWithin (x ∷ t)) (replicas g) b (λ z to lt. here))
