@@ -1,22 +1,24 @@
 // What sets say of one another, over what `set` offers.
-ghost use Rattle.std.specs.Prelude.{◌≡◌, ℕ, ◌++◌, ◌<◌, ◌≤◌, ◌↔◌, length, drop, filter, slice_get, Some, All, IsOk, IsTrue, IfOk, IfErr, OnOk, OnErr, MatchOption};
+ghost use Rattle.std.specs.Prelude.{◌≡◌, ℕ, ◌+◌, ◌++◌, ◌<◌, ◌≤◌, ◌↔◌, length, List, take, drop, reverse, slice_get, [], Some, IsOk, IsTrue, IfOk, IfErr, OnOk, OnErr, MatchOption};
 ghost use Rattle.std.specs.Option.{option_copied};
-ghost use Rattle.la_set.specs.Histories.{ContainsUpdate, updates};
+ghost use Rattle.la_set.specs.Histories.{updates};
 ghost use Rattle.la_set.specs.Inclusion.{IsSubset, is_subset, IsOrderOf};
 ghost use Rattle.la_set.specs.Join.{HasNoMore, IsCompatible, IsLeastClash, union};
-ghost use Rattle.la_set.specs.Difference.{beyond, lacks};
+ghost use Rattle.la_set.specs.Difference.{beyond, unmatched};
 ghost use Rattle.la_set.specs.declared.set.TheConstants.{MAX_NUMBER};
 ghost use Rattle.la_set.specs.Links.{items_of};
 ghost use Rattle.la_set.specs.Refusals.{IsUnionRefusal};
 
-use crate::history::{History, Lent, begins_with, first_difference, item_at, len_of};
+use crate::history::{
+    History, Lent, begins_with, first, first_difference, item_at, len_of, step_back,
+};
 use crate::{REPLICAS, SetError, Update, UpdateId, UpdateSet, Updates};
 use std::alloc::{AllocError, Global};
 use std::cmp::Ordering;
 
 impl UpdateSet {
     /// Whether each update of the other set is in this one. The counts are compared first, and then
-    /// the updates up to the first that differs: the cost is linear in the other set's length.
+    /// the updates: the cost is linear in the other set's length.
     pub fn contains_all(&self, other: &UpdateSet) -> bool
         ensures subset { IsTrue result ↔ IsSubset other.now self.now }
         ensures value { result ≡ is_subset other.now self.now }
@@ -32,7 +34,7 @@ impl UpdateSet {
     }
 
     /// How this set stands to the other by inclusion: `None` where neither contains the other. The
-    /// counts are compared first, and then the updates once, up to the first that differs.
+    /// counts are compared first, and then the updates once.
     pub fn order(&self, other: &UpdateSet) -> Option<Ordering>
         ensures { IsOrderOf self.now other.now result }
     {
@@ -86,35 +88,13 @@ impl UpdateSet {
         ensures room { IsSubset self.now other.now → IsOk result }
         ensures ok { IfOk result (λ updates. updates ≡ beyond self.now other.now) }
     {
-        let mut updates = Updates::new(self.allocator());
+        let alloc = self.allocator();
+        let mut updates = Updates::new(alloc);
         for replica in 0..REPLICAS {
-            other.copy_lacking(self.history_of(replica), &mut updates)?;
+            let lacking = lacking(alloc, self.history_of(replica), other.history_of(replica))?;
+            append_reversed(&mut updates, lacking)?;
         }
         Ok(updates)
-    }
-
-    // Whether this very update is in the set.
-    fn has(&self, update: &Update) -> bool
-        ensures { IsTrue result ↔ ContainsUpdate self.now update.now }
-    {
-        match self.get(update.id) {
-            Some(mine) => mine.same(update),
-            None => false,
-        }
-    }
-
-    // Puts copies of the updates that the set lacks last in the list.
-    fn copy_lacking(&self, updates: Lent<'_, Update>, into: &mut Updates) -> Result<(), AllocError>
-        ensures room { All (λ update. ContainsUpdate self.now update) (items_of (option_copied updates.entry)) → IsOk result }
-        ensures ok { OnOk result (into.new ≡ into.old ++ filter (lacks self.now) (items_of (option_copied updates.entry))) }
-    {
-        for place in 0..len_of(updates) {
-            let update = item(updates, place);
-            if !self.has(update) {
-                into.push(update.copy()?)?;
-            }
-        }
-        Ok(())
     }
 
     // Whether the other set has as many updates of each replica, or more.
@@ -137,7 +117,7 @@ impl UpdateSet {
     }
 
     /// The least id that has different updates in the two sets, or `None` where no id has. The cost is
-    /// that of comparing the updates that both have, up to the first that differs.
+    /// that of comparing the updates that both have.
     pub fn first_clash(&self, other: &UpdateSet) -> Option<UpdateId>
         ensures { MatchOption result (IsCompatible self.now other.now) (λ id. IsLeastClash self.now other.now id) }
     {
@@ -199,6 +179,69 @@ impl UpdateSet {
         *self = UpdateSet::keeping(alloc, of)?;
         Ok(())
     }
+}
+
+// Copies of the updates that a list has and another has not at their places, the last first: lists are
+// gone along from their ends.
+fn lacking(
+    alloc: Global,
+    list: Lent<'_, Update>,
+    other: Lent<'_, Update>,
+) -> Result<Vec<Update>, AllocError>
+    ensures room { unmatched (items_of (option_copied list.entry)) (items_of (option_copied other.entry)) ≡ [] → IsOk result }
+    ensures ok { IfOk result (λ lacking. lacking.items ≡ reverse (unmatched (items_of (option_copied list.entry)) (items_of (option_copied other.entry)))) }
+{
+    let mut lacking = Vec::new(alloc);
+    let mut mine = list;
+    let mut theirs = first(other, len_of(list).min(len_of(other)));
+    while len_of(mine) > 0 {
+        let step = step_back(mine);
+        let beside = step_beside(theirs, len_of(mine), step.item);
+        mine = step.prev;
+        theirs = beside.prev;
+        if !beside.has {
+            lacking.push(step.item.copy()?)?;
+        }
+    }
+    Ok(lacking)
+}
+
+// Whether a list has an update at the last of so many places, and what stands before that place.
+#[derive(Clone, Copy)]
+struct Beside<'a> {
+    has: bool,
+    prev: Lent<'a, Update>,
+}
+
+// Looks at the last of so many places, and goes back before it. The list has no item behind that place.
+fn step_beside<'a>(list: Lent<'a, Update>, len: usize, update: &Update) -> Beside<'a>
+    requires { 0 < len }
+    ensures has { (all : List Update) (k : ℕ) → len ≡ k + 1 → items_of (option_copied list.entry) ≡ take len all → (IsTrue result.has ↔ (slice_get all k ≡ Some update.now)) }
+    ensures prev { (all : List Update) (k : ℕ) → len ≡ k + 1 → items_of (option_copied list.entry) ≡ take len all → items_of (option_copied result.prev) ≡ take k all }
+{
+    if len_of(list) != len {
+        return Beside {
+            has: false,
+            prev: list,
+        };
+    }
+    let step = step_back(list);
+    Beside {
+        has: step.item.same(update),
+        prev: step.prev,
+    }
+}
+
+// Puts updates last in a list, the last of them first.
+fn append_reversed(updates: &mut Updates, reversed: Vec<Update>) -> Result<(), AllocError>
+    ensures room { reversed.items ≡ [] → IsOk result }
+    ensures ok { OnOk result (updates.new ≡ updates.old ++ reverse reversed.items) }
+{
+    let mut left = reversed;
+    while let Some(update) = left.pop() {
+        updates.push(update)?;
+    }
+    Ok(())
 }
 
 // Adds what a list has beyond another's length to that, shared if it can be.

@@ -196,11 +196,11 @@ pub fn begins_with<T: Same>(one: Lent<'_, T>, other: Lent<'_, T>) -> bool
     len_of(one) >= len_of(other) && first_difference(one, other).is_none()
 }
 
-// An item, and the link that it stands behind.
+/// An item, and what stands before it.
 #[derive(Clone, Copy)]
-struct Step<'a, T> {
-    item: &'a T,
-    prev: Lent<'a, T>,
+pub struct Step<'a, T> {
+    pub item: &'a T,
+    pub prev: Lent<'a, T>,
 }
 
 /// How many items a link leads to, at constant cost.
@@ -228,8 +228,8 @@ fn copy_of<T>(link: Lent<'_, T>) -> Result<Link<T>, AllocError>
     }
 }
 
-// The last item, and the link to what stands before it.
-fn step_back<T>(link: Lent<'_, T>) -> Step<'_, T>
+/// The last item, and what stands before it, at constant cost.
+pub fn step_back<T>(link: Lent<'_, T>) -> Step<'_, T>
     requires { 0 < length (items_of (option_copied link)) }
     ensures { items_of (option_copied link.entry) ≡ items_of (option_copied result.prev) ++ result.item.now ∷ [] }
 {
@@ -245,8 +245,8 @@ fn step_back<T>(link: Lent<'_, T>) -> Step<'_, T>
     }
 }
 
-// The link to the first so many items.
-fn first<T>(link: Lent<'_, T>, len: usize) -> Lent<'_, T>
+/// The first so many items, at logarithmic cost.
+pub fn first<T>(link: Lent<'_, T>, len: usize) -> Lent<'_, T>
     requires { len ≤ length (items_of (option_copied link)) }
     ensures { items_of (option_copied result) ≡ take len (items_of (option_copied link.entry)) }
 {

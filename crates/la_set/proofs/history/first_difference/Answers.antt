@@ -1,4 +1,4 @@
-use Rattle.std.proofs.Common.{◌≡◌, ◌+◌, ◌-◌, arith, sym, ◌∙◌}
+use Rattle.std.proofs.Common.{length, ◌<◌, ◌≡◌, ◌+◌, ◌-◌, arith, sym, ◌∙◌}
 use Rattle.std.proofs.lemmas.Bool.{both_ways}
 use Rattle.std.specs.Option.{option_copied}
 use Rattle.la_set.specs.Links.{items_of}
@@ -11,8 +11,10 @@ loop-left-preserved g c =
     let xs = items_of (option_copied c.args.one) in let ys = items_of (option_copied c.args.other) in
     let n = c.loop-left.left in let k = n - 1 in let inv = c.loop-left.invariant in
     let one_less : n ≡ k + 1 = omega arith in
-    let ours = last_is xs _ k n c.step_back-ours.result.item.now one_less (omega arith) (sym inv.mine ∙ c.step_back-ours.ensures) in
-    let its = last_is ys _ k n c.step_back-its.result.item.now one_less (omega arith) (sym inv.theirs ∙ c.step_back-its.ensures) in
+    let in_mine : k < length xs = omega arith in
+    let in_theirs : k < length ys = omega arith in
+    let ours = last_is xs _ k n c.step_back-ours.result.item.now one_less in_mine (sym inv.mine ∙ c.step_back-ours.ensures) in
+    let its = last_is ys _ k n c.step_back-its.result.item.now one_less in_theirs (sym inv.theirs ∙ c.step_back-its.ensures) in
     record {
       mine = ours.0;
       theirs = its.0;
