@@ -188,11 +188,7 @@ impl Proposer {
             self.hold(object, op)?;
             return Ok(None);
         }
-        let mut next = self.copy()?;
-        next.hold(object, op)?;
-        let ballot = next.open()?;
-        *self = next;
-        Ok(Some(ballot))
+        Ok(Some(self.open_with(object, op)?))
     }
 
     /// Hears a reply of an acceptor to a ballot.
@@ -278,13 +274,7 @@ impl Proposer {
                 self.keep(from, reply)?;
                 Ok(Heard::Counted)
             }
-            Some(Verdict::Refines) => {
-                let mut next = self.copy()?;
-                next.keep(from, reply)?;
-                let ballot = next.refine()?;
-                *self = next;
-                Ok(Heard::Refined(ballot))
-            }
+            Some(Verdict::Refines) => Ok(Heard::Refined(self.refine_with(from, reply)?)),
             Some(Verdict::Learns) => self.learn(),
         }
     }

@@ -38,6 +38,21 @@ impl Proposer {
         Ok(opened)
     }
 
+    // Opens a ballot with one more submission.
+    pub(super) fn open_with(&mut self, object: u16, op: Op) -> Result<Ballot, AllocError>
+        requires room { submitted self.old < self.old.cap }
+        requires left { self.old.number < MAX_BALLOTS }
+        ensures opened { IfOk result (λ ballot. ballot ≡ next_ballot (with_waiting self.old (record { object = object; op = op }))) }
+        ensures ok { OnOk result (self.new ≡ after_opening (with_waiting self.old (record { object = object; op = op }))) }
+        ensures err { OnErr result (self.new ≡ self.old) }
+    {
+        let mut next = self.copy()?;
+        next.hold(object, op)?;
+        let ballot = next.open()?;
+        *self = next;
+        Ok(ballot)
+    }
+
     // Puts a reply into the tally.
     pub(super) fn keep(&mut self, from: u8, reply: Reply) -> Result<(), AllocError>
         requires asking { self.old.is_asking ≡ true }
@@ -69,6 +84,23 @@ impl Proposer {
         self.last = refined;
         self.tally.clear();
         Ok(opened)
+    }
+
+    // Puts a reply into the tally, and refines.
+    pub(super) fn refine_with(&mut self, from: u8, reply: Reply) -> Result<Ballot, AllocError>
+        requires asking { self.old.is_asking ≡ true }
+        requires in_group { from < length self.old.votes }
+        requires fits { Fits self.old reply }
+        requires left { self.old.number < MAX_BALLOTS }
+        ensures opened { IfOk result (λ ballot. ballot ≡ refined_ballot (with_reply self.old from reply)) }
+        ensures ok { OnOk result (self.new ≡ after_refinement (with_reply self.old from reply)) }
+        ensures err { OnErr result (self.new ≡ self.old) }
+    {
+        let mut next = self.copy()?;
+        next.keep(from, reply)?;
+        let ballot = next.refine()?;
+        *self = next;
+        Ok(ballot)
     }
 
     // Learns the open ballot's set. Where submissions wait a ballot opens at once.
