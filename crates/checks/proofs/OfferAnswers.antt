@@ -1,5 +1,5 @@
 -- What a contract of la_acceptor leaves open: one refusal.
-use Rattle.std.proofs.Common.{◌≡◌, ◌≢◌, Unit, Result, Ok, Err, IfErr, OnOk, refl, ap}
+use Rattle.std.proofs.Common.{◌≡◌, refl, ap}
 use Rattle.la_set.specs.Histories.{Histories}
 use Rattle.la_set.specs.Join.{IsCompatible}
 use Rattle.la_set.proofs.Agreements.{clash_compatible}
@@ -14,10 +14,7 @@ one_offer_refusal a b (Clash x) Memory p q = absurd (clash_compatible a b x p.cl
 one_offer_refusal a b Memory (Clash y) p q = absurd (clash_compatible a b y q.clashes p)
 one_offer_refusal a b Memory Memory p q = refl
 
--- what an offer that would be answered, and one that would not, are told
-abbrev pub IsAdmission : Histories → Histories → Result (Unit {0}) AcceptorError → Type 0
-IsAdmission a b r = OnOk r (IsCompatible a b) × IfErr r (IsOfferRefusal a b) × (r ≢ Err Memory)
-
-admitted_alone : (a b : Histories) (e : AcceptorError) → IsCompatible a b → IsOfferRefusal a b e → Err {T = Unit {0}} e ≢ Err Memory → ⊥
-admitted_alone a b (Clash x) fits clash memory = clash_compatible a b x clash.clashes fits
-admitted_alone a b Memory fits clash memory = memory refl
+-- an offer that fits what is accepted is refused for want of memory alone
+pub fitting_offer : (a b : Histories) (e : AcceptorError) → IsCompatible a b → IsOfferRefusal a b e → e ≡ Memory
+fitting_offer a b (Clash x) fits p = absurd (clash_compatible a b x p.clashes fits)
+fitting_offer a b Memory fits p = refl
