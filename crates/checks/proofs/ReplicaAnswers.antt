@@ -49,8 +49,8 @@ acceptor's Memory = accepting.Memory
 
 hearing_is : (p : Proposing) (m : Message) (reply : Reply) (e : ReplicaError) → IsHearingRefusal p m reply e → (counts p m.from m.ballot ≡ true) × IsCountingRefusal p m.from reply (proposer's e) × (of_proposer (proposer's e) ≡ e)
 hearing_is p m reply (Clash id) h = (h.0, h.1, refl)
-hearing_is p m reply BallotsSpent h = (h.0, h.1, refl)
-hearing_is p m reply Memory h = (h.0, h.1, refl)
+hearing_is p m reply BallotsSpent h = (h.0, (h.1, h.2), refl)
+hearing_is p m reply Memory h = (h.0, (h.1, h.2), refl)
 hearing_is p m reply Full h = absurd h
 hearing_is p m reply NoSuchReplica h = absurd h
 hearing_is p m reply NoSuchInstance h = absurd h
@@ -92,12 +92,12 @@ over a b le lt = omega arith
 one_hearing : (p : Proposing) (m : Message) (reply : Reply) (e f : ReplicaError) → IsHearingRefusal p m reply e → IsHearingRefusal p m reply f → e ≡ f
 one_hearing p m reply e f h k =
     let a = hearing_is p m reply e h in let b = hearing_is p m reply f k in
-    sym a.1.1 ∙ ap of_proposer (one_counting_refusal p m.from reply (proposer's e) (proposer's f) a.1.0 b.1.0) ∙ b.1.1
+    sym a.2 ∙ ap of_proposer (one_counting_refusal p m.from reply (proposer's e) (proposer's f) a.1 b.1) ∙ b.2
 
 fitting_hearing : (p : Proposing) (m : Message) (reply : Reply) (e : ReplicaError) → (counts p m.from m.ballot ≡ true → Fits p reply) → (counts p m.from m.ballot ≡ true → ¬ ReplySpends (with_reply p m.from reply)) → IsHearingRefusal p m reply e → e ≡ Memory
 fitting_hearing p m reply e fits spares h =
     let a = hearing_is p m reply e h in
-    sym a.1.1 ∙ ap of_proposer (fitting_counting p m.from reply (proposer's e) (fits a.0) (spares a.0) a.1.0)
+    sym a.2 ∙ ap of_proposer (fitting_counting p m.from reply (proposer's e) (fits a.0) (spares a.0) a.1)
 
 one_body : (x : Instance) (view : Histories) (m : Message) (body : Body) (e f : ReplicaError) → IsBodyRefusal x view m body e → IsBodyRefusal x view m body f → e ≡ f
 one_body x view m (Offer s) e f h k =
@@ -166,7 +166,7 @@ pub one_learning : (m : Member) (message : Message) (a b : Option Histories) →
     → ((out : Out) (after : Member) → receives m message ≡ Some (out, after) → a ≡ learnt_in out.said)
     → ((out : Out) (after : Member) → receives m message ≡ Some (out, after) → b ≡ learnt_in out.said) → a ≡ b
 one_learning m message a b lt p q = elim (slice_get_cases m.instances message.instance).1 [
-  | inl there ↦ (let e = ap (option_map (λ x. after_step m message.instance (steps.receives (sender_of m message.instance) x m.view message))) there.1.1.0 in p _ _ e ∙ sym (q _ _ e))
+  | inl there ↦ (let e = ap (option_map (λ x. after_step m message.instance (steps.receives (sender_of m message.instance) x m.view message))) there.2 in p _ _ e ∙ sym (q _ _ e))
   | inr past ↦ absurd (over message.instance (length m.instances) past.0 lt)
 ]
 

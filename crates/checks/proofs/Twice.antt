@@ -9,11 +9,11 @@ both_refused (Err e) (Err f) P Q p q one = one e f p q
 -- A call that answers nothing and changes nothing, where one error never comes: refusals are alike, and success leaves that error alone.
 module _ {E : Type 0} (never : E) (G : Type 0) (P : E → Type 0) (alike : (e f : E) → P e → P f → e ≡ f) (alone : (e : E) → G → P e → e ≡ never) where
   pub one_answer : (r s : Result (Unit {0}) E) → OnOk r G → IfErr r P → r ≢ Err never → OnOk s G → IfErr s P → s ≢ Err never → r ≡ s
-  one_answer (Ok tt) (Ok tt) g p m h q n = refl
-  one_answer (Ok tt) (Err f) g p m h q n = absurd (n (ap Err (alone f g q)))
-  one_answer (Err e) (Ok tt) g p m h q n = absurd (m (ap Err (alone e h p)))
+  one_answer (Ok x) (Ok y) g p m h q n = refl
+  one_answer (Ok x) (Err f) g p m h q n = absurd (n (ap Err (alone f g q)))
+  one_answer (Err e) (Ok y) g p m h q n = absurd (m (ap Err (alone e h p)))
   one_answer (Err e) (Err f) g p m h q n = ap Err (alike e f p q)
 
-pub on_both : {T E A B : Type 0} (r : Result T E) → OnOk r A → OnOk r B → OnOk r (A × B)
-on_both (Ok x) a b = (a, b)
-on_both (Err e) a b = tt
+pub on_both : {T E : Type 0} (A B : Type 0) (r : Result T E) → OnOk r A → OnOk r B → OnOk r (A × B)
+on_both A B (Ok x) a b = (a, b)
+on_both A B (Err e) a b = tt

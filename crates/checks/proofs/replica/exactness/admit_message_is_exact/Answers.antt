@@ -9,4 +9,4 @@ returns c =
     let m = c.args.replica.now in let message = c.args.message.now in let r = c.admit_message.result in let s = c.admit_message-2.result in
     let one = c.admit_message.ensures in let two = c.admit_message-2.ensures in
     one_answer Memory (IsReceivable m message × ReceivingSpares m message) (IsReceiveRefusal m message) (one_receive_refusal m message) (fitting_message m message)
-    r s (on_both r one.receivable one.spares) one.error one.memory (on_both s two.receivable two.spares) two.error two.memory
+    r s (on_both _ _ r one.receivable one.spares) one.error one.memory (on_both _ _ s two.receivable two.spares) two.error two.memory
