@@ -1,5 +1,5 @@
 -- What the contracts of la_replica leave open of a message: one refusal, and one set that it leads to learning.
-use Rattle.std.proofs.Common.{◌≡◌, ◌≢◌, ◌⊎◌, ℕ, ◌<◌, ◌≤◌, Bool, true, false, length, List, Option, Some, None, IsSomeAnd, option_map, slice_get, refl, sym, ◌∙◌, ap, subst, arith, inl, inr}
+use Rattle.std.proofs.Common.{◌≡◌, ◌≢◌, ◌⊎◌, ℕ, ◌<◌, ◌≤◌, true, length, List, Option, Some, None, IsSomeAnd, option_map, slice_get, refl, sym, ◌∙◌, ap, subst, arith, inl, inr}
 use Rattle.std.proofs.lemmas.Option.{slice_get_past, slice_get_cases}
 use Rattle.la_set.specs.Histories.{Histories, empty}
 use Rattle.la_set.specs.Join.{IsCompatible}
