@@ -1,5 +1,7 @@
 pub mod Twice
 pub mod SetAnswers
 pub mod OfferAnswers
+pub mod ProposerAnswers
+pub mod ReplicaAnswers
 pub mod SameWorlds
 pub mod WorldLaws

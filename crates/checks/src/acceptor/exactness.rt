@@ -2,6 +2,7 @@
 // promises equal answers. Where memory may run out for one call and not for the other, it promises
 // them where both succeed; and where both are refused, one refusal.
 ghost use Rattle.std.specs.Prelude.{◌≡◌, ◌↔◌, [], ◌∷◌, IsTrue, IfOk, IfErr, OnOk, OnErr};
+ghost use Rattle.la_set.specs.Join.{IsCompatible};
 ghost use Rattle.la_acceptor.specs.Offers.{AreAnsweredAfter};
 
 use la_acceptor::{Acceptor, AcceptorError, Reply};
@@ -40,23 +41,54 @@ fn offer_is_exact(
     (one.offer(offered), other.offer(offered))
 }
 
-// The reply and its copy are the reply of an offer without a copy.
-fn offer_with_copy_is_exact(
+// No memory is taken, so that the answers are one.
+fn admit_offer_is_exact(
+    acceptor: &Acceptor,
+    offered: &UpdateSet,
+) -> (Result<(), AcceptorError>, Result<(), AcceptorError>)
+    ensures { result.0 ≡ result.1 }
+{
+    (acceptor.admit_offer(offered), acceptor.admit_offer(offered))
+}
+
+fn take_offer_is_exact(
     one: &mut Acceptor,
     other: &mut Acceptor,
     offered: &UpdateSet,
-) -> (
-    Result<(Reply, Reply), AcceptorError>,
-    Result<Reply, AcceptorError>,
-)
-    requires { one.old ≡ other.old }
-    ensures reply { IfOk result.0 (λ a. IfOk result.1 (λ b. a.0 ≡ b)) }
-    ensures copy { IfOk result.0 (λ a. IfOk result.1 (λ b. a.1 ≡ b)) }
+) -> (Result<Reply, AllocError>, Result<Reply, AllocError>)
+    requires same { one.old ≡ other.old }
+    requires admitted { IsCompatible one.old offered.now }
+    ensures reply { IfOk result.0 (λ a. IfOk result.1 (λ b. a ≡ b)) }
     ensures accepted { OnOk result.0 (OnOk result.1 (one.new ≡ other.new)) }
-    ensures refusal { IfErr result.0 (λ e. IfErr result.1 (λ f. e ≡ f)) }
     ensures unchanged { OnErr result.0 (OnErr result.1 (one.new ≡ other.new)) }
 {
-    (one.offer_with_copy(offered), other.offer(offered))
+    (one.take_offer(offered), other.take_offer(offered))
+}
+
+// What is admitted is answered as an offer is.
+fn a_taken_offer_is_answered_alike(
+    one: &mut Acceptor,
+    other: &mut Acceptor,
+    offered: &UpdateSet,
+) -> (Result<Reply, AllocError>, Result<Reply, AcceptorError>)
+    requires same { one.old ≡ other.old }
+    requires admitted { IsCompatible one.old offered.now }
+    ensures reply { IfOk result.0 (λ a. IfOk result.1 (λ b. a ≡ b)) }
+    ensures accepted { OnOk result.0 (OnOk result.1 (one.new ≡ other.new)) }
+{
+    (one.take_offer(offered), other.offer(offered))
+}
+
+// An offer of exactly what is accepted is taken without memory.
+fn the_same_is_taken_again(
+    acceptor: &mut Acceptor,
+    offered: &UpdateSet,
+) -> Result<Reply, AllocError>
+    requires admitted { IsCompatible acceptor.old offered.now }
+    requires again { offered.now ≡ acceptor.old }
+    ensures { result ≡ Ok Reply.Yes }
+{
+    acceptor.take_offer(offered)
 }
 
 fn reply_copies_are_one(reply: &Reply) -> Result<(Reply, Reply), AllocError>

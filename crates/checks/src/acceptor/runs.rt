@@ -2,6 +2,7 @@
 use crate::set::helpers::{Does, Row, id, set_of};
 use la_acceptor::{Acceptor, AcceptorError, Reply, laws};
 use la_set::UpdateSet;
+use std::alloc::Global;
 use std::process::Abort;
 
 const FIRST: &[Row] = &[
@@ -45,16 +46,36 @@ const OFFERS: [(&[Row], Told, &[Row]); 7] = [
     (SECOND, Told::No, BOTH),
 ];
 
+// How an offer is made: by one call, or admitted and then taken.
+#[derive(Clone, Copy)]
+enum Way {
+    AtOnce,
+    InTwo,
+}
+
+fn offer_by(
+    acceptor: &mut Acceptor,
+    offered: &UpdateSet,
+    way: Way,
+) -> Result<Reply, AcceptorError> {
+    if let Way::AtOnce = way {
+        return acceptor.offer(offered);
+    }
+    acceptor.admit_offer(offered)?;
+    Ok(acceptor.take_offer(offered)?)
+}
+
 fn offer(
     rt: &impl Abort,
     acceptor: &mut Acceptor,
     offered: &UpdateSet,
+    way: Way,
 ) -> Result<Reply, AcceptorError> {
     let before = acceptor.accepted().len();
-    match acceptor.offer(offered) {
+    match offer_by(acceptor, offered, way) {
         Err(AcceptorError::Memory) => {
             assert!(rt; acceptor.accepted().len() == before);
-            acceptor.offer(offered)
+            offer_by(acceptor, offered, way)
         }
         first => first,
     }
@@ -69,15 +90,24 @@ fn is_told(reply: &Result<Reply, AcceptorError>, told: Told, accepted: &UpdateSe
     }
 }
 
-#[test]
-fn offers_are_answered(rt: HostRuntime) {
-    let mut acceptor = Acceptor::new(rt.alloc());
+fn answers(rt: &impl Abort, alloc: Global, way: Way) {
+    let mut acceptor = Acceptor::new(alloc);
     for (place, (offered, told, accepted)) in OFFERS.iter().enumerate() {
-        let reply = offer(&rt, &mut acceptor, &set_of(&rt, rt.alloc(), offered));
-        let accepted = set_of(&rt, rt.alloc(), accepted);
+        let reply = offer(rt, &mut acceptor, &set_of(rt, alloc, offered), way);
+        let accepted = set_of(rt, alloc, accepted);
         assert!(rt; is_told(&reply, *told, &accepted), "at {place}");
         assert!(rt; acceptor.accepted().same(&accepted), "at {place}");
     }
+}
+
+#[test]
+fn offers_are_answered(rt: HostRuntime) {
+    answers(&rt, rt.alloc(), Way::AtOnce);
+}
+
+#[test]
+fn offers_are_admitted_and_taken(rt: HostRuntime) {
+    answers(&rt, rt.alloc(), Way::InTwo);
 }
 
 fn copy_of(rt: &impl Abort, acceptor: &Acceptor) -> Acceptor {
@@ -98,7 +128,7 @@ fn copy_of_reply(rt: &impl Abort, reply: &Reply) -> Reply {
 fn an_acceptor_is_copied(rt: HostRuntime) {
     let mut acceptor = Acceptor::new(rt.alloc());
     let first = set_of(&rt, rt.alloc(), FIRST);
-    assert!(rt; offer(&rt, &mut acceptor, &first).is_ok());
+    assert!(rt; offer(&rt, &mut acceptor, &first, Way::AtOnce).is_ok());
     let copy = copy_of(&rt, &acceptor);
     assert!(rt; copy.accepted().same(&first));
 }
@@ -108,36 +138,29 @@ fn an_acceptor_is_copied(rt: HostRuntime) {
 fn an_offer_again_takes_no_memory(rt: HostRuntime) {
     let mut acceptor = Acceptor::new(rt.alloc());
     let first = set_of(&rt, rt.alloc(), FIRST);
-    assert!(rt; offer(&rt, &mut acceptor, &first).is_ok());
-    let again = acceptor
-        .offer(&first)
-        .is_ok_and(|reply| reply.same(&Reply::Yes));
-    assert!(rt; again && acceptor.offer_with_copy(&first).is_ok());
-}
-
-fn offer_twice(
-    rt: &impl Abort,
-    acceptor: &mut Acceptor,
-    offered: &UpdateSet,
-) -> Result<(Reply, Reply), AcceptorError> {
-    let before = acceptor.accepted().len();
-    match acceptor.offer_with_copy(offered) {
-        Err(AcceptorError::Memory) => {
-            assert!(rt; acceptor.accepted().len() == before);
-            acceptor.offer_with_copy(offered)
-        }
-        first => first,
+    assert!(rt; offer(&rt, &mut acceptor, &first, Way::AtOnce).is_ok());
+    for way in [Way::AtOnce, Way::InTwo] {
+        let again = offer_by(&mut acceptor, &first, way);
+        assert!(rt; again.is_ok_and(|reply| reply.same(&Reply::Yes)));
     }
 }
 
 #[test]
-fn a_reply_and_its_copy_are_one(rt: HostRuntime) {
+fn a_reply_is_copied(rt: HostRuntime) {
     let mut acceptor = Acceptor::new(rt.alloc());
-    assert!(rt; offer(&rt, &mut acceptor, &set_of(&rt, rt.alloc(), FIRST)).is_ok());
+    assert!(rt;
+        offer(
+            &rt,
+            &mut acceptor,
+            &set_of(&rt, rt.alloc(), FIRST),
+            Way::AtOnce
+        )
+        .is_ok()
+    );
     let second = set_of(&rt, rt.alloc(), SECOND);
-    let (reply, copy) = offer_twice(&rt, &mut acceptor, &second).expect(&rt, "no clash");
-    let third = copy_of_reply(&rt, &reply);
-    assert!(rt; reply.same(&copy) && third.same(&copy) && !reply.same(&Reply::Yes));
+    let reply = offer(&rt, &mut acceptor, &second, Way::AtOnce).expect(&rt, "no clash");
+    let copy = copy_of_reply(&rt, &reply);
+    assert!(rt; reply.same(&copy) && !reply.same(&Reply::Yes));
 }
 
 #[test]

@@ -1,13 +1,14 @@
 // Callers that know nothing but the contracts: each makes a call twice and promises equal answers.
-ghost use Rattle.std.specs.Prelude.{◌≡◌, ◌≢◌, ◌↔◌, ◌<◌, ◌≤◌, true, length, IsTrue, IsOk, IfOk, IfErr, OnOk, OnErr, option_copied};
+ghost use Rattle.std.specs.Prelude.{◌≡◌, ◌≢◌, ◌↔◌, ◌<◌, ◌≤◌, true, length, IsTrue, IsOk, IfOk, IfErr, OnOk, OnErr};
 ghost use Rattle.la_proposer.specs.Majority.{votes_of};
-ghost use Rattle.la_proposer.specs.Tally.{reply_with};
-ghost use Rattle.la_proposer.specs.Proposing.{submitted, submission_opens, counts, with_reply, heard_of};
+ghost use Rattle.la_proposer.specs.Proposing.{submitted, counts};
 ghost use Rattle.la_proposer.specs.Clashes.{Fits};
-ghost use Rattle.la_proposer.specs.Refusals.{SubmissionSpends, ReplySpends};
+ghost use Rattle.la_proposer.specs.Refusals.{SubmissionSpends, ReplySpares};
 
 use la_acceptor::Reply;
-use la_proposer::{BadConfig, Ballot, Heard, MAX_CAP, Proposer, ProposerError, Status, Votes};
+use la_proposer::{
+    BadConfig, Ballot, Heard, MAX_CAP, Proposer, ProposerError, Status, Verdict, Votes,
+};
 use la_set::{Op, UpdateSet};
 use std::alloc::{AllocError, Global};
 
@@ -115,6 +116,8 @@ type Opens = Result<Option<Ballot>, ProposerError>;
 
 type Hears = Result<Heard, ProposerError>;
 
+type Admits = Result<(), ProposerError>;
+
 fn submit_is_exact(one: &mut Proposer, other: &mut Proposer, object: u16, by: u32) -> (Opens, Opens)
     requires { one.old ≡ other.old }
     ensures answers { IfOk result.0 (λ a. IfOk result.1 (λ b. a ≡ b)) }
@@ -129,34 +132,32 @@ fn submit_is_exact(one: &mut Proposer, other: &mut Proposer, object: u16, by: u3
     )
 }
 
-fn foresee_submission_is_exact(proposer: &Proposer, object: u16, op: &Op) -> (Opens, Opens)
-    ensures answers { IfOk result.0 (λ a. IfOk result.1 (λ b. a ≡ b)) }
-    ensures refusals { IfErr result.0 (λ e. IfErr result.1 (λ f. e ≢ ProposerError.Memory → f ≢ ProposerError.Memory → e ≡ f)) }
-    ensures memory { IfErr result.0 (λ e. OnOk result.1 (e ≡ ProposerError.Memory)) }
+// No memory is taken, so that the answers are one.
+fn admit_submission_is_exact(proposer: &Proposer) -> (Admits, Admits)
+    ensures { result.0 ≡ result.1 }
 {
-    (
-        proposer.foresee_submission(object, op),
-        proposer.foresee_submission(object, op),
-    )
+    (proposer.admit_submission(), proposer.admit_submission())
 }
 
-fn follow_submission_is_exact(
+fn take_submission_is_exact(
     one: &mut Proposer,
     other: &mut Proposer,
     object: u16,
     by: u32,
-    opened: &Option<Ballot>,
-) -> (Result<(), AllocError>, Result<(), AllocError>)
+) -> (
+    Result<Option<Ballot>, AllocError>,
+    Result<Option<Ballot>, AllocError>,
+)
     requires same { one.old ≡ other.old }
-    requires foreseen { opened.now ≡ submission_opens one.old (record { object = object; op = Op.Inc by }) }
     requires room { submitted one.old < one.old.cap }
     requires spares { ¬ SubmissionSpends one.old }
+    ensures answers { IfOk result.0 (λ a. IfOk result.1 (λ b. a ≡ b)) }
     ensures steps { OnOk result.0 (OnOk result.1 (one.new ≡ other.new)) }
     ensures stays { OnErr result.0 (one.new ≡ one.old) }
 {
     (
-        one.follow_submission(object, Op::Inc(by), opened),
-        other.follow_submission(object, Op::Inc(by), opened),
+        one.take_submission(object, Op::Inc(by)),
+        other.take_submission(object, Op::Inc(by)),
     )
 }
 
@@ -181,38 +182,59 @@ fn reply_is_exact(
     )
 }
 
-fn foresee_is_exact(
+// No memory is taken, so that the answers are one.
+fn admit_reply_is_exact(
     proposer: &Proposer,
     from: u8,
     ballot: u32,
     refusal: Option<&UpdateSet>,
-) -> (Hears, Hears)
-    ensures answers { IfOk result.0 (λ a. IfOk result.1 (λ b. a ≡ b)) }
-    ensures refusals { IfErr result.0 (λ e. IfErr result.1 (λ f. e ≢ ProposerError.Memory → f ≢ ProposerError.Memory → e ≡ f)) }
-    ensures memory { IfErr result.0 (λ e. OnOk result.1 (e ≡ ProposerError.Memory)) }
+) -> (Admits, Admits)
+    ensures { result.0 ≡ result.1 }
 {
     (
-        proposer.foresee(from, ballot, refusal),
-        proposer.foresee(from, ballot, refusal),
+        proposer.admit_reply(from, ballot, refusal),
+        proposer.admit_reply(from, ballot, refusal),
     )
 }
 
-fn follow_is_exact(
+fn take_reply_is_exact(
     one: &mut Proposer,
     other: &mut Proposer,
     from: u8,
     ballot: u32,
-    heard: &Heard,
-) -> (Result<(), AllocError>, Result<(), AllocError>)
+    replies: (Reply, Reply),
+) -> (Result<Heard, AllocError>, Result<Heard, AllocError>)
     requires same { one.old ≡ other.old }
+    requires replies { replies.0 ≡ replies.1 }
     requires in_group { from < length one.old.votes }
-    requires spares { counts one.old from ballot ≡ true → ¬ ReplySpends (with_reply one.old from Reply.Yes) }
-    requires foreseen { heard.now ≡ heard_of one.old from ballot Reply.Yes }
+    requires fits { counts one.old from ballot ≡ true → Fits one.old replies.0 }
+    requires spares { ReplySpares one.old from ballot replies.0 }
+    ensures answers { IfOk result.0 (λ a. IfOk result.1 (λ b. a ≡ b)) }
     ensures steps { OnOk result.0 (OnOk result.1 (one.new ≡ other.new)) }
     ensures stays { OnErr result.0 (one.new ≡ one.old) }
 {
     (
-        one.follow(from, ballot, None, heard),
-        other.follow(from, ballot, None, heard),
+        one.take_reply(from, ballot, replies.0),
+        other.take_reply(from, ballot, replies.1),
+    )
+}
+
+fn counts_is_exact(proposer: &Proposer, from: u8, ballot: u32) -> (bool, bool)
+    ensures { result.0 ≡ result.1 }
+{
+    (proposer.counts(from, ballot), proposer.counts(from, ballot))
+}
+
+fn verdict_is_exact(
+    proposer: &Proposer,
+    from: u8,
+    ballot: u32,
+    refusal: Option<&UpdateSet>,
+) -> (Option<Verdict>, Option<Verdict>)
+    ensures { result.0 ≡ result.1 }
+{
+    (
+        proposer.verdict(from, ballot, refusal),
+        proposer.verdict(from, ballot, refusal),
     )
 }

@@ -1,5 +1,5 @@
 // The laws and the clauses on memory and limits, each by what follows from it.
-ghost use Rattle.std.specs.Prelude.{◌≡◌, ℕ, ◌<◌, ◌≤◌, Bool, true, false, [], length, replicate, None, IsTrue, IfOk, OnOk};
+ghost use Rattle.std.specs.Prelude.{◌≡◌, ℕ, ◌<◌, ◌≤◌, Bool, true, false, [], length, replicate, IsTrue, IsOk, IfOk, OnOk};
 ghost use Rattle.la_set.specs.Deeds.{Deed};
 ghost use Rattle.la_set.specs.Inclusion.{IsSubset};
 ghost use Rattle.la_proposer.specs.declared.tally.Verdict.TheVariants.{Refines};
@@ -14,6 +14,7 @@ use la_proposer::{
     ProposerError, Votes, laws,
 };
 use la_set::Op;
+use std::alloc::AllocError;
 
 // Of three replicas with a vote each, two majorities share one.
 fn two_majorities_of_three_meet()
@@ -87,16 +88,36 @@ fn nothing_is_buffered_at_rest(proposer: &mut Proposer, from: u8, ballot: u32, r
 
 // ## Memory
 
-fn what_waits_is_foreseen_without_memory(
-    proposer: &Proposer,
-    object: u16,
-    op: &Op,
-) -> Result<Option<Ballot>, ProposerError>
+fn what_waits_is_admitted_without_memory(proposer: &Proposer) -> Result<(), ProposerError>
     requires asking { proposer.now.is_asking ≡ true }
     requires room { submitted proposer.now < proposer.now.cap }
-    ensures { result ≡ Ok None }
+    ensures { IsOk result }
 {
-    proposer.foresee_submission(object, op)
+    proposer.admit_submission()
+}
+
+fn a_late_reply_is_taken_without_memory(
+    proposer: &mut Proposer,
+    from: u8,
+    ballot: u32,
+) -> Result<Heard, AllocError>
+    requires late { ballot < proposer.old.number }
+    requires in_group { from < length proposer.old.votes }
+    ensures answer { result ≡ Ok Heard.Ignored }
+    ensures stays { proposer.new ≡ proposer.old }
+{
+    proposer.take_reply(from, ballot, Reply::Yes)
+}
+
+fn an_admitted_acknowledgement_counts_without_memory(
+    proposer: &mut Proposer,
+    from: u8,
+    ballot: u32,
+) -> Result<Heard, AllocError>
+    requires { CountsInPlace proposer.old from ballot Reply.Yes }
+    ensures { result ≡ Ok Heard.Counted }
+{
+    proposer.take_reply(from, ballot, Reply::Yes)
 }
 
 fn an_acknowledgement_counts_without_memory(

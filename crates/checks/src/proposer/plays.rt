@@ -1,8 +1,11 @@
 // Plays a table of inputs at one proposer. Each call is made again where memory was refused: so the
 // tests pass with every single allocation failing too.
+ghost use Rattle.std.specs.Prelude.{◌≡◌, option_copied};
+ghost use Rattle.la_proposer.specs.Tally.{reply_with};
+
 use crate::given::{Given, set_of};
 use la_acceptor::Reply;
-use la_proposer::{Ballot, Heard, Proposer, ProposerError, Status, Votes};
+use la_proposer::{Ballot, Heard, Proposer, ProposerError, Status, Verdict, Votes};
 use la_set::{Op, UpdateSet};
 use std::alloc::Global;
 use std::process::Abort;
@@ -46,18 +49,21 @@ pub struct Play {
     pub steps: &'static [Step],
 }
 
-/// Plays a table at one proposer: each input is foreseen, and then heard.
-pub fn plays(rt: &impl Abort, alloc: Global, play: &Play) {
+/// How an input is heard: by one call, or admitted and then taken.
+#[derive(Clone, Copy)]
+pub enum Way {
+    AtOnce,
+    InTwo,
+}
+
+/// Plays a table at one proposer: what each reply would come to is asked, and then it is heard.
+pub fn plays(rt: &impl Abort, alloc: Global, play: &Play, way: Way) {
     let votes = Votes::new(play.votes).expect(rt, "votes of a group");
     let mut proposer = proposer_of(rt, alloc, play, votes);
     for (place, step) in play.steps.iter().enumerate() {
-        let foreseen = foresees(rt, alloc, &proposer, &step.0);
-        let came = hears(rt, alloc, &mut proposer, &step.0);
-        assert!(rt;
-            foreseen == step.1 && came == step.1,
-            "{}: outcome {place}",
-            play.name
-        );
+        let told = tells(rt, alloc, &proposer, step);
+        let came = hears(rt, alloc, &mut proposer, &step.0, way);
+        assert!(rt; told && came == step.1, "{}: outcome {place}", play.name);
         assert!(rt;
             stands(rt, alloc, &proposer, step),
             "{}: after {place}",
@@ -75,64 +81,102 @@ fn proposer_of(rt: &impl Abort, alloc: Global, play: &Play, votes: Votes) -> Pro
     Proposer::new(alloc, replicas, play.own, play.cap, votes)
 }
 
-fn foresees(rt: &impl Abort, alloc: Global, proposer: &Proposer, input: &Input) -> Outcome {
-    match input {
-        Input::Submits(by) => match foresees_submission(proposer, *by) {
-            Outcome::Refused(ProposerError::Memory) => foresees_submission(proposer, *by),
-            outcome => outcome,
-        },
+// Whether the proposer tells what a step's input comes to, and whether a reply counts, before it hears it.
+fn tells(rt: &impl Abort, alloc: Global, proposer: &Proposer, step: &Step) -> bool {
+    match &step.0 {
+        Input::Submits(_) => admits_as(proposer.admit_submission(), step.1),
         Input::Replies(from, ballot, refused) => {
-            let reply = reply_with(rt, alloc, *refused);
-            match foresees_reply(proposer, *from, *ballot, &reply) {
-                Outcome::Refused(ProposerError::Memory) => foresees_reply(
-                    proposer, *from, *ballot, &reply,
-                ),
-                outcome => outcome,
-            }
+            let reply = reply_of(rt, alloc, *refused);
+            let verdict = proposer.verdict(*from, *ballot, refusal_of(&reply));
+            admits_as(
+                proposer.admit_reply(*from, *ballot, refusal_of(&reply)),
+                step.1,
+            ) && is_verdict(&verdict, step.1)
+                && proposer.counts(*from, *ballot) == verdict.is_some()
         }
     }
 }
 
-fn hears(rt: &impl Abort, alloc: Global, proposer: &mut Proposer, input: &Input) -> Outcome {
+fn admits_as(admitted: Result<(), ProposerError>, outcome: Outcome) -> bool {
+    match outcome {
+        Outcome::Refused(error) => admitted == Err(error),
+        _ => admitted == Ok(()),
+    }
+}
+
+// Whether a reply comes to this by the votes: of one that is refused nothing is said.
+fn is_verdict(verdict: &Option<Verdict>, outcome: Outcome) -> bool {
+    match outcome {
+        Outcome::Ignored => verdict.is_none(),
+        Outcome::Counted => matches!(verdict, Some(Verdict::Waits)),
+        Outcome::Refined(_) => matches!(verdict, Some(Verdict::Refines)),
+        Outcome::Learnt(_, _) => matches!(verdict, Some(Verdict::Learns)),
+        _ => true,
+    }
+}
+
+fn hears(
+    rt: &impl Abort,
+    alloc: Global,
+    proposer: &mut Proposer,
+    input: &Input,
+    way: Way,
+) -> Outcome {
+    match hears_once(rt, alloc, proposer, input, way) {
+        Outcome::Refused(ProposerError::Memory) => hears_once(rt, alloc, proposer, input, way),
+        outcome => outcome,
+    }
+}
+
+fn hears_once(
+    rt: &impl Abort,
+    alloc: Global,
+    proposer: &mut Proposer,
+    input: &Input,
+    way: Way,
+) -> Outcome {
     match input {
-        Input::Submits(by) => match submits(proposer, *by) {
-            Outcome::Refused(ProposerError::Memory) => submits(proposer, *by),
-            outcome => outcome,
-        },
+        Input::Submits(by) => opened(&submits(proposer, *by, way)),
         Input::Replies(from, ballot, refused) => {
-            match replies(proposer, *from, *ballot, reply_with(rt, alloc, *refused)) {
-                Outcome::Refused(ProposerError::Memory) => replies(
-                    proposer,
-                    *from,
-                    *ballot,
-                    reply_with(rt, alloc, *refused),
-                ),
-                outcome => outcome,
-            }
+            let reply = reply_of(rt, alloc, *refused);
+            heard(&replies(proposer, *from, *ballot, reply, way))
         }
     }
 }
 
-fn submits(proposer: &mut Proposer, by: u32) -> Outcome {
-    opened(&proposer.submit(1, Op::Inc(by)))
+fn submits(proposer: &mut Proposer, by: u32, way: Way) -> Result<Option<Ballot>, ProposerError> {
+    if let Way::AtOnce = way {
+        return proposer.submit(1, Op::Inc(by));
+    }
+    proposer.admit_submission()?;
+    Ok(proposer.take_submission(1, Op::Inc(by))?)
 }
 
-fn foresees_submission(proposer: &Proposer, by: u32) -> Outcome {
-    opened(&proposer.foresee_submission(1, &Op::Inc(by)))
+fn replies(
+    proposer: &mut Proposer,
+    from: u8,
+    ballot: u32,
+    reply: Reply,
+    way: Way,
+) -> Result<Heard, ProposerError> {
+    if let Way::AtOnce = way {
+        return proposer.reply(from, ballot, reply);
+    }
+    proposer.admit_reply(from, ballot, refusal_of(&reply))?;
+    Ok(proposer.take_reply(from, ballot, reply)?)
 }
 
-fn replies(proposer: &mut Proposer, from: u8, ballot: u32, reply: Reply) -> Outcome {
-    heard(&proposer.reply(from, ballot, reply))
-}
-
-fn foresees_reply(proposer: &Proposer, from: u8, ballot: u32, reply: &Reply) -> Outcome {
+// The set that a reply refuses an offer with, if it does.
+fn refusal_of(reply: &Reply) -> Option<&UpdateSet>
+    ensures { reply_with (option_copied result) ≡ reply.now }
+{
     match reply {
-        Reply::Yes => heard(&proposer.foresee(from, ballot, None)),
-        Reply::No(refused) => heard(&proposer.foresee(from, ballot, Some(refused))),
+        Reply::Yes => None,
+        Reply::No(refused) => Some(refused),
     }
 }
 
-fn reply_with(rt: &impl Abort, alloc: Global, refused: Option<&[Given]>) -> Reply {
+fn reply_of(rt: &impl Abort, alloc: Global, refused: Option<&[Given]>) -> Reply {
     match refused {
         None => Reply::Yes,
         Some(updates) => Reply::No(set_of(rt, alloc, updates)),

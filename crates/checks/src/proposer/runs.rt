@@ -1,11 +1,11 @@
 // Runs of one proposer, worked by hand.
 use super::plays::Input::{Replies, Submits};
 use super::plays::Outcome::{Counted, Ignored, Learnt, Opened, Refined, Refused, Waits};
-use super::plays::{Play, Step, plays};
-use crate::given::{Given, set_of};
+use super::plays::{Play, Step, Way, plays};
+use crate::given::Given;
 use la_proposer::ProposerError::{Clash, Full, NoSuchReplica};
-use la_proposer::{BadConfig, Proposer, Votes};
-use la_set::{Op, UpdateId, UpdateSet};
+use la_proposer::{BadConfig, Votes};
+use la_set::UpdateId;
 
 const OWN: &[Given] = &[(0, 1, 5)];
 
@@ -214,38 +214,15 @@ const PLAYS: [Play; 7] = [
 #[test]
 fn runs_come_to_what_is_worked(rt: HostRuntime) {
     for play in &PLAYS {
-        plays(&rt, rt.alloc(), play);
-    }
-}
-
-fn follows_submission(proposer: &mut Proposer) -> bool {
-    match &proposer.foresee_submission(1, &Op::Inc(5)) {
-        Ok(opened) => proposer.follow_submission(1, Op::Inc(5), opened).is_ok(),
-        Err(_) => false,
-    }
-}
-
-fn follows_reply(proposer: &mut Proposer, from: u8, refusal: Option<&UpdateSet>) -> bool {
-    match &proposer.foresee(from, 1, refusal) {
-        Ok(heard) => proposer.follow(from, 1, refusal, heard).is_ok(),
-        Err(_) => false,
+        plays(&rt, rt.alloc(), play, Way::AtOnce);
     }
 }
 
 #[test]
-fn what_is_foreseen_is_followed(rt: HostRuntime) {
-    let alloc = rt.alloc();
-    let refused = set_of(&rt, alloc, OF_1);
-    let mut proposer = Proposer::new(alloc, 3, 0, 1, Votes::one_each(3));
-    assert!(rt; follows_submission(&mut proposer) || follows_submission(&mut proposer));
-    for (from, refusal) in [(0, None), (1, Some(&refused))] {
-        let follows = follows_reply(&mut proposer, from, refusal);
-        assert!(rt;
-            follows || follows_reply(&mut proposer, from, refusal),
-            "of {from}"
-        );
+fn what_is_admitted_is_taken(rt: HostRuntime) {
+    for play in &PLAYS {
+        plays(&rt, rt.alloc(), play, Way::InTwo);
     }
-    assert!(rt; proposer.updates().same(&set_of(&rt, alloc, WITH_1)));
 }
 
 // Whether there are so many replicas, the last of them with these votes.

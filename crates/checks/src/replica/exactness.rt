@@ -1,7 +1,8 @@
 // Callers that know nothing but the contracts: each makes a call twice and promises equal answers.
-ghost use Rattle.std.specs.Prelude.{◌≡◌, ◌≢◌, ◌↔◌, ◌≤◌, ◌<◌, length, IsTrue, IfOk, IfErr, OnOk, OnErr, option_copied};
+ghost use Rattle.std.specs.Prelude.{◌≡◌, ◌↔◌, ◌≤◌, ◌<◌, length, IsTrue, IfOk, OnOk, OnErr, option_copied};
 ghost use Rattle.la_proposer.specs.Majority.{votes_of};
-ghost use Rattle.la_replica.specs.Kept.{IsMember};
+ghost use Rattle.la_replica.specs.Refusals.{HasRoom, SubmittingSpares};
+ghost use Rattle.la_replica.specs.Fitting.{FitsReceiver};
 
 use la_acceptor::{AcceptorError, Reply};
 use la_proposer::{Heard, MAX_CAP, ProposerError, Votes};
@@ -205,8 +206,6 @@ fn instances_are_few(commits: u8) -> u8
 
 type Answer = Result<Out, ReplicaError>;
 
-type Copied = Result<(Out, Option<UpdateSet>), ReplicaError>;
-
 fn submit_is_exact(
     one: &mut Replica,
     other: &mut Replica,
@@ -233,18 +232,84 @@ fn receive_is_exact(one: &mut Replica, other: &mut Replica, message: &Message) -
     (one.receive(message), other.receive(message))
 }
 
-fn receive_with_copy_is_exact(
+// ## In two calls: a step that is admitted takes nothing but memory
+
+type Admits = Result<(), ReplicaError>;
+
+type Takes = Result<Out, AllocError>;
+
+fn admit_submission_is_exact(replica: &Replica, instance: u8) -> (Admits, Admits)
+    ensures { result.0 ≡ result.1 }
+{
+    (
+        replica.admit_submission(instance),
+        replica.admit_submission(instance),
+    )
+}
+
+fn take_submission_is_exact(
     one: &mut Replica,
     other: &mut Replica,
-    message: &Message,
-) -> (Copied, Copied)
-    requires { one.old ≡ other.old }
+    instance: u8,
+    by: u32,
+) -> (Takes, Takes)
+    requires same { one.old ≡ other.old }
+    requires room { HasRoom one.old instance }
+    requires spares { SubmittingSpares one.old instance }
     ensures answers { IfOk result.0 (λ a. IfOk result.1 (λ b. a ≡ b)) }
     ensures steps { OnOk result.0 (OnOk result.1 (one.new ≡ other.new)) }
     ensures stays { OnErr result.0 (one.new ≡ one.old) }
 {
     (
-        one.receive_with_copy(message),
-        other.receive_with_copy(message),
+        one.take_submission(instance, 1, Op::Inc(by)),
+        other.take_submission(instance, 1, Op::Inc(by)),
     )
+}
+
+fn admit_message_is_exact(replica: &Replica, message: &Message) -> (Admits, Admits)
+    ensures { result.0 ≡ result.1 }
+{
+    (
+        replica.admit_message(message),
+        replica.admit_message(message),
+    )
+}
+
+fn take_message_is_exact(
+    one: &mut Replica,
+    other: &mut Replica,
+    message: &Message,
+) -> (Takes, Takes)
+    requires same { one.old ≡ other.old }
+    requires fits { FitsReceiver one.old message.now }
+    ensures answers { IfOk result.0 (λ a. IfOk result.1 (λ b. a ≡ b)) }
+    ensures steps { OnOk result.0 (OnOk result.1 (one.new ≡ other.new)) }
+    ensures stays { OnErr result.0 (one.new ≡ one.old) }
+{
+    (one.take_message(message), other.take_message(message))
+}
+
+// A message that fits comes to what receiving it comes to.
+fn a_taken_message_is_received_alike(
+    one: &mut Replica,
+    other: &mut Replica,
+    message: &Message,
+) -> (Takes, Answer)
+    requires same { one.old ≡ other.old }
+    requires fits { FitsReceiver one.old message.now }
+    ensures answers { IfOk result.0 (λ a. IfOk result.1 (λ b. a ≡ b)) }
+    ensures steps { OnOk result.0 (OnOk result.1 (one.new ≡ other.new)) }
+{
+    (one.take_message(message), other.receive(message))
+}
+
+// Of a message in an instance that there is.
+fn would_learn_is_exact<'a>(
+    replica: &'a Replica,
+    message: &Message,
+) -> (Option<&'a UpdateSet>, Option<&'a UpdateSet>)
+    requires { message.now.instance < length replica.now.instances }
+    ensures { option_copied result.0 ≡ option_copied result.1 }
+{
+    (replica.would_learn(message), replica.would_learn(message))
 }

@@ -1,5 +1,9 @@
 // Plays a table of inputs at one replica. Each call is made again where memory was refused, after a
 // look at what stands: so the tests pass with every single allocation failing too.
+ghost use Rattle.std.specs.Prelude.{IsTrue, IsSomeAnd, slice_get};
+ghost use Rattle.la_replica.specs.Refusals.{IsReceivable};
+ghost use Rattle.la_replica.specs.Fitting.{FitsViewBody};
+
 use crate::given::{Given, set_of};
 use la_acceptor::Reply;
 use la_proposer::{Ballot, Votes};
@@ -53,11 +57,19 @@ pub struct Play {
     pub steps: &'static [Step],
 }
 
-/// Plays a table at one replica, by `receive` or by `receive_with_copy`.
-pub fn plays(rt: &impl Abort, alloc: Global, play: &Play, copying: bool) {
+/// How an input is played: by one call, or admitted and then taken.
+#[derive(Clone, Copy)]
+pub enum Way {
+    AtOnce,
+    InTwo,
+}
+
+/// Plays a table at one replica. In two calls goes each submission, and each message that is known to fit
+/// the view.
+pub fn plays(rt: &impl Abort, alloc: Global, play: &Play, way: Way) {
     let mut replica = fresh(rt, alloc);
     for (place, step) in play.steps.iter().enumerate() {
-        let came = comes_to(rt, alloc, &mut replica, step, copying);
+        let came = comes_to(rt, alloc, &mut replica, step, way);
         assert!(rt; came, "{}: outcome {place}", play.name);
         assert!(rt;
             stands(rt, alloc, &replica, step),
@@ -72,7 +84,7 @@ pub fn plays_copied(rt: &impl Abort, alloc: Global, play: &Play) {
     let mut replica = fresh(rt, alloc);
     for (place, step) in play.steps.iter().enumerate() {
         replica = copy_of(rt, &replica);
-        let came = comes_to(rt, alloc, &mut replica, step, false);
+        let came = comes_to(rt, alloc, &mut replica, step, Way::AtOnce);
         assert!(rt; came, "{}: outcome {place}", play.name);
     }
 }
@@ -92,17 +104,10 @@ fn copy_of(rt: &impl Abort, replica: &Replica) -> Replica {
 }
 
 // Whether a step's input comes to what the step says.
-fn comes_to(
-    rt: &impl Abort,
-    alloc: Global,
-    replica: &mut Replica,
-    step: &Step,
-    copying: bool,
-) -> bool {
+fn comes_to(rt: &impl Abort, alloc: Global, replica: &mut Replica, step: &Step, way: Way) -> bool {
     let answer = match message_of(rt, alloc, &step.0) {
-        None => submit(rt, replica, instance_of(&step.0)),
-        Some(message) if copying => receive_with_copy(rt, replica, &message),
-        Some(message) => receive(rt, replica, &message),
+        None => submit(rt, replica, instance_of(&step.0), way),
+        Some(message) => receive(rt, alloc, replica, &message, way),
     };
     is_said(&answer, step.1) && sends(&answer, step.2)
 }
@@ -171,52 +176,96 @@ fn standing(replica: &Replica) -> (usize, bool, Option<u32>) {
     )
 }
 
-fn submit(rt: &impl Abort, replica: &mut Replica, instance: u8) -> Result<Out, ReplicaError> {
-    let before = standing(replica);
-    match replica.submit(instance, 1, Op::Inc(5)) {
-        Err(ReplicaError::Memory) => {
-            assert!(rt; standing(replica) == before);
-            replica.submit(instance, 1, Op::Inc(5))
-        }
-        answer => answer,
-    }
-}
-
-fn receive(rt: &impl Abort, replica: &mut Replica, message: &Message) -> Result<Out, ReplicaError> {
-    let before = standing(replica);
-    match replica.receive(message) {
-        Err(ReplicaError::Memory) => {
-            assert!(rt; standing(replica) == before);
-            replica.receive(message)
-        }
-        answer => answer,
-    }
-}
-
-// Receives, and has a copy of what was learnt exactly where something was.
-fn receive_with_copy(
+fn submit(
     rt: &impl Abort,
     replica: &mut Replica,
-    message: &Message,
+    instance: u8,
+    way: Way,
 ) -> Result<Out, ReplicaError> {
     let before = standing(replica);
-    let (out, copy) = match replica.receive_with_copy(message) {
+    match submit_by(replica, instance, way) {
         Err(ReplicaError::Memory) => {
             assert!(rt; standing(replica) == before);
-            replica.receive_with_copy(message)
+            submit_by(replica, instance, way)
         }
         answer => answer,
-    }?;
-    assert!(rt; is_copy_of(&copy, &out.said));
-    Ok(out)
+    }
 }
 
-fn is_copy_of(copy: &Option<UpdateSet>, said: &Said) -> bool {
-    match (copy, said) {
-        (Some(copied), Said::Learnt(learnt, _)) => copied.same(learnt),
-        (None, Said::Learnt(_, _)) => false,
-        (None, _) => true,
-        (Some(_), _) => false,
+fn submit_by(replica: &mut Replica, instance: u8, way: Way) -> Result<Out, ReplicaError> {
+    if let Way::AtOnce = way {
+        return replica.submit(instance, 1, Op::Inc(5));
+    }
+    replica.admit_submission(instance)?;
+    Ok(replica.take_submission(instance, 1, Op::Inc(5))?)
+}
+
+// Receives a message, and looks that what it leads to learning was told before.
+fn receive(
+    rt: &impl Abort,
+    alloc: Global,
+    replica: &mut Replica,
+    message: &Message,
+    way: Way,
+) -> Result<Out, ReplicaError> {
+    let before = standing(replica);
+    let foretold = learns(replica, message);
+    let answer = match receive_by(alloc, replica, message, way) {
+        Err(ReplicaError::Memory) => {
+            assert!(rt; standing(replica) == before);
+            receive_by(alloc, replica, message, way)
+        }
+        answer => answer,
+    };
+    assert!(rt; answer.is_err() || foretold == learnt_of(&answer));
+    answer
+}
+
+fn receive_by(
+    alloc: Global,
+    replica: &mut Replica,
+    message: &Message,
+    way: Way,
+) -> Result<Out, ReplicaError> {
+    if let Way::AtOnce = way {
+        return replica.receive(message);
+    }
+    replica.admit_message(message)?;
+    if fits_view(alloc, replica, message) {
+        return Ok(replica.take_message(message)?);
+    }
+    replica.receive(message)
+}
+
+// Whether the set that may become the view fits it, as far as can be told from outside: a told set by
+// comparing, and the one that a reply may lead to learning where the view is empty.
+fn fits_view(alloc: Global, replica: &Replica, message: &Message) -> bool
+    ensures { IsTrue result → IsReceivable replica.now message.now → IsSomeAnd (slice_get replica.now.instances message.now.instance) (λ x. FitsViewBody x replica.now.view message.now message.now.body) }
+{
+    match &message.body {
+        Body::Offer(_) => true,
+        Body::Tell(told) => replica.view().first_clash(told).is_none(),
+        Body::Yes | Body::No(_) => replica.view().same(&UpdateSet::new(alloc)),
+    }
+}
+
+// How many updates the set has that a message would lead the replica to learn.
+fn learns(replica: &Replica, message: &Message) -> Option<usize> {
+    match replica.would_learn(message) {
+        Some(learnt) => Some(learnt.len()),
+        None => None,
+    }
+}
+
+fn learnt_of(answer: &Result<Out, ReplicaError>) -> Option<usize> {
+    match answer {
+        Ok(
+            Out {
+                said: Said::Learnt(learnt, _),
+                ..
+            },
+        ) => Some(learnt.len()),
+        _ => None,
     }
 }
 

@@ -1,7 +1,8 @@
 // Callers that know nothing but the contracts: each makes a call twice, or on two equal values, and
 // promises equal answers. Where memory may run out for one call and not for the other, it promises
 // them where both succeed; and where both are refused, one refusal.
-ghost use Rattle.std.specs.Prelude.{◌≡◌, ◌↔◌, IsTrue, IfOk, IfErr, OnOk, option_copied};
+ghost use Rattle.std.specs.Prelude.{◌≡◌, ◌↔◌, IsTrue, IfOk, IfErr, OnOk, OnErr, option_copied};
+ghost use Rattle.la_set.specs.Join.{IsCompatible};
 
 use la_set::{Op, SetError, Tags, Update, UpdateId, UpdateSet, Updates};
 use std::alloc::{AllocError, Global};
@@ -187,18 +188,53 @@ fn pop_is_exact(
     one: &mut UpdateSet,
     other: &mut UpdateSet,
     replica: u8,
-) -> (Option<Update>, Option<Update>)
+) -> (
+    Result<Option<Update>, AllocError>,
+    Result<Option<Update>, AllocError>,
+)
     requires { one.old ≡ other.old }
-    ensures last { result.0 ≡ result.1 }
-    ensures rest { one.new ≡ other.new }
+    ensures last { IfOk result.0 (λ a. IfOk result.1 (λ b. a ≡ b)) }
+    ensures rest { OnOk result.0 (OnOk result.1 (one.new ≡ other.new)) }
+    ensures unchanged { OnErr result.0 (OnErr result.1 (one.new ≡ other.new)) }
 {
     (one.pop(replica), other.pop(replica))
+}
+
+fn truncate_is_exact(
+    one: &mut UpdateSet,
+    other: &mut UpdateSet,
+    replica: u8,
+    count: u32,
+) -> (Result<(), AllocError>, Result<(), AllocError>)
+    requires { one.old ≡ other.old }
+    ensures front { OnOk result.0 (OnOk result.1 (one.new ≡ other.new)) }
+    ensures unchanged { OnErr result.0 (OnErr result.1 (one.new ≡ other.new)) }
+{
+    (one.truncate(replica, count), other.truncate(replica, count))
 }
 
 fn contains_all_is_exact(set: &UpdateSet, other: &UpdateSet) -> (bool, bool)
     ensures { result.0 ≡ result.1 }
 {
     (set.contains_all(other), set.contains_all(other))
+}
+
+fn contains_compatible_is_exact(set: &UpdateSet, other: &UpdateSet) -> (bool, bool)
+    requires { IsCompatible set.now other.now }
+    ensures { result.0 ≡ result.1 }
+{
+    (
+        set.contains_compatible(other),
+        set.contains_compatible(other),
+    )
+}
+
+// By the counts alone it is answered what comparing answers.
+fn counts_tell_inclusion(set: &UpdateSet, other: &UpdateSet) -> (bool, bool)
+    requires { IsCompatible set.now other.now }
+    ensures { result.0 ≡ result.1 }
+{
+    (set.contains_compatible(other), set.contains_all(other))
 }
 
 fn same_is_exact(set: &UpdateSet, other: &UpdateSet) -> (bool, bool)
@@ -234,6 +270,32 @@ fn join_is_exact(
     ensures { OnOk result.0 (OnOk result.1 (one.new ≡ also.new)) }
 {
     (one.join(other), also.join(other))
+}
+
+fn join_compatible_is_exact(
+    one: &mut UpdateSet,
+    also: &mut UpdateSet,
+    other: &UpdateSet,
+) -> (Result<(), AllocError>, Result<(), AllocError>)
+    requires same { one.old ≡ also.old }
+    requires compatible { IsCompatible one.old other.now }
+    ensures set { OnOk result.0 (OnOk result.1 (one.new ≡ also.new)) }
+    ensures unchanged { OnErr result.0 (OnErr result.1 (one.new ≡ also.new)) }
+{
+    (one.join_compatible(other), also.join_compatible(other))
+}
+
+// Where no id has two updates, what is joined without comparing is the join.
+fn join_compatible_is_a_join(
+    one: &mut UpdateSet,
+    also: &mut UpdateSet,
+    other: &UpdateSet,
+) -> (Result<(), AllocError>, Result<(), AllocError>)
+    requires same { one.old ≡ also.old }
+    requires compatible { IsCompatible one.old other.now }
+    ensures { OnOk result.0 (OnOk result.1 (one.new ≡ also.new)) }
+{
+    (one.join_compatible(other), also.join(other))
 }
 
 fn first_clash_is_exact(set: &UpdateSet, other: &UpdateSet) -> (Option<UpdateId>, Option<UpdateId>)

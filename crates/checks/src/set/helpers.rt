@@ -111,6 +111,32 @@ pub fn copy_of_update(rt: &impl Abort, update: &Update) -> Update {
     }
 }
 
+// Takes a replica's last update out, and looks that a refusal leaves the set as it was.
+pub fn pop(rt: &impl Abort, set: &mut UpdateSet, replica: u8) -> Option<Update> {
+    let before = set.len();
+    if let Ok(last) = set.pop(replica) {
+        return last;
+    }
+    assert!(rt; set.len() == before);
+    set.pop(replica).expect(rt, "memory is there again")
+}
+
+// Keeps a replica's first updates, and looks that a refusal leaves the set as it was.
+pub fn cut(rt: &impl Abort, set: &mut UpdateSet, replica: u8, count: u32) {
+    let before = set.len();
+    if set.truncate(replica, count).is_err() {
+        assert!(rt; set.len() == before && set.truncate(replica, count).is_ok());
+    }
+}
+
+// Joins another set, and looks that a refusal leaves the set as it was.
+pub fn join(rt: &impl Abort, set: &mut UpdateSet, other: &UpdateSet) {
+    let before = set.len();
+    if set.join(other).is_err() {
+        assert!(rt; set.len() == before && set.join(other).is_ok());
+    }
+}
+
 // Adds what another set has, and looks that a refusal for want of memory leaves the set as it was.
 pub fn unite(rt: &impl Abort, set: &mut UpdateSet, other: &UpdateSet) -> Result<(), SetError> {
     let before = set.len();

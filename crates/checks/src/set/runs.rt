@@ -1,5 +1,5 @@
 // Sets: what a push and a union answer, how two sets stand, what one has beyond the other.
-use super::helpers::{Does, Row, copy_of, copy_of_update, id, push, set_of, unite, update_of};
+use super::helpers::{Does, Row, copy_of, copy_of_update, id, pop, push, set_of, unite, update_of};
 use la_set::{SetError, Update, UpdateId, UpdateSet, Updates, laws};
 use std::alloc::Global;
 use std::cmp::Ordering;
@@ -67,8 +67,9 @@ fn a_union_has_both_in_order(rt: HostRuntime) {
 #[test]
 fn a_pop_takes_the_last(rt: HostRuntime) {
     let mut set = both(&rt, rt.alloc());
-    let last = set.pop(3).is_some_and(|update| update.id == id(3, 2));
-    assert!(rt; last && set.pop(1).is_none() && set.pop(8).is_none() && set.len() == 6);
+    let last = pop(&rt, &mut set, 3).is_some_and(|update| update.id == id(3, 2));
+    let none = pop(&rt, &mut set, 1).is_none() && pop(&rt, &mut set, 8).is_none();
+    assert!(rt; last && none && set.len() == 6);
 }
 
 // What takes no memory succeeds at once, whatever allocation is refused.

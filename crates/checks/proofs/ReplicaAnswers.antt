@@ -1,0 +1,194 @@
+-- What the contracts of la_replica leave open of a message: one refusal, and one set that it leads to learning.
+use Rattle.std.proofs.Common.{◌≡◌, ◌≢◌, ◌⊎◌, ℕ, ◌<◌, ◌≤◌, true, length, List, Option, Some, None, IsSomeAnd, option_map, slice_get, refl, sym, ◌∙◌, ap, subst, arith, inl, inr}
+use Rattle.std.proofs.lemmas.Option.{slice_get_past, slice_get_cases}
+use Rattle.la_set.specs.Histories.{Histories, empty}
+use Rattle.la_set.specs.Join.{IsCompatible}
+use Rattle.la_acceptor.specs.declared.error.AcceptorError.{AcceptorError}
+use Rattle.la_acceptor.specs.declared.error.AcceptorError.TheVariants as accepting
+use Rattle.la_acceptor.specs.declared.reply.Reply.{Reply}
+use Rattle.la_acceptor.specs.declared.reply.Reply.TheVariants as replied
+use Rattle.la_acceptor.specs.Refusals.{IsOfferRefusal}
+use Rattle.la_acceptor.proofs.Accepting.{contains-empty}
+use Rattle.la_proposer.specs.declared.error.ProposerError.{ProposerError}
+use Rattle.la_proposer.specs.declared.error.ProposerError.TheVariants as proposing
+use Rattle.la_proposer.specs.Proposing.{Proposing, counts, with_reply}
+use Rattle.la_proposer.specs.Clashes.{Fits}
+use Rattle.la_proposer.specs.Refusals.{ReplySpends}
+use Rattle.la_replica.specs.declared.error.ReplicaError.{ReplicaError}
+use Rattle.la_replica.specs.declared.error.ReplicaError.TheVariants.{NoSuchReplica, NoSuchInstance, Full, Clash, BallotsSpent, Memory}
+use Rattle.la_replica.specs.declared.instance.Instance.{Instance}
+use Rattle.la_replica.specs.declared.message.Message.{Message}
+use Rattle.la_replica.specs.declared.message.Body.{Body}
+use Rattle.la_replica.specs.declared.message.Body.TheVariants.{Offer, Yes, No, Tell}
+use Rattle.la_replica.specs.declared.out.Out.{Out}
+use Rattle.la_replica.specs.Steps as steps
+use Rattle.la_replica.specs.Steps.{learnt_in}
+use Rattle.la_replica.specs.Members.{Member, sender_of, after_step, receives}
+use Rattle.la_replica.specs.Fitting.{FitsViewBody}
+use Rattle.la_replica.specs.Refusals.{of_acceptor, of_proposer, IsAnswerRefusal, IsHearingRefusal, IsTellRefusal, IsBodyRefusal, IsFor, IsReceiveRefusal, FitsBody, IsReceivable, SparesBody, ReceivingSpares}
+use Rattle.checks.proofs.OfferAnswers.{one_offer_refusal, fitting_offer}
+use Rattle.checks.proofs.ProposerAnswers.{IsCountingRefusal, one_counting_refusal, fitting_counting}
+
+-- ## Errors as those of the crates below
+
+abbrev proposer's : ReplicaError → ProposerError
+proposer's Full = proposing.Full
+proposer's BallotsSpent = proposing.BallotsSpent
+proposer's (Clash id) = proposing.Clash id
+proposer's NoSuchReplica = proposing.NoSuchReplica
+proposer's NoSuchInstance = proposing.NoSuchReplica
+proposer's Memory = proposing.Memory
+
+abbrev acceptor's : ReplicaError → AcceptorError
+acceptor's (Clash id) = accepting.Clash id
+acceptor's Full = accepting.Memory
+acceptor's BallotsSpent = accepting.Memory
+acceptor's NoSuchReplica = accepting.Memory
+acceptor's NoSuchInstance = accepting.Memory
+acceptor's Memory = accepting.Memory
+
+hearing_is : (p : Proposing) (m : Message) (reply : Reply) (e : ReplicaError) → IsHearingRefusal p m reply e → (counts p m.from m.ballot ≡ true) × IsCountingRefusal p m.from reply (proposer's e) × (of_proposer (proposer's e) ≡ e)
+hearing_is p m reply (Clash id) h = (h.0, h.1, refl)
+hearing_is p m reply BallotsSpent h = (h.0, (h.1, h.2), refl)
+hearing_is p m reply Memory h = (h.0, (h.1, h.2), refl)
+hearing_is p m reply Full h = absurd h
+hearing_is p m reply NoSuchReplica h = absurd h
+hearing_is p m reply NoSuchInstance h = absurd h
+
+answer_is : (a b : Histories) (e : ReplicaError) → IsAnswerRefusal a b e → IsOfferRefusal a b (acceptor's e) × (of_acceptor (acceptor's e) ≡ e)
+answer_is a b (Clash id) h = (h, refl)
+answer_is a b Memory h = (h, refl)
+answer_is a b Full h = absurd h
+answer_is a b BallotsSpent h = absurd h
+answer_is a b NoSuchReplica h = absurd h
+answer_is a b NoSuchInstance h = absurd h
+
+tell_is : (i : ℕ) (view told : Histories) (e : ReplicaError) → IsTellRefusal i view told e → e ≡ Memory
+tell_is i view told Memory h = refl
+tell_is i view told (Clash id) h = absurd h
+tell_is i view told Full h = absurd h
+tell_is i view told BallotsSpent h = absurd h
+tell_is i view told NoSuchReplica h = absurd h
+tell_is i view told NoSuchInstance h = absurd h
+
+-- ## In an instance that there is
+
+at_one : {X : Type 0} {G : Type 0} (o : Option X) (P Q : X → Type 0) → ((x : X) → P x → Q x → G) → IsSomeAnd o P → IsSomeAnd o Q → G
+at_one None P Q then p q = absurd p
+at_one (Some x) P Q then p q = then x p q
+
+both_at : {X : Type 0} (o : Option X) (P Q : X → Type 0) → IsSomeAnd o P → IsSomeAnd o Q → IsSomeAnd o (λ x. P x × Q x)
+both_at None P Q p q = absurd p
+both_at (Some x) P Q p q = (p, q)
+
+none_past : {X : Type 0} (xs : List X) (i : ℕ) (P : X → Type 0) → length xs ≤ i → IsSomeAnd (slice_get xs i) P → ⊥
+none_past xs i P past some = subst (λ o. IsSomeAnd o P) (slice_get_past xs i past) some
+
+over : (a b : ℕ) → b ≤ a → a < b → ⊥
+over a b le lt = omega arith
+
+-- ## A message
+
+one_hearing : (p : Proposing) (m : Message) (reply : Reply) (e f : ReplicaError) → IsHearingRefusal p m reply e → IsHearingRefusal p m reply f → e ≡ f
+one_hearing p m reply e f h k =
+    let a = hearing_is p m reply e h in let b = hearing_is p m reply f k in
+    sym a.2 ∙ ap of_proposer (one_counting_refusal p m.from reply (proposer's e) (proposer's f) a.1 b.1) ∙ b.2
+
+fitting_hearing : (p : Proposing) (m : Message) (reply : Reply) (e : ReplicaError) → (counts p m.from m.ballot ≡ true → Fits p reply) → (counts p m.from m.ballot ≡ true → ¬ ReplySpends (with_reply p m.from reply)) → IsHearingRefusal p m reply e → e ≡ Memory
+fitting_hearing p m reply e fits spares h =
+    let a = hearing_is p m reply e h in
+    sym a.2 ∙ ap of_proposer (fitting_counting p m.from reply (proposer's e) (fits a.0) (spares a.0) a.1)
+
+one_body : (x : Instance) (view : Histories) (m : Message) (body : Body) (e f : ReplicaError) → IsBodyRefusal x view m body e → IsBodyRefusal x view m body f → e ≡ f
+one_body x view m (Offer s) e f h k =
+    let a = answer_is x.acceptor s e h in let b = answer_is x.acceptor s f k in
+    sym a.1 ∙ ap of_acceptor (one_offer_refusal x.acceptor s (acceptor's e) (acceptor's f) a.0 b.0) ∙ b.1
+one_body x view m Yes e f h k = one_hearing x.proposer m replied.Yes e f h k
+one_body x view m (No s) e f h k = one_hearing x.proposer m (replied.No s) e f h k
+one_body x view m (Tell s) e f h k = tell_is m.instance view s e h ∙ sym (tell_is m.instance view s f k)
+
+fitting_body : (x : Instance) (view : Histories) (m : Message) (body : Body) (e : ReplicaError) → FitsBody x m body → SparesBody x m body → IsBodyRefusal x view m body e → e ≡ Memory
+fitting_body x view m (Offer s) e fits spares h = let a = answer_is x.acceptor s e h in sym a.1 ∙ ap of_acceptor (fitting_offer x.acceptor s (acceptor's e) fits a.0)
+fitting_body x view m Yes e fits spares h = fitting_hearing x.proposer m replied.Yes e (λ c id clash. clash) spares h
+fitting_body x view m (No s) e fits spares h = fitting_hearing x.proposer m (replied.No s) e fits spares h
+fitting_body x view m (Tell s) e fits spares h = tell_is m.instance view s e h
+
+module _ (m : Member) (message : Message) where
+  -- it is astray, or its instance is not there, or the instance refuses it
+  abbrev IsAstray : Type 0
+  IsAstray = (length m.votes ≤ message.from) ⊎ (message.to ≢ m.own)
+
+  abbrev RefusesAt : ReplicaError → Type 0
+  RefusesAt e = IsSomeAnd (slice_get m.instances message.instance) (λ x. IsBodyRefusal x m.view message message.body e)
+
+  abbrev Reason : ReplicaError → Type 0
+  Reason e = (IsAstray × (e ≡ NoSuchReplica)) ⊎ (((IsFor m message × (length m.instances ≤ message.instance)) × (e ≡ NoSuchInstance)) ⊎ (IsFor m message × RefusesAt e))
+
+  reason_is : (e : ReplicaError) → IsReceiveRefusal m message e → Reason e
+  reason_is NoSuchReplica h = inl (h, refl)
+  reason_is NoSuchInstance h = inr (inl (h, refl))
+  reason_is Full h = inr (inr h)
+  reason_is (Clash id) h = inr (inr h)
+  reason_is BallotsSpent h = inr (inr h)
+  reason_is Memory h = inr (inr h)
+
+  not_both : IsAstray → IsFor m message → ⊥
+  not_both (inl out) for = over message.from (length m.votes) out for.0
+  not_both (inr other) for = other for.1
+
+  one_reason : (e f : ReplicaError) → Reason e → Reason f → e ≡ f
+  one_reason e f (inl astray) (inl also) = astray.1 ∙ sym also.1
+  one_reason e f (inl astray) (inr (inl past)) = absurd (not_both astray.0 past.0.0)
+  one_reason e f (inl astray) (inr (inr there)) = absurd (not_both astray.0 there.0)
+  one_reason e f (inr (inl past)) (inl astray) = absurd (not_both astray.0 past.0.0)
+  one_reason e f (inr (inl past)) (inr (inl also)) = past.1 ∙ sym also.1
+  one_reason e f (inr (inl past)) (inr (inr there)) = absurd (none_past m.instances message.instance _ past.0.1 there.1)
+  one_reason e f (inr (inr there)) (inl astray) = absurd (not_both astray.0 there.0)
+  one_reason e f (inr (inr there)) (inr (inl past)) = absurd (none_past m.instances message.instance _ past.0.1 there.1)
+  one_reason e f (inr (inr there)) (inr (inr also)) = at_one (slice_get m.instances message.instance) _ _ (λ x h k. one_body x m.view message message.body e f h k) there.1 also.1
+
+  pub one_receive_refusal : (e f : ReplicaError) → IsReceiveRefusal m message e → IsReceiveRefusal m message f → e ≡ f
+  one_receive_refusal e f h k = one_reason e f (reason_is e h) (reason_is f k)
+
+  alone : (e : ReplicaError) → IsReceivable m message × ReceivingSpares m message → Reason e → e ≡ Memory
+  alone e g (inl astray) = absurd (not_both astray.0 g.0.0)
+  alone e g (inr (inl past)) = absurd (none_past m.instances message.instance _ past.0.1 g.0.1)
+  alone e g (inr (inr there)) =
+      at_one (slice_get m.instances message.instance) _ _ (λ x pair h. fitting_body x m.view message message.body e pair.0 pair.1 h) (both_at (slice_get m.instances message.instance) _ _ g.0.1 g.1) there.1
+
+  pub fitting_message : (e : ReplicaError) → IsReceivable m message × ReceivingSpares m message → IsReceiveRefusal m message e → e ≡ Memory
+  fitting_message e g h = alone e g (reason_is e h)
+
+-- ## What would be learnt
+
+-- in an instance that there is, a message comes to something, and so what it leads to learning is one
+pub one_learning : (m : Member) (message : Message) (a b : Option Histories) → message.instance < length m.instances
+    → ((out : Out) (after : Member) → receives m message ≡ Some (out, after) → a ≡ learnt_in out.said)
+    → ((out : Out) (after : Member) → receives m message ≡ Some (out, after) → b ≡ learnt_in out.said) → a ≡ b
+one_learning m message a b lt p q = elim (slice_get_cases m.instances message.instance).1 [
+  | inl there ↦ (let e = ap (option_map (λ x. after_step m message.instance (steps.receives (sender_of m message.instance) x m.view message))) there.2 in p _ _ e ∙ sym (q _ _ e))
+  | inr past ↦ absurd (over message.instance (length m.instances) past.0 lt)
+]
+
+-- ## What fits the view
+
+any_at : {X : Type 0} (o : Option X) (P Q : X → Type 0) → IsSomeAnd o P → ((x : X) → Q x) → IsSomeAnd o Q
+any_at None P Q p q = absurd p
+any_at (Some x) P Q p q = q x
+
+-- what fits it in each instance fits it in the message's
+pub fits_there : (m : Member) (message : Message) → IsReceivable m message → ((x : Instance) → FitsViewBody x m.view message message.body) → IsSomeAnd (slice_get m.instances message.instance) (λ x. FitsViewBody x m.view message message.body)
+fits_there m message receivable fits = any_at (slice_get m.instances message.instance) _ _ receivable.1 fits
+
+-- the empty view fits all
+empty_fits : (s : Histories) → IsCompatible empty s
+empty_fits s u v in_empty in_s same = absurd (contains-empty u in_empty)
+
+empty_fits_body : (x : Instance) (m : Message) (body : Body) → FitsViewBody x empty m body
+empty_fits_body x m (Offer s) = tt
+empty_fits_body x m Yes = λ at_0. empty_fits x.proposer.updates
+empty_fits_body x m (No s) = λ at_0. empty_fits x.proposer.updates
+empty_fits_body x m (Tell s) = λ at_0. empty_fits s
+
+pub empty_fits_there : (m : Member) (message : Message) → m.view ≡ empty → IsReceivable m message → IsSomeAnd (slice_get m.instances message.instance) (λ x. FitsViewBody x m.view message message.body)
+empty_fits_there m message is receivable = fits_there m message receivable (λ x. subst (λ view. FitsViewBody x view message message.body) (sym is) (empty_fits_body x message message.body))

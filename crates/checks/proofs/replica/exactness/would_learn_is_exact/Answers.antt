@@ -1,0 +1,6 @@
+use Rattle.std.specs.Option.{option_copied}
+use Rattle.checks.proofs.ReplicaAnswers.{one_learning}
+use Rattle.checks.proofs.replica.exactness.would_learn_is_exact.Goals as goal
+
+pub returns : goal.returns
+returns c = one_learning c.args.replica.now c.args.message.now (option_copied c.would_learn.result) (option_copied c.would_learn-2.result) c.requires c.would_learn.ensures c.would_learn-2.ensures
