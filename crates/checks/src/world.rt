@@ -5,6 +5,7 @@ mod events;
 mod exactness;
 mod laws;
 mod many;
+mod million;
 mod plays;
 mod runs;
 mod shown;

@@ -1,11 +1,14 @@
 // The laws and the clauses on memory and limits, each by what follows from it.
-ghost use Rattle.std.specs.Prelude.{◌≡◌, ℕ, ◌<◌, ◌≤◌, Bool, true, false, [], length, replicate, IsTrue, IsOk, IfOk, OnOk};
+ghost use Rattle.std.specs.Prelude.{◌≡◌, ℕ, ◌<◌, ◌≤◌, Bool, true, false, List, [], length, replicate, IsTrue, IsOk, IfOk, OnOk};
 ghost use Rattle.la_set.specs.Deeds.{Deed};
 ghost use Rattle.la_set.specs.Inclusion.{IsSubset};
 ghost use Rattle.la_proposer.specs.declared.tally.Verdict.TheVariants.{Refines};
 ghost use Rattle.la_proposer.specs.Majority.{is_majority, how_many};
 ghost use Rattle.la_proposer.specs.Tally.{verdict};
-ghost use Rattle.la_proposer.specs.Proposing.{Proposing, submitted, after_submission, counts, with_reply};
+ghost use Rattle.la_set.specs.Histories.{empty};
+ghost use Rattle.la_proposer.specs.Inputs.{Input, after_inputs};
+ghost use Rattle.la_proposer.specs.Firsts.{CountsFirsts};
+ghost use Rattle.la_proposer.specs.Proposing.{Proposing, start, submitted, after_submission, counts, with_reply};
 ghost use Rattle.la_proposer.specs.Refusals.{CountsInPlace};
 
 use la_acceptor::Reply;
@@ -53,6 +56,15 @@ fn no_proposer_submits_more(proposer: &Proposer) -> u32
 {
     let _kept = proposer.status();
     proposer.submitted()
+}
+
+// From its start on a proposer counts each acceptor's first reply to the open ballot, and nothing while
+// none is open.
+fn a_proposer_counts_first_replies()
+    ensures open { (votes : List ℕ) (own cap : ℕ) (inputs : List Input) → (after_inputs (start votes own cap empty) inputs).is_asking ≡ true → CountsFirsts (start votes own cap empty) inputs }
+    ensures idle { (votes : List ℕ) (own cap : ℕ) (inputs : List Input) → (after_inputs (start votes own cap empty) inputs).is_asking ≡ false → (after_inputs (start votes own cap empty) inputs).tally ≡ [] }
+{
+    laws::first_replies_count();
 }
 
 // A submission leaves the last ballot's set as it is, or opens a ballot with a larger one.

@@ -1,0 +1,55 @@
+// A million updates of one replica, each learnt at once: time and memory grow with what is sent.
+use super::events::Act;
+use super::plays::{act, voters, world_of};
+use la_world::{Config, Did, Event, Step, World, WorldError};
+use std::alloc::Global;
+use std::process::Abort;
+
+const MILLION: u32 = 1_000_000;
+
+// The most events that are played.
+const MOST: u64 = 3_000_000;
+
+fn plays(rt: &impl Abort, world: &mut World, event: &Event) -> Result<Step, WorldError> {
+    assert!(rt; world.events() < MOST);
+    world.play(event)
+}
+
+// Submits an update, hands its offer on, and then the acknowledgement: whether that is learnt with so many
+// updates.
+fn learns(rt: &impl Abort, alloc: Global, world: &mut World, submission: &Event, count: u32) -> bool {
+    let offer = world.sent();
+    if plays(rt, world, submission).is_err() {
+        return false;
+    }
+    let delivery = act(rt, alloc, Act::Deliver(offer));
+    if plays(rt, world, &delivery).is_err() {
+        return false;
+    }
+    let delivery = act(rt, alloc, Act::Deliver(world.sent() - 1));
+    match plays(rt, world, &delivery) {
+        Ok(step) => match step.did {
+            Did::Learnt { learnt, .. } => learnt.updates.count_of(0) == count,
+            _ => false,
+        },
+        Err(_) => false,
+    }
+}
+
+#[test]
+fn a_million_learnings(rt: HostRuntime) {
+    let config = Config {
+        cap: MILLION,
+        ..voters(&rt, &[1])
+    };
+    let mut world = world_of(&rt, rt.alloc(), config);
+    let submission = act(&rt, rt.alloc(), Act::Inc(0, 1));
+    for count in 1..=MILLION {
+        assert!(rt;
+            learns(&rt, rt.alloc(), &mut world, &submission, count),
+            "{count}"
+        );
+    }
+    let view = world.view(0).expect(&rt, "the group has it");
+    assert_eq!(rt; (view.len(), world.events()), (1_000_000, MOST));
+}
