@@ -1,7 +1,7 @@
 -- What follows from the laws of la_world.
-use Rattle.std.proofs.Common.{◌≡◌, ℕ, ◌+◌, ◌<◌, ◌≤◌, List, [], ◌∷◌, ◌++◌, length, drop, slice_get, Some, None, Contains, refl, sym, ◌∙◌, ap, subst, arith}
+use Rattle.std.proofs.Common.{◌≡◌, ℕ, ◌+◌, ◌<◌, ◌≤◌, List, [], ◌∷◌, ◌++◌, length, drop, slice_get, Some, Contains, sym, ◌∙◌, ap, subst, arith}
 use Rattle.std.specs.Prelude.{reverse, Result, Ok, Err, IfOk}
-use Rattle.la_set.specs.Histories.{Histories, history}
+use Rattle.la_set.specs.Histories.{history}
 use Rattle.la_set.specs.Inclusion.{IsSubset}
 use Rattle.la_replica.specs.declared.message.Message.{Message}
 use Rattle.la_replica.specs.declared.message.Body.TheVariants.{Yes}

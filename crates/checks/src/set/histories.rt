@@ -135,7 +135,7 @@ fn copies_go_their_own_ways(rt: HostRuntime) {
     assert!(rt; theirs.first_clash(&before).is_none());
 }
 
-// What copies share is taken at once, whatever allocation is refused.
+// A copy shares all updates: it succeeds at once, whatever allocation is refused.
 #[test]
 fn a_copy_takes_no_memory(rt: HostRuntime) {
     let set = set_from(&rt, rt.alloc(), &[COMMON]);
