@@ -1,4 +1,4 @@
-ghost use Rattle.std.specs.Prelude.{◌≡◌, ℕ, [], ◌+◌, ◌<◌, ◌≤◌, length, map, take, slice_get, slice_index_or, IfOk, IfErr, OnOk, OnErr};
+ghost use Rattle.std.specs.Prelude.{◌≡◌, ℕ, [], ◌+◌, ◌<◌, ◌≤◌, length, map, take, slice_get, slice_index_or, IsOk, IfOk, IfErr, OnOk, OnErr};
 ghost use Rattle.std.specs.Option.{option_copied};
 ghost use Rattle.la_set.specs.Deeds.{deed_of};
 ghost use Rattle.la_set.specs.Histories.{empty, history, updates, numbered, count, get, push, pop, with_history, IsNext, IsWithinLimit};
@@ -157,6 +157,7 @@ impl UpdateSet {
     /// unchanged.
     pub fn truncate(&mut self, replica: u8, count: u32) -> Result<(), AllocError>
         ensures ok { OnOk result (self.new ≡ with_history self.old replica (take count (history self.old replica))) }
+        ensures room { length (history self.old replica) ≤ count → IsOk result }
         ensures err { OnErr result (self.new ≡ self.old) }
     {
         if self.count_of(replica) <= count {
