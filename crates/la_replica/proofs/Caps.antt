@@ -1,7 +1,7 @@
 -- The caps of a replica's instances, at first and step after step
 use Rattle.std.proofs.Common.{◌≡◌, ℕ, zero, suc, ◌*◌, ◌<◌, ◌≤◌, List, [], ◌∷◌, replicate, slice_get, slice_set, Option, Some, None, option_map, refl, ap, ◌∙◌, sym, arith}
 use Rattle.la_replica.specs.declared.instance.Instance.{Instance}
-use Rattle.la_replica.specs.declared.out.Out.{Out}
+use Rattle.la_replica.specs.Whole.{Out}
 use Rattle.la_replica.specs.Steps.{Step, fresh}
 use Rattle.la_replica.specs.Members.{Member, start, cap_in, after_step}
 

@@ -5,9 +5,7 @@ use Rattle.la_set.specs.Join.{IsCompatible}
 use Rattle.la_proposer.specs.declared.heard.Heard.{Heard}
 use Rattle.la_proposer.specs.declared.heard.Heard.TheVariants.{Counted, Ignored, Refined, Learnt}
 use Rattle.la_replica.specs.declared.instance.Instance.{Instance}
-use Rattle.la_replica.specs.declared.message.Message.{Message}
-use Rattle.la_replica.specs.declared.message.Body.{Body}
-use Rattle.la_replica.specs.declared.message.Body.TheVariants.{Offer, Yes, No, Tell}
+use Rattle.la_replica.specs.Whole.{Message, Body, Offer, Yes, No, Tell}
 use Rattle.la_replica.specs.Members.{Member}
 use Rattle.la_replica.specs.Refusals.{IsReceivable, ReceivingSpares}
 

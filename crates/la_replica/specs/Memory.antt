@@ -6,9 +6,7 @@ use Rattle.la_acceptor.specs.declared.reply.Reply.TheVariants as replied
 use Rattle.la_proposer.specs.Proposing.{Proposing, counts}
 use Rattle.la_proposer.specs.Refusals.{CountsInPlace}
 use Rattle.la_replica.specs.declared.instance.Instance.{Instance}
-use Rattle.la_replica.specs.declared.message.Message.{Message}
-use Rattle.la_replica.specs.declared.message.Body.{Body}
-use Rattle.la_replica.specs.declared.message.Body.TheVariants.{Offer, Yes, No, Tell}
+use Rattle.la_replica.specs.Whole.{Message, Body, Offer, Yes, No, Tell}
 use Rattle.la_replica.specs.Views.{is_larger}
 use Rattle.la_replica.specs.Members.{Member}
 use Rattle.la_replica.specs.Refusals.{IsFor}

@@ -15,9 +15,7 @@ use Rattle.std.specs.Prelude.{Some}
 use Rattle.la_replica.specs.declared.error.ReplicaError.{ReplicaError}
 use Rattle.la_replica.specs.declared.error.ReplicaError.TheVariants.{NoSuchReplica, NoSuchInstance, Full, Clash, BallotsSpent, Memory}
 use Rattle.la_replica.specs.declared.instance.Instance.{Instance}
-use Rattle.la_replica.specs.declared.message.Message.{Message}
-use Rattle.la_replica.specs.declared.message.Body.{Body}
-use Rattle.la_replica.specs.declared.message.Body.TheVariants.{Offer, Yes, No, Tell}
+use Rattle.la_replica.specs.Whole.{Message, Body, Offer, Yes, No, Tell}
 use Rattle.la_replica.specs.Views.{is_larger}
 use Rattle.la_replica.specs.Members.{Member}
 

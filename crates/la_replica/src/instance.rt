@@ -8,6 +8,7 @@ ghost use Rattle.la_proposer.specs.Proposing.{submitted, counts};
 ghost use Rattle.la_proposer.specs.Refusals.{SubmissionSpends, ReplySpares};
 ghost use Rattle.la_proposer.specs.Clashes.{Fits};
 ghost use Rattle.la_replica.specs.declared.out.Said.TheVariants.{Answered};
+ghost use Rattle.la_replica.specs.Whole.{whole_of, whole_mail, whole_out};
 ghost use Rattle.la_replica.specs.Messages.{reply_in, reply_to};
 ghost use Rattle.la_replica.specs.Views.{view_after_learning};
 ghost use Rattle.la_replica.specs.Steps.{Step, learnt_in, fresh, submits, answers, said_of_told, last_learnt_after, view_after_hearing, hears, receives};
@@ -81,7 +82,7 @@ impl Instance {
         requires room { submitted self.old.proposer < self.old.proposer.cap }
         requires spares { ¬ SubmissionSpends self.old.proposer }
         requires own { self.old.proposer.own ≡ sender.now.from }
-        ensures step { IfOk result (λ out. (view : Histories) → submits sender.now self.old view (record { object = object; op = op }) ≡ record { said = out.said; mail = out.mail; at = self.new; view = view }) }
+        ensures step { IfOk result (λ out. (view : Histories) → submits sender.now self.old view (record { object = object; op = op }) ≡ record { said = out.said; mail = whole_mail out.mail; at = self.new; view = view }) }
         ensures err { OnErr result (self.new ≡ self.old) }
     {
         let mut proposer = self.proposer.copy()?;
@@ -102,9 +103,9 @@ impl Instance {
     // Whether what a message to this instance asks for would be done, memory apart.
     pub fn admit_message(&self, message: &Message) -> Result<(), ReplicaError>
         requires { message.now.from < length self.now.proposer.votes }
-        ensures fits { OnOk result (FitsBody self.now message.now message.now.body) }
-        ensures spares { OnOk result (SparesBody self.now message.now message.now.body) }
-        ensures error { (view : Histories) → IfErr result (IsBodyRefusal self.now view message.now message.now.body) }
+        ensures fits { OnOk result (FitsBody self.now (whole_of message.now) (whole_of message.now).body) }
+        ensures spares { OnOk result (SparesBody self.now (whole_of message.now) (whole_of message.now).body) }
+        ensures error { (view : Histories) → IfErr result (IsBodyRefusal self.now view (whole_of message.now) (whole_of message.now).body) }
         ensures memory { result ≢ Err ReplicaError.Memory }
     {
         match &message.body {
@@ -117,9 +118,9 @@ impl Instance {
     // Whether a reply would be heard, memory apart.
     fn admit_reply(&self, message: &Message) -> Result<(), ReplicaError>
         requires { message.now.from < length self.now.proposer.votes }
-        ensures fits { OnOk result (counts self.now.proposer message.now.from message.now.ballot ≡ true → Fits self.now.proposer (reply_in message.now.body)) }
-        ensures spares { OnOk result (ReplySpares self.now.proposer message.now.from message.now.ballot (reply_in message.now.body)) }
-        ensures error { IfErr result (IsHearingRefusal self.now.proposer message.now (reply_in message.now.body)) }
+        ensures fits { OnOk result (counts self.now.proposer message.now.from message.now.ballot ≡ true → Fits self.now.proposer (reply_in (whole_of message.now).body)) }
+        ensures spares { OnOk result (ReplySpares self.now.proposer message.now.from message.now.ballot (reply_in (whole_of message.now).body)) }
+        ensures error { IfErr result (IsHearingRefusal self.now.proposer (whole_of message.now) (reply_in (whole_of message.now).body)) }
         ensures memory { result ≢ Err ReplicaError.Memory }
     {
         let (from, ballot) = (message.from, message.ballot);
@@ -138,11 +139,11 @@ impl Instance {
     ) -> Result<Out, AllocError>
         requires known { message.now.from < length self.old.proposer.votes }
         requires instance { sender.now.instance ≡ message.now.instance }
-        requires fits { FitsBody self.old message.now message.now.body }
-        requires spares { SparesBody self.old message.now message.now.body }
-        requires view { fits ≡ true → FitsViewBody self.old view.old message.now message.now.body }
-        ensures step { IfOk result (λ out. receives sender.now self.old view.old message.now ≡ record { said = out.said; mail = out.mail; at = self.new; view = view.new }) }
-        ensures free { IsFreeBody self.old view.old message.now message.now.body → IsOk result }
+        requires fits { FitsBody self.old (whole_of message.now) (whole_of message.now).body }
+        requires spares { SparesBody self.old (whole_of message.now) (whole_of message.now).body }
+        requires view { fits ≡ true → FitsViewBody self.old view.old (whole_of message.now) (whole_of message.now).body }
+        ensures step { IfOk result (λ out. receives sender.now self.old view.old (whole_of message.now) ≡ record { said = out.said; mail = whole_mail out.mail; at = self.new; view = view.new }) }
+        ensures free { IsFreeBody self.old view.old (whole_of message.now) (whole_of message.now).body → IsOk result }
         ensures err { OnErr result (self.new ≡ self.old) }
         ensures err_view { OnErr result (view.new ≡ view.old) }
     {
@@ -155,7 +156,7 @@ impl Instance {
 
     // The set that a message to this instance would lead to learning.
     pub fn would_learn(&self, message: &Message) -> Option<&UpdateSet>
-        ensures { (sender : Sender) (view : Histories) → option_copied result ≡ learnt_in (receives sender self.now view message.now).said }
+        ensures { (sender : Sender) (view : Histories) → option_copied result ≡ learnt_in (receives sender self.now view (whole_of message.now)).said }
     {
         match &message.body {
             Body::Yes | Body::No(_) => {
@@ -177,7 +178,7 @@ impl Instance {
         offered: &UpdateSet,
     ) -> Result<Out, AllocError>
         requires { IsCompatible self.old.acceptor offered.now }
-        ensures step { IfOk result (λ out. (view : Histories) → answers self.old view message.now offered.now ≡ record { said = out.said; mail = out.mail; at = self.new; view = view }) }
+        ensures step { IfOk result (λ out. (view : Histories) → answers self.old view (whole_of message.now) offered.now ≡ record { said = out.said; mail = whole_mail out.mail; at = self.new; view = view }) }
         ensures free { offered.now ≡ self.old.acceptor → IsOk result }
         ensures err { OnErr result (self.new ≡ self.old) }
     {
@@ -203,11 +204,11 @@ impl Instance {
         fits: bool,
     ) -> Result<Out, AllocError>
         requires known { message.now.from < length self.old.proposer.votes }
-        requires fits { counts self.old.proposer message.now.from message.now.ballot ≡ true → Fits self.old.proposer (reply_in message.now.body) }
-        requires spares { ReplySpares self.old.proposer message.now.from message.now.ballot (reply_in message.now.body) }
+        requires fits { counts self.old.proposer message.now.from message.now.ballot ≡ true → Fits self.old.proposer (reply_in (whole_of message.now).body) }
+        requires spares { ReplySpares self.old.proposer message.now.from message.now.ballot (reply_in (whole_of message.now).body) }
         requires view { fits ≡ true → sender.now.instance ≡ 0 → IsCompatible view.old self.old.proposer.updates }
-        ensures step { IfOk result (λ out. hears sender.now self.old view.old message.now (reply_in message.now.body) ≡ record { said = out.said; mail = out.mail; at = self.new; view = view.new }) }
-        ensures free { IsFreeReply self.old.proposer message.now (reply_in message.now.body) → IsOk result }
+        ensures step { IfOk result (λ out. hears sender.now self.old view.old (whole_of message.now) (reply_in (whole_of message.now).body) ≡ record { said = out.said; mail = whole_mail out.mail; at = self.new; view = view.new }) }
+        ensures free { IsFreeReply self.old.proposer (whole_of message.now) (reply_in (whole_of message.now).body) → IsOk result }
         ensures err { OnErr result (self.new ≡ self.old) }
         ensures err_view { OnErr result (view.new ≡ view.old) }
     {
@@ -232,10 +233,10 @@ impl Instance {
         fits: bool,
     ) -> Result<Out, AllocError>
         requires known { message.now.from < length self.old.proposer.votes }
-        requires fits { counts self.old.proposer message.now.from message.now.ballot ≡ true → Fits self.old.proposer (reply_in message.now.body) }
-        requires spares { ReplySpares self.old.proposer message.now.from message.now.ballot (reply_in message.now.body) }
+        requires fits { counts self.old.proposer message.now.from message.now.ballot ≡ true → Fits self.old.proposer (reply_in (whole_of message.now).body) }
+        requires spares { ReplySpares self.old.proposer message.now.from message.now.ballot (reply_in (whole_of message.now).body) }
         requires view { fits ≡ true → sender.now.instance ≡ 0 → IsCompatible view.old self.old.proposer.updates }
-        ensures step { IfOk result (λ out. hears sender.now self.old view.old message.now (reply_in message.now.body) ≡ record { said = out.said; mail = out.mail; at = self.new; view = view.new }) }
+        ensures step { IfOk result (λ out. hears sender.now self.old view.old (whole_of message.now) (reply_in (whole_of message.now).body) ≡ record { said = out.said; mail = whole_mail out.mail; at = self.new; view = view.new }) }
         ensures err { OnErr result (self.new ≡ self.old) }
         ensures err_view { OnErr result (view.new ≡ view.old) }
     {
@@ -277,7 +278,7 @@ impl Instance {
 
 // The answer to an offer: the reply is said, and a copy goes back.
 fn answered(alloc: Global, message: &Message, reply: Reply) -> Result<Out, AllocError>
-    ensures ok { IfOk result (λ out. out ≡ record { said = Answered reply; mail = reply_to message.now reply ∷ [] }) }
+    ensures ok { IfOk result (λ out. whole_out out ≡ record { said = Answered reply; mail = reply_to (whole_of message.now) reply ∷ [] }) }
     ensures free { reply ≡ Reply.Yes → IsOk result }
 {
     let sent = reply.copy()?;

@@ -1,8 +1,7 @@
 // What the definitions mean: laws that no code runs.
 ghost use Rattle.std.specs.Prelude.{◌≡◌, ℕ, ◌*◌, ◌<◌, ◌≤◌, List, Some, None};
 ghost use Rattle.la_set.specs.Deeds.{Deed};
-ghost use Rattle.la_replica.specs.declared.message.Message.{Message};
-ghost use Rattle.la_replica.specs.declared.out.Out.{Out};
+ghost use Rattle.la_replica.specs.Whole.{Message, Out};
 ghost use Rattle.la_replica.specs.declared.replica.TheConstants.{MAX_COMMITS};
 ghost use Rattle.la_replica.specs.Members.{Member, start, cap_in, submits, receives};
 

@@ -3,6 +3,8 @@ ghost use Rattle.std.specs.Option.{option_copied};
 ghost use Rattle.la_proposer.specs.declared.proposer.TheConstants.{MAX_CAP};
 ghost use Rattle.la_proposer.specs.Majority.{votes_of};
 ghost use Rattle.la_proposer.specs.Proposing.{submitted};
+ghost use Rattle.la_replica.specs.Whole.{whole_of, whole_out};
+ghost use Rattle.la_replica.specs.Whole as whole;
 ghost use Rattle.la_replica.specs.Members.{Member, start, submits, receives, sender_of, last_learnt};
 ghost use Rattle.la_replica.specs.Kept.{IsMember};
 ghost use Rattle.la_replica.specs.Steps.{learnt_in};
@@ -130,7 +132,7 @@ impl Replica {
     /// replica is as before. It is [`Replica::admit_submission`] and then
     /// [`Replica::take_submission`].
     pub fn submit(&mut self, instance: u8, object: u16, op: Op) -> Result<Out, ReplicaError>
-        ensures step { IfOk result (λ out. submits self.old instance (record { object = object; op = op }) ≡ Some (out, self.new)) }
+        ensures step { IfOk result (λ out. submits self.old instance (record { object = object; op = op }) ≡ Some (whole_out out, self.new)) }
         ensures room { IfOk result (λ _. HasRoom self.old instance) }
         ensures spares { IfOk result (λ _. SubmittingSpares self.old instance) }
         ensures error { IfErr result (IsSubmitRefusal self.old instance) }
@@ -160,7 +162,7 @@ impl Replica {
     pub fn take_submission(&mut self, instance: u8, object: u16, op: Op) -> Result<Out, AllocError>
         requires room { HasRoom self.old instance }
         requires spares { SubmittingSpares self.old instance }
-        ensures step { IfOk result (λ out. submits self.old instance (record { object = object; op = op }) ≡ Some (out, self.new)) }
+        ensures step { IfOk result (λ out. submits self.old instance (record { object = object; op = op }) ≡ Some (whole_out out, self.new)) }
         ensures err { OnErr result (self.new ≡ self.old) }
     {
         let alloc = *self.instances.allocator();
@@ -191,11 +193,11 @@ impl Replica {
     /// compares the updates of a set that may become the view: the cost is that of comparing the sets
     /// at hand.
     pub fn receive(&mut self, message: &Message) -> Result<Out, ReplicaError>
-        ensures step { IfOk result (λ out. receives self.old message.now ≡ Some (out, self.new)) }
-        ensures fits { IfOk result (λ _. IsReceivable self.old message.now) }
-        ensures spares { IfOk result (λ _. ReceivingSpares self.old message.now) }
-        ensures free { IsFree self.old message.now → IsOk result }
-        ensures error { IfErr result (IsReceiveRefusal self.old message.now) }
+        ensures step { IfOk result (λ out. receives self.old (whole_of message.now) ≡ Some (whole_out out, self.new)) }
+        ensures fits { IfOk result (λ _. IsReceivable self.old (whole_of message.now)) }
+        ensures spares { IfOk result (λ _. ReceivingSpares self.old (whole_of message.now)) }
+        ensures free { IsFree self.old (whole_of message.now) → IsOk result }
+        ensures error { IfErr result (IsReceiveRefusal self.old (whole_of message.now)) }
         ensures err { OnErr result (self.new ≡ self.old) }
     {
         self.admit_message(message)?;
@@ -206,9 +208,9 @@ impl Replica {
     /// its order. It takes no memory, and `Memory` never comes. The cost is that of comparing an
     /// offered set with what is accepted, or a refused one that counts with what the proposer knows.
     pub fn admit_message(&self, message: &Message) -> Result<(), ReplicaError>
-        ensures receivable { OnOk result (IsReceivable self.now message.now) }
-        ensures spares { OnOk result (ReceivingSpares self.now message.now) }
-        ensures error { IfErr result (IsReceiveRefusal self.now message.now) }
+        ensures receivable { OnOk result (IsReceivable self.now (whole_of message.now)) }
+        ensures spares { OnOk result (ReceivingSpares self.now (whole_of message.now)) }
+        ensures error { IfErr result (IsReceiveRefusal self.now (whole_of message.now)) }
         ensures memory { result ≢ Err ReplicaError.Memory }
     {
         if message.from as usize >= self.votes.len() || message.to != self.own {
@@ -228,9 +230,9 @@ impl Replica {
     /// the acceptor's or the proposer's step, and of a copy of each set that is said, sent or kept, which
     /// share it.
     pub fn take_message(&mut self, message: &Message) -> Result<Out, AllocError>
-        requires { FitsReceiver self.old message.now }
-        ensures step { IfOk result (λ out. receives self.old message.now ≡ Some (out, self.new)) }
-        ensures free { IsFree self.old message.now → IsOk result }
+        requires { FitsReceiver self.old (whole_of message.now) }
+        ensures step { IfOk result (λ out. receives self.old (whole_of message.now) ≡ Some (whole_out out, self.new)) }
+        ensures free { IsFree self.old (whole_of message.now) → IsOk result }
         ensures err { OnErr result (self.new ≡ self.old) }
     {
         self.take_as(message, true)
@@ -240,7 +242,7 @@ impl Replica {
     /// where the message is an acknowledgement or a refusal with which a majority has acknowledged it; else
     /// `None`. It takes no memory, and the cost is constant.
     pub fn would_learn(&self, message: &Message) -> Option<&UpdateSet>
-        ensures { (out : Out) (after : Member) → receives self.now message.now ≡ Some (out, after) → option_copied result ≡ learnt_in out.said }
+        ensures { (out : whole.Out) (after : Member) → receives self.now (whole_of message.now) ≡ Some (out, after) → option_copied result ≡ learnt_in out.said }
     {
         self.instances
             .get(message.instance as usize)?
@@ -250,11 +252,11 @@ impl Replica {
     // Does what an admitted message asks for. Where a set that may become the view is known to fit it, no
     // updates are compared.
     fn take_as(&mut self, message: &Message, fits: bool) -> Result<Out, AllocError>
-        requires receivable { IsReceivable self.old message.now }
-        requires spares { ReceivingSpares self.old message.now }
-        requires view { fits ≡ true → IsSomeAnd (slice_get self.old.instances message.now.instance) (λ x. FitsViewBody x self.old.view message.now message.now.body) }
-        ensures step { IfOk result (λ out. receives self.old message.now ≡ Some (out, self.new)) }
-        ensures free { IsFree self.old message.now → IsOk result }
+        requires receivable { IsReceivable self.old (whole_of message.now) }
+        requires spares { ReceivingSpares self.old (whole_of message.now) }
+        requires view { fits ≡ true → IsSomeAnd (slice_get self.old.instances message.now.instance) (λ x. FitsViewBody x self.old.view (whole_of message.now) (whole_of message.now).body) }
+        ensures step { IfOk result (λ out. receives self.old (whole_of message.now) ≡ Some (whole_out out, self.new)) }
+        ensures free { IsFree self.old (whole_of message.now) → IsOk result }
         ensures err { OnErr result (self.new ≡ self.old) }
     {
         let alloc = *self.instances.allocator();

@@ -25,9 +25,7 @@ use Rattle.la_proposer.specs.Refusals.{opens_by, ReplySpends}
 use Rattle.la_proposer.proofs.LeastIds.{least-clash, get-some, some-get}
 use Rattle.la_replica.specs.declared.error.ReplicaError.{ReplicaError}
 use Rattle.la_replica.specs.declared.error.ReplicaError.TheVariants.{NoSuchReplica, NoSuchInstance, Full, Clash, BallotsSpent, Memory}
-use Rattle.la_replica.specs.declared.message.Message.{Message}
-use Rattle.la_replica.specs.declared.message.Body.{Body}
-use Rattle.la_replica.specs.declared.message.Body.TheVariants.{Offer, Yes, No, Tell}
+use Rattle.la_replica.specs.Whole.{Message, Body, Offer, Yes, No, Tell}
 use Rattle.la_replica.specs.Messages.{body_of}
 use Rattle.la_replica.specs.declared.instance.Instance.{Instance}
 use Rattle.la_replica.specs.Refusals.{IsSubmissionRefusal, IsSubmitRefusal, IsHearingRefusal, IsBodyRefusal, IsReceiveRefusal, FitsBody, SparesBody}

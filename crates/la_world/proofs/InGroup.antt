@@ -8,7 +8,7 @@ use Rattle.std.proofs.lemmas.Option.{same_Some, none-some}
 use Rattle.std.specs.List.{cons_option}
 use Rattle.la_set.specs.Deeds.{Deed}
 use Rattle.la_set.specs.Inclusion.{IsSubset}
-use Rattle.la_replica.specs.declared.message.Message.{Message}
+use Rattle.la_replica.specs.Whole.{Message}
 use Rattle.la_replica.specs.Messages.{group, offer_to}
 use Rattle.la_world.specs.declared.step.Opening.{Opening}
 use Rattle.la_world.specs.Groups.{Group, replicas, instances, first_instance, second_instance, is_first_instance, commit_of}

@@ -10,9 +10,7 @@ use Rattle.la_set.specs.Deeds.{update_eq}
 use Rattle.la_set.specs.Join.{IsCompatible}
 use Rattle.la_set.proofs.Decisions.{update_eq-Decides}
 use Rattle.la_replica.specs.declared.instance.Instance.{Instance}
-use Rattle.la_replica.specs.declared.message.Message.{Message}
-use Rattle.la_replica.specs.declared.message.Body.{Body}
-use Rattle.la_replica.specs.declared.message.Body.TheVariants.{Offer, Yes, No, Tell}
+use Rattle.la_replica.specs.Whole.{Message, Body, Offer, Yes, No, Tell}
 use Rattle.la_replica.specs.Members.{Member}
 use Rattle.la_replica.specs.Refusals.{IsFor, FitsBody, SparesBody}
 use Rattle.la_replica.specs.Fitting.{FitsReceiver, FitsViewBody}

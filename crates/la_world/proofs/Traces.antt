@@ -10,7 +10,7 @@ use Rattle.la_set.proofs.Inclusions.{subset-prefix}
 use Rattle.la_acceptor.specs.declared.reply.Reply.{Reply}
 use Rattle.la_acceptor.specs.declared.reply.Reply.TheVariants as replied
 use Rattle.la_proposer.specs.declared.tally.Counted.{Counted}
-use Rattle.la_replica.specs.declared.message.Message.{Message}
+use Rattle.la_replica.specs.Whole.{Message}
 use Rattle.la_world.specs.declared.step.Opening.{Opening}
 use Rattle.la_world.specs.Groups.{Group, replicas}
 use Rattle.la_world.specs.Events.{Event}

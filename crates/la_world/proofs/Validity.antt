@@ -2,7 +2,7 @@
 -- what was submitted until its place.
 use Rattle.std.proofs.Common.{◌≡◌, ℕ, suc, ◌+◌, List, [], ◌∷◌, length, drop, Option, refl, sym, ◌∙◌, ap, subst, arith}
 use Rattle.la_world.specs.declared.step.Learnt.{Learnt}
-use Rattle.la_replica.specs.declared.message.Message.{Message}
+use Rattle.la_replica.specs.Whole.{Message}
 use Rattle.la_world.specs.Groups.{Group}
 use Rattle.la_world.specs.Events.{Event}
 use Rattle.la_world.specs.Trace.{Did, Entry, Trace}

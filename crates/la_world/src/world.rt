@@ -1,7 +1,7 @@
 ghost use Rattle.std.specs.Prelude.{◌≡◌, ℕ, ◌+◌, ◌<◌, ◌^◌, [], length, map, slice_get, option_map, Some, None, IfOk, IfErr, OnOk, OnErr};
 ghost use Rattle.std.specs.Option.{option_copied};
 ghost use Rattle.la_set.specs.Deeds.{Deed};
-ghost use Rattle.la_replica.specs.declared.out.Out.{Out};
+ghost use Rattle.la_replica.specs.Whole.{Out, whole_of};
 ghost use Rattle.la_replica.specs.Members.{Member, receives};
 ghost use Rattle.la_replica.specs.Steps.{learnt_in};
 ghost use Rattle.la_world.specs.Events.{Past, Submit, Deliver, event_of};
@@ -269,7 +269,7 @@ fn submitted_among(replicas: &[Replica], replica: u8) -> Option<u32>
 
 // A copy of the set that a message will lead a replica to learn, if it will.
 fn learning(replica: &Replica, message: &Message) -> Result<Option<UpdateSet>, AllocError>
-    ensures { (out : Out) (after : Member) → receives replica.now message.now ≡ Some (out, after) → IfOk result (λ learnt. learnt ≡ learnt_in out.said) }
+    ensures { (out : Out) (after : Member) → receives replica.now (whole_of message.now) ≡ Some (out, after) → IfOk result (λ learnt. learnt ≡ learnt_in out.said) }
 {
     Ok(match replica.would_learn(message) {
         Some(learnt) => Some(learnt.copy()?),

@@ -2,8 +2,7 @@
 -- sent, is what the trace says. Of groups without such objects the laws on following say so of every list of events.
 use Rattle.std.specs.Prelude.{◌≡◌, ℕ, List, [], ◌∷◌, ◌++◌, map, reverse, fold, take, slice_get, slice_set, Option, Some, None}
 use Rattle.la_set.specs.Deeds.{Deed}
-use Rattle.la_replica.specs.declared.message.Message.{Message}
-use Rattle.la_replica.specs.declared.out.Out.{Out}
+use Rattle.la_replica.specs.Whole.{Message, Out}
 use Rattle.la_replica.specs.declared.out.Said.{Said}
 use Rattle.la_replica.specs.declared.out.Said.TheVariants.{Learnt}
 use Rattle.la_replica.specs.Members.{Member, start}

@@ -15,24 +15,28 @@ fn plays(rt: &impl Abort, world: &mut World, event: &Event) -> Result<Step, Worl
     world.play(event)
 }
 
-// Submits an update, hands its offer on, and then the acknowledgement: whether that is learnt with so many
-// updates.
-fn learns(rt: &impl Abort, alloc: Global, world: &mut World, submission: &Event, count: u32) -> bool {
-    let offer = world.sent();
+// Submits the next update after so many, hands its offer on, and then the acknowledgement: whether that is
+// learnt with one update more.
+fn learns(rt: &impl Abort, alloc: Global, world: &mut World, submission: &Event, learnt: u32) -> bool {
+    let offer = 2 * learnt as u64;
     if plays(rt, world, submission).is_err() {
         return false;
     }
-    let delivery = act(rt, alloc, Act::Deliver(offer));
-    if plays(rt, world, &delivery).is_err() {
+    let offered = act(rt, alloc, Act::Deliver(offer));
+    if plays(rt, world, &offered).is_err() {
         return false;
     }
-    let delivery = act(rt, alloc, Act::Deliver(world.sent() - 1));
-    match plays(rt, world, &delivery) {
-        Ok(step) => match step.did {
-            Did::Learnt { learnt, .. } => learnt.updates.count_of(0) == count,
-            _ => false,
-        },
+    let acknowledged = act(rt, alloc, Act::Deliver(offer + 1));
+    match plays(rt, world, &acknowledged) {
+        Ok(step) => updates_learnt(&step) == Some(learnt as usize + 1),
         Err(_) => false,
+    }
+}
+
+fn updates_learnt(step: &Step) -> Option<usize> {
+    match &step.did {
+        Did::Learnt { learnt, .. } => Some(learnt.updates.len()),
+        _ => None,
     }
 }
 
@@ -44,10 +48,10 @@ fn a_million_learnings(rt: HostRuntime) {
     };
     let mut world = world_of(&rt, rt.alloc(), config);
     let submission = act(&rt, rt.alloc(), Act::Inc(0, 1));
-    for count in 1..=MILLION {
+    for learnt in 0..MILLION {
         assert!(rt;
-            learns(&rt, rt.alloc(), &mut world, &submission, count),
-            "{count}"
+            learns(&rt, rt.alloc(), &mut world, &submission, learnt),
+            "{learnt}"
         );
     }
     let view = world.view(0).expect(&rt, "the group has it");

@@ -1,4 +1,5 @@
 use Rattle.std.proofs.Common.{rules, ◌≡◌, ◌<◌, length, get_or, slice_get, slice_set, Some, refl, subst, subst₂, sym}
+use Rattle.la_replica.specs.Whole.{whole_out}
 use Rattle.la_world.specs.declared.speaker.Speaker.{Speaker}
 use Rattle.la_world.specs.Events.{Deliver}
 use Rattle.la_world.specs.StandsFor.{World, StandsFor}
@@ -82,7 +83,7 @@ invariant_of-self-2 c =
     let s : Speaker = record { replicas = w.config.replicas; replica = m.to; instance = m.instance; ballot = m.ballot } in
     subst IsKept (sym (noted_as w m.to c.take_message.new.self s c.in_ok-out.out c.in_ok-copy.copy c.reserve.new.self.messages.items c.reserve.new.self.learnt.items c.reserve.new.self.count reserved.messages reserved.learnt reserved.count
     c.note.new.self.messages.items c.note.new.self.learnt.items c.note.new.self.count c.note.ensures.messages c.note.ensures.learnt c.note.ensures.count))
-    (delivery_kept w c.self.invariant k m found c.index_mut-receiver.result.now found_to c.in_ok-out.out c.take_message.new.self c.in_ok-out.ensures.step c.in_ok-copy.copy (c.in_ok-copy.ensures c.in_ok-out.out c.take_message.new.self c.in_ok-out.ensures.step))
+    (delivery_kept w c.self.invariant k m found c.index_mut-receiver.result.now found_to c.in_ok-out.out c.take_message.new.self c.in_ok-out.ensures.step c.in_ok-copy.copy (c.in_ok-copy.ensures (whole_out c.in_ok-out.out) c.take_message.new.self c.in_ok-out.ensures.step))
 
 pub returns-clause-step : goal.returns-clause-step
 returns-clause-step c events stands =
@@ -96,7 +97,7 @@ returns-clause-step c events stands =
     let after = noted_as w m.to c.take_message.new.self s c.in_ok-out.out c.in_ok-copy.copy c.reserve.new.self.messages.items c.reserve.new.self.learnt.items c.reserve.new.self.count reserved.messages reserved.learnt reserved.count
     c.note.new.self.messages.items c.note.new.self.learnt.items c.note.new.self.count c.note.ensures.messages c.note.ensures.learnt c.note.ensures.count in
     let step = step_as w m.to c.take_message.new.self s c.in_ok-out.out c.in_ok-copy.copy c.reserve.new.self.messages.items c.reserve.new.self.learnt.items c.reserve.new.self.count reserved.messages reserved.learnt reserved.count c.note.result c.note.ensures.step in
-    let played = delivery_played w c.self.invariant k m found c.index_mut-receiver.result.now found_to c.in_ok-out.out c.take_message.new.self c.in_ok-out.ensures.step c.in_ok-copy.copy (c.in_ok-copy.ensures c.in_ok-out.out c.take_message.new.self c.in_ok-out.ensures.step) events (subst (λ v. StandsFor v events) (sym c.self.view_is) stands) in
+    let played = delivery_played w c.self.invariant k m found c.index_mut-receiver.result.now found_to c.in_ok-out.out c.take_message.new.self c.in_ok-out.ensures.step c.in_ok-copy.copy (c.in_ok-copy.ensures (whole_out c.in_ok-out.out) c.take_message.new.self c.in_ok-out.ensures.step) events (subst (λ v. StandsFor v events) (sym c.self.view_is) stands) in
     let now : World = record { config = w.config; members = slice_set w.members m.to c.take_message.new.self; messages = c.note.new.self.messages.items; learnt = c.note.new.self.learnt.items; count = c.note.new.self.count } in
     subst (λ v. Plays v events (Deliver k) c.note.result now) c.self.view_is
     (subst₂ (λ t v. Plays w events (Deliver k) t v) (sym step) (sym after) played)
