@@ -17,10 +17,7 @@ use Rattle.la_proposer.specs.Refusals.{ReplySpends}
 use Rattle.la_replica.specs.declared.error.ReplicaError.{ReplicaError}
 use Rattle.la_replica.specs.declared.error.ReplicaError.TheVariants.{NoSuchReplica, NoSuchInstance, Full, Clash, BallotsSpent, Memory}
 use Rattle.la_replica.specs.declared.instance.Instance.{Instance}
-use Rattle.la_replica.specs.declared.message.Message.{Message}
-use Rattle.la_replica.specs.declared.message.Body.{Body}
-use Rattle.la_replica.specs.declared.message.Body.TheVariants.{Offer, Yes, No, Tell}
-use Rattle.la_replica.specs.declared.out.Out.{Out}
+use Rattle.la_replica.specs.Whole.{Message, Body, Offer, Yes, No, Tell, Out}
 use Rattle.la_replica.specs.Steps as steps
 use Rattle.la_replica.specs.Steps.{learnt_in}
 use Rattle.la_replica.specs.Members.{Member, sender_of, after_step, receives}

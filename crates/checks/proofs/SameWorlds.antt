@@ -4,9 +4,7 @@ use Rattle.std.proofs.Common.{◌≡◌, List, [], ◌∷◌, length, Option, So
 use Rattle.std.specs.Prelude.{Result, Ok, Err, IfOk, IfErr, OnErr}
 use Rattle.std.proofs.lemmas.Option.{same_Some}
 use Rattle.la_set.specs.Histories.{Histories}
-use Rattle.la_replica.specs.declared.message.Message.{Message}
-use Rattle.la_replica.specs.declared.message.Body.{Body}
-use Rattle.la_replica.specs.declared.message.Body.TheVariants.{Offer, Yes, No, Tell}
+use Rattle.la_replica.specs.declared.message.Message as code
 use Rattle.la_world.specs.declared.config.Config.{Config}
 use Rattle.la_world.specs.declared.error.WorldError.{WorldError}
 use Rattle.la_world.specs.declared.error.WorldError.TheVariants.{BadConfig, NoSuchReplica, Full, NoSuchMessage, Memory}
@@ -22,65 +20,33 @@ use Rattle.la_world.specs.Playing.{trace}
 use Rattle.la_world.specs.Learnings.{learnt}
 use Rattle.la_world.specs.Report.{refused}
 use Rattle.la_world.specs.Members.{members}
-use Rattle.la_world.specs.Messages.{kind_of, carried, IsMessage, AreMessages}
 use Rattle.la_world.specs.StandsFor.{World, StandsFor}
 use Rattle.la_world.specs.Calls.{IsMakingRefusal, Plays, IsPlayRefusal}
-
--- ## Messages
-
-body_is : (k m : Body) → kind_of k ≡ kind_of m → ((s : Histories) → carried m ≡ Some s → carried k ≡ Some s) → k ≡ m
-body_is (Offer s) (Offer u) e h = ap Offer (same_Some s u (h u refl))
-body_is (Offer s) Yes e h = cc
-body_is (Offer s) (No u) e h = cc
-body_is (Offer s) (Tell u) e h = cc
-body_is Yes (Offer u) e h = cc
-body_is Yes Yes e h = refl
-body_is Yes (No u) e h = cc
-body_is Yes (Tell u) e h = cc
-body_is (No s) (Offer u) e h = cc
-body_is (No s) Yes e h = cc
-body_is (No s) (No u) e h = ap No (same_Some s u (h u refl))
-body_is (No s) (Tell u) e h = cc
-body_is (Tell s) (Offer u) e h = cc
-body_is (Tell s) Yes e h = cc
-body_is (Tell s) (No u) e h = cc
-body_is (Tell s) (Tell u) e h = ap Tell (same_Some s u (h u refl))
-
-message_is : (k m : Message) → IsMessage k m → k ≡ m
-message_is k m h =
-    ap (λ i. record { instance = i; from = k.from; to = k.to; ballot = k.ballot; body = k.body }) h.instance
-    ∙ ap (λ f. record { instance = m.instance; from = f; to = k.to; ballot = k.ballot; body = k.body }) h.from
-    ∙ ap (λ t. record { instance = m.instance; from = m.from; to = t; ballot = k.ballot; body = k.body }) h.to
-    ∙ ap (λ b. record { instance = m.instance; from = m.from; to = m.to; ballot = b; body = k.body }) h.ballot
-    ∙ ap (λ b. record { instance = m.instance; from = m.from; to = m.to; ballot = m.ballot; body = b }) (body_is k.body m.body h.kind h.stands)
-
-messages_are : (kept ms : List Message) → AreMessages kept ms → kept ≡ ms
-messages_are [] [] h = refl
-messages_are [] (m ∷ ms) h = absurd h
-messages_are (k ∷ kept) [] h = absurd h
-messages_are (k ∷ kept) (m ∷ ms) h = ap₂ (λ x xs. x ∷ xs) (message_is k m h.0) (messages_are kept ms h.1)
+use Rattle.checks.proofs.Carried.{mail_once}
 
 -- ## Worlds
 
-abbrev standing : Config → Past → World
-standing c events = record {
+abbrev standing : Config → List code.Message → Past → World
+standing c messages events = record {
   config = c;
   members = members (group_of c) (trace (group_of c) events);
-  messages = sent (replicas (group_of c)) (trace (group_of c) events);
+  messages = messages;
   learnt = learnt (trace (group_of c) events);
   count = length events;
 }
 
-world_is : (w : World) (events : Past) → StandsFor w events → w ≡ standing w.config events
+world_is : (w : World) (events : Past) → StandsFor w events → w ≡ standing w.config w.messages events
 world_is w events h =
-    let s = standing w.config events in
+    let s = standing w.config w.messages events in
     ap (λ ms. record { config = w.config; members = ms; messages = w.messages; learnt = w.learnt; count = w.count }) h.members
-    ∙ ap (λ ms. record { config = w.config; members = s.members; messages = ms; learnt = w.learnt; count = w.count }) (messages_are w.messages s.messages h.messages)
     ∙ ap (λ ls. record { config = w.config; members = s.members; messages = s.messages; learnt = ls; count = w.count }) h.learnt
     ∙ ap (λ n. record { config = w.config; members = s.members; messages = s.messages; learnt = s.learnt; count = n }) h.count
 
+same_messages : (w v : World) (events : Past) → StandsFor w events → StandsFor v events → w.config ≡ v.config → w.messages ≡ v.messages
+same_messages w v events h k e = mail_once w.messages v.messages (h.messages ∙ ap (λ c. sent (replicas (group_of c)) (trace (group_of c) events)) e ∙ sym k.messages)
+
 same_world : (w v : World) (events : Past) → StandsFor w events → StandsFor v events → w.config ≡ v.config → w ≡ v
-same_world w v events h k e = world_is w events h ∙ ap (λ c. standing c events) e ∙ sym (world_is v events k)
+same_world w v events h k e = world_is w events h ∙ ap₂ (λ c ms. standing c ms events) e (same_messages w v events h k e) ∙ sym (world_is v events k)
 
 pub made_worlds_agree : (c : Config) (a b : Result World WorldError) → IfOk a (λ w. w.config ≡ c) → IfOk a (λ w. StandsFor w []) → IfOk b (λ w. w.config ≡ c) → IfOk b (λ w. StandsFor w []) → IfOk a (λ w. IfOk b (λ v. w ≡ v))
 made_worlds_agree c (Ok w) (Ok v) p h q k = same_world w v [] h k (p ∙ sym q)

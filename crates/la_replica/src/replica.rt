@@ -1,4 +1,4 @@
-ghost use Rattle.std.specs.Prelude.{◌≡◌, ◌≢◌, ℕ, ◌+◌, ◌*◌, ◌<◌, ◌≤◌, length, slice_get, true, Some, option_map, IsSomeAnd, IsOk, IfOk, IfErr, OnOk, OnErr};
+ghost use Rattle.std.specs.Prelude.{◌≡◌, ◌≢◌, ℕ, ◌+◌, ◌*◌, ◌<◌, ◌≤◌, length, slice_get, true, Some, None, option_map, IsSomeAnd, IsOk, IfOk, IfErr, OnOk, OnErr};
 ghost use Rattle.std.specs.Option.{option_copied};
 ghost use Rattle.la_proposer.specs.declared.proposer.TheConstants.{MAX_CAP};
 ghost use Rattle.la_proposer.specs.Majority.{votes_of};
@@ -240,9 +240,10 @@ impl Replica {
 
     /// The set that a message would lead this replica to learn, if it were received: the open ballot's,
     /// where the message is an acknowledgement or a refusal with which a majority has acknowledged it; else
-    /// `None`. It takes no memory, and the cost is constant.
+    /// `None`, also where there is no such instance. It takes no memory, and the cost is constant.
     pub fn would_learn(&self, message: &Message) -> Option<&UpdateSet>
-        ensures { (out : whole.Out) (after : Member) → receives self.now (whole_of message.now) ≡ Some (out, after) → option_copied result ≡ learnt_in out.said }
+        ensures learnt { (out : whole.Out) (after : Member) → receives self.now (whole_of message.now) ≡ Some (out, after) → option_copied result ≡ learnt_in out.said }
+        ensures none { length self.now.instances ≤ message.now.instance → result ≡ None }
     {
         self.instances
             .get(message.instance as usize)?

@@ -1,6 +1,7 @@
 // Callers that know nothing but the contracts: each makes a call twice and promises equal answers.
 ghost use Rattle.std.specs.Prelude.{◌≡◌, ◌↔◌, ◌≤◌, ◌<◌, length, IsTrue, IfOk, OnOk, OnErr, option_copied};
 ghost use Rattle.la_proposer.specs.Majority.{votes_of};
+ghost use Rattle.la_replica.specs.Whole.{whole_of};
 ghost use Rattle.la_replica.specs.Refusals.{HasRoom, SubmittingSpares};
 ghost use Rattle.la_replica.specs.Fitting.{FitsReceiver};
 
@@ -281,7 +282,7 @@ fn take_message_is_exact(
     message: &Message,
 ) -> (Takes, Takes)
     requires same { one.old ≡ other.old }
-    requires fits { FitsReceiver one.old message.now }
+    requires fits { FitsReceiver one.old (whole_of message.now) }
     ensures answers { IfOk result.0 (λ a. IfOk result.1 (λ b. a ≡ b)) }
     ensures steps { OnOk result.0 (OnOk result.1 (one.new ≡ other.new)) }
     ensures stays { OnErr result.0 (one.new ≡ one.old) }
@@ -296,7 +297,7 @@ fn a_taken_message_is_received_alike(
     message: &Message,
 ) -> (Takes, Answer)
     requires same { one.old ≡ other.old }
-    requires fits { FitsReceiver one.old message.now }
+    requires fits { FitsReceiver one.old (whole_of message.now) }
     ensures answers { IfOk result.0 (λ a. IfOk result.1 (λ b. a ≡ b)) }
     ensures steps { OnOk result.0 (OnOk result.1 (one.new ≡ other.new)) }
 {

@@ -1,6 +1,7 @@
 // Plays a table of inputs at one replica. Each call is made again where memory was refused, after a
 // look at what stands: so the tests pass with every single allocation failing too.
 ghost use Rattle.std.specs.Prelude.{IsTrue, IsSomeAnd, slice_get};
+ghost use Rattle.la_replica.specs.Whole.{whole_of};
 ghost use Rattle.la_replica.specs.Refusals.{IsReceivable};
 ghost use Rattle.la_replica.specs.Fitting.{FitsViewBody};
 
@@ -240,7 +241,7 @@ fn receive_by(
 // Whether the set that may become the view fits it, as far as can be told from outside: a told set by
 // comparing, and the one that a reply may lead to learning where the view is empty.
 fn fits_view(alloc: Global, replica: &Replica, message: &Message) -> bool
-    ensures { IsTrue result → IsReceivable replica.now message.now → IsSomeAnd (slice_get replica.now.instances message.now.instance) (λ x. FitsViewBody x replica.now.view message.now message.now.body) }
+    ensures { IsTrue result → IsReceivable replica.now (whole_of message.now) → IsSomeAnd (slice_get replica.now.instances message.now.instance) (λ x. FitsViewBody x replica.now.view (whole_of message.now) (whole_of message.now).body) }
 {
     match &message.body {
         Body::Offer(_) => true,

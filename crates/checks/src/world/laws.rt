@@ -2,8 +2,7 @@
 ghost use Rattle.std.specs.Prelude.{◌≡◌, ℕ, ◌+◌, ◌<◌, ◌≤◌, [], ◌∷◌, ◌++◌, drop, map, slice_get, Some, Contains, IfOk};
 ghost use Rattle.la_set.specs.Histories.{Histories, history};
 ghost use Rattle.la_set.specs.Inclusion.{IsSubset};
-ghost use Rattle.la_replica.specs.declared.message.Message.{Message};
-ghost use Rattle.la_replica.specs.declared.message.Body.TheVariants.{Yes};
+ghost use Rattle.la_replica.specs.Whole.{Message, Yes};
 ghost use Rattle.la_world.specs.declared.config.Config.{Config};
 ghost use Rattle.la_world.specs.declared.error.Refusal.TheVariants.{AlreadyProposed};
 ghost use Rattle.la_world.specs.declared.step.Opening.{Opening};
