@@ -17,7 +17,13 @@ fn plays(rt: &impl Abort, world: &mut World, event: &Event) -> Result<Step, Worl
 
 // Submits the next update after so many, hands its offer on, and then the acknowledgement: whether that is
 // learnt with one update more.
-fn learns(rt: &impl Abort, alloc: Global, world: &mut World, submission: &Event, learnt: u32) -> bool {
+fn learns(
+    rt: &impl Abort,
+    alloc: Global,
+    world: &mut World,
+    submission: &Event,
+    learnt: u32,
+) -> bool {
     let offer = 2 * learnt as u64;
     if plays(rt, world, submission).is_err() {
         return false;
