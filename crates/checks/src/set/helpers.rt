@@ -122,7 +122,7 @@ pub fn pop(rt: &impl Abort, set: &mut UpdateSet, replica: u8) -> Option<Update> 
 }
 
 // Keeps a replica's first updates, and looks that a refusal leaves the set as it was.
-pub fn cut(rt: &impl Abort, set: &mut UpdateSet, replica: u8, count: u32) {
+pub fn truncate(rt: &impl Abort, set: &mut UpdateSet, replica: u8, count: u32) {
     let before = set.len();
     if set.truncate(replica, count).is_err() {
         assert!(rt; set.len() == before && set.truncate(replica, count).is_ok());

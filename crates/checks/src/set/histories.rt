@@ -2,7 +2,7 @@
 // join leave.
 ghost use Rattle.std.specs.Prelude.{◌≤◌};
 
-use super::helpers::{Does, copy_of, cut, id, join, push};
+use super::helpers::{Does, copy_of, id, join, push, truncate};
 use la_set::{Op, Update, UpdateId, UpdateSet};
 use std::alloc::Global;
 use std::process::Abort;
@@ -178,7 +178,7 @@ fn a_cut_keeps_the_first(rt: HostRuntime) {
     let mut set = set_from(&rt, rt.alloc(), &[COMMON, FEW]);
     let whole = copy_of(&rt, &set);
     for (replica, count, of_3, of_5) in CUTS {
-        cut(&rt, &mut set, replica, count);
+        truncate(&rt, &mut set, replica, count);
         assert!(rt; has_left(&set, of_3, of_5), "{replica} {count}");
         assert!(rt; has_left(&whole, 60, 4), "{replica} {count}");
     }
@@ -197,7 +197,7 @@ fn a_cut_to_more_keeps_all(rt: HostRuntime) {
 fn others_come_next_after_a_cut(rt: HostRuntime) {
     let mut set = set_from(&rt, rt.alloc(), &[COMMON, MINE]);
     let before = copy_of(&rt, &set);
-    cut(&rt, &mut set, 3, 60);
+    truncate(&rt, &mut set, 3, 60);
     extend(&rt, rt.alloc(), &mut set, &THEIRS);
     assert!(rt; has_both(&set, &THEIRS) && has_both(&before, &MINE));
     assert!(rt; set.first_clash(&before) == Some(id(3, 61)));
@@ -273,9 +273,9 @@ fn has_ends(set: &UpdateSet, last: u32) -> bool
 fn a_million_updates_end(rt: HostRuntime) {
     let set = set_from(&rt, rt.alloc(), &[MOST]);
     let mut copy = copy_of(&rt, &set);
-    cut(&rt, &mut copy, 3, 500_000);
+    truncate(&rt, &mut copy, 3, 500_000);
     assert!(rt; has_ends(&set, 1_000_000) && has_ends(&copy, 500_000));
     drop(set);
-    cut(&rt, &mut copy, 3, 250_000);
+    truncate(&rt, &mut copy, 3, 250_000);
     assert!(rt; has_ends(&copy, 250_000));
 }
