@@ -1,8 +1,8 @@
 ghost use Rattle.std.specs.Prelude.{◌≡◌, ◌↔◌, IsOk, IsTrue, IfOk};
 ghost use Rattle.la_set.specs.ObjectOps.{CopiesInPlace};
 
-use crate::Tags;
 use crate::history::Same;
+use crate::{Sequence, Tags};
 use std::alloc::AllocError;
 
 /// Which update: the replica that made it, and the update's number among that replica's updates,
@@ -90,6 +90,9 @@ pub struct Update {
     pub object: u16,
     pub op: Op,
 }
+
+/// Updates, one after another.
+pub type Updates = Sequence<Update>;
 
 impl Update {
     /// Whether two updates are one, in all their parts.

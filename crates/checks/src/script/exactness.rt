@@ -5,9 +5,7 @@ ghost use Rattle.la_script.specs.Scripts.{said_by};
 ghost use Rattle.la_script.specs.Pieces.{joined};
 ghost use Rattle.la_world.specs.Printable.{IsPrintableReport};
 
-use la_script::{
-    Events, Pieces, ReadError, Script, ScriptFault, Stretch, Text, pieces_of, print, read,
-};
+use la_script::{Pieces, ReadError, Script, ScriptFault, Stretch, Text, pieces_of, print, read};
 use la_world::{Event, Report};
 use std::alloc::{AllocError, AllocFailed, Global};
 
@@ -76,52 +74,6 @@ fn rest_is_exact(pieces: &Pieces) -> (&[u8], &[u8])
     ensures { result.0.now ≡ result.1.now }
 {
     (pieces.rest(), pieces.rest())
-}
-
-fn new_events_are_one(alloc: Global) -> (Events, Events)
-    ensures { result.0 ≡ result.1 }
-{
-    (Events::new(alloc), Events::new(alloc))
-}
-
-fn len_is_exact(events: &Events) -> (usize, usize)
-    ensures { result.0 ≡ result.1 }
-{
-    (events.len(), events.len())
-}
-
-fn at_is_exact(events: &Events, place: usize) -> Option<(&Event, &Event)>
-    ensures { IfSome result (λ both. both.0.now ≡ both.1.now) }
-{
-    Some((events.at(place)?, events.at(place)?))
-}
-
-fn at_is_there_or_not(events: &Events, place: usize) -> (bool, bool)
-    ensures { result.0 ≡ result.1 }
-{
-    (events.at(place).is_some(), events.at(place).is_some())
-}
-
-fn all_is_exact(events: &Events) -> (&[Event], &[Event])
-    ensures { result.0.now ≡ result.1.now }
-{
-    (events.all(), events.all())
-}
-
-fn pushes_are_one(one: &mut Events, other: &mut Events, message: u64) -> Result<(), AllocError>
-    requires { one.old ≡ other.old }
-    ensures { IfOk result (λ _. one.new ≡ other.new) }
-{
-    one.push(Event::Deliver(message))?;
-    other.push(Event::Deliver(message))?;
-    Ok(())
-}
-
-fn events_are_their_list(one: Events, other: Events) -> (Events, Events)
-    requires { one ≡ other }
-    ensures { result.0 ≡ result.1 }
-{
-    (Events::from(Vec::from(one)), Events::from(Vec::from(other)))
 }
 
 fn bytes_are_exact(text: &Text) -> (&[u8], &[u8])

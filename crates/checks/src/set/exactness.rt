@@ -4,7 +4,7 @@
 ghost use Rattle.std.specs.Prelude.{◌≡◌, ◌↔◌, IsTrue, IfOk, IfErr, OnOk, OnErr, option_copied};
 ghost use Rattle.la_set.specs.Join.{IsCompatible};
 
-use la_set::{Op, SetError, Tags, Update, UpdateId, UpdateSet, Updates};
+use la_set::{Op, Sequence, SetError, Tags, Update, UpdateId, UpdateSet, Updates};
 use std::alloc::{AllocError, Global};
 use std::cmp::Ordering;
 
@@ -34,53 +34,54 @@ fn update_same_is_exact(update: &Update, other: &Update) -> (bool, bool)
     (update.same(other), update.same(other))
 }
 
-// ## Lists of updates
+// ## Lists
 
-fn list_new_is_exact(alloc: Global) -> (Updates, Updates)
+fn list_new_is_exact<T: Drop>(alloc: Global) -> (Sequence<T>, Sequence<T>)
     ensures { result.0 ≡ result.1 }
 {
-    (Updates::new(alloc), Updates::new(alloc))
+    (Sequence::new(alloc), Sequence::new(alloc))
 }
 
-fn list_len_is_exact(list: &Updates) -> (usize, usize)
+fn list_len_is_exact<T: Drop>(list: &Sequence<T>) -> (usize, usize)
     ensures { result.0 ≡ result.1 }
 {
     (list.len(), list.len())
 }
 
-fn list_at_is_exact(list: &Updates, place: usize) -> (Option<&Update>, Option<&Update>)
+fn list_at_is_exact<T: Drop>(list: &Sequence<T>, place: usize) -> (Option<&T>, Option<&T>)
     ensures { option_copied result.0 ≡ option_copied result.1 }
 {
     (list.at(place), list.at(place))
 }
 
-fn list_all_is_exact(list: &Updates) -> (&[Update], &[Update])
+fn list_all_is_exact<T: Drop>(list: &Sequence<T>) -> (&[T], &[T])
     ensures { result.0.now ≡ result.1.now }
 {
     (list.all(), list.all())
 }
 
-fn list_push_is_exact(
-    one: &mut Updates,
-    other: &mut Updates,
-    update: Update,
-    again: Update,
+fn list_push_is_exact<T: Drop>(
+    one: &mut Sequence<T>,
+    other: &mut Sequence<T>,
+    item: T,
+    again: T,
 ) -> (Result<(), AllocError>, Result<(), AllocError>)
-    requires sets { one.old ≡ other.old }
-    requires updates { update ≡ again }
-    ensures { OnOk result.0 (OnOk result.1 (one.new ≡ other.new)) }
+    requires lists { one.old ≡ other.old }
+    requires items { item ≡ again }
+    ensures ok { OnOk result.0 (OnOk result.1 (one.new ≡ other.new)) }
+    ensures err { OnErr result.0 (OnErr result.1 (one.new ≡ other.new)) }
 {
-    (one.push(update), other.push(again))
+    (one.push(item), other.push(again))
 }
 
-fn from_a_vec_is_exact(one: Vec<Update>, other: Vec<Update>) -> (Updates, Updates)
+fn from_a_vec_is_exact<T: Drop>(one: Vec<T>, other: Vec<T>) -> (Sequence<T>, Sequence<T>)
     requires { one.items ≡ other.items }
     ensures { result.0 ≡ result.1 }
 {
-    (Updates::from(one), Updates::from(other))
+    (Sequence::from(one), Sequence::from(other))
 }
 
-fn into_a_vec_is_exact(one: Updates, other: Updates) -> (Vec<Update>, Vec<Update>)
+fn into_a_vec_is_exact<T: Drop>(one: Sequence<T>, other: Sequence<T>) -> (Vec<T>, Vec<T>)
     requires { one ≡ other }
     ensures { result.0.items ≡ result.1.items }
 {
