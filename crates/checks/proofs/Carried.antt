@@ -6,7 +6,7 @@ use Rattle.la_replica.specs.declared.message.Message as code
 use Rattle.la_replica.specs.declared.message.Body as code_body
 use Rattle.la_replica.specs.declared.message.Body.TheVariants as body
 use Rattle.la_replica.specs.declared.out.Out as code_out
-use Rattle.la_replica.specs.Members.{Member}
+use Rattle.la_replica.specs.ReplicaState.{ReplicaState}
 use Rattle.la_replica.specs.Whole.{Message, Out, whole_body, whole_of, whole_mail, whole_out}
 
 pub body_once : (b c : code_body.Body) → whole_body b ≡ whole_body c → b ≡ c
@@ -46,8 +46,8 @@ out_once a b e =
     λ j. record { said = (e j).said; mail = same j }
 
 -- two calls that come to one step say and send the same
-pub outs_agree : {D E : Type 0} (x y : Option (Out × Member)) (a : Result code_out.Out D) (b : Result code_out.Out E) (m n : Member) → x ≡ y
+pub outs_agree : {D E : Type 0} (x y : Option (Out × ReplicaState)) (a : Result code_out.Out D) (b : Result code_out.Out E) (m n : ReplicaState) → x ≡ y
     → IfOk a (λ o. x ≡ Some (whole_out o, m)) → IfOk b (λ o. y ≡ Some (whole_out o, n)) → IfOk a (λ o. IfOk b (λ p. o ≡ p))
-outs_agree x y (Ok o) (Ok p) m n same h k = out_once o p (ap (λ (t : Out × Member). t.0) (same_Some (whole_out o, m) (whole_out p, n) (sym h ∙ same ∙ k)))
+outs_agree x y (Ok o) (Ok p) m n same h k = out_once o p (ap (λ (t : Out × ReplicaState). t.0) (same_Some (whole_out o, m) (whole_out p, n) (sym h ∙ same ∙ k)))
 outs_agree x y (Ok o) (Err e) m n same h k = tt
 outs_agree x y (Err d) b m n same h k = tt

@@ -10,8 +10,8 @@ use Rattle.la_acceptor.specs.declared.reply.Reply.TheVariants as replied
 use Rattle.la_acceptor.specs.Refusals.{IsOfferRefusal}
 use Rattle.la_acceptor.proofs.Accepting.{contains-empty}
 use Rattle.la_proposer.specs.declared.error.ProposerError.{ProposerError}
-use Rattle.la_proposer.specs.declared.error.ProposerError.TheVariants as proposing
-use Rattle.la_proposer.specs.Proposing.{Proposing, counts, with_reply}
+use Rattle.la_proposer.specs.declared.error.ProposerError.TheVariants as proposer_error
+use Rattle.la_proposer.specs.ProposerState.{ProposerState, counts, with_reply}
 use Rattle.la_proposer.specs.Clashes.{Fits}
 use Rattle.la_proposer.specs.Refusals.{ReplySpends}
 use Rattle.la_replica.specs.declared.error.ReplicaError.{ReplicaError}
@@ -20,7 +20,7 @@ use Rattle.la_replica.specs.declared.instance.Instance.{Instance}
 use Rattle.la_replica.specs.Whole.{Message, Body, Offer, Yes, No, Tell, Out}
 use Rattle.la_replica.specs.Steps as steps
 use Rattle.la_replica.specs.Steps.{learnt_in}
-use Rattle.la_replica.specs.Members.{Member, sender_of, after_step, receives}
+use Rattle.la_replica.specs.ReplicaState.{ReplicaState, sender_of, after_step, receives}
 use Rattle.la_replica.specs.Fitting.{FitsViewBody}
 use Rattle.la_replica.specs.Refusals.{of_acceptor, of_proposer, IsAnswerRefusal, IsHearingRefusal, IsTellRefusal, IsBodyRefusal, IsFor, IsReceiveRefusal, FitsBody, IsReceivable, SparesBody, ReceivingSpares}
 use Rattle.checks.proofs.OfferAnswers.{one_offer_refusal, fitting_offer}
@@ -29,12 +29,12 @@ use Rattle.checks.proofs.ProposerAnswers.{IsCountingRefusal, one_counting_refusa
 -- ## Errors as those of the crates below
 
 abbrev proposer's : ReplicaError → ProposerError
-proposer's Full = proposing.Full
-proposer's BallotsSpent = proposing.BallotsSpent
-proposer's (Clash id) = proposing.Clash id
-proposer's NoSuchReplica = proposing.NoSuchReplica
-proposer's NoSuchInstance = proposing.NoSuchReplica
-proposer's Memory = proposing.Memory
+proposer's Full = proposer_error.Full
+proposer's BallotsSpent = proposer_error.BallotsSpent
+proposer's (Clash id) = proposer_error.Clash id
+proposer's NoSuchReplica = proposer_error.NoSuchReplica
+proposer's NoSuchInstance = proposer_error.NoSuchReplica
+proposer's Memory = proposer_error.Memory
 
 abbrev acceptor's : ReplicaError → AcceptorError
 acceptor's (Clash id) = accepting.Clash id
@@ -44,7 +44,7 @@ acceptor's NoSuchReplica = accepting.Memory
 acceptor's NoSuchInstance = accepting.Memory
 acceptor's Memory = accepting.Memory
 
-hearing_is : (p : Proposing) (m : Message) (reply : Reply) (e : ReplicaError) → IsHearingRefusal p m reply e → (counts p m.from m.ballot ≡ true) × IsCountingRefusal p m.from reply (proposer's e) × (of_proposer (proposer's e) ≡ e)
+hearing_is : (p : ProposerState) (m : Message) (reply : Reply) (e : ReplicaError) → IsHearingRefusal p m reply e → (counts p m.from m.ballot ≡ true) × IsCountingRefusal p m.from reply (proposer's e) × (of_proposer (proposer's e) ≡ e)
 hearing_is p m reply (Clash id) h = (h.0, h.1, refl)
 hearing_is p m reply BallotsSpent h = (h.0, (h.1, h.2), refl)
 hearing_is p m reply Memory h = (h.0, (h.1, h.2), refl)
@@ -86,12 +86,12 @@ over a b le lt = omega arith
 
 -- ## A message
 
-one_hearing : (p : Proposing) (m : Message) (reply : Reply) (e f : ReplicaError) → IsHearingRefusal p m reply e → IsHearingRefusal p m reply f → e ≡ f
+one_hearing : (p : ProposerState) (m : Message) (reply : Reply) (e f : ReplicaError) → IsHearingRefusal p m reply e → IsHearingRefusal p m reply f → e ≡ f
 one_hearing p m reply e f h k =
     let a = hearing_is p m reply e h in let b = hearing_is p m reply f k in
     sym a.2 ∙ ap of_proposer (one_counting_refusal p m.from reply (proposer's e) (proposer's f) a.1 b.1) ∙ b.2
 
-fitting_hearing : (p : Proposing) (m : Message) (reply : Reply) (e : ReplicaError) → (counts p m.from m.ballot ≡ true → Fits p reply) → (counts p m.from m.ballot ≡ true → ¬ ReplySpends (with_reply p m.from reply)) → IsHearingRefusal p m reply e → e ≡ Memory
+fitting_hearing : (p : ProposerState) (m : Message) (reply : Reply) (e : ReplicaError) → (counts p m.from m.ballot ≡ true → Fits p reply) → (counts p m.from m.ballot ≡ true → ¬ ReplySpends (with_reply p m.from reply)) → IsHearingRefusal p m reply e → e ≡ Memory
 fitting_hearing p m reply e fits spares h =
     let a = hearing_is p m reply e h in
     sym a.2 ∙ ap of_proposer (fitting_counting p m.from reply (proposer's e) (fits a.0) (spares a.0) a.1)
@@ -110,7 +110,7 @@ fitting_body x view m Yes e fits spares h = fitting_hearing x.proposer m replied
 fitting_body x view m (No s) e fits spares h = fitting_hearing x.proposer m (replied.No s) e fits spares h
 fitting_body x view m (Tell s) e fits spares h = tell_is m.instance view s e h
 
-module _ (m : Member) (message : Message) where
+module _ (m : ReplicaState) (message : Message) where
   -- it is astray, or its instance is not there, or the instance refuses it
   abbrev IsAstray : Type 0
   IsAstray = (length m.votes ≤ message.from) ⊎ (message.to ≢ m.own)
@@ -159,9 +159,9 @@ module _ (m : Member) (message : Message) where
 -- ## What would be learnt
 
 -- in an instance that there is, a message comes to something, and so what it leads to learning is one
-pub one_learning : (m : Member) (message : Message) (a b : Option Histories) → message.instance < length m.instances
-    → ((out : Out) (after : Member) → receives m message ≡ Some (out, after) → a ≡ learnt_in out.said)
-    → ((out : Out) (after : Member) → receives m message ≡ Some (out, after) → b ≡ learnt_in out.said) → a ≡ b
+pub one_learning : (m : ReplicaState) (message : Message) (a b : Option Histories) → message.instance < length m.instances
+    → ((out : Out) (after : ReplicaState) → receives m message ≡ Some (out, after) → a ≡ learnt_in out.said)
+    → ((out : Out) (after : ReplicaState) → receives m message ≡ Some (out, after) → b ≡ learnt_in out.said) → a ≡ b
 one_learning m message a b lt p q = elim (slice_get_cases m.instances message.instance).1 [
   | inl there ↦ (let e = ap (option_map (λ x. after_step m message.instance (steps.receives (sender_of m message.instance) x m.view message))) there.2 in p _ _ e ∙ sym (q _ _ e))
   | inr past ↦ absurd (over message.instance (length m.instances) past.0 lt)
@@ -174,7 +174,7 @@ any_at None P Q p q = absurd p
 any_at (Some x) P Q p q = q x
 
 -- what fits it in each instance fits it in the message's
-pub fits_there : (m : Member) (message : Message) → IsReceivable m message → ((x : Instance) → FitsViewBody x m.view message message.body) → IsSomeAnd (slice_get m.instances message.instance) (λ x. FitsViewBody x m.view message message.body)
+pub fits_there : (m : ReplicaState) (message : Message) → IsReceivable m message → ((x : Instance) → FitsViewBody x m.view message message.body) → IsSomeAnd (slice_get m.instances message.instance) (λ x. FitsViewBody x m.view message message.body)
 fits_there m message receivable fits = any_at (slice_get m.instances message.instance) _ _ receivable.1 fits
 
 -- the empty view fits all
@@ -187,5 +187,5 @@ empty_fits_body x m Yes = λ at_0. empty_fits x.proposer.updates
 empty_fits_body x m (No s) = λ at_0. empty_fits x.proposer.updates
 empty_fits_body x m (Tell s) = λ at_0. empty_fits s
 
-pub empty_fits_there : (m : Member) (message : Message) → m.view ≡ empty → IsReceivable m message → IsSomeAnd (slice_get m.instances message.instance) (λ x. FitsViewBody x m.view message message.body)
+pub empty_fits_there : (m : ReplicaState) (message : Message) → m.view ≡ empty → IsReceivable m message → IsSomeAnd (slice_get m.instances message.instance) (λ x. FitsViewBody x m.view message message.body)
 empty_fits_there m message is receivable = fits_there m message receivable (λ x. subst (λ view. FitsViewBody x view message message.body) (sym is) (empty_fits_body x message message.body))

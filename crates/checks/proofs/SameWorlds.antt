@@ -19,7 +19,7 @@ use Rattle.la_world.specs.Sent.{sent}
 use Rattle.la_world.specs.Playing.{trace}
 use Rattle.la_world.specs.Learnings.{learnt}
 use Rattle.la_world.specs.Report.{refused}
-use Rattle.la_world.specs.Members.{members}
+use Rattle.la_world.specs.ReplicaStates.{replica_states}
 use Rattle.la_world.specs.StandsFor.{World, StandsFor}
 use Rattle.la_world.specs.Calls.{IsMakingRefusal, Plays, IsPlayRefusal}
 use Rattle.checks.proofs.Carried.{mail_once}
@@ -29,7 +29,7 @@ use Rattle.checks.proofs.Carried.{mail_once}
 abbrev standing : Config → List code.Message → Past → World
 standing c messages events = record {
   config = c;
-  members = members (group_of c) (trace (group_of c) events);
+  replica_states = replica_states (group_of c) (trace (group_of c) events);
   messages = messages;
   learnt = learnt (trace (group_of c) events);
   count = length events;
@@ -38,9 +38,9 @@ standing c messages events = record {
 world_is : (w : World) (events : Past) → StandsFor w events → w ≡ standing w.config w.messages events
 world_is w events h =
     let s = standing w.config w.messages events in
-    ap (λ ms. record { config = w.config; members = ms; messages = w.messages; learnt = w.learnt; count = w.count }) h.members
-    ∙ ap (λ ls. record { config = w.config; members = s.members; messages = s.messages; learnt = ls; count = w.count }) h.learnt
-    ∙ ap (λ n. record { config = w.config; members = s.members; messages = s.messages; learnt = s.learnt; count = n }) h.count
+    ap (λ ms. record { config = w.config; replica_states = ms; messages = w.messages; learnt = w.learnt; count = w.count }) h.replica_states
+    ∙ ap (λ ls. record { config = w.config; replica_states = s.replica_states; messages = s.messages; learnt = ls; count = w.count }) h.learnt
+    ∙ ap (λ n. record { config = w.config; replica_states = s.replica_states; messages = s.messages; learnt = s.learnt; count = n }) h.count
 
 same_messages : (w v : World) (events : Past) → StandsFor w events → StandsFor v events → w.config ≡ v.config → w.messages ≡ v.messages
 same_messages w v events h k e = mail_once w.messages v.messages (h.messages ∙ ap (λ c. sent (replicas (group_of c)) (trace (group_of c) events)) e ∙ sym k.messages)

@@ -1,6 +1,6 @@
 ghost use Rattle.std.specs.Prelude.{◌≡◌, ◌≢◌, IfOk, IfErr, OnOk, OnErr};
 ghost use Rattle.la_set.specs.Histories.{Histories, empty};
-ghost use Rattle.la_set.specs.Join.{IsCompatible, union};
+ghost use Rattle.la_set.specs.Join.{IsCompatible, join};
 ghost use Rattle.la_acceptor.specs.Answer.{answer};
 ghost use Rattle.la_acceptor.specs.Refusals.{IsOfferRefusal};
 
@@ -60,7 +60,7 @@ impl Acceptor {
     /// It is [`Acceptor::admit_offer`] and then [`Acceptor::take_offer`], at the cost of the two.
     pub fn offer(&mut self, offered: &UpdateSet) -> Result<Reply, AcceptorError>
         ensures reply { IfOk result (λ reply. reply ≡ answer self.old offered.now) }
-        ensures accepted { OnOk result (self.new ≡ union self.old offered.now) }
+        ensures accepted { OnOk result (self.new ≡ join self.old offered.now) }
         ensures compatible { OnOk result (IsCompatible self.old offered.now) }
         ensures error { IfErr result (IsOfferRefusal self.old offered.now) }
         ensures err { OnErr result (self.new ≡ self.old) }
@@ -93,7 +93,7 @@ impl Acceptor {
     pub fn take_offer(&mut self, offered: &UpdateSet) -> Result<Reply, AllocError>
         requires { IsCompatible self.old offered.now }
         ensures reply { IfOk result (λ reply. reply ≡ answer self.old offered.now) }
-        ensures accepted { OnOk result (self.new ≡ union self.old offered.now) }
+        ensures accepted { OnOk result (self.new ≡ join self.old offered.now) }
         ensures err { OnErr result (self.new ≡ self.old) }
         ensures again { offered.now ≡ self.old → result ≡ Ok Reply.Yes }
     {
@@ -111,7 +111,7 @@ impl Acceptor {
 // The reply to an offer, from its union with what was accepted: that lay in the offer exactly where the
 // union has nothing more than it.
 fn reply_from(joined: &UpdateSet, offered: &UpdateSet) -> Result<Reply, AllocError>
-    ensures reply { (accepted : Histories) → IsCompatible accepted offered.now → joined.now ≡ union accepted offered.now → IfOk result (λ reply. reply ≡ answer accepted offered.now) }
+    ensures reply { (accepted : Histories) → IsCompatible accepted offered.now → joined.now ≡ join accepted offered.now → IfOk result (λ reply. reply ≡ answer accepted offered.now) }
     ensures yes { joined.now ≡ offered.now → result ≡ Ok Reply.Yes }
 {
     if joined.len() == offered.len() {

@@ -5,23 +5,23 @@ use Rattle.std.proofs.lemmas.Bool.{cases_Bool, both_ways}
 use Rattle.std.proofs.lemmas.List.Elements.{All-nil, All-push}
 use Rattle.std.proofs.lemmas.List.Quantifiers.{all_pairs_push}
 use Rattle.la_set.specs.declared.update.UpdateId.{UpdateId}
-use Rattle.la_set.specs.Deeds.{update_eq}
+use Rattle.la_set.specs.ObjectOps.{update_eq}
 use Rattle.la_set.specs.Histories.{Histories, get}
-use Rattle.la_set.specs.Join.{union, ClashesAt, IsCompatible}
-use Rattle.la_set.proofs.Unions.{contains-union_cases}
+use Rattle.la_set.specs.Join.{join, ClashesAt, IsCompatible}
+use Rattle.la_set.proofs.Joins.{contains-join_cases}
 use Rattle.la_set.proofs.Decisions.{update_eq-Decides}
 use Rattle.la_acceptor.specs.declared.reply.Reply.{Reply}
 use Rattle.la_acceptor.specs.declared.reply.Reply.TheVariants.{Yes, No}
 use Rattle.la_proposer.specs.declared.tally.Counted.{Counted}
 use Rattle.la_proposer.specs.Tally.{with_refusal, joined_with_refusals}
-use Rattle.la_proposer.specs.Proposing.{Proposing}
+use Rattle.la_proposer.specs.ProposerState.{ProposerState}
 use Rattle.la_proposer.specs.Clashes.{ClashesWith, ClashesInTally, Fits, Agrees, AgreeBoth, AreOneEach}
 
 -- ## Sets
 
 -- the members of a union are members of either
-compatible-union : (a b c : Histories) → IsCompatible a c → IsCompatible b c → IsCompatible (union a b) c
-compatible-union a b c ac bc u v has_u has_v same = elim (contains-union_cases a b u has_u) [ inl p ↦ ac u v p has_v same | inr p ↦ bc u v p has_v same ]
+compatible-join : (a b c : Histories) → IsCompatible a c → IsCompatible b c → IsCompatible (join a b) c
+compatible-join a b c ac bc u v has_u has_v same = elim (contains-join_cases a b u has_u) [ inl p ↦ ac u v p has_v same | inr p ↦ bc u v p has_v same ]
 
 -- no id clashes
 compatible-unclashed : (a b : Histories) → ((id : UpdateId) → ¬ ClashesAt a b id) → IsCompatible a b
@@ -38,7 +38,7 @@ compatible-unclashed a b none u v has_u has_v same = elim (cases_Bool (update_eq
 agrees-with_refusal : (s : Histories) (q r : Reply) → Agrees s r → AgreeBoth q r → Agrees (with_refusal s q) r
 agrees-with_refusal s Yes r one both = one
 agrees-with_refusal s (No t) Yes one both = tt
-agrees-with_refusal s (No t) (No u) one both = compatible-union s t u one both
+agrees-with_refusal s (No t) (No u) one both = compatible-join s t u one both
 
 agree_both-yes : (q : Reply) → AgreeBoth q Yes
 agree_both-yes Yes = tt
@@ -70,7 +70,7 @@ agrees-joined s (d ∷ ds) (suc k) c one lt is = agrees-joined (with_refusal s d
 
 -- ## A reply that fits
 
-agrees-fits : (p : Proposing) (reply : Reply) → Fits p reply → Agrees p.updates reply
+agrees-fits : (p : ProposerState) (reply : Reply) → Fits p reply → Agrees p.updates reply
 agrees-fits p Yes fits = tt
 agrees-fits p (No t) fits = compatible-unclashed p.updates t (λ id clash. fits id (inl (inl clash)))
 
@@ -79,11 +79,11 @@ in_tally-fits [] t none k d lt = absurd (omega arith)
 in_tally-fits (c ∷ cs) t none zero d lt = agree_both-unclashed c.reply t (λ id clash. none id (inl clash))
 in_tally-fits (c ∷ cs) t none (suc k) d lt = in_tally-fits cs t (λ id clash. none id (inr clash)) k d (omega arith)
 
-both-fits : (p : Proposing) (reply : Reply) → Fits p reply → (k : ℕ) (d : Counted) → k < length p.tally → AgreeBoth (get_or p.tally k d).reply reply
+both-fits : (p : ProposerState) (reply : Reply) → Fits p reply → (k : ℕ) (d : Counted) → k < length p.tally → AgreeBoth (get_or p.tally k d).reply reply
 both-fits p Yes fits k d lt = agree_both-yes (get_or p.tally k d).reply
 both-fits p (No t) fits k d lt = in_tally-fits p.tally t (λ id clash. fits id (inr clash)) k d lt
 
-pub one_each-push : (p : Proposing) (from : ℕ) (reply : Reply) → AreOneEach p.updates p.tally → Fits p reply → AreOneEach p.updates (p.tally ++ record { from = from; reply = reply } ∷ [])
+pub one_each-push : (p : ProposerState) (from : ℕ) (reply : Reply) → AreOneEach p.updates p.tally → Fits p reply → AreOneEach p.updates (p.tally ++ record { from = from; reply = reply } ∷ [])
 one_each-push p from reply one fits =
     let c : Counted = record { from = from; reply = reply } in
     record {

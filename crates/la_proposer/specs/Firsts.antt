@@ -2,7 +2,7 @@
 use Rattle.std.specs.Prelude.{◌≡◌, ℕ, ◌+◌, ◌==◌, List, [], ◌∷◌, ◌++◌, fold, if◌then◌else◌}
 use Rattle.la_proposer.specs.declared.tally.Counted.{Counted}
 use Rattle.la_proposer.specs.Tally.{has_counted}
-use Rattle.la_proposer.specs.Proposing.{Proposing}
+use Rattle.la_proposer.specs.ProposerState.{ProposerState}
 use Rattle.la_proposer.specs.Inputs.{Input, Submitted, Replied, after_inputs}
 
 -- the reply to the ballot with this number that an input is, if it is one
@@ -24,7 +24,7 @@ abbrev pub first_replies : List Counted → List Counted
 first_replies replies = fold with_first [] replies
 
 -- the last ballot opened with one of the inputs, and what counts is each acceptor's first reply to it among those since
-pub record CountsFirsts (p : Proposing) (inputs : List Input) : Type 0 where
+pub record CountsFirsts (p : ProposerState) (inputs : List Input) : Type 0 where
   pub before : List Input
   pub opening : Input
   pub since : List Input

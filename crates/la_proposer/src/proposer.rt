@@ -2,10 +2,10 @@ ghost use Rattle.std.specs.Prelude.{◌≡◌, ◌≢◌, true, false, ◌<◌, 
 ghost use Rattle.la_set.specs.Histories.{empty};
 ghost use Rattle.la_proposer.specs.Majority.{votes_of};
 ghost use Rattle.la_proposer.specs.Tally.{reply_with, has_counted};
-ghost use Rattle.la_proposer.specs.Proposing.{start, submitted, status_of, submission_opens, after_submission, counts, heard_of, after_reply};
+ghost use Rattle.la_proposer.specs.ProposerState.{start, submitted, status_of, submission_opens, after_submission, counts, heard_of, after_reply};
 ghost use Rattle.la_proposer.specs.Refusals.{SubmissionSpends, IsSubmitRefusal, IsReplyRefusal, ReplySpares, IsVerdictOf, IsIgnored, CountsInPlace};
 ghost use Rattle.la_proposer.specs.Clashes.{Fits};
-ghost use Rattle.la_proposer.specs.Kept.{IsProposing};
+ghost use Rattle.la_proposer.specs.Invariant.{IsProposerState};
 
 mod admitting;
 mod taking;
@@ -44,15 +44,15 @@ pub struct Proposer {
 }
 
 impl Model for Proposer {
-    ghost use Rattle.la_proposer.specs.Proposing.{Proposing};
+    ghost use Rattle.la_proposer.specs.ProposerState.{ProposerState};
 
-    ghost Value = { Proposing };
+    ghost Value = { ProposerState };
 
-    ghost use Rattle.la_proposer.specs.Fields.{stands_for, HasKept};
+    ghost use Rattle.la_proposer.specs.Fields.{stands_for, HoldsInvariant};
 
     ghost view = { stands_for };
 
-    ghost invariant = { HasKept };
+    ghost invariant = { HoldsInvariant };
 }
 
 impl Proposer {
@@ -98,7 +98,7 @@ impl Proposer {
     /// proposer: so a caller learns it at any time.
     pub fn status(&self) -> Status
         ensures status { result ≡ status_of self.now }
-        ensures kept { IsProposing self.now }
+        ensures state { IsProposerState self.now }
     {
         if self.is_asking {
             Status::Asking(self.last.number)

@@ -6,7 +6,7 @@ use Rattle.la_proposer.specs.declared.heard.Heard.{Heard}
 use Rattle.la_proposer.specs.declared.heard.Heard.TheVariants.{Counted, Ignored, Refined, Learnt}
 use Rattle.la_replica.specs.declared.instance.Instance.{Instance}
 use Rattle.la_replica.specs.Whole.{Message, Body, Offer, Yes, No, Tell}
-use Rattle.la_replica.specs.Members.{Member}
+use Rattle.la_replica.specs.ReplicaState.{ReplicaState}
 use Rattle.la_replica.specs.Refusals.{IsReceivable, ReceivingSpares}
 
 -- what a reply led the proposer to learn fits the view
@@ -24,7 +24,7 @@ FitsViewBody x view m (No accepted) = m.instance ≡ 0 → IsCompatible view x.p
 FitsViewBody x view m (Tell told) = m.instance ≡ 0 → IsCompatible view told
 
 -- a message that is not refused, and whose sets fit the view
-pub record FitsReceiver (receiver : Member) (m : Message) : Type 0 where
+pub record FitsReceiver (receiver : ReplicaState) (m : Message) : Type 0 where
   -- an offer fits what is accepted, and a reply that counts fits the proposer
   pub receivable : IsReceivable receiver m
   -- a ballot that opens has a number

@@ -3,16 +3,16 @@ use Rattle.std.specs.Prelude.{◌≡◌, ◌≢◌, ◌⊎◌, ℕ, false, slice
 use Rattle.la_set.specs.Histories.{Histories}
 use Rattle.la_acceptor.specs.declared.reply.Reply.{Reply}
 use Rattle.la_acceptor.specs.declared.reply.Reply.TheVariants as replied
-use Rattle.la_proposer.specs.Proposing.{Proposing, counts}
+use Rattle.la_proposer.specs.ProposerState.{ProposerState, counts}
 use Rattle.la_proposer.specs.Refusals.{CountsInPlace}
 use Rattle.la_replica.specs.declared.instance.Instance.{Instance}
 use Rattle.la_replica.specs.Whole.{Message, Body, Offer, Yes, No, Tell}
 use Rattle.la_replica.specs.Views.{is_larger}
-use Rattle.la_replica.specs.Members.{Member}
+use Rattle.la_replica.specs.ReplicaState.{ReplicaState}
 use Rattle.la_replica.specs.Refusals.{IsFor}
 
 -- a reply that does not count, or an acknowledgement that only counts, where the tally keeps it without growing
-abbrev pub IsFreeReply : Proposing → Message → Reply → Type 0
+abbrev pub IsFreeReply : ProposerState → Message → Reply → Type 0
 IsFreeReply p m reply = (counts p m.from m.ballot ≡ false) ⊎ ((reply ≡ replied.Yes) × CountsInPlace p m.from m.ballot replied.Yes)
 
 -- a told set of another instance than 0, or one that is not larger than the view
@@ -27,5 +27,5 @@ IsFreeBody x view m (No accepted) = IsFreeReply x.proposer m (replied.No accepte
 IsFreeBody x view m (Tell told) = IsFreeTell m.instance view told
 
 -- a message that this replica receives without memory
-abbrev pub IsFree : Member → Message → Type 0
+abbrev pub IsFree : ReplicaState → Message → Type 0
 IsFree m message = IsFor m message × IsSomeAnd (slice_get m.instances message.instance) (λ x. IsFreeBody x m.view message message.body)

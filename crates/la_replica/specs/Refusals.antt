@@ -7,8 +7,8 @@ use Rattle.la_acceptor.specs.declared.error.AcceptorError.TheVariants as accepti
 use Rattle.la_acceptor.specs.declared.reply.Reply.{Reply}
 use Rattle.la_acceptor.specs.declared.reply.Reply.TheVariants as replied
 use Rattle.la_proposer.specs.declared.error.ProposerError.{ProposerError}
-use Rattle.la_proposer.specs.declared.error.ProposerError.TheVariants as proposing
-use Rattle.la_proposer.specs.Proposing.{Proposing, submitted, counts, with_reply}
+use Rattle.la_proposer.specs.declared.error.ProposerError.TheVariants as proposer_error
+use Rattle.la_proposer.specs.ProposerState.{ProposerState, submitted, counts, with_reply}
 use Rattle.la_proposer.specs.Clashes.{Fits, ReplyClashesAt, IsLeastOf}
 use Rattle.la_proposer.specs.Refusals.{SubmissionSpends, ReplySpends}
 use Rattle.std.specs.Prelude.{Some}
@@ -17,23 +17,23 @@ use Rattle.la_replica.specs.declared.error.ReplicaError.TheVariants.{NoSuchRepli
 use Rattle.la_replica.specs.declared.instance.Instance.{Instance}
 use Rattle.la_replica.specs.Whole.{Message, Body, Offer, Yes, No, Tell}
 use Rattle.la_replica.specs.Views.{is_larger}
-use Rattle.la_replica.specs.Members.{Member}
+use Rattle.la_replica.specs.ReplicaState.{ReplicaState}
 
 abbrev pub of_acceptor : AcceptorError → ReplicaError
 of_acceptor (accepting.Clash id) = Clash id
 of_acceptor accepting.Memory = Memory
 
 abbrev pub of_proposer : ProposerError → ReplicaError
-of_proposer proposing.Full = Full
-of_proposer proposing.NoSuchReplica = NoSuchReplica
-of_proposer (proposing.Clash id) = Clash id
-of_proposer proposing.BallotsSpent = BallotsSpent
-of_proposer proposing.Memory = Memory
+of_proposer proposer_error.Full = Full
+of_proposer proposer_error.NoSuchReplica = NoSuchReplica
+of_proposer (proposer_error.Clash id) = Clash id
+of_proposer proposer_error.BallotsSpent = BallotsSpent
+of_proposer proposer_error.Memory = Memory
 
 -- ## A submission
 
 -- in an instance that there is
-abbrev pub IsSubmissionRefusal : Proposing → ReplicaError → Type 0
+abbrev pub IsSubmissionRefusal : ProposerState → ReplicaError → Type 0
 IsSubmissionRefusal p Full = p.cap ≤ submitted p
 IsSubmissionRefusal p BallotsSpent = (submitted p < p.cap) × SubmissionSpends p
 IsSubmissionRefusal p Memory = (submitted p < p.cap) × ¬ SubmissionSpends p
@@ -41,7 +41,7 @@ IsSubmissionRefusal p NoSuchReplica = ⊥
 IsSubmissionRefusal p NoSuchInstance = ⊥
 IsSubmissionRefusal p (Clash id) = ⊥
 
-abbrev pub IsSubmitRefusal : Member → (instance : ℕ) → ReplicaError → Type 0
+abbrev pub IsSubmitRefusal : ReplicaState → (instance : ℕ) → ReplicaError → Type 0
 IsSubmitRefusal m i NoSuchInstance = length m.instances ≤ i
 IsSubmitRefusal m i e = IsSomeAnd (slice_get m.instances i) (λ x. IsSubmissionRefusal x.proposer e)
 
@@ -53,7 +53,7 @@ IsAnswerRefusal accepted offered Memory = IsCompatible accepted offered
 IsAnswerRefusal accepted offered _ = ⊥
 
 -- a reply that counts
-abbrev pub IsHearingRefusal : Proposing → Message → Reply → ReplicaError → Type 0
+abbrev pub IsHearingRefusal : ProposerState → Message → Reply → ReplicaError → Type 0
 IsHearingRefusal p m reply (Clash id) = (counts p m.from m.ballot ≡ true) × IsLeastOf (ReplyClashesAt p reply) (Some id)
 IsHearingRefusal p m reply BallotsSpent = (counts p m.from m.ballot ≡ true) × Fits p reply × ReplySpends (with_reply p m.from reply)
 IsHearingRefusal p m reply Memory = (counts p m.from m.ballot ≡ true) × Fits p reply × ¬ ReplySpends (with_reply p m.from reply)
@@ -71,10 +71,10 @@ IsBodyRefusal x view m (No accepted) e = IsHearingRefusal x.proposer m (replied.
 IsBodyRefusal x view m (Tell told) e = IsTellRefusal m.instance view told e
 
 -- it is from a replica of the group, to this one
-abbrev pub IsFor : Member → Message → Type 0
+abbrev pub IsFor : ReplicaState → Message → Type 0
 IsFor m message = (message.from < length m.votes) × (message.to ≡ m.own)
 
-abbrev pub IsReceiveRefusal : Member → Message → ReplicaError → Type 0
+abbrev pub IsReceiveRefusal : ReplicaState → Message → ReplicaError → Type 0
 IsReceiveRefusal m message NoSuchReplica = (length m.votes ≤ message.from) ⊎ (message.to ≢ m.own)
 IsReceiveRefusal m message NoSuchInstance = IsFor m message × (length m.instances ≤ message.instance)
 IsReceiveRefusal m message e = IsFor m message × IsSomeAnd (slice_get m.instances message.instance) (λ x. IsBodyRefusal x m.view message message.body e)
@@ -88,7 +88,7 @@ FitsBody x m Yes = Unit {0}
 FitsBody x m (No accepted) = counts x.proposer m.from m.ballot ≡ true → Fits x.proposer (replied.No accepted)
 FitsBody x m (Tell told) = Unit {0}
 
-abbrev pub IsReceivable : Member → Message → Type 0
+abbrev pub IsReceivable : ReplicaState → Message → Type 0
 IsReceivable m message = IsFor m message × IsSomeAnd (slice_get m.instances message.instance) (λ x. FitsBody x message message.body)
 
 -- no ballot that opens has too large a number
@@ -98,11 +98,11 @@ SparesBody x m Yes = counts x.proposer m.from m.ballot ≡ true → ¬ ReplySpen
 SparesBody x m (No accepted) = counts x.proposer m.from m.ballot ≡ true → ¬ ReplySpends (with_reply x.proposer m.from (replied.No accepted))
 SparesBody x m (Tell told) = Unit {0}
 
-abbrev pub ReceivingSpares : Member → Message → Type 0
+abbrev pub ReceivingSpares : ReplicaState → Message → Type 0
 ReceivingSpares m message = IsSomeAnd (slice_get m.instances message.instance) (λ x. SparesBody x message message.body)
 
-abbrev pub SubmittingSpares : Member → (instance : ℕ) → Type 0
+abbrev pub SubmittingSpares : ReplicaState → (instance : ℕ) → Type 0
 SubmittingSpares m i = IsSomeAnd (slice_get m.instances i) (λ x. ¬ SubmissionSpends x.proposer)
 
-abbrev pub HasRoom : Member → (instance : ℕ) → Type 0
+abbrev pub HasRoom : ReplicaState → (instance : ℕ) → Type 0
 HasRoom m i = IsSomeAnd (slice_get m.instances i) (λ x. submitted x.proposer < x.proposer.cap)

@@ -4,7 +4,7 @@ ghost use Rattle.la_set.specs.Histories.{Histories};
 ghost use Rattle.la_set.specs.Join.{IsCompatible};
 ghost use Rattle.la_proposer.specs.declared.proposer.TheConstants.{MAX_CAP};
 ghost use Rattle.la_proposer.specs.Majority.{votes_of};
-ghost use Rattle.la_proposer.specs.Proposing.{submitted, counts};
+ghost use Rattle.la_proposer.specs.ProposerState.{submitted, counts};
 ghost use Rattle.la_proposer.specs.Refusals.{SubmissionSpends, ReplySpares};
 ghost use Rattle.la_proposer.specs.Clashes.{Fits};
 ghost use Rattle.la_replica.specs.declared.out.Said.TheVariants.{Answered};

@@ -1,9 +1,9 @@
 // What the definitions mean: laws that no code runs.
 ghost use Rattle.std.specs.Prelude.{◌≡◌, ℕ, ◌*◌, ◌<◌, ◌≤◌, List, Some, None};
-ghost use Rattle.la_set.specs.Deeds.{Deed};
+ghost use Rattle.la_set.specs.ObjectOps.{ObjectOp};
 ghost use Rattle.la_replica.specs.Whole.{Message, Out};
 ghost use Rattle.la_replica.specs.declared.replica.TheConstants.{MAX_COMMITS};
-ghost use Rattle.la_replica.specs.Members.{Member, start, cap_in, submits, receives};
+ghost use Rattle.la_replica.specs.ReplicaState.{ReplicaState, start, cap_in, submits, receives};
 
 /// The limit, as a number.
 pub fn limits()
@@ -20,6 +20,6 @@ pub fn caps_at_first()
 
 /// No step changes a cap, and none makes or ends an instance.
 pub fn caps_stay()
-    ensures submission { (m after : Member) (out : Out) (i j : ℕ) (d : Deed) → submits m i d ≡ Some (out, after) → cap_in after j ≡ cap_in m j }
-    ensures message { (m after : Member) (out : Out) (j : ℕ) (message : Message) → receives m message ≡ Some (out, after) → cap_in after j ≡ cap_in m j }
+    ensures submission { (m after : ReplicaState) (out : Out) (i j : ℕ) (d : ObjectOp) → submits m i d ≡ Some (out, after) → cap_in after j ≡ cap_in m j }
+    ensures message { (m after : ReplicaState) (out : Out) (j : ℕ) (message : Message) → receives m message ≡ Some (out, after) → cap_in after j ≡ cap_in m j }
 {}

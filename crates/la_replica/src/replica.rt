@@ -2,11 +2,11 @@ ghost use Rattle.std.specs.Prelude.{◌≡◌, ◌≢◌, ℕ, ◌+◌, ◌*◌,
 ghost use Rattle.std.specs.Option.{option_copied};
 ghost use Rattle.la_proposer.specs.declared.proposer.TheConstants.{MAX_CAP};
 ghost use Rattle.la_proposer.specs.Majority.{votes_of};
-ghost use Rattle.la_proposer.specs.Proposing.{submitted};
+ghost use Rattle.la_proposer.specs.ProposerState.{submitted};
 ghost use Rattle.la_replica.specs.Whole.{whole_of, whole_out};
 ghost use Rattle.la_replica.specs.Whole as whole;
-ghost use Rattle.la_replica.specs.Members.{Member, start, submits, receives, sender_of, last_learnt};
-ghost use Rattle.la_replica.specs.Kept.{IsMember};
+ghost use Rattle.la_replica.specs.ReplicaState.{ReplicaState, start, submits, receives, sender_of, last_learnt};
+ghost use Rattle.la_replica.specs.Invariant.{IsReplicaState};
 ghost use Rattle.la_replica.specs.Steps.{learnt_in};
 ghost use Rattle.la_replica.specs.Refusals.{IsSubmitRefusal, IsReceiveRefusal, IsReceivable, HasRoom, SubmittingSpares, ReceivingSpares};
 ghost use Rattle.la_replica.specs.Fitting.{FitsViewBody, FitsReceiver};
@@ -36,15 +36,15 @@ pub struct Replica {
 
 impl Model for Replica {
     ghost use Rattle.la_proposer.specs.Majority.{votes_of};
-    ghost use Rattle.la_replica.specs.Members.{Member};
+    ghost use Rattle.la_replica.specs.ReplicaState.{ReplicaState};
 
-    ghost Value = { Member };
+    ghost Value = { ReplicaState };
 
-    ghost use Rattle.la_replica.specs.Kept.{IsMember};
+    ghost use Rattle.la_replica.specs.Invariant.{IsReplicaState};
 
     ghost view = { λ r. record { votes = votes_of r.votes; own = r.own; instances = r.instances.items; view = r.view } };
 
-    ghost invariant = { λ r. IsMember (record { votes = votes_of r.votes; own = r.own; instances = r.instances.items; view = r.view }) };
+    ghost invariant = { λ r. IsReplicaState (record { votes = votes_of r.votes; own = r.own; instances = r.instances.items; view = r.view }) };
 }
 
 impl Replica {
@@ -95,7 +95,7 @@ impl Replica {
     /// are this replica of that group.
     pub fn own(&self) -> u8
         ensures own { result ≡ self.now.own }
-        ensures of_group { IsMember self.now }
+        ensures of_group { IsReplicaState self.now }
     {
         self.own
     }
@@ -242,7 +242,7 @@ impl Replica {
     /// where the message is an acknowledgement or a refusal with which a majority has acknowledged it; else
     /// `None`, also where there is no such instance. It takes no memory, and the cost is constant.
     pub fn would_learn(&self, message: &Message) -> Option<&UpdateSet>
-        ensures learnt { (out : whole.Out) (after : Member) → receives self.now (whole_of message.now) ≡ Some (out, after) → option_copied result ≡ learnt_in out.said }
+        ensures learnt { (out : whole.Out) (after : ReplicaState) → receives self.now (whole_of message.now) ≡ Some (out, after) → option_copied result ≡ learnt_in out.said }
         ensures none { length self.now.instances ≤ message.now.instance → result ≡ None }
     {
         self.instances

@@ -4,7 +4,7 @@ use Rattle.std.proofs.lemmas.Bool.{lt-ltb}
 use Rattle.std.proofs.lemmas.List.{map-append}
 use Rattle.la_set.specs.declared.update.UpdateId.{UpdateId}
 use Rattle.la_set.specs.declared.update.Update.{Update}
-use Rattle.la_set.specs.Deeds.{Deed}
+use Rattle.la_set.specs.ObjectOps.{ObjectOp}
 use Rattle.la_set.specs.Histories.{Histories, history, count, numbered, updates_from, updates}
 use Rattle.la_script.specs.Text.{ids_of, ids_text}
 use Rattle.la_script.specs.Pieces.{ids_from, has_ids, next_ids, front, ids_before}
@@ -13,11 +13,11 @@ use Rattle.la_script.proofs.IdFronts.{ids_text-append}
 abbrev the_ids : List Update → List UpdateId
 the_ids us = map (λ u. u.id) us
 
-ids-numbered : (r n : ℕ) (ds : List Deed) → the_ids (numbered r n ds) ≡ ids_from r n (length ds)
+ids-numbered : (r n : ℕ) (ds : List ObjectOp) → the_ids (numbered r n ds) ≡ ids_from r n (length ds)
 ids-numbered r n [] = refl
 ids-numbered r n (d ∷ ds) = ap (λ ids. record { replica = r; number = n } ∷ ids) (ids-numbered r (suc n) ds)
 
-module _ (h : ℕ → List Deed) where
+module _ (h : ℕ → List ObjectOp) where
   abbrev counts : ℕ → ℕ
   counts r = length (h r)
 

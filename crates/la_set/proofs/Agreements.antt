@@ -7,8 +7,8 @@ use Rattle.std.proofs.lemmas.Option.{none-some, same_Some}
 use Rattle.std.proofs.lemmas.Bool.{cases_lt, cases_eq, false≢true, true≢false}
 use Rattle.la_set.specs.declared.update.UpdateId.{UpdateId}
 use Rattle.la_set.specs.declared.update.Update.{Update}
-use Rattle.la_set.specs.Histories.{Histories, history, deed_number, get, numbered}
-use Rattle.la_set.specs.Deeds.{Deed, update_of}
+use Rattle.la_set.specs.Histories.{Histories, history, object_op_number, get, numbered}
+use Rattle.la_set.specs.ObjectOps.{ObjectOp, update_of}
 use Rattle.la_set.specs.Join.{ClashesAt, IsCompatible, IsLeastClash}
 use Rattle.la_set.specs.Agreement.{AgreeBelow, IsFirstDifference}
 use Rattle.la_set.proofs.SetHistories.{count_past}
@@ -70,13 +70,13 @@ module _ (a b : Histories) where
         ]));
       }
 
-got_id : (id : UpdateId) (o : Option Deed) (u : Update) → option_map (update_of id.replica id.number) o ≡ Some u → u.id ≡ id
+got_id : (id : UpdateId) (o : Option ObjectOp) (u : Update) → option_map (update_of id.replica id.number) o ≡ Some u → u.id ≡ id
 got_id id None u e = absurd (none-some u e)
 got_id id (Some d) u e = sym (ap (λ v. v.id) (same_Some (update_of id.replica id.number d) u e))
 
 -- an update that is found under an id has it
 get_id : (s : Histories) (id : UpdateId) (u : Update) → get s id ≡ Some u → u.id ≡ id
-get_id s id u e = got_id id (deed_number (history s id.replica) id.number) u e
+get_id s id u e = got_id id (object_op_number (history s id.replica) id.number) u e
 
 -- sets with a clash are not compatible
 pub clash_compatible : (a b : Histories) (id : UpdateId) → ClashesAt a b id → IsCompatible a b → ⊥

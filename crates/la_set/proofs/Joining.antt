@@ -5,28 +5,28 @@ use Rattle.std.proofs.lemmas.List.{length-set, length-append, length-drop, get_o
 use Rattle.std.proofs.lemmas.Option.{none-some, same_Some, slice_get_within, get_or_from_slice_get}
 use Rattle.std.proofs.lemmas.Bool.{cases_eq, cases_lt}
 use Rattle.la_set.specs.declared.update.Update.{Update}
-use Rattle.la_set.specs.Deeds.{Deed, update_of}
+use Rattle.la_set.specs.ObjectOps.{ObjectOp, update_of}
 use Rattle.la_set.specs.Histories.{Histories, history, count, numbered, IsWithinLimit}
-use Rattle.la_set.specs.Join.{joined, union, IsCompatible}
-use Rattle.la_set.specs.Kept.{kept, IsKept}
+use Rattle.la_set.specs.Join.{joined, join, IsCompatible}
+use Rattle.la_set.specs.Representation.{represented, IsRepresentation}
 use Rattle.la_set.specs.Agreement.{AgreeBelow}
 use Rattle.la_set.proofs.NumberedLists.{numbered-append, drop-numbered, length-numbered, slice_get-numbered}
 use Rattle.la_set.proofs.SetHistories.{count_past}
-use Rattle.la_set.proofs.Representation.{kept-from, IsKept-from}
+use Rattle.la_set.proofs.Representation.{represented-from, IsRepresentation-from}
 use Rattle.la_set.proofs.Inclusions.{compatible-agree}
-use Rattle.la_set.proofs.Unions.{history-union}
+use Rattle.la_set.proofs.Joins.{history-join}
 
 -- a list, and then what another has beyond it, of two replica's lists
-joined-numbered : (r : ℕ) (h k : List Deed) → numbered r 1 h ++ drop (length (numbered r 1 h)) (numbered r 1 k) ≡ numbered r 1 (joined h k)
+joined-numbered : (r : ℕ) (h k : List ObjectOp) → numbered r 1 h ++ drop (length (numbered r 1 h)) (numbered r 1 k) ≡ numbered r 1 (joined h k)
 joined-numbered r h k =
     ap (λ n. numbered r 1 h ++ drop n (numbered r 1 k)) (length-numbered r 1 h)
     ∙ ap (λ us. numbered r 1 h ++ us) (drop-numbered r 1 (length h) k)
     ∙ sym (numbered-append r 1 h (drop (length h) k))
 
 -- a union of sets within the limit is within it
-union-within : (a b : Histories) → IsWithinLimit a → ((r : ℕ) → r < 8 → count b r ≤ 1000000) → IsWithinLimit (union a b)
-union-within a b in_a in_b r =
-    let many = ap length (history-union a b r) ∙ length-append (history a r) (drop (count a r) (history b r)) in
+join-within : (a b : Histories) → IsWithinLimit a → ((r : ℕ) → r < 8 → count b r ≤ 1000000) → IsWithinLimit (join a b)
+join-within a b in_a in_b r =
+    let many = ap length (history-join a b r) ∙ length-append (history a r) (drop (count a r) (history b r)) in
     let more = length-drop (count a r) (history b r) in
     elim (cases_lt r 8) [
       | inl lt ↦ omega (arith, many, more, in_a r, in_b r lt)
@@ -72,17 +72,17 @@ module _ (a b : Histories) (lists : List (List Update)) (r : ℕ) (so_far : IsJo
   }
 
 module _ (a b : Histories) (lists : List (List Update)) (n : ℕ) (so_far : IsJoining a b lists n) (all : 8 ≤ n) where
-  each : (r : ℕ) → r < 8 → get_or lists r [] ≡ numbered r 1 (history (union a b) r)
-  each r lt = so_far.done r (omega arith) lt ∙ ap (numbered r 1) (sym (history-union a b r))
+  each : (r : ℕ) → r < 8 → get_or lists r [] ≡ numbered r 1 (history (join a b) r)
+  each r lt = so_far.done r (omega arith) lt ∙ ap (numbered r 1) (sym (history-join a b r))
 
-  pub joining-kept : kept lists ≡ union a b
-  joining-kept = kept-from lists (union a b) each
+  pub joining-represented : represented lists ≡ join a b
+  joining-represented = represented-from lists (join a b) each
 
-  pub joining-keeps : IsWithinLimit a → IsKept lists
-  joining-keeps in_a = IsKept-from lists (union a b) so_far.eight each (union-within a b in_a (λ r lt. so_far.few r (omega arith)))
+  pub joining-keeps : IsWithinLimit a → IsRepresentation lists
+  joining-keeps in_a = IsRepresentation-from lists (join a b) so_far.eight each (join-within a b in_a (λ r lt. so_far.few r (omega arith)))
 
 -- the lists of one replica in two sets that fit agree wherever both reach
-both_at : (f : Deed → Update) (o q : Option Deed) (x y : Update) → ((d e : Deed) → o ≡ Some d → q ≡ Some e → d ≡ e) → option_map f o ≡ Some x → option_map f q ≡ Some y → x ≡ y
+both_at : (f : ObjectOp → Update) (o q : Option ObjectOp) (x y : Update) → ((d e : ObjectOp) → o ≡ Some d → q ≡ Some e → d ≡ e) → option_map f o ≡ Some x → option_map f q ≡ Some y → x ≡ y
 both_at f None q x y same is_x is_y = absurd (none-some x is_x)
 both_at f (Some d) None x y same is_x is_y = absurd (none-some y is_y)
 both_at f (Some d) (Some e) x y same is_x is_y = same_Some x (f d) (sym is_x) ∙ ap f (same d e refl refl) ∙ same_Some (f e) y is_y

@@ -3,49 +3,49 @@ use Rattle.std.proofs.Common.{◌≡◌, ℕ, zero, suc, ◌+◌, ◌<◌, ◌�
 use Rattle.std.proofs.lemmas.List.{length-set, get_or-set_same, get_or-set_other, get_or_default, get_or-replicate, length-map}
 use Rattle.std.proofs.lemmas.Bool.{cases_eq}
 use Rattle.la_set.specs.declared.update.Update.{Update}
-use Rattle.la_set.specs.Deeds.{Deed, deed_of, update_of}
+use Rattle.la_set.specs.ObjectOps.{ObjectOp, object_op_of, update_of}
 use Rattle.la_set.specs.Histories.{Histories, empty, history, count, with_history, numbered, IsWithinLimit}
-use Rattle.la_set.specs.Kept.{kept, IsKept}
-use Rattle.la_set.proofs.NumberedLists.{deeds-numbered, numbered-append}
+use Rattle.la_set.specs.Representation.{represented, IsRepresentation}
+use Rattle.la_set.proofs.NumberedLists.{object_ops-numbered, numbered-append}
 use Rattle.la_set.proofs.SetHistories.{history-from_histories, same_histories, history-with_same, history-with_other, history-empty, count-edited}
 
 -- a list of lists that holds each replica's updates
-pub kept-from : (lists : List (List Update)) (s : Histories) → ((r : ℕ) → r < 8 → get_or lists r [] ≡ numbered r 1 (history s r)) → kept lists ≡ s
-unfolding kept
-kept-from lists s each = same_histories _ _ (λ r lt. history-from_histories (λ q. map deed_of (get_or lists q [])) r lt ∙ ap (map deed_of) (each r lt) ∙ deeds-numbered r 1 (history s r))
+pub represented-from : (lists : List (List Update)) (s : Histories) → ((r : ℕ) → r < 8 → get_or lists r [] ≡ numbered r 1 (history s r)) → represented lists ≡ s
+unfolding represented
+represented-from lists s each = same_histories _ _ (λ r lt. history-from_histories (λ q. map object_op_of (get_or lists q [])) r lt ∙ ap (map object_op_of) (each r lt) ∙ object_ops-numbered r 1 (history s r))
 
-pub IsKept-from : (lists : List (List Update)) (s : Histories) → length lists ≡ 8 → ((r : ℕ) → r < 8 → get_or lists r [] ≡ numbered r 1 (history s r)) → ((r : ℕ) → count s r ≤ 1000000) → IsKept lists
-IsKept-from lists s eight each within =
-    let same = kept-from lists s each in
+pub IsRepresentation-from : (lists : List (List Update)) (s : Histories) → length lists ≡ 8 → ((r : ℕ) → r < 8 → get_or lists r [] ≡ numbered r 1 (history s r)) → ((r : ℕ) → count s r ≤ 1000000) → IsRepresentation lists
+IsRepresentation-from lists s eight each within =
+    let same = represented-from lists s each in
     record { eight = eight; in_order = λ r lt. each r lt ∙ ap (λ t. numbered r 1 (history t r)) (sym same); within = λ r. subst (λ t. count t r ≤ 1000000) (sym same) (within r) }
 
 -- the list of a replica
-pub list_at : (lists : List (List Update)) (s : Histories) (r : ℕ) (d : List Update) → r < 8 → IsKept lists → kept lists ≡ s → get_or lists r d ≡ numbered r 1 (history s r)
+pub list_at : (lists : List (List Update)) (s : Histories) (r : ℕ) (d : List Update) → r < 8 → IsRepresentation lists → represented lists ≡ s → get_or lists r d ≡ numbered r 1 (history s r)
 list_at lists s r d lt keeps is = get_or_default lists r d [] (omega (arith, keeps.eight)) ∙ keeps.in_order r lt ∙ ap (λ t. numbered r 1 (history t r)) is
 
 -- one list in the place of another
-module _ (lists : List (List Update)) (s : Histories) (r : ℕ) (us : List Update) (known : r < 8) (eight : length lists ≡ 8) (each : (q : ℕ) → q < 8 → get_or lists q [] ≡ numbered q 1 (history s q)) (listed : us ≡ numbered r 1 (map deed_of us)) where
-  each_edited : (q : ℕ) → q < 8 → get_or (set lists r us) q [] ≡ numbered q 1 (history (with_history s r (map deed_of us)) q)
+module _ (lists : List (List Update)) (s : Histories) (r : ℕ) (us : List Update) (known : r < 8) (eight : length lists ≡ 8) (each : (q : ℕ) → q < 8 → get_or lists q [] ≡ numbered q 1 (history s q)) (listed : us ≡ numbered r 1 (map object_op_of us)) where
+  each_edited : (q : ℕ) → q < 8 → get_or (set lists r us) q [] ≡ numbered q 1 (history (with_history s r (map object_op_of us)) q)
   each_edited q lt = elim (cases_eq q r) [
-    | inl e ↦ ap (λ p. get_or (set lists r us) p []) e ∙ get_or-set_same lists r us [] (omega (arith, eight)) ∙ listed ∙ ap (λ p. numbered p 1 (map deed_of us)) (sym e) ∙ ap (numbered q 1) (sym (history-with_same s r (map deed_of us) q known e))
-    | inr ne ↦ get_or-set_other lists r q us [] ne ∙ each q lt ∙ ap (numbered q 1) (sym (history-with_other s r (map deed_of us) q ne))
+    | inl e ↦ ap (λ p. get_or (set lists r us) p []) e ∙ get_or-set_same lists r us [] (omega (arith, eight)) ∙ listed ∙ ap (λ p. numbered p 1 (map object_op_of us)) (sym e) ∙ ap (numbered q 1) (sym (history-with_same s r (map object_op_of us) q known e))
+    | inr ne ↦ get_or-set_other lists r q us [] ne ∙ each q lt ∙ ap (numbered q 1) (sym (history-with_other s r (map object_op_of us) q ne))
   ]
 
-  pub kept-edited : kept (set lists r us) ≡ with_history s r (map deed_of us)
-  kept-edited = kept-from _ (with_history s r (map deed_of us)) each_edited
+  pub represented-edited : represented (set lists r us) ≡ with_history s r (map object_op_of us)
+  represented-edited = represented-from _ (with_history s r (map object_op_of us)) each_edited
 
-  pub IsKept-edited : length us ≤ 1000000 → IsWithinLimit s → IsKept (set lists r us)
-  IsKept-edited few within = IsKept-from _ (with_history s r (map deed_of us)) (length-set lists r us ∙ eight) each_edited (count-edited s r (map deed_of us) known (omega (arith, few, length-map us deed_of)) within)
+  pub IsRepresentation-edited : length us ≤ 1000000 → IsWithinLimit s → IsRepresentation (set lists r us)
+  IsRepresentation-edited few within = IsRepresentation-from _ (with_history s r (map object_op_of us)) (length-set lists r us ∙ eight) each_edited (count-edited s r (map object_op_of us) known (omega (arith, few, length-map us object_op_of)) within)
 
 -- a replica's updates are named by their deeds
-pub numbered-deeds : (us : List Update) (r : ℕ) (ds : List Deed) → us ≡ numbered r 1 ds → us ≡ numbered r 1 (map deed_of us)
-numbered-deeds us r ds e = e ∙ ap (numbered r 1) (sym (ap (map deed_of) e ∙ deeds-numbered r 1 ds))
+pub numbered-object_ops : (us : List Update) (r : ℕ) (ds : List ObjectOp) → us ≡ numbered r 1 ds → us ≡ numbered r 1 (map object_op_of us)
+numbered-object_ops us r ds e = e ∙ ap (numbered r 1) (sym (ap (map object_op_of) e ∙ object_ops-numbered r 1 ds))
 
 -- a replica's list with the next update
-pub pushed-list : (s : Histories) (u : Update) (list : List Update) → u.id.number ≡ count s u.id.replica + 1 → list ≡ numbered u.id.replica 1 (history s u.id.replica) ++ u ∷ [] → list ≡ numbered u.id.replica 1 (history s u.id.replica ++ deed_of u ∷ [])
+pub pushed-list : (s : Histories) (u : Update) (list : List Update) → u.id.number ≡ count s u.id.replica + 1 → list ≡ numbered u.id.replica 1 (history s u.id.replica) ++ u ∷ [] → list ≡ numbered u.id.replica 1 (history s u.id.replica ++ object_op_of u ∷ [])
 pushed-list s u list next e =
     let r = u.id.replica in
-    e ∙ sym (numbered-append r 1 (history s r) (deed_of u ∷ []) ∙ ap (λ n. numbered r 1 (history s r) ++ update_of r n (deed_of u) ∷ []) {x = 1 + count s r} {y = u.id.number} (omega (arith, next)))
+    e ∙ sym (numbered-append r 1 (history s r) (object_op_of u ∷ []) ∙ ap (λ n. numbered r 1 (history s r) ++ update_of r n (object_op_of u) ∷ []) {x = 1 + count s r} {y = u.id.number} (omega (arith, next)))
 
 -- eight empty lists
 pub none_each : (r : ℕ) → r < 8 → get_or (replicate 8 []) r [] ≡ numbered r 1 (history empty r)

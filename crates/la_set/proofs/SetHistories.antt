@@ -3,10 +3,10 @@ use Rattle.std.proofs.Common.{◌≡◌, ◌≢◌, ℕ, zero, suc, ◌-◌, ◌
 use Rattle.std.proofs.lemmas.List.{get_or_past, length-append, length-take, nil_from_length, take_all}
 use Rattle.std.proofs.lemmas.Bool.{cases_lt, cases_eq, eq-eqb, ne_eqb}
 use Rattle.la_set.specs.declared.update.Update.{Update}
-use Rattle.la_set.specs.Deeds.{Deed, deed_of}
+use Rattle.la_set.specs.ObjectOps.{ObjectOp, object_op_of}
 use Rattle.la_set.specs.Histories.{Histories, history, from_histories, with_history, empty, count, push, pop, IsNext, IsWithinLimit}
 
-pub history-from_histories : (h : ℕ → List Deed) (r : ℕ) → r < 8 → history (from_histories h) r ≡ h r
+pub history-from_histories : (h : ℕ → List ObjectOp) (r : ℕ) → r < 8 → history (from_histories h) r ≡ h r
 unfolding history from_histories
 history-from_histories h zero lt = refl
 history-from_histories h (suc zero) lt = refl
@@ -39,11 +39,11 @@ pub history-empty : (r : ℕ) → history empty r ≡ []
 unfolding empty
 history-empty r = elim (cases_lt r 8) [ inl lt ↦ history-from_histories (λ q. []) r lt | inr le ↦ history_past _ r le ]
 
-pub history-with_same : (s : Histories) (q : ℕ) (ds : List Deed) (r : ℕ) → q < 8 → r ≡ q → history (with_history s q ds) r ≡ ds
+pub history-with_same : (s : Histories) (q : ℕ) (ds : List ObjectOp) (r : ℕ) → q < 8 → r ≡ q → history (with_history s q ds) r ≡ ds
 unfolding with_history
 history-with_same s q ds r lt e = history-from_histories (λ p. cond (eqb p q) ds (history s p)) r (omega arith) ∙ rw (eq-eqb r q e)
 
-pub history-with_other : (s : Histories) (q : ℕ) (ds : List Deed) (r : ℕ) → r ≢ q → history (with_history s q ds) r ≡ history s r
+pub history-with_other : (s : Histories) (q : ℕ) (ds : List ObjectOp) (r : ℕ) → r ≢ q → history (with_history s q ds) r ≡ history s r
 unfolding with_history
 history-with_other s q ds r ne = elim (cases_lt r 8) [
   | inl lt ↦ history-from_histories (λ p. cond (eqb p q) ds (history s p)) r lt ∙ rw (ne_eqb r q ne)
@@ -62,7 +62,7 @@ with_history-history s r lt = same_histories _ _ (λ q _. elim (cases_eq q r) [
   | inr ne ↦ history-with_other s r (history s r) q ne
 ])
 
-pub with_history-with_history : (s : Histories) (r : ℕ) (xs ys : List Deed) → r < 8 → with_history (with_history s r xs) r ys ≡ with_history s r ys
+pub with_history-with_history : (s : Histories) (r : ℕ) (xs ys : List ObjectOp) → r < 8 → with_history (with_history s r xs) r ys ≡ with_history s r ys
 with_history-with_history s r xs ys lt = same_histories _ _ (λ q _. elim (cases_eq q r) [
   | inl e ↦ history-with_same (with_history s r xs) r ys q lt e ∙ sym (history-with_same s r ys q lt e)
   | inr ne ↦ history-with_other (with_history s r xs) r ys q ne ∙ history-with_other s r xs q ne ∙ sym (history-with_other s r ys q ne)
@@ -73,11 +73,11 @@ pub count-push : (s : Histories) (u : Update) → IsNext s u.id → IsWithinLimi
 count-push s u next within r =
     let q = u.id.replica in
     elim (cases_eq r q) [
-      | inl e ↦ omega (arith, ap length (history-with_same s q (history s q ++ deed_of u ∷ []) r next.known e), length-append (history s q) (deed_of u ∷ []), next.next, next.within)
-      | inr ne ↦ omega (arith, ap length (history-with_other s q (history s q ++ deed_of u ∷ []) r ne), within r)
+      | inl e ↦ omega (arith, ap length (history-with_same s q (history s q ++ object_op_of u ∷ []) r next.known e), length-append (history s q) (object_op_of u ∷ []), next.next, next.within)
+      | inr ne ↦ omega (arith, ap length (history-with_other s q (history s q ++ object_op_of u ∷ []) r ne), within r)
     ]
 
-pub count-edited : (s : Histories) (q : ℕ) (ds : List Deed) → q < 8 → length ds ≤ 1000000 → IsWithinLimit s → IsWithinLimit (with_history s q ds)
+pub count-edited : (s : Histories) (q : ℕ) (ds : List ObjectOp) → q < 8 → length ds ≤ 1000000 → IsWithinLimit s → IsWithinLimit (with_history s q ds)
 count-edited s q ds known few within r = elim (cases_eq r q) [
   | inl e ↦ omega (arith, ap length (history-with_same s q ds r known e))
   | inr ne ↦ omega (arith, ap length (history-with_other s q ds r ne), within r)

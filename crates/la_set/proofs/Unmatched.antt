@@ -5,7 +5,7 @@ use Rattle.std.proofs.lemmas.List.{drop_more, drop_all, take_all, length-take, l
 use Rattle.std.proofs.lemmas.Option.{slice_get_within, slice_get_past, get_or_from_slice_get, slice_get-get_or}
 use Rattle.std.proofs.lemmas.Bool.{cases_lt, false_from_ne_true}
 use Rattle.la_set.specs.declared.update.Update.{Update}
-use Rattle.la_set.specs.Deeds.{Deed, update_of, update_eq}
+use Rattle.la_set.specs.ObjectOps.{ObjectOp, update_of, update_eq}
 use Rattle.la_set.specs.Histories.{Histories, history, ContainsUpdate, is_update, has_update, numbered}
 use Rattle.la_set.specs.Difference.{lacks, unmatched}
 use Rattle.la_set.proofs.Decisions.{update_eq-Decides, has_update-Decides}
@@ -77,17 +77,17 @@ from_end xs ys n le = sym (ap (λ us. reverse (unmatched us (drop n ys))) (drop_
 -- ## What a set lacks of a replica's updates
 
 module _ (s : Histories) (r : ℕ) where
-  has_none : (m : ℕ) (d : Deed) → length (history s r) ≤ m → has_update s (update_of r (suc m) d) ≡ false
+  has_none : (m : ℕ) (d : ObjectOp) → length (history s r) ≤ m → has_update s (update_of r (suc m) d) ≡ false
   has_none m d le = ap (λ o. is_update (option_map (update_of r (suc m)) o) (update_of r (suc m) d)) (slice_get_past (history s r) m le)
 
-  has_some : (m : ℕ) (d e : Deed) → slice_get (history s r) m ≡ Some e → has_update s (update_of r (suc m) d) ≡ update_eq (update_of r (suc m) e) (update_of r (suc m) d)
+  has_some : (m : ℕ) (d e : ObjectOp) → slice_get (history s r) m ≡ Some e → has_update s (update_of r (suc m) d) ≡ update_eq (update_of r (suc m) e) (update_of r (suc m) d)
   has_some m d e got = ap (λ o. is_update (option_map (update_of r (suc m)) o) (update_of r (suc m) d)) got
 
   chosen : (b : Bool) (u : Update) (us : List Update) → cond (not b) (u ∷ us) us ≡ cond b us (u ∷ us)
   chosen true u us = refl
   chosen false u us = refl
 
-  pub lacked-is : (m : ℕ) (ds : List Deed) → filter (lacks s) (numbered r (suc m) ds) ≡ unmatched (numbered r (suc m) ds) (numbered r (suc m) (drop m (history s r)))
+  pub lacked-is : (m : ℕ) (ds : List ObjectOp) → filter (lacks s) (numbered r (suc m) ds) ≡ unmatched (numbered r (suc m) ds) (numbered r (suc m) (drop m (history s r)))
   lacked-is m [] = refl
   lacked-is m (d ∷ ds) = elim (cases_lt m (length (history s r))) [
     | inl lt ↦
@@ -138,7 +138,7 @@ module _ (all items : List Update) (len k : ℕ) (next : len ≡ k + 1) (is : it
       (is ∙ take_all len all (omega (arith, next, few)) ∙ sym (take_all k all few), slice_get_past all k few)
 
 -- of two sets' lists of a replica, what the first has and the second set has not
-pub lacked-lists : (s : Histories) (r : ℕ) (ds : List Deed) (us vs : List Update) → us ≡ numbered r 1 ds → vs ≡ numbered r 1 (history s r) → unmatched us vs ≡ filter (lacks s) (numbered r 1 ds)
+pub lacked-lists : (s : Histories) (r : ℕ) (ds : List ObjectOp) (us vs : List Update) → us ≡ numbered r 1 ds → vs ≡ numbered r 1 (history s r) → unmatched us vs ≡ filter (lacks s) (numbered r 1 ds)
 lacked-lists s r ds us vs mine theirs = ap (λ ws. unmatched ws vs) mine ∙ ap (unmatched (numbered r 1 ds)) theirs ∙ sym (lacked-is s r 0 ds)
 
 -- where all are there, nothing is lacked

@@ -1,11 +1,11 @@
 pub mod Links
 pub mod Ids
 pub mod Tags
-pub mod Deeds
+pub mod ObjectOps
 pub mod Histories
 pub mod Inclusion
 pub mod Join
 pub mod Difference
 pub mod Agreement
-pub mod Kept
+pub mod Representation
 pub mod Refusals

@@ -3,7 +3,7 @@ ghost use Rattle.std.specs.Prelude.{◌≡◌, ℕ, ◌+◌, ◌++◌, ◌<◌, 
 ghost use Rattle.std.specs.Option.{option_copied};
 ghost use Rattle.la_set.specs.Histories.{updates};
 ghost use Rattle.la_set.specs.Inclusion.{IsSubset, is_subset, IsOrderOf};
-ghost use Rattle.la_set.specs.Join.{HasNoMore, IsCompatible, IsLeastClash, union};
+ghost use Rattle.la_set.specs.Join.{HasNoMore, IsCompatible, IsLeastClash, join};
 ghost use Rattle.la_set.specs.Difference.{beyond, unmatched};
 ghost use Rattle.la_set.specs.declared.set.TheConstants.{MAX_NUMBER};
 ghost use Rattle.la_set.specs.Links.{items_of};
@@ -67,7 +67,7 @@ impl UpdateSet {
     /// one nothing changes, and no memory is taken. The cost is that of comparing the updates that both
     /// have; what is added is shared.
     pub fn union(&mut self, other: &UpdateSet) -> Result<(), SetError>
-        ensures ok { OnOk result (self.new ≡ union self.old other.now) }
+        ensures ok { OnOk result (self.new ≡ join self.old other.now) }
         ensures compatible { OnOk result (IsCompatible self.old other.now) }
         ensures error { IfErr result (IsUnionRefusal self.old other.now) }
         ensures err { OnErr result (self.new ≡ self.old) }
@@ -137,7 +137,7 @@ impl UpdateSet {
     /// and no memory is taken. The cost is that of comparing the updates of the replicas of which the
     /// other set has more: where these agree what is added is shared, and else it is copied.
     pub fn join(&mut self, other: &UpdateSet) -> Result<(), AllocError>
-        ensures ok { OnOk result (self.new ≡ union self.old other.now) }
+        ensures ok { OnOk result (self.new ≡ join self.old other.now) }
         ensures err { OnErr result (self.new ≡ self.old) }
         ensures room { HasNoMore other.now self.old → IsOk result }
         ensures nothing { HasNoMore other.now self.old → self.new ≡ self.old }
@@ -159,7 +159,7 @@ impl UpdateSet {
     /// unchanged. Where the other set lies in this one nothing changes, and no memory is taken.
     pub fn join_compatible(&mut self, other: &UpdateSet) -> Result<(), AllocError>
         requires { IsCompatible self.old other.now }
-        ensures ok { OnOk result (self.new ≡ union self.old other.now) }
+        ensures ok { OnOk result (self.new ≡ join self.old other.now) }
         ensures err { OnErr result (self.new ≡ self.old) }
         ensures room { HasNoMore other.now self.old → IsOk result }
         ensures nothing { HasNoMore other.now self.old → self.new ≡ self.old }

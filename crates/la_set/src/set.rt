@@ -1,10 +1,10 @@
 ghost use Rattle.std.specs.Prelude.{◌≡◌, ℕ, [], ◌+◌, ◌<◌, ◌≤◌, length, map, take, slice_get, slice_index_or, IsOk, IfOk, IfErr, OnOk, OnErr};
 ghost use Rattle.std.specs.Option.{option_copied};
-ghost use Rattle.la_set.specs.Deeds.{deed_of};
+ghost use Rattle.la_set.specs.ObjectOps.{object_op_of};
 ghost use Rattle.la_set.specs.Histories.{empty, history, updates, numbered, count, get, push, pop, with_history, IsNext, IsWithinLimit};
 ghost use Rattle.la_set.specs.Refusals.{IsPushRefusal};
 ghost use Rattle.la_set.specs.Links.{items_of};
-ghost use Rattle.la_set.specs.Kept.{kept, IsKept};
+ghost use Rattle.la_set.specs.Representation.{represented, IsRepresentation};
 
 use crate::history::{History, Lent, item_at, len_of};
 use crate::{SetError, Update, UpdateId};
@@ -33,11 +33,11 @@ impl Model for UpdateSet {
 
     ghost Value = { Histories };
 
-    ghost use Rattle.la_set.specs.Kept.{kept, lists_of, IsKept};
+    ghost use Rattle.la_set.specs.Representation.{represented, lists_of, IsRepresentation};
 
-    ghost view = { λ s. kept (lists_of s.of) };
+    ghost view = { λ s. represented (lists_of s.of) };
 
-    ghost invariant = { λ s. IsKept (lists_of s.of) };
+    ghost invariant = { λ s. IsRepresentation (lists_of s.of) };
 }
 
 impl UpdateSet {
@@ -205,8 +205,8 @@ impl UpdateSet {
 
     // The set that keeps these lists.
     pub(crate) fn keeping(alloc: Global, of: [History<Update>; 8]) -> Result<UpdateSet, AllocError>
-        requires { IsKept of }
-        ensures { IfOk result (λ set. set ≡ kept of) }
+        requires { IsRepresentation of }
+        ensures { IfOk result (λ set. set ≡ represented of) }
     {
         Ok(UpdateSet {
             alloc,
@@ -217,9 +217,9 @@ impl UpdateSet {
     // Puts a list in the place of a replica's.
     fn put(&mut self, replica: u8, list: History<Update>) -> Result<(), AllocError>
         requires known { replica < REPLICAS }
-        requires numbered { list ≡ numbered replica 1 (map deed_of list) }
+        requires numbered { list ≡ numbered replica 1 (map object_op_of list) }
         requires within { length list ≤ MAX_NUMBER }
-        ensures ok { OnOk result (self.new ≡ with_history self.old replica (map deed_of list)) }
+        ensures ok { OnOk result (self.new ≡ with_history self.old replica (map object_op_of list)) }
         ensures err { OnErr result (self.new ≡ self.old) }
     {
         let mut of = self.histories()?;

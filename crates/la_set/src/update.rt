@@ -1,5 +1,5 @@
 ghost use Rattle.std.specs.Prelude.{◌≡◌, ◌↔◌, IsOk, IsTrue, IfOk};
-ghost use Rattle.la_set.specs.Deeds.{CopiesInPlace};
+ghost use Rattle.la_set.specs.ObjectOps.{CopiesInPlace};
 
 use crate::Tags;
 use crate::history::Same;

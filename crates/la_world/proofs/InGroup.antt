@@ -6,7 +6,7 @@ use Rattle.std.proofs.lemmas.Bool.{and_parts}
 use Rattle.std.proofs.lemmas.List.{length_push}
 use Rattle.std.proofs.lemmas.Option.{same_Some, none-some}
 use Rattle.std.specs.List.{cons_option}
-use Rattle.la_set.specs.Deeds.{Deed}
+use Rattle.la_set.specs.ObjectOps.{ObjectOp}
 use Rattle.la_set.specs.Inclusion.{IsSubset}
 use Rattle.la_replica.specs.Whole.{Message}
 use Rattle.la_replica.specs.Messages.{group, offer_to}
@@ -17,14 +17,14 @@ use Rattle.la_world.specs.Trace.{Did, Entry, Trace}
 use Rattle.la_world.specs.Sent.{sender_for, ballot_of, offers_for, offers_for_next, tells_for, sent_by, sent}
 use Rattle.la_world.specs.Ballots.{opened_by, learnt_by, only, ballots, round}
 use Rattle.la_world.specs.Votes.{Submission, own_vote, second_vote_of, second_vote}
-use Rattle.la_world.specs.Submissions.{submission_by, second_vote_after, deed_in, submitted, alone}
+use Rattle.la_world.specs.Submissions.{submission_by, second_vote_after, object_op_in, submitted, alone}
 use Rattle.la_world.specs.Playing.{counts, entry, trace}
 use Rattle.la_world.specs.Report.{refused}
 use Rattle.la_world.specs.StandsFor.{IsLegal}
 use Rattle.la_world.proofs.Lists.{IsIn, AllIn, AllIn-append, AllIn-made, AllIn_at}
-use Rattle.la_world.proofs.Happens.{Opens, Source, gathers, joins, Happens, silent, opens, answers_offer, refines, learns, Step, step_opens, step}
-use Rattle.la_world.proofs.Quorum.{counts_is, open_in, tells_all, group_within, happens_learns}
-use Rattle.la_world.proofs.Honest.{alone_within}
+use Rattle.la_world.proofs.EventCases.{Opens, Source, gathers, joins, EventCases, silent, opens, answers_offer, refines, learns, Step, step_opens, step}
+use Rattle.la_world.proofs.Quorum.{counts_is, open_in, tells_all, group_within, event_learns}
+use Rattle.la_world.proofs.SubmittedBound.{alone_within}
 use Rattle.la_world.proofs.Allowing.{submitter_known, submitter_room, proposer_known, object_known}
 use Rattle.la_world.proofs.Openings.{only_is, round_is}
 
@@ -50,21 +50,21 @@ pub record IsSubmitted (x : Entry) (t : Trace) (i r : ℕ) : Type 0 where
   pub by : submission_by x.event x.did ≡ Some submission
   pub instance : submission.instance ≡ i
   pub replica : submission.replica ≡ r
-  pub all : submitted (x ∷ t) i r ≡ submitted t i r ++ submission.deed ∷ []
+  pub all : submitted (x ∷ t) i r ≡ submitted t i r ++ submission.object_op ∷ []
 
 pub submitted_by : (x : Entry) (t : Trace) (i r : ℕ) → (submitted (x ∷ t) i r ≡ submitted t i r) ⊎ IsSubmitted x t i r
 unfolding submitted
 submitted_by x t i r = go (submission_by x.event x.did) refl
   where
     go : (o : Option Submission) → submission_by x.event x.did ≡ o → (submitted (x ∷ t) i r ≡ submitted t i r) ⊎ IsSubmitted x t i r
-    go None e = inl (ap (λ z. submitted t i r ++ deed_in i r z) e ∙ append-nil (submitted t i r))
+    go None e = inl (ap (λ z. submitted t i r ++ object_op_in i r z) e ∙ append-nil (submitted t i r))
     go (Some s) e = here ((s.instance == i) && (s.replica == r)) refl
       where
         here : (v : Bool) → ((s.instance == i) && (s.replica == r)) ≡ v → (submitted (x ∷ t) i r ≡ submitted t i r) ⊎ IsSubmitted x t i r
-        here false k = inl (ap (λ z. submitted t i r ++ deed_in i r z) e ∙ ap (λ v. submitted t i r ++ cond v (s.deed ∷ []) []) k ∙ append-nil (submitted t i r))
+        here false k = inl (ap (λ z. submitted t i r ++ object_op_in i r z) e ∙ ap (λ v. submitted t i r ++ cond v (s.object_op ∷ []) []) k ∙ append-nil (submitted t i r))
         here true k =
             let p = and_parts (s.instance == i) (s.replica == r) k in
-            inr record { submission = s; by = e; instance = eqb-true s.instance i p.0; replica = eqb-true s.replica r p.1; all = ap (λ z. submitted t i r ++ deed_in i r z) e ∙ ap (λ v. submitted t i r ++ cond v (s.deed ∷ []) []) k }
+            inr record { submission = s; by = e; instance = eqb-true s.instance i p.0; replica = eqb-true s.replica r p.1; all = ap (λ z. submitted t i r ++ object_op_in i r z) e ∙ ap (λ v. submitted t i r ++ cond v (s.object_op ∷ []) []) k }
 
 module _ (g : Group) (t : Trace) (h : Grouped g t) where
   -- where a ballot is open
@@ -108,7 +108,7 @@ module _ (g : Group) (t : Trace) (h : Grouped g t) where
     next_between None ok = tt
     next_between (Some b) ok = offers_between b (ok b refl)
 
-    new_between : (v : Event) (m : Option Message) (d : Did) → Happens g t v m d → ((b : Opening) → opened_by d ≡ Some b → IsOfGroup g b.instance b.replica) → ((k : Message) → m ≡ Some k → IsBetween g k) → AllIn (IsBetween g) (sent_by (replicas g) m d)
+    new_between : (v : Event) (m : Option Message) (d : Did) → EventCases g t v m d → ((b : Opening) → opened_by d ≡ Some b → IsOfGroup g b.instance b.replica) → ((k : Message) → m ≡ Some k → IsBetween g k) → AllIn (IsBetween g) (sent_by (replicas g) m d)
     new_between v m d (silent o l s) ok k = subst (AllIn (IsBetween g)) (sym s) tt
     new_between v m d (opens b o) ok k = offers_between b (ok b refl)
     new_between v m d (answers_offer c s e) ok k = let w = k c refl in (record { instance = w.instance; from = w.to; to = w.from }, tt)
@@ -127,7 +127,7 @@ module _ (g : Group) (t : Trace) (h : Grouped g t) where
       submissions = submissions_more;
       ballots = ballots_more;
       messages = AllIn-append (IsBetween g) (sent (replicas g) t) (sent_by (replicas g) x.delivered x.did) h.messages
-          (new_between x.event x.delivered x.did step.happens (λ b e. opened_grouped b (step_opens g t x step b e)) (λ m e. AllIn_at (IsBetween g) (sent (replicas g) t) m h.messages (step.was_sent m e)));
+          (new_between x.event x.delivered x.did step.cases (λ b e. opened_grouped b (step_opens g t x step b e)) (λ m e. AllIn_at (IsBetween g) (sent (replicas g) t) m h.messages (step.was_sent m e)));
     }
 
 -- ## What is not refused
@@ -154,9 +154,9 @@ vote_after (Some b) s e = (b, refl, e)
 
 -- what an event submits that is not refused
 submits_grouped : (g : Group) (t : Trace) (e : Event) → Grouped g t → refused g t e ≡ None → (s : Submission) → submission_by e (entry g t e).did ≡ Some s → IsOfGroup g s.instance s.replica
-submits_grouped g t (Submit r deed) h allowed s e =
+submits_grouped g t (Submit r object_op) h allowed s e =
     let same = same_Some _ s e in
-    subst (λ (z : Submission). IsOfGroup g z.instance z.replica) same (record { instance = omega arith; replica = submitter_known g t r deed allowed })
+    subst (λ (z : Submission). IsOfGroup g z.instance z.replica) same (record { instance = omega arith; replica = submitter_known g t r object_op allowed })
 submits_grouped g t (Decide r k value) h allowed s e =
     let same = same_Some _ s e in
     let lt = object_known g t r k value allowed in
@@ -165,7 +165,7 @@ submits_grouped g t (Deliver k) h allowed s e =
     let x = entry g t (Deliver k) in
     let v = vote_after (learnt_by x.did) s e in
     let b = v.0 in
-    let end = happens_learns g t x.event x.delivered x.did (step g t (Deliver k)).happens b v.1 in
+    let end = event_learns g t x.event x.delivered x.did (step g t (Deliver k)).cases b v.1 in
     let ok = open_grouped g t h b.instance b.replica (open_in t b.instance b.replica end.asking) in
     let is = second_vote_is b s v.2 in
     record {
@@ -189,10 +189,10 @@ grouped g (e ∷ events) legal =
 
 -- the event submits this in instance 0
 capped_more : (g : Group) (t : Trace) (e : Event) → refused g t e ≡ None → (q : ℕ) → length (submitted t 0 q) ≤ g.cap → IsSubmitted (entry g t e) t 0 q → length (submitted (entry g t e ∷ t) 0 q) ≤ g.cap
-capped_more g t (Submit r deed) allowed q le s =
+capped_more g t (Submit r object_op) allowed q le s =
     let same : r ≡ q = ap (λ (z : Submission). z.replica) (same_Some _ s.submission s.by) ∙ s.replica in
-    let room : length (submitted t 0 q) < g.cap = subst (λ p. length (submitted t 0 p) < g.cap) same (submitter_room g t r deed allowed) in
-    omega (arith, room, ap length s.all ∙ length_push (submitted t 0 q) s.submission.deed)
+    let room : length (submitted t 0 q) < g.cap = subst (λ p. length (submitted t 0 p) < g.cap) same (submitter_room g t r object_op allowed) in
+    omega (arith, room, ap length s.all ∙ length_push (submitted t 0 q) s.submission.object_op)
 capped_more g t (Decide r k value) allowed q le s =
     let at : first_instance k ≡ 0 = ap (λ (z : Submission). z.instance) (same_Some _ s.submission s.by) ∙ s.instance in
     absurd (omega (arith, at))
@@ -207,6 +207,6 @@ capped g [] legal q = omega arith
 capped g (e ∷ events) legal q =
     let t = trace g events in
     elim (submitted_by (entry g t e) t 0 q) [
-      | inl same ↦ subst (λ (zs : List Deed). length zs ≤ g.cap) (sym same) (capped g events legal.1 q)
+      | inl same ↦ subst (λ (zs : List ObjectOp). length zs ≤ g.cap) (sym same) (capped g events legal.1 q)
       | inr s ↦ capped_more g t e legal.0 q (capped g events legal.1 q) s
     ]

@@ -1,11 +1,11 @@
 mod Lists
-mod Happens
+mod EventCases
 mod Accepted
 mod Quorum
 mod GrowingViews
 mod Chains
 mod Within
-mod Honest
+mod SubmittedBound
 mod Growth
 mod TakenUpdates
 mod Validity
@@ -15,9 +15,9 @@ mod Order
 pub mod OwnHistories
 pub mod Sizes
 pub mod Openings
-pub mod Elsewhere
-pub mod Known
-pub mod Members
+pub mod Unaffected
+pub mod OwnBound
+pub mod OneReplicaSteps
 pub mod Allowing
 pub mod InGroup
 pub mod Traces
@@ -27,12 +27,12 @@ pub mod Submitting
 pub mod Replying
 pub mod Delivering
 pub mod Legal
-pub mod Fitting
+pub mod RefusedForMemory
 pub mod Starting
-pub mod KeptMessages
+pub mod StoredMessages
 pub mod Shown
 pub mod TellCounts
-pub mod Standing
+pub mod WorldSteps
 pub mod SentCounts
 pub mod Receivers
 pub mod Worlds

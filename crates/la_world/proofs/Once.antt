@@ -7,7 +7,7 @@ use Rattle.std.proofs.lemmas.Bool.{true≢false, cond-false, cases_eq}
 use Rattle.std.proofs.lemmas.List.{length_push}
 use Rattle.std.proofs.lemmas.Option.{same_Some, none-some}
 use Rattle.la_set.specs.declared.update.Update.{Update}
-use Rattle.la_set.specs.Deeds.{Deed}
+use Rattle.la_set.specs.ObjectOps.{ObjectOp}
 use Rattle.la_set.specs.Histories.{history, count, get}
 use Rattle.la_set.specs.Inclusion.{IsSubset}
 use Rattle.la_set.proofs.Prefixes.{IsPrefix, IsPrefix-antisym}
@@ -23,10 +23,10 @@ use Rattle.la_world.specs.Playing.{entry, trace}
 use Rattle.la_world.specs.Report.{refused}
 use Rattle.la_world.specs.StandsFor.{IsLegal}
 use Rattle.la_world.proofs.Openings.{only_of, round-same, is_open-same, is_open-learnt, only_is}
-use Rattle.la_world.proofs.Happens.{Source, gathers, joins, Step, step_opens, step}
-use Rattle.la_world.proofs.Quorum.{counts_is, happens_learns}
+use Rattle.la_world.proofs.EventCases.{Source, gathers, joins, Step, step_opens, step}
+use Rattle.la_world.proofs.Quorum.{counts_is, event_learns}
 use Rattle.la_world.proofs.OwnHistories.{IsPrefix-trans}
-use Rattle.la_world.proofs.Honest.{alone_within, prefix_same, submitted_prefix}
+use Rattle.la_world.proofs.SubmittedBound.{alone_within, prefix_same, submitted_prefix}
 use Rattle.la_world.proofs.Traces.{Holds, holds, own}
 use Rattle.la_world.proofs.InGroup.{IsSubmitted, submitted_by, second_vote_is, vote_after, capped}
 use Rattle.la_world.proofs.Allowing.{not_proposed}
@@ -113,7 +113,7 @@ module _ (g : Group) (t : Trace) (x : Entry) (h : Holds g t) (step_is : Step g t
       i = first_instance k
 
       last : round t i r ≡ b
-      last = subst₂ (λ j q. round t j q ≡ b) ei er (happens_learns g t x.event x.delivered x.did step_is.happens b e).is_last
+      last = subst₂ (λ j q. round t j q ≡ b) ei er (event_learns g t x.event x.delivered x.did step_is.cases b e).is_last
 
       voted_before : 1 ≤ count (round t i r).updates r
       voted_before = subst (λ (c : Opening). 1 ≤ count c.updates r) (sym last) (subst (λ q. 1 ≤ count b.updates q) er (has_voted b s vote))
@@ -128,7 +128,7 @@ voted_first i k first e = let odd = eqb-true (i % 2) 1 first in omega (arith, di
 module _ (g : Group) (t : Trace) (h : Holds g t) (v : VotesOnce t) where
   -- a proposal is the first one
   first_at : (e : Event) → refused g t e ≡ None → (k r : ℕ) → IsSubmitted (entry g t e) t (first_instance k) r → length (submitted (entry g t e ∷ t) (first_instance k) r) ≤ 1
-  first_at (Submit q deed) allowed k r s =
+  first_at (Submit q object_op) allowed k r s =
       let at : 0 ≡ first_instance k = ap (λ (z : Submission). z.instance) (same_Some _ s.submission s.by) ∙ s.instance in
       absurd (omega (arith, at))
   first_at (Decide q j value) allowed k r s =
@@ -136,7 +136,7 @@ module _ (g : Group) (t : Trace) (h : Holds g t) (v : VotesOnce t) where
       let at : first_instance j ≡ first_instance k = ap (λ (z : Submission). z.instance) same ∙ s.instance in
       let by : q ≡ r = ap (λ (z : Submission). z.replica) same ∙ s.replica in
       let none : length (submitted t (first_instance k) r) < 1 = subst₂ (λ i p. length (submitted t i p) < 1) at by (not_proposed g t q j value allowed) in
-      omega (arith, none, ap length s.all ∙ length_push (submitted t (first_instance k) r) s.submission.deed)
+      omega (arith, none, ap length s.all ∙ length_push (submitted t (first_instance k) r) s.submission.object_op)
   first_at (Deliver j) allowed k r s =
       let w = vote_after (learnt_by (entry g t (Deliver j)).did) s.submission s.by in
       let is = second_vote_is w.0 s.submission w.2 in
@@ -144,13 +144,13 @@ module _ (g : Group) (t : Trace) (h : Holds g t) (v : VotesOnce t) where
 
   first_more : (e : Event) → refused g t e ≡ None → (k r : ℕ) → length (submitted (entry g t e ∷ t) (first_instance k) r) ≤ 1
   first_more e allowed k r = elim (submitted_by (entry g t e) t (first_instance k) r) [
-    | inl same ↦ subst (λ (zs : List Deed). length zs ≤ 1) (sym same) (v.first k r)
+    | inl same ↦ subst (λ (zs : List ObjectOp). length zs ≤ 1) (sym same) (v.first k r)
     | inr s ↦ first_at e allowed k r s
   ]
 
   -- a second vote comes by a learning in the first instance
   second_at : (e : Event) → refused g t e ≡ None → (k r : ℕ) → IsSubmitted (entry g t e) t (second_instance k) r → IsDone (entry g t e ∷ t) k r × (length (submitted (entry g t e ∷ t) (second_instance k) r) ≤ 1)
-  second_at (Submit q deed) allowed k r s =
+  second_at (Submit q object_op) allowed k r s =
       let at : 0 ≡ second_instance k = ap (λ (z : Submission). z.instance) (same_Some _ s.submission s.by) ∙ s.instance in
       absurd (omega (arith, at))
   second_at (Decide q j value) allowed k r s =
@@ -163,10 +163,10 @@ module _ (g : Group) (t : Trace) (h : Holds g t) (v : VotesOnce t) where
       let is = second_vote_is b s.submission w.2 in
       let ei : b.instance ≡ first_instance k = voted_first b.instance k is.0 (sym is.1 ∙ s.instance) in
       let er : b.replica ≡ r = sym is.2 ∙ s.replica in
-      let asking = subst₂ (λ i q. is_open t i q ≡ true) ei er (happens_learns g t x.event x.delivered x.did (step g t (Deliver j)).happens b w.1).asking in (
+      let asking = subst₂ (λ i q. is_open t i q ≡ true) ei er (event_learns g t x.event x.delivered x.did (step g t (Deliver j)).cases b w.1).asking in (
         now_done g t x h (step g t (Deliver j)) k r (first_more (Deliver j) allowed k r) b s.submission w.1 w.2 ei er,
         elim (v.done k r) [
-          | inl none ↦ omega (arith, ap length none, ap length s.all ∙ length_push (submitted t (second_instance k) r) s.submission.deed)
+          | inl none ↦ omega (arith, ap length none, ap length s.all ∙ length_push (submitted t (second_instance k) r) s.submission.object_op)
           | inr d ↦ absurd (true≢false (sym asking ∙ d.closed))
         ],
       )
@@ -175,7 +175,7 @@ module _ (g : Group) (t : Trace) (h : Holds g t) (v : VotesOnce t) where
   votes_more e allowed = record {
     first = first_more e allowed;
     second = λ k r. elim (submitted_by (entry g t e) t (second_instance k) r) [
-      | inl same ↦ subst (λ (zs : List Deed). length zs ≤ 1) (sym same) (v.second k r)
+      | inl same ↦ subst (λ (zs : List ObjectOp). length zs ≤ 1) (sym same) (v.second k r)
       | inr s ↦ (second_at e allowed k r s).1
     ];
     done = λ k r. elim (submitted_by (entry g t e) t (second_instance k) r) [

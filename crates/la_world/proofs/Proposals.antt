@@ -14,8 +14,8 @@ use Rattle.la_world.specs.Submissions.{submitted}
 use Rattle.la_world.specs.Playing.{entry, trace}
 use Rattle.la_world.specs.Report.{refused}
 use Rattle.la_world.specs.Laws.{SecondProposalsAreRefused, AreTestedInOrder, ProposalsAreTestedInOrder, LimitsAre}
-use Rattle.la_world.proofs.Happens.{submitted_with}
-use Rattle.la_world.proofs.Honest.{submitted_prefix}
+use Rattle.la_world.proofs.EventCases.{submitted_with}
+use Rattle.la_world.proofs.SubmittedBound.{submitted_prefix}
 use Rattle.la_world.proofs.Allowing.{proposer_known, object_known}
 
 -- ## One proposal
@@ -58,7 +58,7 @@ is_submitted : (g : Group) (events : List Event) (r k value : ℕ) → 1 ≤ len
 unfolding trace
 is_submitted g events r k value =
     let t = trace g events in
-    let vote : Submission = record { instance = first_instance k; replica = r; deed = first_vote k value } in
+    let vote : Submission = record { instance = first_instance k; replica = r; object_op = first_vote k value } in
     omega (arith, ap length (submitted_with (entry g t (Decide r k value)) t (first_instance k) r vote refl refl refl) ∙ length_push (submitted t (first_instance k) r) (first_vote k value))
 
 -- what is submitted stays so

@@ -6,12 +6,12 @@ use Rattle.std.proofs.Math.Nat.{ℕ_set}
 use Rattle.std.proofs.Math.Bridge.{le_prop}
 use Rattle.std.proofs.lemmas.Bool.{false≢true}
 use Rattle.la_set.specs.Histories.{Histories}
-use Rattle.la_set.specs.Deeds.{update_eq}
+use Rattle.la_set.specs.ObjectOps.{update_eq}
 use Rattle.la_set.specs.Join.{IsCompatible}
 use Rattle.la_set.proofs.Decisions.{update_eq-Decides}
 use Rattle.la_replica.specs.declared.instance.Instance.{Instance}
 use Rattle.la_replica.specs.Whole.{Message, Body, Offer, Yes, No, Tell}
-use Rattle.la_replica.specs.Members.{Member}
+use Rattle.la_replica.specs.ReplicaState.{ReplicaState}
 use Rattle.la_replica.specs.Refusals.{IsFor, FitsBody, SparesBody}
 use Rattle.la_replica.specs.Fitting.{FitsReceiver, FitsViewBody}
 
@@ -48,10 +48,10 @@ module _ {A : Type 0} (some : ∥ A ∥₁) where
   in_some None P f h = absurd (never h)
   in_some (Some at) P f h = f at h
 
-  is_for : (m : Member) (message : Message) → (A → IsFor m message) → IsFor m message
+  is_for : (m : ReplicaState) (message : Message) → (A → IsFor m message) → IsFor m message
   is_for m message h = (∥∥₁_elim some (hlevel (ℕ_set, le_prop)) (λ x. (h x).0), ∥∥₁_elim some (hlevel (ℕ_set, le_prop)) (λ x. (h x).1))
 
-pub fits_from : {A : Type 0} (at : Member) (m : Message) → ∥ A ∥₁ → (A → FitsReceiver at m) → FitsReceiver at m
+pub fits_from : {A : Type 0} (at : ReplicaState) (m : Message) → ∥ A ∥₁ → (A → FitsReceiver at m) → FitsReceiver at m
 fits_from at m some h = record {
   receivable = (
     is_for some at m (λ x. (h x).receivable.0),

@@ -21,33 +21,33 @@ use Rattle.la_world.specs.Counting.{reply_at, replies, counted}
 use Rattle.la_world.specs.Submissions.{submitted, whole}
 use Rattle.la_world.specs.Playing.{trace}
 use Rattle.la_world.proofs.Lists.{IsIn, AllIn, AllIn-append, AllIn_at}
-use Rattle.la_world.proofs.Happens.{Step, each}
+use Rattle.la_world.proofs.EventCases.{Step, each}
 use Rattle.la_world.proofs.Sizes.{total, total_strict}
-use Rattle.la_world.proofs.Quorum.{Numbered, last_number, numbered_below, MessageStands, ReplyStands, IsCountBacked, firsts_all, reply_backed, Sound, sound_start, sound_more}
+use Rattle.la_world.proofs.Quorum.{Numbered, last_number, numbered_below, IsJustifiedMessage, IsJustifiedReply, IsCountBacked, firsts_all, reply_backed, QuorumInvariant, quorum_start, quorum_more}
 use Rattle.la_world.proofs.Within.{IsMessageWithin, IsCountWithin, AreWithin, round_within, within_start}
-use Rattle.la_world.proofs.Honest.{history-whole, Honest, honest_more, round_honest}
-use Rattle.la_world.proofs.Known.{known, known_more}
+use Rattle.la_world.proofs.SubmittedBound.{history-whole, IsWithinSubmitted, submitted_bound_more, round_submitted}
+use Rattle.la_world.proofs.OwnBound.{own_bound, known_more}
 use Rattle.la_world.proofs.Growth.{Growing, growing_more}
 
 pub record Holds (g : Group) (t : Trace) : Type 0 where
   -- numbers name ballots, and acknowledgements have places
-  pub sound : Sound g t
+  pub quorum : QuorumInvariant g t
   -- no set has more than was submitted, nor more of a replica than this replica's last ballot
-  pub honest : Honest g t
-  pub within : AreWithin known g t
+  pub submitted : IsWithinSubmitted g t
+  pub within : AreWithin own_bound g t
   -- each ballot is strictly larger than the one before
   pub growing : (i r : ℕ) → Growing i r (ballots t i r)
 
 holds_start : (g : Group) → Holds g []
 unfolding ballots
-holds_start g = record { sound = sound_start g; honest = within_start whole g; within = within_start known g; growing = λ i r. tt }
+holds_start g = record { quorum = quorum_start g; submitted = within_start whole g; within = within_start own_bound g; growing = λ i r. tt }
 
 holds_more : (g : Group) (t : Trace) (x : Entry) → Step g t x → Holds g t → Holds g (x ∷ t)
 holds_more g t x step h = record {
-  sound = sound_more g t x step h.sound;
-  honest = honest_more g t x step h.honest;
+  quorum = quorum_more g t x step h.quorum;
+  submitted = submitted_bound_more g t x step h.submitted;
   within = known_more g t x step h.within;
-  growing = λ i r. growing_more g t x step h.sound h.honest i r (h.growing i r);
+  growing = λ i r. growing_more g t x step h.quorum h.submitted i r (h.growing i r);
 }
 
 pub holds : (g : Group) (events : List Event) → Holds g (trace g events)
@@ -67,7 +67,7 @@ newest_size i r (b ∷ bs) n w =
     omega (arith, n.0, last_number i r bs n.1, newest_size i r bs n.1 w.2, total_strict last.updates b.updates w.0 w.1)
 
 -- a reply is to a ballot that was opened
-asked : (t : Trace) (i r b a : ℕ) (w : Reply) → Numbered (ballots t i r) → ReplyStands t i r b a w → b ≤ length (ballots t i r)
+asked : (t : Trace) (i r b a : ℕ) (w : Reply) → Numbered (ballots t i r) → IsJustifiedReply t i r b a w → b ≤ length (ballots t i r)
 asked t i r b a replied.Yes n h = omega (arith, numbered_below (ballots t i r) h.ballot n h.opened, h.is_number)
 asked t i r b a (replied.No s) n h = omega (arith, numbered_below (ballots t i r) h.ballot n h.opened, h.is_number)
 
@@ -78,41 +78,41 @@ unasked_in t i r b (c ∷ cs) n lt h = absurd (omega (arith, asked t i r b c.fro
 module _ (g : Group) (t : Trace) (h : Holds g t) where
   last_is : (i r : ℕ) → (round t i r).ballot ≡ length (ballots t i r)
   unfolding round
-  last_is i r = last_number i r (ballots t i r) (h.sound.numbered i r)
+  last_is i r = last_number i r (ballots t i r) (h.quorum.numbered i r)
 
   pub size : (i r : ℕ) → (round t i r).ballot ≤ total (round t i r).updates
   unfolding round
-  size i r = newest_size i r (ballots t i r) (h.sound.numbered i r) (h.growing i r)
+  size i r = newest_size i r (ballots t i r) (h.quorum.numbered i r) (h.growing i r)
 
   -- the own history in the last ballot's set is the beginning of what was submitted
   pub own : (i r : ℕ) → IsPrefix (history (round t i r).updates r) (submitted t i r)
   own i r = elim (cases_lt r 8) [
-    | inl lt ↦ subst (IsPrefix (history (round t i r).updates r)) (history-whole t i r lt) (subset-prefix (round t i r).updates (whole t i) (round_honest g t h.honest i r) r)
+    | inl lt ↦ subst (IsPrefix (history (round t i r).updates r)) (history-whole t i r lt) (subset-prefix (round t i r).updates (whole t i) (round_submitted g t h.submitted i r) r)
     | inr le ↦ subst (λ ds. IsPrefix ds (submitted t i r)) (sym (history_past (round t i r).updates r le)) (record { front = refl })
   ]
 
   pub own_count : (i r : ℕ) → count (round t i r).updates r ≤ length (submitted t i r)
   own_count i r = IsPrefix-length (history (round t i r).updates r) (submitted t i r) (own i r)
 
-  pub round_known : (i r : ℕ) → IsSubset (round t i r).updates (known t i)
-  round_known i r = round_within known g t h.within i r
+  pub round_known : (i r : ℕ) → IsSubset (round t i r).updates (own_bound t i)
+  round_known i r = round_within own_bound g t h.within i r
 
-  pub counted_known : (i r : ℕ) → AllIn (IsCountWithin known t i) (counted t i r)
+  pub counted_known : (i r : ℕ) → AllIn (IsCountWithin own_bound t i) (counted t i r)
   unfolding counted
-  counted_known i r = firsts_all (IsCountWithin known t i) (replies t i r (round t i r).ballot) (h.within.reply i r (round t i r).ballot)
+  counted_known i r = firsts_all (IsCountWithin own_bound t i) (replies t i r (round t i r).ballot) (h.within.reply i r (round t i r).ballot)
 
   -- ## Messages
 
   module _ (m : Message) (was_sent : IsIn m (sent (replicas g) t)) where
-    pub stands : MessageStands t m
-    stands = AllIn_at (MessageStands t) (sent (replicas g) t) m h.sound.stand was_sent
+    pub stands : IsJustifiedMessage t m
+    stands = AllIn_at (IsJustifiedMessage t) (sent (replicas g) t) m h.quorum.stand was_sent
 
-    pub message_known : IsMessageWithin known t m
-    message_known = AllIn_at (IsMessageWithin known t) (sent (replicas g) t) m h.within.message was_sent
+    pub message_known : IsMessageWithin own_bound t m
+    message_known = AllIn_at (IsMessageWithin own_bound t) (sent (replicas g) t) m h.within.message was_sent
 
   -- nobody has replied to a ballot before it opens
   pub unasked : (x : Entry) → ((m : Message) → x.delivered ≡ Some m → IsIn m (sent (replicas g) t)) → (i r b : ℕ) → (round t i r).ballot < b → replies (x ∷ t) i r b ≡ []
   unfolding replies
   unasked x was_sent i r b lt =
-      unasked_in t i r b (replies t i r b ++ reply_at i r b x.delivered) (h.sound.numbered i r) (let e = last_is i r in omega arith)
-      (AllIn-append (IsCountBacked t i r b) (replies t i r b) (reply_at i r b x.delivered) (h.sound.backed i r b) (reply_backed t i r b x.delivered (λ m e. stands m (was_sent m e))))
+      unasked_in t i r b (replies t i r b ++ reply_at i r b x.delivered) (h.quorum.numbered i r) (let e = last_is i r in omega arith)
+      (AllIn-append (IsCountBacked t i r b) (replies t i r b) (reply_at i r b x.delivered) (h.quorum.backed i r b) (reply_backed t i r b x.delivered (λ m e. stands m (was_sent m e))))

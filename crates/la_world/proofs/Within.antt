@@ -5,9 +5,9 @@ use Rattle.std.proofs.lemmas.Bool.{and_parts}
 use Rattle.std.specs.List.{cons_option}
 use Rattle.la_set.specs.Histories.{Histories, empty}
 use Rattle.la_set.specs.Inclusion.{IsSubset, is_subset}
-use Rattle.la_set.specs.Join.{union}
+use Rattle.la_set.specs.Join.{join}
 use Rattle.la_set.proofs.Inclusions.{subset-trans}
-use Rattle.la_set.proofs.Unions.{union-least}
+use Rattle.la_set.proofs.Joins.{join-least}
 use Rattle.la_acceptor.specs.declared.reply.Reply.{Reply}
 use Rattle.la_acceptor.specs.declared.reply.Reply.TheVariants as replied
 use Rattle.la_acceptor.specs.Answer.{answer}
@@ -26,7 +26,7 @@ use Rattle.la_world.specs.Ballots.{opened_by, only, ballots, newest_of, round}
 use Rattle.la_world.specs.Counting.{reply_of, reply_at, replies, counted}
 use Rattle.la_world.proofs.Lists.{AllIn, AllIn-append, AllIn-each, AllIn-map, AllIn_at}
 use Rattle.la_world.proofs.Accepted.{accepted_moves}
-use Rattle.la_world.proofs.Happens.{Happens, heard, silent, opens, answers_offer, refines, learns, Step}
+use Rattle.la_world.proofs.EventCases.{EventCases, heard, silent, opens, answers_offer, refines, learns, Step}
 use Rattle.la_world.proofs.Quorum.{tells_all, firsts_all}
 use Rattle.la_world.proofs.Openings.{only_is, round_is}
 
@@ -84,7 +84,7 @@ module _ (bound : Trace → (i : ℕ) → Histories) where
 
   pub with_refusal_within : (t : Trace) (i : ℕ) (s : Histories) (a : Reply) → IsWithin t i s → IsWithin t i (refusal a) → IsWithin t i (with_refusal s a)
   with_refusal_within t i s replied.Yes h w = h
-  with_refusal_within t i s (replied.No u) h w = union-least s u (bound t i) h w
+  with_refusal_within t i s (replied.No u) h w = join-least s u (bound t i) h w
 
   pub refused_within : (t : Trace) (i : ℕ) (s : Histories) (cs : List Counted) → IsWithin t i s → AllIn (IsCountWithin t i) cs → IsWithin t i (joined_with_refusals s cs)
   refused_within t i s [] h w = h
@@ -125,11 +125,11 @@ module _ (bound : Trace → (i : ℕ) → Histories) where
   answer_within : (t : Trace) (m : Message) (u s : Histories) → IsWithin t m.instance u → IsWithin t m.instance s → IsWithin t m.instance (set_in (body_of (answer u s)))
   answer_within t m u s p q = go (is_subset u s)
     where
-      go : (v : Bool) → IsWithin t m.instance (set_in (body_of (cond v replied.Yes (replied.No (union u s)))))
+      go : (v : Bool) → IsWithin t m.instance (set_in (body_of (cond v replied.Yes (replied.No (join u s)))))
       go true = empty_within t m.instance
-      go false = union-least u s (bound t m.instance) p q
+      go false = join-least u s (bound t m.instance) p q
 
-  new_within : (g : Group) (x : Entry) (t : Trace) → Grows x t → (v : Event) (m : Option Message) (d : Did) → AreWithin g t → Happens g t v m d
+  new_within : (g : Group) (x : Entry) (t : Trace) → Grows x t → (v : Event) (m : Option Message) (d : Did) → AreWithin g t → EventCases g t v m d
       → ((k : Message) → m ≡ Some k → IsMessageWithin t k) → ((b : Opening) → opened_by d ≡ Some b → IsWithin (x ∷ t) b.instance b.updates) → AllIn (IsMessageWithin (x ∷ t)) (sent_by (replicas g) m d)
   new_within g x t up v m d h (silent o l s) k w = subst (AllIn (IsMessageWithin (x ∷ t))) (sym s) tt
   new_within g x t up v m d h (opens b o) k w = offers_within (replicas g) (x ∷ t) b (w b refl)
@@ -163,15 +163,15 @@ module _ (bound : Trace → (i : ℕ) → Histories) where
       go true p = offered_within t i m.body (subst (λ j. IsWithin t j (set_in m.body)) (eqb-true m.instance i (and_parts (m.instance == i) (m.to == a) p).0) (d m refl))
       go false p = tt
 
-  union_within : (t : Trace) (i : ℕ) (sets : List Histories) (s : Histories) → IsWithin t i s → AllIn (IsWithin t i) sets → IsWithin t i (fold union s sets)
-  union_within t i [] s h w = h
-  union_within t i (u ∷ sets) s h w = union_within t i sets (union s u) (union-least s u (bound t i) h w.0) w.1
+  join_within : (t : Trace) (i : ℕ) (sets : List Histories) (s : Histories) → IsWithin t i s → AllIn (IsWithin t i) sets → IsWithin t i (fold join s sets)
+  join_within t i [] s h w = h
+  join_within t i (u ∷ sets) s h w = join_within t i sets (join s u) (join-least s u (bound t i) h w.0) w.1
 
   accepted_within : (g : Group) (x : Entry) (t : Trace) → Grows x t → (i a : ℕ) → AreWithin g t → ((k : Message) → x.delivered ≡ Some k → IsMessageWithin t k) → IsWithin (x ∷ t) i (accepted (x ∷ t) i a)
   accepted_within g x t up i a h d =
-      let now = fold union (accepted t i a) (offered_to i a x.delivered) in
+      let now = fold join (accepted t i a) (offered_to i a x.delivered) in
       subst (IsWithin (x ∷ t) i) (sym (accepted_moves x t i a))
-      (within_later x t up i now (union_within t i (offered_to i a x.delivered) (accepted t i a) (h.acceptor i a) (offered_to_within t i a x.delivered d)))
+      (within_later x t up i now (join_within t i (offered_to i a x.delivered) (accepted t i a) (h.acceptor i a) (offered_to_within t i a x.delivered d)))
 
   reply_of_within : (t : Trace) (i from : ℕ) (b : Body) → IsWithin t i (set_in b) → AllIn (IsCountWithin t i) (reply_of from b)
   reply_of_within t i from (Offer s) h = tt
@@ -204,7 +204,7 @@ module _ (bound : Trace → (i : ℕ) → Histories) where
     ballot = λ i r. ballots_within g t x up i r h opened;
     message = AllIn-append (IsMessageWithin (x ∷ t)) (sent (replicas g) t) (sent_by (replicas g) x.delivered x.did)
         (AllIn-each (IsMessageWithin t) (IsMessageWithin (x ∷ t)) (λ m k. within_later x t up m.instance (set_in m.body) k) (sent (replicas g) t) h.message)
-        (new_within g x t up x.event x.delivered x.did h step.happens d opened);
+        (new_within g x t up x.event x.delivered x.did h step.cases d opened);
     acceptor = λ i a. accepted_within g x t up i a h d;
     reply = λ i r b. replies_within g x t up i r b h d;
   }

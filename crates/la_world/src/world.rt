@@ -1,8 +1,8 @@
 ghost use Rattle.std.specs.Prelude.{◌≡◌, ℕ, ◌+◌, ◌<◌, ◌^◌, [], length, map, slice_get, option_map, Some, None, IfOk, IfErr, OnOk, OnErr};
 ghost use Rattle.std.specs.Option.{option_copied};
-ghost use Rattle.la_set.specs.Deeds.{Deed};
+ghost use Rattle.la_set.specs.ObjectOps.{ObjectOp};
 ghost use Rattle.la_replica.specs.Whole.{Out, whole_of};
-ghost use Rattle.la_replica.specs.Members.{Member, receives};
+ghost use Rattle.la_replica.specs.ReplicaState.{ReplicaState, receives};
 ghost use Rattle.la_replica.specs.Steps.{learnt_in};
 ghost use Rattle.la_world.specs.Events.{Past, Submit, Deliver, event_of};
 ghost use Rattle.la_world.specs.Groups.{group_of, replicas};
@@ -12,7 +12,7 @@ ghost use Rattle.la_world.specs.Learnings.{learnt};
 ghost use Rattle.la_world.specs.Report.{refused, views};
 ghost use Rattle.la_world.specs.Printable.{IsPrintable};
 ghost use Rattle.la_world.specs.StandsFor.{StandsFor};
-ghost use Rattle.la_world.specs.Calls.{IsPlayable, IsMakingRefusal, members_at_start, Plays, IsAllowed, IsPlayRefusal, StandsForMessage, submitted_in, view_in, view_of, report_with};
+ghost use Rattle.la_world.specs.Calls.{IsPlayable, IsMakingRefusal, replica_states_at_start, Plays, IsAllowed, IsPlayRefusal, StandsForMessage, submitted_in, view_in, view_of, report_with};
 
 use crate::journal::Journal;
 use crate::speaker::Speaker;
@@ -36,13 +36,13 @@ pub struct World {
 
 impl Model for World {
     ghost use Rattle.la_world.specs.StandsFor.{World};
-    ghost use Rattle.la_world.specs.Calls.{IsKept};
+    ghost use Rattle.la_world.specs.Calls.{HoldsInvariant};
 
     ghost Value = { World };
 
-    ghost view = { λ w. record { config = w.config; members = w.replicas.items; messages = w.journal.messages.items; learnt = w.journal.learnt.items; count = w.journal.count } };
+    ghost view = { λ w. record { config = w.config; replica_states = w.replicas.items; messages = w.journal.messages.items; learnt = w.journal.learnt.items; count = w.journal.count } };
 
-    ghost invariant = { λ w. IsKept (record { config = w.config; members = w.replicas.items; messages = w.journal.messages.items; learnt = w.journal.learnt.items; count = w.journal.count }) };
+    ghost invariant = { λ w. HoldsInvariant (record { config = w.config; replica_states = w.replicas.items; messages = w.journal.messages.items; learnt = w.journal.learnt.items; count = w.journal.count }) };
 }
 
 impl World {
@@ -99,17 +99,17 @@ impl World {
         ensures error { (events : Past) → StandsFor self.old events → IfErr result (IsPlayRefusal (group_of self.old.config) (trace (group_of self.old.config) events) (Submit replica (record { object = object; op = op.now }))) }
         ensures err { OnErr result (self.new ≡ self.old) }
     {
-        self.may_submit(replica)?;
-        match self.submit_freely(replica, object, op) {
+        self.admit_submission(replica)?;
+        match self.take_submission(replica, object, op) {
             Ok(step) => Ok(step),
             Err(AllocError) => Err(WorldError::Memory),
         }
     }
 
     // Plays a submission that is refused for want of memory alone.
-    fn submit_freely(&mut self, replica: u8, object: u16, op: &Op) -> Result<Step, AllocError>
+    fn take_submission(&mut self, replica: u8, object: u16, op: &Op) -> Result<Step, AllocError>
         requires count { self.old.count + 1 < 2 ^ 64 }
-        requires known { replica < length self.old.members }
+        requires known { replica < length self.old.replica_states }
         requires allowed { IsAllowed self.old (Submit replica (record { object = object; op = op.now })) }
         ensures step { (events : Past) → StandsFor self.old events → IfOk result (λ step. Plays self.old events (Submit replica (record { object = object; op = op.now })) step self.new) }
         ensures printable { IfOk result IsPrintable }
@@ -131,10 +131,10 @@ impl World {
 
     // Whether a replica may submit, whatever it submits: by the first refusal that fits.
     #[tactic(auto, using(crate::proofs::Worlds::submitter_known))]
-    fn may_submit(&self, replica: u8) -> Result<(), WorldError>
-        ensures known { OnOk result (replica < length self.now.members) }
-        ensures allowed { (events : Past) → StandsFor self.now events → OnOk result ((deed : Deed) → refused (group_of self.now.config) (trace (group_of self.now.config) events) (Submit replica deed) ≡ None) }
-        ensures error { (events : Past) → StandsFor self.now events → IfErr result (λ e. (deed : Deed) → IsPlayRefusal (group_of self.now.config) (trace (group_of self.now.config) events) (Submit replica deed) e) }
+    fn admit_submission(&self, replica: u8) -> Result<(), WorldError>
+        ensures known { OnOk result (replica < length self.now.replica_states) }
+        ensures allowed { (events : Past) → StandsFor self.now events → OnOk result ((object_op : ObjectOp) → refused (group_of self.now.config) (trace (group_of self.now.config) events) (Submit replica object_op) ≡ None) }
+        ensures error { (events : Past) → StandsFor self.now events → IfErr result (λ e. (object_op : ObjectOp) → IsPlayRefusal (group_of self.now.config) (trace (group_of self.now.config) events) (Submit replica object_op) e) }
     {
         match submitted_among(&self.replicas, replica) {
             None => Err(WorldError::NoSuchReplica),
@@ -153,14 +153,14 @@ impl World {
         if number >= self.sent() {
             return Err(WorldError::NoSuchMessage);
         }
-        match self.deliver_freely(number as usize) {
+        match self.take_delivery(number as usize) {
             Ok(step) => Ok(step),
             Err(AllocError) => Err(WorldError::Memory),
         }
     }
 
     // Delivers a message that was sent, which is refused for want of memory alone.
-    fn deliver_freely(&mut self, number: usize) -> Result<Step, AllocError>
+    fn take_delivery(&mut self, number: usize) -> Result<Step, AllocError>
         requires count { self.old.count + 1 < 2 ^ 64 }
         requires known { number < length self.old.messages }
         ensures step { (events : Past) → StandsFor self.old events → IfOk result (λ step. Plays self.old events (Deliver number) step self.new) }
@@ -205,10 +205,10 @@ impl World {
         ensures value { option_copied result ≡ slice_get self.now.messages number }
         ensures stands { (events : Past) → StandsFor self.now events → StandsForMessage (option_copied result) (slice_get (sent (replicas (group_of self.now.config)) (trace (group_of self.now.config) events)) number) }
     {
-        self.kept(number)
+        self.stored_message(number)
     }
 
-    fn kept(&self, number: u64) -> Option<&Message>
+    fn stored_message(&self, number: u64) -> Option<&Message>
         ensures { option_copied result ≡ slice_get self.now.messages number }
     {
         self.journal.messages.get(number as usize)
@@ -269,7 +269,7 @@ fn submitted_among(replicas: &[Replica], replica: u8) -> Option<u32>
 
 // A copy of the set that a message will lead a replica to learn, if it will.
 fn learning(replica: &Replica, message: &Message) -> Result<Option<UpdateSet>, AllocError>
-    ensures { (out : Out) (after : Member) → receives replica.now (whole_of message.now) ≡ Some (out, after) → IfOk result (λ learnt. learnt ≡ learnt_in out.said) }
+    ensures { (out : Out) (after : ReplicaState) → receives replica.now (whole_of message.now) ≡ Some (out, after) → IfOk result (λ learnt. learnt ≡ learnt_in out.said) }
 {
     Ok(match replica.would_learn(message) {
         Some(learnt) => Some(learnt.copy()?),
@@ -290,7 +290,7 @@ fn view_among(replicas: &[Replica], replica: u8) -> Option<&UpdateSet>
 // The replicas of a group in which nothing has happened.
 fn start(alloc: Global, config: Config) -> Result<Vec<Replica>, AllocError>
     requires { IsPlayable config }
-    ensures { IfOk result (λ members. members.items ≡ members_at_start config) }
+    ensures { IfOk result (λ replica_states. replica_states.items ≡ replica_states_at_start config) }
 {
     let mut replicas = Vec::with_capacity(alloc, config.replicas as usize)?;
     for own in 0..config.replicas {

@@ -2,7 +2,7 @@
 use Rattle.std.specs.Prelude.{refl}
 use Rattle.la_set.specs.Histories.{history, from_histories, empty, updates, with_history}
 use Rattle.la_set.specs.Inclusion.{is_subset}
-use Rattle.la_set.specs.Join.{union}
+use Rattle.la_set.specs.Join.{join}
 use Rattle.la_proposer.specs.Majority.{is_majority}
 use Rattle.la_world.specs.Sent.{sent}
 use Rattle.la_world.specs.Acceptors.{offers, accepted}
@@ -26,56 +26,56 @@ use Rattle.runs.specs.NobodySole.{NobodySole}
 use Rattle.runs.specs.OwnVoteSoleAlone.{OwnVoteSoleAlone}
 use Rattle.runs.specs.LateDissenter.{LateDissenter}
 use Rattle.runs.specs.ByReplicas.{LateDissenterByReplicas}
-use Rattle.la_world.specs.Members.{proposing, last_learnt, instance_of, member}
+use Rattle.la_world.specs.ReplicaStates.{proposer_state, last_learnt, instance_of, replica_state}
 
 pub first_run : FirstRun
-unfolding history from_histories empty updates with_history is_subset union is_majority sent offers accepted ballots round is_open replies counted submitted seen view submits counts after_learning hears answers is_told trace learnt runs
+unfolding history from_histories empty updates with_history is_subset join is_majority sent offers accepted ballots round is_open replies counted submitted seen view submits counts after_learning hears answers is_told trace learnt runs
 first_run few = refl
 
 pub refusal_and_refinement : RefusalAndRefinement
-unfolding history from_histories empty updates with_history is_subset union is_majority sent offers accepted ballots round is_open replies counted submitted seen view submits counts after_learning hears answers is_told trace learnt runs
+unfolding history from_histories empty updates with_history is_subset join is_majority sent offers accepted ballots round is_open replies counted submitted seen view submits counts after_learning hears answers is_told trace learnt runs
 refusal_and_refinement few = refl
 
 pub exact_half : ExactHalf
-unfolding history from_histories empty updates with_history is_subset union is_majority sent offers accepted ballots round is_open replies counted submitted seen view submits counts after_learning hears answers is_told trace learnt runs
+unfolding history from_histories empty updates with_history is_subset join is_majority sent offers accepted ballots round is_open replies counted submitted seen view submits counts after_learning hears answers is_told trace learnt runs
 exact_half few = refl
 
 pub remove_of_a_learnt_add : RemoveOfALearntAdd
-unfolding history from_histories empty updates with_history is_subset union is_majority sent offers accepted ballots round is_open replies counted submitted seen view submits counts after_learning hears answers is_told trace learnt runs
+unfolding history from_histories empty updates with_history is_subset join is_majority sent offers accepted ballots round is_open replies counted submitted seen view submits counts after_learning hears answers is_told trace learnt runs
 remove_of_a_learnt_add few = refl
 
 pub decide_twice : DecideTwice
-unfolding history from_histories empty updates with_history is_subset union is_majority sent offers accepted ballots round is_open replies counted submitted seen view submits counts after_learning hears answers is_told trace learnt runs
+unfolding history from_histories empty updates with_history is_subset join is_majority sent offers accepted ballots round is_open replies counted submitted seen view submits counts after_learning hears answers is_told trace learnt runs
 decide_twice few = refl
 
 pub refusal_order : RefusalOrder
-unfolding history from_histories empty updates with_history is_subset union is_majority sent offers accepted ballots round is_open replies counted submitted seen view submits counts after_learning hears answers is_told trace learnt runs
+unfolding history from_histories empty updates with_history is_subset join is_majority sent offers accepted ballots round is_open replies counted submitted seen view submits counts after_learning hears answers is_told trace learnt runs
 refusal_order few = refl
 
 pub one_value_alone : OneValueAlone
-unfolding history from_histories empty updates with_history is_subset union is_majority sent offers accepted ballots round is_open replies counted submitted seen view submits counts after_learning hears answers is_told trace learnt runs
+unfolding history from_histories empty updates with_history is_subset join is_majority sent offers accepted ballots round is_open replies counted submitted seen view submits counts after_learning hears answers is_told trace learnt runs
 one_value_alone few = refl
 
 pub proposed_for_good : ProposedForGood
-unfolding history from_histories empty updates with_history is_subset union is_majority sent offers accepted ballots round is_open replies counted submitted seen view submits counts after_learning hears answers is_told trace learnt runs
+unfolding history from_histories empty updates with_history is_subset join is_majority sent offers accepted ballots round is_open replies counted submitted seen view submits counts after_learning hears answers is_told trace learnt runs
 proposed_for_good few = refl
 
 pub unanimous : Unanimous
-unfolding history from_histories empty updates with_history is_subset union is_majority sent offers accepted ballots round is_open replies counted submitted seen view submits counts after_learning hears answers is_told trace learnt runs
+unfolding history from_histories empty updates with_history is_subset join is_majority sent offers accepted ballots round is_open replies counted submitted seen view submits counts after_learning hears answers is_told trace learnt runs
 unanimous few = refl
 
 pub nobody_sole : NobodySole
-unfolding history from_histories empty updates with_history is_subset union is_majority sent offers accepted ballots round is_open replies counted submitted seen view submits counts after_learning hears answers is_told trace learnt runs
+unfolding history from_histories empty updates with_history is_subset join is_majority sent offers accepted ballots round is_open replies counted submitted seen view submits counts after_learning hears answers is_told trace learnt runs
 nobody_sole few = refl
 
 pub own_vote_sole_alone : OwnVoteSoleAlone
-unfolding history from_histories empty updates with_history is_subset union is_majority sent offers accepted ballots round is_open replies counted submitted seen view submits counts after_learning hears answers is_told trace learnt runs
+unfolding history from_histories empty updates with_history is_subset join is_majority sent offers accepted ballots round is_open replies counted submitted seen view submits counts after_learning hears answers is_told trace learnt runs
 own_vote_sole_alone few = refl
 
 pub late_dissenter : LateDissenter
-unfolding history from_histories empty updates with_history is_subset union is_majority sent offers accepted ballots round is_open replies counted submitted seen view submits counts after_learning hears answers is_told trace learnt runs
+unfolding history from_histories empty updates with_history is_subset join is_majority sent offers accepted ballots round is_open replies counted submitted seen view submits counts after_learning hears answers is_told trace learnt runs
 late_dissenter few = refl
 
 pub late_dissenter_by_replicas : LateDissenterByReplicas
-unfolding history from_histories empty updates with_history is_subset union is_majority sent offers accepted ballots round is_open replies counted submitted seen view submits counts after_learning hears answers is_told trace proposing last_learnt instance_of member
+unfolding history from_histories empty updates with_history is_subset join is_majority sent offers accepted ballots round is_open replies counted submitted seen view submits counts after_learning hears answers is_told trace proposer_state last_learnt instance_of replica_state
 late_dissenter_by_replicas = refl

@@ -7,11 +7,11 @@ use Rattle.la_world.specs.declared.step.Did.TheVariants.{Opened, Answered, Count
 use Rattle.la_world.specs.Events.{Event, Submit, Deliver}
 use Rattle.la_world.specs.Learnings.{learning}
 use Rattle.la_world.specs.Report.{report}
-use Rattle.runs.specs.Words.{config, deed, these, ballot}
+use Rattle.runs.specs.Words.{config, object_op, these, ballot}
 
 abbrev pub events : List Event
 events =
-    Submit 0 (deed 1 (Inc 5))
+    Submit 0 (object_op 1 (Inc 5))
     ∷ Deliver 0
     ∷ Deliver 1
     ∷ Deliver 3
@@ -22,15 +22,15 @@ abbrev pub FirstRun : Type 0
 FirstRun = (few : 3 ≤ 8) → report (config (1 ∷ 1 ∷ 1 ∷ 0 ∷ 0 ∷ 0 ∷ 0 ∷ 0 ∷ []) 3 few 0 10) events ≡ record {
   config = config (1 ∷ 1 ∷ 1 ∷ 0 ∷ 0 ∷ 0 ∷ 0 ∷ 0 ∷ []) 3 few 0 10;
   steps =
-      Done (record { did = Opened (ballot 0 0 1 (these ((deed 1 (Inc 5) ∷ []) ∷ [] ∷ [] ∷ []))); first = 0; sent = 3 })
+      Done (record { did = Opened (ballot 0 0 1 (these ((object_op 1 (Inc 5) ∷ []) ∷ [] ∷ [] ∷ []))); first = 0; sent = 3 })
       ∷ Done (record { did = Answered Yes; first = 3; sent = 1 })
       ∷ Done (record { did = Answered Yes; first = 4; sent = 1 })
       ∷ Done (record { did = Counted; first = 5; sent = 0 })
-      ∷ Done (record { did = Learnt (learning 4 (ballot 0 0 1 (these ((deed 1 (Inc 5) ∷ []) ∷ [] ∷ [] ∷ [])))) 2 None; first = 5; sent = 2 })
+      ∷ Done (record { did = Learnt (learning 4 (ballot 0 0 1 (these ((object_op 1 (Inc 5) ∷ []) ∷ [] ∷ [] ∷ [])))) 2 None; first = 5; sent = 2 })
       ∷ [];
-  learnt = learning 4 (ballot 0 0 1 (these ((deed 1 (Inc 5) ∷ []) ∷ [] ∷ [] ∷ [])))
+  learnt = learning 4 (ballot 0 0 1 (these ((object_op 1 (Inc 5) ∷ []) ∷ [] ∷ [] ∷ [])))
       ∷ [];
-  views = (these ((deed 1 (Inc 5) ∷ []) ∷ [] ∷ [] ∷ []))
+  views = (these ((object_op 1 (Inc 5) ∷ []) ∷ [] ∷ [] ∷ []))
       ∷ (these ([] ∷ [] ∷ [] ∷ []))
       ∷ (these ([] ∷ [] ∷ [] ∷ []))
       ∷ [];

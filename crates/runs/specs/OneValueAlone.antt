@@ -7,7 +7,7 @@ use Rattle.la_world.specs.declared.step.Did.TheVariants.{Opened, Answered, Count
 use Rattle.la_world.specs.Events.{Event, Deliver, Decide}
 use Rattle.la_world.specs.Learnings.{learning}
 use Rattle.la_world.specs.Report.{report}
-use Rattle.runs.specs.Words.{config, deed, these, ballot}
+use Rattle.runs.specs.Words.{config, object_op, these, ballot}
 
 abbrev pub events : List Event
 events =
@@ -26,18 +26,18 @@ abbrev pub OneValueAlone : Type 0
 OneValueAlone = (few : 3 ≤ 8) → report (config (1 ∷ 1 ∷ 1 ∷ 0 ∷ 0 ∷ 0 ∷ 0 ∷ 0 ∷ []) 3 few 2 10) events ≡ record {
   config = config (1 ∷ 1 ∷ 1 ∷ 0 ∷ 0 ∷ 0 ∷ 0 ∷ 0 ∷ []) 3 few 2 10;
   steps =
-      Done (record { did = Opened (ballot 1 3 1 (these ([] ∷ (deed 1 (Vote 9 false) ∷ []) ∷ [] ∷ []))); first = 0; sent = 3 })
+      Done (record { did = Opened (ballot 1 3 1 (these ([] ∷ (object_op 1 (Vote 9 false) ∷ []) ∷ [] ∷ []))); first = 0; sent = 3 })
       ∷ Done (record { did = Answered Yes; first = 3; sent = 1 })
       ∷ Done (record { did = Answered Yes; first = 4; sent = 1 })
       ∷ Done (record { did = Counted; first = 5; sent = 0 })
-      ∷ Done (record { did = Learnt (learning 4 (ballot 1 3 1 (these ([] ∷ (deed 1 (Vote 9 false) ∷ []) ∷ [] ∷ [])))) 0 (Some (ballot 1 4 1 (these ([] ∷ (deed 1 (Vote 9 true) ∷ []) ∷ [] ∷ [])))); first = 5; sent = 3 })
+      ∷ Done (record { did = Learnt (learning 4 (ballot 1 3 1 (these ([] ∷ (object_op 1 (Vote 9 false) ∷ []) ∷ [] ∷ [])))) 0 (Some (ballot 1 4 1 (these ([] ∷ (object_op 1 (Vote 9 true) ∷ []) ∷ [] ∷ [])))); first = 5; sent = 3 })
       ∷ Done (record { did = Answered Yes; first = 8; sent = 1 })
       ∷ Done (record { did = Answered Yes; first = 9; sent = 1 })
       ∷ Done (record { did = Counted; first = 10; sent = 0 })
-      ∷ Done (record { did = Learnt (learning 8 (ballot 1 4 1 (these ([] ∷ (deed 1 (Vote 9 true) ∷ []) ∷ [] ∷ [])))) 0 None; first = 10; sent = 0 })
+      ∷ Done (record { did = Learnt (learning 8 (ballot 1 4 1 (these ([] ∷ (object_op 1 (Vote 9 true) ∷ []) ∷ [] ∷ [])))) 0 None; first = 10; sent = 0 })
       ∷ [];
-  learnt = learning 4 (ballot 1 3 1 (these ([] ∷ (deed 1 (Vote 9 false) ∷ []) ∷ [] ∷ [])))
-      ∷ learning 8 (ballot 1 4 1 (these ([] ∷ (deed 1 (Vote 9 true) ∷ []) ∷ [] ∷ [])))
+  learnt = learning 4 (ballot 1 3 1 (these ([] ∷ (object_op 1 (Vote 9 false) ∷ []) ∷ [] ∷ [])))
+      ∷ learning 8 (ballot 1 4 1 (these ([] ∷ (object_op 1 (Vote 9 true) ∷ []) ∷ [] ∷ [])))
       ∷ [];
   views = (these ([] ∷ [] ∷ [] ∷ []))
       ∷ (these ([] ∷ [] ∷ [] ∷ []))

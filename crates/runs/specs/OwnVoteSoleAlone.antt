@@ -7,7 +7,7 @@ use Rattle.la_world.specs.declared.step.Did.TheVariants.{Opened, Answered, Count
 use Rattle.la_world.specs.Events.{Event, Deliver, Decide}
 use Rattle.la_world.specs.Learnings.{learning}
 use Rattle.la_world.specs.Report.{report}
-use Rattle.runs.specs.Words.{config, deed, these, ballot}
+use Rattle.runs.specs.Words.{config, object_op, these, ballot}
 
 abbrev pub events : List Event
 events =
@@ -40,33 +40,33 @@ abbrev pub OwnVoteSoleAlone : Type 0
 OwnVoteSoleAlone = (few : 3 ≤ 8) → report (config (1 ∷ 1 ∷ 1 ∷ 0 ∷ 0 ∷ 0 ∷ 0 ∷ 0 ∷ []) 3 few 1 10) events ≡ record {
   config = config (1 ∷ 1 ∷ 1 ∷ 0 ∷ 0 ∷ 0 ∷ 0 ∷ 0 ∷ []) 3 few 1 10;
   steps =
-      Done (record { did = Opened (ballot 0 1 1 (these ((deed 0 (Vote 7 false) ∷ []) ∷ [] ∷ [] ∷ []))); first = 0; sent = 3 })
+      Done (record { did = Opened (ballot 0 1 1 (these ((object_op 0 (Vote 7 false) ∷ []) ∷ [] ∷ [] ∷ []))); first = 0; sent = 3 })
       ∷ Done (record { did = Answered Yes; first = 3; sent = 1 })
       ∷ Done (record { did = Answered Yes; first = 4; sent = 1 })
       ∷ Done (record { did = Counted; first = 5; sent = 0 })
-      ∷ Done (record { did = Learnt (learning 4 (ballot 0 1 1 (these ((deed 0 (Vote 7 false) ∷ []) ∷ [] ∷ [] ∷ [])))) 0 (Some (ballot 0 2 1 (these ((deed 0 (Vote 7 true) ∷ []) ∷ [] ∷ [] ∷ [])))); first = 5; sent = 3 })
-      ∷ Done (record { did = Opened (ballot 1 1 1 (these ([] ∷ (deed 0 (Vote 9 false) ∷ []) ∷ [] ∷ []))); first = 8; sent = 3 })
-      ∷ Done (record { did = Answered (No (these ((deed 0 (Vote 7 false) ∷ []) ∷ (deed 0 (Vote 9 false) ∷ []) ∷ [] ∷ []))); first = 11; sent = 1 })
-      ∷ Done (record { did = Answered (No (these ((deed 0 (Vote 7 false) ∷ []) ∷ (deed 0 (Vote 9 false) ∷ []) ∷ [] ∷ []))); first = 12; sent = 1 })
+      ∷ Done (record { did = Learnt (learning 4 (ballot 0 1 1 (these ((object_op 0 (Vote 7 false) ∷ []) ∷ [] ∷ [] ∷ [])))) 0 (Some (ballot 0 2 1 (these ((object_op 0 (Vote 7 true) ∷ []) ∷ [] ∷ [] ∷ [])))); first = 5; sent = 3 })
+      ∷ Done (record { did = Opened (ballot 1 1 1 (these ([] ∷ (object_op 0 (Vote 9 false) ∷ []) ∷ [] ∷ []))); first = 8; sent = 3 })
+      ∷ Done (record { did = Answered (No (these ((object_op 0 (Vote 7 false) ∷ []) ∷ (object_op 0 (Vote 9 false) ∷ []) ∷ [] ∷ []))); first = 11; sent = 1 })
+      ∷ Done (record { did = Answered (No (these ((object_op 0 (Vote 7 false) ∷ []) ∷ (object_op 0 (Vote 9 false) ∷ []) ∷ [] ∷ []))); first = 12; sent = 1 })
       ∷ Done (record { did = Counted; first = 13; sent = 0 })
-      ∷ Done (record { did = Refined (ballot 1 1 2 (these ((deed 0 (Vote 7 false) ∷ []) ∷ (deed 0 (Vote 9 false) ∷ []) ∷ [] ∷ []))); first = 13; sent = 3 })
+      ∷ Done (record { did = Refined (ballot 1 1 2 (these ((object_op 0 (Vote 7 false) ∷ []) ∷ (object_op 0 (Vote 9 false) ∷ []) ∷ [] ∷ []))); first = 13; sent = 3 })
       ∷ Done (record { did = Answered Yes; first = 16; sent = 1 })
       ∷ Done (record { did = Answered Yes; first = 17; sent = 1 })
       ∷ Done (record { did = Counted; first = 18; sent = 0 })
-      ∷ Done (record { did = Learnt (learning 13 (ballot 1 1 2 (these ((deed 0 (Vote 7 false) ∷ []) ∷ (deed 0 (Vote 9 false) ∷ []) ∷ [] ∷ [])))) 0 (Some (ballot 1 2 1 (these ([] ∷ (deed 0 (Vote 9 false) ∷ []) ∷ [] ∷ [])))); first = 18; sent = 3 })
+      ∷ Done (record { did = Learnt (learning 13 (ballot 1 1 2 (these ((object_op 0 (Vote 7 false) ∷ []) ∷ (object_op 0 (Vote 9 false) ∷ []) ∷ [] ∷ [])))) 0 (Some (ballot 1 2 1 (these ([] ∷ (object_op 0 (Vote 9 false) ∷ []) ∷ [] ∷ [])))); first = 18; sent = 3 })
       ∷ Done (record { did = Answered Yes; first = 21; sent = 1 })
       ∷ Done (record { did = Answered Yes; first = 22; sent = 1 })
-      ∷ Done (record { did = Answered (No (these ((deed 0 (Vote 7 true) ∷ []) ∷ (deed 0 (Vote 9 false) ∷ []) ∷ [] ∷ []))); first = 23; sent = 1 })
+      ∷ Done (record { did = Answered (No (these ((object_op 0 (Vote 7 true) ∷ []) ∷ (object_op 0 (Vote 9 false) ∷ []) ∷ [] ∷ []))); first = 23; sent = 1 })
       ∷ Done (record { did = Counted; first = 24; sent = 0 })
-      ∷ Done (record { did = Refined (ballot 0 2 2 (these ((deed 0 (Vote 7 true) ∷ []) ∷ (deed 0 (Vote 9 false) ∷ []) ∷ [] ∷ []))); first = 24; sent = 3 })
+      ∷ Done (record { did = Refined (ballot 0 2 2 (these ((object_op 0 (Vote 7 true) ∷ []) ∷ (object_op 0 (Vote 9 false) ∷ []) ∷ [] ∷ []))); first = 24; sent = 3 })
       ∷ Done (record { did = Answered Yes; first = 27; sent = 1 })
       ∷ Done (record { did = Answered Yes; first = 28; sent = 1 })
       ∷ Done (record { did = Counted; first = 29; sent = 0 })
-      ∷ Done (record { did = Learnt (learning 22 (ballot 0 2 2 (these ((deed 0 (Vote 7 true) ∷ []) ∷ (deed 0 (Vote 9 false) ∷ []) ∷ [] ∷ [])))) 0 None; first = 29; sent = 0 })
+      ∷ Done (record { did = Learnt (learning 22 (ballot 0 2 2 (these ((object_op 0 (Vote 7 true) ∷ []) ∷ (object_op 0 (Vote 9 false) ∷ []) ∷ [] ∷ [])))) 0 None; first = 29; sent = 0 })
       ∷ [];
-  learnt = learning 4 (ballot 0 1 1 (these ((deed 0 (Vote 7 false) ∷ []) ∷ [] ∷ [] ∷ [])))
-      ∷ learning 13 (ballot 1 1 2 (these ((deed 0 (Vote 7 false) ∷ []) ∷ (deed 0 (Vote 9 false) ∷ []) ∷ [] ∷ [])))
-      ∷ learning 22 (ballot 0 2 2 (these ((deed 0 (Vote 7 true) ∷ []) ∷ (deed 0 (Vote 9 false) ∷ []) ∷ [] ∷ [])))
+  learnt = learning 4 (ballot 0 1 1 (these ((object_op 0 (Vote 7 false) ∷ []) ∷ [] ∷ [] ∷ [])))
+      ∷ learning 13 (ballot 1 1 2 (these ((object_op 0 (Vote 7 false) ∷ []) ∷ (object_op 0 (Vote 9 false) ∷ []) ∷ [] ∷ [])))
+      ∷ learning 22 (ballot 0 2 2 (these ((object_op 0 (Vote 7 true) ∷ []) ∷ (object_op 0 (Vote 9 false) ∷ []) ∷ [] ∷ [])))
       ∷ [];
   views = (these ([] ∷ [] ∷ [] ∷ []))
       ∷ (these ([] ∷ [] ∷ [] ∷ []))

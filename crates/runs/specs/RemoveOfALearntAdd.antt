@@ -2,7 +2,7 @@
 use Rattle.std.specs.Prelude.{◌≡◌, ◌≤◌, List, [], ◌∷◌, ◌++◌, None}
 use Rattle.la_set.specs.declared.update.Op.TheVariants.{Put, Remove}
 use Rattle.la_set.specs.declared.update.UpdateId.{UpdateId}
-use Rattle.la_set.specs.Deeds.{Deed}
+use Rattle.la_set.specs.ObjectOps.{ObjectOp}
 use Rattle.la_acceptor.specs.declared.reply.Reply.TheVariants.{Yes}
 use Rattle.la_world.specs.declared.report.Line.TheVariants.{Done}
 use Rattle.la_world.specs.declared.step.Did.TheVariants.{Opened, Answered, Learnt}
@@ -13,24 +13,24 @@ use Rattle.la_world.specs.Trace.{Trace}
 use Rattle.la_world.specs.Playing.{trace}
 use Rattle.la_world.specs.Learnings.{learning}
 use Rattle.la_world.specs.Report.{report}
-use Rattle.runs.specs.Words.{config, deed, these, ballot}
+use Rattle.runs.specs.Words.{config, object_op, these, ballot}
 
 abbrev pub add : UpdateId
 add = record { replica = 0; number = 1 }
 
-abbrev pub removal : Deed
-removal = deed 1 (Remove (add ∷ []))
+abbrev pub removal : ObjectOp
+removal = object_op 1 (Remove (add ∷ []))
 
 -- what is learnt first, and second
 abbrev pub first : step.Learnt
-first = learning 2 (ballot 0 0 1 (these ((deed 1 (Put 7) ∷ []) ∷ [])))
+first = learning 2 (ballot 0 0 1 (these ((object_op 1 (Put 7) ∷ []) ∷ [])))
 
 abbrev pub second : step.Learnt
-second = learning 5 (ballot 0 0 2 (these ((deed 1 (Put 7) ∷ removal ∷ []) ∷ [])))
+second = learning 5 (ballot 0 0 2 (these ((object_op 1 (Put 7) ∷ removal ∷ []) ∷ [])))
 
 abbrev pub events : List Event
 events =
-    Submit 0 (deed 1 (Put 7))
+    Submit 0 (object_op 1 (Put 7))
     ∷ Deliver 0
     ∷ Deliver 1
     ∷ Submit 0 removal
@@ -42,15 +42,15 @@ abbrev pub RemoveOfALearntAdd : Type 0
 RemoveOfALearntAdd = (few : 1 ≤ 8) → report (config (1 ∷ 0 ∷ 0 ∷ 0 ∷ 0 ∷ 0 ∷ 0 ∷ 0 ∷ []) 1 few 0 10) events ≡ record {
   config = config (1 ∷ 0 ∷ 0 ∷ 0 ∷ 0 ∷ 0 ∷ 0 ∷ 0 ∷ []) 1 few 0 10;
   steps =
-      Done (record { did = Opened (ballot 0 0 1 (these ((deed 1 (Put 7) ∷ []) ∷ []))); first = 0; sent = 1 })
+      Done (record { did = Opened (ballot 0 0 1 (these ((object_op 1 (Put 7) ∷ []) ∷ []))); first = 0; sent = 1 })
       ∷ Done (record { did = Answered Yes; first = 1; sent = 1 })
       ∷ Done (record { did = Learnt first 0 None; first = 2; sent = 0 })
-      ∷ Done (record { did = Opened (ballot 0 0 2 (these ((deed 1 (Put 7) ∷ removal ∷ []) ∷ []))); first = 2; sent = 1 })
+      ∷ Done (record { did = Opened (ballot 0 0 2 (these ((object_op 1 (Put 7) ∷ removal ∷ []) ∷ []))); first = 2; sent = 1 })
       ∷ Done (record { did = Answered Yes; first = 3; sent = 1 })
       ∷ Done (record { did = Learnt second 0 None; first = 4; sent = 0 })
       ∷ [];
   learnt = first ∷ second ∷ [];
-  views = (these ((deed 1 (Put 7) ∷ removal ∷ []) ∷ []))
+  views = (these ((object_op 1 (Put 7) ∷ removal ∷ []) ∷ []))
       ∷ [];
 }
 
@@ -60,7 +60,7 @@ abbrev pub g : Group
 g = record { votes = 1 ∷ []; commits = 0; cap = 10 }
 
 abbrev pub until_learnt : List Event
-until_learnt = Deliver 1 ∷ Deliver 0 ∷ Submit 0 (deed 1 (Put 7)) ∷ []
+until_learnt = Deliver 1 ∷ Deliver 0 ∷ Submit 0 (object_op 1 (Put 7)) ∷ []
 
 abbrev pub more : List Event
 more = Deliver 3 ∷ Deliver 2 ∷ []

@@ -1,7 +1,7 @@
 // Callers that know nothing but the contracts: each makes a call twice and promises equal answers.
 ghost use Rattle.std.specs.Prelude.{◌≡◌, ◌≢◌, ◌↔◌, ◌<◌, ◌≤◌, true, length, IsTrue, IsOk, IfOk, IfErr, OnOk, OnErr};
 ghost use Rattle.la_proposer.specs.Majority.{votes_of};
-ghost use Rattle.la_proposer.specs.Proposing.{submitted, counts};
+ghost use Rattle.la_proposer.specs.ProposerState.{submitted, counts};
 ghost use Rattle.la_proposer.specs.Clashes.{Fits};
 ghost use Rattle.la_proposer.specs.Refusals.{SubmissionSpends, ReplySpares};
 

@@ -1,6 +1,6 @@
 // The laws and the clauses on memory and limits, each by what follows from it.
 ghost use Rattle.std.specs.Prelude.{◌≡◌, ℕ, ◌<◌, ◌≤◌, Bool, true, false, List, [], length, replicate, IsTrue, IsOk, IfOk, OnOk};
-ghost use Rattle.la_set.specs.Deeds.{Deed};
+ghost use Rattle.la_set.specs.ObjectOps.{ObjectOp};
 ghost use Rattle.la_set.specs.Inclusion.{IsSubset};
 ghost use Rattle.la_proposer.specs.declared.tally.Verdict.TheVariants.{Refines};
 ghost use Rattle.la_proposer.specs.Majority.{is_majority, how_many};
@@ -8,7 +8,7 @@ ghost use Rattle.la_proposer.specs.Tally.{verdict};
 ghost use Rattle.la_set.specs.Histories.{empty};
 ghost use Rattle.la_proposer.specs.Inputs.{Input, after_inputs};
 ghost use Rattle.la_proposer.specs.Firsts.{CountsFirsts};
-ghost use Rattle.la_proposer.specs.Proposing.{Proposing, start, submitted, after_submission, counts, with_reply};
+ghost use Rattle.la_proposer.specs.ProposerState.{ProposerState, start, submitted, after_submission, counts, with_reply};
 ghost use Rattle.la_proposer.specs.Refusals.{CountsInPlace};
 
 use la_acceptor::Reply;
@@ -69,7 +69,7 @@ fn a_proposer_counts_first_replies()
 
 // A submission leaves the last ballot's set as it is, or opens a ballot with a larger one.
 fn a_submission_keeps_the_set()
-    ensures { (p : Proposing) (deed : Deed) → p.own < 8 → IsSubset p.updates (after_submission p deed).updates }
+    ensures { (p : ProposerState) (object_op : ObjectOp) → p.own < 8 → IsSubset p.updates (after_submission p object_op).updates }
 {
     laws::ballots_grow();
 }

@@ -1,12 +1,12 @@
 // What a proposer knows of a reply before it is heard.
 ghost use Rattle.std.specs.Prelude.{◌≡◌, option_copied};
 ghost use Rattle.la_proposer.specs.Tally.{reply_with};
-ghost use Rattle.la_proposer.specs.Proposing.{counts};
+ghost use Rattle.la_proposer.specs.ProposerState.{counts};
 ghost use Rattle.la_proposer.specs.Refusals.{opens_by};
 ghost use Rattle.la_proposer.specs.Clashes.{IsLeastOf, IsUnknownOwn, ReplyClashesAt};
 
 use super::Proposer;
-use crate::joins::{clash_in_tally, earlier};
+use crate::joins::{clash_in_tally, lesser};
 use crate::tally::Verdict;
 use la_set::{UpdateId, UpdateSet};
 
@@ -19,11 +19,11 @@ impl Proposer {
         match refusal {
             None => None,
             Some(refused) => {
-                let known = earlier(
+                let known = lesser(
                     self.last.updates.first_clash(refused),
                     self.unknown_own(refused),
                 );
-                earlier(known, clash_in_tally(self.tally.as_slice(), refused))
+                lesser(known, clash_in_tally(self.tally.as_slice(), refused))
             }
         }
     }

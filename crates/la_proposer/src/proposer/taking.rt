@@ -1,6 +1,6 @@
 // The steps that change a proposer. Each does first what can be refused.
 ghost use Rattle.std.specs.Prelude.{◌≡◌, true, not, ◌<◌, length, IsOk, IfOk, OnOk, OnErr};
-ghost use Rattle.la_proposer.specs.Proposing.{submitted, with_waiting, with_reply, next_ballot, after_opening, refined_ballot, after_refinement, is_nothing, closed, learning_opens, after_learning};
+ghost use Rattle.la_proposer.specs.ProposerState.{submitted, with_waiting, with_reply, next_ballot, after_opening, refined_ballot, after_refinement, is_nothing, closed, learning_opens, after_learning};
 ghost use Rattle.la_proposer.specs.Refusals.{StepSpends};
 ghost use Rattle.la_proposer.specs.Clashes.{Fits};
 

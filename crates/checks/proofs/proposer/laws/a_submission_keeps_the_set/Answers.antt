@@ -3,4 +3,4 @@ use Rattle.la_proposer.specs.Inputs.{Submitted}
 use Rattle.checks.proofs.proposer.laws.a_submission_keeps_the_set.Goals as goal
 
 pub returns : goal.returns
-returns c = λ p deed known. c.ballots_grow.ensures.grows p (Submitted deed ∷ []) known
+returns c = λ p object_op known. c.ballots_grow.ensures.grows p (Submitted object_op ∷ []) known

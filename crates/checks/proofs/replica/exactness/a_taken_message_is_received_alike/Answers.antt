@@ -1,6 +1,6 @@
 use Rattle.std.proofs.Common.{ap}
 use Rattle.la_replica.specs.Whole.{whole_of}
-use Rattle.la_replica.specs.Members.{receives}
+use Rattle.la_replica.specs.ReplicaState.{receives}
 use Rattle.checks.proofs.Carried.{outs_agree}
 use Rattle.checks.proofs.replica.exactness.a_taken_message_is_received_alike.Goals as goal
 

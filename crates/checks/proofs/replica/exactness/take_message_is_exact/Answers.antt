@@ -1,6 +1,6 @@
 use Rattle.std.proofs.Common.{ap}
 use Rattle.la_replica.specs.Whole.{whole_of}
-use Rattle.la_replica.specs.Members.{receives}
+use Rattle.la_replica.specs.ReplicaState.{receives}
 use Rattle.checks.proofs.Carried.{outs_agree}
 use Rattle.checks.proofs.replica.exactness.take_message_is_exact.Goals as goal
 

@@ -1,6 +1,6 @@
 use Rattle.std.proofs.Common.{◌<◌, ap, sym, ◌∙◌, subst}
 use Rattle.la_proposer.specs.Clashes.{Fits}
-use Rattle.la_proposer.specs.Proposing.{with_reply, refined_ballot, after_refinement}
+use Rattle.la_proposer.specs.ProposerState.{with_reply, refined_ballot, after_refinement}
 use Rattle.la_proposer.proofs.proposer.Proposer.refine_with.Goals as goal
 
 pub keep-requires-clause-fits : goal.keep-requires-clause-fits

@@ -2,7 +2,7 @@ use Rattle.std.proofs.Common.{All, replicate, refl, sym, subst, arith, rules}
 use Rattle.std.proofs.lemmas.List.Elements.{All-cons, All-replicate}
 use Rattle.la_proposer.specs.Majority.{votes_of}
 use Rattle.la_replica.specs.Steps.{fresh}
-use Rattle.la_replica.specs.Kept.{IsOf}
+use Rattle.la_replica.specs.Invariant.{IsOf}
 use Rattle.la_replica.proofs.replica.Replica.new.Goals as goal
 
 pub invariant_of-result : goal.invariant_of-result

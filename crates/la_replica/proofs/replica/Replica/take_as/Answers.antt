@@ -1,7 +1,7 @@
 use Rattle.std.proofs.Common.{rules, ◌≡◌, ◌<◌, length, slice_get, IsSomeAnd, Some, IfOk, IsOk, refl, slice_set, subst, sym, ap, ◌∙◌}
 use Rattle.la_proposer.specs.Majority.{votes_of}
 use Rattle.la_replica.specs.Whole.{whole_of, whole_out}
-use Rattle.la_replica.specs.Members.{Member, receives, sender_of}
+use Rattle.la_replica.specs.ReplicaState.{ReplicaState, receives, sender_of}
 use Rattle.la_replica.specs.Refusals.{FitsBody}
 use Rattle.la_replica.specs.Memory.{IsFree}
 use Rattle.la_replica.proofs.Replicas.{step_is}
@@ -17,14 +17,14 @@ unreachable-requires c =
 
 pub invariant_of-self : goal.invariant_of-self
 invariant_of-self c =
-    let m : Member = record { votes = votes_of c.self.inside.votes; own = c.self.inside.own; instances = c.self.inside.instances.items; view = c.self.inside.view } in
+    let m : ReplicaState = record { votes = votes_of c.self.inside.votes; own = c.self.inside.own; instances = c.self.inside.instances.items; view = c.self.inside.view } in
     let message = whole_of c.args.message.now in
     step_is m message.instance c.take_message.new.self c.take_message.new.view c.self.invariant
     (receiving_keeps m message.instance c.in-Some.at.now c.take_message.new.self c.in-Some.ensures.item.3.0 c.in-Some.ensures.value message refl c.sender-sender.result c.take_message.new.view c.take_message.result c.take_message.ensures.step c.take_message.ensures.err c.self.invariant.alike)
 
 pub returns-clause-step : goal.returns-clause-step
 returns-clause-step c =
-    let m : Member = record { votes = votes_of c.self.inside.votes; own = c.self.inside.own; instances = c.self.inside.instances.items; view = c.self.inside.view } in
+    let m : ReplicaState = record { votes = votes_of c.self.inside.votes; own = c.self.inside.own; instances = c.self.inside.instances.items; view = c.self.inside.view } in
     let message = whole_of c.args.message.now in let i = message.instance in let y = c.take_message.new.self in
     subst (λ q. IfOk c.take_message.result (λ out. receives q message ≡ Some (whole_out out, record m { instances = slice_set m.instances i y; view = c.take_message.new.view }))) c.self.view_is
     (receives_is m i c.in-Some.at.now y c.in-Some.ensures.item.3.0 c.in-Some.ensures.value message refl c.sender-sender.result c.take_message.new.view c.take_message.result
@@ -32,7 +32,7 @@ returns-clause-step c =
 
 pub returns-clause-free : goal.returns-clause-free
 returns-clause-free c =
-    let m : Member = record { votes = votes_of c.self.inside.votes; own = c.self.inside.own; instances = c.self.inside.instances.items; view = c.self.inside.view } in
+    let m : ReplicaState = record { votes = votes_of c.self.inside.votes; own = c.self.inside.own; instances = c.self.inside.instances.items; view = c.self.inside.view } in
     let message = whole_of c.args.message.now in
     subst (λ q. IsFree q message → IsOk c.take_message.result) c.self.view_is
     (λ free. c.take_message.ensures.free (free_is m message.instance c.in-Some.at.now c.take_message.new.self c.in-Some.ensures.item.3.0 c.in-Some.ensures.value message refl free))

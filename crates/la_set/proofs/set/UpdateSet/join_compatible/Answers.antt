@@ -1,16 +1,16 @@
 use Rattle.std.proofs.Common.{arith, sym, ◌∙◌}
 use Rattle.la_set.proofs.Inclusions.{subset-counts}
-use Rattle.la_set.proofs.Unions.{union-nothing, union-subset}
-use Rattle.la_set.proofs.Joining.{joining-more, joining-kept, joining-keeps, not_yet, agree-lists}
+use Rattle.la_set.proofs.Joins.{join-nothing, join-subset}
+use Rattle.la_set.proofs.Joining.{joining-more, joining-represented, joining-keeps, not_yet, agree-lists}
 use Rattle.la_set.proofs.set.UpdateSet.join_compatible.Goals as goal
 
 pub returns-then-has_no_more-clause-ok : goal.returns-then-has_no_more-clause-ok
-returns-then-has_no_more-clause-ok c = sym (union-nothing c.args.self.now c.args.other.now (c.has_no_more.ensures.0 c.if-has_no_more.true))
+returns-then-has_no_more-clause-ok c = sym (join-nothing c.args.self.now c.args.other.now (c.has_no_more.ensures.0 c.if-has_no_more.true))
 
 pub returns-then-has_no_more-2-clause-ok : goal.returns-then-has_no_more-2-clause-ok
 returns-then-has_no_more-2-clause-ok c =
     let s = c.args.self.now in let t = c.args.other.now in
-    c.in_ok-self.ensures ∙ sym (union-subset s t (subset-counts s t c.requires (c.has_no_more-2.ensures.0 c.if-has_no_more-2.true)))
+    c.in_ok-self.ensures ∙ sym (join-subset s t (subset-counts s t c.requires (c.has_no_more-2.ensures.0 c.if-has_no_more-2.true)))
 
 pub extend_from-requires : goal.extend_from-requires
 extend_from-requires c =
@@ -26,4 +26,4 @@ pub keeping-requires : goal.keeping-requires
 keeping-requires c = joining-keeps c.args.self.now c.args.other.now c.loop-replica.of c.loop-replica.replica c.loop-replica.invariant (omega arith) c.allocator-alloc.ensures
 
 pub returns-clause-ok : goal.returns-clause-ok
-returns-clause-ok c = c.in_ok-self-2.ensures ∙ joining-kept c.args.self.now c.args.other.now c.loop-replica.of c.loop-replica.replica c.loop-replica.invariant (omega arith)
+returns-clause-ok c = c.in_ok-self-2.ensures ∙ joining-represented c.args.self.now c.args.other.now c.loop-replica.of c.loop-replica.replica c.loop-replica.invariant (omega arith)

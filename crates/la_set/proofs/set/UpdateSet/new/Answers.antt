@@ -1,11 +1,11 @@
 use Rattle.std.proofs.Common.{length, refl, ap, arith}
 use Rattle.la_set.specs.Histories.{empty}
 use Rattle.la_set.proofs.SetHistories.{history-empty}
-use Rattle.la_set.proofs.Representation.{IsKept-from, kept-from, none_each}
+use Rattle.la_set.proofs.Representation.{IsRepresentation-from, represented-from, none_each}
 use Rattle.la_set.proofs.set.UpdateSet.new.Goals as goal
 
 pub invariant_of-result : goal.invariant_of-result
-invariant_of-result c = IsKept-from _ empty refl none_each (λ r. omega (arith, ap length (history-empty r)))
+invariant_of-result c = IsRepresentation-from _ empty refl none_each (λ r. omega (arith, ap length (history-empty r)))
 
 pub returns : goal.returns
-returns c = kept-from _ empty none_each
+returns c = represented-from _ empty none_each

@@ -6,7 +6,7 @@ use Rattle.std.proofs.lemmas.Bool.{cond_both, true≢false, not-true}
 use Rattle.std.proofs.lemmas.List.{length-drop}
 use Rattle.std.proofs.lemmas.List.FromFn.{length-map-range_with_len}
 use Rattle.la_set.specs.declared.update.UpdateId.{UpdateId}
-use Rattle.la_set.specs.Deeds.{Deed}
+use Rattle.la_set.specs.ObjectOps.{ObjectOp}
 use Rattle.la_set.specs.Histories.{Histories, count, get}
 use Rattle.la_set.specs.Inclusion.{IsSubset}
 use Rattle.la_set.specs.Join.{IsCompatible, ClashesAt}
@@ -18,8 +18,8 @@ use Rattle.la_proposer.specs.declared.tally.Verdict.{Verdict}
 use Rattle.la_proposer.specs.declared.tally.Verdict.TheVariants.{Waits, Refines, Learns}
 use Rattle.la_proposer.specs.Majority.{is_majority}
 use Rattle.la_proposer.specs.Tally.{has_counted, said_yes, has_refusal, verdict, joined_with_refusals}
-use Rattle.la_proposer.specs.Proposing as proposer
-use Rattle.la_proposer.specs.Proposing.{Proposing, with_reply, is_nothing}
+use Rattle.la_proposer.specs.ProposerState as proposer
+use Rattle.la_proposer.specs.ProposerState.{ProposerState, with_reply, is_nothing}
 use Rattle.la_proposer.specs.Clashes.{ClashesWith, ClashesInTally, Fits}
 use Rattle.la_proposer.specs.Refusals.{opens_by, ReplySpends}
 use Rattle.la_proposer.proofs.LeastIds.{least-clash, get-some, some-get}
@@ -39,20 +39,20 @@ use Rattle.la_world.specs.Counting.{counted}
 use Rattle.la_world.specs.Submissions.{submitted}
 use Rattle.la_world.specs.Views.{view}
 use Rattle.la_world.specs.Playing.{counts, trace}
-use Rattle.la_world.specs.Members.{proposing, instance_of, member}
+use Rattle.la_world.specs.ReplicaStates.{proposer_state, instance_of, replica_state}
 use Rattle.la_replica.specs.Fitting.{FitsReceiver, FitsViewBody}
 use Rattle.la_world.specs.Following.{SubmissionsFit, DeliveriesFit}
 use Rattle.la_world.proofs.Lists.{IsIn, AllIn, IsIn_get}
 use Rattle.la_world.proofs.Sizes.{total, total_subset, total_most, total_below, total_strict}
-use Rattle.la_world.proofs.Happens.{heard, refused_contains}
-use Rattle.la_world.proofs.Quorum.{counts_is, heard_stand}
+use Rattle.la_world.proofs.EventCases.{heard, refused_contains}
+use Rattle.la_world.proofs.Quorum.{counts_is, heard_justified}
 use Rattle.la_world.proofs.Within.{refusal, set_in, IsCountWithin, heard_within}
 use Rattle.la_world.proofs.Growth.{all_larger, refused_larger}
-use Rattle.la_world.proofs.Known.{known, history-known}
+use Rattle.la_world.proofs.OwnBound.{own_bound, history-own_bound}
 use Rattle.la_world.proofs.Traces.{Holds, holds, size, own_count, round_known, counted_known, stands, message_known}
 use Rattle.la_world.proofs.InGroup.{IsBetween}
 use Rattle.la_world.proofs.Once.{submitted_most}
-use Rattle.la_world.proofs.Members.{get_instance}
+use Rattle.la_world.proofs.OneReplicaSteps.{get_instance}
 use Rattle.la_world.proofs.Replying.{before, with_new, waits, tally_then, refined_within, something_length}
 use Rattle.la_world.proofs.Replying.{counts_is as same_counts}
 use Rattle.la_world.proofs.LargestViews.{view_known}
@@ -84,18 +84,18 @@ refines_some votes tally e = go (is_majority votes (said_yes tally)) (has_refusa
 
 -- where each replica has submitted at most so much in an instance
 module _ (g : Group) (t : Trace) (h : Holds g t) (i most : ℕ) (caps : (q : ℕ) → length (submitted t i q) ≤ most) where
-  count_known : (q : ℕ) → count (known t i) q ≤ most
-  count_known q = subst (λ (zs : List Deed). length zs ≤ most) (sym (history-known t i q))
+  count_known : (q : ℕ) → count (own_bound t i) q ≤ most
+  count_known q = subst (λ (zs : List ObjectOp). length zs ≤ most) (sym (history-own_bound t i q))
       (let le = own_count g t h i q in let c = caps q in omega arith)
 
-  pub total_known : (s : Histories) → IsSubset s (known t i) → total s ≤ 8 * most
-  total_known s sub = let a = total_subset s (known t i) sub in let b = total_most (known t i) most count_known in omega arith
+  pub total_known : (s : Histories) → IsSubset s (own_bound t i) → total s ≤ 8 * most
+  total_known s sub = let a = total_subset s (own_bound t i) sub in let b = total_most (own_bound t i) most count_known in omega arith
 
   -- where not all that may be submitted is in the last ballot
   pub last_below : (r : ℕ) → r < 8 → count (round t i r).updates r < most → (round t i r).ballot < 8 * most
   last_below r lt less =
       let last = round t i r in
-      let each : (q : ℕ) → count last.updates q ≤ most = λ q. (let a = subset-count last.updates (known t i) (round_known g t h i r) q in let b = count_known q in omega arith) in
+      let each : (q : ℕ) → count last.updates q ≤ most = λ q. (let a = subset-count last.updates (own_bound t i) (round_known g t h i r) q in let b = count_known q in omega arith) in
       let a = total_below last.updates most r each lt less in
       let b = size g t h i r in
       omega arith
@@ -114,30 +114,30 @@ module _ (g : Group) (t : Trace) (m : Message) (h : Holds g t) (was_sent : IsIn 
   last = round t i r
 
   -- no update of the replica's own that its last ballot lacks
-  no_unknown : (s : Histories) → IsSubset s (known t i) → (id : UpdateId) → id.replica ≡ r → IsSome (get s id) → get last.updates id ≡ None → ⊥
+  no_unknown : (s : Histories) → IsSubset s (own_bound t i) → (id : UpdateId) → id.replica ≡ r → IsSome (get s id) → get last.updates id ≡ None → ⊥
   no_unknown s sub id own some none =
       let p = some-get s id some in
-      let fewer : count s r ≤ count last.updates r = subst (λ (zs : List Deed). count s r ≤ length zs) (history-known t i r) (subset-count s (known t i) sub r) in
+      let fewer : count s r ≤ count last.updates r = subst (λ (zs : List ObjectOp). count s r ≤ length zs) (history-own_bound t i r) (subset-count s (own_bound t i) sub r) in
       let within : id.number ≤ count last.updates id.replica = subst (λ q. id.number ≤ count s q → id.number ≤ count last.updates q) (sym own) (λ le. omega (arith, fewer)) p.1 in
       true≢false (sym (subst IsSome none (get-some last.updates id p.0 within)))
 
   -- its set, where it has this body
-  body_known : (b : Body) → m.body ≡ b → IsSubset (set_in b) (known t i)
-  body_known b is = subst (λ c. IsSubset (set_in c) (known t i)) is (message_known g t h m was_sent)
+  body_known : (b : Body) → m.body ≡ b → IsSubset (set_in b) (own_bound t i)
+  body_known b is = subst (λ c. IsSubset (set_in c) (own_bound t i)) is (message_known g t h m was_sent)
 
-  asked_known : (v : Bool) → AllIn (IsCountWithin known t i) (cond v (counted t i r) [])
+  asked_known : (v : Bool) → AllIn (IsCountWithin own_bound t i) (cond v (counted t i r) [])
   asked_known true = counted_known g t h i r
   asked_known false = tt
 
-  reply_fits : (reply : Reply) → m.body ≡ body_of reply → Fits (proposing g t i r) reply
-  unfolding proposing
+  reply_fits : (reply : Reply) → m.body ≡ body_of reply → Fits (proposer_state g t i r) reply
+  unfolding proposer_state
   reply_fits replied.Yes is id c = c
-  reply_fits (replied.No s) is id (inl (inl c)) = no_clash last.updates s (known t i) (round_known g t h i r) (body_known (No s) is) id c
+  reply_fits (replied.No s) is id (inl (inl c)) = no_clash last.updates s (own_bound t i) (round_known g t h i r) (body_known (No s) is) id c
   reply_fits (replied.No s) is id (inl (inr c)) = no_unknown s (body_known (No s) is) id c.0 c.1 c.2
-  reply_fits (replied.No s) is id (inr c) = no_clash_in (known t i) s (cond (is_open t i r) (counted t i r) []) (body_known (No s) is) (asked_known (is_open t i r)) id c
+  reply_fits (replied.No s) is id (inr c) = no_clash_in (own_bound t i) s (cond (is_open t i r) (counted t i r) []) (body_known (No s) is) (asked_known (is_open t i r)) id c
 
   pub offer_fits : (s : Histories) → m.body ≡ Offer s → IsCompatible (accepted t i r) s
-  offer_fits s is = compatible-within (accepted t i r) s (known t i) (h.within.acceptor i r) (body_known (Offer s) is)
+  offer_fits s is = compatible-within (accepted t i r) s (own_bound t i) (h.within.acceptor i r) (body_known (Offer s) is)
 
   -- ## Ballots' numbers
 
@@ -146,11 +146,11 @@ module _ (g : Group) (t : Trace) (m : Message) (h : Holds g t) (was_sent : IsIn 
     refined_more : (reply : Reply) → m.body ≡ body_of reply → counts t m ≡ true → verdict g.votes (heard t m reply) ≡ Refines → total last.updates < total (joined_with_refusals last.updates (heard t m reply))
     refined_more reply is heeded refines =
         let cs = heard t m reply in
-        let larger = all_larger t i r (h.sound.numbered i r) (counts_is t m heeded).0 cs (heard_stand t m reply is heeded (stands g t h m was_sent) (h.sound.backed i r last.ballot)) in
+        let larger = all_larger t i r (h.quorum.numbered i r) (counts_is t m heeded).0 cs (heard_justified t m reply is heeded (stands g t h m was_sent) (h.quorum.backed i r last.ballot)) in
         total_strict last.updates (joined_with_refusals last.updates cs) (refused_contains last.updates cs)
-        (refused_larger last.updates last.updates (known t i) cs (round_known g t h i r) (heard_within known g t h.within m reply is (message_known g t h m was_sent)) larger (refines_some g.votes cs refines))
+        (refused_larger last.updates last.updates (own_bound t i) cs (round_known g t h i r) (heard_within own_bound g t h.within m reply is (message_known g t h m was_sent)) larger (refines_some g.votes cs refines))
 
-    number_left : r < 8 → (reply : Reply) → m.body ≡ body_of reply → proposer.counts (proposing g t i r) m.from m.ballot ≡ true → opens_by (with_reply (proposing g t i r) m.from reply) (verdict g.votes (with_reply (proposing g t i r) m.from reply).tally) ≡ true → last.ballot < 8 * most
+    number_left : r < 8 → (reply : Reply) → m.body ≡ body_of reply → proposer.counts (proposer_state g t i r) m.from m.ballot ≡ true → opens_by (with_reply (proposer_state g t i r) m.from reply) (verdict g.votes (with_reply (proposer_state g t i r) m.from reply).tally) ≡ true → last.ballot < 8 * most
     number_left lt reply is asked opens =
         let heeded : counts t m ≡ true = sym (same_counts g t 0 m reply is h was_sent) ∙ asked in
         go heeded (verdict g.votes (tally_then g t 0 m reply is h was_sent)) refl (sym (ap (λ p. opens_by (with_reply p m.from reply) (verdict g.votes (with_reply p m.from reply).tally)) (before g t 0 m reply is h was_sent heeded)) ∙ opens)
@@ -172,12 +172,12 @@ module _ (g : Group) (t : Trace) (m : Message) (h : Holds g t) (was_sent : IsIn 
 
     module _ (between : IsBetween g m) (few : replicas g ≤ 8) (small : most ≤ 1000000) where
       -- a reply that counts leaves a number for the ballot that it opens
-      reply_spares : (reply : Reply) → m.body ≡ body_of reply → proposer.counts (proposing g t i r) m.from m.ballot ≡ true → ¬ ReplySpends (with_reply (proposing g t i r) m.from reply)
-      unfolding proposing
+      reply_spares : (reply : Reply) → m.body ≡ body_of reply → proposer.counts (proposer_state g t i r) m.from m.ballot ≡ true → ¬ ReplySpends (with_reply (proposer_state g t i r) m.from reply)
+      unfolding proposer_state
       reply_spares reply is asked w = let lt = between.to in let l = number_left (omega arith) reply is asked w.0 in let k = w.1 in absurd (omega arith)
 
-      hearing_refusal : (reply : Reply) → m.body ≡ body_of reply → (e : ReplicaError) → IsHearingRefusal (proposing g t i r) m reply e → e ≡ Memory
-      unfolding proposing
+      hearing_refusal : (reply : Reply) → m.body ≡ body_of reply → (e : ReplicaError) → IsHearingRefusal (proposer_state g t i r) m reply e → e ≡ Memory
+      unfolding proposer_state
       hearing_refusal reply is (Clash id) w = absurd (reply_fits reply is id w.1.0)
       hearing_refusal reply is BallotsSpent w = absurd (reply_spares reply is w.0 w.2)
       hearing_refusal reply is Memory w = refl
@@ -187,7 +187,7 @@ module _ (g : Group) (t : Trace) (m : Message) (h : Holds g t) (was_sent : IsIn 
 
       body_refusal : (b : Body) → m.body ≡ b → (e : ReplicaError) → IsBodyRefusal (instance_of g t r i) (view t r) m b e → e ≡ Memory
       unfolding instance_of
-      body_refusal (Offer s) is (Clash id) w = absurd (no_clash (accepted t i r) s (known t i) (h.within.acceptor i r) (body_known (Offer s) is) id w.clashes)
+      body_refusal (Offer s) is (Clash id) w = absurd (no_clash (accepted t i r) s (own_bound t i) (h.within.acceptor i r) (body_known (Offer s) is) id w.clashes)
       body_refusal (Offer s) is BallotsSpent w = absurd w
       body_refusal (Offer s) is Memory w = refl
       body_refusal (Offer s) is NoSuchReplica w = absurd w
@@ -202,12 +202,12 @@ module _ (g : Group) (t : Trace) (m : Message) (h : Holds g t) (was_sent : IsIn 
       body_refusal (Tell s) is NoSuchInstance w = absurd w
       body_refusal (Tell s) is Full w = absurd w
 
-      there : (e : ReplicaError) → IsSomeAnd (slice_get (member g t r).instances i) (λ x. IsBodyRefusal x (member g t r).view m m.body e) → IsBodyRefusal (instance_of g t r i) (view t r) m m.body e
-      unfolding member
+      there : (e : ReplicaError) → IsSomeAnd (slice_get (replica_state g t r).instances i) (λ x. IsBodyRefusal x (replica_state g t r).view m m.body e) → IsBodyRefusal (instance_of g t r i) (view t r) m m.body e
+      unfolding replica_state
       there e w = subst (λ o. IsSomeAnd o (λ x. IsBodyRefusal x (view t r) m m.body e)) (get_instance g t r i between.instance) w
 
-      pub message_refusal : (e : ReplicaError) → IsReceiveRefusal (member g t r) m e → e ≡ Memory
-      unfolding member
+      pub message_refusal : (e : ReplicaError) → IsReceiveRefusal (replica_state g t r) m e → e ≡ Memory
+      unfolding replica_state
       message_refusal NoSuchReplica (inl le) = let l = between.from in absurd (omega arith)
       message_refusal NoSuchReplica (inr ne) = absurd (ne refl)
       message_refusal NoSuchInstance w = let lt = between.instance in let le = w.1 in absurd (omega (arith, length-map-range_with_len (instance_of g t r) 0 (instances g)))
@@ -232,19 +232,19 @@ module _ (g : Group) (t : Trace) (m : Message) (h : Holds g t) (was_sent : IsIn 
       body_spares (No s) is = λ c. reply_spares (replied.No s) is c
       body_spares (Tell s) is = tt
 
-      here : (P : Instance → Type 0) → P (instance_of g t r i) → IsSomeAnd (slice_get (member g t r).instances i) P
+      here : (P : Instance → Type 0) → P (instance_of g t r i) → IsSomeAnd (slice_get (replica_state g t r).instances i) P
       here P p = subst (λ o. IsSomeAnd o P) (sym (get_instance g t r i between.instance)) p
 
       -- the view lies in what is known, and so does each set that may become it
-      view_fits : IsSubset (view t r) (known t 0) → (body : Body) → m.body ≡ body → FitsViewBody (instance_of g t r i) (view t r) m body
-      unfolding proposing instance_of
+      view_fits : IsSubset (view t r) (own_bound t 0) → (body : Body) → m.body ≡ body → FitsViewBody (instance_of g t r i) (view t r) m body
+      unfolding proposer_state instance_of
       view_fits seen (Offer s) is = tt
-      view_fits seen Yes is = λ e. compatible-within (view t r) last.updates (known t 0) seen (subst (λ j. IsSubset last.updates (known t j)) e (round_known g t h i r))
-      view_fits seen (No s) is = λ e. compatible-within (view t r) last.updates (known t 0) seen (subst (λ j. IsSubset last.updates (known t j)) e (round_known g t h i r))
-      view_fits seen (Tell s) is = λ e. compatible-within (view t r) s (known t 0) seen (subst (λ j. IsSubset s (known t j)) e (body_known (Tell s) is))
+      view_fits seen Yes is = λ e. compatible-within (view t r) last.updates (own_bound t 0) seen (subst (λ j. IsSubset last.updates (own_bound t j)) e (round_known g t h i r))
+      view_fits seen (No s) is = λ e. compatible-within (view t r) last.updates (own_bound t 0) seen (subst (λ j. IsSubset last.updates (own_bound t j)) e (round_known g t h i r))
+      view_fits seen (Tell s) is = λ e. compatible-within (view t r) s (own_bound t 0) seen (subst (λ j. IsSubset s (own_bound t j)) e (body_known (Tell s) is))
 
-      pub message_fits : IsSubset (view t r) (known t 0) → FitsReceiver (member g t r) m
-      unfolding member proposing instance_of
+      pub message_fits : IsSubset (view t r) (own_bound t 0) → FitsReceiver (replica_state g t r) m
+      unfolding replica_state proposer_state instance_of
       message_fits seen = record {
         receivable = ((between.from, refl), here (λ x. FitsBody x m m.body) (body_fits m.body refl));
         spares = here (λ x. SparesBody x m m.body) (body_spares m.body refl);
@@ -268,17 +268,17 @@ delivery_fits g events k m few small legal is =
     (message_fits g t m h was_sent (cap_of g m.instance) caps between few low (view_known g events m.to), message_refusal g t m h was_sent (cap_of g m.instance) caps between few low)
 
 -- what the proposer counts as submitted
-pub submitted_is : (g : Group) (t : Trace) (i r : ℕ) → Holds g t → proposer.submitted (proposing g t i r) ≡ length (submitted t i r)
-unfolding proposing
+pub submitted_is : (g : Group) (t : Trace) (i r : ℕ) → Holds g t → proposer.submitted (proposer_state g t i r) ≡ length (submitted t i r)
+unfolding proposer_state
 submitted_is g t i r h = let le = own_count g t h i r in omega (arith, length-drop (count (round t i r).updates r) (submitted t i r))
 
 -- a submission is refused where the cap is reached, and else for want of memory alone
-abbrev pub IsSubmittersRefusal : (cap : ℕ) → (all : List Deed) → ReplicaError → Type 0
+abbrev pub IsSubmittersRefusal : (cap : ℕ) → (all : List ObjectOp) → ReplicaError → Type 0
 IsSubmittersRefusal cap all e = ((e ≡ Full) × (cap ≤ length all)) ⊎ ((e ≡ Memory) × (length all < cap))
 
 module _ (g : Group) (t : Trace) (r i : ℕ) (h : Holds g t) (caps : (q : ℕ) → length (submitted t i q) ≤ cap_of g i) (known_replica : r < 8) (there : i < instances g) (small : cap_of g i ≤ 1000000) where
-  proposers_refusal : (e : ReplicaError) → IsSubmissionRefusal (proposing g t i r) e → IsSubmittersRefusal (cap_of g i) (submitted t i r) e
-  unfolding proposing
+  proposers_refusal : (e : ReplicaError) → IsSubmissionRefusal (proposer_state g t i r) e → IsSubmittersRefusal (cap_of g i) (submitted t i r) e
+  unfolding proposer_state
   proposers_refusal Full w = inl (refl, subst (λ z. cap_of g i ≤ z) (submitted_is g t i r h) w)
   proposers_refusal Memory w = inr (refl, subst (λ z. z < cap_of g i) (submitted_is g t i r h) w.0)
   proposers_refusal BallotsSpent w =
@@ -291,12 +291,12 @@ module _ (g : Group) (t : Trace) (r i : ℕ) (h : Holds g t) (caps : (q : ℕ) �
   proposers_refusal NoSuchInstance w = absurd w
   proposers_refusal (Clash id) w = absurd w
 
-  proposer_there : (e : ReplicaError) → IsSomeAnd (slice_get (member g t r).instances i) (λ x. IsSubmissionRefusal x.proposer e) → IsSubmittersRefusal (cap_of g i) (submitted t i r) e
+  proposer_there : (e : ReplicaError) → IsSomeAnd (slice_get (replica_state g t r).instances i) (λ x. IsSubmissionRefusal x.proposer e) → IsSubmittersRefusal (cap_of g i) (submitted t i r) e
   unfolding instance_of
   proposer_there e w = proposers_refusal e (subst (λ o. IsSomeAnd o (λ x. IsSubmissionRefusal x.proposer e)) (get_instance g t r i there) w)
 
-  submitters_refusal : (e : ReplicaError) → IsSubmitRefusal (member g t r) i e → IsSubmittersRefusal (cap_of g i) (submitted t i r) e
-  unfolding member
+  submitters_refusal : (e : ReplicaError) → IsSubmitRefusal (replica_state g t r) i e → IsSubmittersRefusal (cap_of g i) (submitted t i r) e
+  unfolding replica_state
   submitters_refusal NoSuchInstance w = absurd (omega (arith, there, w, length-map-range_with_len (instance_of g t r) 0 (instances g)))
   submitters_refusal Full w = proposer_there Full w
   submitters_refusal Memory w = proposer_there Memory w
