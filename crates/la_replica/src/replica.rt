@@ -100,8 +100,8 @@ impl Replica {
         self.own
     }
 
-    /// What the replica answers questions from: the largest of the sets of instance 0 that it learnt
-    /// or was told, taken one after the other; empty at first.
+    /// What the replica answers questions from: of the sets of instance 0 that it learnt or was
+    /// told, one after the other, each that was strictly larger than what it had; empty at first.
     pub fn view(&self) -> &UpdateSet
         ensures { result.now ≡ self.now.view }
     {

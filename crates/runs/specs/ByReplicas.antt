@@ -1,5 +1,6 @@
 -- A group with an adopt-commit object, played by the replicas' own steps: what each replica comes to keep, and what was
--- sent, is what the trace says. Of groups without such objects the laws on following say so of every list of events.
+-- sent, is what the trace says. Of groups without such objects the laws on following say so of every list of events of
+-- which none was refused.
 use Rattle.std.specs.Prelude.{◌≡◌, ℕ, List, [], ◌∷◌, ◌++◌, map, reverse, fold, take, slice_get, slice_set, Option, Some, None}
 use Rattle.la_set.specs.ObjectOps.{ObjectOp}
 use Rattle.la_replica.specs.Whole.{Message, Out}

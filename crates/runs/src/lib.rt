@@ -1,10 +1,10 @@
 //! Runs whose reports are computed from the definitions of `la_world`: what each event of a list does,
 //! what is learnt, and the views at the end.
 //!
-//! Each function here has an empty body, and a contract that says: the report of these events in this
-//! group is this one. A reader can check the definitions by them. The runs with proposals and those of
-//! groups with unequal votes stand here since no script plays them; all other runs are rows of the
-//! program.
+//! Each function here has an empty body, and a contract that says: the report of these events in
+//! this group is this one. A reader can check the definitions by them. The runs with proposals
+//! stand here since no code plays them, and four others to read the definitions by; the runs that a
+//! script can say are rows of the program.
 #![tactic(auto)]
 
 ghost use Rattle.runs.specs.ByReplicas.{LateDissenterByReplicas};
