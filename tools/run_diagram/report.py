@@ -1,0 +1,274 @@
+"""Reports: what each event did, and every replica's view. docs/SCRIPT.md has the texts."""
+from __future__ import annotations
+
+import re
+from collections.abc import Callable
+from dataclasses import dataclass
+
+from .lines import Line, Lines
+from .script import VERSION, Script
+
+UpdateId = tuple[int, int]
+UpdateSet = frozenset[UpdateId]
+
+
+def id_text(update: UpdateId) -> str:
+    """An update's id: its replica, and its number there."""
+    return f"{update[0]}.{update[1]}"
+
+
+def set_text(updates: UpdateSet) -> str:
+    """A set, by its ids in order."""
+    return "{" + " ".join(map(id_text, sorted(updates))) + "}"
+
+
+@dataclass(frozen=True)
+class Mail:
+    """Messages that were sent one after the other."""
+
+    first: int
+    count: int
+
+    def __str__(self) -> str:
+        last = self.first + self.count - 1
+        return f"m{self.first}" if self.count == 1 else f"m{self.first}-m{last}"
+
+
+@dataclass(frozen=True)
+class Ballot:
+    """A ballot of a replica in instance 0."""
+
+    replica: int
+    number: int
+    updates: UpdateSet
+
+    def __str__(self) -> str:
+        return f"r{self.replica} i0 b{self.number} {set_text(self.updates)}"
+
+
+@dataclass(frozen=True)
+class Opened:
+    """A ballot opened, and was offered."""
+
+    ballot: Ballot
+    mail: Mail
+
+    def __str__(self) -> str:
+        return f"opened {self.ballot} {self.mail}"
+
+
+@dataclass(frozen=True)
+class Held:
+    """The update waits."""
+
+    update: UpdateId
+
+    def __str__(self) -> str:
+        return f"held {id_text(self.update)}"
+
+
+@dataclass(frozen=True)
+class Yes:
+    """An offer was acknowledged."""
+
+    mail: Mail
+
+    def __str__(self) -> str:
+        return f"yes {self.mail}"
+
+
+@dataclass(frozen=True)
+class No:
+    """An offer was refused, with what is accepted now."""
+
+    updates: UpdateSet
+    mail: Mail
+
+    def __str__(self) -> str:
+        return f"no {set_text(self.updates)} {self.mail}"
+
+
+@dataclass(frozen=True)
+class Counted:
+    """A reply counts, and its ballot stays open."""
+
+    def __str__(self) -> str:
+        return "counted"
+
+
+@dataclass(frozen=True)
+class Ignored:
+    """A reply does not count."""
+
+    def __str__(self) -> str:
+        return "ignored"
+
+
+@dataclass(frozen=True)
+class Refined:
+    """A ballot ended with refusals, and this one opened in its place."""
+
+    ballot: Ballot
+    mail: Mail
+
+    def __str__(self) -> str:
+        return f"refined {self.ballot} {self.mail}"
+
+
+@dataclass(frozen=True)
+class Learnt:
+    """A ballot's set was learnt, and told where there is another replica; the next may have opened."""
+
+    ballot: Ballot
+    told: Mail | None
+    next: Opened | None
+
+    def __str__(self) -> str:
+        told = f" told {self.told}" if self.told else ""
+        return f"learnt {self.ballot}{told}" + (f" {self.next}" if self.next else "")
+
+
+@dataclass(frozen=True)
+class Took:
+    """A told set is the view now."""
+
+    updates: UpdateSet
+
+    def __str__(self) -> str:
+        return f"took {set_text(self.updates)}"
+
+
+@dataclass(frozen=True)
+class Kept:
+    """A told set is not larger than the view."""
+
+    def __str__(self) -> str:
+        return "kept"
+
+
+@dataclass(frozen=True)
+class Refused:
+    """The event was refused, by this name."""
+
+    name: str
+
+    def __str__(self) -> str:
+        return f"refused {self.name}"
+
+
+Outcome = (
+    Opened | Held | Yes | No | Counted | Ignored | Refined | Learnt | Took | Kept | Refused
+)
+
+
+@dataclass(frozen=True)
+class Report:
+    """What each event did, and what each replica shows at the end, each with its line."""
+
+    outcomes: tuple[tuple[Line, Outcome], ...]
+    views: tuple[tuple[Line, UpdateSet], ...]
+
+
+def id_of(text: str) -> UpdateId:
+    """The id in a text such as `0.1`."""
+    replica, count = text.split(".")
+    return int(replica), int(count)
+
+
+def set_of(text: str) -> UpdateSet:
+    """The set in a text such as `{0.1 1.1}`."""
+    return frozenset(map(id_of, text[1:-1].split()))
+
+
+def mail_of(text: str) -> Mail:
+    """The messages in a text such as `m3` or `m0-m2`."""
+    first, _, last = text.replace("m", "").partition("-")
+    return Mail(int(first), int(last or first) - int(first) + 1)
+
+
+def ballot_of(replica: str, count: str, updates: str) -> Ballot:
+    """A ballot, from the texts of its parts."""
+    return Ballot(int(replica), int(count), set_of(updates))
+
+
+def opened_of(replica: str, count: str, updates: str, mail: str) -> Opened:
+    """An opened ballot, from the texts of its parts."""
+    return Opened(ballot_of(replica, count, updates), mail_of(mail))
+
+
+def refined_of(replica: str, count: str, updates: str, mail: str) -> Refined:
+    """A refinement, from the texts of its parts."""
+    return Refined(ballot_of(replica, count, updates), mail_of(mail))
+
+
+def learnt_of(
+    replica: str, count: str, updates: str, told: str | None, *opened: str | None
+) -> Learnt:
+    """A learnt set, from the texts of its parts, some of which may be missing."""
+    parts = [part for part in opened if part is not None]
+    return Learnt(
+        ballot_of(replica, count, updates),
+        mail_of(told) if told else None,
+        opened_of(*parts) if parts else None,
+    )
+
+
+DIGITS = "[0-9]{1,20}"
+ID = rf"{DIGITS}\.{DIGITS}"
+SET = rf"(\{{(?:{ID}(?: {ID})*)?\}})"
+MAIL = f"(m{DIGITS}(?:-m{DIGITS})?)"
+BALLOT = f"r({DIGITS}) i0 b({DIGITS}) {SET}"
+FORMS: tuple[tuple[str, Callable[..., Outcome]], ...] = (
+    (f"opened {BALLOT} {MAIL}", opened_of),
+    (f"held ({ID})", lambda update: Held(id_of(update))),
+    (f"yes {MAIL}", lambda mail: Yes(mail_of(mail))),
+    (f"no {SET} {MAIL}", lambda updates, mail: No(set_of(updates), mail_of(mail))),
+    ("counted", Counted),
+    ("ignored", Ignored),
+    (f"refined {BALLOT} {MAIL}", refined_of),
+    (f"learnt {BALLOT}(?: told {MAIL})?(?: opened {BALLOT} {MAIL})?", learnt_of),
+    (f"took {SET}", lambda updates: Took(set_of(updates))),
+    ("kept", Kept),
+    ("refused (NoSuchReplica|Full|NoSuchMessage)", Refused),
+)
+
+
+def read_outcome(line: Line, event: int) -> Outcome:
+    """Reads the line of the event with this number."""
+    count, _, text = (line.text or "").partition(" ")
+    line.require(count == str(event), f"the line of event {event}")
+    for form, build in FORMS:
+        found = re.fullmatch(form, text)
+        if found:
+            outcome = build(*found.groups())
+            line.require(str(outcome) == text, f"`{event} {outcome}`")
+            return outcome
+    raise line.fault("what an event did")
+
+
+def read_view(line: Line, replica: int) -> UpdateSet:
+    """Reads the line of the view of the replica with this number."""
+    found = re.fullmatch(f"view {replica} {SET}", line.text or "")
+    if not found:
+        raise line.fault(f"`view {replica} {{..}}`")
+    view = set_of(found[1])
+    line.require(set_text(view) == found[1], f"`view {replica} {set_text(view)}`")
+    return view
+
+
+def read_report(file: str, text: str, script: Script) -> Report:
+    """Reads a report with this script's header, and with as many lines as it calls for."""
+    lines = Lines(file, text)
+    lines.expect(VERSION)
+    lines.expect(str(script.group))
+    outcomes, views = [], []
+    for event in range(1, len(script.events) + 1):
+        line = lines.take()
+        outcomes.append((line, read_outcome(line, event)))
+    for replica in range(script.group.replicas):
+        line = lines.take()
+        views.append((line, read_view(line, replica)))
+    end = lines.take()
+    end.require(end.text is None, "the end of the report")
+    line.require(lines.ends_with_line_feed, "a line feed after the last line")
+    return Report(tuple(outcomes), tuple(views))
