@@ -32,11 +32,9 @@ class Lines:
 
     def __init__(self, file: str, text: str) -> None:
         self.file = file
-        self.texts = text.split("\n")
+        self.texts = text.removesuffix("\n").split("\n") if text else []
+        self.ends_in_a_line = not text.endswith("\n")
         self.taken = 0
-        self.ends_with_line_feed = self.texts[-1] == ""
-        if self.ends_with_line_feed:
-            self.texts.pop()
 
     def at_end(self) -> bool:
         """Whether all lines are taken."""
@@ -52,3 +50,9 @@ class Lines:
         """Takes a line that must have this text."""
         line = self.take()
         line.require(line.text == text, f"`{text}`")
+
+    def expect_end(self) -> None:
+        """Expects that all lines are taken, and that the last one ended with a line feed."""
+        line = self.take()
+        line.require(line.text is None, "the end of the report")
+        line.require(not self.ends_in_a_line, "a line feed before the end")

@@ -6,7 +6,7 @@ from collections.abc import Callable
 from dataclasses import dataclass
 
 from .lines import Line, Lines
-from .script import VERSION, Script
+from .script import VERSION, Group
 
 UpdateId = tuple[int, int]
 UpdateSet = frozenset[UpdateId]
@@ -161,14 +161,6 @@ Outcome = (
 )
 
 
-@dataclass(frozen=True)
-class Report:
-    """What each event did, and what each replica shows at the end, each with its line."""
-
-    outcomes: tuple[tuple[Line, Outcome], ...]
-    views: tuple[tuple[Line, UpdateSet], ...]
-
-
 def id_of(text: str) -> UpdateId:
     """The id in a text such as `0.1`."""
     replica, count = text.split(".")
@@ -233,8 +225,15 @@ FORMS: tuple[tuple[str, Callable[..., Outcome]], ...] = (
 )
 
 
-def read_outcome(line: Line, event: int) -> Outcome:
-    """Reads the line of the event with this number."""
+def take_header(lines: Lines, group: Group) -> None:
+    """Takes the header, which must be that of the script."""
+    lines.expect(VERSION)
+    lines.expect(str(group))
+
+
+def take_outcome(lines: Lines, event: int) -> tuple[Line, Outcome]:
+    """Takes the line of the event with this number, and tells what it did."""
+    line = lines.take()
     count, _, text = (line.text or "").partition(" ")
     line.require(count == str(event), f"the line of event {event}")
     for form, build in FORMS:
@@ -242,33 +241,10 @@ def read_outcome(line: Line, event: int) -> Outcome:
         if found:
             outcome = build(*found.groups())
             line.require(str(outcome) == text, f"`{event} {outcome}`")
-            return outcome
+            return line, outcome
     raise line.fault("what an event did")
 
 
-def read_view(line: Line, replica: int) -> UpdateSet:
-    """Reads the line of the view of the replica with this number."""
-    found = re.fullmatch(f"view {replica} {SET}", line.text or "")
-    if not found:
-        raise line.fault(f"`view {replica} {{..}}`")
-    view = set_of(found[1])
-    line.require(set_text(view) == found[1], f"`view {replica} {set_text(view)}`")
-    return view
-
-
-def read_report(file: str, text: str, script: Script) -> Report:
-    """Reads a report with this script's header, and with as many lines as it calls for."""
-    lines = Lines(file, text)
-    lines.expect(VERSION)
-    lines.expect(str(script.group))
-    outcomes, views = [], []
-    for event in range(1, len(script.events) + 1):
-        line = lines.take()
-        outcomes.append((line, read_outcome(line, event)))
-    for replica in range(script.group.replicas):
-        line = lines.take()
-        views.append((line, read_view(line, replica)))
-    end = lines.take()
-    end.require(end.text is None, "the end of the report")
-    line.require(lines.ends_with_line_feed, "a line feed after the last line")
-    return Report(tuple(outcomes), tuple(views))
+def take_view(lines: Lines, replica: int, view: UpdateSet) -> None:
+    """Takes the line of a replica's view, which must be this one."""
+    lines.expect(f"view {replica} {set_text(view)}")

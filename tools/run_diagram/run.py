@@ -10,10 +10,10 @@ from __future__ import annotations
 from dataclasses import dataclass, field
 from enum import Enum
 
-from .lines import Line
+from .lines import Line, Lines
 from .report import (
-    Ballot, Counted, Held, Ignored, Kept, Learnt, Mail, No, Opened, Outcome, Refined, Refused,
-    Report, Took, UpdateId, UpdateSet, Yes, set_text,
+    Ballot, Counted, Held, Ignored, Kept, Learnt, Mail, No, Opened, Outcome, Refined, Refused, Took,
+    UpdateId, UpdateSet, Yes, set_text, take_header, take_outcome, take_view,
 )
 from .script import Deliver, Event, Group, Script, Submit
 
@@ -261,15 +261,16 @@ class Follower:
         return Moment(self.event, event, outcome, None, None)
 
 
-def follow_run(script: Script, report: Report) -> Run:
-    """The run that a report tells of a script; refuses a report that is not the script's."""
+def follow_run(script: Script, report: Lines) -> Run:
+    """The run that a report tells of a script; refuses the first line that cannot be there."""
+    take_header(report, script.group)
     follower = Follower(script.group)
-    moments = [
-        follower.follow(line, event, outcome)
-        for event, (line, outcome) in zip(script.events, report.outcomes, strict=True)
-    ]
-    for replica, (line, view) in zip(follower.replicas, report.views, strict=True):
-        expected = f"`view {replica.number} {set_text(replica.view)}`"
-        line.require(view == replica.view, expected)
-    views = tuple(view for _, view in report.views)
+    moments = []
+    for number, event in enumerate(script.events, start=1):
+        line, outcome = take_outcome(report, number)
+        moments.append(follower.follow(line, event, outcome))
+    views = tuple(replica.view for replica in follower.replicas)
+    for replica, view in enumerate(views):
+        take_view(report, replica, view)
+    report.expect_end()
     return Run(script.group, tuple(moments), tuple(follower.messages), views)

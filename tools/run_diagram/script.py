@@ -123,9 +123,8 @@ def is_skipped(line: Line) -> bool:
     return line.text == "" or (line.text or "").startswith("#")
 
 
-def read_script(file: str, text: str) -> Script:
+def read_script(lines: Lines) -> Script:
     """Reads a script, and refuses its first faulty line."""
-    lines = Lines(file, text)
     lines.expect(VERSION)
     group = read_group(lines.take())
     events = []
