@@ -7,8 +7,10 @@ from .report import (
 from .run import Moment
 from .script import Submit
 
+# The width of a character of the picture's font, with a little to spare, and the height of a line.
 CHARACTER = 6.7
 LEADING = 13
+# After so many characters a line is broken at a space.
 LONGEST = 15
 
 TextLine = tuple[str, str]

@@ -12,15 +12,20 @@ from .report import set_text
 from .run import Message, Moment, Run
 from .script import Group
 
+# The sides of a line, by which way heights go there.
 UP, DOWN = -1, 1
+# Room on the left, where the replicas' names stand, and on top, where the events' numbers do.
 LEFT_MARGIN = 90
 HEADER = 40
 COLUMN_GAP = 10
-NEAR = 22
 LEAST_ROW_GAP = 110
+# How far a caption keeps from its line.
+NEAR = 22
+# How far below or above the line, and to the right, a lost message is cut; the room of its label.
 STUB = 28
 STUB_SHIFT = 14
 LABEL_ROOM = 24
+# How far to the right of its event the label of a replica's lost message to itself begins.
 LOOP_LABEL = 26
 
 

@@ -3,7 +3,7 @@ from __future__ import annotations
 
 from . import svg
 from .captions import LEADING
-from .layout import DOWN, LOOP_LABEL, NEAR, STUB, UP, Column, Layout, lay_out
+from .layout import DOWN, LOOP_LABEL, NEAR, STUB, UP, Column, lay_out
 from .legend import draw_legend
 from .report import Learnt, set_text
 from .run import Message, Run
@@ -23,10 +23,11 @@ def title_of(run: Run) -> str:
 
 def description_of(run: Run) -> str:
     """What is learnt where, for a reader who does not see the picture."""
-    learnt = [
-        f"event {moment.number}: replica {moment.replica} learns {set_text(moment.outcome.ballot.updates)}"
-        for moment in run.moments if isinstance(moment.outcome, Learnt)
-    ]
+    learnt = []
+    for moment in run.moments:
+        if isinstance(moment.outcome, Learnt):
+            updates = set_text(moment.outcome.ballot.updates)
+            learnt.append(f"event {moment.number}: replica {moment.replica} learns {updates}")
     return "; ".join(learnt) if learnt else "nothing is learnt"
 
 
@@ -35,7 +36,7 @@ class Picture:
 
     def __init__(self, run: Run) -> None:
         self.run = run
-        self.layout: Layout = lay_out(run)
+        self.layout = lay_out(run)
 
     def point(self, column: Column) -> Point:
         """Where an event's mark stands."""
@@ -57,9 +58,9 @@ class Picture:
         start, end = self.point(source), self.point(column)
         if message.source == message.target:
             return loop(message.kind, start, end, radius(column.moment))
-        bend = self.bend(start, end)
-        ends = towards(start, end, radius(source.moment)), towards(end, start, radius(column.moment))
-        return arrow(message.kind, *ends, bend)
+        first = towards(start, end, radius(source.moment))
+        last = towards(end, start, radius(column.moment))
+        return arrow(message.kind, first, last, self.bend(start, end))
 
     def lost(self, column: Column, side: int) -> list[str]:
         """The lost messages of an event on one side: dotted, cut short, and named."""
@@ -121,11 +122,10 @@ class Picture:
             self.delivery(column.moment.message, column)
             for column in columns if column.moment.message
         ]
-        lost = [
-            [*self.lost(column, UP), *self.lost(column, DOWN), *self.lost_loop(column)]
-            for column in columns
-        ]
-        return arrows + sum(lost, [])
+        lost = []
+        for column in columns:
+            lost += [*self.lost(column, UP), *self.lost(column, DOWN), *self.lost_loop(column)]
+        return arrows + lost
 
     def marks(self) -> list[str]:
         """The events' marks."""

@@ -117,7 +117,7 @@ class Refined:
 
 @dataclass(frozen=True)
 class Learnt:
-    """A ballot's set was learnt, and told where there is another replica; the next may have opened."""
+    """A ballot's set was learnt, and told where there are others; the next one may have opened."""
 
     ballot: Ballot
     told: Mail | None

@@ -47,7 +47,7 @@ class Message:
 
 @dataclass(frozen=True)
 class Moment:
-    """An event and what it did, at a replica if there is one, with the message delivered, if any."""
+    """An event and what it did, and where there are such its replica and what was delivered."""
 
     number: int
     event: Event

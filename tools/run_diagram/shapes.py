@@ -39,6 +39,7 @@ text { paint-order: stroke; stroke: #fff; stroke-width: 3px; stroke-linejoin: ro
 .lost { stroke-width: 1.6; stroke-dasharray: 1.5 3; fill: none; }
 .cross { stroke: #222; stroke-width: 1.6; fill: none; }
 """
+# How large marks are, and how high a loop's handles stand over its line.
 MARK = 4
 STAR = 9
 CROSS = 4
@@ -128,10 +129,9 @@ def radius(moment: Moment) -> float:
 
 def way(kind: Kind, shape: str, *points: Point) -> str:
     """An arrow along a curve through a path's points."""
-    places = [f"{svg.decimal(x)},{svg.decimal(y)}" for x, y in points]
-    head = f"url(#{kind.value}-head)"
-    way = f"M{places[0]} {shape}{' '.join(places[1:])}"
-    return svg.element("path", d=way, class_=f"{kind.value}-arrow", marker_end=head)
+    first, *rest = (f"{svg.decimal(x)},{svg.decimal(y)}" for x, y in points)
+    path, head = f"M{first} {shape}{' '.join(rest)}", f"url(#{kind.value}-head)"
+    return svg.element("path", d=path, class_=f"{kind.value}-arrow", marker_end=head)
 
 
 def arrow(kind: Kind, start: Point, end: Point, bend: float = 0) -> str:
