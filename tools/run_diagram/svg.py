@@ -1,7 +1,7 @@
 """Elements of SVG, as text that is the same every time."""
 from __future__ import annotations
 
-from xml.sax.saxutils import escape, quoteattr
+from html import escape
 
 
 def decimal(value: float) -> str:
@@ -12,7 +12,7 @@ def decimal(value: float) -> str:
 def attribute(name: str, value: str | float) -> str:
     """An attribute; in its name an underscore stands for a hyphen, and one at the end for none."""
     said = value if isinstance(value, str) else decimal(value)
-    return f" {name.rstrip('_').replace('_', '-')}={quoteattr(said)}"
+    return f' {name.rstrip("_").replace("_", "-")}="{escape(said)}"'
 
 
 def element(name: str, content: str = "", **attributes: str | float) -> str:
