@@ -14,7 +14,7 @@ use Rattle.runs.specs.Words.{config, object_op, these, nothing, ballot, done}
 abbrev pub half : 3 ≤ 8 → Config
 half few = config (1 ∷ 1 ∷ 2 ∷ 0 ∷ 0 ∷ 0 ∷ 0 ∷ 0 ∷ []) 3 few 0 10
 
--- what is submitted
+-- the set of what is submitted
 abbrev pub increment : Histories
 increment = these ((object_op 1 (Inc 5) ∷ []) ∷ [] ∷ [] ∷ [])
 

@@ -9,7 +9,7 @@ use Rattle.la_world.specs.Learnings.{learning}
 use Rattle.la_world.specs.Report.{report}
 use Rattle.runs.specs.Words.{three, object_op, these, nothing, ballot, done}
 
--- what is submitted
+-- the set of what is submitted
 abbrev pub increment : Histories
 increment = these ((object_op 1 (Inc 5) ∷ []) ∷ [] ∷ [] ∷ [])
 

@@ -8,7 +8,7 @@ use Rattle.la_world.specs.Learnings.{learning}
 use Rattle.la_world.specs.Report.{report}
 use Rattle.runs.specs.Words.{three, vote, these, nothing, ballot, learnt_then, learnt_last, done}
 
--- replica 1's vote in the object's first instance, and in the second
+-- the set of replica 1's vote in the object's first instance, and in the second
 abbrev pub nine : Histories
 nine = these ([] ∷ vote 1 9 false ∷ [] ∷ [])
 

@@ -11,7 +11,7 @@ use Rattle.la_world.specs.Learnings.{learning}
 use Rattle.la_world.specs.Report.{report}
 use Rattle.runs.specs.Words.{single, vote, these, ballot, learnt_then, learnt_last, done}
 
--- the vote in the object's first instance, and in the second
+-- the set of the vote in the object's first instance, and in the second
 abbrev pub seven : Histories
 seven = these (vote 0 7 false ∷ [])
 

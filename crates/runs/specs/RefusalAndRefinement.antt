@@ -8,7 +8,7 @@ use Rattle.la_world.specs.Events.{Event, Submit, Deliver}
 use Rattle.la_world.specs.Report.{report}
 use Rattle.runs.specs.Words.{three, object_op, these, nothing, ballot, done}
 
--- what is submitted, by each and by both
+-- the sets of what is submitted, by each and by both
 abbrev pub increment : Histories
 increment = these ((object_op 1 (Inc 5) ∷ []) ∷ [] ∷ [] ∷ [])
 
