@@ -1,9 +1,13 @@
-ghost use Rattle.std.specs.Prelude.{◌≡◌, ◌≢◌, true, false, ◌<◌, ◌≤◌, length, IfOk, IfErr, OnOk, OnErr};
+ghost use Rattle.std.specs.Prelude.{◌≡◌, ◌≢◌, true, false, ◌<◌, ◌≤◌, length, IfOk, IfErr, OnOk};
+ghost use Rattle.std.specs.Prelude.{OnErr};
 ghost use Rattle.la_set.specs.Histories.{empty};
 ghost use Rattle.la_proposer.specs.Majority.{votes_of};
 ghost use Rattle.la_proposer.specs.Tally.{reply_carrying, has_counted};
-ghost use Rattle.la_proposer.specs.ProposerState.{start, submitted, op_on, status_of, submission_opens, after_submission, counts, heard_of, after_reply};
-ghost use Rattle.la_proposer.specs.Refusals.{SubmissionSpends, IsSubmitRefusal, IsReplyRefusal, ReplySpares, IsVerdictOf, IsIgnored, CountsInPlace};
+ghost use Rattle.la_proposer.specs.ProposerState.{start, submitted, op_on, status_of};
+ghost use Rattle.la_proposer.specs.ProposerState.{submission_opens, after_submission, counts};
+ghost use Rattle.la_proposer.specs.ProposerState.{heard_of, after_reply};
+ghost use Rattle.la_proposer.specs.Refusals.{SubmissionSpends, IsSubmitRefusal, IsReplyRefusal};
+ghost use Rattle.la_proposer.specs.Refusals.{ReplySpares, IsVerdictOf, IsIgnored, CountsInPlace};
 ghost use Rattle.la_proposer.specs.Clashes.{ReplyFits};
 ghost use Rattle.la_proposer.specs.Invariant.{IsProposerState};
 
@@ -147,7 +151,8 @@ impl Proposer {
     /// ballot would open with a number over [`MAX_BALLOTS`]; `Memory`. After each nothing is
     /// submitted. It is [`Proposer::admit_submission`] and then [`Proposer::take_submission`].
     pub fn submit(&mut self, object: u16, op: Op) -> Result<Option<Ballot>, ProposerError>
-        ensures opened { IfOk result (λ ballot. ballot ≡ submission_opens self.old (op_on object op)) }
+        ensures opened { IfOk result (λ ballot.
+            ballot ≡ submission_opens self.old (op_on object op)) }
         ensures ok { OnOk result (self.new ≡ after_submission self.old (op_on object op)) }
         ensures room { OnOk result (submitted self.old < self.old.cap) }
         ensures spares { IfOk result (λ _. ¬ SubmissionSpends self.old) }
@@ -176,12 +181,13 @@ impl Proposer {
     }
 
     /// Submits an update that is admitted, as [`Proposer::submit`] does. It is refused for want of
-    /// memory alone; then nothing is submitted. The cost is that of adding one update to a set; of a
-    /// ballot also that of a [`UpdateSet::join_compatible`] and of copies that share.
+    /// memory alone; then nothing is submitted. The cost is that of adding one update to a set; of
+    /// a ballot also that of a [`UpdateSet::join_compatible`] and of copies that share.
     pub fn take_submission(&mut self, object: u16, op: Op) -> Result<Option<Ballot>, AllocError>
         requires room { submitted self.old < self.old.cap }
         requires spares { ¬ SubmissionSpends self.old }
-        ensures opened { IfOk result (λ ballot. ballot ≡ submission_opens self.old (op_on object op)) }
+        ensures opened { IfOk result (λ ballot.
+            ballot ≡ submission_opens self.old (op_on object op)) }
         ensures ok { OnOk result (self.new ≡ after_submission self.old (op_on object op)) }
         ensures err { OnErr result (self.new ≡ self.old) }
     {
@@ -234,8 +240,10 @@ impl Proposer {
     ) -> Result<(), ProposerError>
         ensures in_group { OnOk result (from < length self.now.votes) }
         ensures fits { OnOk result (ReplyFits self.now from ballot (reply_carrying refusal.entry)) }
-        ensures spares { OnOk result (ReplySpares self.now from ballot (reply_carrying refusal.entry)) }
-        ensures error { IfErr result (IsReplyRefusal self.now from ballot (reply_carrying refusal.entry)) }
+        ensures spares { OnOk result
+            (ReplySpares self.now from ballot (reply_carrying refusal.entry)) }
+        ensures error { IfErr result
+            (IsReplyRefusal self.now from ballot (reply_carrying refusal.entry)) }
         ensures memory { result ≢ Err ProposerError.Memory }
     {
         if from as usize >= self.votes.len() {
@@ -289,8 +297,8 @@ impl Proposer {
         self.is_asking && self.last.number == ballot && !self.has_counted(from)
     }
 
-    /// What a reply would come to, without hearing it: with this refused set, or else a `Yes`. It is
-    /// the verdict of the counted replies with this one among them, or `None` where it would not
+    /// What a reply would come to, without hearing it: with this refused set, or else a `Yes`. It
+    /// is the verdict of the counted replies with this one among them, or `None` where it would not
     /// count, and be ignored. The refused set is not looked at. It takes no memory, and the cost is
     /// constant.
     pub fn verdict(&self, from: u8, ballot: u32, refusal: Option<&UpdateSet>) -> Option<Verdict>

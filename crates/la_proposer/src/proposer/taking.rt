@@ -1,6 +1,9 @@
 // The steps that change a proposer. Each does first what can be refused.
 ghost use Rattle.std.specs.Prelude.{◌≡◌, true, not, ◌<◌, length, IsOk, IfOk, OnOk, OnErr};
-ghost use Rattle.la_proposer.specs.ProposerState.{submitted, op_on, with_waiting, with_reply, next_ballot, after_opening, refined_ballot, after_refinement, is_nothing, closed, learning_opens, after_learning};
+ghost use Rattle.la_proposer.specs.ProposerState.{submitted, op_on, with_waiting, with_reply};
+ghost use Rattle.la_proposer.specs.ProposerState.{next_ballot, after_opening, refined_ballot};
+ghost use Rattle.la_proposer.specs.ProposerState.{after_refinement, is_nothing, closed};
+ghost use Rattle.la_proposer.specs.ProposerState.{learning_opens, after_learning};
 ghost use Rattle.la_proposer.specs.Refusals.{StepSpends};
 ghost use Rattle.la_proposer.specs.Clashes.{Fits};
 
@@ -42,8 +45,10 @@ impl Proposer {
     pub(super) fn open_with(&mut self, object: u16, op: Op) -> Result<Ballot, AllocError>
         requires room { submitted self.old < self.old.cap }
         requires left { self.old.number < MAX_BALLOTS }
-        ensures opened { IfOk result (λ ballot. ballot ≡ next_ballot (with_waiting self.old (op_on object op))) }
-        ensures ok { OnOk result (self.new ≡ after_opening (with_waiting self.old (op_on object op))) }
+        ensures opened { IfOk result (λ ballot.
+            ballot ≡ next_ballot (with_waiting self.old (op_on object op))) }
+        ensures ok { OnOk result
+            (self.new ≡ after_opening (with_waiting self.old (op_on object op))) }
         ensures err { OnErr result (self.new ≡ self.old) }
     {
         let mut next = self.copy()?;
