@@ -15,8 +15,8 @@ fn plays(rt: &impl Abort, world: &mut World, event: &Event) -> Result<Step, Worl
     world.play(event)
 }
 
-// Submits the next update after so many, hands its offer on, and then the acknowledgement: whether that is
-// learnt with one update more.
+// Submits the next update after so many, hands its offer on, and then the acknowledgement: whether
+// that is learnt with one update more.
 fn learns(
     rt: &impl Abort,
     alloc: Global,
