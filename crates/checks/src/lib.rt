@@ -6,6 +6,8 @@
 #[cfg(test)]
 mod acceptor;
 #[cfg(test)]
+mod callers;
+#[cfg(test)]
 mod given;
 #[cfg(test)]
 mod proposer;

@@ -2,4 +2,3 @@ pub mod Adding
 pub mod Tagging
 pub mod Viewing
 pub mod Runs
-pub mod Hearing

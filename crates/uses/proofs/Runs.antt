@@ -1,5 +1,5 @@
 -- What the laws of la_world say of a run's report.
-use Rattle.std.proofs.Common.{◌≡◌, ℕ, zero, suc, ◌+◌, ◌<◌, ◌⊎◌, inl, inr, Bool, true, false, cond, ◌&&◌, ◌==◌, List, [], ◌∷◌, ◌++◌, length, map, Contains, slice_get, slice_index_or, Option, Some, None, refl, sym, ◌∙◌, ap, ap₂, subst, subst₂, arith, eq-eqb}
+use Rattle.std.proofs.Common.{◌≡◌, ℕ, zero, suc, ◌+◌, ◌<◌, inl, inr, cond, ◌&&◌, List, [], ◌∷◌, length, map, Contains, slice_get, slice_index_or, Option, Some, None, refl, sym, ◌∙◌, ap, ap₂, subst, subst₂, arith, eq-eqb}
 use Rattle.std.specs.Prelude.{reverse, Result, Ok, Err, IfOk, IfSome}
 use Rattle.std.specs.List.{range_with_len}
 use Rattle.std.proofs.lemmas.List.Elements.{Contains-append_left, Contains-append_right, Contains-append_cases}
@@ -14,7 +14,7 @@ use Rattle.la_world.specs.declared.step.Learnt.{Learnt}
 use Rattle.la_world.specs.Groups.{Group, group_of, replicas}
 use Rattle.la_world.specs.Events.{Event}
 use Rattle.la_world.specs.Trace.{Trace}
-use Rattle.la_world.specs.Ballots.{only, is_of, learnt_by}
+use Rattle.la_world.specs.Ballots.{only, learnt_by}
 use Rattle.la_world.specs.Views.{set_of, told_to, seen_at, seen, view}
 use Rattle.la_world.specs.Playing.{trace}
 use Rattle.la_world.specs.Learnings.{learning, learning_of, learnt}

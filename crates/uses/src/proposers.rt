@@ -1,4 +1,4 @@
-ghost use Rattle.std.specs.Prelude.{◌≡◌, ◌⊎◌, OnErr};
+ghost use Rattle.std.specs.Prelude.{◌≡◌, ◌⊎◌, IfOk, IfSome, OnErr};
 
 use la_acceptor::Reply;
 use la_proposer::{Ballot, Heard, Proposer, ProposerError};
@@ -14,6 +14,7 @@ pub fn hear(
     reply: Reply,
 ) -> Result<Option<Ballot>, ProposerError>
     ensures learnt { (learnt.new ≡ learnt.old) ⊎ (learnt.new ≡ proposer.old.updates) }
+    ensures opened { IfOk result (λ next. IfSome next (λ b. b.updates ≡ proposer.new.updates)) }
     ensures err { OnErr result (proposer.new ≡ proposer.old) }
 {
     match proposer.reply(from, ballot, reply)? {

@@ -1,13 +1,14 @@
-ghost use Rattle.std.specs.Prelude.{◌⊎◌, IfOk};
+ghost use Rattle.std.specs.Prelude.{◌⊎◌, IfOk, OnOk};
 ghost use Rattle.la_set.specs.declared.update.Update.{Update};
 ghost use Rattle.la_set.specs.Histories.{ContainsUpdate};
 ghost use Rattle.la_set.specs.Inclusion.{IsSubset};
+ghost use Rattle.la_set.specs.Join.{IsCompatible};
 
 use la_set::{SetError, UpdateSet, laws};
 
-/// What two replicas have learnt, together. `Clash` comes only where an id has two different
-/// updates.
+/// What two replicas have learnt, together. It is refused where an id has two different updates.
 pub fn merged(one: &UpdateSet, other: &UpdateSet) -> Result<UpdateSet, SetError>
+    ensures fits { OnOk result (IsCompatible one.now other.now) }
     ensures one { IfOk result (λ both. IsSubset one.now both) }
     ensures other { IfOk result (λ both. IsSubset other.now both) }
     ensures no_more { IfOk result (λ both. (u : Update) → ContainsUpdate both u →
@@ -20,7 +21,7 @@ pub fn merged(one: &UpdateSet, other: &UpdateSet) -> Result<UpdateSet, SetError>
 }
 
 // ---- more callers
-ghost use Rattle.std.specs.Prelude.{◌≡◌, ◌<◌, ◌^◌, sum_by, IfSome, IfNone, OnOk};
+ghost use Rattle.std.specs.Prelude.{◌≡◌, ◌<◌, ◌^◌, sum_by, IfSome, IfNone};
 ghost use Rattle.la_set.specs.Histories.{Histories, updates};
 ghost use Rattle.la_set.specs.Difference.{PushesTo};
 ghost use Rattle.uses.specs.Reading.{added_to, Names};

@@ -1,4 +1,7 @@
-ghost use Rattle.std.specs.Prelude.{IfOk};
+ghost use Rattle.std.specs.Prelude.{◌≡◌, map, IfOk, IfErr};
+ghost use Rattle.la_world.specs.Events.{event_of};
+ghost use Rattle.la_world.specs.Report.{report};
+ghost use Rattle.la_world.specs.Calls.{IsMakingRefusal};
 ghost use Rattle.uses.specs.Promises.{AreAllComparable, AreOneHistory, ViewsHoldTheirOwn};
 
 use la_world::{Config, Event, Report, WorldError, laws, run};
@@ -7,9 +10,11 @@ use std::alloc::Global;
 /// Plays a list of submissions and deliveries. Of any two sets that were learnt in one instance one
 /// contains the other, and so it is of any two views. Each view holds what its replica learnt.
 pub fn play(alloc: Global, config: Config, events: &[Event]) -> Result<Report, WorldError>
-    ensures comparable { IfOk result (λ report. AreAllComparable report.learnt) }
-    ensures one_history { IfOk result (λ report. AreOneHistory report.views) }
-    ensures shown { IfOk result (λ report. ViewsHoldTheirOwn report.views report.learnt) }
+    ensures report { IfOk result (λ made. made ≡ report config (map event_of events.now)) }
+    ensures comparable { IfOk result (λ made. AreAllComparable made.learnt) }
+    ensures one_history { IfOk result (λ made. AreOneHistory made.views) }
+    ensures shown { IfOk result (λ made. ViewsHoldTheirOwn made.views made.learnt) }
+    ensures error { IfErr result (IsMakingRefusal config) }
 {
     laws::learnt_sets_are_comparable();
     laws::views_are_comparable();
@@ -18,7 +23,7 @@ pub fn play(alloc: Global, config: Config, events: &[Event]) -> Result<Report, W
 }
 
 // ---- more callers
-ghost use Rattle.std.specs.Prelude.{◌≡◌, slice_get};
+ghost use Rattle.std.specs.Prelude.{slice_get};
 ghost use Rattle.std.specs.Option.{option_copied};
 
 use la_proposer::Votes;
@@ -26,9 +31,9 @@ use la_set::{Op, UpdateSet};
 
 /// A submission at one of three replicas. All that is sent is delivered, in the order of sending.
 pub fn one_learning(alloc: Global) -> Result<Report, WorldError>
-    ensures comparable { IfOk result (λ report. AreAllComparable report.learnt) }
-    ensures one_history { IfOk result (λ report. AreOneHistory report.views) }
-    ensures shown { IfOk result (λ report. ViewsHoldTheirOwn report.views report.learnt) }
+    ensures comparable { IfOk result (λ made. AreAllComparable made.learnt) }
+    ensures one_history { IfOk result (λ made. AreOneHistory made.views) }
+    ensures shown { IfOk result (λ made. ViewsHoldTheirOwn made.views made.learnt) }
 {
     let config = Config {
         replicas: 3,
@@ -49,8 +54,8 @@ pub fn one_learning(alloc: Global) -> Result<Report, WorldError>
 }
 
 /// What a replica shows at the end of a run; `None` where the group has no such replica.
-pub fn shown(report: &Report, replica: u8) -> Option<&UpdateSet>
-    ensures { option_copied result ≡ slice_get report.now.views replica }
+pub fn shown(made: &Report, replica: u8) -> Option<&UpdateSet>
+    ensures { option_copied result ≡ slice_get made.now.views replica }
 {
-    report.views.at(replica as usize)
+    made.views.at(replica as usize)
 }

@@ -1,4 +1,4 @@
-use Rattle.std.proofs.Common.{◌≡◌, ◌+◌, ◌<◌, ◌≤◌, Some, None, sym, ◌∙◌, ap, ap₂, arith, length}
+use Rattle.std.proofs.Common.{◌+◌, sym, ◌∙◌, ap, ap₂, arith}
 use Rattle.std.specs.Option.{option_copied}
 use Rattle.la_set.specs.Histories.{updates}
 use Rattle.uses.specs.Reading.{added_to}

@@ -1,6 +1,5 @@
-use Rattle.std.proofs.Common.{◌≡◌, ℕ, ◌≤◌, ◌<◌, length, take, Contains, refl, subst, arith, get_or}
+use Rattle.std.proofs.Common.{refl, subst, arith}
 use Rattle.std.proofs.lemmas.List.{take_all}
-use Rattle.la_set.specs.declared.update.UpdateId.{UpdateId}
 use Rattle.uses.proofs.Tagging.{SameIds, tags_more}
 use Rattle.uses.proofs.sets.removal.Goals as goal
 

@@ -1,0 +1,95 @@
+// The callers that the pages quote, each run once: that they do what they are for where memory is
+// there. Where it is refused all is done again.
+use la_acceptor::{Acceptor, Reply};
+use la_proposer::{Proposer, Votes};
+use la_set::{Op, Update, UpdateId, UpdateSet};
+use std::alloc::Global;
+use uses::acceptors::acknowledges;
+use uses::proposers::hear;
+use uses::replicas::three_replicas;
+use uses::scripts::report_of;
+use uses::sets::{added, catch_up, later, merged, removal};
+use uses::worlds::{one_learning, shown};
+
+// The first update of a replica, which adds to object 1.
+fn adds(replica: u8, by: u32) -> Update {
+    Update {
+        id: UpdateId { replica, number: 1 },
+        object: 1,
+        op: Op::Inc(by),
+    }
+}
+
+fn sets(alloc: Global) -> Option<bool> {
+    let mut one = UpdateSet::new(alloc);
+    one.push(adds(0, 5)).ok()?;
+    let mut other = one.copy().ok()?;
+    other.push(adds(1, 2)).ok()?;
+    let latest = later(&one, &other)?.len();
+    let both = merged(&one, &other).ok()?;
+    let lacking = other.beyond(&one).ok()?;
+    catch_up(&mut one, lacking.all()).ok()?;
+    Some(latest == 2 && both.same(&other) && one.same(&other) && added(&one, 1) == 7)
+}
+
+fn removals(alloc: Global) -> Option<bool> {
+    let first = UpdateId {
+        replica: 0,
+        number: 1,
+    };
+    let second = UpdateId {
+        replica: 1,
+        number: 1,
+    };
+    match removal(alloc, &[second, first, second]).ok()? {
+        Op::Remove(tags) => Some(tags.len() == 2 && tags.has(first) && tags.has(second)),
+        _ => Some(false),
+    }
+}
+
+fn acknowledgements(alloc: Global) -> Option<bool> {
+    let nothing = UpdateSet::new(alloc);
+    let mut one = UpdateSet::new(alloc);
+    one.push(adds(0, 5)).ok()?;
+    let mut acceptor = Acceptor::new(alloc);
+    let first = acknowledges(&mut acceptor, &one).ok()?;
+    let second = acknowledges(&mut acceptor, &nothing).ok()?;
+    Some(first && !second)
+}
+
+// A proposer of a group of one hears its own acceptor.
+fn learning(alloc: Global) -> Option<bool> {
+    let mut proposer = Proposer::new(alloc, 1, 0, 10, Votes::one_each(1));
+    let ballot = proposer.submit(1, Op::Inc(5)).ok()??;
+    let mut learnt = UpdateSet::new(alloc);
+    let next = hear(&mut proposer, &mut learnt, 0, ballot.number, Reply::Yes).ok()?;
+    Some(next.is_none() && learnt.len() == 1)
+}
+
+fn worlds(alloc: Global) -> Option<bool> {
+    let report = one_learning(alloc).ok()?;
+    let views = (shown(&report, 2)?.len(), shown(&report, 3).is_none());
+    Some(report.learnt.len() == 1 && views == (1, true))
+}
+
+fn scripts(alloc: Global) -> Option<bool> {
+    let script = b"lattice 1\nreplicas 1 commits 0 cap 10\nsubmit 0 1 inc 5\n";
+    let text = report_of(alloc, script).ok()?;
+    Some(text.bytes().starts_with(b"lattice 1\nreplicas 1 "))
+}
+
+fn replicas(alloc: Global) -> Option<bool> {
+    three_replicas(alloc).ok()
+}
+
+#[test]
+fn callers_do_what_they_are_for(rt: HostRuntime) {
+    let alloc = rt.alloc();
+    assert!(rt; sets(alloc).or_else(|| sets(alloc)) == Some(true));
+    assert!(rt; removals(alloc).or_else(|| removals(alloc)) == Some(true));
+    assert!(rt; acknowledgements(alloc).or_else(|| acknowledgements(alloc)) == Some(true));
+    assert!(rt; learning(alloc).or_else(|| learning(alloc)) == Some(true));
+    assert!(rt; worlds(alloc).or_else(|| worlds(alloc)) == Some(true));
+    assert!(rt; scripts(alloc).or_else(|| scripts(alloc)) == Some(true));
+    assert!(rt; replicas(alloc).or_else(|| replicas(alloc)) == Some(true));
+}
