@@ -19,9 +19,10 @@ pub fn limits()
 /// In whatever order an object absorbs its updates of a set, each once, it answers by what they
 /// are, and observes their live tags. Two steps with different ids commute.
 pub fn order_does_not_matter()
-    ensures commute { (s : State) (u v : Update) → u.id ≢ v.id → after (after s u) v ≡ after (after s v) u }
-    ensures answers { (kind : Kind) (set : Histories) (number : ℕ) (order : List Update) (query : Query)
-        → IsPermutation (updates_at set number) order
+    ensures commute { (s : State) (u v : Update)
+        → u.id ≢ v.id → after (after s u) v ≡ after (after s v) u }
+    ensures answers { (kind : Kind) (set : Histories) (number : ℕ) (order : List Update)
+        (query : Query) → IsPermutation (updates_at set number) order
         → reply (steps (start kind) order) query ≡ value kind (updates_at set number) query }
     ensures tags { (kind : Kind) (set : Histories) (number : ℕ) (order : List Update) (x : ℕ)
         → IsPermutation (updates_at set number) order

@@ -113,7 +113,8 @@ impl<B: Replicated> Shelf<B> {
         }) }
         ensures absent { OnOk result (kind_at self.old.objects number ≡ None) }
         ensures fresh { OnOk result (IsFresh (B.state object)) }
-        ensures error { IfErr result (IsAddRefusal (kind_at self.old.objects number) (B.state object)) }
+        ensures error { IfErr result
+            (IsAddRefusal (kind_at self.old.objects number) (B.state object)) }
         ensures err { OnErr result (self.new ≡ self.old) }
     {
         if self.has(number) {
@@ -170,7 +171,9 @@ impl<B: Replicated> Shelf<B> {
     // Absorbs one update that comes next of its replica, at constant cost beside the object's.
     fn absorb_next(&mut self, update: &Update) -> Result<(), AllocError>
         requires { IsNext self.old.view update.now.id }
-        ensures ok { OnOk result (self.new ≡ record self.old { view = push self.old.view update.now }) }
+        ensures ok { OnOk result (self.new ≡ record self.old {
+          view = push self.old.view update.now;
+        }) }
         ensures err { OnErr result (self.new ≡ self.old) }
     {
         tell_small(update);
