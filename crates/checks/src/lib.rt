@@ -1,5 +1,6 @@
-//! Checks of the crates below, and nothing else: tests of what no contract says, and callers that promise
-//! what only exact contracts let them. They stand here, at the top, so that each is proved once.
+//! Checks of the crates below, and nothing else: tests of what no contract says, and callers that
+//! promise what only exact contracts let them. They stand here, at the top, so that each is proved
+//! once.
 #![tactic(auto)]
 
 #[cfg(test)]

@@ -71,8 +71,8 @@ impl Acceptor {
     }
 
     /// Whether an offer would be answered, memory apart: `Clash` comes exactly where an id has two
-    /// different updates, and names the least such id. It takes no memory, and `Memory` never comes.
-    /// The cost is that of [`UpdateSet::first_clash`].
+    /// different updates, and names the least such id. It takes no memory, and `Memory` never
+    /// comes. The cost is that of [`UpdateSet::first_clash`].
     pub fn admit_offer(&self, offered: &UpdateSet) -> Result<(), AcceptorError>
         ensures compatible { OnOk result (IsCompatible self.now offered.now) }
         ensures error { IfErr result (IsOfferRefusal self.now offered.now) }
@@ -108,10 +108,12 @@ impl Acceptor {
     }
 }
 
-// The reply to an offer, from its union with what was accepted: that lay in the offer exactly where the
-// union has nothing more than it.
+// The reply to an offer, from its union with what was accepted: that lay in the offer exactly where
+// the union has nothing more than it.
 fn reply_from(joined: &UpdateSet, offered: &UpdateSet) -> Result<Reply, AllocError>
-    ensures reply { (accepted : Histories) → IsCompatible accepted offered.now → joined.now ≡ join accepted offered.now → IfOk result (λ reply. reply ≡ answer accepted offered.now) }
+    ensures reply { (accepted : Histories)
+        → IsCompatible accepted offered.now → joined.now ≡ join accepted offered.now
+        → IfOk result (λ reply. reply ≡ answer accepted offered.now) }
     ensures yes { joined.now ≡ offered.now → result ≡ Ok Reply.Yes }
 {
     if joined.len() == offered.len() {

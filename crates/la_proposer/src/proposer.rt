@@ -1,10 +1,14 @@
-ghost use Rattle.std.specs.Prelude.{◌≡◌, ◌≢◌, true, false, ◌<◌, ◌≤◌, length, IfOk, IfErr, OnOk, OnErr, option_copied};
+ghost use Rattle.std.specs.Prelude.{◌≡◌, ◌≢◌, true, false, ◌<◌, ◌≤◌, length, IfOk, IfErr, OnOk};
+ghost use Rattle.std.specs.Prelude.{OnErr};
 ghost use Rattle.la_set.specs.Histories.{empty};
 ghost use Rattle.la_proposer.specs.Majority.{votes_of};
-ghost use Rattle.la_proposer.specs.Tally.{reply_with, has_counted};
-ghost use Rattle.la_proposer.specs.ProposerState.{start, submitted, status_of, submission_opens, after_submission, counts, heard_of, after_reply};
-ghost use Rattle.la_proposer.specs.Refusals.{SubmissionSpends, IsSubmitRefusal, IsReplyRefusal, ReplySpares, IsVerdictOf, IsIgnored, CountsInPlace};
-ghost use Rattle.la_proposer.specs.Clashes.{Fits};
+ghost use Rattle.la_proposer.specs.Tally.{reply_carrying, has_counted};
+ghost use Rattle.la_proposer.specs.ProposerState.{start, submitted, op_on, status_of};
+ghost use Rattle.la_proposer.specs.ProposerState.{submission_opens, after_submission, counts};
+ghost use Rattle.la_proposer.specs.ProposerState.{heard_of, after_reply};
+ghost use Rattle.la_proposer.specs.Refusals.{SubmissionSpends, IsSubmitRefusal, IsReplyRefusal};
+ghost use Rattle.la_proposer.specs.Refusals.{ReplySpares, IsVerdictOf, IsIgnored, CountsInPlace};
+ghost use Rattle.la_proposer.specs.Clashes.{ReplyFits};
 ghost use Rattle.la_proposer.specs.Invariant.{IsProposerState};
 
 mod admitting;
@@ -79,7 +83,8 @@ impl Proposer {
         }
     }
 
-    /// A copy, at the cost of copying two sets and the counted refusals, which shares their updates.
+    /// A copy, at the cost of copying two sets and the counted refusals, which shares their
+    /// updates.
     pub fn copy(&self) -> Result<Proposer, AllocError>
         ensures { IfOk result (λ copy. copy ≡ self.now) }
     {
@@ -146,8 +151,9 @@ impl Proposer {
     /// ballot would open with a number over [`MAX_BALLOTS`]; `Memory`. After each nothing is
     /// submitted. It is [`Proposer::admit_submission`] and then [`Proposer::take_submission`].
     pub fn submit(&mut self, object: u16, op: Op) -> Result<Option<Ballot>, ProposerError>
-        ensures opened { IfOk result (λ ballot. ballot ≡ submission_opens self.old (record { object = object; op = op })) }
-        ensures ok { OnOk result (self.new ≡ after_submission self.old (record { object = object; op = op })) }
+        ensures opened { IfOk result (λ ballot.
+            ballot ≡ submission_opens self.old (op_on object op)) }
+        ensures ok { OnOk result (self.new ≡ after_submission self.old (op_on object op)) }
         ensures room { OnOk result (submitted self.old < self.old.cap) }
         ensures spares { IfOk result (λ _. ¬ SubmissionSpends self.old) }
         ensures error { IfErr result (IsSubmitRefusal self.old) }
@@ -157,8 +163,8 @@ impl Proposer {
         Ok(self.take_submission(object, op)?)
     }
 
-    /// Whether a submission would be taken, memory apart: with the errors of [`Proposer::submit`], in
-    /// its order. It takes no memory, and `Memory` never comes. The cost is constant.
+    /// Whether a submission would be taken, memory apart: with the errors of [`Proposer::submit`],
+    /// in its order. It takes no memory, and `Memory` never comes. The cost is constant.
     pub fn admit_submission(&self) -> Result<(), ProposerError>
         ensures room { OnOk result (submitted self.now < self.now.cap) }
         ensures spares { OnOk result (¬ SubmissionSpends self.now) }
@@ -175,13 +181,14 @@ impl Proposer {
     }
 
     /// Submits an update that is admitted, as [`Proposer::submit`] does. It is refused for want of
-    /// memory alone; then nothing is submitted. The cost is that of adding one update to a set; of a
-    /// ballot also that of a [`UpdateSet::join_compatible`] and of copies that share.
+    /// memory alone; then nothing is submitted. The cost is that of adding one update to a set; of
+    /// a ballot also that of a [`UpdateSet::join_compatible`] and of copies that share.
     pub fn take_submission(&mut self, object: u16, op: Op) -> Result<Option<Ballot>, AllocError>
         requires room { submitted self.old < self.old.cap }
         requires spares { ¬ SubmissionSpends self.old }
-        ensures opened { IfOk result (λ ballot. ballot ≡ submission_opens self.old (record { object = object; op = op })) }
-        ensures ok { OnOk result (self.new ≡ after_submission self.old (record { object = object; op = op })) }
+        ensures opened { IfOk result (λ ballot.
+            ballot ≡ submission_opens self.old (op_on object op)) }
+        ensures ok { OnOk result (self.new ≡ after_submission self.old (op_on object op)) }
         ensures err { OnErr result (self.new ≡ self.old) }
     {
         if self.is_asking {
@@ -208,7 +215,7 @@ impl Proposer {
     /// It is [`Proposer::admit_reply`] and then [`Proposer::take_reply`], at the cost of the two.
     pub fn reply(&mut self, from: u8, ballot: u32, reply: Reply) -> Result<Heard, ProposerError>
         ensures in_group { IfOk result (λ _. from < length self.old.votes) }
-        ensures fits { IfOk result (λ _. counts self.old from ballot ≡ true → Fits self.old reply) }
+        ensures fits { IfOk result (λ _. ReplyFits self.old from ballot reply) }
         ensures spares { IfOk result (λ _. ReplySpares self.old from ballot reply) }
         ensures ignored { IsIgnored self.old from ballot → result ≡ Ok Heard.Ignored }
         ensures counted { CountsInPlace self.old from ballot reply → result ≡ Ok Heard.Counted }
@@ -221,9 +228,10 @@ impl Proposer {
         Ok(self.take_reply(from, ballot, reply)?)
     }
 
-    /// Whether a reply would be heard, memory apart: a `No` with this refused set, or else a `Yes`. It has
-    /// the errors of [`Proposer::reply`], in its order. It takes no memory, and `Memory` never comes. The
-    /// cost is that of comparing the set of a `No` that counts with the sets known here.
+    /// Whether a reply would be heard, memory apart: a `No` with this refused set, or else a `Yes`.
+    /// It has the errors of [`Proposer::reply`], in its order. It takes no memory, and `Memory`
+    /// never comes. The cost is that of comparing the set of a `No` that counts with the sets known
+    /// here.
     pub fn admit_reply(
         &self,
         from: u8,
@@ -231,9 +239,11 @@ impl Proposer {
         refusal: Option<&UpdateSet>,
     ) -> Result<(), ProposerError>
         ensures in_group { OnOk result (from < length self.now.votes) }
-        ensures fits { OnOk result (counts self.now from ballot ≡ true → Fits self.now (reply_with (option_copied refusal.entry))) }
-        ensures spares { OnOk result (ReplySpares self.now from ballot (reply_with (option_copied refusal.entry))) }
-        ensures error { IfErr result (IsReplyRefusal self.now from ballot (reply_with (option_copied refusal.entry))) }
+        ensures fits { OnOk result (ReplyFits self.now from ballot (reply_carrying refusal.entry)) }
+        ensures spares { OnOk result
+            (ReplySpares self.now from ballot (reply_carrying refusal.entry)) }
+        ensures error { IfErr result
+            (IsReplyRefusal self.now from ballot (reply_carrying refusal.entry)) }
         ensures memory { result ≢ Err ProposerError.Memory }
     {
         if from as usize >= self.votes.len() {
@@ -260,7 +270,7 @@ impl Proposer {
     /// [`UpdateSet::join_compatible`], and of a refinement that of one for each counted refusal.
     pub fn take_reply(&mut self, from: u8, ballot: u32, reply: Reply) -> Result<Heard, AllocError>
         requires in_group { from < length self.old.votes }
-        requires fits { counts self.old from ballot ≡ true → Fits self.old reply }
+        requires fits { ReplyFits self.old from ballot reply }
         requires spares { ReplySpares self.old from ballot reply }
         ensures ignored { counts self.old from ballot ≡ false → result ≡ Ok Heard.Ignored }
         ensures counted { CountsInPlace self.old from ballot reply → result ≡ Ok Heard.Counted }
@@ -279,19 +289,20 @@ impl Proposer {
         }
     }
 
-    /// Whether a reply of this acceptor to this ballot would count: the ballot is the open one, and the
-    /// acceptor has not counted there. The cost is constant.
+    /// Whether a reply of this acceptor to this ballot would count: the ballot is the open one, and
+    /// the acceptor has not counted there. The cost is constant.
     pub fn counts(&self, from: u8, ballot: u32) -> bool
         ensures { result ≡ counts self.now from ballot }
     {
         self.is_asking && self.last.number == ballot && !self.has_counted(from)
     }
 
-    /// What a reply would come to, without hearing it: with this refused set, or else a `Yes`. It is the
-    /// verdict of the counted replies with this one among them, or `None` where it would not count, and be
-    /// ignored. The refused set is not looked at. It takes no memory, and the cost is constant.
+    /// What a reply would come to, without hearing it: with this refused set, or else a `Yes`. It
+    /// is the verdict of the counted replies with this one among them, or `None` where it would not
+    /// count, and be ignored. The refused set is not looked at. It takes no memory, and the cost is
+    /// constant.
     pub fn verdict(&self, from: u8, ballot: u32, refusal: Option<&UpdateSet>) -> Option<Verdict>
-        ensures { IsVerdictOf self.now from ballot (reply_with (option_copied refusal.entry)) result }
+        ensures { IsVerdictOf self.now from ballot (reply_carrying refusal.entry) result }
     {
         if !self.counts(from, ballot) {
             return None;
@@ -303,7 +314,7 @@ impl Proposer {
 
 // The set that a reply refuses an offer with, if it does.
 fn refusal_of(reply: &Reply) -> Option<&UpdateSet>
-    ensures { reply_with (option_copied result) ≡ reply.now }
+    ensures { reply_carrying result ≡ reply.now }
 {
     match reply {
         Reply::Yes => None,

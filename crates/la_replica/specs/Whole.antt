@@ -1,6 +1,6 @@
--- Messages with their whole sets. The definitions speak of these alone; a message of the code carries one. How it does so is a
--- matter of this file: nothing else speaks of both.
-use Rattle.std.specs.Prelude.{◌≡◌, ℕ, List, map}
+-- Messages with their whole sets. The definitions speak of these alone; a message of the code
+-- carries one. How it does so is a matter of this file: nothing else speaks of both.
+use Rattle.std.specs.Prelude.{◌≡◌, ℕ, List, ◌++◌, map}
 use Rattle.la_set.specs.Histories.{Histories}
 use Rattle.la_replica.specs.declared.message.Message as code
 use Rattle.la_replica.specs.declared.message.Body as code_body
@@ -41,7 +41,13 @@ whole_body (body.No accepted) = No accepted
 whole_body (body.Tell told) = Tell told
 
 abbrev pub whole_of : code.Message → Message
-whole_of m = record { instance = m.instance; from = m.from; to = m.to; ballot = m.ballot; body = whole_body m.body }
+whole_of m = record {
+  instance = m.instance;
+  from = m.from;
+  to = m.to;
+  ballot = m.ballot;
+  body = whole_body m.body;
+}
 
 abbrev pub Carries : code.Message → Message → Type 0
 Carries m whole = whole_of m ≡ whole
@@ -49,6 +55,10 @@ Carries m whole = whole_of m ≡ whole
 -- the same of lists, message by message
 abbrev pub whole_mail : List code.Message → List Message
 whole_mail ms = map whole_of ms
+
+-- the later mail is the earlier one, and then these messages
+abbrev pub Adds : (before after : List code.Message) → List Message → Type 0
+Adds before after sent = whole_mail after ≡ whole_mail before ++ sent
 
 abbrev pub CarryAll : List code.Message → List Message → Type 0
 CarryAll ms wholes = whole_mail ms ≡ wholes

@@ -1,20 +1,23 @@
-ghost use Rattle.std.specs.Prelude.{◌≡◌, ◌≢◌, true, ℕ, ◌<◌, ◌≤◌, length, [], ◌∷◌, IsOk, IfOk, IfErr, OnOk, OnErr};
+ghost use Rattle.std.specs.Prelude.{◌≡◌, ◌≢◌, true, ◌<◌, ◌≤◌, length, [], ◌∷◌, IsOk, IfOk, IfErr};
+ghost use Rattle.std.specs.Prelude.{OnOk, OnErr};
 ghost use Rattle.std.specs.Option.{option_copied};
 ghost use Rattle.la_set.specs.Histories.{Histories};
 ghost use Rattle.la_set.specs.Join.{IsCompatible};
 ghost use Rattle.la_proposer.specs.declared.proposer.TheConstants.{MAX_CAP};
 ghost use Rattle.la_proposer.specs.Majority.{votes_of};
-ghost use Rattle.la_proposer.specs.ProposerState.{submitted, counts};
-ghost use Rattle.la_proposer.specs.Refusals.{SubmissionSpends, ReplySpares};
-ghost use Rattle.la_proposer.specs.Clashes.{Fits};
+ghost use Rattle.la_proposer.specs.ProposerState.{submitted, op_on};
+ghost use Rattle.la_proposer.specs.Refusals.{SubmissionSpends};
 ghost use Rattle.la_replica.specs.declared.out.Said.TheVariants.{Answered};
-ghost use Rattle.la_replica.specs.Whole.{whole_of, whole_mail, whole_out};
-ghost use Rattle.la_replica.specs.Messages.{reply_in, reply_to};
+ghost use Rattle.la_replica.specs.Whole.{whole_of, whole_out};
+ghost use Rattle.la_replica.specs.Messages.{reply_of, reply_to};
 ghost use Rattle.la_replica.specs.Views.{view_after_learning};
-ghost use Rattle.la_replica.specs.Steps.{Step, learnt_in, fresh, submits, answers, said_of_told, last_learnt_after, view_after_hearing, hears, receives};
-ghost use Rattle.la_replica.specs.Refusals.{IsSubmissionRefusal, IsHearingRefusal, IsBodyRefusal, FitsBody, SparesBody};
-ghost use Rattle.la_replica.specs.Fitting.{FitsViewBody, FitsViewHeard};
-ghost use Rattle.la_replica.specs.Memory.{IsFreeReply, IsFreeTell, IsFreeBody};
+ghost use Rattle.la_replica.specs.Steps.{learnt_in, fresh, step_of, submits, answers, said_of_told};
+ghost use Rattle.la_replica.specs.Steps.{last_learnt_after, view_after_hearing, hears, receives};
+ghost use Rattle.la_replica.specs.Refusals.{IsSubmissionRefusal, HearingFits, HearingSpares};
+ghost use Rattle.la_replica.specs.Refusals.{IsHearingRefusal, IsMessageRefusal, FitsMessage};
+ghost use Rattle.la_replica.specs.Refusals.{SparesMessage};
+ghost use Rattle.la_replica.specs.Fitting.{FitsViewMessage, FitsViewHeard};
+ghost use Rattle.la_replica.specs.Memory.{IsFreeReply, IsFreeTell, IsFreeMessage};
 
 use crate::sender::Sender;
 use crate::view::{is_larger, take_larger};
@@ -82,7 +85,9 @@ impl Instance {
         requires room { submitted self.old.proposer < self.old.proposer.cap }
         requires spares { ¬ SubmissionSpends self.old.proposer }
         requires own { self.old.proposer.own ≡ sender.now.from }
-        ensures step { IfOk result (λ out. (view : Histories) → submits sender.now self.old view (record { object = object; op = op }) ≡ record { said = out.said; mail = whole_mail out.mail; at = self.new; view = view }) }
+        ensures step { IfOk result (λ out. (view : Histories)
+            → submits sender.now self.old view (op_on object op)
+            ≡ step_of (whole_out out) self.new view) }
         ensures err { OnErr result (self.new ≡ self.old) }
     {
         let mut proposer = self.proposer.copy()?;
@@ -103,9 +108,10 @@ impl Instance {
     // Whether what a message to this instance asks for would be done, memory apart.
     pub fn admit_message(&self, message: &Message) -> Result<(), ReplicaError>
         requires { message.now.from < length self.now.proposer.votes }
-        ensures fits { OnOk result (FitsBody self.now (whole_of message.now) (whole_of message.now).body) }
-        ensures spares { OnOk result (SparesBody self.now (whole_of message.now) (whole_of message.now).body) }
-        ensures error { (view : Histories) → IfErr result (IsBodyRefusal self.now view (whole_of message.now) (whole_of message.now).body) }
+        ensures fits { OnOk result (FitsMessage self.now (whole_of message.now)) }
+        ensures spares { OnOk result (SparesMessage self.now (whole_of message.now)) }
+        ensures error { (view : Histories)
+            → IfErr result (IsMessageRefusal self.now view (whole_of message.now)) }
         ensures memory { result ≢ Err ReplicaError.Memory }
     {
         match &message.body {
@@ -118,17 +124,18 @@ impl Instance {
     // Whether a reply would be heard, memory apart.
     fn admit_reply(&self, message: &Message) -> Result<(), ReplicaError>
         requires { message.now.from < length self.now.proposer.votes }
-        ensures fits { OnOk result (counts self.now.proposer message.now.from message.now.ballot ≡ true → Fits self.now.proposer (reply_in (whole_of message.now).body)) }
-        ensures spares { OnOk result (ReplySpares self.now.proposer message.now.from message.now.ballot (reply_in (whole_of message.now).body)) }
-        ensures error { IfErr result (IsHearingRefusal self.now.proposer (whole_of message.now) (reply_in (whole_of message.now).body)) }
+        ensures fits { OnOk result (HearingFits self.now.proposer (whole_of message.now)) }
+        ensures spares { OnOk result (HearingSpares self.now.proposer (whole_of message.now)) }
+        ensures error { IfErr result (IsHearingRefusal self.now.proposer (whole_of message.now)
+            (reply_of (whole_of message.now))) }
         ensures memory { result ≢ Err ReplicaError.Memory }
     {
         let (from, ballot) = (message.from, message.ballot);
         Ok(self.proposer.admit_reply(from, ballot, message.refusal())?)
     }
 
-    // Does what a message to this instance asks for, which is admitted. Where a set that may become the
-    // view is known to fit it, no updates are compared.
+    // Does what a message to this instance asks for, which is admitted. Where a set that may become
+    // the view is known to fit it, no updates are compared.
     pub fn take_message(
         &mut self,
         alloc: Global,
@@ -139,11 +146,14 @@ impl Instance {
     ) -> Result<Out, AllocError>
         requires known { message.now.from < length self.old.proposer.votes }
         requires instance { sender.now.instance ≡ message.now.instance }
-        requires fits { FitsBody self.old (whole_of message.now) (whole_of message.now).body }
-        requires spares { SparesBody self.old (whole_of message.now) (whole_of message.now).body }
-        requires view { fits ≡ true → FitsViewBody self.old view.old (whole_of message.now) (whole_of message.now).body }
-        ensures step { IfOk result (λ out. receives sender.now self.old view.old (whole_of message.now) ≡ record { said = out.said; mail = whole_mail out.mail; at = self.new; view = view.new }) }
-        ensures free { IsFreeBody self.old view.old (whole_of message.now) (whole_of message.now).body → IsOk result }
+        requires fits { FitsMessage self.old (whole_of message.now) }
+        requires spares { SparesMessage self.old (whole_of message.now) }
+        requires view { fits ≡ true
+            → FitsViewMessage self.old view.old (whole_of message.now) }
+        ensures step { IfOk result (λ out.
+            receives sender.now self.old view.old (whole_of message.now)
+            ≡ step_of (whole_out out) self.new view.new) }
+        ensures free { IsFreeMessage self.old view.old (whole_of message.now) → IsOk result }
         ensures err { OnErr result (self.new ≡ self.old) }
         ensures err_view { OnErr result (view.new ≡ view.old) }
     {
@@ -156,7 +166,8 @@ impl Instance {
 
     // The set that a message to this instance would lead to learning.
     pub fn would_learn(&self, message: &Message) -> Option<&UpdateSet>
-        ensures { (sender : Sender) (view : Histories) → option_copied result ≡ learnt_in (receives sender self.now view (whole_of message.now)).said }
+        ensures { (sender : Sender) (view : Histories) → option_copied result
+            ≡ learnt_in (receives sender self.now view (whole_of message.now)).said }
     {
         match &message.body {
             Body::Yes | Body::No(_) => {
@@ -178,7 +189,9 @@ impl Instance {
         offered: &UpdateSet,
     ) -> Result<Out, AllocError>
         requires { IsCompatible self.old.acceptor offered.now }
-        ensures step { IfOk result (λ out. (view : Histories) → answers self.old view (whole_of message.now) offered.now ≡ record { said = out.said; mail = whole_mail out.mail; at = self.new; view = view }) }
+        ensures step { IfOk result (λ out. (view : Histories)
+            → answers self.old view (whole_of message.now) offered.now
+            ≡ step_of (whole_out out) self.new view) }
         ensures free { offered.now ≡ self.old.acceptor → IsOk result }
         ensures err { OnErr result (self.new ≡ self.old) }
     {
@@ -204,11 +217,15 @@ impl Instance {
         fits: bool,
     ) -> Result<Out, AllocError>
         requires known { message.now.from < length self.old.proposer.votes }
-        requires fits { counts self.old.proposer message.now.from message.now.ballot ≡ true → Fits self.old.proposer (reply_in (whole_of message.now).body) }
-        requires spares { ReplySpares self.old.proposer message.now.from message.now.ballot (reply_in (whole_of message.now).body) }
-        requires view { fits ≡ true → sender.now.instance ≡ 0 → IsCompatible view.old self.old.proposer.updates }
-        ensures step { IfOk result (λ out. hears sender.now self.old view.old (whole_of message.now) (reply_in (whole_of message.now).body) ≡ record { said = out.said; mail = whole_mail out.mail; at = self.new; view = view.new }) }
-        ensures free { IsFreeReply self.old.proposer (whole_of message.now) (reply_in (whole_of message.now).body) → IsOk result }
+        requires fits { HearingFits self.old.proposer (whole_of message.now) }
+        requires spares { HearingSpares self.old.proposer (whole_of message.now) }
+        requires view { fits ≡ true → sender.now.instance ≡ 0
+            → IsCompatible view.old self.old.proposer.updates }
+        ensures step { IfOk result (λ out.
+            hears sender.now self.old view.old (whole_of message.now)
+            (reply_of (whole_of message.now)) ≡ step_of (whole_out out) self.new view.new) }
+        ensures free { IsFreeReply self.old.proposer (whole_of message.now)
+            (reply_of (whole_of message.now)) → IsOk result }
         ensures err { OnErr result (self.new ≡ self.old) }
         ensures err_view { OnErr result (view.new ≡ view.old) }
     {
@@ -233,10 +250,13 @@ impl Instance {
         fits: bool,
     ) -> Result<Out, AllocError>
         requires known { message.now.from < length self.old.proposer.votes }
-        requires fits { counts self.old.proposer message.now.from message.now.ballot ≡ true → Fits self.old.proposer (reply_in (whole_of message.now).body) }
-        requires spares { ReplySpares self.old.proposer message.now.from message.now.ballot (reply_in (whole_of message.now).body) }
-        requires view { fits ≡ true → sender.now.instance ≡ 0 → IsCompatible view.old self.old.proposer.updates }
-        ensures step { IfOk result (λ out. hears sender.now self.old view.old (whole_of message.now) (reply_in (whole_of message.now).body) ≡ record { said = out.said; mail = whole_mail out.mail; at = self.new; view = view.new }) }
+        requires fits { HearingFits self.old.proposer (whole_of message.now) }
+        requires spares { HearingSpares self.old.proposer (whole_of message.now) }
+        requires view { fits ≡ true → sender.now.instance ≡ 0
+            → IsCompatible view.old self.old.proposer.updates }
+        ensures step { IfOk result (λ out.
+            hears sender.now self.old view.old (whole_of message.now)
+            (reply_of (whole_of message.now)) ≡ step_of (whole_out out) self.new view.new) }
         ensures err { OnErr result (self.new ≡ self.old) }
         ensures err_view { OnErr result (view.new ≡ view.old) }
     {
@@ -249,8 +269,8 @@ impl Instance {
         Ok(Out { said, mail })
     }
 
-    // Keeps what is learnt, if something is: as the last learnt set, and where it is strictly larger than
-    // the view as the view.
+    // Keeps what is learnt, if something is: as the last learnt set, and where it is strictly
+    // larger than the view as the view.
     fn keep_learnt(
         &mut self,
         instance: u8,
@@ -259,7 +279,8 @@ impl Instance {
         fits: bool,
     ) -> Result<(), AllocError>
         requires { fits ≡ true → instance ≡ 0 → FitsViewHeard view.old heard.now }
-        ensures ok { OnOk result (self.new ≡ record self.old { learnt = last_learnt_after self.old.learnt heard.now }) }
+        ensures ok { OnOk result
+            (self.new ≡ record self.old { learnt = last_learnt_after self.old.learnt heard.now }) }
         ensures view { OnOk result (view.new ≡ view_after_hearing instance view.old heard.now) }
         ensures err { OnErr result (self.new ≡ self.old) }
         ensures err_view { OnErr result (view.new ≡ view.old) }
@@ -278,7 +299,8 @@ impl Instance {
 
 // The answer to an offer: the reply is said, and a copy goes back.
 fn answered(alloc: Global, message: &Message, reply: Reply) -> Result<Out, AllocError>
-    ensures ok { IfOk result (λ out. whole_out out ≡ record { said = Answered reply; mail = reply_to (whole_of message.now) reply ∷ [] }) }
+    ensures ok { IfOk result (λ out. whole_out out
+        ≡ record { said = Answered reply; mail = reply_to (whole_of message.now) reply ∷ [] }) }
     ensures free { reply ≡ Reply.Yes → IsOk result }
 {
     let sent = reply.copy()?;
@@ -297,9 +319,11 @@ fn hear_tell(
     fits: bool,
 ) -> Result<Out, AllocError>
     requires { fits ≡ true → sender.now.instance ≡ 0 → IsCompatible view.old told.now }
-    ensures said { IfOk result (λ out. out.said ≡ said_of_told sender.now.instance view.old told.now) }
+    ensures said { IfOk result (λ out.
+        out.said ≡ said_of_told sender.now.instance view.old told.now) }
     ensures mail { IfOk result (λ out. out.mail ≡ []) }
-    ensures ok { OnOk result (view.new ≡ view_after_learning sender.now.instance view.old told.now) }
+    ensures ok { OnOk result
+        (view.new ≡ view_after_learning sender.now.instance view.old told.now) }
     ensures free { IsFreeTell sender.now.instance view.old told.now → IsOk result }
     ensures err { OnErr result (view.new ≡ view.old) }
 {

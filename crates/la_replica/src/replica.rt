@@ -1,15 +1,18 @@
-ghost use Rattle.std.specs.Prelude.{◌≡◌, ◌≢◌, ℕ, ◌+◌, ◌*◌, ◌<◌, ◌≤◌, length, slice_get, true, Some, None, option_map, IsSomeAnd, IsOk, IfOk, IfErr, OnOk, OnErr};
+ghost use Rattle.std.specs.Prelude.{◌≡◌, ◌≢◌, ◌+◌, ◌*◌, ◌<◌, ◌≤◌, length, true, Some, None, IsOk};
+ghost use Rattle.std.specs.Prelude.{IfOk, IfErr, OnOk, OnErr};
 ghost use Rattle.std.specs.Option.{option_copied};
 ghost use Rattle.la_proposer.specs.declared.proposer.TheConstants.{MAX_CAP};
 ghost use Rattle.la_proposer.specs.Majority.{votes_of};
-ghost use Rattle.la_proposer.specs.ProposerState.{submitted};
+ghost use Rattle.la_proposer.specs.ProposerState.{op_on};
 ghost use Rattle.la_replica.specs.Whole.{whole_of, whole_out};
 ghost use Rattle.la_replica.specs.Whole as whole;
-ghost use Rattle.la_replica.specs.ReplicaState.{ReplicaState, start, submits, receives, sender_of, last_learnt};
+ghost use Rattle.la_replica.specs.ReplicaState.{ReplicaState, start, submits, receives, sender_of};
+ghost use Rattle.la_replica.specs.ReplicaState.{last_learnt, submitted_in};
 ghost use Rattle.la_replica.specs.Invariant.{IsReplicaState};
 ghost use Rattle.la_replica.specs.Steps.{learnt_in};
-ghost use Rattle.la_replica.specs.Refusals.{IsSubmitRefusal, IsReceiveRefusal, IsReceivable, HasRoom, SubmittingSpares, ReceivingSpares};
-ghost use Rattle.la_replica.specs.Fitting.{FitsViewBody, FitsReceiver};
+ghost use Rattle.la_replica.specs.Refusals.{IsSubmitRefusal, IsReceiveRefusal, IsReceivable};
+ghost use Rattle.la_replica.specs.Refusals.{HasRoom, SubmittingSpares, ReceivingSpares};
+ghost use Rattle.la_replica.specs.Fitting.{FitsView, FitsReceiver};
 ghost use Rattle.la_replica.specs.Memory.{IsFree};
 
 use crate::instance::Instance;
@@ -23,8 +26,8 @@ use std::marker::Model;
 /// The most adopt-commit objects that a group may have, with two instances each.
 pub const MAX_COMMITS: u8 = 16;
 
-/// One replica of a group: in each instance an acceptor, a proposer and what it learnt last; and the
-/// view. Instance 0 carries the objects' updates, and adopt-commit object k, from 0, uses the
+/// One replica of a group: in each instance an acceptor, a proposer and what it learnt last; and
+/// the view. Instance 0 carries the objects' updates, and adopt-commit object k, from 0, uses the
 /// instances 2k+1 and 2k+2.
 #[derive(Drop)]
 pub struct Replica {
@@ -35,16 +38,15 @@ pub struct Replica {
 }
 
 impl Model for Replica {
-    ghost use Rattle.la_proposer.specs.Majority.{votes_of};
     ghost use Rattle.la_replica.specs.ReplicaState.{ReplicaState};
 
     ghost Value = { ReplicaState };
 
-    ghost use Rattle.la_replica.specs.Invariant.{IsReplicaState};
+    ghost use Rattle.la_replica.specs.Fields.{stands_for, HoldsInvariant};
 
-    ghost view = { λ r. record { votes = votes_of r.votes; own = r.own; instances = r.instances.items; view = r.view } };
+    ghost view = { stands_for };
 
-    ghost invariant = { λ r. IsReplicaState (record { votes = votes_of r.votes; own = r.own; instances = r.instances.items; view = r.view }) };
+    ghost invariant = { HoldsInvariant };
 }
 
 impl Replica {
@@ -91,8 +93,8 @@ impl Replica {
         })
     }
 
-    /// Which replica of its group it is. The group has at most 8, and the proposers of all its instances
-    /// are this replica of that group.
+    /// Which replica of its group it is. The group has at most 8, and the proposers of all its
+    /// instances are this replica of that group.
     pub fn own(&self) -> u8
         ensures own { result ≡ self.now.own }
         ensures of_group { IsReplicaState self.now }
@@ -100,16 +102,16 @@ impl Replica {
         self.own
     }
 
-    /// What the replica answers questions from: the largest of the sets of instance 0 that it learnt
-    /// or was told, taken one after the other; empty at first.
+    /// What the replica answers questions from: of the sets of instance 0 that it learnt or was
+    /// told, one after the other, each that was strictly larger than what it had; empty at first.
     pub fn view(&self) -> &UpdateSet
         ensures { result.now ≡ self.now.view }
     {
         &self.view
     }
 
-    /// The set that it learnt last in an instance; `None` where it learnt none there, or there is no
-    /// such instance.
+    /// The set that it learnt last in an instance; `None` where it learnt none there, or there is
+    /// no such instance.
     pub fn last_learnt(&self, instance: u8) -> Option<&UpdateSet>
         ensures { option_copied result ≡ last_learnt self.now instance }
     {
@@ -118,7 +120,7 @@ impl Replica {
 
     /// How many updates it has submitted in an instance; `None` where there is no such instance.
     pub fn submitted(&self, instance: u8) -> Option<u32>
-        ensures { result ≡ option_map (λ at. submitted at.proposer) (slice_get self.now.instances instance) }
+        ensures { result ≡ submitted_in self.now instance }
     {
         let at = self.instances.get(instance as usize)?;
         Some(at.proposer.submitted())
@@ -128,11 +130,12 @@ impl Replica {
     /// ballot opens, and is offered to every replica; or the update waits while one is open.
     ///
     /// In this order: `NoSuchInstance`; `Full` where the replica has submitted the instance's cap;
-    /// `BallotsSpent` where a ballot would open with a number over 8,000,000; `Memory`. After each the
-    /// replica is as before. It is [`Replica::admit_submission`] and then
+    /// `BallotsSpent` where a ballot would open with a number over 8,000,000; `Memory`. After each
+    /// the replica is as before. It is [`Replica::admit_submission`] and then
     /// [`Replica::take_submission`].
     pub fn submit(&mut self, instance: u8, object: u16, op: Op) -> Result<Out, ReplicaError>
-        ensures step { IfOk result (λ out. submits self.old instance (record { object = object; op = op }) ≡ Some (whole_out out, self.new)) }
+        ensures step { IfOk result (λ out.
+            submits self.old instance (op_on object op) ≡ Some (whole_out out, self.new)) }
         ensures room { IfOk result (λ _. HasRoom self.old instance) }
         ensures spares { IfOk result (λ _. SubmittingSpares self.old instance) }
         ensures error { IfErr result (IsSubmitRefusal self.old instance) }
@@ -142,8 +145,8 @@ impl Replica {
         Ok(self.take_submission(instance, object, op)?)
     }
 
-    /// Whether a submission would be taken, memory apart: with the errors of [`Replica::submit`], in
-    /// its order. It takes no memory, and `Memory` never comes. The cost is constant.
+    /// Whether a submission would be taken, memory apart: with the errors of [`Replica::submit`],
+    /// in its order. It takes no memory, and `Memory` never comes. The cost is constant.
     pub fn admit_submission(&self, instance: u8) -> Result<(), ReplicaError>
         ensures room { OnOk result (HasRoom self.now instance) }
         ensures spares { OnOk result (SubmittingSpares self.now instance) }
@@ -156,20 +159,21 @@ impl Replica {
         }
     }
 
-    /// Submits an update that is admitted, as [`Replica::submit`] does. It is refused for want of memory
-    /// alone; then the replica is as before. The cost is that of the proposer's step, and of a copy of
-    /// the ballot's set for each replica, which share it.
+    /// Submits an update that is admitted, as [`Replica::submit`] does. It is refused for want of
+    /// memory alone; then the replica is as before. The cost is that of the proposer's step, and of
+    /// a copy of the ballot's set for each replica, which share it.
     pub fn take_submission(&mut self, instance: u8, object: u16, op: Op) -> Result<Out, AllocError>
         requires room { HasRoom self.old instance }
         requires spares { SubmittingSpares self.old instance }
-        ensures step { IfOk result (λ out. submits self.old instance (record { object = object; op = op }) ≡ Some (whole_out out, self.new)) }
+        ensures step { IfOk result (λ out.
+            submits self.old instance (op_on object op) ≡ Some (whole_out out, self.new)) }
         ensures err { OnErr result (self.new ≡ self.old) }
     {
         let alloc = *self.instances.allocator();
         let sender = self.sender(instance);
         match self.instances.get_mut(instance as usize) {
             Some(at) => at.take_submission(alloc, &sender, object, op),
-            // There is room in the instance.
+            // By `HasRoom` there is such an instance.
             None => unreachable!(),
         }
     }
@@ -180,20 +184,21 @@ impl Replica {
     /// instance 0 is taken as the view where it is strictly larger; so is a newly learnt one.
     ///
     /// In this order: `NoSuchReplica` where the message is from out of the group, or to another
-    /// replica; `NoSuchInstance`; `Clash` for an offer that clashes with the accepted set, and for a
-    /// counting reply that does not fit what the proposer knows, with the least id; `BallotsSpent`
-    /// where a reply would open a ballot with a number over 8,000,000; `Memory`. After each the
-    /// replica is as before. A reply that does not count is answered `Ignored` before its set is
-    /// looked at. No memory is taken by an offer of exactly what is accepted, by a reply that does not
-    /// count, by an acknowledgement that only counts, while fewer than
+    /// replica; `NoSuchInstance`; `Clash` for an offer that clashes with the accepted set, and for
+    /// a counting reply that does not fit what the proposer knows, with the least id;
+    /// `BallotsSpent` where a reply would open a ballot with a number over 8,000,000; `Memory`.
+    /// After each the replica is as before. A reply that does not count is answered `Ignored`
+    /// before its set is looked at. No memory is taken by an offer of exactly what is accepted, by
+    /// a reply that does not count, by an acknowledgement that only counts, while fewer than
     /// [`la_proposer::INLINE_TALLY`] have, and by a told set that is not taken as the view: these
     /// succeed.
     ///
     /// It is [`Replica::admit_message`] and then the step of [`Replica::take_message`], which here
-    /// compares the updates of a set that may become the view: the cost is that of comparing the sets
-    /// at hand.
+    /// compares the updates of a set that may become the view: the cost is that of comparing the
+    /// sets at hand.
     pub fn receive(&mut self, message: &Message) -> Result<Out, ReplicaError>
-        ensures step { IfOk result (λ out. receives self.old (whole_of message.now) ≡ Some (whole_out out, self.new)) }
+        ensures step { IfOk result (λ out.
+            receives self.old (whole_of message.now) ≡ Some (whole_out out, self.new)) }
         ensures fits { IfOk result (λ _. IsReceivable self.old (whole_of message.now)) }
         ensures spares { IfOk result (λ _. ReceivingSpares self.old (whole_of message.now)) }
         ensures free { IsFree self.old (whole_of message.now) → IsOk result }
@@ -204,9 +209,10 @@ impl Replica {
         Ok(self.take_as(message, false)?)
     }
 
-    /// Whether a message would be received, memory apart: with the errors of [`Replica::receive`], in
-    /// its order. It takes no memory, and `Memory` never comes. The cost is that of comparing an
-    /// offered set with what is accepted, or a refused one that counts with what the proposer knows.
+    /// Whether a message would be received, memory apart: with the errors of [`Replica::receive`],
+    /// in its order. It takes no memory, and `Memory` never comes. The cost is that of comparing an
+    /// offered set with what is accepted, or a refused one that counts with what the proposer
+    /// knows.
     pub fn admit_message(&self, message: &Message) -> Result<(), ReplicaError>
         ensures receivable { OnOk result (IsReceivable self.now (whole_of message.now)) }
         ensures spares { OnOk result (ReceivingSpares self.now (whole_of message.now)) }
@@ -223,26 +229,30 @@ impl Replica {
     }
 
     /// Receives a message that fits all that the replica knows, as [`Replica::receive`] does. It is
-    /// refused for want of memory alone; then the replica is as before. The same messages as there take
-    /// no memory.
+    /// refused for want of memory alone; then the replica is as before. The same messages as there
+    /// take no memory.
     ///
-    /// No updates are compared: the counts of sets that fit tell which contains which. The cost is that of
-    /// the acceptor's or the proposer's step, and of a copy of each set that is said, sent or kept, which
-    /// share it.
+    /// No updates are compared: the counts of sets that fit tell which contains which. The cost is
+    /// that of the acceptor's or the proposer's step, and of a copy of each set that is said, sent
+    /// or kept, which share it.
     pub fn take_message(&mut self, message: &Message) -> Result<Out, AllocError>
         requires { FitsReceiver self.old (whole_of message.now) }
-        ensures step { IfOk result (λ out. receives self.old (whole_of message.now) ≡ Some (whole_out out, self.new)) }
+        ensures step { IfOk result (λ out.
+            receives self.old (whole_of message.now) ≡ Some (whole_out out, self.new)) }
         ensures free { IsFree self.old (whole_of message.now) → IsOk result }
         ensures err { OnErr result (self.new ≡ self.old) }
     {
         self.take_as(message, true)
     }
 
-    /// The set that a message would lead this replica to learn, if it were received: the open ballot's,
-    /// where the message is an acknowledgement or a refusal with which a majority has acknowledged it; else
-    /// `None`, also where there is no such instance. It takes no memory, and the cost is constant.
+    /// The set that a message would lead this replica to learn, if it were received: the open
+    /// ballot's, where the message is an acknowledgement or a refusal with which a majority has
+    /// acknowledged it; else `None`, also where there is no such instance. It takes no memory, and
+    /// the cost is constant.
     pub fn would_learn(&self, message: &Message) -> Option<&UpdateSet>
-        ensures learnt { (out : whole.Out) (after : ReplicaState) → receives self.now (whole_of message.now) ≡ Some (out, after) → option_copied result ≡ learnt_in out.said }
+        ensures learnt { (out : whole.Out) (after : ReplicaState)
+            → receives self.now (whole_of message.now) ≡ Some (out, after)
+            → option_copied result ≡ learnt_in out.said }
         ensures none { length self.now.instances ≤ message.now.instance → result ≡ None }
     {
         self.instances
@@ -250,13 +260,14 @@ impl Replica {
             .would_learn(message)
     }
 
-    // Does what an admitted message asks for. Where a set that may become the view is known to fit it, no
-    // updates are compared.
+    // Does what an admitted message asks for. Where a set that may become the view is known to fit
+    // it, no updates are compared.
     fn take_as(&mut self, message: &Message, fits: bool) -> Result<Out, AllocError>
         requires receivable { IsReceivable self.old (whole_of message.now) }
         requires spares { ReceivingSpares self.old (whole_of message.now) }
-        requires view { fits ≡ true → IsSomeAnd (slice_get self.old.instances message.now.instance) (λ x. FitsViewBody x self.old.view (whole_of message.now) (whole_of message.now).body) }
-        ensures step { IfOk result (λ out. receives self.old (whole_of message.now) ≡ Some (whole_out out, self.new)) }
+        requires view { fits ≡ true → FitsView self.old (whole_of message.now) }
+        ensures step { IfOk result (λ out.
+            receives self.old (whole_of message.now) ≡ Some (whole_out out, self.new)) }
         ensures free { IsFree self.old (whole_of message.now) → IsOk result }
         ensures err { OnErr result (self.new ≡ self.old) }
     {
@@ -264,7 +275,7 @@ impl Replica {
         let sender = self.sender(message.instance);
         match self.instances.get_mut(message.instance as usize) {
             Some(at) => at.take_message(alloc, &sender, message, &mut self.view, fits),
-            // The message is receivable.
+            // By `IsReceivable` there is such an instance.
             None => unreachable!(),
         }
     }

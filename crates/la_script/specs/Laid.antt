@@ -1,5 +1,6 @@
--- How a text in pieces is kept: all words one after another, and for each stretch which of them are its words, and
--- whose first ids stand behind them, and how many. The texts of the ids are kept ready.
+-- How a text in pieces is kept: all words one after another, and for each stretch which of them are
+-- its words, and whose first ids stand behind them, and how many. The texts of the ids are kept
+-- ready.
 use Rattle.std.specs.Prelude.{◌≡◌, ℕ, ◌+◌, ◌-◌, ◌<◌, ◌≤◌, true, List, length, take, drop, map, slice_index, slice_index_or, All}
 use Rattle.std.specs.Str.{IsUtf8}
 use Rattle.la_set.specs.declared.set.TheConstants.{REPLICAS}
@@ -16,7 +17,8 @@ stretch_of words c = (take (c.end - c.start) (drop c.start words), front c.behin
 
 -- the words behind the last stretch are those from a place on
 abbrev pub parts_of : (words : List ℕ) → List Cut → (done : ℕ) → Parts
-parts_of words cuts done = record { stretches = map (stretch_of words) cuts; rest = drop done words }
+parts_of words cuts done =
+    record { stretches = map (stretch_of words) cuts; rest = drop done words }
 
 -- of a replica, by its number: whose the kept text is, and how many ids it has
 abbrev pub kept_of : List (ℕ × ℕ) → ℕ → ℕ × ℕ

@@ -11,7 +11,8 @@ use std::marker::Model;
 // A space, a number of 8 bits, a full stop and one of 64 bits.
 type IdPiece = ArrayString<25>;
 
-/// The ids of a replica's first updates as one text, ` r.1 r.2 r.3 ..`, each front of which is at hand.
+/// The ids of a replica's first updates as one text, ` r.1 r.2 r.3 ..`, each front of which is at
+/// hand.
 #[derive(Drop)]
 pub struct IdText {
     replica: u8,
@@ -23,6 +24,7 @@ pub struct IdText {
 impl Model for IdText {
     ghost use Rattle.std.specs.Prelude.{ℕ, length};
 
+    // Whose ids they are, and how many.
     ghost Value = { ℕ × ℕ };
 
     ghost use Rattle.la_script.specs.Laid.{IsIdText};
@@ -69,8 +71,8 @@ impl IdText {
         Ok(())
     }
 
-    /// The text of the first ids, as many as are said, at constant cost. Where it stands behind other
-    /// ids it begins with a space.
+    /// The text of the first ids, as many as are said, at constant cost. Where it stands behind
+    /// other ids it begins with a space.
     pub fn front(&self, behind: bool, count: usize) -> &[u8]
         requires { count ≤ self.now.1 }
         ensures { result.now ≡ front behind self.now.0 count }

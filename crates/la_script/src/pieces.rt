@@ -1,7 +1,7 @@
-ghost use Rattle.std.specs.Prelude.{◌≡◌, ℕ, ◌<◌, [], ◌++◌, length, slice_get, option_map, IfOk, OnOk};
+ghost use Rattle.std.specs.Prelude.{◌≡◌, ℕ, ◌<◌, [], length, slice_get, option_map, IfOk, OnOk};
 ghost use Rattle.std.specs.Fmt.{decimal};
 ghost use Rattle.la_set.specs.declared.set.TheConstants.{REPLICAS};
-ghost use Rattle.la_script.specs.Pieces.{front, joined};
+ghost use Rattle.la_script.specs.Pieces.{words_and_ids, front, joined, Adds};
 
 use crate::Text;
 use crate::id_text::IdText;
@@ -17,13 +17,13 @@ const SHORT: usize = 32;
 pub struct Stretch<'a> {
     /// The words, which may end within a line and have the lines before it.
     pub words: &'a [u8],
-    /// The ids, with single spaces between them, and one before them where they stand behind others.
-    /// They lie in a text that many stretches share.
+    /// The ids, with single spaces between them, and one before them where they stand behind
+    /// others. They lie in a text that many stretches share.
     pub ids: &'a [u8],
 }
 
-/// Which words are a stretch's, whose first ids stand behind them and how many, and whether they stand
-/// behind other ids.
+/// Which words are a stretch's, whose first ids stand behind them and how many, and whether they
+/// stand behind other ids.
 #[derive(Clone, Copy)]
 pub struct Cut {
     start: usize,
@@ -35,8 +35,8 @@ pub struct Cut {
 
 /// A text in pieces: stretches, and the words behind the last of them.
 ///
-/// It takes memory for the words, for each stretch, and for the longest text of ids of each replica,
-/// and not for each text of ids.
+/// It takes memory for the words, for each stretch, and for the longest text of ids of each
+/// replica, and not for each text of ids.
 #[derive(Drop)]
 pub struct Pieces {
     words: Vec<u8>,
@@ -83,20 +83,20 @@ impl Pieces {
 
     // Adds words.
     pub(crate) fn push_str(&mut self, words: &str) -> Result<(), AllocError>
-        ensures { OnOk result (joined self.new ≡ joined self.old ++ words.now) }
+        ensures { OnOk result (Adds self.old self.new words.now) }
     {
         self.words.extend_from_slice(words.as_bytes())
     }
 
     // Adds a number.
     pub(crate) fn push_number(&mut self, number: u64) -> Result<(), AllocError>
-        ensures { OnOk result (joined self.new ≡ joined self.old ++ decimal number) }
+        ensures { OnOk result (Adds self.old self.new (decimal number)) }
     {
         self.push_str(Buffer::new().format(number))
     }
 
-    // Adds the ids of a replica's first updates, with a space before each where they stand behind other
-    // ids. The cost is constant but for ids that no text had yet.
+    // Adds the ids of a replica's first updates, with a space before each where they stand behind
+    // other ids. The cost is constant but for ids that no text had yet.
     pub(crate) fn push_ids(
         &mut self,
         behind: bool,
@@ -104,7 +104,7 @@ impl Pieces {
         count: u32,
     ) -> Result<(), AllocError>
         requires { replica < REPLICAS }
-        ensures { OnOk result (joined self.new ≡ joined self.old ++ front behind replica count) }
+        ensures { OnOk result (Adds self.old self.new (front behind replica count)) }
     {
         let kept = &mut self.ids[replica as usize];
         kept.grow(count as usize)?;
@@ -133,7 +133,7 @@ impl Pieces {
 
     /// The stretch at a place, from 0, at constant cost.
     pub fn at(&self, place: usize) -> Option<Stretch<'_>>
-        ensures { option_map (λ s. (s.words.now, s.ids.now)) result ≡ slice_get self.now.stretches place }
+        ensures { option_map words_and_ids result ≡ slice_get self.now.stretches place }
     {
         let Cut {
             start,
@@ -159,7 +159,7 @@ impl Pieces {
     pub(crate) fn join(&self, alloc: Global) -> Result<Text, AllocError>
         ensures { IfOk result (λ text. text ≡ joined self.now) }
     {
-        // A text: so the bytes are UTF-8.
+        // A hint to the prover: with a field its invariant is read, by which all pieces are UTF-8.
         let _ = &self.words;
         let mut text = Vec::new(alloc);
         for place in 0..self.len() {

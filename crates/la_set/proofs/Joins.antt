@@ -77,7 +77,7 @@ subset-join_right a b one = prefix-subset b (join a b) (λ r. subst (IsPrefix (h
 pub join-least : (a b c : Histories) → IsSubset a c → IsSubset b c → IsSubset (join a b) c
 join-least a b c ac bc u e = elim (contains-join_cases a b u e) [ inl p ↦ ac u p | inr p ↦ bc u p ]
 
--- the members of a union are those of either
+-- the members of a join are those of either
 pub contains-join : (a b : Histories) → IsCompatible a b → (u : Update) → ContainsUpdate a u ⊎ ContainsUpdate b u → ContainsUpdate (join a b) u
 contains-join a b one u e = elim e [ inl p ↦ subset-join_left a b u p | inr p ↦ subset-join_right a b one u p ]
 

@@ -1,12 +1,13 @@
 // What sets say of one another, over what `set` offers.
-ghost use Rattle.std.specs.Prelude.{◌≡◌, ℕ, ◌+◌, ◌++◌, ◌<◌, ◌≤◌, ◌↔◌, length, List, take, drop, reverse, slice_get, [], Some, IsOk, IsTrue, IfOk, IfErr, OnOk, OnErr, MatchOption};
-ghost use Rattle.std.specs.Option.{option_copied};
+ghost use Rattle.std.specs.Prelude.{◌≡◌, ◌+◌, ◌++◌, ◌<◌, ◌≤◌, ◌↔◌, []};
+ghost use Rattle.std.specs.Prelude.{ℕ, length, List, take, reverse, slice_get, Some, IsOk, IsTrue};
+ghost use Rattle.std.specs.Prelude.{IfOk, IfErr, OnOk, OnErr, MatchOption};
 ghost use Rattle.la_set.specs.Histories.{updates};
 ghost use Rattle.la_set.specs.Inclusion.{IsSubset, is_subset, IsOrderOf};
-ghost use Rattle.la_set.specs.Join.{HasNoMore, IsCompatible, IsLeastClash, join};
+ghost use Rattle.la_set.specs.Join.{HasNoMore, IsCompatible, IsLeastClash, join, joined};
 ghost use Rattle.la_set.specs.Difference.{beyond, unmatched};
 ghost use Rattle.la_set.specs.declared.set.TheConstants.{MAX_NUMBER};
-ghost use Rattle.la_set.specs.Links.{items_of};
+ghost use Rattle.la_set.specs.Links.{lent_items};
 ghost use Rattle.la_set.specs.Refusals.{IsUnionRefusal};
 
 use crate::history::{
@@ -53,8 +54,8 @@ impl UpdateSet {
         }
     }
 
-    /// Whether each update of the other set is in this one, where no id has two updates in the two: by
-    /// the counts alone, at constant cost.
+    /// Whether each update of the other set is in this one, where no id has two updates in the two:
+    /// by the counts alone, at constant cost.
     pub fn contains_compatible(&self, other: &UpdateSet) -> bool
         requires { IsCompatible self.now other.now }
         ensures { result ≡ is_subset other.now self.now }
@@ -62,10 +63,10 @@ impl UpdateSet {
         other.has_no_more(self)
     }
 
-    /// Adds what the other set has. `Clash` comes exactly where an id has two different updates, and
-    /// names the least such id. After a refusal the set is unchanged. Where the other set lies in this
-    /// one nothing changes, and no memory is taken. The cost is that of comparing the updates that both
-    /// have; what is added is shared.
+    /// Adds what the other set has. `Clash` comes exactly where an id has two different updates,
+    /// and names the least such id. After a refusal the set is unchanged. Where the other set lies
+    /// in this one nothing changes, and no memory is taken. The cost is that of comparing the
+    /// updates that both have; what is added is shared.
     pub fn union(&mut self, other: &UpdateSet) -> Result<(), SetError>
         ensures ok { OnOk result (self.new ≡ join self.old other.now) }
         ensures compatible { OnOk result (IsCompatible self.old other.now) }
@@ -116,10 +117,11 @@ impl UpdateSet {
         self.first_clash(other).is_none()
     }
 
-    /// The least id that has different updates in the two sets, or `None` where no id has. The cost is
-    /// that of comparing the updates that both have.
+    /// The least id that has different updates in the two sets, or `None` where no id has. The cost
+    /// is that of comparing the updates that both have.
     pub fn first_clash(&self, other: &UpdateSet) -> Option<UpdateId>
-        ensures { MatchOption result (IsCompatible self.now other.now) (λ id. IsLeastClash self.now other.now id) }
+        ensures { MatchOption result (IsCompatible self.now other.now)
+            (λ id. IsLeastClash self.now other.now id) }
     {
         for replica in 0..REPLICAS {
             let mine = self.history_of(replica);
@@ -131,11 +133,12 @@ impl UpdateSet {
         None
     }
 
-    /// Adds what the other set has beyond this one's counts, without refusing clashes: the join, which
-    /// is the union where no id has two updates, as where one set contains the other. After a refusal
-    /// the set is unchanged. Where this set has of each replica as many updates or more nothing changes,
-    /// and no memory is taken. The cost is that of comparing the updates of the replicas of which the
-    /// other set has more: where these agree what is added is shared, and else it is copied.
+    /// Adds what the other set has beyond this one's counts, without refusing clashes: the join,
+    /// which is the union where no id has two updates, as where one set contains the other. After a
+    /// refusal the set is unchanged. Where this set has of each replica as many updates or more
+    /// nothing changes, and no memory is taken. The cost is that of comparing the updates of the
+    /// replicas of which the other set has more: where these agree what is added is shared, and
+    /// else it is copied.
     pub fn join(&mut self, other: &UpdateSet) -> Result<(), AllocError>
         ensures ok { OnOk result (self.new ≡ join self.old other.now) }
         ensures err { OnErr result (self.new ≡ self.old) }
@@ -154,9 +157,10 @@ impl UpdateSet {
         Ok(())
     }
 
-    /// The union with a set that has no other update under any id: as [`UpdateSet::join`], but nothing
-    /// is compared and all that is added is shared, at constant cost. After a refusal the set is
-    /// unchanged. Where the other set lies in this one nothing changes, and no memory is taken.
+    /// The union with a set that has no other update under any id: as [`UpdateSet::join`], but
+    /// nothing is compared and all that is added is shared, at constant cost. After a refusal the
+    /// set is unchanged. Where the other set lies in this one nothing changes, and no memory is
+    /// taken.
     pub fn join_compatible(&mut self, other: &UpdateSet) -> Result<(), AllocError>
         requires { IsCompatible self.old other.now }
         ensures ok { OnOk result (self.new ≡ join self.old other.now) }
@@ -181,15 +185,16 @@ impl UpdateSet {
     }
 }
 
-// Copies of the updates that a list has and another has not at their places, the last first: lists are
-// gone along from their ends.
+// Copies of the updates that a list has and another has not at their places, the last first: lists
+// are gone along from their ends.
 fn lacking(
     alloc: Global,
     list: Lent<'_, Update>,
     other: Lent<'_, Update>,
 ) -> Result<Vec<Update>, AllocError>
-    ensures room { unmatched (items_of (option_copied list.entry)) (items_of (option_copied other.entry)) ≡ [] → IsOk result }
-    ensures ok { IfOk result (λ lacking. lacking.items ≡ reverse (unmatched (items_of (option_copied list.entry)) (items_of (option_copied other.entry)))) }
+    ensures room { unmatched (lent_items list.entry) (lent_items other.entry) ≡ [] → IsOk result }
+    ensures ok { IfOk result (λ lacking.
+        lacking.items ≡ reverse (unmatched (lent_items list.entry) (lent_items other.entry))) }
 {
     let mut lacking = Vec::new(alloc);
     let mut mine = list;
@@ -213,11 +218,14 @@ struct Beside<'a> {
     prev: Lent<'a, Update>,
 }
 
-// Looks at the last of so many places, and goes back before it. The list has no item behind that place.
+// Looks at the last of so many places, and goes back before it. The list has no item behind that
+// place.
 fn step_beside<'a>(list: Lent<'a, Update>, len: usize, update: &Update) -> Beside<'a>
     requires { 0 < len }
-    ensures has { (all : List Update) (k : ℕ) → len ≡ k + 1 → items_of (option_copied list.entry) ≡ take len all → (IsTrue result.has ↔ (slice_get all k ≡ Some update.now)) }
-    ensures prev { (all : List Update) (k : ℕ) → len ≡ k + 1 → items_of (option_copied list.entry) ≡ take len all → items_of (option_copied result.prev) ≡ take k all }
+    ensures has { (all : List Update) (k : ℕ) → len ≡ k + 1 → lent_items list.entry ≡ take len all
+        → (IsTrue result.has ↔ (slice_get all k ≡ Some update.now)) }
+    ensures prev { (all : List Update) (k : ℕ) → len ≡ k + 1 → lent_items list.entry ≡ take len all
+        → lent_items result.prev ≡ take k all }
 {
     if len_of(list) != len {
         return Beside {
@@ -250,8 +258,8 @@ fn catch_up(
     mine: &mut History<Update>,
     theirs: Lent<'_, Update>,
 ) -> Result<(), AllocError>
-    requires { length (items_of (option_copied theirs)) ≤ MAX_NUMBER }
-    ensures { OnOk result (mine.new ≡ mine.old ++ drop (length mine.old) (items_of (option_copied theirs.entry))) }
+    requires { length (lent_items theirs) ≤ MAX_NUMBER }
+    ensures { OnOk result (mine.new ≡ joined mine.old (lent_items theirs.entry)) }
 {
     if begins_with(theirs, mine.link()) {
         return mine.extend_from(theirs);
@@ -264,8 +272,8 @@ fn catch_up(
 
 // The update at a place that there is.
 fn item(updates: Lent<'_, Update>, place: usize) -> &Update
-    requires { place < length (items_of (option_copied updates)) }
-    ensures { slice_get (items_of (option_copied updates.entry)) place ≡ Some result.now }
+    requires { place < length (lent_items updates) }
+    ensures { slice_get (lent_items updates.entry) place ≡ Some result.now }
 {
     match item_at(updates, place) {
         Some(update) => update,

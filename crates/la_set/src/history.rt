@@ -1,7 +1,10 @@
-ghost use Rattle.std.specs.Prelude.{◌≡◌, ℕ, ◌+◌, ◌<◌, ◌≤◌, ◌↔◌, [], ◌∷◌, ◌++◌, length, take, drop, slice_get, IsTrue, IfOk, OnOk, OnErr, MatchOption};
+ghost use Rattle.std.specs.Prelude.{◌≡◌, ◌+◌, ◌<◌, ◌≤◌, ◌↔◌, [], ◌∷◌, ◌++◌};
+ghost use Rattle.std.specs.Prelude.{length, take, drop, slice_get, IsTrue, IfOk, OnOk, OnErr};
+ghost use Rattle.std.specs.Prelude.{MatchOption};
 ghost use Rattle.std.specs.Option.{option_copied};
-ghost use Rattle.la_set.specs.Links.{items_of};
-ghost use Rattle.la_set.specs.Agreement.{AgreeBelow, IsFirstDifference, StartsWith};
+ghost use Rattle.la_set.specs.Links.{items_of, lent_items};
+ghost use Rattle.la_set.specs.Agreement.{Agree, AgreeBelow, IsFirstDifference, StartsWith};
+ghost use Rattle.la_set.specs.Join.{joined};
 
 use std::alloc::{AllocError, Global};
 use std::marker::Model;
@@ -23,7 +26,8 @@ pub type Link<T> = Option<Arc<Node<T>>>;
 /// A link, lent.
 pub type Lent<'a, T> = Option<&'a Arc<Node<T>>>;
 
-/// An item with all that stands before it. `jump` leads to the first so many of the items before it.
+/// An item with all that stands before it. `jump` leads to the first so many of the items before
+/// it.
 #[derive(Drop)]
 pub struct Node<T> {
     item: T,
@@ -38,10 +42,12 @@ impl<T> Model for Node<T> {
     ghost Value = { List T };
 
     ghost use Rattle.la_set.specs.Links.{items_of};
+    ghost use Rattle.la_set.specs.Agreement.{StartsWith};
 
     ghost view = { λ n. items_of n.prev ++ n.item ∷ [] };
 
-    ghost invariant = { λ n. (n.len ≡ length (items_of n.prev) + 1) × (items_of n.jump ≡ take (length (items_of n.jump)) (items_of n.prev)) };
+    ghost invariant = { λ n. (n.len ≡ length (items_of n.prev) + 1)
+        × StartsWith (items_of n.prev) (items_of n.jump) };
 
     ghost size = { length };
 
@@ -53,9 +59,10 @@ impl<T> Model for Node<T> {
 
 /// A list that grows and shrinks at its end, and shares its items' memory with its copies.
 ///
-/// It is a list with jumps (Myers, "An applicative random-access stack", 1983): each item lies in a node
-/// behind the one before, with a second link that leads far back. So an item takes one node, however many
-/// lists have it; a copy is one more owner of the last node; and any place is found in logarithmic time.
+/// It is a list with jumps (Myers, "An applicative random-access stack", 1983): each item lies in a
+/// node behind the one before, with a second link that leads far back. So an item takes one node,
+/// however many lists have it; a copy is one more owner of the last node; and any place is found in
+/// logarithmic time.
 pub struct History<T> {
     last: Link<T>,
 }
@@ -77,8 +84,8 @@ impl<T: Drop> Drop for History<T> {
     }
 }
 
-// Lets a link go. The nodes that go with it go one after another, and not one within the other, so that
-// the stack doesn't grow with the list.
+// Lets a link go. The nodes that go with it go one after another, and not one within the other, so
+// that the stack doesn't grow with the list.
 fn release<T: Drop>(link: Link<T>) {
     let mut at = link;
     while let Some(node) = at {
@@ -102,36 +109,37 @@ fn release<T: Drop>(link: Link<T>) {
 impl<T> History<T> {
     /// What leads to the list.
     pub fn link(&self) -> Lent<'_, T>
-        ensures { items_of (option_copied result) ≡ self.now }
+        ensures { lent_items result ≡ self.now }
     {
         self.last.as_ref()
     }
 
-    /// A list of what a link leads to, which shares all items, at constant cost. It takes no memory, and is
-    /// refused only where the last node has as many owners as can be counted.
+    /// A list of what a link leads to, which shares all items, at constant cost. It takes no
+    /// memory, and is refused only where the last node has as many owners as can be counted.
     pub fn of(link: Lent<'_, T>) -> Result<History<T>, AllocError>
-        ensures { IfOk result (λ list. list ≡ items_of (option_copied link.entry)) }
+        ensures { IfOk result (λ list. list ≡ lent_items link.entry) }
     {
         Ok(History {
             last: copy_of(link)?,
         })
     }
 
-    /// A list of the first so many items, which it shares, at logarithmic cost; refused as that of all is.
+    /// A list of the first so many items, which it shares, at logarithmic cost; refused as that of
+    /// all is.
     pub fn front_of(link: Lent<'_, T>, len: usize) -> Result<History<T>, AllocError>
-        requires { len ≤ length (items_of (option_copied link)) }
-        ensures { IfOk result (λ front. front ≡ take len (items_of (option_copied link.entry))) }
+        requires { len ≤ length (lent_items link) }
+        ensures { IfOk result (λ front. front ≡ take len (lent_items link.entry)) }
     {
         History::of(first(link, len))
     }
 
-    /// Adds what a list that begins with this one has beyond it, and shares it: at constant cost. Where
-    /// it has nothing more, this list stays. After a refusal the list is unchanged.
+    /// Adds what a list that begins with this one has beyond it, and shares it: at constant cost.
+    /// Where it has nothing more, this list stays. After a refusal the list is unchanged.
     pub fn extend_from(&mut self, other: Lent<'_, T>) -> Result<(), AllocError>
     where
         T: Drop,
-        requires { AgreeBelow self.old (items_of (option_copied other)) (length self.old) }
-        ensures ok { OnOk result (self.new ≡ self.old ++ drop (length self.old) (items_of (option_copied other.entry))) }
+        requires { AgreeBelow self.old (lent_items other) (length self.old) }
+        ensures ok { OnOk result (self.new ≡ joined self.old (lent_items other.entry)) }
         ensures err { OnErr result (self.new ≡ self.old) }
     {
         if len_of(self.link()) >= len_of(other) {
@@ -159,7 +167,7 @@ impl<T> History<T> {
 
 /// The item at a place, from 0, at logarithmic cost.
 pub fn item_at<T>(link: Lent<'_, T>, place: usize) -> Option<&T>
-    ensures { option_copied result ≡ slice_get (items_of (option_copied link.entry)) place }
+    ensures { option_copied result ≡ slice_get (lent_items link.entry) place }
 {
     if place >= len_of(link) {
         return None;
@@ -170,7 +178,8 @@ pub fn item_at<T>(link: Lent<'_, T>, place: usize) -> Option<&T>
 /// The first place at which both lists have an item and these differ. The cost is linear in the
 /// shorter list's length, and logarithmic in how much longer the other is.
 pub fn first_difference<T: Same>(one: Lent<'_, T>, other: Lent<'_, T>) -> Option<usize>
-    ensures { MatchOption result ((n : ℕ) → AgreeBelow (items_of (option_copied one.entry)) (items_of (option_copied other.entry)) n) (λ place. IsFirstDifference (items_of (option_copied one.entry)) (items_of (option_copied other.entry)) place) }
+    ensures { MatchOption result (Agree (lent_items one.entry) (lent_items other.entry))
+        (λ place. IsFirstDifference (lent_items one.entry) (lent_items other.entry) place) }
 {
     let mut left = len_of(one).min(len_of(other));
     let mut mine = first(one, left);
@@ -188,10 +197,10 @@ pub fn first_difference<T: Same>(one: Lent<'_, T>, other: Lent<'_, T>) -> Option
     found
 }
 
-/// Whether the first list begins with the second. The lengths are compared first; the cost is that of
-/// [`first_difference`].
+/// Whether the first list begins with the second. The lengths are compared first; the cost is that
+/// of [`first_difference`].
 pub fn begins_with<T: Same>(one: Lent<'_, T>, other: Lent<'_, T>) -> bool
-    ensures { IsTrue result ↔ StartsWith (items_of (option_copied one.entry)) (items_of (option_copied other.entry)) }
+    ensures { IsTrue result ↔ StartsWith (lent_items one.entry) (lent_items other.entry) }
 {
     len_of(one) >= len_of(other) && first_difference(one, other).is_none()
 }
@@ -205,7 +214,7 @@ pub struct Step<'a, T> {
 
 /// How many items a link leads to, at constant cost.
 pub fn len_of<T>(link: Lent<'_, T>) -> usize
-    ensures { result ≡ length (items_of (option_copied link.entry)) }
+    ensures { result ≡ length (lent_items link.entry) }
 {
     match link {
         None => 0,
@@ -220,7 +229,7 @@ fn len_at<T>(node: &Node<T>) -> usize
 }
 
 fn copy_of<T>(link: Lent<'_, T>) -> Result<Link<T>, AllocError>
-    ensures { IfOk result (λ copy. items_of copy ≡ items_of (option_copied link.entry)) }
+    ensures { IfOk result (λ copy. items_of copy ≡ lent_items link.entry) }
 {
     match link {
         None => Ok(None),
@@ -230,25 +239,22 @@ fn copy_of<T>(link: Lent<'_, T>) -> Result<Link<T>, AllocError>
 
 /// The last item, and what stands before it, at constant cost.
 pub fn step_back<T>(link: Lent<'_, T>) -> Step<'_, T>
-    requires { 0 < length (items_of (option_copied link)) }
-    ensures { items_of (option_copied link.entry) ≡ items_of (option_copied result.prev) ++ result.item.now ∷ [] }
+    requires { 0 < length (lent_items link) }
+    ensures { lent_items link.entry ≡ lent_items result.prev ++ result.item.now ∷ [] }
 {
     match link {
         None => unreachable!(),
-        Some(node) => {
-            let node: &Node<T> = node;
-            Step {
-                item: &node.item,
-                prev: node.prev.as_ref(),
-            }
-        }
+        Some(node) => Step {
+            item: &node.item,
+            prev: node.prev.as_ref(),
+        },
     }
 }
 
 /// The first so many items, at logarithmic cost.
 pub fn first<T>(link: Lent<'_, T>, len: usize) -> Lent<'_, T>
-    requires { len ≤ length (items_of (option_copied link)) }
-    ensures { items_of (option_copied result) ≡ take len (items_of (option_copied link.entry)) }
+    requires { len ≤ length (lent_items link) }
+    ensures { lent_items result ≡ take len (lent_items link.entry) }
 {
     let mut at = link;
     while len_of(at) > len {
@@ -259,14 +265,16 @@ pub fn first<T>(link: Lent<'_, T>, len: usize) -> Lent<'_, T>
 
 // A link to fewer items, but not to fewer than so many: as far back as one step leads.
 fn nearer<T>(link: Lent<'_, T>, len: usize) -> Lent<'_, T>
-    requires { len < length (items_of (option_copied link)) }
-    ensures front { items_of (option_copied result) ≡ take (length (items_of (option_copied result))) (items_of (option_copied link.entry)) }
-    ensures fewer { length (items_of (option_copied result)) < length (items_of (option_copied link.entry)) }
-    ensures enough { len ≤ length (items_of (option_copied result)) }
+    requires { len < length (lent_items link) }
+    ensures front { StartsWith (lent_items link.entry) (lent_items result) }
+    ensures fewer { length (lent_items result) < length (lent_items link.entry) }
+    ensures enough { len ≤ length (lent_items result) }
 {
     match link {
         None => unreachable!(),
         Some(node) => {
+            // a hint to the prover: the pointer is followed once, so that the test and the answer
+            // speak of one node
             let node: &Node<T> = node;
             if len_of(node.jump.as_ref()) >= len {
                 node.jump.as_ref()
@@ -279,8 +287,8 @@ fn nearer<T>(link: Lent<'_, T>, len: usize) -> Lent<'_, T>
 
 // A node with an item behind all that a link leads to.
 fn longer<T: Drop>(alloc: Global, link: Lent<'_, T>, item: T) -> Result<Arc<Node<T>>, AllocError>
-    requires { length (items_of (option_copied link)) < MAX_LEN }
-    ensures { IfOk result (λ node. node.value ≡ items_of (option_copied link.entry) ++ item ∷ []) }
+    requires { length (lent_items link) < MAX_LEN }
+    ensures { IfOk result (λ node. node.value ≡ lent_items link.entry ++ item ∷ []) }
 {
     let jump = copy_of(far_back(link))?;
     let node = Node {
@@ -292,10 +300,10 @@ fn longer<T: Drop>(alloc: Global, link: Lent<'_, T>, item: T) -> Result<Arc<Node
     Ok(Arc::new(alloc, node)?)
 }
 
-// Where the jump of a node behind this link leads: as far again as the last two jumps, where these are of
-// one length, and else to this link.
+// Where the jump of a node behind this link leads: as far again as the last two jumps, where these
+// are of one length, and else to this link.
 fn far_back<T>(link: Lent<'_, T>) -> Lent<'_, T>
-    ensures { items_of (option_copied result) ≡ take (length (items_of (option_copied result))) (items_of (option_copied link.entry)) }
+    ensures { StartsWith (lent_items link.entry) (lent_items result) }
 {
     let near = jump_of(link);
     let far = jump_of(near);
@@ -307,14 +315,11 @@ fn far_back<T>(link: Lent<'_, T>) -> Lent<'_, T>
 }
 
 fn jump_of<T>(link: Lent<'_, T>) -> Lent<'_, T>
-    ensures front { items_of (option_copied result) ≡ take (length (items_of (option_copied result))) (items_of (option_copied link.entry)) }
-    ensures fewer { length (items_of (option_copied result)) ≤ length (items_of (option_copied link.entry)) }
+    ensures front { StartsWith (lent_items link.entry) (lent_items result) }
+    ensures fewer { length (lent_items result) ≤ length (lent_items link.entry) }
 {
     match link {
         None => link,
-        Some(node) => {
-            let node: &Node<T> = node;
-            node.jump.as_ref()
-        }
+        Some(node) => node.jump.as_ref(),
     }
 }

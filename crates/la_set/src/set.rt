@@ -1,10 +1,13 @@
-ghost use Rattle.std.specs.Prelude.{◌≡◌, ℕ, [], ◌+◌, ◌<◌, ◌≤◌, length, map, take, slice_get, slice_index_or, IsOk, IfOk, IfErr, OnOk, OnErr};
+ghost use Rattle.std.specs.Prelude.{◌≡◌, ◌+◌, ◌<◌, ◌≤◌};
+ghost use Rattle.std.specs.Prelude.{length, map, slice_get, IsOk, IfOk, IfErr, OnOk, OnErr};
 ghost use Rattle.std.specs.Option.{option_copied};
 ghost use Rattle.la_set.specs.ObjectOps.{object_op_of};
-ghost use Rattle.la_set.specs.Histories.{empty, history, updates, numbered, count, get, push, pop, with_history, IsNext, IsWithinLimit};
+ghost use Rattle.la_set.specs.Histories.{empty, count, get, last_update, updates, updates_of};
+ghost use Rattle.la_set.specs.Histories.{numbered, with_history, push, pop, truncate};
+ghost use Rattle.la_set.specs.Histories.{IsNext, IsWithinLimit};
 ghost use Rattle.la_set.specs.Refusals.{IsPushRefusal};
-ghost use Rattle.la_set.specs.Links.{items_of};
-ghost use Rattle.la_set.specs.Representation.{represented, IsRepresentation};
+ghost use Rattle.la_set.specs.Links.{lent_items};
+ghost use Rattle.la_set.specs.Representation.{represented, AreListsOf, IsRepresentation};
 
 use crate::history::{History, Lent, item_at, len_of};
 use crate::{SetError, Update, UpdateId};
@@ -20,8 +23,8 @@ pub const MAX_NUMBER: u32 = 1_000_000;
 
 /// A set of updates, one for each id, in which each replica's numbers run from 1 without a gap.
 ///
-/// It keeps a list for each replica, in the order of the numbers. The lists lie behind one pointer, and
-/// copies share them: what is added to one copy, the others don't see.
+/// It keeps a list for each replica, in the order of the numbers. The lists lie behind one pointer,
+/// and copies share them: what is added to one copy, the others don't see.
 #[derive(Drop)]
 pub struct UpdateSet {
     alloc: Global,
@@ -98,8 +101,8 @@ impl UpdateSet {
         None
     }
 
-    /// A copy, which shares all updates, at constant cost. It takes no memory, and is refused only where
-    /// the set has as many copies as can be counted.
+    /// A copy, which shares all updates, at constant cost. It takes no memory, and is refused only
+    /// where the set has as many copies as can be counted.
     pub fn copy(&self) -> Result<UpdateSet, AllocError>
         ensures { IfOk result (λ copy. copy ≡ self.now) }
     {
@@ -113,10 +116,10 @@ impl UpdateSet {
         })
     }
 
-    /// Adds an update that comes next of its replica, at constant cost: whatever shares this set's other
-    /// updates goes on sharing them. `Gap` comes exactly where it does not come next: where its number is
-    /// not one more than the replica's count, or is over [`MAX_NUMBER`], or where the replica is 8 or
-    /// more. After a refusal the set is unchanged, and the update is dropped.
+    /// Adds an update that comes next of its replica, at constant cost: whatever shares this set's
+    /// other updates goes on sharing them. `Gap` comes exactly where it does not come next: where
+    /// its number is not one more than the replica's count, or is over [`MAX_NUMBER`], or where the
+    /// replica is 8 or more. After a refusal the set is unchanged, and the update is dropped.
     pub fn push(&mut self, update: Update) -> Result<(), SetError>
         ensures ok { OnOk result (self.new ≡ push self.old update) }
         ensures next { OnOk result (IsNext self.old update.id) }
@@ -132,10 +135,10 @@ impl UpdateSet {
     }
 
     /// Takes a replica's last update out, and answers a copy of it, at logarithmic cost and that of
-    /// [`Update::copy`]. A replica of 8 or more, or one without updates, has none. After a refusal the
-    /// set is unchanged.
+    /// [`Update::copy`]. A replica of 8 or more, or one without updates, has none. After a refusal
+    /// the set is unchanged.
     pub fn pop(&mut self, replica: u8) -> Result<Option<Update>, AllocError>
-        ensures last { IfOk result (λ last. last ≡ get self.old (record { replica = replica; number = count self.old replica })) }
+        ensures last { IfOk result (λ last. last ≡ last_update self.old replica) }
         ensures rest { OnOk result (self.new ≡ pop self.old replica) }
         ensures err { OnErr result (self.new ≡ self.old) }
     {
@@ -152,26 +155,26 @@ impl UpdateSet {
         Ok(last)
     }
 
-    /// Keeps a replica's first so many updates; all of them, where there are fewer, and then it takes no
-    /// memory. The cost is logarithmic. A replica of 8 or more has none. After a refusal the set is
-    /// unchanged.
-    pub fn truncate(&mut self, replica: u8, count: u32) -> Result<(), AllocError>
-        ensures ok { OnOk result (self.new ≡ with_history self.old replica (take count (history self.old replica))) }
-        ensures room { length (history self.old replica) ≤ count → IsOk result }
+    /// Keeps a replica's first so many updates; all of them, where there are fewer, and then it
+    /// takes no memory. The cost is logarithmic. A replica of 8 or more has none. After a refusal
+    /// the set is unchanged.
+    pub fn truncate(&mut self, replica: u8, len: u32) -> Result<(), AllocError>
+        ensures ok { OnOk result (self.new ≡ truncate self.old replica len) }
+        ensures room { count self.old replica ≤ len → IsOk result }
         ensures err { OnErr result (self.new ≡ self.old) }
     {
-        if self.count_of(replica) <= count {
+        if self.count_of(replica) <= len {
             return Ok(());
         }
-        let front = History::front_of(self.history_of(replica), count as usize)?;
+        let front = History::front_of(self.history_of(replica), len as usize)?;
         self.put(replica, front)
     }
 
     // One replica's updates, in the order of their numbers.
     pub(crate) fn history_of(&self, replica: u8) -> Lent<'_, Update>
         requires { replica < REPLICAS }
-        ensures updates { items_of (option_copied result) ≡ numbered replica 1 (history self.now replica) }
-        ensures limit { length (items_of (option_copied result)) ≤ MAX_NUMBER }
+        ensures updates { lent_items result ≡ updates_of self.now replica }
+        ensures limit { length (lent_items result) ≤ MAX_NUMBER }
     {
         match &self.of {
             Some(of) => of[replica as usize].link(),
@@ -189,7 +192,7 @@ impl UpdateSet {
     // All replicas' updates, each list shared.
     pub(crate) fn histories(&self) -> Result<[History<Update>; 8], AllocError>
         ensures eight { IfOk result (λ of. length of ≡ REPLICAS) }
-        ensures each { IfOk result (λ of. (r : ℕ) → r < REPLICAS → slice_index_or of r [] ≡ numbered r 1 (history self.now r)) }
+        ensures each { IfOk result (λ of. AreListsOf of self.now) }
     {
         Ok([
             History::of(self.history_of(0))?,
@@ -219,7 +222,8 @@ impl UpdateSet {
         requires known { replica < REPLICAS }
         requires numbered { list ≡ numbered replica 1 (map object_op_of list) }
         requires within { length list ≤ MAX_NUMBER }
-        ensures ok { OnOk result (self.new ≡ with_history self.old replica (map object_op_of list)) }
+        ensures ok { OnOk result
+            (self.new ≡ with_history self.old replica (map object_op_of list)) }
         ensures err { OnErr result (self.new ≡ self.old) }
     {
         let mut of = self.histories()?;

@@ -6,8 +6,8 @@ use crate::{Sequence, Tags};
 use std::alloc::AllocError;
 
 /// Which update: the replica that made it, and the update's number among that replica's updates,
-/// from 1. Ids are in the order of their replicas, and then of their numbers. The default, `0.0`, is
-/// no update's id.
+/// from 1. Ids are in the order of their replicas, and then of their numbers. The default, `0.0`,
+/// is no update's id.
 #[derive(Clone, Copy, Debug, Default, PartialEq, Eq, PartialOrd, Ord, Hash)]
 pub struct UpdateId {
     pub replica: u8,

@@ -31,7 +31,7 @@ pub mod RefusedForMemory
 pub mod Starting
 pub mod StoredMessages
 pub mod Shown
-pub mod TellCounts
+pub mod Telling
 pub mod WorldSteps
 pub mod SentCounts
 pub mod Receivers

@@ -1,18 +1,18 @@
-ghost use Rattle.std.specs.Prelude.{◌≡◌, ℕ, ◌+◌, ◌<◌, ◌^◌, [], length, map, slice_get, option_map, Some, None, IfOk, IfErr, OnOk, OnErr};
+ghost use Rattle.std.specs.Prelude.{◌≡◌, ◌+◌, ◌<◌, ◌^◌, [], length, slice_get, Some, None};
+ghost use Rattle.std.specs.Prelude.{IfOk, IfErr, OnOk, OnErr};
 ghost use Rattle.std.specs.Option.{option_copied};
 ghost use Rattle.la_set.specs.ObjectOps.{ObjectOp};
 ghost use Rattle.la_replica.specs.Whole.{Out, whole_of};
 ghost use Rattle.la_replica.specs.ReplicaState.{ReplicaState, receives};
 ghost use Rattle.la_replica.specs.Steps.{learnt_in};
-ghost use Rattle.la_world.specs.Events.{Past, Submit, Deliver, event_of};
-ghost use Rattle.la_world.specs.Groups.{group_of, replicas};
-ghost use Rattle.la_world.specs.Playing.{trace};
-ghost use Rattle.la_world.specs.Sent.{sent};
-ghost use Rattle.la_world.specs.Learnings.{learnt};
-ghost use Rattle.la_world.specs.Report.{refused, views};
+ghost use Rattle.la_world.specs.Events.{Past, Submit, Deliver, submission_of, event_of};
+ghost use Rattle.la_world.specs.Groups.{group_of};
 ghost use Rattle.la_world.specs.Printable.{IsPrintable};
-ghost use Rattle.la_world.specs.StandsFor.{StandsFor};
-ghost use Rattle.la_world.specs.Calls.{IsPlayable, IsMakingRefusal, replica_states_at_start, Plays, IsAllowed, IsPlayRefusal, StandsForMessage, submitted_in, view_in, view_of, report_with};
+ghost use Rattle.la_world.specs.StandsFor.{StandsFor, trace_in, sent_in, refused_in};
+ghost use Rattle.la_world.specs.Calls.{IsPlayable, IsMakingRefusal, replica_states_at_start};
+ghost use Rattle.la_world.specs.Calls.{Plays, IsAllowed, Refuses, StandsForMessage};
+ghost use Rattle.la_world.specs.Calls.{submitted_in, view_at, view_in, view_of, views_of};
+ghost use Rattle.la_world.specs.Calls.{report_with, report_after};
 
 use crate::journal::Journal;
 use crate::speaker::Speaker;
@@ -25,8 +25,8 @@ use std::marker::Model;
 /// A group of replicas and all that was ever sent between them. Any message that was sent may be
 /// delivered at any later time, again and in any order.
 ///
-/// It keeps every message and every learnt set, so its memory grows by what is sent and learnt: by an
-/// entry for each, since sets share their updates.
+/// It keeps every message and every learnt set, so its memory grows by what is sent and learnt: by
+/// an entry for each, since sets share their updates.
 #[derive(Drop)]
 pub struct World {
     config: Config,
@@ -35,21 +35,22 @@ pub struct World {
 }
 
 impl Model for World {
-    ghost use Rattle.la_world.specs.StandsFor.{World};
+    ghost use Rattle.la_world.specs.StandsFor.{World, world_of};
     ghost use Rattle.la_world.specs.Calls.{HoldsInvariant};
 
     ghost Value = { World };
 
-    ghost view = { λ w. record { config = w.config; replica_states = w.replicas.items; messages = w.journal.messages.items; learnt = w.journal.learnt.items; count = w.journal.count } };
+    ghost view = { λ w. world_of w.config w.replicas.items w.journal };
 
-    ghost invariant = { λ w. HoldsInvariant (record { config = w.config; replica_states = w.replicas.items; messages = w.journal.messages.items; learnt = w.journal.learnt.items; count = w.journal.count }) };
+    ghost invariant = { λ w. HoldsInvariant (world_of w.config w.replicas.items w.journal) };
 }
 
 impl World {
     /// A group in which nothing has happened.
     ///
-    /// `BadConfig` comes exactly where a value is out of its range, there are votes for another number
-    /// of replicas, or there are adopt-commit objects, which no world plays yet; else `Memory`.
+    /// `BadConfig` comes exactly where a value is out of its range, there are votes for another
+    /// number of replicas, or there are adopt-commit objects, which no world plays yet; else
+    /// `Memory`.
     pub fn new(alloc: Global, config: Config) -> Result<World, WorldError>
         ensures config { IfOk result (λ world. world.config ≡ config) }
         ensures stands { IfOk result (λ world. StandsFor world []) }
@@ -72,14 +73,17 @@ impl World {
     /// submitted its cap; `NoSuchMessage` where fewer messages were sent; `Memory`. After each the
     /// world is as before. Fewer than 2^64 - 1 events may be accepted.
     ///
-    /// The cost is that of the replica's step, in which no updates are compared: what was sent fits all
-    /// that its receiver knows. Sets that are sent, said, learnt and kept share their updates, so that an
-    /// event takes memory for what it adds: one update for a submission, its mail, and a learning's entry.
+    /// The cost is that of the replica's step, in which no updates are compared: what was sent fits
+    /// all that its receiver knows. Sets that are sent, said, learnt and kept share their updates,
+    /// so that an event takes memory for what it adds: one update for a submission, its mail, and a
+    /// learning's entry.
     pub fn play(&mut self, event: &Event) -> Result<Step, WorldError>
         requires { self.old.count + 1 < 2 ^ 64 }
-        ensures step { (events : Past) → StandsFor self.old events → IfOk result (λ step. Plays self.old events (event_of event.now) step self.new) }
+        ensures step { (events : Past) → StandsFor self.old events →
+            IfOk result (λ step. Plays self.old events (event_of event.now) step self.new) }
         ensures printable { IfOk result IsPrintable }
-        ensures error { (events : Past) → StandsFor self.old events → IfErr result (IsPlayRefusal (group_of self.old.config) (trace (group_of self.old.config) events) (event_of event.now)) }
+        ensures error { (events : Past) → StandsFor self.old events →
+            IfErr result (Refuses self.old events (event_of event.now)) }
         ensures err { OnErr result (self.new ≡ self.old) }
     {
         match event {
@@ -94,9 +98,11 @@ impl World {
 
     fn submit(&mut self, replica: u8, object: u16, op: &Op) -> Result<Step, WorldError>
         requires { self.old.count + 1 < 2 ^ 64 }
-        ensures step { (events : Past) → StandsFor self.old events → IfOk result (λ step. Plays self.old events (Submit replica (record { object = object; op = op.now })) step self.new) }
+        ensures step { (events : Past) → StandsFor self.old events → IfOk result (λ step.
+            Plays self.old events (submission_of replica object op.now) step self.new) }
         ensures printable { IfOk result IsPrintable }
-        ensures error { (events : Past) → StandsFor self.old events → IfErr result (IsPlayRefusal (group_of self.old.config) (trace (group_of self.old.config) events) (Submit replica (record { object = object; op = op.now }))) }
+        ensures error { (events : Past) → StandsFor self.old events →
+            IfErr result (Refuses self.old events (submission_of replica object op.now)) }
         ensures err { OnErr result (self.new ≡ self.old) }
     {
         self.admit_submission(replica)?;
@@ -110,13 +116,15 @@ impl World {
     fn take_submission(&mut self, replica: u8, object: u16, op: &Op) -> Result<Step, AllocError>
         requires count { self.old.count + 1 < 2 ^ 64 }
         requires known { replica < length self.old.replica_states }
-        requires allowed { IsAllowed self.old (Submit replica (record { object = object; op = op.now })) }
-        ensures step { (events : Past) → StandsFor self.old events → IfOk result (λ step. Plays self.old events (Submit replica (record { object = object; op = op.now })) step self.new) }
+        requires allowed { IsAllowed self.old (submission_of replica object op.now) }
+        ensures step { (events : Past) → StandsFor self.old events → IfOk result (λ step.
+            Plays self.old events (submission_of replica object op.now) step self.new) }
         ensures printable { IfOk result IsPrintable }
         ensures err { OnErr result (self.new ≡ self.old) }
     {
         let op = op.copy()?;
         self.journal.reserve(self.config.replicas)?;
+        // `laws::submissions_fit`: of what the world does not refuse, only memory is left.
         let Ok(out) = self.replicas[replica as usize].submit(0, object, op) else {
             return Err(AllocError);
         };
@@ -133,8 +141,12 @@ impl World {
     #[tactic(auto, using(crate::proofs::Worlds::submitter_known))]
     fn admit_submission(&self, replica: u8) -> Result<(), WorldError>
         ensures known { OnOk result (replica < length self.now.replica_states) }
-        ensures allowed { (events : Past) → StandsFor self.now events → OnOk result ((object_op : ObjectOp) → refused (group_of self.now.config) (trace (group_of self.now.config) events) (Submit replica object_op) ≡ None) }
-        ensures error { (events : Past) → StandsFor self.now events → IfErr result (λ e. (object_op : ObjectOp) → IsPlayRefusal (group_of self.now.config) (trace (group_of self.now.config) events) (Submit replica object_op) e) }
+        ensures allowed { (events : Past) → StandsFor self.now events →
+            OnOk result ((object_op : ObjectOp) →
+            refused_in self.now events (Submit replica object_op) ≡ None) }
+        ensures error { (events : Past) → StandsFor self.now events →
+            IfErr result (λ e. (object_op : ObjectOp) →
+            Refuses self.now events (Submit replica object_op) e) }
     {
         match submitted_among(&self.replicas, replica) {
             None => Err(WorldError::NoSuchReplica),
@@ -145,9 +157,11 @@ impl World {
 
     fn deliver(&mut self, number: u64) -> Result<Step, WorldError>
         requires { self.old.count + 1 < 2 ^ 64 }
-        ensures step { (events : Past) → StandsFor self.old events → IfOk result (λ step. Plays self.old events (Deliver number) step self.new) }
+        ensures step { (events : Past) → StandsFor self.old events →
+            IfOk result (λ step. Plays self.old events (Deliver number) step self.new) }
         ensures printable { IfOk result IsPrintable }
-        ensures error { (events : Past) → StandsFor self.old events → IfErr result (IsPlayRefusal (group_of self.old.config) (trace (group_of self.old.config) events) (Deliver number)) }
+        ensures error { (events : Past) → StandsFor self.old events →
+            IfErr result (Refuses self.old events (Deliver number)) }
         ensures err { OnErr result (self.new ≡ self.old) }
     {
         if number >= self.sent() {
@@ -163,7 +177,8 @@ impl World {
     fn take_delivery(&mut self, number: usize) -> Result<Step, AllocError>
         requires count { self.old.count + 1 < 2 ^ 64 }
         requires known { number < length self.old.messages }
-        ensures step { (events : Past) → StandsFor self.old events → IfOk result (λ step. Plays self.old events (Deliver number) step self.new) }
+        ensures step { (events : Past) → StandsFor self.old events →
+            IfOk result (λ step. Plays self.old events (Deliver number) step self.new) }
         ensures printable { IfOk result IsPrintable }
         ensures err { OnErr result (self.new ≡ self.old) }
     {
@@ -177,6 +192,7 @@ impl World {
         };
         let receiver = &mut self.replicas[message.to as usize];
         let copy = learning(receiver, message)?;
+        // `laws::deliveries_fit`: what was sent fits its receiver, so that only memory is left.
         let out = receiver.take_message(message)?;
         Ok(self.journal.note(&speaker, out, copy))
     }
@@ -193,17 +209,19 @@ impl World {
     #[tactic(auto, using(crate::proofs::Worlds::sent_is))]
     pub fn sent(&self) -> u64
         ensures value { result ≡ length self.now.messages }
-        ensures stands { (events : Past) → StandsFor self.now events → result ≡ length (sent (replicas (group_of self.now.config)) (trace (group_of self.now.config) events)) }
+        ensures stands { (events : Past) → StandsFor self.now events →
+            result ≡ length (sent_in self.now events) }
     {
         self.journal.messages.len() as u64
     }
 
-    /// The message with a number, from 0 in the order in which they were sent; `None` where fewer were
-    /// sent.
+    /// The message with a number, from 0 in the order in which they were sent; `None` where fewer
+    /// were sent.
     #[tactic(auto, using(crate::proofs::Worlds::message_found))]
     pub fn message(&self, number: u64) -> Option<&Message>
         ensures value { option_copied result ≡ slice_get self.now.messages number }
-        ensures stands { (events : Past) → StandsFor self.now events → StandsForMessage (option_copied result) (slice_get (sent (replicas (group_of self.now.config)) (trace (group_of self.now.config) events)) number) }
+        ensures stands { (events : Past) → StandsFor self.now events →
+            StandsForMessage (option_copied result) (slice_get (sent_in self.now events) number) }
     {
         self.stored_message(number)
     }
@@ -218,17 +236,20 @@ impl World {
     #[tactic(auto, using(crate::proofs::Worlds::view_is))]
     pub fn view(&self, replica: u8) -> Option<&UpdateSet>
         ensures value { option_copied result ≡ view_in self.now replica }
-        ensures stands { (events : Past) → StandsFor self.now events → option_copied result ≡ view_of (group_of self.now.config) (trace (group_of self.now.config) events) replica }
+        ensures stands { (events : Past) → StandsFor self.now events → option_copied result
+            ≡ view_of (group_of self.now.config) (trace_in self.now events) replica }
     {
         view_among(&self.replicas, replica)
     }
 
-    /// A report of these lines, of what was learnt and of the views, at the cost of an entry for each learnt
-    /// set and each view; their updates are shared. It refuses with want of memory alone.
+    /// A report of these lines, of what was learnt and of the views, at the cost of an entry for
+    /// each learnt set and each view; their updates are shared. It refuses with want of memory
+    /// alone.
     #[tactic(auto, using(crate::proofs::Worlds::views_are))]
     pub fn report(&self, steps: Steps) -> Result<Report, AllocError>
         ensures value { IfOk result (λ report. report ≡ report_with self.now steps) }
-        ensures stands { (events : Past) → StandsFor self.now events → IfOk result (λ report. report ≡ record { config = self.now.config; steps = steps; learnt = learnt (trace (group_of self.now.config) events); views = views (group_of self.now.config) (trace (group_of self.now.config) events) }) }
+        ensures stands { (events : Past) → StandsFor self.now events →
+            IfOk result (λ report. report ≡ report_after self.now events steps) }
     {
         Ok(Report {
             config: self.config,
@@ -238,12 +259,14 @@ impl World {
         })
     }
 
-    /// The report that [`World::report`] would make, of a world that goes: what was learnt is handed
-    /// out, and the views are copied. It refuses with want of memory alone, and then the world is lost.
+    /// The report that [`World::report`] would make, of a world that goes: what was learnt is
+    /// handed out, and the views are copied. It refuses with want of memory alone, and then the
+    /// world is lost.
     #[tactic(auto, using(crate::proofs::Worlds::views_are))]
     pub fn into_report(self, steps: Steps) -> Result<Report, AllocError>
         ensures value { IfOk result (λ report. report ≡ report_with self steps) }
-        ensures stands { (events : Past) → StandsFor self events → IfOk result (λ report. report ≡ record { config = self.config; steps = steps; learnt = learnt (trace (group_of self.config) events); views = views (group_of self.config) (trace (group_of self.config) events) }) }
+        ensures stands { (events : Past) → StandsFor self events →
+            IfOk result (λ report. report ≡ report_after self events steps) }
     {
         let views = copy_views(&self.replicas)?;
         let config = self.config;
@@ -269,7 +292,9 @@ fn submitted_among(replicas: &[Replica], replica: u8) -> Option<u32>
 
 // A copy of the set that a message will lead a replica to learn, if it will.
 fn learning(replica: &Replica, message: &Message) -> Result<Option<UpdateSet>, AllocError>
-    ensures { (out : Out) (after : ReplicaState) → receives replica.now (whole_of message.now) ≡ Some (out, after) → IfOk result (λ learnt. learnt ≡ learnt_in out.said) }
+    ensures { (out : Out) (after : ReplicaState) →
+        receives replica.now (whole_of message.now) ≡ Some (out, after) →
+        IfOk result (λ learnt. learnt ≡ learnt_in out.said) }
 {
     Ok(match replica.would_learn(message) {
         Some(learnt) => Some(learnt.copy()?),
@@ -279,7 +304,7 @@ fn learning(replica: &Replica, message: &Message) -> Result<Option<UpdateSet>, A
 
 // The view of a replica, if there is one with this number.
 fn view_among(replicas: &[Replica], replica: u8) -> Option<&UpdateSet>
-    ensures { option_copied result ≡ option_map (λ m. m.view) (slice_get replicas.now replica) }
+    ensures { option_copied result ≡ view_at replicas.now replica }
 {
     match replicas.get(replica as usize) {
         Some(replica) => Some(replica.view()),
@@ -290,7 +315,7 @@ fn view_among(replicas: &[Replica], replica: u8) -> Option<&UpdateSet>
 // The replicas of a group in which nothing has happened.
 fn start(alloc: Global, config: Config) -> Result<Vec<Replica>, AllocError>
     requires { IsPlayable config }
-    ensures { IfOk result (λ replica_states. replica_states.items ≡ replica_states_at_start config) }
+    ensures { IfOk result (λ made. made.items ≡ replica_states_at_start config) }
 {
     let mut replicas = Vec::with_capacity(alloc, config.replicas as usize)?;
     for own in 0..config.replicas {
@@ -319,7 +344,7 @@ fn copy_learnings(learnt: &Vec<Learnt>) -> Result<Vec<Learnt>, AllocError>
 
 // A copy of every replica's view.
 fn copy_views(replicas: &Vec<Replica>) -> Result<Vec<UpdateSet>, AllocError>
-    ensures { IfOk result (λ views. views.items ≡ map (λ m. m.view) replicas.now.items) }
+    ensures { IfOk result (λ views. views.items ≡ views_of replicas.now.items) }
 {
     let mut views = Vec::with_capacity(*replicas.allocator(), replicas.len())?;
     for replica in replicas {

@@ -1,5 +1,5 @@
--- What the program does, by the words that call it: what is left to read, what is written and what is
--- told, before and after, and how it ends.
+-- What the program does, by the words that call it: what is left to read, what is written and what
+-- is told, before and after, and how it ends.
 use Rattle.std.specs.Prelude.{◌≡◌, ◌⊎◌, ℕ, List, Option, MatchResult}
 use Rattle.std.specs.Io.KnownBytes.{Appends, Keeps}
 use Rattle.lattice.specs.declared.error.PlayFault.{PlayFault}
@@ -12,9 +12,13 @@ use Rattle.lattice.specs.Calls.{Calls, CallsForNothing}
 use Rattle.lattice.specs.Texts.{fault_line, usage_line}
 
 -- the program ends with this status, and this line was told; where telling failed, a front of it
-pub record Tells (told told_after : Option (List ℕ)) (line : List ℕ) (n : ℕ) (ended : Ended) : Type 0 where
+pub record Tells
+    (told told_after : Option (List ℕ)) (line : List ℕ) (n : ℕ) (ended : Ended) : Type 0 where
   pub status : ended.status ≡ n
-  pub wrote : MatchResult ended.told (λ _. Appends told told_after line) (λ _. AppendsPrefix told told_after line)
+  pub wrote :
+      MatchResult ended.told
+      (λ _. Appends told told_after line)
+      (λ _. AppendsPrefix told told_after line)
 
 -- a fault is told, and the status is its
 abbrev pub TellsFault : (told told_after : Option (List ℕ)) → PlayFault → Ended → Type 0
@@ -47,7 +51,8 @@ pub record EndsRefused (words : List (List ℕ)) (old new : Standard) (ended : E
   pub refused : IsPlayRefusal old.left new.left old.written new.written fault
   pub tells : TellsFault old.told new.told fault ended
 
--- nothing that the program does was called for: nothing was read or written, and it was told how it is called
+-- nothing that the program does was called for: nothing was read or written, and it was told how it
+-- is called
 pub record EndsMiscalled (words : List (List ℕ)) (old new : Standard) (ended : Ended) : Type 0 where
   pub called : CallsForNothing words
   pub unread : new.left ≡ old.left
@@ -56,4 +61,6 @@ pub record EndsMiscalled (words : List (List ℕ)) (old new : Standard) (ended :
 
 -- what came of the program
 abbrev pub Ends : (words : List (List ℕ)) (old new : Standard) → Ended → Type 0
-Ends words old new ended = EndsPlayed words old new ended ⊎ (EndsRefused words old new ended ⊎ EndsMiscalled words old new ended)
+Ends words old new ended =
+    EndsPlayed words old new ended ⊎
+    (EndsRefused words old new ended ⊎ EndsMiscalled words old new ended)

@@ -63,8 +63,11 @@ pub fn run_words<R: Read, W: Write, E: Write>(
     output: &mut W,
     errors: &mut E,
 ) -> Ended
-    ensures ends { Ends (map string_bytes words.now) (standard (R.remaining input.old) (W.contents output.old) (E.contents errors.old)) (standard (R.remaining input.new) (W.contents output.new) (E.contents errors.new)) result }
-    ensures done { result.status ≡ 0 → Plays (R.remaining input.old) (R.remaining input.new) (W.contents output.old) (W.contents output.new) }
+    ensures ends { Ends (map string_bytes words.now)
+        (standard (R.remaining input.old) (W.contents output.old) (E.contents errors.old))
+        (standard (R.remaining input.new) (W.contents output.new) (E.contents errors.new)) result }
+    ensures done { result.status ≡ 0 → Plays (R.remaining input.old) (R.remaining input.new)
+        (W.contents output.old) (W.contents output.new) }
 {
     match task_of(words) {
         Ok(Task::Play) => match play_stream(alloc, input, output) {
@@ -82,8 +85,10 @@ pub fn run_words<R: Read, W: Write, E: Write>(
 ///
 /// Want of memory is told as any other, with its status; words that are no text are a wrong call.
 pub fn end_without_words<E: Write>(kind: ErrorKind, errors: &mut E) -> Ended
-    ensures memory { kind ≡ ErrorKind.OutOfMemory → TellsFault (E.contents errors.old) (E.contents errors.new) Memory result }
-    ensures other { kind ≢ ErrorKind.OutOfMemory → TellsUsage (E.contents errors.old) (E.contents errors.new) result }
+    ensures memory { kind ≡ ErrorKind.OutOfMemory
+        → TellsFault (E.contents errors.old) (E.contents errors.new) Memory result }
+    ensures other { kind ≢ ErrorKind.OutOfMemory
+        → TellsUsage (E.contents errors.old) (E.contents errors.new) result }
 {
     match kind {
         ErrorKind::OutOfMemory => end_with(PlayFault::Memory, errors),

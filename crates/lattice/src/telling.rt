@@ -1,7 +1,6 @@
 // What is told on standard error. Telling takes no memory.
 ghost use Rattle.std.specs.Prelude.{◌≡◌, ◌≤◌, OnOk, OnErr, length};
-ghost use Rattle.std.specs.Io.KnownBytes.{Appends};
-ghost use Rattle.lattice.specs.Streams.{AppendsPrefix};
+ghost use Rattle.lattice.specs.Streams.{Writes, WritesPrefix};
 ghost use Rattle.lattice.specs.Texts.{name_of, fault_text, fault_line, usage_line};
 
 use crate::PlayFault;
@@ -51,8 +50,8 @@ pub(crate) fn text_of(fault: PlayFault) -> FaultLine
 /// Writes a fault as the program tells it, and LF. It takes no memory. The refusal is that of
 /// [`write_all`].
 pub fn tell<W: Write>(writer: &mut W, fault: PlayFault) -> Result<(), WriteFailed>
-    ensures ok { OnOk result (Appends (W.contents writer.old) (W.contents writer.new) (fault_line fault)) }
-    ensures err { OnErr result (AppendsPrefix (W.contents writer.old) (W.contents writer.new) (fault_line fault)) }
+    ensures ok { OnOk result (Writes W.contents writer.old writer.new (fault_line fault)) }
+    ensures err { OnErr result (WritesPrefix W.contents writer.old writer.new (fault_line fault)) }
 {
     let mut line = text_of(fault);
     line.push_str("\n");
@@ -61,8 +60,8 @@ pub fn tell<W: Write>(writer: &mut W, fault: PlayFault) -> Result<(), WriteFaile
 
 /// Writes how the program is called, and LF. The refusal is that of [`write_all`].
 pub fn explain<W: Write>(writer: &mut W) -> Result<(), WriteFailed>
-    ensures ok { OnOk result (Appends (W.contents writer.old) (W.contents writer.new) usage_line) }
-    ensures err { OnErr result (AppendsPrefix (W.contents writer.old) (W.contents writer.new) usage_line) }
+    ensures ok { OnOk result (Writes W.contents writer.old writer.new usage_line) }
+    ensures err { OnErr result (WritesPrefix W.contents writer.old writer.new usage_line) }
 {
     write_all(writer, USAGE.as_bytes())
 }

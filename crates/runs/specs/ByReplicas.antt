@@ -1,13 +1,16 @@
--- A group with an adopt-commit object, played by the replicas' own steps: what each replica comes to keep, and what was
--- sent, is what the trace says. Of groups without such objects the laws on following say so of every list of events.
+-- A group with an adopt-commit object, played by the replicas' own steps: what each replica comes
+-- to keep, and what was sent, is what the trace says. Of groups without such objects the laws on
+-- following say so of every list of events of which none was refused.
 use Rattle.std.specs.Prelude.{◌≡◌, ℕ, List, [], ◌∷◌, ◌++◌, map, reverse, fold, take, slice_get, slice_set, Option, Some, None}
 use Rattle.la_set.specs.ObjectOps.{ObjectOp}
+use Rattle.la_set.specs.Histories.{Histories}
 use Rattle.la_replica.specs.Whole.{Message, Out}
 use Rattle.la_replica.specs.declared.out.Said.{Said}
 use Rattle.la_replica.specs.declared.out.Said.TheVariants.{Learnt}
 use Rattle.la_replica.specs.ReplicaState.{ReplicaState, start}
 use Rattle.la_replica.specs.ReplicaState as replica
 use Rattle.la_replica.specs.Messages.{group}
+use Rattle.la_world.specs.declared.step.Opening.{Opening}
 use Rattle.la_world.specs.Groups.{Group, replicas, first_instance}
 use Rattle.la_world.specs.Events.{Event, Submit, Deliver, Decide}
 use Rattle.la_world.specs.Sent.{sent}
@@ -22,12 +25,18 @@ pub record Played : Type 0 where
   pub mail : List Message
 
 abbrev pub begun : Group → Played
-begun g = record { replica_states = map (λ r. start g.votes r g.cap g.commits) (group (replicas g)); mail = [] }
+begun g = record {
+  replica_states = map (λ r. start g.votes r g.cap g.commits) (group (replicas g));
+  mail = [];
+}
 
 -- a replica took this step
 abbrev pub after : Played → (r : ℕ) → Option (Out × ReplicaState) → Played
 after w r None = w
-after w r (Some x) = record { replica_states = slice_set w.replica_states r x.1; mail = w.mail ++ (x.0).mail }
+after w r (Some x) = record {
+  replica_states = slice_set w.replica_states r x.1;
+  mail = w.mail ++ (x.0).mail;
+}
 
 abbrev pub submits_at : Option ReplicaState → (i : ℕ) → ObjectOp → Option (Out × ReplicaState)
 submits_at None i object_op = None
@@ -45,8 +54,17 @@ abbrev pub vote : Played → Option Submission → Played
 vote w None = w
 vote w (Some s) = submit w s.replica s.instance s.object_op
 
+-- the ballot with this set that a message replies to
+abbrev pub ballot_of : Message → Histories → Opening
+ballot_of m updates = record {
+  replica = m.to;
+  instance = m.instance;
+  ballot = m.ballot;
+  updates = updates;
+}
+
 abbrev pub vote_after : Played → Message → Said → Played
-vote_after w m (Learnt learnt next) = vote w (second_vote (record { replica = m.to; instance = m.instance; ballot = m.ballot; updates = learnt }))
+vote_after w m (Learnt learnt next) = vote w (second_vote (ballot_of m learnt))
 vote_after w m said = w
 
 abbrev pub vote_after_step : Played → Message → Option (Out × ReplicaState) → Played
@@ -67,7 +85,9 @@ played g events = fold plays (begun g) events
 
 -- what the trace says of the same
 abbrev pub traced : Group → List Event → Played
-traced g events = record { replica_states = replica_states g (trace g (reverse events)); mail = sent (replicas g) (trace g (reverse events)) }
+traced g events =
+    let t = trace g (reverse events) in
+    record { replica_states = replica_states g t; mail = sent (replicas g) t }
 
 abbrev pub three : Group
 three = record { votes = 1 ∷ 1 ∷ 1 ∷ []; commits = 1; cap = 10 }

@@ -1,12 +1,12 @@
 -- A second proposal is refused, and one to an object that there is not.
-use Rattle.std.specs.Prelude.{◌≡◌, ◌≤◌, List, [], ◌∷◌, false}
-use Rattle.la_set.specs.declared.update.Op.TheVariants.{Vote}
+use Rattle.std.specs.Prelude.{◌≡◌, ◌≤◌, List, [], ◌∷◌}
 use Rattle.la_world.specs.declared.error.Refusal.TheVariants.{NoSuchCommit, AlreadyProposed}
-use Rattle.la_world.specs.declared.report.Line.TheVariants.{Done, Refused}
+use Rattle.la_world.specs.declared.report.Line.TheVariants.{Refused}
 use Rattle.la_world.specs.declared.step.Did.TheVariants.{Opened}
 use Rattle.la_world.specs.Events.{Event, Decide}
 use Rattle.la_world.specs.Report.{report}
-use Rattle.runs.specs.Words.{config, object_op, these, ballot}
+use Rattle.runs.specs.Words.{three, nothing, ballot, done}
+use Rattle.runs.specs.VoteSets.{seven}
 
 abbrev pub events : List Event
 events =
@@ -16,16 +16,13 @@ events =
     ∷ []
 
 abbrev pub DecideTwice : Type 0
-DecideTwice = (few : 3 ≤ 8) → report (config (1 ∷ 1 ∷ 1 ∷ 0 ∷ 0 ∷ 0 ∷ 0 ∷ 0 ∷ []) 3 few 1 10) events ≡ record {
-  config = config (1 ∷ 1 ∷ 1 ∷ 0 ∷ 0 ∷ 0 ∷ 0 ∷ 0 ∷ []) 3 few 1 10;
+DecideTwice = (few : 3 ≤ 8) → report (three few 1) events ≡ record {
+  config = three few 1;
   steps =
-      Done (record { did = Opened (ballot 0 1 1 (these ((object_op 0 (Vote 7 false) ∷ []) ∷ [] ∷ [] ∷ []))); first = 0; sent = 3 })
+      done (Opened (ballot 0 1 1 seven)) 0 3
       ∷ Refused AlreadyProposed
       ∷ Refused NoSuchCommit
       ∷ [];
   learnt = [];
-  views = (these ([] ∷ [] ∷ [] ∷ []))
-      ∷ (these ([] ∷ [] ∷ [] ∷ []))
-      ∷ (these ([] ∷ [] ∷ [] ∷ []))
-      ∷ [];
+  views = nothing ∷ nothing ∷ nothing ∷ [];
 }

@@ -1,13 +1,17 @@
 -- A submission is offered, acknowledged by two of three, learnt and told.
 use Rattle.std.specs.Prelude.{◌≡◌, ◌≤◌, List, [], ◌∷◌, None}
 use Rattle.la_set.specs.declared.update.Op.TheVariants.{Inc}
+use Rattle.la_set.specs.Histories.{Histories}
 use Rattle.la_acceptor.specs.declared.reply.Reply.TheVariants.{Yes}
-use Rattle.la_world.specs.declared.report.Line.TheVariants.{Done}
 use Rattle.la_world.specs.declared.step.Did.TheVariants.{Opened, Answered, Counted, Learnt}
 use Rattle.la_world.specs.Events.{Event, Submit, Deliver}
 use Rattle.la_world.specs.Learnings.{learning}
 use Rattle.la_world.specs.Report.{report}
-use Rattle.runs.specs.Words.{config, object_op, these, ballot}
+use Rattle.runs.specs.Words.{three, object_op, these, nothing, ballot, done}
+
+-- the set of what is submitted
+abbrev pub increment : Histories
+increment = these ((object_op 1 (Inc 5) ∷ []) ∷ [] ∷ [] ∷ [])
 
 abbrev pub events : List Event
 events =
@@ -19,19 +23,16 @@ events =
     ∷ []
 
 abbrev pub FirstRun : Type 0
-FirstRun = (few : 3 ≤ 8) → report (config (1 ∷ 1 ∷ 1 ∷ 0 ∷ 0 ∷ 0 ∷ 0 ∷ 0 ∷ []) 3 few 0 10) events ≡ record {
-  config = config (1 ∷ 1 ∷ 1 ∷ 0 ∷ 0 ∷ 0 ∷ 0 ∷ 0 ∷ []) 3 few 0 10;
+FirstRun = (few : 3 ≤ 8) → report (three few 0) events ≡ record {
+  config = three few 0;
   steps =
-      Done (record { did = Opened (ballot 0 0 1 (these ((object_op 1 (Inc 5) ∷ []) ∷ [] ∷ [] ∷ []))); first = 0; sent = 3 })
-      ∷ Done (record { did = Answered Yes; first = 3; sent = 1 })
-      ∷ Done (record { did = Answered Yes; first = 4; sent = 1 })
-      ∷ Done (record { did = Counted; first = 5; sent = 0 })
-      ∷ Done (record { did = Learnt (learning 4 (ballot 0 0 1 (these ((object_op 1 (Inc 5) ∷ []) ∷ [] ∷ [] ∷ [])))) 2 None; first = 5; sent = 2 })
+      done (Opened (ballot 0 0 1 increment)) 0 3
+      ∷ done (Answered Yes) 3 1
+      ∷ done (Answered Yes) 4 1
+      ∷ done Counted 5 0
+      ∷ done (Learnt (learning 4 (ballot 0 0 1 increment)) 2 None) 5 2
       ∷ [];
-  learnt = learning 4 (ballot 0 0 1 (these ((object_op 1 (Inc 5) ∷ []) ∷ [] ∷ [] ∷ [])))
+  learnt = learning 4 (ballot 0 0 1 increment)
       ∷ [];
-  views = (these ((object_op 1 (Inc 5) ∷ []) ∷ [] ∷ [] ∷ []))
-      ∷ (these ([] ∷ [] ∷ [] ∷ []))
-      ∷ (these ([] ∷ [] ∷ [] ∷ []))
-      ∷ [];
+  views = increment ∷ nothing ∷ nothing ∷ [];
 }

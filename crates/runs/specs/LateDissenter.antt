@@ -1,13 +1,12 @@
 -- A second participant proposes another value once the first has learnt in both instances.
-use Rattle.std.specs.Prelude.{◌≡◌, ◌≤◌, List, [], ◌∷◌, true, false, Some, None}
-use Rattle.la_set.specs.declared.update.Op.TheVariants.{Vote}
+use Rattle.std.specs.Prelude.{◌≡◌, ◌≤◌, List, [], ◌∷◌}
 use Rattle.la_acceptor.specs.declared.reply.Reply.TheVariants.{Yes, No}
-use Rattle.la_world.specs.declared.report.Line.TheVariants.{Done}
-use Rattle.la_world.specs.declared.step.Did.TheVariants.{Opened, Answered, Counted, Refined, Learnt}
+use Rattle.la_world.specs.declared.step.Did.TheVariants.{Opened, Answered, Counted, Refined}
 use Rattle.la_world.specs.Events.{Event, Deliver, Decide}
 use Rattle.la_world.specs.Learnings.{learning}
 use Rattle.la_world.specs.Report.{report}
-use Rattle.runs.specs.Words.{config, object_op, these, ballot}
+use Rattle.runs.specs.Words.{three, nothing, ballot, learnt_then, learnt_last, done}
+use Rattle.runs.specs.VoteSets.{seven, nine, both, sole_seven, sole_seven_and_nine}
 
 abbrev pub events : List Event
 events =
@@ -40,43 +39,40 @@ events =
     ∷ []
 
 abbrev pub LateDissenter : Type 0
-LateDissenter = (few : 3 ≤ 8) → report (config (1 ∷ 1 ∷ 1 ∷ 0 ∷ 0 ∷ 0 ∷ 0 ∷ 0 ∷ []) 3 few 1 10) events ≡ record {
-  config = config (1 ∷ 1 ∷ 1 ∷ 0 ∷ 0 ∷ 0 ∷ 0 ∷ 0 ∷ []) 3 few 1 10;
+LateDissenter = (few : 3 ≤ 8) → report (three few 1) events ≡ record {
+  config = three few 1;
   steps =
-      Done (record { did = Opened (ballot 0 1 1 (these ((object_op 0 (Vote 7 false) ∷ []) ∷ [] ∷ [] ∷ []))); first = 0; sent = 3 })
-      ∷ Done (record { did = Answered Yes; first = 3; sent = 1 })
-      ∷ Done (record { did = Answered Yes; first = 4; sent = 1 })
-      ∷ Done (record { did = Counted; first = 5; sent = 0 })
-      ∷ Done (record { did = Learnt (learning 4 (ballot 0 1 1 (these ((object_op 0 (Vote 7 false) ∷ []) ∷ [] ∷ [] ∷ [])))) 0 (Some (ballot 0 2 1 (these ((object_op 0 (Vote 7 true) ∷ []) ∷ [] ∷ [] ∷ [])))); first = 5; sent = 3 })
-      ∷ Done (record { did = Answered Yes; first = 8; sent = 1 })
-      ∷ Done (record { did = Answered Yes; first = 9; sent = 1 })
-      ∷ Done (record { did = Counted; first = 10; sent = 0 })
-      ∷ Done (record { did = Learnt (learning 8 (ballot 0 2 1 (these ((object_op 0 (Vote 7 true) ∷ []) ∷ [] ∷ [] ∷ [])))) 0 None; first = 10; sent = 0 })
-      ∷ Done (record { did = Opened (ballot 1 1 1 (these ([] ∷ (object_op 0 (Vote 9 false) ∷ []) ∷ [] ∷ []))); first = 10; sent = 3 })
-      ∷ Done (record { did = Answered (No (these ((object_op 0 (Vote 7 false) ∷ []) ∷ (object_op 0 (Vote 9 false) ∷ []) ∷ [] ∷ []))); first = 13; sent = 1 })
-      ∷ Done (record { did = Answered Yes; first = 14; sent = 1 })
-      ∷ Done (record { did = Counted; first = 15; sent = 0 })
-      ∷ Done (record { did = Refined (ballot 1 1 2 (these ((object_op 0 (Vote 7 false) ∷ []) ∷ (object_op 0 (Vote 9 false) ∷ []) ∷ [] ∷ []))); first = 15; sent = 3 })
-      ∷ Done (record { did = Answered Yes; first = 18; sent = 1 })
-      ∷ Done (record { did = Answered Yes; first = 19; sent = 1 })
-      ∷ Done (record { did = Counted; first = 20; sent = 0 })
-      ∷ Done (record { did = Learnt (learning 17 (ballot 1 1 2 (these ((object_op 0 (Vote 7 false) ∷ []) ∷ (object_op 0 (Vote 9 false) ∷ []) ∷ [] ∷ [])))) 0 (Some (ballot 1 2 1 (these ([] ∷ (object_op 0 (Vote 9 false) ∷ []) ∷ [] ∷ [])))); first = 20; sent = 3 })
-      ∷ Done (record { did = Answered (No (these ((object_op 0 (Vote 7 true) ∷ []) ∷ (object_op 0 (Vote 9 false) ∷ []) ∷ [] ∷ []))); first = 23; sent = 1 })
-      ∷ Done (record { did = Answered Yes; first = 24; sent = 1 })
-      ∷ Done (record { did = Counted; first = 25; sent = 0 })
-      ∷ Done (record { did = Refined (ballot 1 2 2 (these ((object_op 0 (Vote 7 true) ∷ []) ∷ (object_op 0 (Vote 9 false) ∷ []) ∷ [] ∷ []))); first = 25; sent = 3 })
-      ∷ Done (record { did = Answered Yes; first = 28; sent = 1 })
-      ∷ Done (record { did = Answered Yes; first = 29; sent = 1 })
-      ∷ Done (record { did = Counted; first = 30; sent = 0 })
-      ∷ Done (record { did = Learnt (learning 25 (ballot 1 2 2 (these ((object_op 0 (Vote 7 true) ∷ []) ∷ (object_op 0 (Vote 9 false) ∷ []) ∷ [] ∷ [])))) 0 None; first = 30; sent = 0 })
+      done (Opened (ballot 0 1 1 seven)) 0 3
+      ∷ done (Answered Yes) 3 1
+      ∷ done (Answered Yes) 4 1
+      ∷ done Counted 5 0
+      ∷ done (learnt_then 4 (ballot 0 1 1 seven) (ballot 0 2 1 sole_seven)) 5 3
+      ∷ done (Answered Yes) 8 1
+      ∷ done (Answered Yes) 9 1
+      ∷ done Counted 10 0
+      ∷ done (learnt_last 8 (ballot 0 2 1 sole_seven)) 10 0
+      ∷ done (Opened (ballot 1 1 1 nine)) 10 3
+      ∷ done (Answered (No both)) 13 1
+      ∷ done (Answered Yes) 14 1
+      ∷ done Counted 15 0
+      ∷ done (Refined (ballot 1 1 2 both)) 15 3
+      ∷ done (Answered Yes) 18 1
+      ∷ done (Answered Yes) 19 1
+      ∷ done Counted 20 0
+      ∷ done (learnt_then 17 (ballot 1 1 2 both) (ballot 1 2 1 nine)) 20 3
+      ∷ done (Answered (No sole_seven_and_nine)) 23 1
+      ∷ done (Answered Yes) 24 1
+      ∷ done Counted 25 0
+      ∷ done (Refined (ballot 1 2 2 sole_seven_and_nine)) 25 3
+      ∷ done (Answered Yes) 28 1
+      ∷ done (Answered Yes) 29 1
+      ∷ done Counted 30 0
+      ∷ done (learnt_last 25 (ballot 1 2 2 sole_seven_and_nine)) 30 0
       ∷ [];
-  learnt = learning 4 (ballot 0 1 1 (these ((object_op 0 (Vote 7 false) ∷ []) ∷ [] ∷ [] ∷ [])))
-      ∷ learning 8 (ballot 0 2 1 (these ((object_op 0 (Vote 7 true) ∷ []) ∷ [] ∷ [] ∷ [])))
-      ∷ learning 17 (ballot 1 1 2 (these ((object_op 0 (Vote 7 false) ∷ []) ∷ (object_op 0 (Vote 9 false) ∷ []) ∷ [] ∷ [])))
-      ∷ learning 25 (ballot 1 2 2 (these ((object_op 0 (Vote 7 true) ∷ []) ∷ (object_op 0 (Vote 9 false) ∷ []) ∷ [] ∷ [])))
+  learnt = learning 4 (ballot 0 1 1 seven)
+      ∷ learning 8 (ballot 0 2 1 sole_seven)
+      ∷ learning 17 (ballot 1 1 2 both)
+      ∷ learning 25 (ballot 1 2 2 sole_seven_and_nine)
       ∷ [];
-  views = (these ([] ∷ [] ∷ [] ∷ []))
-      ∷ (these ([] ∷ [] ∷ [] ∷ []))
-      ∷ (these ([] ∷ [] ∷ [] ∷ []))
-      ∷ [];
+  views = nothing ∷ nothing ∷ nothing ∷ [];
 }

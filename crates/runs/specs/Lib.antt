@@ -1,4 +1,5 @@
 pub mod Words
+pub mod VoteSets
 pub mod FirstRun
 pub mod RefusalAndRefinement
 pub mod ExactHalf

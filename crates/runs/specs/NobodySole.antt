@@ -1,13 +1,12 @@
 -- Two values, and both participants see both.
-use Rattle.std.specs.Prelude.{◌≡◌, ◌≤◌, List, [], ◌∷◌, false, Some, None}
-use Rattle.la_set.specs.declared.update.Op.TheVariants.{Vote}
+use Rattle.std.specs.Prelude.{◌≡◌, ◌≤◌, List, [], ◌∷◌}
 use Rattle.la_acceptor.specs.declared.reply.Reply.TheVariants.{Yes, No}
-use Rattle.la_world.specs.declared.report.Line.TheVariants.{Done}
-use Rattle.la_world.specs.declared.step.Did.TheVariants.{Opened, Answered, Counted, Refined, Learnt}
+use Rattle.la_world.specs.declared.step.Did.TheVariants.{Opened, Answered, Counted, Refined}
 use Rattle.la_world.specs.Events.{Event, Deliver, Decide}
 use Rattle.la_world.specs.Learnings.{learning}
 use Rattle.la_world.specs.Report.{report}
-use Rattle.runs.specs.Words.{config, object_op, these, ballot}
+use Rattle.runs.specs.Words.{three, nothing, ballot, learnt_then, learnt_last, done}
+use Rattle.runs.specs.VoteSets.{seven, nine, both}
 
 abbrev pub events : List Event
 events =
@@ -44,47 +43,44 @@ events =
     ∷ []
 
 abbrev pub NobodySole : Type 0
-NobodySole = (few : 3 ≤ 8) → report (config (1 ∷ 1 ∷ 1 ∷ 0 ∷ 0 ∷ 0 ∷ 0 ∷ 0 ∷ []) 3 few 1 10) events ≡ record {
-  config = config (1 ∷ 1 ∷ 1 ∷ 0 ∷ 0 ∷ 0 ∷ 0 ∷ 0 ∷ []) 3 few 1 10;
+NobodySole = (few : 3 ≤ 8) → report (three few 1) events ≡ record {
+  config = three few 1;
   steps =
-      Done (record { did = Opened (ballot 0 1 1 (these ((object_op 0 (Vote 7 false) ∷ []) ∷ [] ∷ [] ∷ []))); first = 0; sent = 3 })
-      ∷ Done (record { did = Opened (ballot 1 1 1 (these ([] ∷ (object_op 0 (Vote 9 false) ∷ []) ∷ [] ∷ []))); first = 3; sent = 3 })
-      ∷ Done (record { did = Answered Yes; first = 6; sent = 1 })
-      ∷ Done (record { did = Answered Yes; first = 7; sent = 1 })
-      ∷ Done (record { did = Answered (No (these ((object_op 0 (Vote 7 false) ∷ []) ∷ (object_op 0 (Vote 9 false) ∷ []) ∷ [] ∷ []))); first = 8; sent = 1 })
-      ∷ Done (record { did = Answered (No (these ((object_op 0 (Vote 7 false) ∷ []) ∷ (object_op 0 (Vote 9 false) ∷ []) ∷ [] ∷ []))); first = 9; sent = 1 })
-      ∷ Done (record { did = Counted; first = 10; sent = 0 })
-      ∷ Done (record { did = Refined (ballot 0 1 2 (these ((object_op 0 (Vote 7 false) ∷ []) ∷ (object_op 0 (Vote 9 false) ∷ []) ∷ [] ∷ []))); first = 10; sent = 3 })
-      ∷ Done (record { did = Counted; first = 13; sent = 0 })
-      ∷ Done (record { did = Refined (ballot 1 1 2 (these ((object_op 0 (Vote 7 false) ∷ []) ∷ (object_op 0 (Vote 9 false) ∷ []) ∷ [] ∷ []))); first = 13; sent = 3 })
-      ∷ Done (record { did = Answered Yes; first = 16; sent = 1 })
-      ∷ Done (record { did = Answered Yes; first = 17; sent = 1 })
-      ∷ Done (record { did = Counted; first = 18; sent = 0 })
-      ∷ Done (record { did = Learnt (learning 13 (ballot 0 1 2 (these ((object_op 0 (Vote 7 false) ∷ []) ∷ (object_op 0 (Vote 9 false) ∷ []) ∷ [] ∷ [])))) 0 (Some (ballot 0 2 1 (these ((object_op 0 (Vote 7 false) ∷ []) ∷ [] ∷ [] ∷ [])))); first = 18; sent = 3 })
-      ∷ Done (record { did = Answered Yes; first = 21; sent = 1 })
-      ∷ Done (record { did = Answered Yes; first = 22; sent = 1 })
-      ∷ Done (record { did = Counted; first = 23; sent = 0 })
-      ∷ Done (record { did = Learnt (learning 17 (ballot 1 1 2 (these ((object_op 0 (Vote 7 false) ∷ []) ∷ (object_op 0 (Vote 9 false) ∷ []) ∷ [] ∷ [])))) 0 (Some (ballot 1 2 1 (these ([] ∷ (object_op 0 (Vote 9 false) ∷ []) ∷ [] ∷ [])))); first = 23; sent = 3 })
-      ∷ Done (record { did = Answered Yes; first = 26; sent = 1 })
-      ∷ Done (record { did = Answered Yes; first = 27; sent = 1 })
-      ∷ Done (record { did = Counted; first = 28; sent = 0 })
-      ∷ Done (record { did = Learnt (learning 21 (ballot 0 2 1 (these ((object_op 0 (Vote 7 false) ∷ []) ∷ [] ∷ [] ∷ [])))) 0 None; first = 28; sent = 0 })
-      ∷ Done (record { did = Answered (No (these ((object_op 0 (Vote 7 false) ∷ []) ∷ (object_op 0 (Vote 9 false) ∷ []) ∷ [] ∷ []))); first = 28; sent = 1 })
-      ∷ Done (record { did = Answered Yes; first = 29; sent = 1 })
-      ∷ Done (record { did = Counted; first = 30; sent = 0 })
-      ∷ Done (record { did = Refined (ballot 1 2 2 (these ((object_op 0 (Vote 7 false) ∷ []) ∷ (object_op 0 (Vote 9 false) ∷ []) ∷ [] ∷ []))); first = 30; sent = 3 })
-      ∷ Done (record { did = Answered Yes; first = 33; sent = 1 })
-      ∷ Done (record { did = Answered Yes; first = 34; sent = 1 })
-      ∷ Done (record { did = Counted; first = 35; sent = 0 })
-      ∷ Done (record { did = Learnt (learning 29 (ballot 1 2 2 (these ((object_op 0 (Vote 7 false) ∷ []) ∷ (object_op 0 (Vote 9 false) ∷ []) ∷ [] ∷ [])))) 0 None; first = 35; sent = 0 })
+      done (Opened (ballot 0 1 1 seven)) 0 3
+      ∷ done (Opened (ballot 1 1 1 nine)) 3 3
+      ∷ done (Answered Yes) 6 1
+      ∷ done (Answered Yes) 7 1
+      ∷ done (Answered (No both)) 8 1
+      ∷ done (Answered (No both)) 9 1
+      ∷ done Counted 10 0
+      ∷ done (Refined (ballot 0 1 2 both)) 10 3
+      ∷ done Counted 13 0
+      ∷ done (Refined (ballot 1 1 2 both)) 13 3
+      ∷ done (Answered Yes) 16 1
+      ∷ done (Answered Yes) 17 1
+      ∷ done Counted 18 0
+      ∷ done (learnt_then 13 (ballot 0 1 2 both) (ballot 0 2 1 seven)) 18 3
+      ∷ done (Answered Yes) 21 1
+      ∷ done (Answered Yes) 22 1
+      ∷ done Counted 23 0
+      ∷ done (learnt_then 17 (ballot 1 1 2 both) (ballot 1 2 1 nine)) 23 3
+      ∷ done (Answered Yes) 26 1
+      ∷ done (Answered Yes) 27 1
+      ∷ done Counted 28 0
+      ∷ done (learnt_last 21 (ballot 0 2 1 seven)) 28 0
+      ∷ done (Answered (No both)) 28 1
+      ∷ done (Answered Yes) 29 1
+      ∷ done Counted 30 0
+      ∷ done (Refined (ballot 1 2 2 both)) 30 3
+      ∷ done (Answered Yes) 33 1
+      ∷ done (Answered Yes) 34 1
+      ∷ done Counted 35 0
+      ∷ done (learnt_last 29 (ballot 1 2 2 both)) 35 0
       ∷ [];
-  learnt = learning 13 (ballot 0 1 2 (these ((object_op 0 (Vote 7 false) ∷ []) ∷ (object_op 0 (Vote 9 false) ∷ []) ∷ [] ∷ [])))
-      ∷ learning 17 (ballot 1 1 2 (these ((object_op 0 (Vote 7 false) ∷ []) ∷ (object_op 0 (Vote 9 false) ∷ []) ∷ [] ∷ [])))
-      ∷ learning 21 (ballot 0 2 1 (these ((object_op 0 (Vote 7 false) ∷ []) ∷ [] ∷ [] ∷ [])))
-      ∷ learning 29 (ballot 1 2 2 (these ((object_op 0 (Vote 7 false) ∷ []) ∷ (object_op 0 (Vote 9 false) ∷ []) ∷ [] ∷ [])))
+  learnt = learning 13 (ballot 0 1 2 both)
+      ∷ learning 17 (ballot 1 1 2 both)
+      ∷ learning 21 (ballot 0 2 1 seven)
+      ∷ learning 29 (ballot 1 2 2 both)
       ∷ [];
-  views = (these ([] ∷ [] ∷ [] ∷ []))
-      ∷ (these ([] ∷ [] ∷ [] ∷ []))
-      ∷ (these ([] ∷ [] ∷ [] ∷ []))
-      ∷ [];
+  views = nothing ∷ nothing ∷ nothing ∷ [];
 }

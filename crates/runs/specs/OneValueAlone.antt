@@ -1,13 +1,19 @@
 -- A participant alone learns in both instances of the second object, with a sole vote.
-use Rattle.std.specs.Prelude.{◌≡◌, ◌≤◌, List, [], ◌∷◌, true, false, Some, None}
-use Rattle.la_set.specs.declared.update.Op.TheVariants.{Vote}
+use Rattle.std.specs.Prelude.{◌≡◌, ◌≤◌, List, [], ◌∷◌, true, false}
+use Rattle.la_set.specs.Histories.{Histories}
 use Rattle.la_acceptor.specs.declared.reply.Reply.TheVariants.{Yes}
-use Rattle.la_world.specs.declared.report.Line.TheVariants.{Done}
-use Rattle.la_world.specs.declared.step.Did.TheVariants.{Opened, Answered, Counted, Learnt}
+use Rattle.la_world.specs.declared.step.Did.TheVariants.{Opened, Answered, Counted}
 use Rattle.la_world.specs.Events.{Event, Deliver, Decide}
 use Rattle.la_world.specs.Learnings.{learning}
 use Rattle.la_world.specs.Report.{report}
-use Rattle.runs.specs.Words.{config, object_op, these, ballot}
+use Rattle.runs.specs.Words.{three, vote, these, nothing, ballot, learnt_then, learnt_last, done}
+
+-- the set of replica 1's vote in the object's first instance, and in the second
+abbrev pub nine : Histories
+nine = these ([] ∷ vote 1 9 false ∷ [] ∷ [])
+
+abbrev pub sole_nine : Histories
+sole_nine = these ([] ∷ vote 1 9 true ∷ [] ∷ [])
 
 abbrev pub events : List Event
 events =
@@ -23,24 +29,21 @@ events =
     ∷ []
 
 abbrev pub OneValueAlone : Type 0
-OneValueAlone = (few : 3 ≤ 8) → report (config (1 ∷ 1 ∷ 1 ∷ 0 ∷ 0 ∷ 0 ∷ 0 ∷ 0 ∷ []) 3 few 2 10) events ≡ record {
-  config = config (1 ∷ 1 ∷ 1 ∷ 0 ∷ 0 ∷ 0 ∷ 0 ∷ 0 ∷ []) 3 few 2 10;
+OneValueAlone = (few : 3 ≤ 8) → report (three few 2) events ≡ record {
+  config = three few 2;
   steps =
-      Done (record { did = Opened (ballot 1 3 1 (these ([] ∷ (object_op 1 (Vote 9 false) ∷ []) ∷ [] ∷ []))); first = 0; sent = 3 })
-      ∷ Done (record { did = Answered Yes; first = 3; sent = 1 })
-      ∷ Done (record { did = Answered Yes; first = 4; sent = 1 })
-      ∷ Done (record { did = Counted; first = 5; sent = 0 })
-      ∷ Done (record { did = Learnt (learning 4 (ballot 1 3 1 (these ([] ∷ (object_op 1 (Vote 9 false) ∷ []) ∷ [] ∷ [])))) 0 (Some (ballot 1 4 1 (these ([] ∷ (object_op 1 (Vote 9 true) ∷ []) ∷ [] ∷ [])))); first = 5; sent = 3 })
-      ∷ Done (record { did = Answered Yes; first = 8; sent = 1 })
-      ∷ Done (record { did = Answered Yes; first = 9; sent = 1 })
-      ∷ Done (record { did = Counted; first = 10; sent = 0 })
-      ∷ Done (record { did = Learnt (learning 8 (ballot 1 4 1 (these ([] ∷ (object_op 1 (Vote 9 true) ∷ []) ∷ [] ∷ [])))) 0 None; first = 10; sent = 0 })
+      done (Opened (ballot 1 3 1 nine)) 0 3
+      ∷ done (Answered Yes) 3 1
+      ∷ done (Answered Yes) 4 1
+      ∷ done Counted 5 0
+      ∷ done (learnt_then 4 (ballot 1 3 1 nine) (ballot 1 4 1 sole_nine)) 5 3
+      ∷ done (Answered Yes) 8 1
+      ∷ done (Answered Yes) 9 1
+      ∷ done Counted 10 0
+      ∷ done (learnt_last 8 (ballot 1 4 1 sole_nine)) 10 0
       ∷ [];
-  learnt = learning 4 (ballot 1 3 1 (these ([] ∷ (object_op 1 (Vote 9 false) ∷ []) ∷ [] ∷ [])))
-      ∷ learning 8 (ballot 1 4 1 (these ([] ∷ (object_op 1 (Vote 9 true) ∷ []) ∷ [] ∷ [])))
+  learnt = learning 4 (ballot 1 3 1 nine)
+      ∷ learning 8 (ballot 1 4 1 sole_nine)
       ∷ [];
-  views = (these ([] ∷ [] ∷ [] ∷ []))
-      ∷ (these ([] ∷ [] ∷ [] ∷ []))
-      ∷ (these ([] ∷ [] ∷ [] ∷ []))
-      ∷ [];
+  views = nothing ∷ nothing ∷ nothing ∷ [];
 }

@@ -1,13 +1,12 @@
 -- A sole vote, and a second set with another vote beside it.
-use Rattle.std.specs.Prelude.{◌≡◌, ◌≤◌, List, [], ◌∷◌, true, false, Some, None}
-use Rattle.la_set.specs.declared.update.Op.TheVariants.{Vote}
+use Rattle.std.specs.Prelude.{◌≡◌, ◌≤◌, List, [], ◌∷◌}
 use Rattle.la_acceptor.specs.declared.reply.Reply.TheVariants.{Yes, No}
-use Rattle.la_world.specs.declared.report.Line.TheVariants.{Done}
-use Rattle.la_world.specs.declared.step.Did.TheVariants.{Opened, Answered, Counted, Refined, Learnt}
+use Rattle.la_world.specs.declared.step.Did.TheVariants.{Opened, Answered, Counted, Refined}
 use Rattle.la_world.specs.Events.{Event, Deliver, Decide}
 use Rattle.la_world.specs.Learnings.{learning}
 use Rattle.la_world.specs.Report.{report}
-use Rattle.runs.specs.Words.{config, object_op, these, ballot}
+use Rattle.runs.specs.Words.{three, nothing, ballot, learnt_then, learnt_last, done}
+use Rattle.runs.specs.VoteSets.{seven, nine, both, sole_seven, sole_seven_and_nine}
 
 abbrev pub events : List Event
 events =
@@ -37,39 +36,36 @@ events =
     ∷ []
 
 abbrev pub OwnVoteSoleAlone : Type 0
-OwnVoteSoleAlone = (few : 3 ≤ 8) → report (config (1 ∷ 1 ∷ 1 ∷ 0 ∷ 0 ∷ 0 ∷ 0 ∷ 0 ∷ []) 3 few 1 10) events ≡ record {
-  config = config (1 ∷ 1 ∷ 1 ∷ 0 ∷ 0 ∷ 0 ∷ 0 ∷ 0 ∷ []) 3 few 1 10;
+OwnVoteSoleAlone = (few : 3 ≤ 8) → report (three few 1) events ≡ record {
+  config = three few 1;
   steps =
-      Done (record { did = Opened (ballot 0 1 1 (these ((object_op 0 (Vote 7 false) ∷ []) ∷ [] ∷ [] ∷ []))); first = 0; sent = 3 })
-      ∷ Done (record { did = Answered Yes; first = 3; sent = 1 })
-      ∷ Done (record { did = Answered Yes; first = 4; sent = 1 })
-      ∷ Done (record { did = Counted; first = 5; sent = 0 })
-      ∷ Done (record { did = Learnt (learning 4 (ballot 0 1 1 (these ((object_op 0 (Vote 7 false) ∷ []) ∷ [] ∷ [] ∷ [])))) 0 (Some (ballot 0 2 1 (these ((object_op 0 (Vote 7 true) ∷ []) ∷ [] ∷ [] ∷ [])))); first = 5; sent = 3 })
-      ∷ Done (record { did = Opened (ballot 1 1 1 (these ([] ∷ (object_op 0 (Vote 9 false) ∷ []) ∷ [] ∷ []))); first = 8; sent = 3 })
-      ∷ Done (record { did = Answered (No (these ((object_op 0 (Vote 7 false) ∷ []) ∷ (object_op 0 (Vote 9 false) ∷ []) ∷ [] ∷ []))); first = 11; sent = 1 })
-      ∷ Done (record { did = Answered (No (these ((object_op 0 (Vote 7 false) ∷ []) ∷ (object_op 0 (Vote 9 false) ∷ []) ∷ [] ∷ []))); first = 12; sent = 1 })
-      ∷ Done (record { did = Counted; first = 13; sent = 0 })
-      ∷ Done (record { did = Refined (ballot 1 1 2 (these ((object_op 0 (Vote 7 false) ∷ []) ∷ (object_op 0 (Vote 9 false) ∷ []) ∷ [] ∷ []))); first = 13; sent = 3 })
-      ∷ Done (record { did = Answered Yes; first = 16; sent = 1 })
-      ∷ Done (record { did = Answered Yes; first = 17; sent = 1 })
-      ∷ Done (record { did = Counted; first = 18; sent = 0 })
-      ∷ Done (record { did = Learnt (learning 13 (ballot 1 1 2 (these ((object_op 0 (Vote 7 false) ∷ []) ∷ (object_op 0 (Vote 9 false) ∷ []) ∷ [] ∷ [])))) 0 (Some (ballot 1 2 1 (these ([] ∷ (object_op 0 (Vote 9 false) ∷ []) ∷ [] ∷ [])))); first = 18; sent = 3 })
-      ∷ Done (record { did = Answered Yes; first = 21; sent = 1 })
-      ∷ Done (record { did = Answered Yes; first = 22; sent = 1 })
-      ∷ Done (record { did = Answered (No (these ((object_op 0 (Vote 7 true) ∷ []) ∷ (object_op 0 (Vote 9 false) ∷ []) ∷ [] ∷ []))); first = 23; sent = 1 })
-      ∷ Done (record { did = Counted; first = 24; sent = 0 })
-      ∷ Done (record { did = Refined (ballot 0 2 2 (these ((object_op 0 (Vote 7 true) ∷ []) ∷ (object_op 0 (Vote 9 false) ∷ []) ∷ [] ∷ []))); first = 24; sent = 3 })
-      ∷ Done (record { did = Answered Yes; first = 27; sent = 1 })
-      ∷ Done (record { did = Answered Yes; first = 28; sent = 1 })
-      ∷ Done (record { did = Counted; first = 29; sent = 0 })
-      ∷ Done (record { did = Learnt (learning 22 (ballot 0 2 2 (these ((object_op 0 (Vote 7 true) ∷ []) ∷ (object_op 0 (Vote 9 false) ∷ []) ∷ [] ∷ [])))) 0 None; first = 29; sent = 0 })
+      done (Opened (ballot 0 1 1 seven)) 0 3
+      ∷ done (Answered Yes) 3 1
+      ∷ done (Answered Yes) 4 1
+      ∷ done Counted 5 0
+      ∷ done (learnt_then 4 (ballot 0 1 1 seven) (ballot 0 2 1 sole_seven)) 5 3
+      ∷ done (Opened (ballot 1 1 1 nine)) 8 3
+      ∷ done (Answered (No both)) 11 1
+      ∷ done (Answered (No both)) 12 1
+      ∷ done Counted 13 0
+      ∷ done (Refined (ballot 1 1 2 both)) 13 3
+      ∷ done (Answered Yes) 16 1
+      ∷ done (Answered Yes) 17 1
+      ∷ done Counted 18 0
+      ∷ done (learnt_then 13 (ballot 1 1 2 both) (ballot 1 2 1 nine)) 18 3
+      ∷ done (Answered Yes) 21 1
+      ∷ done (Answered Yes) 22 1
+      ∷ done (Answered (No sole_seven_and_nine)) 23 1
+      ∷ done Counted 24 0
+      ∷ done (Refined (ballot 0 2 2 sole_seven_and_nine)) 24 3
+      ∷ done (Answered Yes) 27 1
+      ∷ done (Answered Yes) 28 1
+      ∷ done Counted 29 0
+      ∷ done (learnt_last 22 (ballot 0 2 2 sole_seven_and_nine)) 29 0
       ∷ [];
-  learnt = learning 4 (ballot 0 1 1 (these ((object_op 0 (Vote 7 false) ∷ []) ∷ [] ∷ [] ∷ [])))
-      ∷ learning 13 (ballot 1 1 2 (these ((object_op 0 (Vote 7 false) ∷ []) ∷ (object_op 0 (Vote 9 false) ∷ []) ∷ [] ∷ [])))
-      ∷ learning 22 (ballot 0 2 2 (these ((object_op 0 (Vote 7 true) ∷ []) ∷ (object_op 0 (Vote 9 false) ∷ []) ∷ [] ∷ [])))
+  learnt = learning 4 (ballot 0 1 1 seven)
+      ∷ learning 13 (ballot 1 1 2 both)
+      ∷ learning 22 (ballot 0 2 2 sole_seven_and_nine)
       ∷ [];
-  views = (these ([] ∷ [] ∷ [] ∷ []))
-      ∷ (these ([] ∷ [] ∷ [] ∷ []))
-      ∷ (these ([] ∷ [] ∷ [] ∷ []))
-      ∷ [];
+  views = nothing ∷ nothing ∷ nothing ∷ [];
 }

@@ -1,14 +1,22 @@
--- Once a participant has learnt in both instances of an object, another proposal of it is refused, of whatever value.
-use Rattle.std.specs.Prelude.{◌≡◌, ◌≤◌, List, [], ◌∷◌, true, false, Some, None}
-use Rattle.la_set.specs.declared.update.Op.TheVariants.{Vote}
+-- Once a participant has learnt in both instances of an object, another proposal of it is refused,
+-- of whatever value.
+use Rattle.std.specs.Prelude.{◌≡◌, ◌≤◌, List, [], ◌∷◌, true, false}
+use Rattle.la_set.specs.Histories.{Histories}
 use Rattle.la_acceptor.specs.declared.reply.Reply.TheVariants.{Yes}
 use Rattle.la_world.specs.declared.error.Refusal.TheVariants.{AlreadyProposed}
-use Rattle.la_world.specs.declared.report.Line.TheVariants.{Done, Refused}
-use Rattle.la_world.specs.declared.step.Did.TheVariants.{Opened, Answered, Learnt}
+use Rattle.la_world.specs.declared.report.Line.TheVariants.{Refused}
+use Rattle.la_world.specs.declared.step.Did.TheVariants.{Opened, Answered}
 use Rattle.la_world.specs.Events.{Event, Deliver, Decide}
 use Rattle.la_world.specs.Learnings.{learning}
 use Rattle.la_world.specs.Report.{report}
-use Rattle.runs.specs.Words.{config, object_op, these, ballot}
+use Rattle.runs.specs.Words.{single, vote, these, ballot, learnt_then, learnt_last, done}
+
+-- the set of the vote in the object's first instance, and in the second
+abbrev pub seven : Histories
+seven = these (vote 0 7 false ∷ [])
+
+abbrev pub sole_seven : Histories
+sole_seven = these (vote 0 7 true ∷ [])
 
 abbrev pub events : List Event
 events =
@@ -22,20 +30,19 @@ events =
     ∷ []
 
 abbrev pub ProposedForGood : Type 0
-ProposedForGood = (few : 1 ≤ 8) → report (config (1 ∷ 0 ∷ 0 ∷ 0 ∷ 0 ∷ 0 ∷ 0 ∷ 0 ∷ []) 1 few 1 10) events ≡ record {
-  config = config (1 ∷ 0 ∷ 0 ∷ 0 ∷ 0 ∷ 0 ∷ 0 ∷ 0 ∷ []) 1 few 1 10;
+ProposedForGood = (few : 1 ≤ 8) → report (single few 1) events ≡ record {
+  config = single few 1;
   steps =
-      Done (record { did = Opened (ballot 0 1 1 (these ((object_op 0 (Vote 7 false) ∷ []) ∷ []))); first = 0; sent = 1 })
-      ∷ Done (record { did = Answered Yes; first = 1; sent = 1 })
-      ∷ Done (record { did = Learnt (learning 2 (ballot 0 1 1 (these ((object_op 0 (Vote 7 false) ∷ []) ∷ [])))) 0 (Some (ballot 0 2 1 (these ((object_op 0 (Vote 7 true) ∷ []) ∷ [])))); first = 2; sent = 1 })
-      ∷ Done (record { did = Answered Yes; first = 3; sent = 1 })
-      ∷ Done (record { did = Learnt (learning 4 (ballot 0 2 1 (these ((object_op 0 (Vote 7 true) ∷ []) ∷ [])))) 0 None; first = 4; sent = 0 })
+      done (Opened (ballot 0 1 1 seven)) 0 1
+      ∷ done (Answered Yes) 1 1
+      ∷ done (learnt_then 2 (ballot 0 1 1 seven) (ballot 0 2 1 sole_seven)) 2 1
+      ∷ done (Answered Yes) 3 1
+      ∷ done (learnt_last 4 (ballot 0 2 1 sole_seven)) 4 0
       ∷ Refused AlreadyProposed
       ∷ Refused AlreadyProposed
       ∷ [];
-  learnt = learning 2 (ballot 0 1 1 (these ((object_op 0 (Vote 7 false) ∷ []) ∷ [])))
-      ∷ learning 4 (ballot 0 2 1 (these ((object_op 0 (Vote 7 true) ∷ []) ∷ [])))
+  learnt = learning 2 (ballot 0 1 1 seven)
+      ∷ learning 4 (ballot 0 2 1 sole_seven)
       ∷ [];
-  views = (these ([] ∷ []))
-      ∷ [];
+  views = these ([] ∷ []) ∷ [];
 }

@@ -1,10 +1,11 @@
--- A replica alone learns an add, then submits its removal and learns it: what the laws on order say of that.
+-- A replica alone learns an add, then submits its removal and learns it: what the laws on order say
+-- of that.
 use Rattle.std.specs.Prelude.{◌≡◌, ◌≤◌, List, [], ◌∷◌, ◌++◌, None}
 use Rattle.la_set.specs.declared.update.Op.TheVariants.{Put, Remove}
 use Rattle.la_set.specs.declared.update.UpdateId.{UpdateId}
 use Rattle.la_set.specs.ObjectOps.{ObjectOp}
+use Rattle.la_set.specs.Histories.{Histories}
 use Rattle.la_acceptor.specs.declared.reply.Reply.TheVariants.{Yes}
-use Rattle.la_world.specs.declared.report.Line.TheVariants.{Done}
 use Rattle.la_world.specs.declared.step.Did.TheVariants.{Opened, Answered, Learnt}
 use Rattle.la_world.specs.declared.step.Learnt as step
 use Rattle.la_world.specs.Groups.{Group}
@@ -13,7 +14,7 @@ use Rattle.la_world.specs.Trace.{Trace}
 use Rattle.la_world.specs.Playing.{trace}
 use Rattle.la_world.specs.Learnings.{learning}
 use Rattle.la_world.specs.Report.{report}
-use Rattle.runs.specs.Words.{config, object_op, these, ballot}
+use Rattle.runs.specs.Words.{single, object_op, these, ballot, done}
 
 abbrev pub add : UpdateId
 add = record { replica = 0; number = 1 }
@@ -21,12 +22,19 @@ add = record { replica = 0; number = 1 }
 abbrev pub removal : ObjectOp
 removal = object_op 1 (Remove (add ∷ []))
 
+-- the set with the add, and that with the removal too
+abbrev pub added : Histories
+added = these ((object_op 1 (Put 7) ∷ []) ∷ [])
+
+abbrev pub added_and_removed : Histories
+added_and_removed = these ((object_op 1 (Put 7) ∷ removal ∷ []) ∷ [])
+
 -- what is learnt first, and second
 abbrev pub first : step.Learnt
-first = learning 2 (ballot 0 0 1 (these ((object_op 1 (Put 7) ∷ []) ∷ [])))
+first = learning 2 (ballot 0 0 1 added)
 
 abbrev pub second : step.Learnt
-second = learning 5 (ballot 0 0 2 (these ((object_op 1 (Put 7) ∷ removal ∷ []) ∷ [])))
+second = learning 5 (ballot 0 0 2 added_and_removed)
 
 abbrev pub events : List Event
 events =
@@ -39,19 +47,18 @@ events =
     ∷ []
 
 abbrev pub RemoveOfALearntAdd : Type 0
-RemoveOfALearntAdd = (few : 1 ≤ 8) → report (config (1 ∷ 0 ∷ 0 ∷ 0 ∷ 0 ∷ 0 ∷ 0 ∷ 0 ∷ []) 1 few 0 10) events ≡ record {
-  config = config (1 ∷ 0 ∷ 0 ∷ 0 ∷ 0 ∷ 0 ∷ 0 ∷ 0 ∷ []) 1 few 0 10;
+RemoveOfALearntAdd = (few : 1 ≤ 8) → report (single few 0) events ≡ record {
+  config = single few 0;
   steps =
-      Done (record { did = Opened (ballot 0 0 1 (these ((object_op 1 (Put 7) ∷ []) ∷ []))); first = 0; sent = 1 })
-      ∷ Done (record { did = Answered Yes; first = 1; sent = 1 })
-      ∷ Done (record { did = Learnt first 0 None; first = 2; sent = 0 })
-      ∷ Done (record { did = Opened (ballot 0 0 2 (these ((object_op 1 (Put 7) ∷ removal ∷ []) ∷ []))); first = 2; sent = 1 })
-      ∷ Done (record { did = Answered Yes; first = 3; sent = 1 })
-      ∷ Done (record { did = Learnt second 0 None; first = 4; sent = 0 })
+      done (Opened (ballot 0 0 1 added)) 0 1
+      ∷ done (Answered Yes) 1 1
+      ∷ done (Learnt first 0 None) 2 0
+      ∷ done (Opened (ballot 0 0 2 added_and_removed)) 2 1
+      ∷ done (Answered Yes) 3 1
+      ∷ done (Learnt second 0 None) 4 0
       ∷ [];
   learnt = first ∷ second ∷ [];
-  views = (these ((object_op 1 (Put 7) ∷ removal ∷ []) ∷ []))
-      ∷ [];
+  views = added_and_removed ∷ [];
 }
 
 -- ## The events in two parts, the newest first

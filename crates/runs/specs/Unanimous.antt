@@ -1,13 +1,32 @@
 -- Three participants propose one value, and each learns in both instances.
-use Rattle.std.specs.Prelude.{◌≡◌, ◌≤◌, List, [], ◌∷◌, true, false, Some, None}
-use Rattle.la_set.specs.declared.update.Op.TheVariants.{Vote}
+use Rattle.std.specs.Prelude.{◌≡◌, ◌≤◌, List, [], ◌∷◌, Bool, true, false}
+use Rattle.la_set.specs.Histories.{Histories}
 use Rattle.la_acceptor.specs.declared.reply.Reply.TheVariants.{Yes, No}
-use Rattle.la_world.specs.declared.report.Line.TheVariants.{Done}
-use Rattle.la_world.specs.declared.step.Did.TheVariants.{Opened, Answered, Counted, Refined, Learnt}
+use Rattle.la_world.specs.declared.step.Did.TheVariants.{Opened, Answered, Counted, Refined}
 use Rattle.la_world.specs.Events.{Event, Deliver, Decide}
 use Rattle.la_world.specs.Learnings.{learning}
 use Rattle.la_world.specs.Report.{report}
-use Rattle.runs.specs.Words.{config, object_op, these, ballot}
+use Rattle.runs.specs.Words.{three, vote, these, nothing, ballot, learnt_then, learnt_last, done}
+
+-- ## Sets of votes for 7
+
+abbrev pub by_0 : (sole : Bool) → Histories
+by_0 sole = these (vote 0 7 sole ∷ [] ∷ [] ∷ [])
+
+abbrev pub by_1 : (sole : Bool) → Histories
+by_1 sole = these ([] ∷ vote 0 7 sole ∷ [] ∷ [])
+
+abbrev pub by_2 : (sole : Bool) → Histories
+by_2 sole = these ([] ∷ [] ∷ vote 0 7 sole ∷ [])
+
+abbrev pub by_0_and_1 : (sole : Bool) → Histories
+by_0_and_1 sole = these (vote 0 7 sole ∷ vote 0 7 sole ∷ [] ∷ [])
+
+abbrev pub by_1_and_2 : (sole : Bool) → Histories
+by_1_and_2 sole = these ([] ∷ vote 0 7 sole ∷ vote 0 7 sole ∷ [])
+
+abbrev pub by_all : (sole : Bool) → Histories
+by_all sole = these (vote 0 7 sole ∷ vote 0 7 sole ∷ vote 0 7 sole ∷ [])
 
 abbrev pub events : List Event
 events =
@@ -57,62 +76,59 @@ events =
     ∷ []
 
 abbrev pub Unanimous : Type 0
-Unanimous = (few : 3 ≤ 8) → report (config (1 ∷ 1 ∷ 1 ∷ 0 ∷ 0 ∷ 0 ∷ 0 ∷ 0 ∷ []) 3 few 1 10) events ≡ record {
-  config = config (1 ∷ 1 ∷ 1 ∷ 0 ∷ 0 ∷ 0 ∷ 0 ∷ 0 ∷ []) 3 few 1 10;
+Unanimous = (few : 3 ≤ 8) → report (three few 1) events ≡ record {
+  config = three few 1;
   steps =
-      Done (record { did = Opened (ballot 0 1 1 (these ((object_op 0 (Vote 7 false) ∷ []) ∷ [] ∷ [] ∷ []))); first = 0; sent = 3 })
-      ∷ Done (record { did = Opened (ballot 1 1 1 (these ([] ∷ (object_op 0 (Vote 7 false) ∷ []) ∷ [] ∷ []))); first = 3; sent = 3 })
-      ∷ Done (record { did = Opened (ballot 2 1 1 (these ([] ∷ [] ∷ (object_op 0 (Vote 7 false) ∷ []) ∷ []))); first = 6; sent = 3 })
-      ∷ Done (record { did = Answered Yes; first = 9; sent = 1 })
-      ∷ Done (record { did = Answered Yes; first = 10; sent = 1 })
-      ∷ Done (record { did = Counted; first = 11; sent = 0 })
-      ∷ Done (record { did = Learnt (learning 6 (ballot 0 1 1 (these ((object_op 0 (Vote 7 false) ∷ []) ∷ [] ∷ [] ∷ [])))) 0 (Some (ballot 0 2 1 (these ((object_op 0 (Vote 7 true) ∷ []) ∷ [] ∷ [] ∷ [])))); first = 11; sent = 3 })
-      ∷ Done (record { did = Answered (No (these ((object_op 0 (Vote 7 false) ∷ []) ∷ (object_op 0 (Vote 7 false) ∷ []) ∷ [] ∷ []))); first = 14; sent = 1 })
-      ∷ Done (record { did = Answered (No (these ((object_op 0 (Vote 7 false) ∷ []) ∷ (object_op 0 (Vote 7 false) ∷ []) ∷ [] ∷ []))); first = 15; sent = 1 })
-      ∷ Done (record { did = Counted; first = 16; sent = 0 })
-      ∷ Done (record { did = Refined (ballot 1 1 2 (these ((object_op 0 (Vote 7 false) ∷ []) ∷ (object_op 0 (Vote 7 false) ∷ []) ∷ [] ∷ []))); first = 16; sent = 3 })
-      ∷ Done (record { did = Answered Yes; first = 19; sent = 1 })
-      ∷ Done (record { did = Answered Yes; first = 20; sent = 1 })
-      ∷ Done (record { did = Counted; first = 21; sent = 0 })
-      ∷ Done (record { did = Learnt (learning 14 (ballot 1 1 2 (these ((object_op 0 (Vote 7 false) ∷ []) ∷ (object_op 0 (Vote 7 false) ∷ []) ∷ [] ∷ [])))) 0 (Some (ballot 1 2 1 (these ([] ∷ (object_op 0 (Vote 7 true) ∷ []) ∷ [] ∷ [])))); first = 21; sent = 3 })
-      ∷ Done (record { did = Answered Yes; first = 24; sent = 1 })
-      ∷ Done (record { did = Answered (No (these ((object_op 0 (Vote 7 false) ∷ []) ∷ (object_op 0 (Vote 7 false) ∷ []) ∷ (object_op 0 (Vote 7 false) ∷ []) ∷ []))); first = 25; sent = 1 })
-      ∷ Done (record { did = Counted; first = 26; sent = 0 })
-      ∷ Done (record { did = Refined (ballot 2 1 2 (these ((object_op 0 (Vote 7 false) ∷ []) ∷ (object_op 0 (Vote 7 false) ∷ []) ∷ (object_op 0 (Vote 7 false) ∷ []) ∷ []))); first = 26; sent = 3 })
-      ∷ Done (record { did = Answered Yes; first = 29; sent = 1 })
-      ∷ Done (record { did = Answered Yes; first = 30; sent = 1 })
-      ∷ Done (record { did = Counted; first = 31; sent = 0 })
-      ∷ Done (record { did = Learnt (learning 22 (ballot 2 1 2 (these ((object_op 0 (Vote 7 false) ∷ []) ∷ (object_op 0 (Vote 7 false) ∷ []) ∷ (object_op 0 (Vote 7 false) ∷ []) ∷ [])))) 0 (Some (ballot 2 2 1 (these ([] ∷ [] ∷ (object_op 0 (Vote 7 true) ∷ []) ∷ [])))); first = 31; sent = 3 })
-      ∷ Done (record { did = Answered Yes; first = 34; sent = 1 })
-      ∷ Done (record { did = Answered Yes; first = 35; sent = 1 })
-      ∷ Done (record { did = Answered Yes; first = 36; sent = 1 })
-      ∷ Done (record { did = Counted; first = 37; sent = 0 })
-      ∷ Done (record { did = Learnt (learning 27 (ballot 0 2 1 (these ((object_op 0 (Vote 7 true) ∷ []) ∷ [] ∷ [] ∷ [])))) 0 None; first = 37; sent = 0 })
-      ∷ Done (record { did = Answered (No (these ((object_op 0 (Vote 7 true) ∷ []) ∷ (object_op 0 (Vote 7 true) ∷ []) ∷ [] ∷ []))); first = 37; sent = 1 })
-      ∷ Done (record { did = Counted; first = 38; sent = 0 })
-      ∷ Done (record { did = Refined (ballot 1 2 2 (these ((object_op 0 (Vote 7 true) ∷ []) ∷ (object_op 0 (Vote 7 true) ∷ []) ∷ [] ∷ []))); first = 38; sent = 3 })
-      ∷ Done (record { did = Answered Yes; first = 41; sent = 1 })
-      ∷ Done (record { did = Answered Yes; first = 42; sent = 1 })
-      ∷ Done (record { did = Counted; first = 43; sent = 0 })
-      ∷ Done (record { did = Learnt (learning 34 (ballot 1 2 2 (these ((object_op 0 (Vote 7 true) ∷ []) ∷ (object_op 0 (Vote 7 true) ∷ []) ∷ [] ∷ [])))) 0 None; first = 43; sent = 0 })
-      ∷ Done (record { did = Answered (No (these ([] ∷ (object_op 0 (Vote 7 true) ∷ []) ∷ (object_op 0 (Vote 7 true) ∷ []) ∷ []))); first = 43; sent = 1 })
-      ∷ Done (record { did = Answered (No (these ((object_op 0 (Vote 7 true) ∷ []) ∷ (object_op 0 (Vote 7 true) ∷ []) ∷ (object_op 0 (Vote 7 true) ∷ []) ∷ []))); first = 44; sent = 1 })
-      ∷ Done (record { did = Counted; first = 45; sent = 0 })
-      ∷ Done (record { did = Refined (ballot 2 2 2 (these ((object_op 0 (Vote 7 true) ∷ []) ∷ (object_op 0 (Vote 7 true) ∷ []) ∷ (object_op 0 (Vote 7 true) ∷ []) ∷ []))); first = 45; sent = 3 })
-      ∷ Done (record { did = Answered Yes; first = 48; sent = 1 })
-      ∷ Done (record { did = Answered Yes; first = 49; sent = 1 })
-      ∷ Done (record { did = Counted; first = 50; sent = 0 })
-      ∷ Done (record { did = Learnt (learning 42 (ballot 2 2 2 (these ((object_op 0 (Vote 7 true) ∷ []) ∷ (object_op 0 (Vote 7 true) ∷ []) ∷ (object_op 0 (Vote 7 true) ∷ []) ∷ [])))) 0 None; first = 50; sent = 0 })
+      done (Opened (ballot 0 1 1 (by_0 false))) 0 3
+      ∷ done (Opened (ballot 1 1 1 (by_1 false))) 3 3
+      ∷ done (Opened (ballot 2 1 1 (by_2 false))) 6 3
+      ∷ done (Answered Yes) 9 1
+      ∷ done (Answered Yes) 10 1
+      ∷ done Counted 11 0
+      ∷ done (learnt_then 6 (ballot 0 1 1 (by_0 false)) (ballot 0 2 1 (by_0 true))) 11 3
+      ∷ done (Answered (No (by_0_and_1 false))) 14 1
+      ∷ done (Answered (No (by_0_and_1 false))) 15 1
+      ∷ done Counted 16 0
+      ∷ done (Refined (ballot 1 1 2 (by_0_and_1 false))) 16 3
+      ∷ done (Answered Yes) 19 1
+      ∷ done (Answered Yes) 20 1
+      ∷ done Counted 21 0
+      ∷ done (learnt_then 14 (ballot 1 1 2 (by_0_and_1 false)) (ballot 1 2 1 (by_1 true))) 21 3
+      ∷ done (Answered Yes) 24 1
+      ∷ done (Answered (No (by_all false))) 25 1
+      ∷ done Counted 26 0
+      ∷ done (Refined (ballot 2 1 2 (by_all false))) 26 3
+      ∷ done (Answered Yes) 29 1
+      ∷ done (Answered Yes) 30 1
+      ∷ done Counted 31 0
+      ∷ done (learnt_then 22 (ballot 2 1 2 (by_all false)) (ballot 2 2 1 (by_2 true))) 31 3
+      ∷ done (Answered Yes) 34 1
+      ∷ done (Answered Yes) 35 1
+      ∷ done (Answered Yes) 36 1
+      ∷ done Counted 37 0
+      ∷ done (learnt_last 27 (ballot 0 2 1 (by_0 true))) 37 0
+      ∷ done (Answered (No (by_0_and_1 true))) 37 1
+      ∷ done Counted 38 0
+      ∷ done (Refined (ballot 1 2 2 (by_0_and_1 true))) 38 3
+      ∷ done (Answered Yes) 41 1
+      ∷ done (Answered Yes) 42 1
+      ∷ done Counted 43 0
+      ∷ done (learnt_last 34 (ballot 1 2 2 (by_0_and_1 true))) 43 0
+      ∷ done (Answered (No (by_1_and_2 true))) 43 1
+      ∷ done (Answered (No (by_all true))) 44 1
+      ∷ done Counted 45 0
+      ∷ done (Refined (ballot 2 2 2 (by_all true))) 45 3
+      ∷ done (Answered Yes) 48 1
+      ∷ done (Answered Yes) 49 1
+      ∷ done Counted 50 0
+      ∷ done (learnt_last 42 (ballot 2 2 2 (by_all true))) 50 0
       ∷ [];
-  learnt = learning 6 (ballot 0 1 1 (these ((object_op 0 (Vote 7 false) ∷ []) ∷ [] ∷ [] ∷ [])))
-      ∷ learning 14 (ballot 1 1 2 (these ((object_op 0 (Vote 7 false) ∷ []) ∷ (object_op 0 (Vote 7 false) ∷ []) ∷ [] ∷ [])))
-      ∷ learning 22 (ballot 2 1 2 (these ((object_op 0 (Vote 7 false) ∷ []) ∷ (object_op 0 (Vote 7 false) ∷ []) ∷ (object_op 0 (Vote 7 false) ∷ []) ∷ [])))
-      ∷ learning 27 (ballot 0 2 1 (these ((object_op 0 (Vote 7 true) ∷ []) ∷ [] ∷ [] ∷ [])))
-      ∷ learning 34 (ballot 1 2 2 (these ((object_op 0 (Vote 7 true) ∷ []) ∷ (object_op 0 (Vote 7 true) ∷ []) ∷ [] ∷ [])))
-      ∷ learning 42 (ballot 2 2 2 (these ((object_op 0 (Vote 7 true) ∷ []) ∷ (object_op 0 (Vote 7 true) ∷ []) ∷ (object_op 0 (Vote 7 true) ∷ []) ∷ [])))
+  learnt = learning 6 (ballot 0 1 1 (by_0 false))
+      ∷ learning 14 (ballot 1 1 2 (by_0_and_1 false))
+      ∷ learning 22 (ballot 2 1 2 (by_all false))
+      ∷ learning 27 (ballot 0 2 1 (by_0 true))
+      ∷ learning 34 (ballot 1 2 2 (by_0_and_1 true))
+      ∷ learning 42 (ballot 2 2 2 (by_all true))
       ∷ [];
-  views = (these ([] ∷ [] ∷ [] ∷ []))
-      ∷ (these ([] ∷ [] ∷ [] ∷ []))
-      ∷ (these ([] ∷ [] ∷ [] ∷ []))
-      ∷ [];
+  views = nothing ∷ nothing ∷ nothing ∷ [];
 }

@@ -1,10 +1,10 @@
-//! Runs whose reports are computed from the definitions of `la_world`: what each event of a list does,
-//! what is learnt, and the views at the end.
+//! Runs whose reports are computed from the definitions of `la_world`: what each event of a list
+//! does, what is learnt, and the views at the end.
 //!
-//! Each function here has an empty body, and a contract that says: the report of these events in this
-//! group is this one. A reader can check the definitions by them. The runs with proposals and those of
-//! groups with unequal votes stand here since no script plays them; all other runs are rows of the
-//! program.
+//! Each function here has an empty body, and a contract that says: the report of these events in
+//! this group is this one. A reader can check the definitions by them. The runs with proposals
+//! stand here since no code plays them, and four others to read the definitions by; the runs that a
+//! script can say are rows of the program.
 #![tactic(auto)]
 
 ghost use Rattle.runs.specs.ByReplicas.{LateDissenterByReplicas};
@@ -52,7 +52,8 @@ pub fn decide_twice()
     ensures { DecideTwice }
 {}
 
-/// A proposal of a replica that there is not is refused for that first, and then one to an object that there is not.
+/// A proposal of a replica that there is not is refused for that first, and then one to an object
+/// that there is not.
 pub fn refusal_order()
     ensures { RefusalOrder }
 {}
@@ -62,7 +63,8 @@ pub fn one_value_alone()
     ensures { OneValueAlone }
 {}
 
-/// Once a participant has learnt in both instances of an object, another proposal of it is refused, of whatever value.
+/// Once a participant has learnt in both instances of an object, another proposal of it is refused,
+/// of whatever value.
 pub fn proposed_for_good()
     ensures { ProposedForGood }
 {}
@@ -87,8 +89,8 @@ pub fn late_dissenter()
     ensures { LateDissenter }
 {}
 
-/// The first events of the last run, played by the replicas' own steps: what each replica comes to keep,
-/// and what was sent, is what the trace says.
+/// The first events of the last run, played by the replicas' own steps: what each replica comes to
+/// keep, and what was sent, is what the trace says.
 #[tactic(auto, using(crate::proofs::Runs::late_dissenter_by_replicas))]
 pub fn late_dissenter_by_replicas()
     ensures { LateDissenterByReplicas }

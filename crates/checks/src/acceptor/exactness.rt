@@ -103,7 +103,8 @@ fn reply_same_is_exact(reply: &Reply, other: &Reply) -> (bool, bool)
     (reply.same(other), reply.same(other))
 }
 
-// An acceptor that answers is one whose offers are answered, in the words of the law on their union.
+// An acceptor that answers is one whose offers are answered, in the words of the law on their
+// union.
 fn what_answers_is_answered(
     acceptor: &mut Acceptor,
     first: &UpdateSet,

@@ -1,5 +1,6 @@
 // Callers that know nothing but the contracts: each makes a call twice and promises equal answers.
-ghost use Rattle.std.specs.Prelude.{◌≡◌, ◌≢◌, ◌↔◌, ◌<◌, ◌≤◌, true, length, IsTrue, IsOk, IfOk, IfErr, OnOk, OnErr};
+ghost use Rattle.std.specs.Prelude.{◌≡◌, ◌≢◌, ◌↔◌, ◌<◌, ◌≤◌};
+ghost use Rattle.std.specs.Prelude.{true, length, IsTrue, IsOk, IfOk, IfErr, OnOk, OnErr};
 ghost use Rattle.la_proposer.specs.Majority.{votes_of};
 ghost use Rattle.la_proposer.specs.ProposerState.{submitted, counts};
 ghost use Rattle.la_proposer.specs.Clashes.{Fits};
@@ -122,7 +123,8 @@ fn submit_is_exact(one: &mut Proposer, other: &mut Proposer, object: u16, by: u3
     requires { one.old ≡ other.old }
     ensures answers { IfOk result.0 (λ a. IfOk result.1 (λ b. a ≡ b)) }
     ensures steps { OnOk result.0 (OnOk result.1 (one.new ≡ other.new)) }
-    ensures refusals { IfErr result.0 (λ e. IfErr result.1 (λ f. e ≢ ProposerError.Memory → f ≢ ProposerError.Memory → e ≡ f)) }
+    ensures refusals { IfErr result.0 (λ e. IfErr result.1 (λ f.
+        e ≢ ProposerError.Memory → f ≢ ProposerError.Memory → e ≡ f)) }
     ensures memory { IfErr result.0 (λ e. OnOk result.1 (e ≡ ProposerError.Memory)) }
     ensures stays { OnErr result.0 (one.new ≡ one.old) }
 {
@@ -172,7 +174,8 @@ fn reply_is_exact(
     requires replies { replies.0 ≡ replies.1 }
     ensures answers { IfOk result.0 (λ a. IfOk result.1 (λ b. a ≡ b)) }
     ensures steps { OnOk result.0 (OnOk result.1 (one.new ≡ other.new)) }
-    ensures refusals { IfErr result.0 (λ e. IfErr result.1 (λ f. e ≢ ProposerError.Memory → f ≢ ProposerError.Memory → e ≡ f)) }
+    ensures refusals { IfErr result.0 (λ e. IfErr result.1 (λ f.
+        e ≢ ProposerError.Memory → f ≢ ProposerError.Memory → e ≡ f)) }
     ensures memory { IfErr result.0 (λ e. OnOk result.1 (e ≡ ProposerError.Memory)) }
     ensures stays { OnErr result.0 (one.new ≡ one.old) }
 {

@@ -1,5 +1,8 @@
-// The laws and the clauses on memory and limits, each by what follows from it.
-ghost use Rattle.std.specs.Prelude.{◌≡◌, ℕ, ◌<◌, ◌≤◌, Bool, true, false, List, [], length, replicate, IsTrue, IsOk, IfOk, OnOk};
+// The laws and the clauses on memory and limits, each by what follows from it. To call a law is a
+// hint to the prover, and no work: its contract is what it hands on.
+ghost use Rattle.std.specs.Prelude.{◌≡◌, ◌<◌, ◌≤◌, []};
+ghost use Rattle.std.specs.Prelude.{ℕ, Bool, true, false, List, length, replicate, IsTrue, IsOk};
+ghost use Rattle.std.specs.Prelude.{IfOk, OnOk};
 ghost use Rattle.la_set.specs.ObjectOps.{ObjectOp};
 ghost use Rattle.la_set.specs.Inclusion.{IsSubset};
 ghost use Rattle.la_proposer.specs.declared.tally.Verdict.TheVariants.{Refines};
@@ -8,7 +11,8 @@ ghost use Rattle.la_proposer.specs.Tally.{verdict};
 ghost use Rattle.la_set.specs.Histories.{empty};
 ghost use Rattle.la_proposer.specs.Inputs.{Input, after_inputs};
 ghost use Rattle.la_proposer.specs.Firsts.{CountsFirsts};
-ghost use Rattle.la_proposer.specs.ProposerState.{ProposerState, start, submitted, after_submission, counts, with_reply};
+ghost use Rattle.la_proposer.specs.ProposerState.{ProposerState, start, submitted};
+ghost use Rattle.la_proposer.specs.ProposerState.{after_submission, counts, with_reply};
 ghost use Rattle.la_proposer.specs.Refusals.{CountsInPlace};
 
 use la_acceptor::Reply;
@@ -21,7 +25,9 @@ use std::alloc::AllocError;
 
 // Of three replicas with a vote each, two majorities share one.
 fn two_majorities_of_three_meet()
-    ensures { (p q : ℕ → Bool) → IsTrue (is_majority (replicate 3 1) p) → IsTrue (is_majority (replicate 3 1) q) → (r : ℕ) × (r < 3) × (p r ≡ true) × (q r ≡ true) }
+    ensures { (p q : ℕ → Bool)
+        → IsTrue (is_majority (replicate 3 1) p) → IsTrue (is_majority (replicate 3 1) q)
+        → (r : ℕ) × (r < 3) × (p r ≡ true) × (q r ≡ true) }
 {
     laws::majorities_share_a_replica();
 }
@@ -54,22 +60,28 @@ fn no_proposer_submits_more(proposer: &Proposer) -> u32
     ensures number { proposer.now.number ≤ 8000000 }
     ensures submitted { result ≤ 1000000 }
 {
+    // a hint to the prover: looking at the proposer tells what its state always keeps to
     let _kept = proposer.status();
     proposer.submitted()
 }
 
-// From its start on a proposer counts each acceptor's first reply to the open ballot, and nothing while
-// none is open.
+// From its start on a proposer counts each acceptor's first reply to the open ballot, and nothing
+// while none is open.
 fn a_proposer_counts_first_replies()
-    ensures open { (votes : List ℕ) (own cap : ℕ) (inputs : List Input) → (after_inputs (start votes own cap empty) inputs).is_asking ≡ true → CountsFirsts (start votes own cap empty) inputs }
-    ensures idle { (votes : List ℕ) (own cap : ℕ) (inputs : List Input) → (after_inputs (start votes own cap empty) inputs).is_asking ≡ false → (after_inputs (start votes own cap empty) inputs).tally ≡ [] }
+    ensures open { (votes : List ℕ) (own cap : ℕ) (inputs : List Input)
+        → (after_inputs (start votes own cap empty) inputs).is_asking ≡ true
+        → CountsFirsts (start votes own cap empty) inputs }
+    ensures idle { (votes : List ℕ) (own cap : ℕ) (inputs : List Input)
+        → (after_inputs (start votes own cap empty) inputs).is_asking ≡ false
+        → (after_inputs (start votes own cap empty) inputs).tally ≡ [] }
 {
     laws::first_replies_count();
 }
 
 // A submission leaves the last ballot's set as it is, or opens a ballot with a larger one.
 fn a_submission_keeps_the_set()
-    ensures { (p : ProposerState) (object_op : ObjectOp) → p.own < 8 → IsSubset p.updates (after_submission p object_op).updates }
+    ensures { (p : ProposerState) (object_op : ObjectOp)
+        → p.own < 8 → IsSubset p.updates (after_submission p object_op).updates }
 {
     laws::ballots_grow();
 }
@@ -163,7 +175,8 @@ fn what_refines_has_a_number(
     reply: Reply,
 ) -> Result<Heard, ProposerError>
     requires counts { counts proposer.old from ballot ≡ true }
-    requires refines { verdict proposer.old.votes (with_reply proposer.old from reply).tally ≡ Refines }
+    requires refines { verdict proposer.old.votes (with_reply proposer.old from reply).tally
+        ≡ Refines }
     ensures { OnOk result (proposer.old.number < 8000000) }
 {
     proposer.reply(from, ballot, reply)

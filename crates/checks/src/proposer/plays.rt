@@ -30,8 +30,8 @@ pub enum Outcome {
     Refused(ProposerError),
 }
 
-/// An input and what it comes to; then the last ballot's set, the number of the ballot that is open,
-/// and how many submissions wait.
+/// An input and what it comes to; then the last ballot's set, the number of the ballot that is
+/// open, and how many submissions wait.
 pub struct Step(
     pub Input,
     pub Outcome,
@@ -81,7 +81,8 @@ fn proposer_of(rt: &impl Abort, alloc: Global, play: &Play, votes: Votes) -> Pro
     Proposer::new(alloc, replicas, play.own, play.cap, votes)
 }
 
-// Whether the proposer tells what a step's input comes to, and whether a reply counts, before it hears it.
+// Whether the proposer tells what a step's input comes to, and whether a reply counts, before it
+// hears it.
 fn tells(rt: &impl Abort, alloc: Global, proposer: &Proposer, step: &Step) -> bool {
     match &step.0 {
         Input::Submits(_) => admits_as(proposer.admit_submission(), step.1),

@@ -10,7 +10,10 @@ fn opens(proposer: &mut Proposer) -> bool {
 
 fn refines(alloc: Global, proposer: &mut Proposer, number: u32) -> bool {
     let nothing = Reply::No(UpdateSet::new(alloc));
-    matches!(&proposer.reply(0, number, nothing), Ok(Heard::Refined(ballot)) if ballot.number == number + 1)
+    matches!(
+        &proposer.reply(0, number, nothing),
+        Ok(Heard::Refined(ballot)) if ballot.number == number + 1
+    )
 }
 
 fn is_spent(alloc: Global, proposer: &mut Proposer) -> bool {

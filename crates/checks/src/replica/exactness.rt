@@ -1,5 +1,6 @@
 // Callers that know nothing but the contracts: each makes a call twice and promises equal answers.
-ghost use Rattle.std.specs.Prelude.{◌≡◌, ◌↔◌, ◌≤◌, ◌<◌, length, IsTrue, IfOk, OnOk, OnErr, option_copied};
+ghost use Rattle.std.specs.Prelude.{◌≡◌, ◌↔◌, ◌≤◌, ◌<◌};
+ghost use Rattle.std.specs.Prelude.{length, IsTrue, IfOk, OnOk, OnErr, option_copied};
 ghost use Rattle.la_proposer.specs.Majority.{votes_of};
 ghost use Rattle.la_replica.specs.Whole.{whole_of};
 ghost use Rattle.la_replica.specs.Refusals.{HasRoom, SubmittingSpares};
@@ -199,6 +200,7 @@ fn instances_are_few(commits: u8) -> u8
     requires { commits ≤ MAX_COMMITS }
     ensures { result ≤ 33 }
 {
+    // a hint to the prover: the law says what `MAX_COMMITS` is
     laws::limits();
     2 * commits + 1
 }

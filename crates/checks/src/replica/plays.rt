@@ -16,7 +16,8 @@ use std::process::Abort;
 pub enum Input {
     /// A submission in an instance that adds 5 to object 1.
     Submits(u8),
-    /// A message to replica 0: its instance, where it comes from, its ballot's number, and its body.
+    /// A message to replica 0: its instance, where it comes from, its ballot's number, and its
+    /// body.
     Offer(u8, u8, u32, &'static [Given]),
     Yes(u8, u8, u32),
     No(u8, u8, u32, &'static [Given]),
@@ -42,8 +43,8 @@ pub enum Outcome {
     Fails(ReplicaError),
 }
 
-/// An input and what it comes to; the mail, as for each message a letter and the replica that it goes
-/// to; then the view, and the set that was learnt last in instance 0.
+/// An input and what it comes to; the mail, as for each message a letter and the replica that it
+/// goes to; then the view, and the set that was learnt last in instance 0.
 pub struct Step(
     pub Input,
     pub Outcome,
@@ -65,8 +66,8 @@ pub enum Way {
     InTwo,
 }
 
-/// Plays a table at one replica. In two calls goes each submission, and each message that is known to fit
-/// the view.
+/// Plays a table at one replica. In two calls goes each submission, and each message that is known
+/// to fit the view.
 pub fn plays(rt: &impl Abort, alloc: Global, play: &Play, way: Way) {
     let mut replica = fresh(rt, alloc);
     for (place, step) in play.steps.iter().enumerate() {
@@ -238,10 +239,12 @@ fn receive_by(
     replica.receive(message)
 }
 
-// Whether the set that may become the view fits it, as far as can be told from outside: a told set by
-// comparing, and the one that a reply may lead to learning where the view is empty.
+// Whether the set that may become the view fits it, as far as can be told from outside: a told set
+// by comparing, and the one that a reply may lead to learning where the view is empty.
 fn fits_view(alloc: Global, replica: &Replica, message: &Message) -> bool
-    ensures { IsTrue result → IsReceivable replica.now (whole_of message.now) → IsSomeAnd (slice_get replica.now.instances message.now.instance) (λ x. FitsViewBody x replica.now.view (whole_of message.now) (whole_of message.now).body) }
+    ensures { IsTrue result → IsReceivable replica.now (whole_of message.now)
+        → IsSomeAnd (slice_get replica.now.instances message.now.instance) (λ x.
+        FitsViewBody x replica.now.view (whole_of message.now) (whole_of message.now).body) }
 {
     match &message.body {
         Body::Offer(_) => true,

@@ -1,5 +1,5 @@
-// Callers that promise what only exact contracts let them: each calls a function twice, knows nothing
-// but its contract, and has one answer.
+// Callers that promise what only exact contracts let them: each calls a function twice, knows
+// nothing but its contract, and has one answer.
 ghost use Rattle.std.specs.Prelude.{◌≡◌, ◌<◌, ◌^◌, length, IfOk, IfSome, IsTrue};
 ghost use Rattle.la_script.specs.Scripts.{said_by};
 ghost use Rattle.la_script.specs.Pieces.{joined};

@@ -114,6 +114,8 @@ fn add(set: &mut UpdateSet, replica: u8, number: u32) -> Result<(), AllocError> 
     let object = 1;
     match set.push(Update { id, object, op }) {
         Ok(()) => Ok(()),
+        // `UpdateSet::push`, clause `error`: where the update comes next, as each does here, only
+        // memory is left
         Err(_) => Err(AllocError),
     }
 }
@@ -292,7 +294,8 @@ fn walked(alloc: Global, pieces: &Pieces) -> Result<Vec<u8>, AllocError> {
     Ok(text)
 }
 
-// The ids of line 22 are lent, those of each replica as one piece, and shorter ones stand among words.
+// The ids of line 22 are lent, those of each replica as one piece, and shorter ones stand among
+// words.
 fn comes_in_pieces(alloc: Global) -> Result<bool, AllocError> {
     let report = report(alloc)?;
     let pieces = pieces_of(alloc, &report)?;

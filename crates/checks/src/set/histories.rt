@@ -1,5 +1,5 @@
-// Histories, which copies share: how long one may be, where an update is found, what a copy, a cut and a
-// join leave.
+// Histories, which copies share: how long one may be, where an update is found, what a copy, a cut
+// and a join leave.
 ghost use Rattle.std.specs.Prelude.{◌≤◌};
 
 use super::helpers::{Does, copy_of, id, join, push, truncate};
@@ -7,7 +7,8 @@ use la_set::{Op, Update, UpdateId, UpdateSet};
 use std::alloc::Global;
 use std::process::Abort;
 
-// Some of a replica's updates: those after a number up to another. Each puts its number and so much more.
+// Some of a replica's updates: those after a number up to another. Each puts its number and so much
+// more.
 #[derive(Clone, Copy)]
 struct Stretch {
     replica: u8,
@@ -50,7 +51,8 @@ fn is_put(update: Option<&Update>, id: UpdateId, more: u32) -> bool {
     }
 }
 
-// Whether each of these updates is found by its id, and at its place: so many stand before the replica's.
+// Whether each of these updates is found by its id, and at its place: so many stand before the
+// replica's.
 fn has(set: &UpdateSet, below: u32, stretch: &Stretch) -> bool {
     for before in stretch.after..stretch.last {
         let at = id(stretch.replica, before + 1);
@@ -212,7 +214,8 @@ const LONG: Stretch = Stretch {
     more: 2,
 };
 
-// Where another update stands under an id each set keeps its own, and what is added stands behind it.
+// Where another update stands under an id each set keeps its own, and what is added stands behind
+// it.
 #[test]
 fn a_join_keeps_its_own(rt: HostRuntime) {
     let mut mine = set_from(&rt, rt.alloc(), &[COMMON, MINE]);
@@ -224,7 +227,8 @@ fn a_join_keeps_its_own(rt: HostRuntime) {
     assert!(rt; has(&theirs, 0, &COMMON) && has(&theirs, 0, &LONG) && theirs.len() == 124);
 }
 
-// Joins a set with which there is no clash, by the counts alone. Whether it had not lain in the set.
+// Joins a set with which there is no clash, by the counts alone. Whether it had not lain in the
+// set.
 fn joins_by_counts(rt: &impl Abort, set: &mut UpdateSet, other: &UpdateSet) -> bool {
     if set.first_clash(other).is_some() {
         return false;

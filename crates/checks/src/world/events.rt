@@ -17,6 +17,8 @@ pub enum Act {
 fn tags_of(alloc: Global, count: u32) -> Result<Tags, WorldError> {
     let mut tags = Tags::new(alloc);
     for number in 1..=count {
+        // `Tags::push`, clause `error`: no table names more tags than a `Remove` may, so only
+        // memory is left
         if tags.push(UpdateId { replica: 0, number }).is_err() {
             return Err(WorldError::Memory);
         }

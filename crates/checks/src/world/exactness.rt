@@ -11,7 +11,7 @@ use std::alloc::{AllocError, Global};
 
 // ## A world
 
-#[tactic(auto, using(crate::proofs::SameWorlds::made_worlds_agree, crate::proofs::SameWorlds::makings_agree))]
+#[tactic(auto, using(crate::proofs::SameWorlds::makings_agree))]
 fn new_worlds_are_one(
     alloc: Global,
     config: Config,
@@ -23,7 +23,6 @@ fn new_worlds_are_one(
     (World::new(alloc, config), World::new(alloc, config))
 }
 
-#[tactic(auto, using(crate::proofs::SameWorlds::steps_agree, crate::proofs::SameWorlds::worlds_agree, crate::proofs::SameWorlds::refusals_agree, crate::proofs::SameWorlds::unchanged_agree))]
 fn play_is_exact(
     one: &mut World,
     other: &mut World,
@@ -31,9 +30,13 @@ fn play_is_exact(
 ) -> (Result<Step, WorldError>, Result<Step, WorldError>)
     requires same { one.old ≡ other.old }
     requires count { one.old.count + 1 < 2 ^ 64 }
-    ensures steps { (events : Past) → StandsFor one.old events → IfOk result.0 (λ a. IfOk result.1 (λ b. a ≡ b)) }
-    ensures worlds { (events : Past) → StandsFor one.old events → IfOk result.0 (λ _. IfOk result.1 (λ _. one.new ≡ other.new)) }
-    ensures alike { (events : Past) → StandsFor one.old events → IfErr result.0 (λ d. IfErr result.1 (λ e. d ≡ e)) }
+    ensures steps { (events : Past)
+        → StandsFor one.old events → IfOk result.0 (λ a. IfOk result.1 (λ b. a ≡ b)) }
+    ensures worlds { (events : Past)
+        → StandsFor one.old events
+        → IfOk result.0 (λ _. IfOk result.1 (λ _. one.new ≡ other.new)) }
+    ensures alike { (events : Past)
+        → StandsFor one.old events → IfErr result.0 (λ d. IfErr result.1 (λ e. d ≡ e)) }
     ensures unchanged { IfErr result.0 (λ _. IfErr result.1 (λ _. one.new ≡ other.new)) }
 {
     (one.play(event), other.play(event))

@@ -1,5 +1,7 @@
-// The laws, each by what follows from it.
-ghost use Rattle.std.specs.Prelude.{◌≡◌, ℕ, ◌+◌, ◌<◌, ◌≤◌, [], ◌∷◌, ◌++◌, drop, map, slice_get, Some, Contains, IfOk};
+// The laws, each by what follows from it. To call a law is a hint to the prover, and no work: its
+// contract is what it hands on.
+ghost use Rattle.std.specs.Prelude.{◌≡◌, ◌+◌, ◌<◌, ◌≤◌, [], ◌∷◌, ◌++◌};
+ghost use Rattle.std.specs.Prelude.{ℕ, drop, map, slice_get, Some, Contains, IfOk};
 ghost use Rattle.la_set.specs.Histories.{Histories, history};
 ghost use Rattle.la_set.specs.Inclusion.{IsSubset};
 ghost use Rattle.la_replica.specs.Whole.{Message, Yes};
@@ -22,61 +24,75 @@ ghost use Rattle.la_world.specs.Laws.{AreComparable};
 use la_world::{Config, Event, Report, WorldError, laws, run};
 use std::alloc::Global;
 
-// What a run's learnt sets hold of their own replicas is what was taken, and any two of one instance
-// are comparable.
+// What a run's learnt sets hold of their own replicas is what was taken, and any two of one
+// instance are comparable.
 #[tactic(auto, using(crate::proofs::WorldLaws::run_own, crate::proofs::WorldLaws::run_comparable))]
 fn learnt_sets_of_a_run(
     alloc: Global,
     config: Config,
     events: &[Event],
 ) -> Result<Report, WorldError>
-    ensures own { IfOk result (λ made. (x : Learnt) → Contains made.learnt x → x.replica < 8 → history x.updates x.replica ≡ taken (trace_of (group_of config) (map event_of events.now)) x.instance x.replica x.ballot) }
-    ensures comparable { IfOk result (λ made. (x y : Learnt) → Contains made.learnt x → Contains made.learnt y → x.instance ≡ y.instance → AreComparable x.updates y.updates) }
+    ensures own { IfOk result (λ made. (x : Learnt) → Contains made.learnt x → x.replica < 8
+        → history x.updates x.replica ≡ taken (trace_of (group_of config) (map event_of events.now))
+        x.instance x.replica x.ballot) }
+    ensures comparable { IfOk result (λ made. (x y : Learnt)
+        → Contains made.learnt x → Contains made.learnt y
+        → x.instance ≡ y.instance → AreComparable x.updates y.updates) }
 {
     laws::learnt_sets_hold_what_was_taken();
     laws::learnt_sets_are_comparable();
     run(alloc, config, events)
 }
 
-// An acknowledgement's acceptor had accepted exactly the set of each ballot that has this number, since
-// there is one.
+// An acknowledgement's acceptor had accepted exactly the set of each ballot that has this number,
+// since there is one.
 #[tactic(auto, using(crate::proofs::WorldLaws::acknowledged))]
 fn an_acknowledged_ballot_is_one()
-    ensures { (g : Group) (events : Past) (m : Message) (b : Opening) → Contains (sent (replicas g) (trace g events)) m → m.body ≡ Yes → Contains (ballots (trace g events) m.instance m.to) b → b.ballot ≡ m.ballot → (later : ℕ) × (accepted (trace g (drop later events)) m.instance m.from ≡ b.updates) }
+    ensures { (g : Group) (events : Past) (m : Message) (b : Opening)
+        → Contains (sent (replicas g) (trace g events)) m → m.body ≡ Yes
+        → Contains (ballots (trace g events) m.instance m.to) b → b.ballot ≡ m.ballot
+        → (later : ℕ) × (accepted (trace g (drop later events)) m.instance m.from ≡ b.updates) }
 {
     laws::acknowledgements_have_places();
     laws::a_number_names_one_ballot();
 }
 
-// Where there is a replica and an object: after the first proposal another one is refused, whatever comes
-// between.
+// Where there is a replica and an object: after the first proposal another one is refused, whatever
+// comes between.
 #[tactic(auto, using(crate::proofs::WorldLaws::for_good))]
 fn a_proposal_is_for_good()
-    ensures { (g : Group) (more : Past) → 1 ≤ replicas g → 1 ≤ g.commits → refused g (trace g (more ++ Decide 0 0 7 ∷ [])) (Decide 0 0 8) ≡ Some AlreadyProposed }
+    ensures { (g : Group) (more : Past)
+        → 1 ≤ replicas g → 1 ≤ g.commits
+        → refused g (trace g (more ++ Decide 0 0 7 ∷ [])) (Decide 0 0 8) ≡ Some AlreadyProposed }
 {
     laws::proposals_are_tested_in_order();
     laws::second_proposals_are_refused();
 }
 
-#[tactic(auto, using(crate::proofs::WorldLaws::limits_most, crate::proofs::WorldLaws::limits_least, crate::proofs::WorldLaws::limits_taken))]
 fn groups_have_these_limits()
-    ensures most { (c : Config) → IsConfig c → (c.replicas ≤ 8) × (c.commits ≤ 16) × (c.cap ≤ 1000000) }
+    ensures most { (c : Config) → IsConfig c
+        → (c.replicas ≤ 8) × (c.commits ≤ 16) × (c.cap ≤ 1000000) }
     ensures least { (c : Config) → IsConfig c → (1 ≤ c.replicas) × (1 ≤ c.cap) }
-    ensures taken { (c : Config) → IsConfig c → c.commits ≡ 0 → IsConfig (record { replicas = c.replicas; commits = 16; cap = 1000000; votes = c.votes }) }
+    ensures taken { (c : Config) → IsConfig c → c.commits ≡ 0
+        → IsConfig
+        (record { replicas = c.replicas; commits = 16; cap = 1000000; votes = c.votes }) }
 {
     laws::limits();
 }
 
 // Of one replica's ballots a later one contains an earlier one.
 fn later_ballots_contain_earlier()
-    ensures { (g : Group) (events : Past) (i r : ℕ) (b c : Opening) → Contains (ballots (trace g events) i r) b → Contains (ballots (trace g events) i r) c → b.ballot + 1 ≤ c.ballot → IsSubset b.updates c.updates }
+    ensures { (g : Group) (events : Past) (i r : ℕ) (b c : Opening)
+        → Contains (ballots (trace g events) i r) b → Contains (ballots (trace g events) i r) c
+        → b.ballot + 1 ≤ c.ballot → IsSubset b.updates c.updates }
 {
     laws::ballots_grow();
 }
 
 // What a view is: it contains each set that was seen.
 fn views_contain_what_is_seen()
-    ensures { (g : Group) (events : Past) (r : ℕ) (s : Histories) → Contains (seen (trace g events) r) s → IsSubset s (view (trace g events) r) }
+    ensures { (g : Group) (events : Past) (r : ℕ) (s : Histories)
+        → Contains (seen (trace g events) r) s → IsSubset s (view (trace g events) r) }
 {
     laws::views_are_largest();
 }
@@ -88,7 +104,9 @@ fn learnt_sets_of_a_run_grow(
     config: Config,
     events: &[Event],
 ) -> Result<Report, WorldError>
-    ensures { IfOk result (λ made. (j k : ℕ) (x y : Learnt) → slice_get made.learnt j ≡ Some x → slice_get made.learnt k ≡ Some y → x.instance ≡ y.instance → x.replica ≡ y.replica → j < k → IsSubset x.updates y.updates) }
+    ensures { IfOk result (λ made. (j k : ℕ) (x y : Learnt)
+        → slice_get made.learnt j ≡ Some x → slice_get made.learnt k ≡ Some y
+        → x.instance ≡ y.instance → x.replica ≡ y.replica → j < k → IsSubset x.updates y.updates) }
 {
     laws::learnt_sets_grow();
     run(alloc, config, events)
@@ -96,7 +114,8 @@ fn learnt_sets_of_a_run_grow(
 
 // No view shrinks over two further events.
 fn a_view_stays_over_two_events()
-    ensures { (g : Group) (events : Past) (e f : Occurrence) (r : ℕ) → IsSubset (view (trace g events) r) (view (trace g (f ∷ e ∷ events)) r) }
+    ensures { (g : Group) (events : Past) (e f : Occurrence) (r : ℕ)
+        → IsSubset (view (trace g events) r) (view (trace g (f ∷ e ∷ events)) r) }
 {
     laws::views_grow();
     la_set::laws::inclusion_is_an_order();
@@ -104,7 +123,9 @@ fn a_view_stays_over_two_events()
 
 // A learnt set has only what was submitted in its instance until some event.
 fn a_learnt_set_has_only_what_was_submitted()
-    ensures { (g : Group) (events : Past) (x : Learnt) → Contains (learnt (trace g events)) x → (later : ℕ) × IsSubset x.updates (whole (trace g (drop later events)) x.instance) }
+    ensures { (g : Group) (events : Past) (x : Learnt)
+        → Contains (learnt (trace g events)) x
+        → (later : ℕ) × IsSubset x.updates (whole (trace g (drop later events)) x.instance) }
 {
     laws::learnt_sets_are_valid();
 }

@@ -10,13 +10,17 @@ const MILLION: u32 = 1_000_000;
 // The most events that are played.
 const MOST: u64 = 3_000_000;
 
+// Plays an event, once more where memory was refused: that changed nothing.
 fn plays(rt: &impl Abort, world: &mut World, event: &Event) -> Result<Step, WorldError> {
     assert!(rt; world.events() < MOST);
-    world.play(event)
+    match world.play(event) {
+        Err(WorldError::Memory) => world.play(event),
+        played => played,
+    }
 }
 
-// Submits the next update after so many, hands its offer on, and then the acknowledgement: whether that is
-// learnt with one update more.
+// Submits the next update after so many, hands its offer on, and then the acknowledgement: whether
+// that is learnt with one update more.
 fn learns(
     rt: &impl Abort,
     alloc: Global,

@@ -1,5 +1,5 @@
-// Runs from tables: by `run`, and event by event by `play`, where a call that was refused for want of
-// memory has changed nothing and is made again.
+// Runs from tables: by `run`, and event by event by `play`, where a call that was refused for want
+// of memory has changed nothing and is made again.
 use super::events::{Act, event_of};
 use super::runs::{EXACT_HALF, HEAVY_VOTER, Run, UNEQUAL_VOTERS};
 use super::shown::{Ballot, Row, Shown, counts_of, learnt_of, line_of, row_of};

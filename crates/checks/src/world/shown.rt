@@ -1,5 +1,5 @@
-// Steps in short, so that a table can hold them. Of a set stands how many updates of each of the first
-// four replicas it has: these are the first ones that each has submitted.
+// Steps in short, so that a table can hold them. Of a set stands how many updates of each of the
+// first four replicas it has: these are the first ones that each has submitted.
 use la_acceptor::Reply;
 use la_set::UpdateSet;
 use la_world::{Did, Learnt, Line, Opening, Refusal, Step};

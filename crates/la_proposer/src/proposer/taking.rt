@@ -1,6 +1,9 @@
 // The steps that change a proposer. Each does first what can be refused.
 ghost use Rattle.std.specs.Prelude.{◌≡◌, true, not, ◌<◌, length, IsOk, IfOk, OnOk, OnErr};
-ghost use Rattle.la_proposer.specs.ProposerState.{submitted, with_waiting, with_reply, next_ballot, after_opening, refined_ballot, after_refinement, is_nothing, closed, learning_opens, after_learning};
+ghost use Rattle.la_proposer.specs.ProposerState.{submitted, op_on, with_waiting, with_reply};
+ghost use Rattle.la_proposer.specs.ProposerState.{next_ballot, after_opening, refined_ballot};
+ghost use Rattle.la_proposer.specs.ProposerState.{after_refinement, is_nothing, closed};
+ghost use Rattle.la_proposer.specs.ProposerState.{learning_opens, after_learning};
 ghost use Rattle.la_proposer.specs.Refusals.{StepSpends};
 ghost use Rattle.la_proposer.specs.Clashes.{Fits};
 
@@ -16,7 +19,7 @@ impl Proposer {
     // Adds a submission to what waits.
     pub(super) fn hold(&mut self, object: u16, op: Op) -> Result<(), AllocError>
         requires { submitted self.old < self.old.cap }
-        ensures ok { OnOk result (self.new ≡ with_waiting self.old (record { object = object; op = op })) }
+        ensures ok { OnOk result (self.new ≡ with_waiting self.old (op_on object op)) }
         ensures err { OnErr result (self.new ≡ self.old) }
     {
         add_next(&mut self.submissions, self.own, object, op)?;
@@ -42,8 +45,10 @@ impl Proposer {
     pub(super) fn open_with(&mut self, object: u16, op: Op) -> Result<Ballot, AllocError>
         requires room { submitted self.old < self.old.cap }
         requires left { self.old.number < MAX_BALLOTS }
-        ensures opened { IfOk result (λ ballot. ballot ≡ next_ballot (with_waiting self.old (record { object = object; op = op }))) }
-        ensures ok { OnOk result (self.new ≡ after_opening (with_waiting self.old (record { object = object; op = op }))) }
+        ensures opened { IfOk result (λ ballot.
+            ballot ≡ next_ballot (with_waiting self.old (op_on object op))) }
+        ensures ok { OnOk result
+            (self.new ≡ after_opening (with_waiting self.old (op_on object op))) }
         ensures err { OnErr result (self.new ≡ self.old) }
     {
         let mut next = self.copy()?;
@@ -62,12 +67,15 @@ impl Proposer {
         ensures ok { OnOk result (self.new ≡ with_reply self.old from reply) }
         ensures err { OnErr result (self.new ≡ self.old) }
     {
+        // A hint for the clause `room`: of the capacity the prover learns that it is at least
+        // `INLINE_TALLY`.
         let _at_least_inline = self.tally.capacity();
         self.tally.push(Counted { from, reply })?;
         Ok(())
     }
 
-    // Ends the open ballot, and opens the one that joins what was refused. What waits goes on waiting.
+    // Ends the open ballot, and opens the one that joins what was refused. What waits goes on
+    // waiting.
     pub(super) fn refine(&mut self) -> Result<Ballot, AllocError>
         requires { self.old.number < MAX_BALLOTS }
         ensures opened { IfOk result (λ ballot. ballot ≡ refined_ballot self.old) }
@@ -92,7 +100,8 @@ impl Proposer {
         requires in_group { from < length self.old.votes }
         requires fits { Fits self.old reply }
         requires left { self.old.number < MAX_BALLOTS }
-        ensures opened { IfOk result (λ ballot. ballot ≡ refined_ballot (with_reply self.old from reply)) }
+        ensures opened { IfOk result (λ ballot.
+            ballot ≡ refined_ballot (with_reply self.old from reply)) }
         ensures ok { OnOk result (self.new ≡ after_refinement (with_reply self.old from reply)) }
         ensures err { OnErr result (self.new ≡ self.old) }
     {
@@ -106,7 +115,8 @@ impl Proposer {
     // Learns the open ballot's set. Where submissions wait a ballot opens at once.
     pub(super) fn learn(&mut self) -> Result<Heard, AllocError>
         requires { ¬ StepSpends (not (is_nothing self.old.waiting)) self.old }
-        ensures heard { IfOk result (λ heard. heard ≡ Heard.Learnt self.old.updates (learning_opens self.old)) }
+        ensures heard { IfOk result (λ heard.
+            heard ≡ Heard.Learnt self.old.updates (learning_opens self.old)) }
         ensures ok { OnOk result (self.new ≡ after_learning self.old) }
         ensures err { OnErr result (self.new ≡ self.old) }
     {

@@ -19,8 +19,8 @@ pub const WRONG_CALLS: [&[&str]; 10] = [
     &["lattice", "x", "play"],
 ];
 
-/// A play, by which read fails, how much room standard output and standard error have, and what comes
-/// of it.
+/// A play, by which read fails, how much room standard output and standard error have, and what
+/// comes of it.
 #[derive(Clone, Copy)]
 pub struct Case {
     pub script: &'static str,
@@ -183,8 +183,8 @@ pub const MISCALLED_UNHEARD: Case = Case {
     status: 2,
 };
 
-/// Whether a program whose words were not gathered, for this kind of error, ends with this status and
-/// tells this.
+/// Whether a program whose words were not gathered, for this kind of error, ends with this status
+/// and tells this.
 pub fn ends_without_words(alloc: Global, kind: ErrorKind, status: u8, told: &str) -> bool {
     let mut errors = wide_writer(alloc);
     let ended = end_without_words(kind, &mut errors);

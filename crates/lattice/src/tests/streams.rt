@@ -35,7 +35,8 @@ pub fn slow_reader(bytes: &[u8], each: usize, fails_at: usize) -> Slow<'_> {
     }
 }
 
-/// Gives the header of a script, and then `#` until there were so many bytes; at most `each` a read.
+/// Gives the header of a script, and then `#` until there were so many bytes; at most `each` a
+/// read.
 #[derive(Drop)]
 pub struct Filled {
     pub header: &'static [u8],

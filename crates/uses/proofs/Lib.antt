@@ -1,0 +1,5 @@
+pub mod Adding
+pub mod Tagging
+pub mod Viewing
+pub mod Runs
+pub mod Hearing

@@ -1,0 +1,97 @@
+-- What the laws of la_world say of a run's report.
+use Rattle.std.proofs.Common.{◌≡◌, ℕ, zero, suc, ◌+◌, ◌<◌, ◌⊎◌, inl, inr, Bool, true, false, cond, ◌&&◌, ◌==◌, List, [], ◌∷◌, ◌++◌, length, map, Contains, slice_get, slice_index_or, Option, Some, None, refl, sym, ◌∙◌, ap, ap₂, subst, subst₂, arith, eq-eqb}
+use Rattle.std.specs.Prelude.{reverse, Result, Ok, Err, IfOk, IfSome}
+use Rattle.std.specs.List.{range_with_len}
+use Rattle.std.proofs.lemmas.List.Elements.{Contains-append_left, Contains-append_right, Contains-append_cases}
+use Rattle.la_set.specs.Histories.{Histories}
+use Rattle.la_set.specs.Inclusion.{IsSubset}
+use Rattle.la_replica.specs.Messages.{group}
+use Rattle.la_world.specs.declared.config.Config.{Config}
+use Rattle.la_world.specs.declared.error.WorldError.{WorldError}
+use Rattle.la_world.specs.declared.report.Report.{Report}
+use Rattle.la_world.specs.declared.step.Opening.{Opening}
+use Rattle.la_world.specs.declared.step.Learnt.{Learnt}
+use Rattle.la_world.specs.Groups.{Group, group_of, replicas}
+use Rattle.la_world.specs.Events.{Event}
+use Rattle.la_world.specs.Trace.{Trace}
+use Rattle.la_world.specs.Ballots.{only, is_of, learnt_by}
+use Rattle.la_world.specs.Views.{set_of, told_to, seen_at, seen, view}
+use Rattle.la_world.specs.Playing.{trace}
+use Rattle.la_world.specs.Learnings.{learning, learning_of, learnt}
+use Rattle.la_world.specs.Report.{report, runs, views}
+use Rattle.la_world.specs.Laws.{AreComparable, LearntAreComparable, ViewsAreComparable, ViewsAreLargest}
+use Rattle.uses.specs.Promises.{AreAllComparable, AreOneHistory, ViewsHoldTheirOwn}
+
+-- the events of a list that are accepted, the newest first
+abbrev accepted : Config → List Event → List Event
+accepted c events = (runs (group_of c) (reverse events)).accepted
+
+pub run_comparable : LearntAreComparable → (c : Config) (events : List Event) (r : Result Report WorldError) → IfOk r (λ made. made ≡ report c events) → IfOk r (λ (made : Report). AreAllComparable made.learnt)
+run_comparable law c events (Ok made) e = subst (λ (m : Report). AreAllComparable m.learnt) (sym e) (law (group_of c) (accepted c events))
+run_comparable law c events (Err d) e = tt
+
+-- ## What a replica learnt in instance 0, it saw
+
+none_in : {A : Type 0} (x : A) → Contains [] x → ⊥
+none_in x c = omega (arith, c.1)
+
+the_one : {A : Type 0} (y x : A) → Contains (y ∷ []) x → y ≡ x
+the_one y x c = go c.0 c.1 c.2
+  where
+    go : (k : ℕ) → k < 1 → slice_index_or (y ∷ []) k x ≡ x → y ≡ x
+    go zero lt e = e
+    go (suc k) lt e = absurd (omega arith)
+
+own_set : (b : Opening) → b.instance ≡ 0 → Contains (set_of (only 0 b.replica (Some b))) b.updates
+own_set b e = subst (λ v. Contains (set_of (cond v (Some b) None)) b.updates) (sym (ap₂ (λ x y. x && y) (eq-eqb b.instance 0 e) (eq-eqb b.replica b.replica refl))) (0, omega arith, refl)
+
+learnt_now : (place : ℕ) (o : Option Opening) (x : Learnt) → Contains (learning_of place o) x → x.instance ≡ 0 → Contains (set_of (only 0 x.replica o)) x.updates
+learnt_now place None x c e = absurd (none_in x c)
+learnt_now place (Some b) x c e =
+    let same = the_one (learning place b) x c in
+    subst (λ (y : Learnt). Contains (set_of (only 0 y.replica (Some b))) y.updates) same (own_set b (ap (λ (y : Learnt). y.instance) same ∙ e))
+
+learnt_seen : (t : Trace) (x : Learnt) → Contains (learnt t) x → x.instance ≡ 0 → Contains (seen t x.replica) x.updates
+unfolding learnt seen
+learnt_seen [] x c e = absurd (none_in x c)
+learnt_seen (y ∷ t) x c e =
+    let r = x.replica in
+    let own = set_of (only 0 r (learnt_by y.did)) in
+    elim (Contains-append_cases (learnt t) (learning_of (length t) (learnt_by y.did)) x c) [
+      | inl old ↦ Contains-append_left (seen t r) (seen_at r y) x.updates (learnt_seen t x old e)
+      | inr new ↦ Contains-append_right (seen t r) (seen_at r y) x.updates (Contains-append_left own (told_to r y.delivered) x.updates (learnt_now (length t) (learnt_by y.did) x new e))
+    ]
+
+-- ## The views of a report
+
+-- what stands at a place of a list that is made from the numbers on
+each_from : {A : Type 0} (f : ℕ → A) (P : A → Type 0) (from n r : ℕ) → P (f (from + r)) → IfSome (slice_get (map f (range_with_len from n)) r) P
+each_from f P from zero r h = tt
+each_from f P from (suc n) zero h = let e : from + 0 ≡ from = omega arith in subst (λ k. P (f k)) e h
+each_from f P from (suc n) (suc r) h = let e : from + suc r ≡ (from + 1) + r = omega arith in each_from f P (from + 1) n r (subst (λ k. P (f k)) e h)
+
+views_hold : ViewsAreLargest → (g : Group) (events : List Event) → ViewsHoldTheirOwn (views g (trace g events)) (learnt (trace g events))
+views_hold law g events x c e =
+    let t = trace g events in
+    let r : x.replica ≡ 0 + x.replica = omega arith in
+    each_from (view t) (IsSubset x.updates) 0 (replicas g) x.replica (subst (λ k. IsSubset x.updates (view t k)) r ((law g events x.replica).contains x.updates (learnt_seen t x c e)))
+
+pub run_shows : ViewsAreLargest → (c : Config) (events : List Event) (r : Result Report WorldError) → IfOk r (λ made. made ≡ report c events) → IfOk r (λ (made : Report). ViewsHoldTheirOwn made.views made.learnt)
+run_shows law c events (Ok made) e = subst (λ (m : Report). ViewsHoldTheirOwn m.views m.learnt) (sym e) (views_hold law (group_of c) (accepted c events))
+run_shows law c events (Err d) e = tt
+
+-- what stands in such a list is made from one of the numbers
+made_from : (f : ℕ → Histories) (rs : List ℕ) (k : ℕ) (a : Histories) → k < length (map f rs) → slice_index_or (map f rs) k a ≡ a → (r : ℕ) × (f r ≡ a)
+made_from f [] k a lt e = absurd (omega arith)
+made_from f (r ∷ rs) zero a lt e = (r, e)
+made_from f (r ∷ rs) (suc k) a lt e = made_from f rs k a (omega arith) e
+
+views_comparable : ViewsAreComparable → (g : Group) (events : List Event) → AreOneHistory (views g (trace g events))
+views_comparable law g events a b c d =
+    let m = made_from (view (trace g events)) (group (replicas g)) c.0 a c.1 c.2 in
+    let n = made_from (view (trace g events)) (group (replicas g)) d.0 b d.1 d.2 in
+    subst₂ AreComparable m.1 n.1 (law g events 0 0 m.0 n.0)
+
+pub run_one_history : ViewsAreComparable → (c : Config) (events : List Event) (r : Result Report WorldError) → IfOk r (λ made. made ≡ report c events) → IfOk r (λ (made : Report). AreOneHistory made.views)
+run_one_history law c events (Ok made) e = subst (λ (m : Report). AreOneHistory m.views) (sym e) (views_comparable law (group_of c) (accepted c events))
+run_one_history law c events (Err d) e = tt

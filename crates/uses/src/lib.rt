@@ -1,0 +1,10 @@
+//! Callers of the library's crates, as a program of one's own would have them: each is proved from
+//! the contracts of what it calls. The pages CALLING.md and docs/GUIDE.md quote them word for word.
+#![tactic(auto)]
+
+pub mod acceptors;
+pub mod proposers;
+pub mod replicas;
+pub mod scripts;
+pub mod sets;
+pub mod worlds;
