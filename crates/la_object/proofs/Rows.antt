@@ -202,7 +202,7 @@ module _ {B : Type 0} (view : Histories) (f : B → State) (k : ℕ) (es : List 
       ∙ ap Some (sym (ap (λ s. tags_of s x) (lookup-agree view f k es v all found) ∙ tags-steps (kind_of (f v)) (updates_at view k) x (ascending-view view k)))
 
   pub lookup-state : (s : State) → s ≡ f v → state_at (record { view = view; objects = kinds (rows f es) }) k ≡ Some s
-  lookup-state s is = ap (option_map (λ kind. state_by view k kind)) found_kind ∙ ap Some (sym (is ∙ lookup-agree view f k es v all found))
+  lookup-state s is = ap (option_map (state_by view k)) found_kind ∙ ap Some (sym (is ∙ lookup-agree view f k es v all found))
 
   pub lookup-kind : IsSome (kind_at (kinds (rows f es)) k)
   lookup-kind = subst IsSome (sym found_kind) refl

@@ -1,4 +1,5 @@
--- A counter: what it takes from an operation, what it answers by its updates, and its state, the sum of its increments and that of its decrements.
+-- A counter: what it takes from an operation, what it answers by its updates, and its state, the
+-- sum of its increments and that of its decrements.
 use Rattle.std.specs.Prelude.{ℕ, ◌+◌, ◌≤◌, Bool, true, false, List, sum_by, pos, ◌-ℤ◌}
 use Rattle.la_set.specs.declared.update.Op.{Op}
 use Rattle.la_set.specs.declared.update.Op.TheVariants.{Inc, Dec}

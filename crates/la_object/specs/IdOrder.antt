@@ -19,7 +19,9 @@ abbrev pub IdSet : Type 0
 IdSet = set.FinSet id_cmp
 
 abbrev pub id_code : Coded UpdateId
-id_code = code_by (ℕ × ℕ) (coded× coded_ℕ coded_ℕ) (λ x. (x.replica, x.number)) (λ p. record { replica = p.0; number = p.1 }) (λ _. refl)
+id_code =
+    code_by (ℕ × ℕ) (coded× coded_ℕ coded_ℕ)
+    (λ x. (x.replica, x.number)) (λ p. record { replica = p.0; number = p.1 }) (λ _. refl)
 
 abbrev pub elements_code : Coded Elements
 elements_code = map.code id_code coded_ℕ

@@ -1,4 +1,5 @@
--- A max register: what it takes from an operation, what it answers by its updates, and its state, the largest value so far.
+-- A max register: what it takes from an operation, what it answers by its updates, and its state,
+-- the largest value so far.
 use Rattle.std.specs.Prelude.{ℕ, max, Bool, true, false, List, fold}
 use Rattle.la_set.specs.declared.update.Op.{Op}
 use Rattle.la_set.specs.declared.update.Op.TheVariants.{Raise}

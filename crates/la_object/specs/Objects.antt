@@ -1,4 +1,5 @@
--- Objects of all kinds: what an object answers by its updates, and the steps of a state by which it gets there.
+-- Objects of all kinds: what an object answers by its updates, and the steps of a state by which it
+-- gets there.
 use Rattle.std.specs.Prelude.{◌≡◌, ℕ, ◌==◌, Bool, true, false, List, [], fold, filter}
 use Rattle.std.specs.FinMap as map
 use Rattle.std.specs.FinSet as set

@@ -1,4 +1,6 @@
--- An observed-remove set: what it takes from an operation, what it answers by its updates, and its state, the elements that were put, by the ids of their Puts, and the ids that Removes name. An element is in the set where it has a live tag: the id of a Put of it that no Remove names.
+-- An observed-remove set: what it takes from an operation, what it answers by its updates, and its
+-- state, the elements that were put, by the ids of their Puts, and the ids that Removes name. An
+-- element is in the set where it has a live tag: the id of a Put of it that no Remove names.
 use Rattle.std.specs.Prelude.{ℕ, ◌==◌, ◌&&◌, not, Bool, true, false, List, [], filter, map as list_map, Option, Some, None, if◌then◌else◌}
 use Rattle.std.specs.List.{list_any, filter_map}
 use Rattle.std.specs.Ordering.{nat_cmp, eq_by_cmp}
@@ -72,13 +74,18 @@ with_ids gone ids = set.union gone (set.from_list ids)
 abbrev pub set_after : Elements → IdSet → Update → State
 set_after adds gone u = Set (with_element adds u.id (element u.op)) (with_ids gone (named u.op))
 
+-- whether an entry's id is not gone
+abbrev pub stays : IdSet → UpdateId × ℕ → Bool
+stays gone e = not (set.contains gone e.0)
+
 -- the elements that were put under ids that are not gone
 abbrev pub held : Elements → IdSet → set.FinSet nat_cmp
-held adds gone = set.from_list (list_map (λ e. e.1) (filter (λ e. not (set.contains gone e.0)) (map.entries adds)))
+held adds gone = set.from_list (list_map (λ e. e.1) (filter (stays gone) (map.entries adds)))
 
 -- the ids under which an element was put that are not gone, in ascending order
 abbrev pub held_tags : Elements → IdSet → ℕ → List UpdateId
-held_tags adds gone x = list_map (λ e. e.0) (filter (λ e. not (set.contains gone e.0) && (e.1 == x)) (map.entries adds))
+held_tags adds gone x =
+    list_map (λ e. e.0) (filter (λ e. stays gone e && (e.1 == x)) (map.entries adds))
 
 -- what an observed-remove set in this state answers
 abbrev pub set_reply : Elements → IdSet → Query → Answer

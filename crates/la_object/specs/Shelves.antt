@@ -1,4 +1,5 @@
--- A shelf, as contracts see it: the set of updates that was absorbed, and which kind of object has which number, in the order of addition.
+-- A shelf, as contracts see it: the set of updates that was absorbed, and which kind of object has
+-- which number, in the order of addition.
 use Rattle.std.specs.Prelude.{◌≡◌, ℕ, ◌<◌, ◌^◌, nat_eq, List, ◌∷◌, take, fold, map, All, Option, option_map}
 use Rattle.std.specs.Map.{lookup}
 use Rattle.indexmap.specs.IndexMap.{IndexMap}
@@ -32,21 +33,24 @@ state_by view number kind = steps (start kind) (updates_at view number)
 
 -- what the object under a number answers, by the view
 abbrev pub answer_at : ShelfState → ℕ → Query → Option Answer
-answer_at s number query = option_map (λ kind. value kind (updates_at s.view number) query) (kind_at s.objects number)
+answer_at s number query =
+    option_map (λ kind. value kind (updates_at s.view number) query) (kind_at s.objects number)
 
 -- the tags of an element that it observes
 abbrev pub tags_at : ShelfState → ℕ → ℕ → Option (List UpdateId)
-tags_at s number x = option_map (λ kind. tags_by kind (updates_at s.view number) x) (kind_at s.objects number)
+tags_at s number x =
+    option_map (λ kind. tags_by kind (updates_at s.view number) x) (kind_at s.objects number)
 
 -- its state
 abbrev pub state_at : ShelfState → ℕ → Option State
-state_at s number = option_map (λ kind. state_by s.view number kind) (kind_at s.objects number)
+state_at s number = option_map (state_by s.view number) (kind_at s.objects number)
 
 -- the view after the first k of some updates
 abbrev pub after_first : Histories → ℕ → List Update → Histories
 after_first view k us = fold push view (take k us)
 
--- the update that comes first of those that a set has beyond the view: it is the next of its replica, and pushed onto the view it leaves the others
+-- the update that comes first of those that a set has beyond the view: it is the next of its
+-- replica, and pushed onto the view it leaves the others
 pub record IsFirstBeyond (view set : Histories) (u : Update) : Type 0 where
   pub next : IsNext view u.id
   pub within : IsSubset (push view u) set

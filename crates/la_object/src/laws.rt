@@ -5,8 +5,10 @@ ghost use Rattle.la_set.specs.Histories.{Histories};
 ghost use Rattle.la_object.specs.declared.kind.Kind.{Kind};
 ghost use Rattle.la_object.specs.declared.query.Query.{Query};
 ghost use Rattle.la_object.specs.declared.state.State.{State};
-ghost use Rattle.la_object.specs.Objects.{after, steps, start, reply, value, tags_of, tags_by, is_of_kind, is_of_some_kind};
-ghost use Rattle.la_object.specs.Shelves.{ShelfState, updates_at, kind_at, answer_at, tags_at, state_at};
+ghost use Rattle.la_object.specs.Objects.{after, steps, start, reply, value, tags_of, tags_by};
+ghost use Rattle.la_object.specs.Objects.{is_of_kind, is_of_some_kind};
+ghost use Rattle.la_object.specs.Shelves.{ShelfState, updates_at, kind_at, answer_at, tags_at};
+ghost use Rattle.la_object.specs.Shelves.{state_at};
 
 use crate::MAX_SUM;
 

@@ -1,12 +1,16 @@
-ghost use Rattle.std.specs.Prelude.{◌≡◌, [], ◌∷◌, ◌++◌, map, length, slice_get, nat_eq, is_some, Some, None, IfOk, IfErr, OnOk, OnErr, MatchOption};
+ghost use Rattle.std.specs.Prelude.{◌≡◌, [], ◌∷◌, ◌++◌};
+ghost use Rattle.std.specs.Prelude.{map, length, slice_get, nat_eq, is_some, Some, None, IfOk};
+ghost use Rattle.std.specs.Prelude.{IfErr, OnOk, OnErr, MatchOption};
 ghost use Rattle.std.specs.Option.{option_copied};
 ghost use Rattle.std.specs.Map.{remove_entry};
 ghost use Rattle.la_set.specs.Histories.{empty, push, IsNext};
 ghost use Rattle.la_set.specs.Inclusion.{IsSubset};
 ghost use Rattle.la_set.specs.Difference.{beyond};
 ghost use Rattle.la_object.specs.Objects.{kind_of, IsFresh};
-ghost use Rattle.la_object.specs.Shelves.{kind_at, answer_at, tags_at, state_at, IsSmall, IsFirstBeyond};
-ghost use Rattle.la_object.specs.Refusals.{IsAddRefusal, IsAskRefusal, IsTagsRefusal, IsAbsorbRefusal};
+ghost use Rattle.la_object.specs.Shelves.{kind_at, answer_at, tags_at, state_at, IsSmall};
+ghost use Rattle.la_object.specs.Shelves.{IsFirstBeyond};
+ghost use Rattle.la_object.specs.Refusals.{IsAddRefusal, IsAskRefusal, IsTagsRefusal};
+ghost use Rattle.la_object.specs.Refusals.{IsAbsorbRefusal};
 
 use crate::{AbsorbError, Answer, ObserveError, Query, Replicated, ShelfError, State};
 use indexmap::IndexMap;

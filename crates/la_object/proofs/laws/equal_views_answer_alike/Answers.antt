@@ -10,4 +10,4 @@ pub returns-clause-tags : goal.returns-clause-tags
 returns-clause-tags c a b number x views there = λ i. option_map (λ kind. tags_by kind (updates_at (views i) number) x) (there i)
 
 pub returns-clause-states : goal.returns-clause-states
-returns-clause-states c a b number views there = λ i. option_map (λ kind. state_by (views i) number kind) (there i)
+returns-clause-states c a b number views there = λ i. option_map (state_by (views i) number) (there i)
