@@ -1,0 +1,11 @@
+pub mod IdOrder
+pub mod IdMaps
+pub mod Steps
+pub mod Presence
+pub mod Tags
+pub mod Orders
+pub mod Replies
+pub mod OwnOperations
+pub mod Views
+pub mod NewUpdates
+pub mod Rows

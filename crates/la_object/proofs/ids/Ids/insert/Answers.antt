@@ -1,0 +1,7 @@
+use Rattle.std.proofs.Common.{◌∙◌, ap}
+use Rattle.std.specs.FinSet as set
+use Rattle.la_object.proofs.IdMaps.{one_more}
+use Rattle.la_object.proofs.ids.Ids.insert.Goals as goal
+
+pub returns-clause-ok : goal.returns-clause-ok
+returns-clause-ok c = one_more c.self.inside.ids.keys c.insert.new.self.keys c.args.id c.in_ok-insert.ensures.updates.0 ∙ ap (λ s. set.insert s c.args.id) c.self.view_is

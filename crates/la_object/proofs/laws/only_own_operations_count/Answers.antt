@@ -1,0 +1,12 @@
+use Rattle.la_object.specs.Objects.{is_of_kind, is_of_some_kind}
+use Rattle.la_object.proofs.OwnOperations.{value-kept, tags_by-kept, of_no_kind}
+use Rattle.la_object.proofs.laws.only_own_operations_count.Goals as goal
+
+pub returns-clause-own : goal.returns-clause-own
+returns-clause-own c kind us query = value-kept kind (λ u. is_of_kind kind u.op) (λ u not. not) us query
+
+pub returns-clause-own_tags : goal.returns-clause-own_tags
+returns-clause-own_tags c kind us x = tags_by-kept kind (λ u. is_of_kind kind u.op) (λ u not. not) us x
+
+pub returns-clause-marks : goal.returns-clause-marks
+returns-clause-marks c kind us query = value-kept kind (λ u. is_of_some_kind u.op) (λ u not. of_no_kind kind u.op not) us query

@@ -1,0 +1,78 @@
+-- A shelf, as contracts see it: the set of updates that was absorbed, and which kind of object has
+-- which number, in the order of addition.
+use Rattle.std.specs.Prelude.{◌≡◌, ℕ, ◌<◌, ◌^◌, nat_eq, List, ◌∷◌, take, fold, map, All, Option, option_map}
+use Rattle.std.specs.Map.{lookup}
+use Rattle.indexmap.specs.IndexMap.{IndexMap}
+use Rattle.la_set.specs.declared.update.UpdateId.{UpdateId}
+use Rattle.la_set.specs.declared.update.Update.{Update}
+use Rattle.la_set.specs.Histories.{Histories, updates, push, IsNext}
+use Rattle.la_set.specs.Inclusion.{IsSubset}
+use Rattle.la_set.specs.Difference.{beyond}
+use Rattle.la_object.specs.declared.kind.Kind.{Kind}
+use Rattle.la_object.specs.declared.query.Query.{Query}
+use Rattle.la_object.specs.declared.query.Answer.{Answer}
+use Rattle.la_object.specs.declared.state.State.{State}
+use Rattle.la_object.specs.Counter.{increment, decrement}
+use Rattle.la_object.specs.Objects.{of_object, value, tags_by, start, kind_of, steps}
+
+pub record ShelfState : Type 0 where
+  pub view : Histories
+  pub objects : List (ℕ × Kind)
+
+-- the kind of the object under a number
+abbrev pub kind_at : List (ℕ × Kind) → ℕ → Option Kind
+kind_at objects number = lookup (nat_eq number) objects
+
+-- the updates of the object under a number
+abbrev pub updates_at : Histories → ℕ → List Update
+updates_at view number = of_object number (updates view)
+
+-- the state that these lead an object to
+abbrev pub state_by : Histories → ℕ → Kind → State
+state_by view number kind = steps (start kind) (updates_at view number)
+
+-- what the object under a number answers, by the view
+abbrev pub answer_at : ShelfState → ℕ → Query → Option Answer
+answer_at s number query =
+    option_map (λ kind. value kind (updates_at s.view number) query) (kind_at s.objects number)
+
+-- the tags of an element that it observes
+abbrev pub tags_at : ShelfState → ℕ → ℕ → Option (List UpdateId)
+tags_at s number x =
+    option_map (λ kind. tags_by kind (updates_at s.view number) x) (kind_at s.objects number)
+
+-- its state
+abbrev pub state_at : ShelfState → ℕ → Option State
+state_at s number = option_map (state_by s.view number) (kind_at s.objects number)
+
+-- the view after the first k of some updates
+abbrev pub after_first : Histories → ℕ → List Update → Histories
+after_first view k us = fold push view (take k us)
+
+-- the update that comes first of those that a set has beyond the view: it is the next of its
+-- replica, and pushed onto the view it leaves the others
+pub record IsFirstBeyond (view set : Histories) (u : Update) : Type 0 where
+  pub next : IsNext view u.id
+  pub within : IsSubset (push view u) set
+  pub left : beyond set view ≡ u ∷ beyond set (push view u)
+
+-- ## What a shelf keeps
+
+-- each number with its object's state
+abbrev pub states : {B S : Type 0} → (B → State) → IndexMap ℕ B S → List (ℕ × State)
+states f m = map (λ e. (e.0, f e.1)) m.entries
+
+abbrev pub kinds : List (ℕ × State) → List (ℕ × Kind)
+kinds ss = map (λ p. (p.0, kind_of p.1)) ss
+
+-- the state is the one that the object's updates of the view lead to
+abbrev pub IsObject : Histories → ℕ × State → Type 0
+IsObject view p = p.1 ≡ state_by view p.0 (kind_of p.1)
+
+-- the numbers in the update are those of a program
+abbrev pub IsSmall : Update → Type 0
+IsSmall u = (increment u.op < 2 ^ 32) × (decrement u.op < 2 ^ 32)
+
+pub record IsShelf (view : Histories) (ss : List (ℕ × State)) : Type 0 where
+  pub agree : All (IsObject view) ss
+  pub small : All IsSmall (updates view)

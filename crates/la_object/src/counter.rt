@@ -1,0 +1,80 @@
+ghost use Rattle.std.specs.Prelude.{◌≡◌, ◌<◌, ◌+◌, ◌^◌};
+ghost use Rattle.la_object.specs.declared.kind.Kind.TheVariants.{Counter as CounterKind};
+ghost use Rattle.la_object.specs.declared.state.State.TheVariants.{Counter as CounterIs};
+ghost use Rattle.la_object.specs.Objects.{start};
+
+use crate::{Answer, Kind, ObserveError, Query, Replicated, State};
+use la_set::{Op, Tags, Update};
+use std::alloc::{AllocError, Global};
+
+/// How large each of a counter's two sums may be for it to absorb one more update: 2^62.
+pub const MAX_SUM: u64 = 4_611_686_018_427_387_904;
+
+/// A counter: the sum of its increments and that of its decrements. No call takes memory, and each
+/// has constant cost.
+#[derive(Drop)]
+pub struct Counter {
+    alloc: Global,
+    up: u64,
+    down: u64,
+    ghost up_bounded: { up < 2 ^ 62 + 2 ^ 32 },
+    ghost down_bounded: { down < 2 ^ 62 + 2 ^ 32 },
+}
+
+impl Counter {
+    /// A counter that has absorbed nothing, which takes no memory.
+    pub fn new(alloc: Global) -> Counter
+        ensures { CounterIs result.up result.down ≡ start CounterKind }
+    {
+        Counter {
+            alloc,
+            up: 0,
+            down: 0,
+        }
+    }
+}
+
+impl Replicated for Counter {
+    ghost use Rattle.la_object.specs.declared.state.State.TheVariants.{Counter as CounterIs};
+
+    ghost state = { λ c. CounterIs c.up c.down };
+
+    fn kind(&self) -> Kind {
+        Kind::Counter
+    }
+
+    fn fresh(&self) -> bool {
+        self.up == 0 && self.down == 0
+    }
+
+    fn has_room(&self) -> bool {
+        self.up <= MAX_SUM && self.down <= MAX_SUM
+    }
+
+    fn absorb(&mut self, update: &Update) -> Result<(), AllocError> {
+        match &update.op {
+            Op::Inc(by) => self.up += *by as u64,
+            Op::Dec(by) => self.down += *by as u64,
+            _ => {}
+        }
+        Ok(())
+    }
+
+    fn ask(&self, query: &Query) -> Result<Answer, AllocError> {
+        Ok(match query {
+            Query::Total => Answer::Total(self.up as i64 - self.down as i64),
+            _ => Answer::Foreign,
+        })
+    }
+
+    fn observed(&self, _element: u64) -> Result<Tags, ObserveError> {
+        Ok(Tags::new(self.alloc))
+    }
+
+    fn state(&self) -> Result<State, AllocError> {
+        Ok(State::Counter {
+            up: self.up,
+            down: self.down,
+        })
+    }
+}

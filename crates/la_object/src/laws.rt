@@ -1,0 +1,57 @@
+// What the definitions mean: laws over all updates, sets and shelves, which no code runs.
+ghost use Rattle.std.specs.Prelude.{◌≡◌, ◌≢◌, ℕ, ◌^◌, List, filter, IsPermutation};
+ghost use Rattle.la_set.specs.declared.update.Update.{Update};
+ghost use Rattle.la_set.specs.Histories.{Histories};
+ghost use Rattle.la_object.specs.declared.kind.Kind.{Kind};
+ghost use Rattle.la_object.specs.declared.query.Query.{Query};
+ghost use Rattle.la_object.specs.declared.state.State.{State};
+ghost use Rattle.la_object.specs.Objects.{after, steps, start, reply, value, tags_of, tags_by};
+ghost use Rattle.la_object.specs.Objects.{is_of_kind, is_of_some_kind};
+ghost use Rattle.la_object.specs.Shelves.{ShelfState, updates_at, kind_at, answer_at, tags_at};
+ghost use Rattle.la_object.specs.Shelves.{state_at};
+
+use crate::MAX_SUM;
+
+/// The limit of a counter's sums, as a number: contracts name it, and so follow it wherever it
+/// goes.
+pub fn limits()
+    ensures { MAX_SUM ≡ 2 ^ 62 }
+{}
+
+/// In whatever order an object absorbs its updates of a set, each once, it answers by what they
+/// are, and observes their live tags. Two steps with different ids commute.
+pub fn order_does_not_matter()
+    ensures commute { (s : State) (u v : Update)
+        → u.id ≢ v.id → after (after s u) v ≡ after (after s v) u }
+    ensures answers { (kind : Kind) (set : Histories) (number : ℕ) (order : List Update)
+        (query : Query) → IsPermutation (updates_at set number) order
+        → reply (steps (start kind) order) query ≡ value kind (updates_at set number) query }
+    ensures tags { (kind : Kind) (set : Histories) (number : ℕ) (order : List Update) (x : ℕ)
+        → IsPermutation (updates_at set number) order
+        → tags_of (steps (start kind) order) x ≡ tags_by kind (updates_at set number) x }
+{}
+
+/// Only the operations of an object's own kind count: the answers over updates are those over the
+/// ones of the kind, and those over the ones that are no `Mark` and no `Vote`.
+pub fn only_own_operations_count()
+    ensures own { (kind : Kind) (us : List Update) (query : Query)
+        → value kind (filter (λ u. is_of_kind kind u.op) us) query ≡ value kind us query }
+    ensures own_tags { (kind : Kind) (us : List Update) (x : ℕ)
+        → tags_by kind (filter (λ u. is_of_kind kind u.op) us) x ≡ tags_by kind us x }
+    ensures marks { (kind : Kind) (us : List Update) (query : Query)
+        → value kind (filter (λ u. is_of_some_kind u.op) us) query ≡ value kind us query }
+{}
+
+/// Two shelves with equal views, and objects of one kind under a number, answer every query alike,
+/// whatever came on the way there; they observe the same tags, and retire the same state.
+pub fn equal_views_answer_alike()
+    ensures answers { (a b : ShelfState) (number : ℕ) (query : Query)
+        → a.view ≡ b.view → kind_at a.objects number ≡ kind_at b.objects number
+        → answer_at a number query ≡ answer_at b number query }
+    ensures tags { (a b : ShelfState) (number x : ℕ)
+        → a.view ≡ b.view → kind_at a.objects number ≡ kind_at b.objects number
+        → tags_at a number x ≡ tags_at b number x }
+    ensures states { (a b : ShelfState) (number : ℕ)
+        → a.view ≡ b.view → kind_at a.objects number ≡ kind_at b.objects number
+        → state_at a number ≡ state_at b number }
+{}

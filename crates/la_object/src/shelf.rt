@@ -1,0 +1,261 @@
+ghost use Rattle.std.specs.Prelude.{◌≡◌, [], ◌∷◌, ◌++◌};
+ghost use Rattle.std.specs.Prelude.{map, length, slice_get, nat_eq, is_some, Some, None, IfOk};
+ghost use Rattle.std.specs.Prelude.{IfErr, OnOk, OnErr, MatchOption};
+ghost use Rattle.std.specs.Option.{option_copied};
+ghost use Rattle.std.specs.Map.{remove_entry};
+ghost use Rattle.la_set.specs.Histories.{empty, push, IsNext};
+ghost use Rattle.la_set.specs.Inclusion.{IsSubset};
+ghost use Rattle.la_set.specs.Difference.{beyond};
+ghost use Rattle.la_object.specs.Objects.{kind_of, IsFresh};
+ghost use Rattle.la_object.specs.Shelves.{kind_at, answer_at, tags_at, state_at, IsSmall};
+ghost use Rattle.la_object.specs.Shelves.{IsFirstBeyond};
+ghost use Rattle.la_object.specs.Refusals.{IsAddRefusal, IsAskRefusal, IsTagsRefusal};
+ghost use Rattle.la_object.specs.Refusals.{IsAbsorbRefusal};
+
+use crate::{AbsorbError, Answer, ObserveError, Query, Replicated, ShelfError, State};
+use indexmap::IndexMap;
+use la_set::{Op, REPLICAS, Tags, Update, UpdateId, UpdateSet};
+use std::alloc::{AllocError, Global};
+use std::marker::Model;
+
+/// Objects under numbers, in the order of their addition, and the view: the set of updates that
+/// they have absorbed, each object those of its number.
+///
+/// A shelf of objects of several kinds is a `Shelf<Box<dyn Replicated + Send>>`; one of a single
+/// type needs no box.
+#[derive(Drop)]
+pub struct Shelf<B: Replicated> {
+    objects: IndexMap<u16, B>,
+    view: UpdateSet,
+}
+
+impl<B: Replicated> Model for Shelf<B> {
+    ghost use Rattle.la_object.specs.Shelves.{ShelfState, states, kinds, IsShelf};
+
+    ghost Value = { ShelfState };
+
+    ghost view = { λ s. record { view = s.view; objects = kinds (states B.state s.objects) } };
+
+    ghost invariant = { λ s. IsShelf s.view (states B.state s.objects) };
+}
+
+impl<B: Replicated> Shelf<B> {
+    /// A shelf without objects that has absorbed nothing. It takes no memory.
+    pub fn new(alloc: Global) -> Shelf<B>
+        ensures { result ≡ record { view = empty; objects = [] } }
+    {
+        Shelf {
+            objects: IndexMap::new(alloc),
+            view: UpdateSet::new(alloc),
+        }
+    }
+
+    /// What was absorbed.
+    pub fn view(&self) -> &UpdateSet
+        ensures { result.now ≡ self.now.view }
+    {
+        &self.view
+    }
+
+    /// Whether an object stands under the number.
+    pub fn has(&self, number: u16) -> bool
+        ensures { result ≡ is_some (kind_at self.now.objects number) }
+    {
+        self.objects.contains_key(&number)
+    }
+
+    /// The number of the object at a place, from 0, in the order of addition. A retirement closes
+    /// up.
+    pub fn at(&self, place: usize) -> Option<u16>
+        ensures { result ≡ slice_get (map (λ o. o.0) self.now.objects) place }
+    {
+        match self.objects.get_index(place) {
+            Some((number, _)) => Some(*number),
+            None => None,
+        }
+    }
+
+    /// Asks the object under a number. The answer is what the query's definition says of the
+    /// object's updates of the view. `NoSuchObject` comes exactly where there is none.
+    pub fn ask(&self, number: u16, query: &Query) -> Result<Answer, ShelfError>
+        ensures ok { IfOk result (λ answer. answer_at self.now number query.now ≡ Some answer) }
+        ensures error { IfErr result (IsAskRefusal (kind_at self.now.objects number)) }
+    {
+        let Some(object) = self.objects.get(&number) else {
+            return Err(ShelfError::NoSuchObject);
+        };
+        match object.ask(query) {
+            Ok(answer) => Ok(answer),
+            Err(_) => Err(ShelfError::Memory),
+        }
+    }
+
+    /// The live tags of an element of the object under a number, by the view. `NoSuchObject` comes
+    /// exactly where there is none, and `TooManyTags`, where memory is there, exactly where the
+    /// live tags are more than a `Remove` may name.
+    pub fn observed(&self, number: u16, element: u64) -> Result<Tags, ShelfError>
+        ensures ok { IfOk result (λ tags. tags_at self.now number element ≡ Some tags) }
+        ensures error { IfErr result (IsTagsRefusal (tags_at self.now number element)) }
+    {
+        let Some(object) = self.objects.get(&number) else {
+            return Err(ShelfError::NoSuchObject);
+        };
+        match object.observed(element) {
+            Ok(tags) => Ok(tags),
+            Err(ObserveError::TooManyTags) => Err(ShelfError::TooManyTags),
+            Err(ObserveError::Memory) => Err(ShelfError::Memory),
+        }
+    }
+
+    /// Adds an object in its kind's start state, which first absorbs its updates of the view, in
+    /// one pass. `Taken` comes exactly where the number has an object, and else `NotFresh` exactly
+    /// where the object has absorbed something that changed it. After a refusal the shelf is
+    /// unchanged, and the object is dropped.
+    pub fn add(&mut self, number: u16, object: B) -> Result<(), ShelfError>
+        ensures ok { OnOk result (self.new ≡ record self.old {
+          objects = self.old.objects ++ (number, kind_of (B.state object)) ∷ [];
+        }) }
+        ensures absent { OnOk result (kind_at self.old.objects number ≡ None) }
+        ensures fresh { OnOk result (IsFresh (B.state object)) }
+        ensures error { IfErr result
+            (IsAddRefusal (kind_at self.old.objects number) (B.state object)) }
+        ensures err { OnErr result (self.new ≡ self.old) }
+    {
+        if self.has(number) {
+            return Err(ShelfError::Taken);
+        }
+        if !object.fresh() {
+            return Err(ShelfError::NotFresh);
+        }
+        let mut added = object;
+        for place in 0..self.view.len() {
+            if let Some(update) = self.view.at(place) {
+                if update.object == number {
+                    let Ok(()) = added.absorb(update) else {
+                        return Err(ShelfError::Memory);
+                    };
+                }
+            }
+        }
+        let Ok(_) = self.objects.insert(number, added) else {
+            return Err(ShelfError::Memory);
+        };
+        Ok(())
+    }
+
+    /// Lets each object absorb what the set has of its number beyond the view, in the order of ids
+    /// and once each, and answers how many updates those are; the set is then the view. `Smaller`
+    /// comes exactly where the set does not contain the view. After `Memory` the view is the old
+    /// one with the first `done` of these updates. The cost is that of the inclusion test, and then
+    /// a logarithmic one for each new update.
+    pub fn absorb(&mut self, set: &UpdateSet) -> Result<u64, AbsorbError>
+        ensures ok { OnOk result (self.new ≡ record self.old { view = set.now }) }
+        ensures many { IfOk result (λ many. many ≡ length (beyond set.now self.old.view)) }
+        ensures contained { OnOk result (IsSubset self.old.view set.now) }
+        ensures error { IfErr result (IsAbsorbRefusal self.old set.now self.new) }
+    {
+        if !set.contains_all(self.view()) {
+            return Err(AbsorbError::Smaller);
+        }
+        let Ok(whole) = set.copy() else {
+            return Err(AbsorbError::Memory { done: 0 });
+        };
+        let _limited = set.len();
+        let mut done = 0;
+        while let Some(update) = first_beyond(self.view(), set) {
+            let Ok(()) = self.absorb_next(update) else {
+                return Err(AbsorbError::Memory { done });
+            };
+            done += 1;
+        }
+        self.share(whole);
+        Ok(done)
+    }
+
+    // Absorbs one update that comes next of its replica, at constant cost beside the object's.
+    fn absorb_next(&mut self, update: &Update) -> Result<(), AllocError>
+        requires { IsNext self.old.view update.now.id }
+        ensures ok { OnOk result (self.new ≡ record self.old {
+          view = push self.old.view update.now;
+        }) }
+        ensures err { OnErr result (self.new ≡ self.old) }
+    {
+        tell_small(update);
+        let _limited = self.view.len();
+        let copy = update.copy()?;
+        let mut larger = self.view.copy()?;
+        let Ok(()) = larger.push(copy) else {
+            return Err(AllocError);
+        };
+        let Some(place) = self.objects.get_index_of(&update.object) else {
+            self.view = larger;
+            return Ok(());
+        };
+        let Ok(()) = self.objects[place].absorb(update) else {
+            return Err(AllocError);
+        };
+        self.view = larger;
+        Ok(())
+    }
+
+    // Takes an equal set in the view's place, so that the two share their updates.
+    fn share(&mut self, set: UpdateSet)
+        requires { set ≡ self.old.view }
+        ensures { self.new ≡ self.old }
+    {
+        self.view = set;
+    }
+
+    /// Copies the state of the object under a number, and then takes the object out and drops it.
+    /// The view keeps its updates. `NoSuchObject` comes exactly where there is none. After a
+    /// refusal the shelf is unchanged.
+    pub fn retire(&mut self, number: u16) -> Result<State, ShelfError>
+        ensures ok { IfOk result (λ state. state_at self.old number ≡ Some state) }
+        ensures rest { OnOk result (self.new ≡ record self.old {
+          objects = remove_entry (nat_eq number) self.old.objects;
+        }) }
+        ensures error { IfErr result (IsAskRefusal (kind_at self.old.objects number)) }
+        ensures err { OnErr result (self.new ≡ self.old) }
+    {
+        let Some(object) = self.objects.get(&number) else {
+            return Err(ShelfError::NoSuchObject);
+        };
+        let Ok(state) = object.state() else {
+            return Err(ShelfError::Memory);
+        };
+        self.objects.shift_remove(&number);
+        Ok(state)
+    }
+}
+
+// The numbers in an update are a program's.
+fn tell_small(update: &Update)
+    ensures { IsSmall update.now }
+{
+    match &update.op {
+        Op::Inc(by) => {
+            let _number = *by;
+        }
+        Op::Dec(by) => {
+            let _number = *by;
+        }
+        _ => {}
+    }
+}
+
+// The first update, in the order of ids, that a set has beyond one that lies in it.
+fn first_beyond<'a>(view: &UpdateSet, set: &'a UpdateSet) -> Option<&'a Update>
+    requires { IsSubset view.now set.now }
+    ensures { MatchOption (option_copied result)
+        (beyond set.now view.now ≡ [])
+        (λ update. IsFirstBeyond view.now set.now update) }
+{
+    for replica in 0..REPLICAS {
+        let count = view.count_of(replica);
+        if count < set.count_of(replica) {
+            let number = count + 1;
+            return set.get(UpdateId { replica, number });
+        }
+    }
+    None
+}
