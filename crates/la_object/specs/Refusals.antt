@@ -48,10 +48,11 @@ IsTagsRefusal tags Memory = IsSome tags
 IsTagsRefusal tags Taken = ⊥
 IsTagsRefusal tags NotFresh = ⊥
 
--- the new view is the old one with the first k of the updates that the set has beyond it
+-- the new view is the old one with the first k of the updates that the set has beyond it, and not
+-- with all of them
 abbrev pub HasAbsorbed : ShelfState → Histories → ShelfState → ℕ → Type 0
 HasAbsorbed old set new k =
-    (k ≤ length (beyond set old.view))
+    (k < length (beyond set old.view))
     × (new ≡ record old { view = after_first old.view k (beyond set old.view) })
 
 -- an absorption, and what it leaves: a set that does not contain the view, and then nothing has

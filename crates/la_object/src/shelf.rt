@@ -157,9 +157,6 @@ impl<B: Replicated> Shelf<B> {
         if !set.contains_all(self.view()) {
             return Err(AbsorbError::Smaller);
         }
-        let Ok(whole) = set.copy() else {
-            return Err(AbsorbError::Memory { done: 0 });
-        };
         let _limited = set.len();
         let mut done = 0;
         while let Some(update) = first_beyond(self.view(), set) {
@@ -168,7 +165,7 @@ impl<B: Replicated> Shelf<B> {
             };
             done += 1;
         }
-        self.share(whole);
+        self.share(set);
         Ok(done)
     }
 
@@ -198,12 +195,15 @@ impl<B: Replicated> Shelf<B> {
         Ok(())
     }
 
-    // Takes an equal set in the view's place, so that the two share their updates.
-    fn share(&mut self, set: UpdateSet)
-        requires { set ≡ self.old.view }
+    // Takes a copy of an equal set in the view's place, so that the two share their updates; the
+    // view stays where the set has as many copies as can be counted.
+    fn share(&mut self, set: &UpdateSet)
+        requires { set.now ≡ self.old.view }
         ensures { self.new ≡ self.old }
     {
-        self.view = set;
+        if let Ok(copy) = set.copy() {
+            self.view = copy;
+        }
     }
 
     /// Copies the state of the object under a number, and then takes the object out and drops it.
