@@ -1,10 +1,10 @@
-use Rattle.std.proofs.Common.{◌≡◌, [], ◌∷◌, drop, length, sym, ap, ◌∙◌, subst, arith, rules}
+use Rattle.std.proofs.Common.{◌≡◌, [], ◌∷◌, drop, length, Ok, sym, ap, ◌∙◌, subst, arith, rules}
 use Rattle.std.proofs.lemmas.List.{length-drop}
 use Rattle.la_set.specs.Histories.{Histories, updates, push}
 use Rattle.la_set.specs.Inclusion.{IsSubset}
 use Rattle.la_set.specs.Difference.{beyond, lacks}
 use Rattle.la_object.specs.Shelves.{ShelfState, IsFirstBeyond}
-use Rattle.la_object.proofs.NewUpdates.{length-filter-le, after_first-next, drop-next, nothing_left}
+use Rattle.la_object.proofs.NewUpdates.{length-filter-le, after_first-next, drop-next, drop-within, nothing_left, nothing_new}
 use Rattle.la_object.proofs.shelf.Shelf.absorb.Goals as goal
 
 pub overflow_add-done : goal.overflow_add-done
@@ -23,7 +23,7 @@ loop-update-preserved g c =
           ∙ ap (λ v. record c.args.self.now { view = v }) (sym (after_first-next old all k u rest next));
       left = ap (beyond set) pushed ∙ sym (drop-next all k u rest next);
       within = subst (λ (v : Histories). IsSubset v set) (sym pushed) first.within;
-      few = omega (arith, ap length next, length-drop k all, c.loop-update.invariant.few);
+      few = omega (arith, drop-within all k u rest next);
     }
 
 pub share-requires-after_bounds : goal.share-requires-after_bounds
@@ -53,4 +53,15 @@ returns-in_default-absorb_next-clause-error g c =
     let first : IsFirstBeyond view set u = subst (λ (v : Histories). IsFirstBeyond v set u) c.view-in-loop-update.ensures c.in-Some.ensures in
     let next : drop k all ≡ u ∷ rest = sym c.loop-update.invariant.left ∙ first.left in
     let sub : IsSubset old set = search rules in
-    (sub, (omega (arith, ap length next, length-drop k all), c.in_default-absorb_next.ensures.err ∙ c.loop-update.invariant.so_far))
+    (sub, (drop-within all k u rest next, c.in_default-absorb_next.ensures.err ∙ c.loop-update.invariant.so_far))
+
+pub returns-in_default-absorb_next-clause-again : goal.returns-in_default-absorb_next-clause-again
+returns-in_default-absorb_next-clause-again g c =
+    let old = c.args.self.now.view in let set = c.args.set.now in let view = c.loop-update.self.view in let k = c.loop-update.done in let u = c.in-Some.update.now in
+    let all = beyond set old in let rest = beyond set (push view u) in
+    let first : IsFirstBeyond view set u = subst (λ (v : Histories). IsFirstBeyond v set u) c.view-in-loop-update.ensures c.in-Some.ensures in
+    let next : drop k all ≡ u ∷ rest = sym c.loop-update.invariant.left ∙ first.left in
+    λ same. absurd (omega (arith, drop-within all k u rest next, nothing_new old set same))
+
+pub returns-clause-again : goal.returns-clause-again
+returns-clause-again g c = λ same. ap (λ n. Ok n) {x = c.loop-update.done} {y = 0} (omega (arith, c.loop-update.invariant.few, nothing_new c.args.self.now.view c.args.set.now same))
