@@ -1,5 +1,5 @@
 -- When each call is refused, and how: a word for each call, by cases over the error.
-use Rattle.std.specs.Prelude.{◌≡◌, ℕ, ◌<◌, ◌≤◌, List, length, Option, IsSome, IsSomeAnd, None}
+use Rattle.std.specs.Prelude.{◌≡◌, ℕ, ◌<◌, List, length, Option, IsSome, IsSomeAnd, None}
 use Rattle.la_set.specs.declared.tags.TheConstants.{MAX_TAGS}
 use Rattle.la_set.specs.declared.update.UpdateId.{UpdateId}
 use Rattle.la_set.specs.Histories.{Histories}
