@@ -2,7 +2,7 @@
 use Rattle.std.proofs.Common.{◌≡◌, ◌≢◌, ℕ, zero, suc, ◌+◌, ◌<◌, ◌≤◌, Bool, true, false, cond, List, [], ◌∷◌, ◌++◌, length, take, drop, filter, get_or, Contains, Option, Some, None, option_map, refl, ap, sym, ◌∙◌, subst, arith, inl, inr}
 use Rattle.std.specs.List.{slice_get}
 use Rattle.std.specs.Option.{MatchOption}
-use Rattle.std.proofs.lemmas.List.{take-append-drop, length-append, drop_all}
+use Rattle.std.proofs.lemmas.List.{take-append-drop, length-append, length-drop, drop_all}
 use Rattle.std.proofs.lemmas.List.Elements.{filter-append}
 use Rattle.std.proofs.lemmas.Bool.{not_from_true, not_from_false, cases_eq, cases_Bool}
 use Rattle.std.proofs.lemmas.Option.{same_Some, none-some}
@@ -14,7 +14,7 @@ use Rattle.la_set.specs.Difference.{lacks, beyond}
 use Rattle.la_set.proofs.NumberedLists.{numbered-append}
 use Rattle.la_set.proofs.SetHistories.{history-with_same, history-with_other}
 use Rattle.la_set.proofs.Prefixes.{IsPrefix}
-use Rattle.la_set.proofs.Inclusions.{subset-prefix, prefix-subset, subset-antisym, contains-object_op, object_op-contains}
+use Rattle.la_set.proofs.Inclusions.{subset-prefix, prefix-subset, subset-refl, subset-antisym, contains-object_op, object_op-contains}
 use Rattle.la_set.proofs.Filters.{Contains-none, contains-filter}
 use Rattle.la_set.proofs.Membership.{contains-listed}
 use Rattle.la_set.proofs.Places.{get_past}
@@ -206,3 +206,10 @@ nothing_left a b sub none = subset-antisym a b sub (λ u there. elim (cases_Bool
 pub length-filter-le : (p : Update → Bool) (us : List Update) → length (filter p us) ≤ length us
 length-filter-le p [] = omega arith
 length-filter-le p (u ∷ us) = let rest = length-filter-le p us in elim (p u) as (λ b. length (cond b (u ∷ filter p us) (filter p us)) ≤ length (u ∷ us)) [ true ↦ omega (arith, rest) | false ↦ omega (arith, rest) ]
+
+pub drop-within : (us : List Update) (n : ℕ) (u : Update) (rest : List Update) → drop n us ≡ u ∷ rest → n < length us
+drop-within us n u rest e = omega (arith, ap length e, length-drop n us)
+
+-- a set has nothing beyond itself
+pub nothing_new : (a b : Histories) → b ≡ a → length (beyond b a) ≡ 0
+nothing_new a b same = ap (λ s. length (beyond s a)) same ∙ ap length (nothing_beyond a a (subset-refl a) (λ q lt. omega arith))

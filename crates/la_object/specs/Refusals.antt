@@ -1,5 +1,5 @@
 -- When each call is refused, and how: a word for each call, by cases over the error.
-use Rattle.std.specs.Prelude.{◌≡◌, ℕ, ◌<◌, ◌≤◌, List, length, Option, IsSome, IsSomeAnd, None}
+use Rattle.std.specs.Prelude.{◌≡◌, ℕ, ◌<◌, List, length, Option, IsSome, IsSomeAnd, None}
 use Rattle.la_set.specs.declared.tags.TheConstants.{MAX_TAGS}
 use Rattle.la_set.specs.declared.update.UpdateId.{UpdateId}
 use Rattle.la_set.specs.Histories.{Histories}
@@ -48,10 +48,11 @@ IsTagsRefusal tags Memory = IsSome tags
 IsTagsRefusal tags Taken = ⊥
 IsTagsRefusal tags NotFresh = ⊥
 
--- the new view is the old one with the first k of the updates that the set has beyond it
+-- the new view is the old one with the first k of the updates that the set has beyond it, and not
+-- with all of them
 abbrev pub HasAbsorbed : ShelfState → Histories → ShelfState → ℕ → Type 0
 HasAbsorbed old set new k =
-    (k ≤ length (beyond set old.view))
+    (k < length (beyond set old.view))
     × (new ≡ record old { view = after_first old.view k (beyond set old.view) })
 
 -- an absorption, and what it leaves: a set that does not contain the view, and then nothing has

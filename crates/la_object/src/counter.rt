@@ -1,7 +1,7 @@
-ghost use Rattle.std.specs.Prelude.{◌≡◌, ◌<◌, ◌+◌, ◌^◌};
+ghost use Rattle.std.specs.Prelude.{◌≡◌, ◌<◌, ◌+◌, ◌^◌, [], Ok, IsOk, OnOk};
 ghost use Rattle.la_object.specs.declared.kind.Kind.TheVariants.{Counter as CounterKind};
 ghost use Rattle.la_object.specs.declared.state.State.TheVariants.{Counter as CounterIs};
-ghost use Rattle.la_object.specs.Objects.{start};
+ghost use Rattle.la_object.specs.Objects.{start, after, reply, HasRoom};
 
 use crate::{Answer, Kind, ObserveError, Query, Replicated, State};
 use la_set::{Op, Tags, Update};
@@ -10,8 +10,8 @@ use std::alloc::{AllocError, Global};
 /// How large each of a counter's two sums may be for it to absorb one more update: 2^62.
 pub const MAX_SUM: u64 = 4_611_686_018_427_387_904;
 
-/// A counter: the sum of its increments and that of its decrements. No call takes memory, and each
-/// has constant cost.
+/// A counter: the sum of its increments and that of its decrements. No call takes memory, so each
+/// succeeds; and each has constant cost.
 #[derive(Drop)]
 pub struct Counter {
     alloc: Global,
@@ -51,7 +51,12 @@ impl Replicated for Counter {
         self.up <= MAX_SUM && self.down <= MAX_SUM
     }
 
-    fn absorb(&mut self, update: &Update) -> Result<(), AllocError> {
+    fn absorb(&mut self, update: &Update) -> Result<(), AllocError>
+        requires { HasRoom (CounterIs self.old.up self.old.down) }
+        ensures room { IsOk result }
+        ensures ok { OnOk result (CounterIs self.new.up self.new.down
+            ≡ after (CounterIs self.old.up self.old.down) update.now) }
+    {
         match &update.op {
             Op::Inc(by) => self.up += *by as u64,
             Op::Dec(by) => self.down += *by as u64,
@@ -60,18 +65,24 @@ impl Replicated for Counter {
         Ok(())
     }
 
-    fn ask(&self, query: &Query) -> Result<Answer, AllocError> {
+    fn ask(&self, query: &Query) -> Result<Answer, AllocError>
+        ensures { result ≡ Ok (reply (CounterIs self.now.up self.now.down) query.now) }
+    {
         Ok(match query {
             Query::Total => Answer::Total(self.up as i64 - self.down as i64),
             _ => Answer::Foreign,
         })
     }
 
-    fn observed(&self, _element: u64) -> Result<Tags, ObserveError> {
+    fn observed(&self, _element: u64) -> Result<Tags, ObserveError>
+        ensures { result ≡ Ok [] }
+    {
         Ok(Tags::new(self.alloc))
     }
 
-    fn state(&self) -> Result<State, AllocError> {
+    fn state(&self) -> Result<State, AllocError>
+        ensures { result ≡ Ok (CounterIs self.now.up self.now.down) }
+    {
         Ok(State::Counter {
             up: self.up,
             down: self.down,

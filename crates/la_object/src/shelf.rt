@@ -1,5 +1,5 @@
 ghost use Rattle.std.specs.Prelude.{◌≡◌, [], ◌∷◌, ◌++◌};
-ghost use Rattle.std.specs.Prelude.{map, length, slice_get, nat_eq, is_some, Some, None, IfOk};
+ghost use Rattle.std.specs.Prelude.{map, length, slice_get, nat_eq, is_some, Some, None, Ok, IfOk};
 ghost use Rattle.std.specs.Prelude.{IfErr, OnOk, OnErr, MatchOption};
 ghost use Rattle.std.specs.Option.{option_copied};
 ghost use Rattle.std.specs.Map.{remove_entry};
@@ -145,21 +145,19 @@ impl<B: Replicated> Shelf<B> {
 
     /// Lets each object absorb what the set has of its number beyond the view, in the order of ids
     /// and once each, and answers how many updates those are; the set is then the view. `Smaller`
-    /// comes exactly where the set does not contain the view. After `Memory` the view is the old
-    /// one with the first `done` of these updates. The cost is that of the inclusion test, and then
-    /// a logarithmic one for each new update.
+    /// comes exactly where the set does not contain the view. After `Memory` the view is the old one
+    /// with the first `done` of these updates. Where the set is the view no memory is taken. The cost
+    /// is that of the inclusion test, and then a logarithmic one for each new update.
     pub fn absorb(&mut self, set: &UpdateSet) -> Result<u64, AbsorbError>
         ensures ok { OnOk result (self.new ≡ record self.old { view = set.now }) }
         ensures many { IfOk result (λ many. many ≡ length (beyond set.now self.old.view)) }
         ensures contained { OnOk result (IsSubset self.old.view set.now) }
         ensures error { IfErr result (IsAbsorbRefusal self.old set.now self.new) }
+        ensures again { set.now ≡ self.old.view → result ≡ Ok 0 }
     {
         if !set.contains_all(self.view()) {
             return Err(AbsorbError::Smaller);
         }
-        let Ok(whole) = set.copy() else {
-            return Err(AbsorbError::Memory { done: 0 });
-        };
         let _limited = set.len();
         let mut done = 0;
         while let Some(update) = first_beyond(self.view(), set) {
@@ -168,7 +166,7 @@ impl<B: Replicated> Shelf<B> {
             };
             done += 1;
         }
-        self.share(whole);
+        self.share(set);
         Ok(done)
     }
 
@@ -198,12 +196,15 @@ impl<B: Replicated> Shelf<B> {
         Ok(())
     }
 
-    // Takes an equal set in the view's place, so that the two share their updates.
-    fn share(&mut self, set: UpdateSet)
-        requires { set ≡ self.old.view }
+    // Takes a copy of an equal set in the view's place, so that the two share their updates; the
+    // view stays where the set has as many copies as can be counted.
+    fn share(&mut self, set: &UpdateSet)
+        requires { set.now ≡ self.old.view }
         ensures { self.new ≡ self.old }
     {
-        self.view = set;
+        if let Ok(copy) = set.copy() {
+            self.view = copy;
+        }
     }
 
     /// Copies the state of the object under a number, and then takes the object out and drops it.
