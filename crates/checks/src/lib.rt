@@ -8,6 +8,8 @@ mod acceptor;
 #[cfg(test)]
 mod given;
 #[cfg(test)]
+mod object;
+#[cfg(test)]
 mod proposer;
 #[cfg(test)]
 mod replica;
