@@ -10,6 +10,8 @@ mod callers;
 #[cfg(test)]
 mod given;
 #[cfg(test)]
+mod object;
+#[cfg(test)]
 mod proposer;
 #[cfg(test)]
 mod replica;

@@ -1,5 +1,6 @@
 // The texts of the errors, as programs print them, against fixed strings.
 use la_acceptor::AcceptorError;
+use la_object::{AbsorbError, ObserveError, ShelfError};
 use la_proposer::{BadConfig, ProposerError};
 use la_replica::ReplicaError;
 use la_script::{FaultName, ReadError, ScriptFault};
@@ -61,6 +62,29 @@ const OF_WORLDS: [(WorldError, &str); 5] = [
     (WorldError::Memory, "out of memory"),
 ];
 
+const OF_OBJECTS: [(ObserveError, &str); 2] = [
+    (ObserveError::TooManyTags, "more than 64 live tags"),
+    (ObserveError::Memory, "out of memory"),
+];
+
+const OF_SHELVES: [(ShelfError, &str); 5] = [
+    (ShelfError::Taken, "an object has this number"),
+    (ShelfError::NotFresh, "the object is not fresh"),
+    (ShelfError::NoSuchObject, "no object has this number"),
+    (ShelfError::TooManyTags, "more than 64 live tags"),
+    (ShelfError::Memory, "out of memory"),
+];
+
+const OF_ABSORBING: [(AbsorbError, &str); 2] = [
+    (AbsorbError::Smaller, "the set does not contain the view"),
+    (
+        AbsorbError::Memory {
+            done: 18_446_744_073_709_551_615,
+        },
+        "out of memory after 18446744073709551615 updates",
+    ),
+];
+
 const FIRST: ScriptFault = ScriptFault {
     line: 1,
     name: FaultName::BadHeader,
@@ -109,6 +133,13 @@ fn errors_of_the_protocol_are_shown_so(rt: HostRuntime) {
     assert!(rt; all_show(alloc, &OF_SETS) && all_show(alloc, &OF_ACCEPTORS));
     assert!(rt; all_show(alloc, &OF_VOTES) && all_show(alloc, &OF_PROPOSERS));
     assert!(rt; all_show(alloc, &OF_REPLICAS) && all_show(alloc, &OF_WORLDS));
+}
+
+#[test]
+fn errors_of_objects_are_shown_so(rt: HostRuntime) {
+    let alloc = rt.alloc();
+    assert!(rt; all_show(alloc, &OF_OBJECTS) && all_show(alloc, &OF_SHELVES));
+    assert!(rt; all_show(alloc, &OF_ABSORBING));
 }
 
 #[test]

@@ -1,0 +1,161 @@
+// Updates of several objects from tables, boxed objects, and what a shelf answers. A call that was
+// refused for want of memory is made again, after a look at what stands: so the tests pass with
+// every single allocation failing too.
+use crate::set::helpers::{Does, update_of as update_of_1};
+use la_object::{AbsorbError, Answer, Counter, MaxRegister, Query, Replicated, Shelf, ShelfError};
+use la_set::{Op, Update, UpdateId, UpdateSet};
+use std::alloc::{AllocError, Global};
+use std::process::Abort;
+
+// The object, the replica, the number, and what is done.
+pub type Row = (u16, u8, u32, Does);
+
+pub fn update_of(rt: &impl Abort, alloc: Global, row: &Row) -> Update {
+    let (object, replica, number, does) = *row;
+    let Update { id, op, .. } = update_of_1(rt, alloc, &(replica, number, does));
+    Update { id, object, op }
+}
+
+pub fn set_of(rt: &impl Abort, alloc: Global, rows: &[Row]) -> UpdateSet {
+    let mut set = UpdateSet::new(alloc);
+    for row in rows {
+        let first = set.push(update_of(rt, alloc, row)).is_ok();
+        assert!(rt; first || set.push(update_of(rt, alloc, row)).is_ok());
+    }
+    set
+}
+
+// An increment of the object under a number.
+fn inc(object: u16, by: u32) -> Update {
+    let id = UpdateId {
+        replica: 0,
+        number: 1,
+    };
+    Update {
+        id,
+        object,
+        op: Op::Inc(by),
+    }
+}
+
+// ## Objects in boxes
+
+pub type Object = Box<dyn Replicated + Send>;
+
+#[derive(Clone, Copy)]
+pub enum Made {
+    Counter,
+    // A counter that has absorbed an increment of 1.
+    UsedCounter,
+    Register,
+}
+
+fn used_counter(alloc: Global) -> Result<Counter, AllocError> {
+    let mut counter = Counter::new(alloc);
+    if counter.has_room() {
+        counter.absorb(&inc(2, 1))?;
+    }
+    Ok(counter)
+}
+
+// Objects that are made by name: so a table says which, whatever their type.
+pub trait ByName: Replicated {
+    fn make(alloc: Global, made: Made) -> Result<Self, AllocError>;
+}
+
+impl ByName for Box<dyn Replicated + Send> {
+    fn make(alloc: Global, made: Made) -> Result<Box<dyn Replicated + Send>, AllocError> {
+        Ok(match made {
+            Made::Counter => Box::new(alloc, Counter::new(alloc))?,
+            Made::UsedCounter => Box::new(alloc, used_counter(alloc)?)?,
+            Made::Register => Box::new(alloc, MaxRegister::new(alloc))?,
+        })
+    }
+}
+
+fn object_of<B: ByName>(rt: &impl Abort, alloc: Global, made: Made) -> B {
+    match B::make(alloc, made) {
+        Ok(object) => object,
+        Err(_) => B::make(alloc, made).expect(rt, "memory is there again"),
+    }
+}
+
+// Adds an object, and looks that a refusal leaves its number free.
+pub fn add<B: ByName>(
+    rt: &impl Abort,
+    alloc: Global,
+    shelf: &mut Shelf<B>,
+    number: u16,
+    made: Made,
+) -> Result<(), ShelfError> {
+    let first = shelf.add(number, object_of(rt, alloc, made));
+    if first != Err(ShelfError::Memory) {
+        return first;
+    }
+    assert!(rt; !shelf.has(number));
+    shelf.add(number, object_of(rt, alloc, made))
+}
+
+// ## What a shelf does and answers
+
+fn has_grown<B: Replicated>(shelf: &Shelf<B>, before: usize, by: u64) -> bool {
+    let now = shelf.view().len();
+    now >= before && (now - before) as u64 == by
+}
+
+// Absorbs once: whether it stops for want of memory, and says how far it came.
+pub fn stops<B: Replicated>(shelf: &mut Shelf<B>, set: &UpdateSet) -> bool {
+    let before = shelf.view().len();
+    match shelf.absorb(set) {
+        Err(AbsorbError::Memory { done }) => has_grown(shelf, before, done),
+        _ => false,
+    }
+}
+
+// Absorbs a set, and goes on where it stopped for want of memory.
+pub fn absorb<B: Replicated>(
+    rt: &impl Abort,
+    shelf: &mut Shelf<B>,
+    set: &UpdateSet,
+) -> Result<u64, AbsorbError> {
+    let before = shelf.view().len();
+    match shelf.absorb(set) {
+        Err(AbsorbError::Memory { done }) => {
+            assert!(rt; has_grown(shelf, before, done));
+            match shelf.absorb(set) {
+                Ok(more) => Ok(done.saturating_add(more)),
+                refused => refused,
+            }
+        }
+        first => first,
+    }
+}
+
+// What is to be answered.
+#[derive(Clone, Copy)]
+pub enum Wanted {
+    Total(i64),
+    Largest(u64),
+    Foreign,
+    NoSuchObject,
+}
+
+// Asking a counter or a register takes no memory.
+pub fn answers<B: Replicated>(
+    shelf: &Shelf<B>,
+    number: u16,
+    query: &Query,
+    wanted: &Wanted,
+) -> bool {
+    match (shelf.ask(number, query), wanted) {
+        (Ok(Answer::Total(total)), Wanted::Total(due)) => total == *due,
+        (Ok(Answer::Largest(largest)), Wanted::Largest(due)) => largest == *due,
+        (Ok(Answer::Foreign), Wanted::Foreign) => true,
+        (Err(ShelfError::NoSuchObject), Wanted::NoSuchObject) => true,
+        _ => false,
+    }
+}
+
+pub fn totals<B: Replicated>(shelf: &Shelf<B>, number: u16, total: i64) -> bool {
+    answers(shelf, number, &Query::Total, &Wanted::Total(total))
+}

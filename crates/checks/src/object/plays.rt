@@ -1,0 +1,184 @@
+// What is done to a shelf, as tables, and what comes of it. Its objects are boxes of both kinds.
+use super::helpers::{ByName, Made, Object, Row, Wanted, absorb, add, answers, set_of};
+use crate::set::helpers::Does;
+use la_object::{AbsorbError, Query, Replicated, Shelf, ShelfError, State, laws};
+use std::alloc::Global;
+use std::process::Abort;
+
+// What a retired object was.
+#[derive(Clone, Copy)]
+enum Was {
+    Counter(u64, u64),
+    Register(u64),
+    NoObject,
+}
+
+enum Act {
+    Adds(u16, Made, Result<(), ShelfError>),
+    Absorbs(&'static [Row], Result<u64, AbsorbError>),
+    Answers(u16, Query, Wanted),
+    // How many tags of element 7 the object under a number observes.
+    Observes(u16, Result<usize, ShelfError>),
+    Retires(u16, Was),
+    // The objects have these numbers, in this order.
+    Lists(&'static [u16]),
+}
+
+fn observes<B: Replicated>(
+    shelf: &Shelf<B>,
+    number: u16,
+    wanted: &Result<usize, ShelfError>,
+) -> bool {
+    match (shelf.observed(number, 7), wanted) {
+        (Ok(tags), Ok(count)) => tags.len() == *count,
+        (Err(refusal), Err(due)) => refusal == *due,
+        _ => false,
+    }
+}
+
+// Retiring a counter or a register takes no memory.
+fn retires<B: Replicated>(shelf: &mut Shelf<B>, number: u16, was: &Was) -> bool {
+    match (shelf.retire(number), was) {
+        (Ok(State::Counter { up, down }), Was::Counter(ups, downs)) => up == *ups && down == *downs,
+        (Ok(State::Max { largest }), Was::Register(due)) => largest == *due,
+        (Err(ShelfError::NoSuchObject), Was::NoObject) => true,
+        _ => false,
+    }
+}
+
+fn lists<B: Replicated>(shelf: &Shelf<B>, numbers: &[u16]) -> bool {
+    for (place, number) in numbers.iter().enumerate() {
+        if shelf.at(place) != Some(*number) || !shelf.has(*number) {
+            return false;
+        }
+    }
+    shelf.at(numbers.len()).is_none()
+}
+
+fn comes_true<B: ByName>(rt: &impl Abort, alloc: Global, shelf: &mut Shelf<B>, act: &Act) -> bool {
+    match act {
+        Act::Adds(number, made, wanted) => add(rt, alloc, shelf, *number, *made) == *wanted,
+        Act::Absorbs(rows, wanted) => absorb(rt, shelf, &set_of(rt, alloc, rows)) == *wanted,
+        Act::Answers(number, query, wanted) => answers(shelf, *number, query, wanted),
+        Act::Observes(number, wanted) => observes(shelf, *number, wanted),
+        Act::Retires(number, was) => retires(shelf, *number, was),
+        Act::Lists(numbers) => lists(shelf, numbers),
+    }
+}
+
+fn play<R: Abort, B: ByName>(rt: &R, alloc: Global, acts: &[Act]) {
+    let mut shelf: Shelf<B> = Shelf::new(alloc);
+    for (place, act) in acts.iter().enumerate() {
+        assert!(rt; comes_true(rt, alloc, &mut shelf, act), "act {place}");
+    }
+}
+
+// ## A counter
+
+const FIVE: &[Row] = &[(1, 0, 1, Does::Inc(5))];
+
+const FIVE_LESS_TWO: &[Row] = &[(1, 0, 1, Does::Inc(5)), (1, 1, 1, Does::Dec(2))];
+
+const A_COUNTER: [Act; 20] = [
+    Act::Adds(1, Made::Counter, Ok(())),
+    Act::Absorbs(FIVE, Ok(1)),
+    Act::Answers(1, Query::Total, Wanted::Total(5)),
+    Act::Absorbs(FIVE_LESS_TWO, Ok(1)),
+    Act::Answers(1, Query::Total, Wanted::Total(3)),
+    Act::Absorbs(FIVE_LESS_TWO, Ok(0)),
+    Act::Answers(1, Query::Total, Wanted::Total(3)),
+    Act::Adds(1, Made::Counter, Err(ShelfError::Taken)),
+    Act::Absorbs(FIVE, Err(AbsorbError::Smaller)),
+    Act::Retires(1, Was::Counter(5, 2)),
+    Act::Answers(1, Query::Total, Wanted::NoSuchObject),
+    Act::Retires(1, Was::NoObject),
+    Act::Lists(&[]),
+    Act::Adds(1, Made::Counter, Ok(())),
+    Act::Answers(1, Query::Total, Wanted::Total(3)),
+    Act::Adds(2, Made::UsedCounter, Err(ShelfError::NotFresh)),
+    Act::Adds(1, Made::UsedCounter, Err(ShelfError::Taken)),
+    Act::Adds(0, Made::Register, Ok(())),
+    Act::Answers(0, Query::Largest, Wanted::Largest(0)),
+    Act::Lists(&[1, 0]),
+];
+
+#[test]
+fn a_counter_absorbs_each_update_once(rt: HostRuntime) {
+    play::<_, Object>(&rt, rt.alloc(), &A_COUNTER);
+}
+
+// ## Several objects
+
+// The last Raise of a register is not its largest. A Raise is nothing to the counter 4, a Mark or a
+// Vote to none, and no object has the number 6.
+const OF_FOUR: &[Row] = &[
+    (7, 0, 1, Does::Raise(9)),
+    (7, 0, 2, Does::Raise(2)),
+    (3, 0, 3, Does::Raise(5)),
+    (4, 0, 4, Does::Dec(4_294_967_295)),
+    (5, 1, 1, Does::Raise(18_446_744_073_709_551_615)),
+    (5, 1, 2, Does::Mark),
+    (3, 1, 3, Does::Raise(4)),
+    (4, 1, 4, Does::Raise(8)),
+    (4, 2, 1, Does::Inc(1)),
+    (5, 2, 2, Does::Raise(1)),
+    (6, 2, 3, Does::Raise(3)),
+    (7, 7, 1, Does::Vote(11, true)),
+];
+
+// The counter comes after its updates. The register 3 is retired, and the places close up.
+const FOUR_OBJECTS: [Act; 13] = [
+    Act::Adds(7, Made::Register, Ok(())),
+    Act::Adds(3, Made::Register, Ok(())),
+    Act::Adds(5, Made::Register, Ok(())),
+    Act::Absorbs(OF_FOUR, Ok(12)),
+    Act::Adds(4, Made::Counter, Ok(())),
+    Act::Answers(7, Query::Largest, Wanted::Largest(9)),
+    Act::Answers(3, Query::Largest, Wanted::Largest(5)),
+    Act::Answers(
+        5,
+        Query::Largest,
+        Wanted::Largest(18_446_744_073_709_551_615),
+    ),
+    Act::Answers(4, Query::Total, Wanted::Total(-4_294_967_294)),
+    Act::Answers(6, Query::Largest, Wanted::NoSuchObject),
+    Act::Lists(&[7, 3, 5, 4]),
+    Act::Retires(3, Was::Register(5)),
+    Act::Lists(&[7, 5, 4]),
+];
+
+#[test]
+fn objects_are_told_apart_by_number(rt: HostRuntime) {
+    play::<_, Object>(&rt, rt.alloc(), &FOUR_OBJECTS);
+}
+
+// ## Queries of other kinds
+
+const FOREIGN: [Act; 13] = [
+    Act::Adds(0, Made::Counter, Ok(())),
+    Act::Adds(65_535, Made::Register, Ok(())),
+    Act::Answers(0, Query::Largest, Wanted::Foreign),
+    Act::Answers(0, Query::Has(0), Wanted::Foreign),
+    Act::Answers(0, Query::Size, Wanted::Foreign),
+    Act::Answers(0, Query::Items, Wanted::Foreign),
+    Act::Answers(65_535, Query::Total, Wanted::Foreign),
+    Act::Answers(65_535, Query::Has(0), Wanted::Foreign),
+    Act::Answers(65_535, Query::Size, Wanted::Foreign),
+    Act::Answers(65_535, Query::Items, Wanted::Foreign),
+    Act::Observes(0, Ok(0)),
+    Act::Observes(65_535, Ok(0)),
+    Act::Observes(1, Err(ShelfError::NoSuchObject)),
+];
+
+#[test]
+fn queries_of_other_kinds_are_foreign(rt: HostRuntime) {
+    play::<_, Object>(&rt, rt.alloc(), &FOREIGN);
+}
+
+#[test]
+fn laws_of_objects_have_no_work(_rt: HostRuntime) {
+    laws::limits();
+    laws::order_does_not_matter();
+    laws::only_own_operations_count();
+    laws::equal_views_answer_alike();
+}
