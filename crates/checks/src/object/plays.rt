@@ -1,7 +1,7 @@
 // What is done to a shelf, as tables, and what comes of it. Its objects are boxes of both kinds.
 use super::helpers::{ByName, Made, Object, Row, Wanted, absorb, add, answers, set_of};
 use crate::set::helpers::Does;
-use la_object::{AbsorbError, Query, Replicated, Shelf, ShelfError, State, laws};
+use la_object::{AbsorbError, Query, Replicated, Shelf, ShelfError, State};
 use std::alloc::Global;
 use std::process::Abort;
 
@@ -173,12 +173,4 @@ const FOREIGN: [Act; 13] = [
 #[test]
 fn queries_of_other_kinds_are_foreign(rt: HostRuntime) {
     play::<_, Object>(&rt, rt.alloc(), &FOREIGN);
-}
-
-#[test]
-fn laws_of_objects_have_no_work(_rt: HostRuntime) {
-    laws::limits();
-    laws::order_does_not_matter();
-    laws::only_own_operations_count();
-    laws::equal_views_answer_alike();
 }
