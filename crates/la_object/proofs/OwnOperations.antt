@@ -3,6 +3,7 @@ use Rattle.std.proofs.Common.{◌≡◌, ℕ, max, Bool, true, false, true≢fal
 use Rattle.std.specs.Prelude.{pos, ◌-ℤ◌}
 use Rattle.std.specs.List.{sum_by, list_any, filter_map, cons_option}
 use Rattle.std.specs.Ordering.{eq_by_cmp}
+use Rattle.std.specs.FinMap as map
 use Rattle.std.specs.FinSet as set
 use Rattle.std.proofs.lemmas.Bool.{cases_Bool}
 use Rattle.std.proofs.lemmas.List.Sums.{sum_by-cons}
@@ -18,7 +19,7 @@ use Rattle.la_object.specs.declared.query.Answer.TheVariants.{Total as TotalIs, 
 use Rattle.la_object.specs.IdOrder.{id_cmp}
 use Rattle.la_object.specs.Counter.{counts, increment, decrement}
 use Rattle.la_object.specs.MaxRegister.{raises, raised}
-use Rattle.la_object.specs.OrSet.{puts_or_removes, element, named, is_removed, live, present, is_element, live_tags}
+use Rattle.la_object.specs.OrSet.{puts_or_removes, element, named, is_removed, live, present, element_set, is_element, live_tags}
 use Rattle.la_object.specs.Objects.{value, tags_by, is_of_kind, is_of_some_kind}
 
 -- ## What a kind takes from the operations of others
@@ -118,7 +119,7 @@ module _ (keeps : Update → Bool) where
     live-none u not = ap (λ o. cond (is_removed us u.id) None o) (puts u not) ∙ elim (is_removed us u.id) as (λ b. cond {A = Option ℕ} b None None ≡ None) [ true ↦ refl | false ↦ refl ]
 
     present-kept : present (filter keeps us) ≡ present us
-    present-kept = (λ i. set.from_list (filter_map (λ u. live-kept u i) (filter keeps us))) ∙ ap (λ xs. set.from_list xs) (read-kept (live us) live-none us)
+    present-kept = (λ i. element_set (filter_map (λ u. live-kept u i) (filter keeps us))) ∙ ap element_set (read-kept (live us) live-none us)
 
     tags-kept : (x : ℕ) → live_tags (filter keeps us) x ≡ live_tags us x
     tags-kept x =
@@ -142,9 +143,9 @@ value-kept MaxRegister keeps others us Size = refl
 value-kept MaxRegister keeps others us Items = refl
 value-kept OrSet keeps others us Total = refl
 value-kept OrSet keeps others us Largest = refl
-value-kept OrSet keeps others us (Has x) = ap (λ s. HasIs (set.contains s x)) (present-kept keeps (λ u not. no_element u.op (others u not)) (λ u not. no_names u.op (others u not)) us)
-value-kept OrSet keeps others us Size = ap (λ s. SizeIs (set.len s)) (present-kept keeps (λ u not. no_element u.op (others u not)) (λ u not. no_names u.op (others u not)) us)
-value-kept OrSet keeps others us Items = ap (λ s. ItemsAre (set.items s)) (present-kept keeps (λ u not. no_element u.op (others u not)) (λ u not. no_names u.op (others u not)) us)
+value-kept OrSet keeps others us (Has x) = ap (λ s. HasIs (map.contains_key s x)) (present-kept keeps (λ u not. no_element u.op (others u not)) (λ u not. no_names u.op (others u not)) us)
+value-kept OrSet keeps others us Size = ap (λ s. SizeIs (map.len s)) (present-kept keeps (λ u not. no_element u.op (others u not)) (λ u not. no_names u.op (others u not)) us)
+value-kept OrSet keeps others us Items = ap (λ s. ItemsAre (map.keys s)) (present-kept keeps (λ u not. no_element u.op (others u not)) (λ u not. no_names u.op (others u not)) us)
 
 pub tags_by-kept : (kind : Kind) (keeps : Update → Bool) → LeavesOutOthers kind keeps → (us : List Update) (x : ℕ) → tags_by kind (filter keeps us) x ≡ tags_by kind us x
 tags_by-kept CounterKind keeps others us x = refl

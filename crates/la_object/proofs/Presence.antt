@@ -14,7 +14,7 @@ use Rattle.la_set.specs.declared.update.UpdateId.{UpdateId}
 use Rattle.la_set.specs.declared.update.Update.{Update}
 use Rattle.la_object.specs.IdOrder.{id_cmp, Elements, IdSet}
 use Rattle.la_object.specs.declared.state.State.TheVariants.{Set}
-use Rattle.la_object.specs.OrSet.{element, named, is_removed, live, present, held, with_element, with_ids}
+use Rattle.la_object.specs.OrSet.{element, named, is_removed, live, present, held, with_element, with_ids, element_set}
 use Rattle.la_object.specs.Objects.{steps}
 use Rattle.la_object.proofs.IdOrder.{id_cmp_total, id_cmp-IsAntisymmetric}
 use Rattle.la_object.proofs.Steps.{AllOther, or_else, get-with_element, or_else-None}
@@ -140,16 +140,24 @@ AreNew-empty (u ∷ us) = (map.get-empty id_cmp u.id, AreNew-empty us)
 pub entries-empty : map.entries (map.empty {X = ℕ} {R = id_cmp}) ≡ []
 entries-empty = nil_from_length _ (sym (map.len-entries map.empty) ∙ map.len-empty id_cmp ℕ)
 
+-- whether an element is in the set of some elements
+pub get-element_set : (xs : List ℕ) (x : ℕ) → map.get (element_set xs) x ≡ cond (list_any (eq_by_cmp nat_cmp x) xs) (Some (tt {0})) None
+get-element_set [] x = map.get-empty nat_cmp x
+get-element_set (y ∷ ys) x =
+    map.get-insert nat_cmp_total (element_set ys) y tt x
+    ∙ ap (cond (eq_by_cmp nat_cmp x y) (Some (tt {0}))) (get-element_set ys x)
+    ∙ elim (eq_by_cmp nat_cmp x y) as (λ b. cond b (Some (tt {0})) (cond (list_any (eq_by_cmp nat_cmp x) ys) (Some (tt {0})) None) ≡ cond (b || list_any (eq_by_cmp nat_cmp x) ys) (Some (tt {0})) None) [ true ↦ refl | false ↦ refl ]
+
 -- the elements that the steps hold are those that are present
 pub held-present : (us : List Update) → IsDistinctList us → held (adds_after map.empty us) (gone_after set.empty us) ≡ present us
 unfolding left
-held-present us distinct = set.same_set nat_cmp_total nat_cmp-IsAntisymmetric _ _ (λ x.
+held-present us distinct = map.same_map nat_cmp_total nat_cmp-IsAntisymmetric _ _ (λ x.
     let gone = gone_after set.empty us in let q : UpdateId → Bool = λ id. not (set.contains gone id) in let eq = eq_by_cmp nat_cmp x in
     let removed : (id : UpdateId) → set.contains gone id ≡ is_removed us id = λ id. contains-gone_after set.empty us id ∙ ap (λ b. b || is_removed us id) (set.contains-empty id_cmp id) in
     let alike : (u : Update) → left q u.id (element u.op) ≡ live us u = λ u. ap (λ b. cond (not b) (element u.op) None) (removed u.id) ∙ elim (is_removed us u.id) as (λ b. cond (not b) (element u.op) None ≡ cond b None (element u.op)) [ true ↦ refl | false ↦ refl ] in
-    set.contains-from_list nat_cmp_total _ x
-    ∙ any-map-filter eq q (map.entries (adds_after map.empty us))
+    get-element_set _ x
+    ∙ ap (λ b. cond b (Some (tt {0})) None) (any-map-filter eq q (map.entries (adds_after map.empty us))
     ∙ held-after q x map.empty us (AreNew-empty us) distinct
     ∙ ap (λ es. list_any (passes q x) es || list_any eq (filter_map (λ (u : Update). left q u.id (element u.op)) us)) entries-empty
-    ∙ (λ i. list_any eq (filter_map (λ u. alike u i) us))
-    ∙ sym (set.contains-from_list nat_cmp_total (filter_map (live us) us) x))
+    ∙ (λ i. list_any eq (filter_map (λ u. alike u i) us)))
+    ∙ sym (get-element_set (filter_map (live us) us) x))

@@ -91,9 +91,9 @@ reply-steps MaxRegister us Size distinct = ap (λ s. reply s Size) (steps-Max 0 
 reply-steps MaxRegister us Items distinct = ap (λ s. reply s Items) (steps-Max 0 us)
 reply-steps OrSet us Total distinct = ap (λ s. reply s Total) (steps-Set map.empty set.empty us)
 reply-steps OrSet us Largest distinct = ap (λ s. reply s Largest) (steps-Set map.empty set.empty us)
-reply-steps OrSet us (Has x) distinct = ap (λ s. reply s (Has x)) (steps-Set map.empty set.empty us) ∙ ap (λ s. HasIs (set.contains s x)) (held-present us distinct)
-reply-steps OrSet us Size distinct = ap (λ s. reply s Size) (steps-Set map.empty set.empty us) ∙ ap (λ s. SizeIs (set.len s)) (held-present us distinct)
-reply-steps OrSet us Items distinct = ap (λ s. reply s Items) (steps-Set map.empty set.empty us) ∙ ap (λ s. ItemsAre (set.items s)) (held-present us distinct)
+reply-steps OrSet us (Has x) distinct = ap (λ s. reply s (Has x)) (steps-Set map.empty set.empty us) ∙ ap (λ s. HasIs (map.contains_key s x)) (held-present us distinct)
+reply-steps OrSet us Size distinct = ap (λ s. reply s Size) (steps-Set map.empty set.empty us) ∙ ap (λ s. SizeIs (map.len s)) (held-present us distinct)
+reply-steps OrSet us Items distinct = ap (λ s. reply s Items) (steps-Set map.empty set.empty us) ∙ ap (λ s. ItemsAre (map.keys s)) (held-present us distinct)
 
 -- and so are the tags that it observes
 pub tags-steps : (kind : Kind) (us : List Update) (x : ℕ) → IsAscendingList us → tags_of (steps (start kind) us) x ≡ tags_by kind us x

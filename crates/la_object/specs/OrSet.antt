@@ -42,9 +42,17 @@ is_removed us id = list_any (λ u. list_any (eq_by_cmp id_cmp id) (named u.op)) 
 abbrev pub live : List Update → Update → Option ℕ
 live us u = if is_removed us u.id then None else element u.op
 
+-- a finite set of elements: the keys of a map to nothing more, since those can be listed
+abbrev pub ElementSet : Type 0
+ElementSet = map.FinMap nat_cmp (Unit {0})
+
+-- the set of these elements, however often each stands there
+abbrev pub element_set : List ℕ → ElementSet
+element_set xs = map.from_entries (list_map (λ x. (x, tt)) xs)
+
 -- the elements with a live tag
-abbrev pub present : List Update → set.FinSet nat_cmp
-present us = set.from_list (filter_map (live us) us)
+abbrev pub present : List Update → ElementSet
+present us = element_set (filter_map (live us) us)
 
 -- whether an element that may be there is x
 abbrev pub is_element : ℕ → Option ℕ → Bool
@@ -57,9 +65,9 @@ live_tags us x = list_map (λ u. u.id) (filter (λ u. is_element x (live us u)) 
 
 -- what an observed-remove set with these updates answers; its elements in ascending order
 abbrev pub set_value : List Update → Query → Answer
-set_value us (Has x) = HasIs (set.contains (present us) x)
-set_value us Size = SizeIs (set.len (present us))
-set_value us Items = ItemsAre (set.items (present us))
+set_value us (Has x) = HasIs (map.contains_key (present us) x)
+set_value us Size = SizeIs (map.len (present us))
+set_value us Items = ItemsAre (map.keys (present us))
 set_value us _ = Foreign
 
 -- a Put whose id is there changes nothing
@@ -79,8 +87,8 @@ abbrev pub stays : IdSet → UpdateId × ℕ → Bool
 stays gone e = not (set.contains gone e.0)
 
 -- the elements that were put under ids that are not gone
-abbrev pub held : Elements → IdSet → set.FinSet nat_cmp
-held adds gone = set.from_list (list_map (λ e. e.1) (filter (stays gone) (map.entries adds)))
+abbrev pub held : Elements → IdSet → ElementSet
+held adds gone = element_set (list_map (λ e. e.1) (filter (stays gone) (map.entries adds)))
 
 -- the ids under which an element was put that are not gone, in ascending order
 abbrev pub held_tags : Elements → IdSet → ℕ → List UpdateId
@@ -89,7 +97,7 @@ held_tags adds gone x =
 
 -- what an observed-remove set in this state answers
 abbrev pub set_reply : Elements → IdSet → Query → Answer
-set_reply adds gone (Has x) = HasIs (set.contains (held adds gone) x)
-set_reply adds gone Size = SizeIs (set.len (held adds gone))
-set_reply adds gone Items = ItemsAre (set.items (held adds gone))
+set_reply adds gone (Has x) = HasIs (map.contains_key (held adds gone) x)
+set_reply adds gone Size = SizeIs (map.len (held adds gone))
+set_reply adds gone Items = ItemsAre (map.keys (held adds gone))
 set_reply adds gone _ = Foreign
