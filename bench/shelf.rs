@@ -21,9 +21,15 @@ struct Update {
 fn update(number: u32) -> Update {
     let mixed = number.wrapping_mul(2_654_435_761);
     if number % 2 == 0 {
-        Update { object: 2, op: Op::Raise(mixed.into()) }
+        Update {
+            object: 2,
+            op: Op::Raise(mixed.into()),
+        }
     } else {
-        Update { object: 1, op: Op::Inc(mixed) }
+        Update {
+            object: 1,
+            op: Op::Inc(mixed),
+        }
     }
 }
 

@@ -72,7 +72,7 @@ fn counter(rt: &impl Abort, alloc: Global, left: u32, alive: &Arc<()>) -> Balkin
     }
 }
 
-// Adds a counter under 1 that never refuses, and looks that a refusal leaves the number free.
+// Adds a counter that never refuses, and looks that a refusal leaves the number free.
 fn add(rt: &impl Abort, alloc: Global, shelf: &mut Counters, number: u16, all: &Arc<()>) {
     if shelf.add(number, counter(rt, alloc, NEVER, all)).is_err() {
         let free = !shelf.has(number);
