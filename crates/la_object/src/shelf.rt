@@ -5,6 +5,7 @@ ghost use Rattle.std.specs.Option.{option_copied};
 ghost use Rattle.std.specs.Map.{remove_entry};
 ghost use Rattle.la_set.specs.Histories.{empty, push, IsNext};
 ghost use Rattle.la_set.specs.Inclusion.{IsSubset};
+ghost use Rattle.la_set.specs.Join.{IsCompatible};
 ghost use Rattle.la_set.specs.Difference.{beyond};
 ghost use Rattle.la_object.specs.Objects.{kind_of, IsFresh};
 ghost use Rattle.la_object.specs.Shelves.{kind_at, answer_at, tags_at, state_at, IsSmall};
@@ -158,6 +159,35 @@ impl<B: Replicated> Shelf<B> {
         if !set.contains_all(self.view()) {
             return Err(AbsorbError::Smaller);
         }
+        self.absorb_new(set)
+    }
+
+    /// The same of a set that has no other update than the view under any id, as learnt sets of one
+    /// instance: then the inclusion test compares counts alone, so that an absorption costs what is
+    /// new and nothing for what both have.
+    pub fn absorb_compatible(&mut self, set: &UpdateSet) -> Result<u64, AbsorbError>
+        requires { IsCompatible set.now self.old.view }
+        ensures ok { OnOk result (self.new ≡ record self.old { view = set.now }) }
+        ensures many { IfOk result (λ many. many ≡ length (beyond set.now self.old.view)) }
+        ensures contained { OnOk result (IsSubset self.old.view set.now) }
+        ensures error { IfErr result (IsAbsorbRefusal self.old set.now self.new) }
+        ensures again { set.now ≡ self.old.view → result ≡ Ok 0 }
+    {
+        if !set.contains_compatible(self.view()) {
+            return Err(AbsorbError::Smaller);
+        }
+        self.absorb_new(set)
+    }
+
+    // Absorbs what a set has beyond the view, which lies in it.
+    fn absorb_new(&mut self, set: &UpdateSet) -> Result<u64, AbsorbError>
+        requires { IsSubset self.old.view set.now }
+        ensures ok { OnOk result (self.new ≡ record self.old { view = set.now }) }
+        ensures many { IfOk result (λ many. many ≡ length (beyond set.now self.old.view)) }
+        ensures error { IfErr result (IsAbsorbRefusal self.old set.now self.new) }
+        ensures again { set.now ≡ self.old.view → result ≡ Ok 0 }
+    {
+        // a hint to the prover: a set has at most 8,000,000 updates, so the count does not wrap
         let _limited = set.len();
         let mut done = 0;
         while let Some(update) = first_beyond(self.view(), set) {

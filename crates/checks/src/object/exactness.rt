@@ -2,6 +2,7 @@
 // promises equal answers. Where memory may run out for one call and not for the other, it promises
 // them where both succeed; and where both are refused, one refusal.
 ghost use Rattle.std.specs.Prelude.{◌≡◌, IfOk, IfErr, OnOk, OnErr, option_copied};
+ghost use Rattle.la_set.specs.Join.{IsCompatible};
 ghost use Rattle.la_object.specs.Objects.{HasRoom};
 
 use la_object::{
@@ -174,6 +175,20 @@ fn absorb_is_exact<B: Replicated>(
     ensures stopped { IfErr result.0 (λ e. IfErr result.1 (λ f. e ≡ f → one.new ≡ other.new)) }
 {
     (one.absorb(set), other.absorb(set))
+}
+
+fn absorb_compatible_is_exact<B: Replicated>(
+    one: &mut Shelf<B>,
+    other: &mut Shelf<B>,
+    set: &UpdateSet,
+) -> (Result<u64, AbsorbError>, Result<u64, AbsorbError>)
+    requires shelves { one.old ≡ other.old }
+    requires fits { IsCompatible set.now one.old.view }
+    ensures many { IfOk result.0 (λ m. IfOk result.1 (λ n. m ≡ n)) }
+    ensures absorbed { OnOk result.0 (OnOk result.1 (one.new ≡ other.new)) }
+    ensures stopped { IfErr result.0 (λ e. IfErr result.1 (λ f. e ≡ f → one.new ≡ other.new)) }
+{
+    (one.absorb_compatible(set), other.absorb_compatible(set))
 }
 
 fn retire_is_exact<B: Replicated>(

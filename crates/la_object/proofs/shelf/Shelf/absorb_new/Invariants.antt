@@ -2,7 +2,7 @@ use Rattle.std.proofs.Common.{◌≡◌, ◌≤◌, drop, length}
 use Rattle.la_set.specs.Inclusion.{IsSubset}
 use Rattle.la_set.specs.Difference.{beyond}
 use Rattle.la_object.specs.Shelves.{after_first}
-use Rattle.la_object.proofs.shelf.Shelf.absorb.Given as goal
+use Rattle.la_object.proofs.shelf.Shelf.absorb_new.Given as goal
 
 abbrev pub invariant-loop-update : goal.invariant-loop-update
 invariant-loop-update g l =

@@ -5,7 +5,7 @@ use Rattle.la_set.specs.Inclusion.{IsSubset}
 use Rattle.la_set.specs.Difference.{beyond, lacks}
 use Rattle.la_object.specs.Shelves.{ShelfState, IsFirstBeyond}
 use Rattle.la_object.proofs.NewUpdates.{length-filter-le, after_first-next, drop-next, drop-within, nothing_left, nothing_new}
-use Rattle.la_object.proofs.shelf.Shelf.absorb.Goals as goal
+use Rattle.la_object.proofs.shelf.Shelf.absorb_new.Goals as goal
 
 pub overflow_add-done : goal.overflow_add-done
 overflow_add-done g c = omega (arith, c.loop-update.invariant.few, length-filter-le (lacks c.args.self.now.view) (updates c.args.set.now), c.len-limited.ensures.len, c.len-limited.ensures.limit)
@@ -14,7 +14,7 @@ pub loop-update-preserved : goal.loop-update-preserved
 loop-update-preserved g c =
     let old = c.args.self.now.view in let set = c.args.set.now in let view = c.loop-update.self.view in let k = c.loop-update.done in let u = c.in-Some.update.now in
     let all = beyond set old in let rest = beyond set (push view u) in
-    let first : IsFirstBeyond view set u = subst (λ (v : Histories). IsFirstBeyond v set u) c.view-in-loop-update.ensures c.in-Some.ensures in
+    let first : IsFirstBeyond view set u = subst (λ (v : Histories). IsFirstBeyond v set u) c.view.ensures c.in-Some.ensures in
     let next : drop k all ≡ u ∷ rest = sym c.loop-update.invariant.left ∙ first.left in
     let pushed : c.absorb_next.new.self.view ≡ push view u = ap (λ (s : ShelfState). s.view) c.in-Ok.ensures.ok in
     record {
@@ -29,13 +29,13 @@ loop-update-preserved g c =
 pub share-requires-after_bounds : goal.share-requires-after_bounds
 share-requires-after_bounds g c κs live =
     let set = c.args.set.now in
-    let none : beyond set c.loop-update.self.view ≡ [] = subst (λ (v : Histories). beyond set v ≡ []) c.view-in-loop-update.ensures c.in_default.ensures in
+    let none : beyond set c.loop-update.self.view ≡ [] = subst (λ (v : Histories). beyond set v ≡ []) c.view.ensures c.in_default.ensures in
     sym (nothing_left c.loop-update.self.view set c.loop-update.invariant.within none)
 
 pub returns-clause-ok : goal.returns-clause-ok
 returns-clause-ok g c =
     let set = c.args.set.now in let start = c.args.self.now in
-    let none : beyond set c.loop-update.self.view ≡ [] = subst (λ (v : Histories). beyond set v ≡ []) c.view-in-loop-update.ensures c.in_default.ensures in
+    let none : beyond set c.loop-update.self.view ≡ [] = subst (λ (v : Histories). beyond set v ≡ []) c.view.ensures c.in_default.ensures in
     let now : c.loop-update.self.view ≡ set = nothing_left c.loop-update.self.view set c.loop-update.invariant.within none in
     c.share.ensures ∙ c.loop-update.invariant.so_far
     ∙ ap (λ v. record start { view = v }) (sym (ap (λ (s : ShelfState). s.view) c.loop-update.invariant.so_far) ∙ now)
@@ -43,23 +43,23 @@ returns-clause-ok g c =
 pub returns-clause-many : goal.returns-clause-many
 returns-clause-many g c =
     let set = c.args.set.now in let old = c.args.self.now.view in
-    let none : beyond set c.loop-update.self.view ≡ [] = subst (λ (v : Histories). beyond set v ≡ []) c.view-in-loop-update.ensures c.in_default.ensures in
+    let none : beyond set c.loop-update.self.view ≡ [] = subst (λ (v : Histories). beyond set v ≡ []) c.view.ensures c.in_default.ensures in
     omega (arith, c.loop-update.invariant.few, ap length (sym c.loop-update.invariant.left ∙ none), length-drop c.loop-update.done (beyond set old))
 
 pub returns-in_default-absorb_next-clause-error : goal.returns-in_default-absorb_next-clause-error
 returns-in_default-absorb_next-clause-error g c =
     let old = c.args.self.now.view in let set = c.args.set.now in let view = c.loop-update.self.view in let k = c.loop-update.done in let u = c.in-Some.update.now in
     let all = beyond set old in let rest = beyond set (push view u) in
-    let first : IsFirstBeyond view set u = subst (λ (v : Histories). IsFirstBeyond v set u) c.view-in-loop-update.ensures c.in-Some.ensures in
+    let first : IsFirstBeyond view set u = subst (λ (v : Histories). IsFirstBeyond v set u) c.view.ensures c.in-Some.ensures in
     let next : drop k all ≡ u ∷ rest = sym c.loop-update.invariant.left ∙ first.left in
-    let sub : IsSubset old set = search rules in
+    let sub : IsSubset old set = c.requires in
     (sub, (drop-within all k u rest next, c.in_default-absorb_next.ensures.err ∙ c.loop-update.invariant.so_far))
 
 pub returns-in_default-absorb_next-clause-again : goal.returns-in_default-absorb_next-clause-again
 returns-in_default-absorb_next-clause-again g c =
     let old = c.args.self.now.view in let set = c.args.set.now in let view = c.loop-update.self.view in let k = c.loop-update.done in let u = c.in-Some.update.now in
     let all = beyond set old in let rest = beyond set (push view u) in
-    let first : IsFirstBeyond view set u = subst (λ (v : Histories). IsFirstBeyond v set u) c.view-in-loop-update.ensures c.in-Some.ensures in
+    let first : IsFirstBeyond view set u = subst (λ (v : Histories). IsFirstBeyond v set u) c.view.ensures c.in-Some.ensures in
     let next : drop k all ≡ u ∷ rest = sym c.loop-update.invariant.left ∙ first.left in
     λ same. absurd (omega (arith, drop-within all k u rest next, nothing_new old set same))
 
