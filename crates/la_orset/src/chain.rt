@@ -6,8 +6,8 @@ use std::marker::Model;
 use std::mem;
 
 /// A list of boxed nodes, the newest first. A value that is pushed takes one box, and nothing else
-/// takes memory. Nodes are freed one after another, so that a chain of any length is dropped without
-/// using the stack up.
+/// takes memory. Nodes are freed one after another, so that a chain of any length is dropped
+/// without using the stack up.
 #[cycle(chain)]
 pub struct Chain<T> {
     len: usize,

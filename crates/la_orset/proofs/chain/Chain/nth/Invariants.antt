@@ -1,4 +1,4 @@
-use Rattle.std.proofs.Common.{◌≡◌, length}
+use Rattle.std.proofs.Common.{◌≡◌}
 use Rattle.std.specs.List.{slice_get}
 use Rattle.la_orset.proofs.chain.Chain.nth.Given as goal
 
