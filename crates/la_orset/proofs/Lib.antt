@@ -1,0 +1,5 @@
+pub mod Sorted
+pub mod Sets
+pub mod Filling
+pub mod LiveTags
+pub mod Held

@@ -1,0 +1,17 @@
+//! The observed-remove set, and a chain of boxed nodes.
+//!
+//! An [`OrSet`] is a [`la_object::Replicated`]: its contract is that of every object, and what it
+//! takes and answers is defined in `la_object` (`specs/OrSet`). Contracts see of it the finite map
+//! of what was put and the finite set of the ids that are gone. Beside these it keeps the live tags
+//! by element, so that no question passes over all tags; `specs/Index` says what they are.
+#![tactic(auto)]
+
+mod chain;
+mod gone;
+mod live;
+mod or_set;
+mod puts;
+mod tag_set;
+
+pub use chain::Chain;
+pub use or_set::OrSet;

@@ -1,0 +1,111 @@
+ghost use Rattle.std.specs.Prelude.{◌≡◌, IfOk, IfErr, OnOk, OnErr};
+ghost use Rattle.std.specs.FinMap as map;
+ghost use Rattle.la_object.specs.Refusals.{IsObserveRefusal};
+ghost use Rattle.la_orset.specs.Index.{tags_at, IsWhole, HasTags};
+
+use crate::tag_set::TagSet;
+use la_object::{Items, ObserveError};
+use la_set::{Tags, UpdateId};
+use std::alloc::{AllocError, Global};
+use std::collections::BTreeMap;
+use std::marker::Model;
+
+/// The live tags, by element. An element stands here only while it has one.
+#[derive(Drop)]
+pub struct Live {
+    alloc: Global,
+    by_element: BTreeMap<u64, TagSet>,
+}
+
+impl Model for Live {
+    ghost use Rattle.std.specs.FinMap as map;
+    ghost use Rattle.la_orset.specs.Index.{Index, index_code, IsWhole};
+
+    ghost Value = { Index };
+
+    ghost coded = { index_code };
+
+    ghost view = { λ s. map.from_entries s.by_element.entries };
+
+    ghost invariant = { λ s. IsWhole (map.from_entries s.by_element.entries) };
+}
+
+impl Live {
+    /// No tag.
+    pub fn new(alloc: Global) -> Live
+        ensures { result ≡ map.empty }
+    {
+        Live {
+            alloc,
+            by_element: BTreeMap::new(alloc),
+        }
+    }
+
+    /// Whether an element has a tag, at logarithmic cost.
+    pub fn has(&self, element: u64) -> bool
+        ensures answer { result ≡ map.contains_key self.now element }
+        ensures whole { IsWhole self.now }
+    {
+        self.by_element.contains_key(&element)
+    }
+
+    /// How many elements have a tag, at constant cost.
+    pub fn len(&self) -> usize
+        ensures answer { result ≡ map.len self.now }
+        ensures whole { IsWhole self.now }
+    {
+        self.by_element.len()
+    }
+
+    /// The elements that have a tag, in ascending order, in one pass over them.
+    pub fn elements(&self) -> Result<Items, AllocError>
+        ensures answer { IfOk result (λ elements. elements ≡ map.keys self.now) }
+        ensures whole { IsWhole self.now }
+    {
+        let mut elements = Items::new(self.alloc);
+        for element in self.by_element.keys() {
+            elements.push(*element)?;
+        }
+        Ok(elements)
+    }
+
+    /// The tags of an element, in ascending order.
+    pub fn tags(&self, element: u64) -> Result<Tags, ObserveError>
+        ensures ok { IfOk result (λ tags. tags ≡ map.keys (tags_at self.now element)) }
+        ensures error { IfErr result (IsObserveRefusal (map.keys (tags_at self.now element))) }
+    {
+        match self.by_element.get(&element) {
+            Some(tags) => tags.tags(self.alloc),
+            None => Ok(Tags::new(self.alloc)),
+        }
+    }
+
+    /// Puts a tag of an element in, at logarithmic cost. After a refusal nothing has changed.
+    pub fn insert(&mut self, element: u64, id: UpdateId) -> Result<(), AllocError>
+        ensures ok { OnOk result
+            (HasTags self.old element (map.insert (tags_at self.old element) id tt) self.new) }
+        ensures err { OnErr result (self.new ≡ self.old) }
+    {
+        if let Some(tags) = self.by_element.get_mut(&element) {
+            tags.insert(id)?;
+            return Ok(());
+        }
+        let mut tags = TagSet::new(self.alloc);
+        tags.insert(id)?;
+        self.by_element.insert(element, tags)?;
+        Ok(())
+    }
+
+    /// Takes a tag of an element out, at logarithmic cost and without memory.
+    pub fn remove(&mut self, element: u64, id: UpdateId)
+        ensures { HasTags self.old element (map.remove (tags_at self.old element) id) self.new }
+    {
+        let Some(tags) = self.by_element.get_mut(&element) else {
+            return;
+        };
+        tags.remove(id);
+        if !tags.has_any() {
+            self.by_element.remove(&element);
+        }
+    }
+}
