@@ -12,6 +12,8 @@ mod given;
 #[cfg(test)]
 mod object;
 #[cfg(test)]
+mod orset;
+#[cfg(test)]
 mod proposer;
 #[cfg(test)]
 mod replica;

@@ -1,7 +1,7 @@
 // la_object: shelves as tables, a test's own objects, and callers that know nothing but its clauses.
 mod edges;
-mod exactness;
-mod helpers;
+pub mod exactness;
+pub mod helpers;
 mod laws;
-mod plays;
+pub mod plays;
 mod refusals;

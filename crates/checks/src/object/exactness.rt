@@ -48,7 +48,7 @@ fn has_room_is_exact<B: Replicated>(one: &B, other: &B) -> (bool, bool)
     (one.has_room(), other.has_room())
 }
 
-fn absorb_one_is_exact<B: Replicated>(
+pub fn absorb_one_is_exact<B: Replicated>(
     one: &mut B,
     other: &mut B,
     update: &Update,
@@ -61,7 +61,7 @@ fn absorb_one_is_exact<B: Replicated>(
     (one.absorb(update), other.absorb(update))
 }
 
-fn ask_one_is_exact<B: Replicated>(
+pub fn ask_one_is_exact<B: Replicated>(
     one: &B,
     other: &B,
     query: &Query,
@@ -72,7 +72,7 @@ fn ask_one_is_exact<B: Replicated>(
     (one.ask(query), other.ask(query))
 }
 
-fn observed_by_one_is_exact<B: Replicated>(
+pub fn observed_by_one_is_exact<B: Replicated>(
     one: &B,
     other: &B,
     element: u64,

@@ -3,6 +3,7 @@
 // every single allocation failing too.
 use crate::set::helpers::{Does, update_of as update_of_1};
 use la_object::{AbsorbError, Answer, Counter, MaxRegister, Query, Replicated, Shelf, ShelfError};
+use la_orset::OrSet;
 use la_set::{Op, Update, UpdateId, UpdateSet};
 use std::alloc::{AllocError, Global};
 use std::process::Abort;
@@ -48,6 +49,7 @@ pub enum Made {
     // A counter that has absorbed an increment of 1.
     UsedCounter,
     Register,
+    Set,
 }
 
 fn used_counter(alloc: Global) -> Result<Counter, AllocError> {
@@ -69,6 +71,7 @@ impl ByName for Box<dyn Replicated + Send> {
             Made::Counter => Box::new(alloc, Counter::new(alloc))?,
             Made::UsedCounter => Box::new(alloc, used_counter(alloc)?)?,
             Made::Register => Box::new(alloc, MaxRegister::new(alloc))?,
+            Made::Set => Box::new(alloc, OrSet::new(alloc))?,
         })
     }
 }
@@ -136,22 +139,39 @@ pub fn absorb<B: Replicated>(
 pub enum Wanted {
     Total(i64),
     Largest(u64),
+    Has(bool),
+    Size(u64),
+    Items(&'static [u64]),
     Foreign,
     NoSuchObject,
 }
 
-// Asking a counter or a register takes no memory.
+pub fn is_wanted(answer: &Answer, wanted: &Wanted) -> bool {
+    match (answer, wanted) {
+        (Answer::Total(total), Wanted::Total(due)) => *total == *due,
+        (Answer::Largest(largest), Wanted::Largest(due)) => *largest == *due,
+        (Answer::Has(there), Wanted::Has(due)) => *there == *due,
+        (Answer::Size(size), Wanted::Size(due)) => *size == *due,
+        (Answer::Items(items), Wanted::Items(due)) => items.all() == *due,
+        (Answer::Foreign, Wanted::Foreign) => true,
+        _ => false,
+    }
+}
+
+// Only a set's elements take memory.
 pub fn answers<B: Replicated>(
     shelf: &Shelf<B>,
     number: u16,
     query: &Query,
     wanted: &Wanted,
 ) -> bool {
-    match (shelf.ask(number, query), wanted) {
-        (Ok(Answer::Total(total)), Wanted::Total(due)) => total == *due,
-        (Ok(Answer::Largest(largest)), Wanted::Largest(due)) => largest == *due,
-        (Ok(Answer::Foreign), Wanted::Foreign) => true,
-        (Err(ShelfError::NoSuchObject), Wanted::NoSuchObject) => true,
+    let mut first = shelf.ask(number, query);
+    if *query == Query::Items && first.is_err() {
+        first = shelf.ask(number, query);
+    }
+    match (first, wanted) {
+        (Ok(answer), wanted) => is_wanted(&answer, wanted),
+        (Err(refusal), Wanted::NoSuchObject) => refusal == ShelfError::NoSuchObject,
         _ => false,
     }
 }

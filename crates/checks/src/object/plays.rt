@@ -1,19 +1,21 @@
 // What is done to a shelf, as tables, and what comes of it. Its objects are boxes of both kinds.
 use super::helpers::{ByName, Made, Object, Row, Wanted, absorb, add, answers, set_of};
-use crate::set::helpers::Does;
-use la_object::{AbsorbError, Query, Replicated, Shelf, ShelfError, State};
+use crate::set::helpers::{Does, id};
+use la_object::{AbsorbError, Adds, Ids, Query, Replicated, Shelf, ShelfError, State};
 use std::alloc::Global;
 use std::process::Abort;
 
 // What a retired object was.
 #[derive(Clone, Copy)]
-enum Was {
+pub enum Was {
     Counter(u64, u64),
     Register(u64),
+    // Each of these ids: what was put under it, and whether it is gone.
+    Set(&'static [(u8, u32, Option<u64>, bool)]),
     NoObject,
 }
 
-enum Act {
+pub enum Act {
     Adds(u16, Made, Result<(), ShelfError>),
     Absorbs(&'static [Row], Result<u64, AbsorbError>),
     Answers(u16, Query, Wanted),
@@ -36,11 +38,26 @@ fn observes<B: Replicated>(
     }
 }
 
-// Retiring a counter or a register takes no memory.
+fn kept(adds: &Adds, gone: &Ids, ids: &[(u8, u32, Option<u64>, bool)]) -> bool {
+    for (replica, number, put, is_gone) in ids {
+        let id = id(*replica, *number);
+        if adds.get(id).copied() != *put || gone.has(id) != *is_gone {
+            return false;
+        }
+    }
+    true
+}
+
+// Only retiring a set takes memory. After a refusal it stands there still.
 fn retires<B: Replicated>(shelf: &mut Shelf<B>, number: u16, was: &Was) -> bool {
-    match (shelf.retire(number), was) {
+    let mut first = shelf.retire(number);
+    if first.is_err() && shelf.has(number) {
+        first = shelf.retire(number);
+    }
+    match (first, was) {
         (Ok(State::Counter { up, down }), Was::Counter(ups, downs)) => up == *ups && down == *downs,
         (Ok(State::Max { largest }), Was::Register(due)) => largest == *due,
+        (Ok(State::Set { adds, gone }), Was::Set(ids)) => kept(&adds, &gone, ids),
         (Err(ShelfError::NoSuchObject), Was::NoObject) => true,
         _ => false,
     }
@@ -66,7 +83,7 @@ fn comes_true<B: ByName>(rt: &impl Abort, alloc: Global, shelf: &mut Shelf<B>, a
     }
 }
 
-fn play<R: Abort, B: ByName>(rt: &R, alloc: Global, acts: &[Act]) {
+pub fn play<R: Abort, B: ByName>(rt: &R, alloc: Global, acts: &[Act]) {
     let mut shelf: Shelf<B> = Shelf::new(alloc);
     for (place, act) in acts.iter().enumerate() {
         assert!(rt; comes_true(rt, alloc, &mut shelf, act), "act {place}");

@@ -13,6 +13,8 @@ pub enum Does {
     Put(u64),
     // Removes the tags 7.1 to this number of them: more than two take memory.
     Remove(u32),
+    // Removes these tags, of which there are at most 64.
+    RemoveTags(&'static [(u8, u32)]),
     Mark,
     Vote(u64, bool),
 }
@@ -46,6 +48,14 @@ pub fn tags_down(rt: &impl Abort, alloc: Global, replica: u8, count: u32) -> Tag
     tags
 }
 
+fn tags_of(rt: &impl Abort, alloc: Global, ids: &[(u8, u32)]) -> Tags {
+    let mut tags = Tags::new(alloc);
+    for (replica, number) in ids {
+        assert!(rt; tag(rt, &mut tags, id(*replica, *number)) == Ok(true));
+    }
+    tags
+}
+
 fn op_of(rt: &impl Abort, alloc: Global, does: &Does) -> Op {
     match *does {
         Does::Inc(by) => Op::Inc(by),
@@ -53,6 +63,7 @@ fn op_of(rt: &impl Abort, alloc: Global, does: &Does) -> Op {
         Does::Raise(to) => Op::Raise(to),
         Does::Put(element) => Op::Put(element),
         Does::Remove(count) => Op::Remove(tags_down(rt, alloc, 7, count)),
+        Does::RemoveTags(ids) => Op::Remove(tags_of(rt, alloc, ids)),
         Does::Mark => Op::Mark,
         Does::Vote(value, sole) => Op::Vote { value, sole },
     }
