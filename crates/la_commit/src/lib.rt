@@ -1,0 +1,10 @@
+//! Adopt-commit from two lattice agreements: the steps of one participant.
+#![tactic(auto)]
+
+mod outcome;
+mod participant;
+mod vote;
+
+pub use outcome::Outcome;
+pub use participant::{Done, First, Fresh, NotMine, Second};
+pub use vote::Vote;
