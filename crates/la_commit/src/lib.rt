@@ -6,5 +6,5 @@ mod participant;
 mod vote;
 
 pub use outcome::Outcome;
-pub use participant::{Done, First, Fresh, NotMine, Second};
+pub use participant::{Done, First, Fresh, NotMine, Second, own_vote};
 pub use vote::Vote;

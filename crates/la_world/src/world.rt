@@ -1,22 +1,31 @@
-ghost use Rattle.std.specs.Prelude.{◌≡◌, ◌+◌, ◌<◌, ◌^◌, [], length, slice_get, Some, None};
+ghost use Rattle.std.specs.Prelude.{◌≡◌, ◌+◌, ◌<◌, ◌≤◌, ◌^◌, [], ◌++◌, length, slice_get, Some, None};
 ghost use Rattle.std.specs.Prelude.{IfOk, IfErr, OnOk, OnErr};
 ghost use Rattle.std.specs.Option.{option_copied};
 ghost use Rattle.la_set.specs.ObjectOps.{ObjectOp};
+ghost use Rattle.la_proposer.specs.ProposerState.{op_on};
+ghost use Rattle.la_replica.specs.declared.replica.TheConstants.{MAX_COMMITS};
 ghost use Rattle.la_replica.specs.Whole.{Out, whole_of};
 ghost use Rattle.la_replica.specs.ReplicaState.{ReplicaState, receives};
 ghost use Rattle.la_replica.specs.Steps.{learnt_in};
-ghost use Rattle.la_world.specs.Events.{Past, Submit, Deliver, submission_of, event_of};
+ghost use Rattle.la_world.specs.Events.{Event as EventOf, Past, Submit, Deliver, Decide};
+ghost use Rattle.la_world.specs.Events.{submission_of, event_of};
 ghost use Rattle.la_world.specs.Groups.{group_of};
 ghost use Rattle.la_world.specs.Printable.{IsPrintable};
 ghost use Rattle.la_world.specs.StandsFor.{StandsFor, trace_in, sent_in, refused_in};
-ghost use Rattle.la_world.specs.Calls.{IsPlayable, IsMakingRefusal, replica_states_at_start};
+ghost use Rattle.la_world.specs.Groups.{IsConfig};
+ghost use Rattle.la_world.specs.Calls.{IsMakingRefusal, replica_states_at_start};
 ghost use Rattle.la_world.specs.Calls.{Plays, IsAllowed, Refuses, StandsForMessage};
-ghost use Rattle.la_world.specs.Calls.{submitted_in, view_at, view_in, view_of, views_of};
+ghost use Rattle.la_world.specs.Calls.{submitted_at, view_at, view_in, view_of, views_of};
+ghost use Rattle.la_world.specs.Calls.{IsSubmission, decisions_at, decisions_in};
+ghost use Rattle.la_world.specs.Calls.{returned_in, returned_of};
 ghost use Rattle.la_world.specs.Calls.{report_with, report_after};
 
 use crate::journal::Journal;
+use crate::participant::{opening_instance, outcome_in_instance, returned, second_vote, take};
 use crate::speaker::Speaker;
-use crate::{Config, Event, Learnings, Learnt, Report, Step, Steps, Views, WorldError};
+use crate::{Config, Decision, Decisions, Event, Learnings, Learnt, Report, Step, Steps, Views};
+use crate::WorldError;
+use la_commit::{Fresh, Outcome};
 use la_replica::{Message, Replica};
 use la_set::{Op, UpdateSet};
 use std::alloc::{AllocError, Global};
@@ -48,16 +57,15 @@ impl Model for World {
 impl World {
     /// A group in which nothing has happened.
     ///
-    /// `BadConfig` comes exactly where a value is out of its range, there are votes for another
-    /// number of replicas, or there are adopt-commit objects, which no world plays yet; else
-    /// `Memory`.
+    /// `BadConfig` comes exactly where a value is out of its range, or there are votes for another
+    /// number of replicas; else `Memory`.
     pub fn new(alloc: Global, config: Config) -> Result<World, WorldError>
         ensures config { IfOk result (λ world. world.config ≡ config) }
         ensures stands { IfOk result (λ world. StandsFor world []) }
-        ensures playable { OnOk result (IsPlayable config) }
+        ensures group { OnOk result (IsConfig config) }
         ensures error { IfErr result (IsMakingRefusal config) }
     {
-        if !config.is_playable() {
+        if !config.is_group() {
             return Err(WorldError::BadConfig);
         }
         Ok(World {
@@ -93,6 +101,11 @@ impl World {
                 op,
             } => self.submit(*replica, *object, op),
             Event::Deliver(number) => self.deliver(*number),
+            Event::Decide {
+                replica,
+                commit,
+                value,
+            } => self.decide(*replica, *commit, *value),
         }
     }
 
@@ -106,35 +119,83 @@ impl World {
         ensures err { OnErr result (self.new ≡ self.old) }
     {
         self.admit_submission(replica)?;
-        match self.take_submission(replica, object, op) {
-            Ok(step) => Ok(step),
-            Err(AllocError) => Err(WorldError::Memory),
-        }
+        let op = op.copy()?;
+        Ok(self.take_submission(0, replica, object, op)?)
     }
 
-    // Plays a submission that is refused for want of memory alone.
-    fn take_submission(&mut self, replica: u8, object: u16, op: &Op) -> Result<Step, AllocError>
+    fn decide(&mut self, replica: u8, commit: u8, value: u64) -> Result<Step, WorldError>
+        requires { self.old.count + 1 < 2 ^ 64 }
+        ensures step { (events : Past) → StandsFor self.old events →
+            IfOk result (λ step. Plays self.old events (Decide replica commit value) step self.new) }
+        ensures printable { IfOk result IsPrintable }
+        ensures error { (events : Past) → StandsFor self.old events →
+            IfErr result (Refuses self.old events (Decide replica commit value)) }
+        ensures err { OnErr result (self.new ≡ self.old) }
+    {
+        self.admit_proposal(replica, commit)?;
+        let (_, vote) = Fresh::new(replica).propose(value);
+        let first = 2 * commit + 1;
+        Ok(self.take_submission(first, replica, commit as u16, Op::from(vote))?)
+    }
+
+    // Plays an event by which a replica submits this in an instance, and which is not refused but
+    // for want of memory.
+    fn take_submission(
+        &mut self,
+        instance: u8,
+        replica: u8,
+        object: u16,
+        op: Op,
+    ) -> Result<Step, AllocError>
         requires count { self.old.count + 1 < 2 ^ 64 }
         requires known { replica < length self.old.replica_states }
-        requires allowed { IsAllowed self.old (submission_of replica object op.now) }
-        ensures step { (events : Past) → StandsFor self.old events → IfOk result (λ step.
-            Plays self.old events (submission_of replica object op.now) step self.new) }
+        requires event { (e : EventOf) × IsSubmission e instance replica (op_on object op)
+            × IsAllowed self.old e }
+        ensures step { (events : Past) (e : EventOf) →
+            IsSubmission e instance replica (op_on object op) →
+            refused_in self.old events e ≡ None → StandsFor self.old events →
+            IfOk result (λ step. Plays self.old events e step self.new) }
         ensures printable { IfOk result IsPrintable }
         ensures err { OnErr result (self.new ≡ self.old) }
     {
-        let op = op.copy()?;
         self.journal.reserve(self.config.replicas)?;
         // `laws::submissions_fit`: of what the world does not refuse, only memory is left.
-        let Ok(out) = self.replicas[replica as usize].submit(0, object, op) else {
+        let Ok(out) = self.replicas[replica as usize].submit(instance, object, op) else {
             return Err(AllocError);
         };
         let speaker = Speaker {
             replicas: self.config.replicas,
             replica,
-            instance: 0,
+            instance,
             ballot: 0,
+            outcome: None,
+            opens_in: instance,
         };
         Ok(self.journal.note(&speaker, out, None))
+    }
+
+    // Whether a replica may propose to an object, whatever it proposes: by the first refusal that
+    // fits.
+    fn admit_proposal(&self, replica: u8, commit: u8) -> Result<(), WorldError>
+        ensures known { OnOk result (replica < length self.now.replica_states) }
+        ensures object { OnOk result (commit < self.now.config.commits) }
+        ensures allowed { (events : Past) → StandsFor self.now events →
+            OnOk result ((value : ℕ) →
+            refused_in self.now events (Decide replica commit value) ≡ None) }
+        ensures error { (events : Past) → StandsFor self.now events →
+            IfErr result (λ e. (value : ℕ) →
+            Refuses self.now events (Decide replica commit value) e) }
+    {
+        if replica >= self.config.replicas {
+            return Err(WorldError::NoSuchReplica);
+        }
+        if commit >= self.config.commits {
+            return Err(WorldError::NoSuchCommit);
+        }
+        match submitted_among(&self.replicas, 2 * commit + 1, replica) {
+            Some(0) => Ok(()),
+            _ => Err(WorldError::AlreadyProposed),
+        }
     }
 
     // Whether a replica may submit, whatever it submits: by the first refusal that fits.
@@ -148,7 +209,7 @@ impl World {
             IfErr result (λ e. (object_op : ObjectOp) →
             Refuses self.now events (Submit replica object_op) e) }
     {
-        match submitted_among(&self.replicas, replica) {
+        match submitted_among(&self.replicas, 0, replica) {
             None => Err(WorldError::NoSuchReplica),
             Some(count) if count >= self.config.cap => Err(WorldError::Full),
             Some(_) => Ok(()),
@@ -184,17 +245,21 @@ impl World {
     {
         self.journal.reserve(self.config.replicas)?;
         let message = &self.journal.messages[number];
+        let (instance, to) = (message.instance, message.to);
+        let receiver = &mut self.replicas[to as usize];
+        let learnt = learning(receiver, message)?;
+        let vote = second_vote(instance, to, learnt.as_ref());
         let speaker = Speaker {
             replicas: self.config.replicas,
-            replica: message.to,
-            instance: message.instance,
+            replica: to,
+            instance,
             ballot: message.ballot,
+            outcome: outcome_in_instance(instance, to, learnt.as_ref()),
+            opens_in: opening_instance(instance, vote),
         };
-        let receiver = &mut self.replicas[message.to as usize];
-        let copy = learning(receiver, message)?;
         // `laws::deliveries_fit`: what was sent fits its receiver, so that only memory is left.
-        let out = receiver.take_message(message)?;
-        Ok(self.journal.note(&speaker, out, copy))
+        let out = take(receiver, message, vote)?;
+        Ok(self.journal.note(&speaker, out, learnt))
     }
 
     /// How many events were accepted.
@@ -242,6 +307,31 @@ impl World {
         view_among(&self.replicas, replica)
     }
 
+    /// What a replica returned from an adopt-commit object; `None` where it has not, or the group
+    /// has no such replica, or no such object. The cost is that of a pass over the votes, of which
+    /// there is one a replica.
+    pub fn outcome(&self, commit: u8, replica: u8) -> Option<Outcome>
+        ensures value { result ≡ returned_in self.now commit replica }
+        ensures stands { (events : Past) → StandsFor self.now events → result
+            ≡ returned_of (group_of self.now.config) (trace_in self.now events) commit replica }
+    {
+        if commit >= self.config.commits {
+            return None;
+        }
+        returned(self.replicas.get(replica as usize)?, commit)
+    }
+
+    // What was returned, by object, and then by replica.
+    fn decisions(&self) -> Result<Decisions, AllocError>
+        ensures { IfOk result (λ made. made ≡ decisions_in self.now) }
+    {
+        let mut made = Vec::new(*self.replicas.allocator());
+        for commit in 0..self.config.commits {
+            add_decisions(&mut made, &self.replicas, commit)?;
+        }
+        Ok(Decisions::from(made))
+    }
+
     /// A report of these lines, of what was learnt and of the views, at the cost of an entry for
     /// each learnt set and each view; their updates are shared. It refuses with want of memory
     /// alone.
@@ -256,6 +346,7 @@ impl World {
             steps,
             learnt: Learnings::from(copy_learnings(&self.journal.learnt)?),
             views: Views::from(copy_views(&self.replicas)?),
+            outcomes: self.decisions()?,
         })
     }
 
@@ -269,6 +360,7 @@ impl World {
             IfOk result (λ report. report ≡ report_after self events steps) }
     {
         let views = copy_views(&self.replicas)?;
+        let outcomes = self.decisions()?;
         let config = self.config;
         let journal = self.journal;
         Ok(Report {
@@ -276,16 +368,17 @@ impl World {
             steps,
             learnt: Learnings::from(journal.learnt),
             views: Views::from(views),
+            outcomes,
         })
     }
 }
 
-// How much a replica has submitted in instance 0, if there is one with this number.
-fn submitted_among(replicas: &[Replica], replica: u8) -> Option<u32>
-    ensures { result ≡ submitted_in replicas.now replica }
+// How much a replica has submitted in an instance, if there is one with this number.
+fn submitted_among(replicas: &[Replica], instance: u8, replica: u8) -> Option<u32>
+    ensures { result ≡ submitted_at replicas.now instance replica }
 {
     match replicas.get(replica as usize) {
-        Some(replica) => replica.submitted(0),
+        Some(replica) => replica.submitted(instance),
         None => None,
     }
 }
@@ -314,7 +407,7 @@ fn view_among(replicas: &[Replica], replica: u8) -> Option<&UpdateSet>
 
 // The replicas of a group in which nothing has happened.
 fn start(alloc: Global, config: Config) -> Result<Vec<Replica>, AllocError>
-    requires { IsPlayable config }
+    requires { IsConfig config }
     ensures { IfOk result (λ made. made.items ≡ replica_states_at_start config) }
 {
     let mut replicas = Vec::with_capacity(alloc, config.replicas as usize)?;
@@ -351,4 +444,26 @@ fn copy_views(replicas: &Vec<Replica>) -> Result<Vec<UpdateSet>, AllocError>
         views.push(replica.view().copy()?)?;
     }
     Ok(views)
+}
+
+// Puts last what each replica returned from an object.
+fn add_decisions(
+    made: &mut Vec<Decision>,
+    replicas: &[Replica],
+    commit: u8,
+) -> Result<(), AllocError>
+    requires few { length replicas.now ≤ 8 }
+    requires known { commit < MAX_COMMITS }
+    ensures { OnOk result (made.new.items ≡ made.old.items ++ decisions_at replicas.now commit) }
+{
+    for replica in 0..replicas.len() as u8 {
+        if let Some(outcome) = returned(&replicas[replica as usize], commit) {
+            made.push(Decision {
+                commit,
+                replica,
+                outcome,
+            })?;
+        }
+    }
+    Ok(())
 }

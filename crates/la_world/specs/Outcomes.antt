@@ -1,0 +1,42 @@
+-- What the participants of adopt-commit objects return: each by the set that it learnt in the
+-- object's second instance.
+use Rattle.std.specs.Prelude.{ℕ, Bool, not, ◌&&◌, ◌==◌, List, filter_map, flat_map, Option, Some, None, option_map, option_and_then, if◌then◌else◌}
+use Rattle.std.specs.List.{range_with_len}
+use Rattle.la_set.specs.Histories.{Histories}
+use Rattle.la_commit.specs.declared.outcome.Outcome.{Outcome}
+use Rattle.la_commit.specs.declared.vote.Vote.{Vote}
+use Rattle.la_commit.specs.Votes.{own_vote}
+use Rattle.la_commit.specs.Outcomes.{outcome}
+use Rattle.la_replica.specs.Messages.{group}
+use Rattle.la_world.specs.declared.report.Decision.{Decision}
+use Rattle.la_world.specs.declared.step.Opening.{Opening}
+use Rattle.la_world.specs.Groups.{Group, replicas, second_instance, is_second_instance}
+use Rattle.la_world.specs.Trace.{Trace}
+use Rattle.la_world.specs.Learnings.{last_learnt}
+
+-- the outcome of r by a set of a second instance, with the value of its own vote there
+abbrev pub outcome_of : Histories → (replica : ℕ) → Option Outcome
+outcome_of second r = option_map (λ (v : Vote). outcome second v.value) (own_vote second r)
+
+-- the outcome by a set that r learnt in i: where this is a second instance
+abbrev pub outcome_in : (i r : ℕ) → Histories → Option Outcome
+outcome_in i r learnt = if is_second_instance i then outcome_of learnt r else None
+
+-- the same of a learnt ballot
+abbrev pub outcome_by : Opening → Option Outcome
+outcome_by b = outcome_in b.instance b.replica b.updates
+
+-- what r returned from object k, if it has
+abbrev pub returned : Trace → (k r : ℕ) → Option Outcome
+returned t k r = option_and_then (λ s. outcome_of s r) (last_learnt t (second_instance k) r)
+
+abbrev pub decision_of : (k r : ℕ) → Outcome → Decision
+decision_of k r o = record { commit = k; replica = r; outcome = o }
+
+-- the same, as a report lists it: by object, and then by replica
+abbrev pub decisions_on : Group → Trace → (k : ℕ) → List Decision
+decisions_on g t k =
+    filter_map (λ r. option_map (decision_of k r) (returned t k r)) (group (replicas g))
+
+abbrev pub decisions : Group → Trace → List Decision
+decisions g t = flat_map (decisions_on g t) (range_with_len 0 g.commits)
