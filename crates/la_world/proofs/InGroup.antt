@@ -10,13 +10,14 @@ use Rattle.la_set.specs.ObjectOps.{ObjectOp}
 use Rattle.la_set.specs.Inclusion.{IsSubset}
 use Rattle.la_replica.specs.Whole.{Message}
 use Rattle.la_replica.specs.Messages.{group, offer_to}
+use Rattle.la_commit.specs.Votes.{proposed}
 use Rattle.la_world.specs.declared.step.Opening.{Opening}
 use Rattle.la_world.specs.Groups.{Group, replicas, instances, first_instance, second_instance, is_first_instance, commit_of}
 use Rattle.la_world.specs.Events.{Event, Submit, Deliver, Decide}
 use Rattle.la_world.specs.Trace.{Did, Entry, Trace}
 use Rattle.la_world.specs.Sent.{sender_for, ballot_of, offers_for, offers_for_next, tells_for, sent_by, sent}
 use Rattle.la_world.specs.Ballots.{opened_by, learnt_by, only, ballots, round}
-use Rattle.la_world.specs.Votes.{Submission, own_vote, second_vote_of, second_vote}
+use Rattle.la_world.specs.Votes.{Submission, second_vote_of, second_vote}
 use Rattle.la_world.specs.Submissions.{submission_by, second_vote_after, object_op_in, submitted, alone}
 use Rattle.la_world.specs.Playing.{counts, entry, trace}
 use Rattle.la_world.specs.Report.{refused}
@@ -134,7 +135,7 @@ module _ (g : Group) (t : Trace) (h : Grouped g t) where
 
 -- a second vote is of the second instance of the same object
 pub second_vote_is : (b : Opening) (s : Submission) → second_vote b ≡ Some s → (is_first_instance b.instance ≡ true) × (s.instance ≡ second_instance (commit_of b.instance)) × (s.replica ≡ b.replica)
-second_vote_is b s e = go (is_first_instance b.instance) refl (own_vote b.updates b.replica) e
+second_vote_is b s e = go (is_first_instance b.instance) refl (proposed b.updates b.replica) e
   where
     go : (v : Bool) → is_first_instance b.instance ≡ v → (o : Option ℕ) → cond v (second_vote_of (commit_of b.instance) b.replica b.updates o) None ≡ Some s
         → (is_first_instance b.instance ≡ true) × (s.instance ≡ second_instance (commit_of b.instance)) × (s.replica ≡ b.replica)

@@ -23,6 +23,7 @@ pub mod InGroup
 pub mod Traces
 pub mod Once
 pub mod Taking
+pub mod SubmissionEvents
 pub mod Submitting
 pub mod Replying
 pub mod Delivering

@@ -1,7 +1,7 @@
 -- In each of the two instances of an adopt-commit object a replica submits at most once, and so within
 -- its cap in every instance: once it has submitted its second vote, its ballot in the first instance has
 -- ended for good.
-use Rattle.std.proofs.Common.{◌≡◌, ℕ, zero, suc, ◌<◌, ◌≤◌, ◌/◌, ◌%◌, ◌⊎◌, inl, inr, Bool, true, false, cond, ◌==◌, List, [], ◌∷◌, length, Option, Some, None, IsSome, refl, sym, ◌∙◌, ap, subst, subst₂, arith, eqb-true, ne_eqb}
+use Rattle.std.proofs.Common.{◌≡◌, ℕ, zero, suc, ◌<◌, ◌≤◌, ◌/◌, ◌%◌, ◌⊎◌, inl, inr, Bool, true, false, cond, ◌==◌, List, [], ◌∷◌, length, Option, Some, None, option_and_then, IsSome, refl, sym, ◌∙◌, ap, subst, subst₂, arith, eqb-true, ne_eqb}
 use Rattle.std.proofs.Math.Nat.{div-add-mod, mod-lt}
 use Rattle.std.proofs.lemmas.Bool.{true≢false, cond-false, cases_eq}
 use Rattle.std.proofs.lemmas.List.{length_push}
@@ -12,12 +12,13 @@ use Rattle.la_set.specs.Histories.{history, count, get}
 use Rattle.la_set.specs.Inclusion.{IsSubset}
 use Rattle.la_set.proofs.Prefixes.{IsPrefix, IsPrefix-antisym}
 use Rattle.la_proposer.proofs.LeastIds.{some-get}
+use Rattle.la_commit.specs.Votes.{vote_of, proposal}
 use Rattle.la_world.specs.declared.step.Opening.{Opening}
 use Rattle.la_world.specs.Groups.{Group, first_instance, second_instance, is_first_instance, commit_of, cap_of}
 use Rattle.la_world.specs.Events.{Event, Submit, Deliver, Decide}
 use Rattle.la_world.specs.Trace.{Did, Opened, Held, Answered, Counted, Ignored, Refined, Learnt, Took, Kept, Entry, Trace}
 use Rattle.la_world.specs.Ballots.{opened_by, learnt_by, only, round, is_open}
-use Rattle.la_world.specs.Votes.{Submission, vote_in, second_vote_of, second_vote}
+use Rattle.la_world.specs.Votes.{Submission, second_vote_of, second_vote}
 use Rattle.la_world.specs.Submissions.{submitted, alone, is_refined}
 use Rattle.la_world.specs.Playing.{entry, trace}
 use Rattle.la_world.specs.Report.{refused}
@@ -35,7 +36,7 @@ use Rattle.la_world.proofs.Allowing.{not_proposed}
 has_voted : (b : Opening) (s : Submission) → second_vote b ≡ Some s → 1 ≤ count b.updates b.replica
 has_voted b s e = go (is_first_instance b.instance) (get b.updates (record { replica = b.replica; number = 1 })) refl e
   where
-    go : (v : Bool) (o : Option Update) → get b.updates (record { replica = b.replica; number = 1 }) ≡ o → cond v (second_vote_of (commit_of b.instance) b.replica b.updates (vote_in o)) None ≡ Some s → 1 ≤ count b.updates b.replica
+    go : (v : Bool) (o : Option Update) → get b.updates (record { replica = b.replica; number = 1 }) ≡ o → cond v (second_vote_of (commit_of b.instance) b.replica b.updates (option_and_then proposal (option_and_then (λ (u : Update). vote_of u.op) o))) None ≡ Some s → 1 ≤ count b.updates b.replica
     go false o f k = absurd (none-some s k)
     go true None f k = absurd (none-some s k)
     go true (Some u) f k = (some-get b.updates (record { replica = b.replica; number = 1 }) (subst IsSome (sym f) refl)).1

@@ -1,39 +1,50 @@
 -- A world that stands for a list of events, and the world after one event more.
-use Rattle.std.proofs.Common.{◌≡◌, ℕ, ◌+◌, ◌<◌, cond, List, [], ◌∷◌, ◌++◌, length, map, slice_get, slice_set, Option, Some, None, option_map, refl, ap, ap₂, sym, ◌∙◌, subst, arith}
+use Rattle.std.proofs.Common.{◌≡◌, ◌≢◌, ℕ, ◌+◌, ◌*◌, ◌%◌, ◌<◌, ◌≤◌, Bool, true, false, cond, List, [], ◌∷◌, ◌++◌, length, map, slice_get, slice_set, Option, Some, None, option_map, option_and_then, refl, ap, ap₂, sym, ◌∙◌, subst, arith, eqb-true}
+use Rattle.std.proofs.Math.Nat.{div-add-mod}
 use Rattle.std.proofs.lemmas.Option.{none-some}
 use Rattle.la_set.specs.ObjectOps.{ObjectOp}
+use Rattle.la_set.specs.Histories.{Histories}
+use Rattle.la_commit.specs.Votes.{proposed, second_vote_for}
 use Rattle.la_replica.specs.declared.message.Message as code
 use Rattle.la_replica.specs.Whole.{Out, whole_of, CarryAll}
+use Rattle.la_replica.specs.declared.replica.TheConstants.{MAX_COMMITS}
 use Rattle.la_replica.specs.Messages.{group}
+use Rattle.la_replica.specs.Steps.{learnt_in}
 use Rattle.la_replica.specs.ReplicaState as acting
 use Rattle.la_replica.specs.ReplicaState.{ReplicaState, start}
 use Rattle.la_world.specs.declared.config.Config.{Config}
+use Rattle.la_world.specs.declared.speaker.Speaker.{Speaker}
 use Rattle.la_world.specs.declared.step.Opening.{Opening}
-use Rattle.la_world.specs.Groups.{Group, group_of, replicas, IsConfig}
-use Rattle.la_world.specs.Events.{Event, Submit, Deliver}
+use Rattle.la_world.specs.Groups.{Group, group_of, replicas, is_first_instance, commit_of, IsConfig}
+use Rattle.la_world.specs.Events.{Event, Deliver}
+use Rattle.la_world.specs.Trace as did
 use Rattle.la_world.specs.Trace.{Did, Entry, Trace}
 use Rattle.la_world.specs.Sent.{sent_at, sent}
-use Rattle.la_world.specs.Ballots.{learnt_by, round, is_open}
-use Rattle.la_world.specs.Submissions.{submitted}
-use Rattle.la_world.specs.Playing.{next_ballot, opens_or_waits, submits, entry, entry_with, trace}
+use Rattle.la_world.specs.Ballots.{opened_by, learnt_by, round, is_open}
+use Rattle.la_world.specs.Submissions.{submitted, second_vote_after}
+use Rattle.la_world.specs.Votes.{vote_in, instance_after, second_vote_of, second_vote_in, second_vote}
+use Rattle.la_world.specs.Outcomes.{outcome_in, outcome_by}
+use Rattle.la_world.specs.Shown.{shown_by}
+use Rattle.la_world.specs.Playing.{next_ballot, opens_or_waits, submits, receives, entry, trace}
 use Rattle.la_world.specs.Learnings.{learning_of, learnt}
 use Rattle.la_world.specs.Report.{refused, shown_as}
 use Rattle.la_world.specs.ReplicaStates.{replica_state}
 use Rattle.la_world.specs.StandsFor.{World, StandsFor}
-use Rattle.la_world.specs.Calls.{replica_states_at_start}
-use Rattle.la_world.proofs.Unaffected.{Concerns}
-use Rattle.la_world.proofs.OneReplicaSteps.{get_made, replica_states-set}
-use Rattle.la_world.specs.Following.{said_by, IsPlayableGroup}
+use Rattle.la_world.specs.Calls.{replica_states_at_start, IsSubmission}
+use Rattle.la_world.proofs.OneReplicaSteps.{get_made, replica_state-else, replica_states-set}
+use Rattle.la_world.specs.Following.{said_by, takes}
 use Rattle.la_replica.specs.Fitting.{FitsReceiver}
-use Rattle.la_world.proofs.Allowing.{submitter_known}
-use Rattle.la_world.proofs.Legal.{legal_submits, playable_delivers, legal_between, entry_delivers}
+use Rattle.la_world.proofs.EventCases.{entry_of}
+use Rattle.la_world.proofs.Openings.{IsOf}
+use Rattle.la_world.proofs.SubmissionEvents.{submission_entry, submission_replica, submission_instance}
+use Rattle.la_world.proofs.Legal.{legal_submits, legal_between, entry_delivers, opens_in, IsPlaced, delivery_steps, delivery_placed}
 use Rattle.la_world.proofs.RefusedForMemory.{delivery_fits}
 use Rattle.la_world.proofs.Starting.{replica_state_at_start}
 use Rattle.la_world.proofs.StoredMessages.{messages_more, message_at}
-use Rattle.la_world.proofs.Shown.{shown_of, shown_is, learnt_number, length_trace}
+use Rattle.la_world.proofs.Shown.{opens_by, SpeaksOf, shown_is, learnt_number, length_trace}
 
-pub playable_group_of : (c : Config) → IsConfig c → c.commits ≡ 0 → IsPlayableGroup (group_of c)
-playable_group_of c is commits = record { few = let a = is.replicas in let b = is.few in omega arith; commits = commits }
+pub few_of : (c : Config) → IsConfig c → replicas (group_of c) ≤ 8
+few_of c is = let a = is.replicas in let b = is.few in omega arith
 
 -- ## The start
 
@@ -61,6 +72,21 @@ stands_at_start c is = record {
 abbrev pub world_after : World → (r : ℕ) → ReplicaState → List code.Message → Did → World
 world_after w r m mail did = record { config = w.config; replica_states = slice_set w.replica_states r m; messages = w.messages ++ mail; learnt = w.learnt ++ learning_of w.count (learnt_by did); count = w.count + 1 }
 
+-- a replica of this world that submits in i
+abbrev pub submitter_speaks : World → (i r : ℕ) → Speaker
+submitter_speaks w i r = record { replicas = w.config.replicas; replica = r; instance = i; ballot = 0; outcome = None; opens_in = i }
+
+-- and one that receives this message, and learns this by it
+abbrev pub receiver_speaks : World → code.Message → (copy : Option Histories) → Speaker
+receiver_speaks w m copy = record {
+  replicas = w.config.replicas;
+  replica = m.to;
+  instance = m.instance;
+  ballot = m.ballot;
+  outcome = option_and_then (outcome_in m.instance m.to) copy;
+  opens_in = instance_after m.instance (option_and_then (vote_in m.instance m.to) copy);
+}
+
 module _ (w : World) (events : List Event) (stands : StandsFor w events) where
   abbrev g : Group
   g = group_of w.config
@@ -78,69 +104,135 @@ module _ (w : World) (events : List Event) (stands : StandsFor w events) where
   pub get_message : (k : ℕ) (m : code.Message) → slice_get w.messages k ≡ Some m → slice_get (sent (replicas g) t) k ≡ Some (whole_of m)
   get_message k m stored = sym (message_at w.messages (sent (replicas g) t) k stands.messages) ∙ ap (option_map whole_of) stored
 
-  pub stands_after : (e : Event) (i r : ℕ) → refused g t e ≡ None → Concerns i r (entry g t e) → r < replicas g → (mail : List code.Message) → CarryAll mail (sent_at (replicas g) (entry g t e)) → StandsFor (world_after w r (replica_state g (entry g t e ∷ t) r) mail (entry g t e).did) (e ∷ events)
+  -- where all replicas but one stay as they were
+  pub stands_after : (e : Event) (r : ℕ) → refused g t e ≡ None → ((q : ℕ) → q ≢ r → replica_state g (entry g t e ∷ t) q ≡ replica_state g t q) → r < replicas g → (mail : List code.Message) → CarryAll mail (sent_at (replicas g) (entry g t e)) → StandsFor (world_after w r (replica_state g (entry g t e ∷ t) r) mail (entry g t e).did) (e ∷ events)
   unfolding trace sent learnt
-  stands_after e i r allowed concerns lt mail carry =
+  stands_after e r allowed others lt mail carry =
       let x = entry g t e in
       record {
         config = stands.config;
         legal = (allowed, stands.legal);
-        replica_states = ap (λ ms. slice_set ms r (replica_state g (x ∷ t) r)) stands.replica_states ∙ sym (replica_states-set g x t i r concerns lt);
+        replica_states = ap (λ ms. slice_set ms r (replica_state g (x ∷ t) r)) stands.replica_states ∙ sym (replica_states-set g x t r others lt);
         messages = messages_more w.messages mail (sent (replicas g) t) (sent_at (replicas g) x) stands.messages carry;
         learnt = ap₂ (λ ls n. ls ++ learning_of n (learnt_by x.did)) stands.learnt count_is;
         count = let c = stands.count in omega arith;
       }
 
-  module _ (none : w.config.commits ≡ 0) where
-    plain : IsPlayableGroup g
-    plain = playable_group_of w.config stands.config none
+  few : replicas g ≤ 8
+  few = few_of w.config stands.config
 
-    -- what one event comes to, where this is what its replica makes of it
-    pub record PlaysTo (e : Event) (i r ballot : ℕ) (made : Option (Out × ReplicaState)) : Type 0 where
-      pub in_group : r < replicas g
-      pub step : made ≡ Some (record { said = said_by (entry g t e).did; mail = sent_at (replicas g) (entry g t e) }, replica_state g (entry g t e ∷ t) r)
-      pub shown : shown_of (replicas g) w.count i r ballot (said_by (entry g t e).did) ≡ shown_as (replicas g) (length t) (entry g t e).did
-      pub after : (mail : List code.Message) → CarryAll mail (sent_at (replicas g) (entry g t e)) → StandsFor (world_after w r (replica_state g (entry g t e ∷ t) r) mail (entry g t e).did) (e ∷ events)
+  -- what one event comes to, where this is what its replica makes of it and tells
+  pub record PlaysTo (e : Event) (by : Speaker) (made : Option (Out × ReplicaState)) : Type 0 where
+    pub in_group : by.replica < replicas g
+    pub step : made ≡ Some (record { said = said_by (entry g t e).did; mail = sent_at (replicas g) (entry g t e) }, replica_state g (entry g t e ∷ t) by.replica)
+    pub shown : shown_by by w.count (said_by (entry g t e).did) ≡ shown_as (replicas g) (length t) (entry g t e).did
+    pub after : (mail : List code.Message) → CarryAll mail (sent_at (replicas g) (entry g t e)) → StandsFor (world_after w by.replica (replica_state g (entry g t e ∷ t) by.replica) mail (entry g t e).did) (e ∷ events)
 
-    submits_learns : (r : ℕ) (object_op : ObjectOp) → learnt_by (submits t 0 r object_op) ≡ None
-    unfolding submits
-    submits_learns r object_op = go (cond (is_open t 0 r) None (next_ballot (round t 0 r) (submitted t 0 r ++ object_op ∷ [])))
-      where
-        go : (o : Option Opening) → learnt_by (opens_or_waits r (length (submitted t 0 r ++ object_op ∷ [])) o) ≡ None
-        go None = refl
-        go (Some b) = refl
+  -- a speaker of this world that speaks of an event
+  shown_so : (by : Speaker) (d : Did) → by.replicas ≡ w.config.replicas → SpeaksOf by d → shown_by by w.count (said_by d) ≡ shown_as (replicas g) (length t) d
+  shown_so by d n h = shown_is by w.count d h ∙ ap₂ (λ k place. shown_as k place d) (n ∙ stands.config.replicas) count_is
 
-    pub submission_plays : (r : ℕ) (object_op : ObjectOp) → refused g t (Submit r object_op) ≡ None → PlaysTo (Submit r object_op) 0 r 0 (acting.submits (replica_state g t r) 0 object_op)
-    submission_plays r object_op allowed =
-        let lt = submitter_known g t r object_op allowed in
-        let h = legal_submits g events stands.legal plain.few (Submit r object_op) 0 r object_op (λ d. refl) (omega arith) lt in
-        record {
-          in_group = lt;
-          step = h.step;
-          shown = ap (λ n. shown_of (replicas g) n 0 r 0 (said_by (submits t 0 r object_op))) count_is
-              ∙ shown_is (replicas g) (length t) 0 r 0 (submits t 0 r object_op) h.concerns.opened h.concerns.learnt (λ b e. absurd (none-some b (sym (submits_learns r object_op) ∙ e)));
-          after = stands_after (Submit r object_op) 0 r allowed h.concerns lt;
-        }
+  submits_learns : (i r : ℕ) (object_op : ObjectOp) → learnt_by (submits t i r object_op) ≡ None
+  unfolding submits
+  submits_learns i r object_op = go (cond (is_open t i r) None (next_ballot (round t i r) (submitted t i r ++ object_op ∷ [])))
+    where
+      go : (o : Option Opening) → learnt_by (opens_or_waits r (length (submitted t i r ++ object_op ∷ [])) o) ≡ None
+      go None = refl
+      go (Some b) = refl
 
-    -- of the kept message with this number
-    pub delivery_plays : (k : ℕ) (m : code.Message) → slice_get w.messages k ≡ Some m → refused g t (Deliver k) ≡ None → PlaysTo (Deliver k) m.instance m.to m.ballot (acting.receives (replica_state g t m.to) (whole_of m))
-    delivery_plays k m stored allowed =
-        let v = whole_of m in
-        let is : slice_get (sent (replicas g) t) k ≡ Some v = get_message k m stored in
-        let h = playable_delivers g events stands.legal plain k v is in
-        let lt = (legal_between g events stands.legal k v is).to in
-        let x : Entry = entry_with g t (Deliver k) (Some v) in
-        let same : entry g t (Deliver k) ≡ x = entry_delivers g t k v is in
-        let c : Concerns m.instance m.to (entry g t (Deliver k)) = subst (Concerns m.instance m.to) (sym same) h.concerns in
-        record {
-          in_group = lt;
-          step = subst (λ y. acting.receives (replica_state g t m.to) v ≡ Some (record { said = said_by y.did; mail = sent_at (replicas g) y }, replica_state g (y ∷ t) m.to)) (sym same) h.step;
-          shown = ap (λ n. shown_of (replicas g) n m.instance m.to m.ballot (said_by (entry g t (Deliver k)).did)) count_is
-              ∙ subst (λ (y : Entry). shown_of (replicas g) (length t) m.instance m.to m.ballot (said_by y.did) ≡ shown_as (replicas g) (length t) y.did) (sym same)
-              (shown_is (replicas g) (length t) m.instance m.to m.ballot x.did h.concerns.opened h.concerns.learnt (λ b e. learnt_number g t v b e));
-          after = stands_after (Deliver k) m.instance m.to allowed c lt;
-        }
+  pub submission_plays : (e : Event) (i r : ℕ) (object_op : ObjectOp) → IsSubmission e i r object_op → refused g t e ≡ None → PlaysTo e (submitter_speaks w i r) (acting.submits (replica_state g t r) i object_op)
+  submission_plays e i r object_op by allowed =
+      let lt = submission_replica g t i r object_op e by allowed in
+      let h = legal_submits g events stands.legal few e i r object_op by (submission_instance g t i r object_op e by allowed) lt in
+      let d = submits t i r object_op in
+      let x : Entry = entry_of e None d in
+      let same : entry g t e ≡ x = submission_entry g t i r object_op e by in
+      let others : (q : ℕ) → q ≢ r → replica_state g (entry g t e ∷ t) q ≡ replica_state g t q = subst (λ (y : Entry). (q : ℕ) → q ≢ r → replica_state g (y ∷ t) q ≡ replica_state g t q) (sym same) (λ q ne. replica_state-else g x t i r q h.concerns ne) in
+      let none = submits_learns i r object_op in
+      record {
+        in_group = lt;
+        step = subst (λ (y : Entry). acting.submits (replica_state g t r) i object_op ≡ Some (record { said = said_by y.did; mail = sent_at (replicas g) y }, replica_state g (y ∷ t) r)) (sym same) h.step;
+        shown = subst (λ (y : Entry). shown_by (submitter_speaks w i r) w.count (said_by y.did) ≡ shown_as (replicas g) (length t) y.did) (sym same)
+            (shown_so (submitter_speaks w i r) d refl (record {
+              opened = λ b f. subst (λ o. IsOf (opens_by (submitter_speaks w i r) o) r b) (sym none) (h.concerns.opened b f);
+              learnt = λ b f. absurd (none-some b (sym none ∙ f));
+              number = λ b f. absurd (none-some b (sym none ∙ f));
+              outcome = λ b f. absurd (none-some b (sym none ∙ f));
+            }));
+        after = stands_after e r allowed others lt;
+      }
 
-    -- a kept message fits its receiver
-    pub message_fits : (k : ℕ) (m : code.Message) → slice_get w.messages k ≡ Some m → FitsReceiver (replica_state g t m.to) (whole_of m)
-    message_fits k m stored = (delivery_fits g events k (whole_of m) plain.few stands.config.cap_most stands.legal (get_message k m stored)).0
+  -- ## A delivery
+
+  -- what a replica says that it learnt
+  learnt_said : (d : Did) → learnt_in (said_by d) ≡ option_map (λ (b : Opening). b.updates) (learnt_by d)
+  learnt_said (did.Learnt b next) = refl
+  learnt_said (did.Opened b) = refl
+  learnt_said (did.Held id) = refl
+  learnt_said (did.Answered reply) = refl
+  learnt_said did.Counted = refl
+  learnt_said did.Ignored = refl
+  learnt_said (did.Refined b) = refl
+  learnt_said (did.Took s) = refl
+  learnt_said did.Kept = refl
+
+  -- what opens, opens in the instance of the vote that it casts
+  vote_opens : (i r : ℕ) (b : Opening) → IsOf i r b → opens_in i (second_vote b) ≡ instance_after i (vote_in i r b.updates)
+  vote_opens i r b of = ap₂ (λ j q. opens_in i (second_vote_in j q b.updates)) of.instance of.replica ∙ go (is_first_instance i) refl (proposed b.updates r)
+    where
+      go : (v : Bool) → is_first_instance i ≡ v → (o : Option ℕ) → opens_in i (cond v (second_vote_of (commit_of i) r b.updates o) None) ≡ instance_after i (cond v (option_map (second_vote_for b.updates) o) None)
+      go true e None = refl
+      go true e (Some value) = let odd = eqb-true (i % 2) 1 e in omega (arith, div-add-mod i 2, odd)
+      go false e o = refl
+
+  -- of the kept message with this number, where its receiver learns this by it
+  pub delivery_plays : (k : ℕ) (m : code.Message) → slice_get w.messages k ≡ Some m → refused g t (Deliver k) ≡ None → (copy : Option Histories) → copy ≡ learnt_in (said_by (entry g t (Deliver k)).did) → PlaysTo (Deliver k) (receiver_speaks w m copy) (takes (replica_state g t m.to) (whole_of m))
+  delivery_plays k m stored allowed copy kept =
+      let v = whole_of m in
+      let is : slice_get (sent (replicas g) t) k ≡ Some v = get_message k m stored in
+      let h = delivery_steps g events k v few stands.legal is in
+      let placed = delivery_placed g events stands.legal few k v is in
+      let lt = (legal_between g events stands.legal k v is).to in
+      let same : (entry g t (Deliver k)).did ≡ receives g t (Some v) = ap (λ (y : Entry). y.did) (entry_delivers g t k v is) in
+      let d = receives g t (Some v) in
+      let by = receiver_speaks w m copy in
+      let learnt_copy : copy ≡ option_map (λ (b : Opening). b.updates) (learnt_by d) = kept ∙ ap (λ y. learnt_in (said_by y)) same ∙ learnt_said d in
+      record {
+        in_group = lt;
+        step = h.step;
+        shown = subst (λ y. shown_by by w.count (said_by y) ≡ shown_as (replicas g) (length t) y) (sym same)
+            (shown_so by d refl (record {
+              opened = λ b f. opened_so m copy d placed learnt_copy b f;
+              learnt = placed.learnt;
+              number = λ b f. learnt_number g t v b f;
+              outcome = λ b f. outcome_so m copy d placed learnt_copy b f;
+            }));
+        after = stands_after (Deliver k) m.to allowed h.others lt;
+      }
+    where
+      opened_so : (m : code.Message) (copy : Option Histories) (d : Did) → IsPlaced m.instance m.to d → copy ≡ option_map (λ (b : Opening). b.updates) (learnt_by d) → (b : Opening) → opened_by d ≡ Some b → IsOf (opens_by (receiver_speaks w m copy) (learnt_by d)) m.to b
+      opened_so m copy d placed c b f = go (learnt_by d) refl
+        where
+          go : (o : Option Opening) → learnt_by d ≡ o → IsOf (opens_by (receiver_speaks w m copy) o) m.to b
+          go None e = subst (λ o. IsOf (opens_in m.instance (second_vote_after o)) m.to b) e (placed.opened b f)
+          go (Some l) e =
+              let in_place : opens_in m.instance (second_vote l) ≡ instance_after m.instance (option_and_then (vote_in m.instance m.to) copy) =
+              vote_opens m.instance m.to l (placed.learnt l e) ∙ ap (λ o. instance_after m.instance (option_and_then (vote_in m.instance m.to) o)) (sym (c ∙ ap (option_map (λ (b : Opening). b.updates)) e)) in
+              subst (λ j. IsOf j m.to b) in_place (subst (λ o. IsOf (opens_in m.instance (second_vote_after o)) m.to b) e (placed.opened b f))
+
+      outcome_so : (m : code.Message) (copy : Option Histories) (d : Did) → IsPlaced m.instance m.to d → copy ≡ option_map (λ (b : Opening). b.updates) (learnt_by d) → (b : Opening) → learnt_by d ≡ Some b → option_and_then (outcome_in m.instance m.to) copy ≡ outcome_by b
+      outcome_so m copy d placed c b f =
+          let of = placed.learnt b f in
+          ap (option_and_then (outcome_in m.instance m.to)) (c ∙ ap (option_map (λ (b : Opening). b.updates)) f)
+          ∙ ap₂ (λ j q. outcome_in j q b.updates) (sym of.instance) (sym of.replica)
+
+  -- a kept message fits its receiver
+  pub message_fits : (k : ℕ) (m : code.Message) → slice_get w.messages k ≡ Some m → FitsReceiver (replica_state g t m.to) (whole_of m)
+  message_fits k m stored = (delivery_fits g events k (whole_of m) few stands.config.cap_most stands.legal (get_message k m stored)).0
+
+  -- and is of an instance of the group
+  pub message_instance : (k : ℕ) (m : code.Message) → slice_get w.messages k ≡ Some m → m.instance ≤ 2 * MAX_COMMITS
+  message_instance k m stored =
+      let lt = (legal_between g events stands.legal k (whole_of m) (get_message k m stored)).instance in
+      let most = stands.config.commits in
+      omega arith
