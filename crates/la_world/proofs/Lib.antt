@@ -33,9 +33,9 @@ pub mod Starting
 pub mod StoredMessages
 pub mod Shown
 pub mod Telling
+pub mod Proposals
 pub mod WorldSteps
 pub mod SentCounts
 pub mod Receivers
 pub mod Worlds
 pub mod Playback
-pub mod Proposals

@@ -1,4 +1,4 @@
-ghost use Rattle.std.specs.Prelude.{◌≡◌, ◌+◌, ◌<◌, ◌≤◌, ◌^◌, [], ◌++◌, length, slice_get, Some, None};
+ghost use Rattle.std.specs.Prelude.{◌≡◌, ℕ, ◌+◌, ◌<◌, ◌≤◌, ◌^◌, [], ◌++◌, length, slice_get, Some, None};
 ghost use Rattle.std.specs.Prelude.{IfOk, IfErr, OnOk, OnErr};
 ghost use Rattle.std.specs.Option.{option_copied};
 ghost use Rattle.la_set.specs.ObjectOps.{ObjectOp};
@@ -178,7 +178,7 @@ impl World {
     // fits.
     fn admit_proposal(&self, replica: u8, commit: u8) -> Result<(), WorldError>
         ensures known { OnOk result (replica < length self.now.replica_states) }
-        ensures object { OnOk result (commit < self.now.config.commits) }
+        ensures object { OnOk result (commit < MAX_COMMITS) }
         ensures allowed { (events : Past) → StandsFor self.now events →
             OnOk result ((value : ℕ) →
             refused_in self.now events (Decide replica commit value) ≡ None) }
