@@ -1,27 +1,25 @@
--- What a participant of an adopt-commit object comes to, by the set that it learns in the second
--- agreement: where all votes there are sole it commits, where only some are it adopts, both with
--- the value of the sole vote of least id; where none is, it adopts its own value.
-use Rattle.std.specs.Prelude.{ℕ, Bool, true, false, List, [], ◌∷◌}
+-- What a participant returns: by the set that it learnt in the second agreement.
+use Rattle.std.specs.Prelude.{ℕ, Bool, true, false, List, [], ◌∷◌, if◌then◌else◌}
 use Rattle.std.specs.List.{list_all}
 use Rattle.la_set.specs.Histories.{Histories}
-use Rattle.la_commit.specs.declared.vote.Vote.{Vote}
 use Rattle.la_commit.specs.declared.outcome.Outcome.{Outcome}
 use Rattle.la_commit.specs.declared.outcome.Outcome.TheVariants.{Commit, Adopt}
+use Rattle.la_commit.specs.declared.vote.Vote.{Vote}
 use Rattle.la_commit.specs.Votes.{votes, sole_votes}
 
--- every vote of a set is sole
-unfoldable pub are_all_sole : Histories → Bool
+-- every vote of a set says that its value is the sole one
+abbrev pub are_all_sole : Histories → Bool
 are_all_sole s = list_all (λ v. v.sole) (votes s)
 
--- by the sole votes, in the order of their ids, and by whether there is no other vote
-abbrev pub outcome_by : List Vote → Bool → (own : ℕ) → Outcome
-outcome_by [] all own = Adopt own
-outcome_by (v ∷ vs) true own = Commit v.value
-outcome_by (v ∷ vs) false own = Adopt v.value
+-- the outcome where these are the sole votes, in the order of their ids, and all are sole or not:
+-- by the first of them; the own value, where there is none
+abbrev pub outcome_by : (all_sole : Bool) → List Vote → (own : ℕ) → Outcome
+outcome_by all_sole [] own = Adopt own
+outcome_by all_sole (v ∷ more) own = if all_sole then Commit v.value else Adopt v.value
 
--- the outcome of a participant that proposed its own value and learnt this set
-unfoldable pub outcome : (second : Histories) → (own : ℕ) → Outcome
-outcome second own = outcome_by (sole_votes second) (are_all_sole second) own
+-- the outcome of a participant with this value that learnt this set
+abbrev pub outcome : (second : Histories) → (own : ℕ) → Outcome
+outcome s own = outcome_by (are_all_sole s) (sole_votes s) own
 
 abbrev pub value_of : Outcome → ℕ
 value_of (Commit value) = value

@@ -1,73 +1,61 @@
--- The votes of an adopt-commit object. A participant votes for its value in a first agreement; from
--- the set that it learns there it tells whether every vote has this value, and says so with its
--- vote in a second agreement. In either it submits one update, its first.
-use Rattle.std.specs.Prelude.{◌≡◌, ℕ, ◌==◌, Bool, true, false, List, Option, Some, None, filter}
-use Rattle.std.specs.Option.{IsSomeAnd}
-use Rattle.std.specs.List.{list_all, filter_map}
+-- The votes of an adopt-commit object. A participant votes for its value in a first agreement; once
+-- it has learnt a set there, it votes in a second one, and says whether all votes of that set have
+-- its value. In each agreement its vote is its first update; updates that are no votes are passed
+-- over.
+use Rattle.std.specs.Prelude.{◌≡◌, ℕ, ◌==◌, Bool, true, false, List, filter, filter_map, Option, Some, None, option_and_then, if◌then◌else◌}
+use Rattle.std.specs.List.{list_all}
 use Rattle.la_set.specs.declared.update.Op.{Op}
-use Rattle.la_set.specs.declared.update.Op.TheVariants.{Inc, Dec, Raise, Put, Remove, Mark, Vote as Cast}
+use Rattle.la_set.specs.declared.update.Op.TheVariants as op
 use Rattle.la_set.specs.declared.update.Update.{Update}
 use Rattle.la_set.specs.Histories.{Histories, get, updates}
 use Rattle.la_commit.specs.declared.vote.Vote.{Vote}
 
--- the value that is voted for, if it is a vote
-abbrev pub voted : Op → Option ℕ
-voted (Cast value sole) = Some value
-voted (Inc x) = None
-voted (Dec x) = None
-voted (Raise x) = None
-voted (Put x) = None
-voted (Remove tags) = None
-voted Mark = None
+-- the vote that an operation casts, if it is one
+abbrev pub vote_of : Op → Option Vote
+vote_of (op.Vote value sole) = Some (record { value = value; sole = sole })
+vote_of (op.Inc x) = None
+vote_of (op.Dec x) = None
+vote_of (op.Raise x) = None
+vote_of (op.Put x) = None
+vote_of (op.Remove tags) = None
+vote_of op.Mark = None
 
--- a vote for this value, or no vote
-abbrev pub is_for : (value : ℕ) → Option ℕ → Bool
-is_for value None = true
-is_for value (Some other) = other == value
+-- the operation that casts it
+abbrev pub op_of : Vote → Op
+op_of v = op.Vote v.value v.sole
+
+-- the votes of a set, in the order of their ids
+abbrev pub votes : Histories → List Vote
+votes s = filter_map (λ u. vote_of u.op) (updates s)
+
+-- those that say that their value is the sole one
+abbrev pub sole_votes : Histories → List Vote
+sole_votes s = filter (λ v. v.sole) (votes s)
 
 -- every vote of a set has this value
 abbrev pub is_sole : Histories → (value : ℕ) → Bool
-is_sole s value = list_all (λ u. is_for value (voted u.op)) (updates s)
+is_sole s value = list_all (λ v. v.value == value) (votes s)
 
-abbrev pub vote_in : Option Update → Option ℕ
-vote_in None = None
-vote_in (Some u) = voted u.op
+-- a participant's own vote in a set: that of its first update
+abbrev pub own_vote : Histories → (participant : ℕ) → Option Vote
+own_vote s p =
+    option_and_then (λ (u : Update). vote_of u.op) (get s (record { replica = p; number = 1 }))
 
--- the value of a replica's own vote in a set: that of its first update
-abbrev pub own_vote : Histories → (replica : ℕ) → Option ℕ
-own_vote s r = vote_in (get s (record { replica = r; number = 1 }))
+abbrev pub HoldsVote : Histories → (participant : ℕ) → Vote → Type 0
+HoldsVote s p v = own_vote s p ≡ Some v
 
--- the vote that an operation is, if it is one
-abbrev pub vote_of : Op → Option Vote
-vote_of (Cast value sole) = Some (record { value = value; sole = sole })
-vote_of (Inc x) = None
-vote_of (Dec x) = None
-vote_of (Raise x) = None
-vote_of (Put x) = None
-vote_of (Remove tags) = None
-vote_of Mark = None
+-- the value that a vote proposes: one that is not said to be the sole one
+abbrev pub proposal : Vote → Option ℕ
+proposal v = if v.sole then None else Some v.value
 
--- the operation that casts a vote
-abbrev pub op_of : Vote → Op
-op_of v = Cast v.value v.sole
-
--- a set's votes, in the order of their ids; updates that are no votes are passed over
-unfoldable pub votes : Histories → List Vote
-votes s = filter_map (λ u. vote_of u.op) (updates s)
-
--- those that say that they are sole
-unfoldable pub sole_votes : Histories → List Vote
-sole_votes s = filter (λ v. v.sole) (votes s)
+-- the value that a participant proposed, by its own vote in a set of the first agreement
+abbrev pub proposed : Histories → (participant : ℕ) → Option ℕ
+proposed s p = option_and_then proposal (own_vote s p)
 
 -- the vote for a value in the first agreement
 abbrev pub first_vote_for : (value : ℕ) → Vote
 first_vote_for value = record { value = value; sole = false }
 
--- the vote for a value in the second agreement, once this set is learnt in the first one
-abbrev pub second_vote_for : Histories → (value : ℕ) → Vote
-second_vote_for learnt value = record { value = value; sole = is_sole learnt value }
-
--- a participant's first update in a set casts this vote, for whatever object
-abbrev pub HoldsVote : Histories → (participant : ℕ) → Vote → Type 0
-HoldsVote s participant v =
-    IsSomeAnd (get s (record { replica = participant; number = 1 })) (λ u. u.op ≡ op_of v)
+-- and in the second one, where this set was learnt in the first
+abbrev pub second_vote_for : (first : Histories) → (value : ℕ) → Vote
+second_vote_for first value = record { value = value; sole = is_sole first value }

@@ -1,39 +1,45 @@
 // What a participant reads off a set that it has learnt.
-ghost use Rattle.std.specs.Prelude.{◌≡◌, ◌↔◌, IsTrue, slice_get};
-ghost use Rattle.la_commit.specs.Votes.{is_sole, sole_votes, HoldsVote};
+ghost use Rattle.std.specs.Prelude.{◌≡◌, slice_get, option_and_then};
+ghost use Rattle.la_set.specs.declared.update.Update.{Update};
+ghost use Rattle.la_set.specs.Histories.{updates};
+ghost use Rattle.la_commit.specs.Votes.{vote_of, own_vote, is_sole, sole_votes};
 ghost use Rattle.la_commit.specs.Outcomes.{are_all_sole};
 
 use crate::Vote;
 use la_set::{UpdateId, UpdateSet};
 
-// Whether a participant's first update casts this vote.
-pub fn holds_vote(learnt: &UpdateSet, participant: u8, vote: Vote) -> bool
-    ensures { IsTrue result ↔ HoldsVote learnt.now participant vote }
+/// A participant's own vote in a set: that of its first update, if there is one and it is a vote.
+/// The cost is logarithmic. Of a participant of 8 or more no set has a vote.
+pub fn own_vote(set: &UpdateSet, participant: u8) -> Option<Vote>
+    ensures { result ≡ own_vote set.now participant }
 {
     let id = UpdateId {
         replica: participant,
         number: 1,
     };
-    match learnt.get(id) {
-        Some(update) => vote.is_cast_by(&update.op),
-        None => false,
+    match set.get(id) {
+        Some(update) => Vote::of(&update.op),
+        None => None,
     }
 }
 
-// The vote at a place of the set's updates, if that update is one.
-fn vote_at(learnt: &UpdateSet, place: usize) -> Option<Vote> {
-    match learnt.at(place) {
+// The vote at a place of the set's updates, in the order of ids, if the update there is one.
+fn vote_at(set: &UpdateSet, place: usize) -> Option<Vote>
+    ensures { result
+        ≡ option_and_then (λ (u : Update). vote_of u.op) (slice_get (updates set.now) place) }
+{
+    match set.at(place) {
         Some(update) => Vote::of(&update.op),
         None => None,
     }
 }
 
 // Whether every vote has this value.
-pub fn all_have(learnt: &UpdateSet, value: u64) -> bool
-    ensures { result ≡ is_sole learnt.now value }
+pub(crate) fn all_have(set: &UpdateSet, value: u64) -> bool
+    ensures { result ≡ is_sole set.now value }
 {
-    for place in 0..learnt.len() {
-        if let Some(vote) = vote_at(learnt, place) {
+    for place in 0..set.len() {
+        if let Some(vote) = vote_at(set, place) {
             if vote.value != value {
                 return false;
             }
@@ -43,11 +49,11 @@ pub fn all_have(learnt: &UpdateSet, value: u64) -> bool
 }
 
 // Whether every vote is sole.
-pub fn all_sole(learnt: &UpdateSet) -> bool
-    ensures { result ≡ are_all_sole learnt.now }
+pub(crate) fn all_sole(set: &UpdateSet) -> bool
+    ensures { result ≡ are_all_sole set.now }
 {
-    for place in 0..learnt.len() {
-        if let Some(vote) = vote_at(learnt, place) {
+    for place in 0..set.len() {
+        if let Some(vote) = vote_at(set, place) {
             if !vote.sole {
                 return false;
             }
@@ -56,12 +62,12 @@ pub fn all_sole(learnt: &UpdateSet) -> bool
     true
 }
 
-// The sole vote of least id.
-pub fn first_sole(learnt: &UpdateSet) -> Option<Vote>
-    ensures { result ≡ slice_get (sole_votes learnt.now) 0 }
+// The sole vote of least id, where there is one.
+pub(crate) fn first_sole(set: &UpdateSet) -> Option<Vote>
+    ensures { result ≡ slice_get (sole_votes set.now) 0 }
 {
-    for place in 0..learnt.len() {
-        if let Some(vote) = vote_at(learnt, place) {
+    for place in 0..set.len() {
+        if let Some(vote) = vote_at(set, place) {
             if vote.sole {
                 return Some(vote);
             }

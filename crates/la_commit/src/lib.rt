@@ -15,6 +15,7 @@ mod participant;
 mod vote;
 
 pub use error::NotMine;
+pub use learnt::own_vote;
 pub use outcome::Outcome;
 pub use participant::{Done, First, Fresh, Second};
 pub use vote::Vote;

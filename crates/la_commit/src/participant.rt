@@ -2,7 +2,8 @@ ghost use Rattle.std.specs.Prelude.{◌≡◌, ◌↔◌, IsOk, IfOk, IfErr};
 ghost use Rattle.la_commit.specs.Votes.{first_vote_for, second_vote_for, HoldsVote};
 ghost use Rattle.la_commit.specs.Outcomes.{outcome};
 
-use crate::{NotMine, Outcome, Vote, learnt};
+use crate::learnt::{all_have, all_sole, first_sole, own_vote};
+use crate::{NotMine, Outcome, Vote};
 use la_set::UpdateSet;
 use std::marker::Model;
 
@@ -96,6 +97,13 @@ impl Fresh {
 }
 
 impl First {
+    /// A participant whose vote in the first agreement is known goes on. It has this value.
+    pub fn resume(participant: u8, value: u64) -> First
+        ensures { result ≡ record { participant = participant; value = value } }
+    {
+        First { participant, value }
+    }
+
     /// Takes a set that was learnt in the first agreement. The vote, which is sole where every vote
     /// of the set has the participant's value, is to be submitted in the second agreement as the
     /// participant's first update there.
@@ -113,18 +121,25 @@ impl First {
         ensures back { IfErr result (λ err. err.0 ≡ self) }
     {
         let First { participant, value } = self;
-        if !learnt::holds_vote(learnt, participant, Vote { value, sole: false }) {
+        if own_vote(learnt, participant) != Some(Vote { value, sole: false }) {
             return Err((self, NotMine));
         }
         let vote = Vote {
             value,
-            sole: learnt::all_have(learnt, value),
+            sole: all_have(learnt, value),
         };
         Ok((Second { participant, vote }, vote))
     }
 }
 
 impl Second {
+    /// A participant whose vote in the second agreement is known goes on.
+    pub fn resume(participant: u8, vote: Vote) -> Second
+        ensures { result ≡ record { participant = participant; vote = vote } }
+    {
+        Second { participant, vote }
+    }
+
     /// Takes a set that was learnt in the second agreement. Where all its votes are sole the outcome
     /// commits, where only some are it adopts, both with the value of the sole vote of least id;
     /// where none is, it adopts the participant's own value.
@@ -138,12 +153,12 @@ impl Second {
         ensures back { IfErr result (λ err. err.0 ≡ self) }
     {
         let Second { participant, vote } = self;
-        if !learnt::holds_vote(learnt, participant, vote) {
+        if own_vote(learnt, participant) != Some(vote) {
             return Err((self, NotMine));
         }
-        let reached = match learnt::first_sole(learnt) {
+        let reached = match first_sole(learnt) {
             None => Outcome::Adopt(vote.value),
-            Some(sole) if learnt::all_sole(learnt) => Outcome::Commit(sole.value),
+            Some(sole) if all_sole(learnt) => Outcome::Commit(sole.value),
             Some(sole) => Outcome::Adopt(sole.value),
         };
         Ok((Done { reached }, reached))

@@ -1,18 +1,20 @@
-ghost use Rattle.std.specs.Prelude.{◌≡◌, ◌↔◌, IsTrue};
+ghost use Rattle.std.specs.Prelude.{◌≡◌};
 ghost use Rattle.la_commit.specs.Votes.{vote_of, op_of};
 
 use la_set::Op;
 
-/// A participant's vote: a value, and whether the participant saw that value alone. In the first
-/// agreement no vote is sole.
+/// A participant's vote: its value, and whether it saw that value alone.
 #[derive(Clone, Copy, Debug, PartialEq, Eq)]
 pub struct Vote {
+    /// The value that is voted for.
     pub value: u64,
+    /// Whether all votes of the set that the participant learnt in the first agreement have it. In
+    /// that agreement itself no vote is sole.
     pub sole: bool,
 }
 
 impl Vote {
-    /// The vote that an operation is, if it is one.
+    /// The vote that an operation casts, if it is one.
     pub fn of(op: &Op) -> Option<Vote>
         ensures { result ≡ vote_of op.now }
     {
@@ -24,24 +26,15 @@ impl Vote {
             _ => None,
         }
     }
+}
 
-    /// The operation that casts this vote: what a participant submits as its update.
-    pub fn op(self) -> Op
-        ensures { result ≡ op_of self }
-    {
+impl From<Vote> for Op {
+    ghost from_gives = { λ vote op. op ≡ op_of vote };
+
+    fn from(vote: Vote) -> Op {
         Op::Vote {
-            value: self.value,
-            sole: self.sole,
-        }
-    }
-
-    // Whether an operation casts this very vote.
-    pub(crate) fn is_cast_by(self, op: &Op) -> bool
-        ensures { IsTrue result ↔ (op.now ≡ op_of self) }
-    {
-        match op {
-            Op::Vote { value, sole } => *value == self.value && *sole == self.sole,
-            _ => false,
+            value: vote.value,
+            sole: vote.sole,
         }
     }
 }
