@@ -1,5 +1,5 @@
 -- Reading a set's votes, update after update.
-use Rattle.std.proofs.Common.{◌≡◌, ℕ, suc, ◌+◌, ◌≤◌, Bool, true, false, List, [], ◌∷◌, ◌++◌, length, take, filter, Option, Some, None, refl, ap, sym, ◌∙◌, add-one, take_all}
+use Rattle.std.proofs.Common.{◌≡◌, ℕ, suc, ◌+◌, ◌≤◌, Bool, true, false, List, [], ◌∷◌, ◌++◌, length, take, drop, filter, Option, Some, None, refl, ap, sym, ◌∙◌, arith, add-one, take_all}
 use Rattle.std.specs.Prelude.{option_and_then}
 use Rattle.std.specs.List.{filter_map, list_all, slice_get}
 use Rattle.std.proofs.lemmas.List.Folds.{list_all-append}
@@ -40,7 +40,12 @@ pub none-more : (p : Vote → Bool) (s : Histories) (i : ℕ) (v : Vote) → vot
 none-more p s i v at fails before = rw (add-one i) (ap (filter p) (filter_map-more _ (updates s) i v at) ∙ filter-append p (votes_before s i) (v ∷ []) ∙ rw (before, fails) refl)
 
 pub first-found : (p : Vote → Bool) (s : Histories) (i : ℕ) (v : Vote) → vote_at s i ≡ Some v → p v ≡ true → filter p (votes_before s i) ≡ [] → slice_get (filter p (votes s)) 0 ≡ Some v
-first-found p s i v at passes before = ap (λ vs. slice_get vs 0) (ap (filter p) (filter_map-at _ (updates s) i v at) ∙ filter-append p (votes_before s i) _ ∙ rw (before, passes) refl)
+first-found p s i v at passes before =
+    let later = filter_map (λ (u : Update). vote_of u.op) (drop (suc i) (updates s)) in
+    let found : filter p (votes s) ≡ v ∷ filter p later = ap (filter p) (filter_map-at _ (updates s) i v at) ∙ filter-append p (votes_before s i) (v ∷ later) ∙ rw (before, passes) refl in
+    ap (λ vs. slice_get vs 0) found
 
 pub none-end : (p : Vote → Bool) (s : Histories) (i : ℕ) → i ≡ length (updates s) → filter p (votes_before s i) ≡ [] → slice_get (filter p (votes s)) 0 ≡ None
-none-end p s i end before = ap (λ vs. slice_get vs 0) (ap (filter p) (sym (votes_before-all s)) ∙ ap (λ n. filter p (votes_before s n)) (sym end) ∙ before)
+none-end p s i end before =
+    let none : filter p (votes s) ≡ [] = ap (filter p) (sym (votes_before-all s)) ∙ ap (λ n. filter p (votes_before s n)) (sym end) ∙ before in
+    ap (λ vs. slice_get vs 0) none
