@@ -4,10 +4,10 @@ ghost use Rattle.std.specs.Option.{option_copied};
 ghost use Rattle.la_proposer.specs.declared.proposer.TheConstants.{MAX_CAP};
 ghost use Rattle.la_proposer.specs.Majority.{votes_of};
 ghost use Rattle.la_proposer.specs.ProposerState.{op_on};
-ghost use Rattle.la_replica.specs.Whole.{whole_of, whole_out};
+ghost use Rattle.la_replica.specs.Whole.{whole_of, whole_out, whole_both};
 ghost use Rattle.la_replica.specs.Whole as whole;
 ghost use Rattle.la_replica.specs.ReplicaState.{ReplicaState, start, submits, receives, sender_of};
-ghost use Rattle.la_replica.specs.ReplicaState.{last_learnt, submitted_in};
+ghost use Rattle.la_replica.specs.ReplicaState.{last_learnt, submitted_in, receives_and_submits};
 ghost use Rattle.la_replica.specs.Invariant.{IsReplicaState};
 ghost use Rattle.la_replica.specs.Steps.{learnt_in};
 ghost use Rattle.la_replica.specs.Refusals.{IsSubmitRefusal, IsReceiveRefusal, IsReceivable};
@@ -17,7 +17,7 @@ ghost use Rattle.la_replica.specs.Memory.{IsFree};
 
 use crate::instance::Instance;
 use crate::sender::Sender;
-use crate::{Message, Out, ReplicaError};
+use crate::{Both, Message, Out, ReplicaError};
 use la_proposer::Votes;
 use la_set::{Op, UpdateSet};
 use std::alloc::{AllocError, Global};
@@ -243,6 +243,33 @@ impl Replica {
         ensures err { OnErr result (self.new ≡ self.old) }
     {
         self.take_as(message, true)
+    }
+
+    /// Receives a message that fits, as [`Replica::take_message`] does, and submits an update in
+    /// another instance in the same step, as [`Replica::take_submission`] does: both, or neither.
+    /// It is refused for want of memory alone; then the replica is as before.
+    pub fn take_message_and_submit(
+        &mut self,
+        message: &Message,
+        instance: u8,
+        object: u16,
+        op: Op,
+    ) -> Result<Both, AllocError>
+        requires fits { FitsReceiver self.old (whole_of message.now) }
+        requires other { instance ≢ message.now.instance }
+        requires room { HasRoom self.old instance }
+        requires spares { SubmittingSpares self.old instance }
+        ensures step { IfOk result (λ both.
+            receives_and_submits self.old (whole_of message.now) instance (op_on object op)
+            ≡ Some (whole_both both, self.new)) }
+        ensures err { OnErr result (self.new ≡ self.old) }
+    {
+        let mut copy = self.copy()?;
+        let received = copy.take_message(message)?;
+        let submitted = copy.take_submission(instance, object, op)?;
+        let both = Both::new(received, submitted)?;
+        *self = copy;
+        Ok(both)
     }
 
     /// The set that a message would lead this replica to learn, if it were received: the open
