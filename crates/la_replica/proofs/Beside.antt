@@ -32,15 +32,6 @@ module _ (m : ReplicaState) (i : ℕ) (x y : Instance) (at : slice_get m.instanc
       let of = subst (IsOf m.votes m.own) (get_or_from_slice_get m.instances i x x at) (is.alike i x (slice_get_within m.instances i x at)) in
       (like.0 ∙ of.0, like.1 ∙ of.1)
 
-  pub receives_apart : (message : Message) (s : Sender) (out : Out) (view : Histories) → message.instance ≡ i → s ≡ sender_of m i
-      → steps.receives s x m.view message ≡ step_of out y view → receives m message ≡ Some (out, with_instance m message.instance y view)
-  receives_apart message s out view to from step =
-      ap (λ k. option_map (λ z. after_step m message.instance (steps.receives (sender_of m message.instance) z m.view message)) (slice_get m.instances k)) to
-      ∙ ap (option_map (λ z. after_step m message.instance (steps.receives (sender_of m message.instance) z m.view message))) at
-      ∙ ap (λ k. Some (after_step m message.instance (steps.receives (sender_of m k) x m.view message))) to
-      ∙ ap (λ t. Some (after_step m message.instance (steps.receives t x m.view message))) (sym from)
-      ∙ ap (λ t. Some (after_step m message.instance t)) step
-
   pub receiving_alike : (message : Message) (s : Sender) (out : Out) (before view : Histories) → IsReplicaState m → steps.receives s x before message ≡ step_of out y view → IsOf m.votes m.own y
   receiving_alike message s out before view is step = stays_alike is (subst (IsLike x.proposer) (ap (λ t. t.at.proposer) step) (message_like s x before message message.body))
 
@@ -51,6 +42,13 @@ module _ (m : ReplicaState) (i : ℕ) (x y : Instance) (at : slice_get m.instanc
 
   pub submitting_alike : (d : ObjectOp) (s : Sender) (out : Out) → IsReplicaState m → ((view : Histories) → steps.submits s x view d ≡ step_of out y view) → IsOf m.votes m.own y
   submitting_alike d s out is step = stays_alike is (subst (IsLike x.proposer) (ap (λ t. t.at.proposer) (step m.view)) (submission_like x.proposer d))
+
+pub receives_apart : (m : ReplicaState) (message : Message) (x y : Instance) → slice_get m.instances message.instance ≡ Some x → (s : Sender) (out : Out) (view : Histories) → s ≡ sender_of m message.instance
+    → steps.receives s x m.view message ≡ step_of out y view → receives m message ≡ Some (out, with_instance m message.instance y view)
+receives_apart m message x y at s out view from step =
+    ap (option_map (λ z. after_step m message.instance (steps.receives (sender_of m message.instance) z m.view message))) at
+    ∙ ap (λ t. Some (after_step m message.instance (steps.receives t x m.view message))) (sym from)
+    ∙ ap (λ t. Some (after_step m message.instance t)) step
 
 -- ## Two steps
 

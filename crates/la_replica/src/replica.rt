@@ -1,5 +1,5 @@
-ghost use Rattle.std.specs.Prelude.{◌≡◌, ◌≢◌, ◌+◌, ◌*◌, ◌<◌, ◌≤◌, length, slice_get, true, Some, None, IsOk};
-ghost use Rattle.std.specs.Prelude.{IfOk, IfErr, OnOk, OnErr};
+ghost use Rattle.std.specs.Prelude.{◌≡◌, ◌≢◌, ◌+◌, ◌*◌, ◌<◌, ◌≤◌, length, slice_get, slice_set};
+ghost use Rattle.std.specs.Prelude.{true, Some, None, IsOk, IfOk, IfErr, OnOk, OnErr};
 ghost use Rattle.std.specs.Option.{option_copied};
 ghost use Rattle.la_proposer.specs.declared.proposer.TheConstants.{MAX_CAP};
 ghost use Rattle.la_proposer.specs.Majority.{votes_of};
@@ -266,11 +266,12 @@ impl Replica {
             ≡ Some (whole_both both, self.new)) }
         ensures err { OnErr result (self.new ≡ self.old) }
     {
-        let (at, view, received) = self.received(message)?;
+        let (at, view, received) = self.received_apart(message)?;
         let (other, submitted) = self.submitted_apart(instance, object, op)?;
         let both = Both::new(received, submitted)?;
-        self.put_seen(message.instance, at, view);
+        self.put(message.instance, at);
         self.put(instance, other);
+        self.see(view);
         Ok(both)
     }
 
@@ -311,7 +312,7 @@ impl Replica {
 
     // What a message that fits comes to, in copies of its instance and of the view: what stands
     // there afterwards, and what is answered.
-    fn received(&self, message: &Message) -> Result<(Instance, UpdateSet, Out), AllocError>
+    fn received_apart(&self, message: &Message) -> Result<(Instance, UpdateSet, Out), AllocError>
         requires { FitsReceiver self.now (whole_of message.now) }
         ensures step { IfOk result (λ after. receives self.now (whole_of message.now) ≡ Some (
           whole_out after.2,
@@ -360,18 +361,16 @@ impl Replica {
     fn put(&mut self, instance: u8, at: Instance)
         requires there { instance < length self.old.instances }
         requires alike { IsOf self.old.votes self.old.own at }
-        ensures { self.new ≡ with_instance self.old instance at self.old.view }
+        ensures { self.new
+            ≡ record self.old { instances = slice_set self.old.instances instance at } }
     {
         self.instances[instance as usize] = at;
     }
 
-    // Puts this in an instance's and in the view's place.
-    fn put_seen(&mut self, instance: u8, at: Instance, view: UpdateSet)
-        requires there { instance < length self.old.instances }
-        requires alike { IsOf self.old.votes self.old.own at }
-        ensures { self.new ≡ with_instance self.old instance at view }
+    // Puts this in the view's place.
+    fn see(&mut self, view: UpdateSet)
+        ensures { self.new ≡ record self.old { view = view } }
     {
-        self.instances[instance as usize] = at;
         self.view = view;
     }
 
