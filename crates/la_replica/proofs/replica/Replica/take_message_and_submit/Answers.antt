@@ -1,4 +1,4 @@
-use Rattle.std.proofs.Common.{◌≡◌, Some, slice_set, sym, ap, ◌∙◌}
+use Rattle.std.proofs.Common.{◌≡◌, Some, Result, Ok, Err, OnErr, slice_set, refl, sym, ap, ◌∙◌}
 use Rattle.la_proposer.specs.ProposerState.{op_on}
 use Rattle.la_replica.specs.Whole.{whole_of, whole_out, whole_both}
 use Rattle.la_replica.specs.ReplicaState.{ReplicaState, with_instance}
@@ -15,3 +15,10 @@ returns-clause-step c =
     both_are m message i (op_on c.args.object c.args.op) c.in_ok-at.at y c.in_ok-at.view (whole_out c.in_ok-at.received) (whole_out c.in_ok-other.submitted) c.requires.other c.in_ok-at.ensures.step c.in_ok-other.ensures.step
     ∙ ap (λ both. Some (both, with_instance (with_instance m message.instance c.in_ok-at.at c.in_ok-at.view) i y c.in_ok-at.view)) (sym c.in_ok-both.ensures)
     ∙ ap (λ (q : ReplicaState). Some (whole_both c.in_ok-both.both, q)) (sym after)
+
+on_err : {T E P : Type 0} (r : Result T E) → P → OnErr r P
+on_err (Ok x) p = tt
+on_err (Err e) p = p
+
+pub returns-in_err-both-clause-err : goal.returns-in_err-both-clause-err
+returns-in_err-both-clause-err c = on_err _ refl
