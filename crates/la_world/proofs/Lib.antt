@@ -37,5 +37,7 @@ pub mod Proposals
 pub mod WorldSteps
 pub mod SentCounts
 pub mod Receivers
+pub mod Participants
 pub mod Worlds
+pub mod Returned
 pub mod Playback

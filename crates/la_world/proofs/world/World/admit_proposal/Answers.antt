@@ -1,27 +1,27 @@
-use Rattle.std.proofs.Common.{rules, ◌≡◌, ℕ, ◌+◌, ◌<◌, ◌≤◌, ◌^◌, [], ◌++◌, length, slice_get, Some, None, IfOk, IfErr, OnOk, OnErr, ◌-◌, ◌*◌, ◌/◌, ◌%◌, Bool, true, false, nat_eq, nat_lt, List, ◌∷◌, slice_index_or, slice_set, bit_and, bit_or, Fits, w8, w32, w64, Bor, MutBor}
-use Rattle.std.specs.Option.{option_copied}
-use Rattle.la_set.specs.ObjectOps.{ObjectOp}
-use Rattle.la_proposer.specs.ProposerState.{op_on}
-use Rattle.la_replica.specs.declared.replica.TheConstants.{MAX_COMMITS}
-use Rattle.la_replica.specs.Whole.{Out, whole_of}
-use Rattle.la_replica.specs.ReplicaState.{ReplicaState, receives}
-use Rattle.la_replica.specs.Steps.{learnt_in}
-use Rattle.la_world.specs.Events.{Event as EventOf}
-use Rattle.la_world.specs.Events.{Past, Submit, Deliver, Decide, submission_of, event_of}
-use Rattle.la_world.specs.Groups.{group_of, IsConfig}
-use Rattle.la_world.specs.Printable.{IsPrintable}
-use Rattle.la_world.specs.StandsFor.{StandsFor, trace_in, sent_in, refused_in}
-use Rattle.la_world.specs.Calls.{IsMakingRefusal, replica_states_at_start, Plays, IsAllowed, Refuses, StandsForMessage, submitted_at, view_at, view_in, view_of, views_of, IsSubmission, decisions_at, decisions_in, returned_in, returned_of, report_with, report_after}
+use Rattle.std.proofs.Common.{rules, ◌≡◌, ◌<◌, ◌+◌, ◌*◌, Some, ap, sym, subst, ◌∙◌}
+use Rattle.la_world.specs.Groups.{first_instance}
+use Rattle.la_world.specs.Calls.{submitted_at}
+use Rattle.la_world.proofs.Worlds.{submitter_known, first_proposal, second_proposal}
 use Rattle.la_world.proofs.world.World.admit_proposal.Goals as goal
 
--- src/world.rt:179:5
-pub returns-in-Some-eq0-clause-allowed : goal.returns-in-Some-eq0-clause-allowed
-returns-in-Some-eq0-clause-allowed c = ?
+pub returns-then-ne-clause-error : goal.returns-then-ne-clause-error
+returns-then-ne-clause-error c events stands value =
+    let k = c.args.commit in
+    let r = c.args.replica in
+    let at = c.submitted_among.ensures ∙ ap (λ ms. submitted_at ms (first_instance k) r) (c.deref.ensures.value ∙ ap (λ w. w.replica_states) c.self.view_is) in
+    let other : c.submitted_among.result ≡ Some 0 → ⊥ = search rules in
+    second_proposal c.args.self.now events stands r k (subst (λ w. r < w.config.replicas) c.self.view_is c.if-replica-self.false) (subst (λ w. k < w.config.commits) c.self.view_is c.if-commit-self.false) (λ e. other (at ∙ sym e)) value
 
--- src/world.rt:179:5
-pub returns-in_default-clause-error : goal.returns-in_default-clause-error
-returns-in_default-clause-error c = ?
+pub returns-clause-known : goal.returns-clause-known
+returns-clause-known c =
+    let at = c.submitted_among.ensures ∙ ap (λ ms. submitted_at ms (first_instance c.args.commit) c.args.replica) (c.deref.ensures.value ∙ ap (λ w. w.replica_states) c.self.view_is) in
+    let first : c.submitted_among.result ≡ Some 0 = search rules in
+    submitter_known c.args.self.now.replica_states (first_instance c.args.commit) c.args.replica 0 (sym first ∙ at)
 
--- src/world.rt:179:5
-pub returns-in_default-2-clause-error : goal.returns-in_default-2-clause-error
-returns-in_default-2-clause-error c = ?
+pub returns-clause-allowed : goal.returns-clause-allowed
+returns-clause-allowed c events stands value =
+    let k = c.args.commit in
+    let r = c.args.replica in
+    let at = c.submitted_among.ensures ∙ ap (λ ms. submitted_at ms (first_instance k) r) (c.deref.ensures.value ∙ ap (λ w. w.replica_states) c.self.view_is) in
+    let first : c.submitted_among.result ≡ Some 0 = search rules in
+    first_proposal c.args.self.now events stands r k (subst (λ w. r < w.config.replicas) c.self.view_is c.if-replica-self.false) (subst (λ w. k < w.config.commits) c.self.view_is c.if-commit-self.false) (sym first ∙ at) value
