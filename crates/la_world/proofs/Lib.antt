@@ -39,3 +39,7 @@ pub mod Receivers
 pub mod Worlds
 pub mod Playback
 pub mod Proposals
+pub mod SubmittedVotes
+pub mod LearntVotes
+pub mod Returns
+pub mod Agreement

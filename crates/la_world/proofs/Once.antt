@@ -123,7 +123,7 @@ module _ (g : Group) (t : Trace) (x : Entry) (h : Holds g t) (step_is : Step g t
       none = opens_none i r le voted_before (λ asks f. learnt_only x.did b e f)
 
 -- the first instance of the object of which a vote is in the second one
-voted_first : (i k : ℕ) → is_first_instance i ≡ true → second_instance (commit_of i) ≡ second_instance k → i ≡ first_instance k
+pub voted_first : (i k : ℕ) → is_first_instance i ≡ true → second_instance (commit_of i) ≡ second_instance k → i ≡ first_instance k
 voted_first i k first e = let odd = eqb-true (i % 2) 1 first in omega (arith, div-add-mod i 2, e)
 
 module _ (g : Group) (t : Trace) (h : Holds g t) (v : VotesOnce t) where
