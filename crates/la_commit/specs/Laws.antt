@@ -1,10 +1,11 @@
--- What holds of the votes and outcomes of an adopt-commit object, once any two sets that were learnt
+-- What holds of the votes and outcomes of an adopt-commit object where any two sets that are learnt
 -- in one agreement are comparable. src/laws.rt has a law for each of these statements.
-use Rattle.std.specs.Prelude.{◌≡◌, ℕ, ◌⊎◌, ◌<◌, true, length, All, Any, IsTrue}
+use Rattle.std.specs.Prelude.{◌≡◌, ℕ, ◌⊎◌, ◌<◌, true, length, All, Any, Contains, IsTrue}
 use Rattle.la_set.specs.Histories.{Histories}
 use Rattle.la_set.specs.Inclusion.{IsSubset}
+use Rattle.la_commit.specs.declared.vote.Vote.{Vote}
 use Rattle.la_commit.specs.declared.outcome.Outcome.TheVariants.{Commit}
-use Rattle.la_commit.specs.Votes.{votes, sole_votes, is_sole}
+use Rattle.la_commit.specs.Votes.{votes, sole_votes, is_sole, HoldsVote}
 use Rattle.la_commit.specs.Outcomes.{outcome, value_of}
 
 -- one of the two contains the other
@@ -14,6 +15,16 @@ AreComparable a b = IsSubset a b ⊎ IsSubset b a
 -- a vote of the set has this value
 abbrev pub HasVoteFor : Histories → (value : ℕ) → Type 0
 HasVoteFor s value = Any (λ v. v.value ≡ value) (votes s)
+
+-- a participant's own vote in a set is a vote of the set
+abbrev pub OwnVotesAreVotes : Type 0
+OwnVotesAreVotes = (s : Histories) (participant : ℕ) (v : Vote) →
+    HoldsVote s participant v → Contains (votes s) v
+
+-- each vote of a set is one of each larger set
+abbrev pub VotesStay : Type 0
+VotesStay = (a b : Histories) (v : Vote) →
+    IsSubset a b → Contains (votes a) v → Contains (votes b) v
 
 -- two sets of the first agreement, in each of which all votes have one value, have one value
 abbrev pub SoleValuesAgree : Type 0

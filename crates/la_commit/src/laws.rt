@@ -1,7 +1,18 @@
 // What holds of votes and outcomes where any two sets that are learnt in one agreement are
 // comparable: laws over the definitions, which no code runs.
+ghost use Rattle.la_commit.specs.Laws.{OwnVotesAreVotes, VotesStay};
 ghost use Rattle.la_commit.specs.Laws.{SoleValuesAgree, OutcomesAgree};
 ghost use Rattle.la_commit.specs.Laws.{UnanimousCommit, OutcomesAreVoted};
+
+/// The vote that a participant's first update casts is one of the set's votes.
+pub fn own_votes_are_votes()
+    ensures { OwnVotesAreVotes }
+{}
+
+/// Each vote of a set is a vote of each larger set.
+pub fn votes_stay()
+    ensures { VotesStay }
+{}
 
 /// Of two sets of the first agreement take a value that all votes of the one have, and a value that
 /// all votes of the other have, each with a vote for it: they are one. So all sole votes of the

@@ -66,8 +66,8 @@ pub(crate) fn all_sole(set: &UpdateSet) -> bool
 pub(crate) fn first_sole(set: &UpdateSet) -> Option<Vote>
     ensures { result ≡ slice_get (sole_votes set.now) 0 }
 {
-    for place in 0..set.len() {
-        if let Some(vote) = vote_at(set, place) {
+    for at in 0..set.len() {
+        if let Some(vote) = vote_at(set, at) {
             if vote.sole {
                 return Some(vote);
             }

@@ -1,5 +1,5 @@
-//! One participant of an adopt-commit object: the votes that it casts in two lattice agreements, and
-//! the outcome that it comes to.
+//! One participant of an adopt-commit object: the votes that it casts in two lattice agreements,
+//! and the outcome that it comes to.
 //!
 //! Adopt-commit is Gafni's, "Round-by-round fault detectors", PODC 1998; it is built here from two
 //! agreements in which any two learnt sets are comparable. A participant is [`Fresh`], [`First`],

@@ -74,8 +74,8 @@ impl Model for Done {
 }
 
 impl Fresh {
-    /// A participant that has proposed nothing. Sets hold updates of replicas 0 to 7, so that to one
-    /// of 8 or more every set is [`NotMine`].
+    /// A participant that has proposed nothing. Sets hold updates of replicas 0 to 7 alone, so that
+    /// one of 8 or more is answered [`NotMine`] by every set.
     pub fn new(participant: u8) -> Fresh
         ensures { result ≡ participant }
     {
@@ -140,9 +140,9 @@ impl Second {
         Second { participant, vote }
     }
 
-    /// Takes a set that was learnt in the second agreement. Where all its votes are sole the outcome
-    /// commits, where only some are it adopts, both with the value of the sole vote of least id;
-    /// where none is, it adopts the participant's own value.
+    /// Takes a set that was learnt in the second agreement. Where all its votes are sole the
+    /// outcome commits, where only some are it adopts, both with the value of the sole vote of
+    /// least id; where none is, it adopts the participant's own value.
     ///
     /// It is refused exactly where the set lacks the participant's vote of the second agreement, of
     /// this very value and sole or not as it was; the participant comes back as it was.
