@@ -1,6 +1,6 @@
 -- Why adopt-commit objects are safe. All that a second instance is told is sole has one value, since two sets of the first
 -- instance of which each has votes for one value alone are comparable, and so have a vote in common.
-use Rattle.std.proofs.Common.{◌≡◌, ℕ, ◌==◌, ◌<◌, ◌⊎◌, inl, inr, Bool, true, false, List, [], ◌∷◌, length, slice_index_or, All, Any, Contains, refl, sym, ◌∙◌, ap, subst, arith, eq-eqb}
+use Rattle.std.proofs.Common.{◌≡◌, ℕ, ◌==◌, ◌<◌, ◌≤◌, ◌⊎◌, inl, inr, Bool, true, false, List, [], ◌∷◌, length, slice_index_or, All, Any, Contains, refl, sym, ◌∙◌, ap, subst, arith, eq-eqb}
 use Rattle.std.proofs.lemmas.List.Sums.{list_all-from_AllPass}
 use Rattle.std.proofs.lemmas.List.Elements.{Contains-get_or}
 use Rattle.la_set.specs.Histories.{Histories}

@@ -1,5 +1,5 @@
 -- What a participant returned, it returned by a set that it learnt in the object's second instance.
-use Rattle.std.proofs.Common.{◌≡◌, ℕ, ◌⊎◌, inl, inr, List, [], ◌∷◌, ◌++◌, length, Contains, Option, Some, None, option_map, option_and_then, flat_map, filter_map, refl, sym, ◌∙◌, ap}
+use Rattle.std.proofs.Common.{◌≡◌, ℕ, ◌⊎◌, inl, inr, List, [], ◌∷◌, ◌++◌, length, Contains, Option, Some, None, option_map, option_and_then, flat_map, filter_map, refl, sym, ◌∙◌, ap, subst}
 use Rattle.std.specs.List.{cons_option}
 use Rattle.std.proofs.lemmas.Option.{same_Some, none-some}
 use Rattle.la_set.specs.Histories.{Histories}
@@ -42,11 +42,11 @@ record WasLast (t : Trace) (i r : ℕ) (s : Histories) : Type 0 where
 last_was : (t : Trace) (i r : ℕ) (s : Histories) → last_learnt t i r ≡ Some s → WasLast t i r s
 unfolding last_learnt
 last_was [] i r s e = absurd (none-some s e)
-last_was (x ∷ t) i r s e = go (only i r (learnt_by x.did)) refl e
+last_was (x ∷ t) i r s e = go (only i r (learnt_by x.did)) refl (last_was t i r s) e
   where
-    go : (o : Option Opening) → only i r (learnt_by x.did) ≡ o → newest_set (cons_option o (filter_map (λ y. only i r (learnt_by y.did)) t)) ≡ Some s → WasLast (x ∷ t) i r s
-    go None f k = let w = last_was t i r s k in record { set = w.set; was = learnt_stays x t w.set w.was; instance = w.instance; replica = w.replica; updates = w.updates }
-    go (Some b) f k = let p = only_is i r (learnt_by x.did) b f in record { set = learning (length t) b; was = learnt_now x t b p.0; instance = p.1; replica = p.2; updates = same_Some b.updates s k }
+    go : (o : Option Opening) → only i r (learnt_by x.did) ≡ o → (last_learnt t i r ≡ Some s → WasLast t i r s) → newest_set (cons_option o (filter_map (λ y. only i r (learnt_by y.did)) t)) ≡ Some s → WasLast (x ∷ t) i r s
+    go None f before k = let w = before k in record { set = w.set; was = learnt_stays x t w.set w.was; instance = w.instance; replica = w.replica; updates = w.updates }
+    go (Some b) f before k = let p = only_is i r (learnt_by x.did) b f in record { set = learning (length t) b; was = learnt_now x t b p.0; instance = p.1; replica = p.2; updates = same_Some b.updates s k }
 
 -- what x says was returned by this set, with this own vote in it
 pub record IsReturned (t : Trace) (x : Decision) : Type 0 where
