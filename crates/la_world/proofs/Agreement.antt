@@ -1,6 +1,6 @@
 -- Why adopt-commit objects are safe. All that a second instance is told is sole has one value, since two sets of the first
 -- instance of which each has votes for one value alone are comparable, and so have a vote in common.
-use Rattle.std.proofs.Common.{◌≡◌, ℕ, ◌==◌, ◌<◌, ◌≤◌, ◌⊎◌, inl, inr, Bool, true, false, List, [], ◌∷◌, length, slice_index_or, All, Any, Contains, refl, sym, ◌∙◌, ap, subst, arith, eq-eqb}
+use Rattle.std.proofs.Common.{◌≡◌, ℕ, ◌==◌, ◌<◌, ◌≤◌, ◌⊎◌, inl, inr, Bool, true, false, List, [], ◌∷◌, length, reverse, slice_index_or, All, Any, Contains, Option, Some, None, refl, sym, ◌∙◌, ap, subst, arith, eq-eqb}
 use Rattle.std.proofs.lemmas.List.Sums.{list_all-from_AllPass}
 use Rattle.std.proofs.lemmas.List.Elements.{Contains-get_or}
 use Rattle.la_set.specs.Histories.{Histories}
@@ -14,14 +14,16 @@ use Rattle.la_commit.proofs.Casting.{own_vote-votes, sole_votes-vote}
 use Rattle.la_commit.proofs.Agreeing.{sole_values-agree, outcomes-agree, unanimous-commit}
 use Rattle.la_world.specs.declared.report.Decision.{Decision}
 use Rattle.la_world.specs.declared.step.Learnt.{Learnt}
-use Rattle.la_world.specs.Groups.{Group, replicas, first_instance, second_instance}
+use Rattle.la_world.specs.Groups.{Group, group_of, replicas, first_instance, second_instance}
 use Rattle.la_world.specs.Events.{Event, Decide}
 use Rattle.la_world.specs.Trace.{Trace}
 use Rattle.la_world.specs.Learnings.{learnt}
 use Rattle.la_world.specs.Playing.{trace}
 use Rattle.la_world.specs.StandsFor.{IsLegal}
 use Rattle.la_world.specs.Outcomes.{decisions}
-use Rattle.la_world.specs.Laws.{CommitsAgree, ReturnsAreProposed, UnanimousCommit, AdoptCommitIsSafe}
+use Rattle.la_world.specs.declared.error.Refusal.{Refusal}
+use Rattle.la_world.specs.Report.{Run, refused, runs, runs_on}
+use Rattle.la_world.specs.Laws.{CommitsAgree, ReturnsAreProposed, UnanimousCommit, AdoptCommitIsSafe, ReportedOutcomesAreSafe}
 use Rattle.la_world.proofs.Chains.{learnt_comparable}
 use Rattle.la_world.proofs.SubmittedVotes.{HasVoted}
 use Rattle.la_world.proofs.LearntVotes.{IsProposal, IsSecond, own_first, first_votes, second_votes}
@@ -153,3 +155,18 @@ adopt_commit g events few legal = record {
   proposed = proposed g events few legal;
   unanimous = unanimous g events few legal;
 }
+
+-- ## Reports
+
+-- of the accepted events of a list none was refused
+runs_legal : (g : Group) (events : List Event) → IsLegal g (runs g events).accepted
+unfolding runs
+runs_legal g [] = tt
+runs_legal g (e ∷ events) = go (runs g events) (refused g (trace g (runs g events).accepted) e) refl (runs_legal g events)
+  where
+    go : (w : Run) (o : Option Refusal) → refused g (trace g w.accepted) e ≡ o → IsLegal g w.accepted → IsLegal g (runs_on g w e (trace g w.accepted) o).accepted
+    go w None f legal = (f, legal)
+    go w (Some name) f legal = legal
+
+pub reported : ReportedOutcomesAreSafe
+reported c events is = adopt_commit (group_of c) (runs (group_of c) (reverse events)).accepted (let few = is.few in let same = is.replicas in omega (arith, few, same)) (runs_legal (group_of c) (reverse events))
