@@ -35,6 +35,7 @@ ghost use Rattle.uses.specs.Commits.{AreVotesOf, Follows};
 use la_commit::laws;
 
 /// What one participant has: its number, its value, and the set that it learnt in each agreement.
+#[derive(Clone, Copy)]
 pub struct Learner<'a> {
     pub participant: u8,
     pub value: u64,
