@@ -41,3 +41,8 @@ pub mod Participants
 pub mod Worlds
 pub mod Returned
 pub mod Playback
+pub mod Proposals
+pub mod SubmittedVotes
+pub mod LearntVotes
+pub mod Returns
+pub mod Agreement

@@ -1,4 +1,4 @@
-use Rattle.std.proofs.Common.{sym, ◌∙◌, arith}
+use Rattle.std.proofs.Common.{rules, sym, ◌∙◌, arith}
 use Rattle.std.proofs.lemmas.Grind.{common_steps}
 use Rattle.la_commit.proofs.Reading.{none-skip, none-more, first-found}
 use Rattle.la_commit.proofs.learnt.first_sole.Goals as goal
@@ -6,7 +6,7 @@ use Rattle.la_commit.proofs.learnt.first_sole.Goals.{in-Some+else-vote, in_defau
 
 pub returns-then-vote : goal.returns-then-vote
 returns-then-vote c =
-    sym (first-found (λ v. v.sole) c.args.set.now c.loop-at.at c.in-Some.vote (sym c.in-Some.ensures) (grind (arith, common_steps)) c.loop-at.invariant)
+    sym (first-found (λ v. v.sole) c.args.set.now c.loop-at.at c.in-Some.vote (search rules) (grind (arith, common_steps)) c.loop-at.invariant)
 
 pub loop-at-preserved : goal.loop-at-preserved
 loop-at-preserved c = elim c.match-vote_at.branch [
