@@ -1,4 +1,5 @@
 pub mod Adding
 pub mod Tagging
 pub mod Viewing
+pub mod Voting
 pub mod Runs
