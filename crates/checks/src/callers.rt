@@ -3,12 +3,13 @@
 use la_acceptor::{Acceptor, Reply};
 use la_commit::{Outcome, Vote};
 use la_proposer::{Proposer, Votes};
+use la_replica::{Body, Message, Replica};
 use la_set::{Op, Update, UpdateId, UpdateSet};
 use std::alloc::Global;
 use uses::acceptors::acknowledges;
 use uses::commits::{Learner, finish_both};
 use uses::proposers::hear;
-use uses::replicas::three_replicas;
+use uses::replicas::{take_in_and_vote, three_replicas};
 use uses::scripts::report_of;
 use uses::sets::{added, catch_up, later, merged, removal};
 use uses::worlds::{one_learning, shown};
@@ -113,6 +114,25 @@ fn scripts(alloc: Global) -> Option<bool> {
     Some(text.bytes().starts_with(b"lattice 1\nreplicas 1 "))
 }
 
+// A replica of a group of one learns its first vote, and casts the second.
+fn votes(alloc: Global) -> Option<bool> {
+    let mut replica = Replica::new(alloc, 1, 0, 10, 1, Votes::one_each(1)).ok()?;
+    let vote = Op::Vote {
+        value: 9,
+        sole: false,
+    };
+    replica.submit(1, 0, vote).ok()?;
+    let yes = Message {
+        instance: 1,
+        from: 0,
+        to: 0,
+        ballot: 1,
+        body: Body::Yes,
+    };
+    let both = take_in_and_vote(&mut replica, &yes, 9).ok()?;
+    Some(both.mail.len() == 1 && replica.submitted(2) == Some(1))
+}
+
 fn replicas(alloc: Global) -> Option<bool> {
     three_replicas(alloc).ok()
 }
@@ -127,5 +147,6 @@ fn callers_do_what_they_are_for(rt: HostRuntime) {
     assert!(rt; learning(alloc).or_else(|| learning(alloc)) == Some(true));
     assert!(rt; worlds(alloc).or_else(|| worlds(alloc)) == Some(true));
     assert!(rt; scripts(alloc).or_else(|| scripts(alloc)) == Some(true));
+    assert!(rt; votes(alloc).or_else(|| votes(alloc)) == Some(true));
     assert!(rt; replicas(alloc).or_else(|| replicas(alloc)) == Some(true));
 }

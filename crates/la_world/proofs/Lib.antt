@@ -41,7 +41,6 @@ pub mod Participants
 pub mod Worlds
 pub mod Returned
 pub mod Playback
-pub mod Proposals
 pub mod SubmittedVotes
 pub mod LearntVotes
 pub mod Returns
