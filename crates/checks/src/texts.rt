@@ -136,14 +136,13 @@ fn errors_of_the_protocol_are_shown_so(rt: HostRuntime) {
     assert!(rt; all_show(alloc, &OF_SETS) && all_show(alloc, &OF_ACCEPTORS));
     assert!(rt; all_show(alloc, &OF_VOTES) && all_show(alloc, &OF_PROPOSERS));
     assert!(rt; all_show(alloc, &OF_REPLICAS) && all_show(alloc, &OF_WORLDS));
-    assert!(rt; all_show(alloc, &OF_COMMITS));
 }
 
 #[test]
 fn errors_of_objects_are_shown_so(rt: HostRuntime) {
     let alloc = rt.alloc();
     assert!(rt; all_show(alloc, &OF_OBJECTS) && all_show(alloc, &OF_SHELVES));
-    assert!(rt; all_show(alloc, &OF_ABSORBING));
+    assert!(rt; all_show(alloc, &OF_ABSORBING) && all_show(alloc, &OF_COMMITS));
 }
 
 #[test]
