@@ -27,6 +27,7 @@ pub mod SubmissionEvents
 pub mod Submitting
 pub mod Replying
 pub mod Delivering
+pub mod Placing
 pub mod Legal
 pub mod RefusedForMemory
 pub mod Starting
