@@ -28,6 +28,8 @@ pub mod Submitting
 pub mod Replying
 pub mod Delivering
 pub mod Placing
+pub mod SecondVotes
+pub mod Voting
 pub mod Legal
 pub mod RefusedForMemory
 pub mod Starting

@@ -33,7 +33,7 @@ use Rattle.la_world.proofs.InGroup.{IsSubmitted, submitted_by, second_vote_is, v
 use Rattle.la_world.proofs.Allowing.{not_proposed}
 
 -- a replica that votes in a second instance has an update in the set that it learnt in the first
-has_voted : (b : Opening) (s : Submission) → second_vote b ≡ Some s → 1 ≤ count b.updates b.replica
+pub has_voted : (b : Opening) (s : Submission) → second_vote b ≡ Some s → 1 ≤ count b.updates b.replica
 has_voted b s e = go (is_first_instance b.instance) (get b.updates (record { replica = b.replica; number = 1 })) refl e
   where
     go : (v : Bool) (o : Option Update) → get b.updates (record { replica = b.replica; number = 1 }) ≡ o → cond v (second_vote_of (commit_of b.instance) b.replica b.updates (option_and_then proposal (option_and_then (λ (u : Update). vote_of u.op) o))) None ≡ Some s → 1 ≤ count b.updates b.replica
@@ -54,14 +54,14 @@ learnt_only (Took s) b e f = none-some b e
 learnt_only Kept b e f = none-some b e
 
 -- the ballot in the first instance has ended, with an update of the replica's own
-record IsDone (t : Trace) (k r : ℕ) : Type 0 where
-  closed : is_open t (first_instance k) r ≡ false
-  voted : 1 ≤ count (round t (first_instance k) r).updates r
+pub record IsDone (t : Trace) (k r : ℕ) : Type 0 where
+  pub closed : is_open t (first_instance k) r ≡ false
+  pub voted : 1 ≤ count (round t (first_instance k) r).updates r
 
-record VotesOnce (t : Trace) : Type 0 where
-  first : (k r : ℕ) → length (submitted t (first_instance k) r) ≤ 1
-  second : (k r : ℕ) → length (submitted t (second_instance k) r) ≤ 1
-  done : (k r : ℕ) → (submitted t (second_instance k) r ≡ []) ⊎ IsDone t k r
+pub record VotesOnce (t : Trace) : Type 0 where
+  pub first : (k r : ℕ) → length (submitted t (first_instance k) r) ≤ 1
+  pub second : (k r : ℕ) → length (submitted t (second_instance k) r) ≤ 1
+  pub done : (k r : ℕ) → (submitted t (second_instance k) r ≡ []) ⊎ IsDone t k r
 
 -- ## One event more
 
@@ -123,7 +123,7 @@ module _ (g : Group) (t : Trace) (x : Entry) (h : Holds g t) (step_is : Step g t
       none = opens_none i r le voted_before (λ asks f. learnt_only x.did b e f)
 
 -- the first instance of the object of which a vote is in the second one
-voted_first : (i k : ℕ) → is_first_instance i ≡ true → second_instance (commit_of i) ≡ second_instance k → i ≡ first_instance k
+pub voted_first : (i k : ℕ) → is_first_instance i ≡ true → second_instance (commit_of i) ≡ second_instance k → i ≡ first_instance k
 voted_first i k first e = let odd = eqb-true (i % 2) 1 first in omega (arith, div-add-mod i 2, e)
 
 module _ (g : Group) (t : Trace) (h : Holds g t) (v : VotesOnce t) where
@@ -192,7 +192,7 @@ votes_start : VotesOnce []
 unfolding submitted
 votes_start = record { first = λ k r. omega arith; second = λ k r. omega arith; done = λ k r. inl refl }
 
-votes_once : (g : Group) (events : List Event) → IsLegal g events → VotesOnce (trace g events)
+pub votes_once : (g : Group) (events : List Event) → IsLegal g events → VotesOnce (trace g events)
 unfolding trace
 votes_once g [] legal = votes_start
 votes_once g (e ∷ events) legal = votes_more g (trace g events) (holds g events) (votes_once g events legal.1) e legal.0
