@@ -152,6 +152,7 @@ module _ (g : Group) (t : Trace) (m : Message) (s : Submission) where
 pub record IsDue (g : Group) (t : Trace) (i j r : ℕ) : Type 0 where
   pub first : is_first_instance i ≡ true
   pub apart : j ≢ i
+  pub above : j ≢ 0
   pub there : i < instances g → j < instances g
   -- nothing of the replica's own is left in the first instance
   pub nothing_waits : drop (count (round t i r).updates r) (submitted t i r) ≡ []
@@ -163,6 +164,7 @@ due : (g : Group) (events : List Event) → IsLegal g events → (i r : ℕ) (s 
 due g events legal i r s asks vote = record {
   first = first;
   apart = λ e. omega (arith, to, at_first, e);
+  above = λ e. omega (arith, to, e);
   there = λ lt. subst (λ j. j < instances g) (sym to) (second_within g i first lt);
   nothing_waits = drop_all (count (round t i r).updates r) (submitted t i r) (omega (arith, once, voted));
   none = none;
