@@ -146,7 +146,7 @@ second_vote_is b s e = go (is_first_instance b.instance) refl (proposed b.update
         (f, ap (λ (z : Submission). z.instance) (sym same), ap (λ (z : Submission). z.replica) (sym same))
 
 -- the second instance of an object is of the group, where the first is
-second_within : (g : Group) (i : ℕ) → is_first_instance i ≡ true → i < instances g → second_instance (commit_of i) < instances g
+pub second_within : (g : Group) (i : ℕ) → is_first_instance i ≡ true → i < instances g → second_instance (commit_of i) < instances g
 second_within g i first lt = let odd = eqb-true (i % 2) 1 first in omega (arith, div-add-mod i 2)
 
 pub vote_after : (o : Option Opening) (s : Submission) → second_vote_after o ≡ Some s → (b : Opening) × (o ≡ Some b) × (second_vote b ≡ Some s)

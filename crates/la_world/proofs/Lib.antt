@@ -27,6 +27,9 @@ pub mod SubmissionEvents
 pub mod Submitting
 pub mod Replying
 pub mod Delivering
+pub mod Placing
+pub mod SecondVotes
+pub mod Voting
 pub mod Legal
 pub mod RefusedForMemory
 pub mod Starting
@@ -45,3 +48,4 @@ pub mod SubmittedVotes
 pub mod LearntVotes
 pub mod Returns
 pub mod Agreement
+pub mod Safe

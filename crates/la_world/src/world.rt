@@ -19,6 +19,7 @@ ghost use Rattle.la_world.specs.Calls.{submitted_at, view_at, view_in, view_of, 
 ghost use Rattle.la_world.specs.Calls.{IsSubmission, decisions_at, decisions_in};
 ghost use Rattle.la_world.specs.Calls.{returned_in, returned_of};
 ghost use Rattle.la_world.specs.Calls.{report_with, report_after};
+ghost use Rattle.la_world.specs.Laws.{IsAdoptCommit};
 
 use crate::journal::Journal;
 use crate::participant::{opening_instance, outcome_by, returned, second_vote, take};
@@ -347,12 +348,18 @@ impl World {
     /// alone.
     #[tactic(
         auto,
-        using(crate::proofs::Worlds::views_are, crate::proofs::Returned::decisions_are)
+        using(
+            crate::proofs::Worlds::views_are,
+            crate::proofs::Returned::decisions_are,
+            crate::proofs::Safe::returns_safely
+        )
     )]
     pub fn report(&self, steps: Steps) -> Result<Report, AllocError>
         ensures value { IfOk result (λ report. report ≡ report_with self.now steps) }
         ensures stands { (events : Past) → StandsFor self.now events →
             IfOk result (λ report. report ≡ report_after self.now events steps) }
+        ensures safe { (events : Past) → StandsFor self.now events →
+            IfOk result (λ report. IsAdoptCommit events report.outcomes) }
     {
         Ok(Report {
             config: self.config,
@@ -368,12 +375,18 @@ impl World {
     /// world is lost.
     #[tactic(
         auto,
-        using(crate::proofs::Worlds::views_are, crate::proofs::Returned::decisions_are)
+        using(
+            crate::proofs::Worlds::views_are,
+            crate::proofs::Returned::decisions_are,
+            crate::proofs::Safe::returns_safely
+        )
     )]
     pub fn into_report(self, steps: Steps) -> Result<Report, AllocError>
         ensures value { IfOk result (λ report. report ≡ report_with self steps) }
         ensures stands { (events : Past) → StandsFor self events →
             IfOk result (λ report. report ≡ report_after self events steps) }
+        ensures safe { (events : Past) → StandsFor self events →
+            IfOk result (λ report. IsAdoptCommit events report.outcomes) }
     {
         let views = copy_views(&self.replicas)?;
         let outcomes = self.decisions()?;
