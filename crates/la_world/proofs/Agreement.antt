@@ -155,18 +155,3 @@ adopt_commit g events few legal = record {
   proposed = proposed g events few legal;
   unanimous = unanimous g events few legal;
 }
-
--- ## Reports
-
--- of the accepted events of a list none was refused
-runs_legal : (g : Group) (events : List Event) → IsLegal g (runs g events).accepted
-unfolding runs
-runs_legal g [] = tt
-runs_legal g (e ∷ events) = go (runs g events) (refused g (trace g (runs g events).accepted) e) refl (runs_legal g events)
-  where
-    go : (w : Run) (o : Option Refusal) → refused g (trace g w.accepted) e ≡ o → IsLegal g w.accepted → IsLegal g (runs_on g w e (trace g w.accepted) o).accepted
-    go w None f legal = (f, legal)
-    go w (Some name) f legal = legal
-
-pub reported : ReportedOutcomesAreSafe
-reported c events is = adopt_commit (group_of c) (runs (group_of c) (reverse events)).accepted (let few = is.few in let same = is.replicas in omega (arith, few, same)) (runs_legal (group_of c) (reverse events))
