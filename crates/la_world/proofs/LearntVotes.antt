@@ -1,6 +1,6 @@
 -- What a set holds that was learnt in an instance of an adopt-commit object, where no event is refused: its replica's
 -- own vote, and only votes that were submitted there.
-use Rattle.std.proofs.Common.{◌≡◌, ℕ, zero, suc, ◌<◌, ◌≤◌, ◌⊎◌, inl, inr, true, List, [], ◌∷◌, length, Contains, Option, Some, None, option_map, option_and_then, refl, sym, ◌∙◌, ap, subst, subst₂, arith}
+use Rattle.std.proofs.Common.{◌≡◌, ℕ, zero, suc, ◌<◌, ◌≤◌, inl, inr, true, List, [], ◌∷◌, length, Contains, Option, Some, None, option_map, option_and_then, refl, sym, ◌∙◌, ap, subst, subst₂, arith}
 use Rattle.std.specs.List.{cons_option}
 use Rattle.std.proofs.lemmas.Bool.{cases_lt}
 use Rattle.std.proofs.lemmas.Option.{same_Some, none-some}
@@ -35,7 +35,7 @@ use Rattle.la_world.proofs.Traces.{Holds, always, holds, own}
 use Rattle.la_world.proofs.Chains.{learning_justified}
 use Rattle.la_world.proofs.InGroup.{IsOfGroup, grouped}
 use Rattle.la_world.proofs.Openings.{only_is}
-use Rattle.la_world.proofs.SubmittedVotes.{HasProposed, proposals, HasVoted, second_votes_cast}
+use Rattle.la_world.proofs.SubmittedVotes.{proposals, HasVoted, second_votes_cast}
 
 -- ## Ballots have an update of their own replica
 

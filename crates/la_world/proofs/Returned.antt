@@ -1,21 +1,18 @@
 -- What was returned, in a world and in the trace that it stands for.
-use Rattle.std.proofs.Common.{◌≡◌, ℕ, zero, suc, ◌+◌, ◌<◌, ◌≤◌, Bool, true, false, cond, List, [], ◌∷◌, ◌++◌, map, slice_get, nat_lt, Option, Some, None, option_map, option_and_then, refl, ap, ap₂, sym, ◌∙◌, append-nil, append_assoc, arith}
+use Rattle.std.proofs.Common.{◌≡◌, ℕ, zero, suc, ◌+◌, ◌<◌, ◌≤◌, Bool, true, false, cond, List, [], ◌∷◌, ◌++◌, map, nat_lt, Option, Some, None, option_map, option_and_then, refl, ap, ap₂, sym, ◌∙◌, append-nil, append_assoc, arith}
 use Rattle.std.specs.Prelude.{filter_map, flat_map}
 use Rattle.std.specs.List.{range_with_len, cons_option}
-use Rattle.std.proofs.lemmas.Bool.{ltb-true, ltb-false, cond-true, cond-false}
-use Rattle.la_set.specs.Histories.{Histories}
+use Rattle.std.proofs.lemmas.Bool.{ltb-true, cond-true, cond-false}
 use Rattle.la_commit.specs.declared.outcome.Outcome.{Outcome}
 use Rattle.la_replica.specs.Messages.{group}
-use Rattle.la_replica.specs.ReplicaState as acting
 use Rattle.la_replica.specs.ReplicaState.{ReplicaState, learnt_of}
 use Rattle.la_world.specs.declared.report.Decision.{Decision}
-use Rattle.la_world.specs.Groups.{Group, group_of, replicas, instances, second_instance}
+use Rattle.la_world.specs.Groups.{Group, group_of, replicas, second_instance}
 use Rattle.la_world.specs.Events.{Event}
 use Rattle.la_world.specs.Trace.{Trace}
-use Rattle.la_world.specs.Learnings.{last_learnt}
 use Rattle.la_world.specs.Outcomes.{outcome_of, decision_of, returned, decisions_on, decisions}
 use Rattle.la_world.specs.Playing.{trace}
-use Rattle.la_world.specs.ReplicaStates.{instance_of, replica_state, replica_states}
+use Rattle.la_world.specs.ReplicaStates.{instance_of, replica_state}
 use Rattle.la_world.specs.StandsFor.{World, StandsFor}
 use Rattle.la_world.specs.Calls.{returned_by, returned_at, returned_in, returned_of, decision_by, decisions_at, decisions_in}
 use Rattle.la_world.proofs.OneReplicaSteps.{get_instance}

@@ -1,5 +1,5 @@
 -- The safety of adopt-commit, of a world and of a list that is played.
-use Rattle.std.proofs.Common.{◌≡◌, ℕ, suc, ◌≤◌, List, [], ◌∷◌, ◌++◌, length, reverse, Option, Some, None, Contains, refl, ap, ap₂, sym, ◌∙◌, subst, arith, inl, inr}
+use Rattle.std.proofs.Common.{◌≡◌, suc, List, [], ◌∷◌, ◌++◌, length, reverse, Option, Some, None, Contains, refl, ap, ap₂, sym, ◌∙◌, subst, arith, inl, inr}
 use Rattle.std.proofs.lemmas.List.{append-nil, length-reverse, reverse-append, reverse-reverse}
 use Rattle.std.proofs.lemmas.List.Elements.{Contains-append_left, Contains-push}
 use Rattle.la_set.proofs.Filters.{Contains-none, Contains-cons_cases}
@@ -7,12 +7,12 @@ use Rattle.la_world.specs.declared.error.Refusal.{Refusal}
 use Rattle.la_world.specs.declared.report.Decision.{Decision}
 use Rattle.la_world.specs.declared.report.Line.{Line}
 use Rattle.la_world.specs.declared.report.Line.TheVariants.{Done, Refused}
-use Rattle.la_world.specs.Groups.{Group, group_of, replicas}
-use Rattle.la_world.specs.Events.{Event, Decide}
+use Rattle.la_world.specs.Groups.{Group, group_of}
+use Rattle.la_world.specs.Events.{Event}
 use Rattle.la_world.specs.Trace.{Trace}
 use Rattle.la_world.specs.Playing.{trace}
 use Rattle.la_world.specs.Outcomes.{decisions}
-use Rattle.la_world.specs.Report.{refused, line_of, Run, runs, runs_on, lines, accepted_among}
+use Rattle.la_world.specs.Report.{refused, line_of, Run, runs, runs_on, accepted_among}
 use Rattle.la_world.specs.StandsFor.{World, StandsFor, IsLegal}
 use Rattle.la_world.specs.Calls.{decisions_in}
 use Rattle.la_world.specs.Laws.{IsAdoptCommit, ReportedOutcomesAreSafe}

@@ -1,12 +1,12 @@
 -- The events by which a replica submits: in instance 0, or a proposal in a first instance.
-use Rattle.std.proofs.Common.{◌≡◌, ℕ, ◌<◌, ◌≤◌, Option, None, Some, refl, ap, sym, ◌∙◌, subst, arith}
+use Rattle.std.proofs.Common.{◌≡◌, ℕ, ◌<◌, None, ap, subst, arith}
 use Rattle.std.proofs.lemmas.Option.{same_Some, none-some}
 use Rattle.la_set.specs.ObjectOps.{ObjectOp}
-use Rattle.la_world.specs.Groups.{Group, replicas, instances, first_instance}
+use Rattle.la_world.specs.Groups.{Group, replicas, instances}
 use Rattle.la_world.specs.Events.{Event, Submit, Deliver, Decide}
-use Rattle.la_world.specs.Trace.{Did, Counted, Entry, Trace}
-use Rattle.la_world.specs.Votes.{Submission, first_vote}
-use Rattle.la_world.specs.Playing.{submits, entry, trace}
+use Rattle.la_world.specs.Trace.{Counted, Trace}
+use Rattle.la_world.specs.Votes.{Submission}
+use Rattle.la_world.specs.Playing.{submits, entry}
 use Rattle.la_world.specs.Report.{refused}
 use Rattle.la_world.specs.Calls.{IsSubmission}
 use Rattle.la_world.proofs.Allowing.{submitter_known, proposer_known, object_known}

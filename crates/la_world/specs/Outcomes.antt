@@ -1,6 +1,6 @@
 -- What the participants of adopt-commit objects return: each by the set that it learnt in the
 -- object's second instance.
-use Rattle.std.specs.Prelude.{ℕ, Bool, not, ◌&&◌, ◌==◌, List, filter_map, flat_map, Option, Some, None, option_map, option_and_then, if◌then◌else◌}
+use Rattle.std.specs.Prelude.{ℕ, List, filter_map, flat_map, Option, None, option_map, option_and_then, if◌then◌else◌}
 use Rattle.std.specs.List.{range_with_len}
 use Rattle.la_set.specs.Histories.{Histories}
 use Rattle.la_commit.specs.declared.outcome.Outcome.{Outcome}

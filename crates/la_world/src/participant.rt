@@ -85,7 +85,11 @@ pub fn returned(replica: &Replica, commit: u8) -> Option<Outcome>
 // Does what a message asks for, which fits its receiver; and where the replica learns a set by it
 // that leads to this vote, it casts the vote in the same step. It is refused for want of memory
 // alone.
-pub fn take(receiver: &mut Replica, message: &Message, vote: Option<Vote>) -> Result<Out, AllocError>
+pub fn take(
+    receiver: &mut Replica,
+    message: &Message,
+    vote: Option<Vote>,
+) -> Result<Out, AllocError>
     requires fits { FitsReceiver receiver.old (whole_of message.now) }
     requires few { message.now.instance ≤ 2 * MAX_COMMITS }
     requires vote { (out : OutOf) (after : ReplicaState) →

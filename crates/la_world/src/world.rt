@@ -24,8 +24,9 @@ ghost use Rattle.la_world.specs.Laws.{IsAdoptCommit};
 use crate::journal::Journal;
 use crate::participant::{opening_instance, outcome_by, returned, second_vote, take};
 use crate::speaker::Speaker;
-use crate::{Config, Decision, Decisions, Event, Learnings, Learnt, Report, Step, Steps, Views};
-use crate::WorldError;
+use crate::{
+    Config, Decision, Decisions, Event, Learnings, Learnt, Report, Step, Steps, Views, WorldError,
+};
 use la_commit::{Fresh, Outcome};
 use la_replica::{Message, Replica};
 use la_set::{Op, UpdateSet};
@@ -346,14 +347,7 @@ impl World {
     /// A report of these lines, of what was learnt and of the views, at the cost of an entry for
     /// each learnt set and each view; their updates are shared. It refuses with want of memory
     /// alone.
-    #[tactic(
-        auto,
-        using(
-            crate::proofs::Worlds::views_are,
-            crate::proofs::Returned::decisions_are,
-            crate::proofs::Safe::returns_safely
-        )
-    )]
+    #[tactic(auto, using(crate::proofs::Worlds::views_are, crate::proofs::Returned::decisions_are, crate::proofs::Safe::returns_safely))]
     pub fn report(&self, steps: Steps) -> Result<Report, AllocError>
         ensures value { IfOk result (λ report. report ≡ report_with self.now steps) }
         ensures stands { (events : Past) → StandsFor self.now events →
@@ -373,14 +367,7 @@ impl World {
     /// The report that [`World::report`] would make, of a world that goes: what was learnt is
     /// handed out, and the views are copied. It refuses with want of memory alone, and then the
     /// world is lost.
-    #[tactic(
-        auto,
-        using(
-            crate::proofs::Worlds::views_are,
-            crate::proofs::Returned::decisions_are,
-            crate::proofs::Safe::returns_safely
-        )
-    )]
+    #[tactic(auto, using(crate::proofs::Worlds::views_are, crate::proofs::Returned::decisions_are, crate::proofs::Safe::returns_safely))]
     pub fn into_report(self, steps: Steps) -> Result<Report, AllocError>
         ensures value { IfOk result (λ report. report ≡ report_with self steps) }
         ensures stands { (events : Past) → StandsFor self events →

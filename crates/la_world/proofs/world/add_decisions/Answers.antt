@@ -21,14 +21,14 @@ loop-participant-preserved c =
     let next : suc i ≡ i + 1 = omega arith in
     elim c.match-returned.branch [
       | in-Some+in_ok-push w ↦
-        let decision : Decision = decision_of k here.own w.in-Some.outcome in
-        let given : decision_by k here ≡ Some decision = ap (option_map (decision_of k here.own)) (sym c.returned.ensures ∙ w.in-Some.is) in
-        ap (λ (v : _). v.items) w.made-is ∙ w.in_ok-push.ensures.items
-        ∙ ap₂ (λ (xs : List Decision) own. xs ++ record { commit = k; replica = own; outcome = w.in-Some.outcome } ∷ []) c.loop-participant.invariant w.own.ensures.own
-        ∙ append_assoc before (filter_map (decision_by k) (take i states)) (decision ∷ [])
-        ∙ ap (λ xs. before ++ xs) (sym (filter_map-more (decision_by k) states i decision (ap (option_and_then (decision_by k)) at ∙ given)) ∙ ap (λ j. filter_map (decision_by k) (take j states)) next)
+          let decision : Decision = decision_of k here.own w.in-Some.outcome in
+          let given : decision_by k here ≡ Some decision = ap (option_map (decision_of k here.own)) (sym c.returned.ensures ∙ w.in-Some.is) in
+          ap (λ (v : _). v.items) w.made-is ∙ w.in_ok-push.ensures.items
+          ∙ ap₂ (λ (xs : List Decision) own. xs ++ record { commit = k; replica = own; outcome = w.in-Some.outcome } ∷ []) c.loop-participant.invariant w.own.ensures.own
+          ∙ append_assoc before (filter_map (decision_by k) (take i states)) (decision ∷ [])
+          ∙ ap (λ xs. before ++ xs) (sym (filter_map-more (decision_by k) states i decision (ap (option_and_then (decision_by k)) at ∙ given)) ∙ ap (λ j. filter_map (decision_by k) (take j states)) next)
       | in_default w ↦
-        let given : decision_by k here ≡ None = ap (option_map (decision_of k here.own)) (sym c.returned.ensures ∙ w.in_default.is) in
-        ap (λ (v : _). v.items) w.made-is ∙ c.loop-participant.invariant
-        ∙ ap (λ xs. before ++ xs) (sym (filter_map-skip (decision_by k) states i (ap (option_and_then (decision_by k)) at ∙ given)) ∙ ap (λ j. filter_map (decision_by k) (take j states)) next)
+          let given : decision_by k here ≡ None = ap (option_map (decision_of k here.own)) (sym c.returned.ensures ∙ w.in_default.is) in
+          ap (λ (v : _). v.items) w.made-is ∙ c.loop-participant.invariant
+          ∙ ap (λ xs. before ++ xs) (sym (filter_map-skip (decision_by k) states i (ap (option_and_then (decision_by k)) at ∙ given)) ∙ ap (λ j. filter_map (decision_by k) (take j states)) next)
     ]

@@ -1,4 +1,4 @@
-use Rattle.std.proofs.Common.{rules, ◌≡◌, ◌<◌, ◌+◌, ◌*◌, Some, ap, sym, subst, ◌∙◌}
+use Rattle.std.proofs.Common.{rules, ◌≡◌, ◌<◌, Some, ap, sym, subst, ◌∙◌}
 use Rattle.la_world.specs.Groups.{first_instance}
 use Rattle.la_world.specs.Calls.{submitted_at}
 use Rattle.la_world.proofs.Worlds.{submitter_known, first_proposal, second_proposal}

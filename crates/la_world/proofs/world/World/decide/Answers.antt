@@ -1,8 +1,7 @@
-use Rattle.std.proofs.Common.{rules, ◌≡◌, ◌+◌, ◌*◌, Some, ap, sym, ◌∙◌}
+use Rattle.std.proofs.Common.{rules, ◌+◌, ◌*◌, Some, ap, sym, ◌∙◌}
 use Rattle.la_commit.specs.Votes.{op_of}
 use Rattle.la_proposer.specs.ProposerState.{op_on}
 use Rattle.la_world.specs.Events.{Decide}
-use Rattle.la_world.specs.Votes.{Submission}
 use Rattle.la_world.specs.Calls.{IsSubmission}
 use Rattle.la_world.proofs.world.World.decide.Goals as goal
 

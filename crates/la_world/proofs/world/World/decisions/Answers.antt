@@ -1,4 +1,4 @@
-use Rattle.std.proofs.Common.{rules, ◌≡◌, ap, ap₂, ◌++◌, sym, ◌∙◌}
+use Rattle.std.proofs.Common.{ap, ap₂, ◌++◌, sym, ◌∙◌}
 use Rattle.la_world.specs.Calls.{decisions_at}
 use Rattle.la_world.proofs.Returned.{decisions_more}
 use Rattle.la_world.proofs.world.World.decisions.Goals as goal

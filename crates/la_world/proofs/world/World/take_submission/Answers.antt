@@ -1,9 +1,8 @@
 use Rattle.std.proofs.Common.{◌≡◌, ◌<◌, length, slice_get, slice_set, Some, None, subst, subst₂, sym}
 use Rattle.la_set.specs.ObjectOps.{ObjectOp}
 use Rattle.la_world.specs.declared.speaker.Speaker.{Speaker}
-use Rattle.la_world.specs.Events.{Event}
 use Rattle.la_world.specs.StandsFor.{World, StandsFor, refused_in}
-use Rattle.la_world.specs.Calls.{HoldsInvariant, IsSubmission, IsAllowed, Plays}
+use Rattle.la_world.specs.Calls.{HoldsInvariant, IsAllowed, Plays}
 use Rattle.la_world.proofs.Worlds.{same_world, unchanged_as, noted_as, step_as, printable_as, found_at, submission_known, submission_few, submission_is_named, submission_played, submission_invariant}
 use Rattle.la_world.proofs.WorldSteps.{submitter_speaks}
 use Rattle.la_world.proofs.world.World.take_submission.Goals as goal
