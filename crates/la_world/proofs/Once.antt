@@ -33,7 +33,7 @@ use Rattle.la_world.proofs.InGroup.{IsSubmitted, submitted_by, second_vote_is, v
 use Rattle.la_world.proofs.Allowing.{not_proposed}
 
 -- a replica that votes in a second instance has an update in the set that it learnt in the first
-has_voted : (b : Opening) (s : Submission) → second_vote b ≡ Some s → 1 ≤ count b.updates b.replica
+pub has_voted : (b : Opening) (s : Submission) → second_vote b ≡ Some s → 1 ≤ count b.updates b.replica
 has_voted b s e = go (is_first_instance b.instance) (get b.updates (record { replica = b.replica; number = 1 })) refl e
   where
     go : (v : Bool) (o : Option Update) → get b.updates (record { replica = b.replica; number = 1 }) ≡ o → cond v (second_vote_of (commit_of b.instance) b.replica b.updates (option_and_then proposal (option_and_then (λ (u : Update). vote_of u.op) o))) None ≡ Some s → 1 ≤ count b.updates b.replica
@@ -54,14 +54,14 @@ learnt_only (Took s) b e f = none-some b e
 learnt_only Kept b e f = none-some b e
 
 -- the ballot in the first instance has ended, with an update of the replica's own
-record IsDone (t : Trace) (k r : ℕ) : Type 0 where
-  closed : is_open t (first_instance k) r ≡ false
-  voted : 1 ≤ count (round t (first_instance k) r).updates r
+pub record IsDone (t : Trace) (k r : ℕ) : Type 0 where
+  pub closed : is_open t (first_instance k) r ≡ false
+  pub voted : 1 ≤ count (round t (first_instance k) r).updates r
 
 pub record VotesOnce (t : Trace) : Type 0 where
   pub first : (k r : ℕ) → length (submitted t (first_instance k) r) ≤ 1
   pub second : (k r : ℕ) → length (submitted t (second_instance k) r) ≤ 1
-  done : (k r : ℕ) → (submitted t (second_instance k) r ≡ []) ⊎ IsDone t k r
+  pub done : (k r : ℕ) → (submitted t (second_instance k) r ≡ []) ⊎ IsDone t k r
 
 -- ## One event more
 
