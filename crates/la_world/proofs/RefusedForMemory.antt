@@ -62,7 +62,6 @@ use Rattle.la_world.proofs.OneReplicaSteps.{get_instance}
 use Rattle.la_world.proofs.Replying.{before, with_new, waits, tally_then, refined_within, something_length}
 use Rattle.la_world.proofs.Replying.{counts_is as same_counts}
 use Rattle.la_world.proofs.LargestViews.{view_known}
-use Rattle.la_world.proofs.SecondVotes.{IsDue}
 use Rattle.la_world.proofs.Legal.{legal_between, due, delivery_due}
 
 -- ## No clash

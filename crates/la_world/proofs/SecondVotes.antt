@@ -3,7 +3,7 @@
 use Rattle.std.proofs.Common.{◌≡◌, ◌≢◌, ℕ, ◌<◌, ◌≤◌, ◌==◌, Bool, true, false, cond, List, [], ◌∷◌, ◌++◌, length, drop, Option, Some, None, refl, ap, sym, ◌∙◌, subst, subst₂, arith, inl, inr}
 use Rattle.std.proofs.lemmas.Bool.{true≢false, cond-true}
 use Rattle.std.proofs.lemmas.List.{drop_all}
-use Rattle.std.proofs.lemmas.Option.{same_Some, none-some}
+use Rattle.std.proofs.lemmas.Option.{none-some}
 use Rattle.std.specs.List.{cons_option}
 use Rattle.la_set.specs.ObjectOps.{ObjectOp}
 use Rattle.la_set.specs.Histories.{Histories, count}
@@ -32,9 +32,9 @@ use Rattle.la_world.proofs.Openings.{IsOf, only_is, round_is}
 use Rattle.la_world.proofs.EventCases.{Source, gathers, joins, Step, step_opens}
 use Rattle.la_world.proofs.Quorum.{counts_is, open_in}
 use Rattle.la_world.proofs.SubmittedBound.{alone_within}
-use Rattle.la_world.proofs.Traces.{Holds, always}
+use Rattle.la_world.proofs.Traces.{always}
 use Rattle.la_world.proofs.InGroup.{second_vote_is, second_within}
-use Rattle.la_world.proofs.Once.{has_voted, voted_first, VotesOnce, votes_once}
+use Rattle.la_world.proofs.Once.{has_voted, voted_first, votes_once}
 
 -- ## Who has submitted nothing has opened nothing
 

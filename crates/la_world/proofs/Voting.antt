@@ -1,6 +1,6 @@
 -- A learning that votes: in one step the replica ends its ballot in the first instance of an object, and
 -- opens one in the second instance that takes its vote.
-use Rattle.std.proofs.Common.{◌≡◌, ◌≢◌, ℕ, ◌<◌, ◌==◌, ◌&&◌, true, false, List, [], ◌∷◌, ◌++◌, append-nil, slice_get, slice_set, Option, Some, None, refl, ap, ap₂, sym, ◌∙◌, subst}
+use Rattle.std.proofs.Common.{◌≡◌, ◌≢◌, ℕ, ◌<◌, ◌==◌, ◌&&◌, true, false, [], ◌∷◌, ◌++◌, append-nil, slice_get, slice_set, Some, None, refl, ap, ap₂, sym, ◌∙◌, subst}
 use Rattle.std.specs.Prelude.{option_map, option_and_then}
 use Rattle.std.proofs.lemmas.Bool.{cond-true, cond-false}
 use Rattle.std.proofs.lemmas.Option.{same_Some}
@@ -39,7 +39,7 @@ use Rattle.la_world.proofs.EventCases.{entry_of, submitted_with}
 use Rattle.la_world.proofs.Traces.{Holds}
 use Rattle.la_world.proofs.OneReplicaSteps.{get_instance, between, get_second, after_both, replica_state-left}
 use Rattle.la_world.proofs.Submitting.{opened_at, opens_ballot, opened_after, opened_said, opened_mail}
-use Rattle.la_world.proofs.Replying.{with_new, waits, heard_is, kept_is, last_only, last_seen, tells_are}
+use Rattle.la_world.proofs.Replying.{with_new, heard_is, kept_is, last_only, last_seen, tells_are}
 use Rattle.la_world.proofs.Delivering.{no_offer, reply_offers, hearing_step}
 use Rattle.la_world.proofs.SecondVotes.{LeadsTo, does_learn, IsDue}
 
