@@ -1,12 +1,15 @@
 // The callers that the pages quote, each run once: that they do what they are for where memory is
 // there. Where it is refused all is done again.
 use la_acceptor::{Acceptor, Reply};
+use la_commit::{Outcome, Vote};
 use la_proposer::{Proposer, Votes};
+use la_replica::{Body, Message, Replica};
 use la_set::{Op, Update, UpdateId, UpdateSet};
 use std::alloc::Global;
 use uses::acceptors::acknowledges;
+use uses::commits::{Learner, finish_both};
 use uses::proposers::hear;
-use uses::replicas::three_replicas;
+use uses::replicas::{take_in_and_vote, three_replicas};
 use uses::scripts::report_of;
 use uses::sets::{added, catch_up, later, merged, removal};
 use uses::worlds::{one_learning, shown};
@@ -17,6 +20,15 @@ fn adds(replica: u8, by: u32) -> Update {
         id: UpdateId { replica, number: 1 },
         object: 1,
         op: Op::Inc(by),
+    }
+}
+
+// The vote of a replica, as its first update.
+fn votes(replica: u8, value: u64, sole: bool) -> Update {
+    Update {
+        id: UpdateId { replica, number: 1 },
+        object: 1,
+        op: Op::from(Vote { value, sole }),
     }
 }
 
@@ -57,6 +69,30 @@ fn acknowledgements(alloc: Global) -> Option<bool> {
     Some(first && !second)
 }
 
+// Two participants propose 5 and learn both votes: all their votes are sole.
+fn commits(alloc: Global) -> Option<bool> {
+    let mut first = UpdateSet::new(alloc);
+    let mut second = UpdateSet::new(alloc);
+    for replica in 0..2 {
+        first.push(votes(replica, 5, false)).ok()?;
+        second.push(votes(replica, 5, true)).ok()?;
+    }
+    let one = Learner {
+        participant: 0,
+        value: 5,
+        first: &first,
+        second: &second,
+    };
+    let other = Learner {
+        participant: 1,
+        value: 5,
+        first: &first,
+        second: &second,
+    };
+    let both = finish_both(&one, &other).ok()?;
+    Some(both == (Outcome::Commit(5), Outcome::Commit(5)))
+}
+
 // A proposer of a group of one hears its own acceptor.
 fn learning(alloc: Global) -> Option<bool> {
     let mut proposer = Proposer::new(alloc, 1, 0, 10, Votes::one_each(1));
@@ -78,6 +114,25 @@ fn scripts(alloc: Global) -> Option<bool> {
     Some(text.bytes().starts_with(b"lattice 1\nreplicas 1 "))
 }
 
+// A replica of a group of one learns its first vote, and casts the second.
+fn votes(alloc: Global) -> Option<bool> {
+    let mut replica = Replica::new(alloc, 1, 0, 10, 1, Votes::one_each(1)).ok()?;
+    let vote = Op::Vote {
+        value: 9,
+        sole: false,
+    };
+    replica.submit(1, 0, vote).ok()?;
+    let yes = Message {
+        instance: 1,
+        from: 0,
+        to: 0,
+        ballot: 1,
+        body: Body::Yes,
+    };
+    let both = take_in_and_vote(&mut replica, &yes, 9).ok()?;
+    Some(both.mail.len() == 1 && replica.submitted(2) == Some(1))
+}
+
 fn replicas(alloc: Global) -> Option<bool> {
     three_replicas(alloc).ok()
 }
@@ -88,8 +143,10 @@ fn callers_do_what_they_are_for(rt: HostRuntime) {
     assert!(rt; sets(alloc).or_else(|| sets(alloc)) == Some(true));
     assert!(rt; removals(alloc).or_else(|| removals(alloc)) == Some(true));
     assert!(rt; acknowledgements(alloc).or_else(|| acknowledgements(alloc)) == Some(true));
+    assert!(rt; commits(alloc).or_else(|| commits(alloc)) == Some(true));
     assert!(rt; learning(alloc).or_else(|| learning(alloc)) == Some(true));
     assert!(rt; worlds(alloc).or_else(|| worlds(alloc)) == Some(true));
     assert!(rt; scripts(alloc).or_else(|| scripts(alloc)) == Some(true));
+    assert!(rt; votes(alloc).or_else(|| votes(alloc)) == Some(true));
     assert!(rt; replicas(alloc).or_else(|| replicas(alloc)) == Some(true));
 }

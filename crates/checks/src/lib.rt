@@ -8,6 +8,8 @@ mod acceptor;
 #[cfg(test)]
 mod callers;
 #[cfg(test)]
+mod commit;
+#[cfg(test)]
 mod given;
 #[cfg(test)]
 mod object;

@@ -1,5 +1,6 @@
 // The texts of the errors, as programs print them, against fixed strings.
 use la_acceptor::AcceptorError;
+use la_commit::NotMine;
 use la_object::{AbsorbError, ObserveError, ShelfError};
 use la_proposer::{BadConfig, ProposerError};
 use la_replica::ReplicaError;
@@ -61,6 +62,8 @@ const OF_WORLDS: [(WorldError, &str); 5] = [
     (WorldError::NoSuchMessage, "no such message"),
     (WorldError::Memory, "out of memory"),
 ];
+
+const OF_COMMITS: [(NotMine, &str); 1] = [(NotMine, "the set lacks the participant's own vote")];
 
 const OF_OBJECTS: [(ObserveError, &str); 2] = [
     (ObserveError::TooManyTags, "more than 64 live tags"),
@@ -139,7 +142,7 @@ fn errors_of_the_protocol_are_shown_so(rt: HostRuntime) {
 fn errors_of_objects_are_shown_so(rt: HostRuntime) {
     let alloc = rt.alloc();
     assert!(rt; all_show(alloc, &OF_OBJECTS) && all_show(alloc, &OF_SHELVES));
-    assert!(rt; all_show(alloc, &OF_ABSORBING));
+    assert!(rt; all_show(alloc, &OF_ABSORBING) && all_show(alloc, &OF_COMMITS));
 }
 
 #[test]

@@ -1,2 +1,4 @@
 pub mod Votes
 pub mod Outcomes
+pub mod Stages
+pub mod Laws

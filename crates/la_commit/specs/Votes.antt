@@ -2,7 +2,7 @@
 -- it has learnt a set there, it votes in a second one, and says whether all votes of that set have
 -- its value. In each agreement its vote is its first update; updates that are no votes are passed
 -- over.
-use Rattle.std.specs.Prelude.{◌≡◌, ℕ, ◌==◌, Bool, true, false, List, filter, filter_map, Option, Some, None, option_and_then, if◌then◌else◌}
+use Rattle.std.specs.Prelude.{◌≡◌, ℕ, ◌==◌, Bool, false, List, filter, filter_map, Option, Some, None, option_and_then, if◌then◌else◌}
 use Rattle.std.specs.List.{list_all}
 use Rattle.la_set.specs.declared.update.Op.{Op}
 use Rattle.la_set.specs.declared.update.Op.TheVariants as op

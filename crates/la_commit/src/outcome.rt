@@ -1,12 +1,12 @@
 ghost use Rattle.std.specs.Prelude.{◌≡◌};
-ghost use Rattle.la_commit.specs.Outcomes.{value_of};
+ghost use Rattle.la_commit.specs.Outcomes.{value_of, is_commit};
 
-/// What a participant returns.
+/// What a participant comes to.
 #[derive(Clone, Copy, Debug, PartialEq, Eq)]
 pub enum Outcome {
-    /// It commits the value: every participant that returns has it.
+    /// Whoever finishes has this value too.
     Commit(u64),
-    /// It adopts the value.
+    /// Others may have another value, as long as nobody commits.
     Adopt(u64),
 }
 
@@ -16,7 +16,15 @@ impl Outcome {
         ensures { result ≡ value_of self.now }
     {
         match self {
-            Outcome::Commit(value) | Outcome::Adopt(value) => *value,
+            Outcome::Commit(value) => *value,
+            Outcome::Adopt(value) => *value,
         }
+    }
+
+    /// Whether the value is committed.
+    pub fn is_commit(&self) -> bool
+        ensures { result ≡ is_commit self.now }
+    {
+        matches!(self, Outcome::Commit(_))
     }
 }

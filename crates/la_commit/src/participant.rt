@@ -1,89 +1,175 @@
-ghost use Rattle.std.specs.Prelude.{◌≡◌, IfOk, IfErr, OnOk, OnErr, Ok, Err};
-ghost use Rattle.la_commit.specs.Votes.{HoldsVote, first_vote_for, second_vote_for, own_vote as own};
+ghost use Rattle.std.specs.Prelude.{◌≡◌, ◌↔◌, IsOk, IfOk, IfErr};
+ghost use Rattle.la_commit.specs.Votes.{first_vote_for, second_vote_for, HoldsVote};
 ghost use Rattle.la_commit.specs.Outcomes.{outcome};
 
-use crate::{Outcome, Vote};
+use crate::learnt::{all_have, all_sole, first_sole, own_vote};
+use crate::{NotMine, Outcome, Vote};
 use la_set::UpdateSet;
-use thiserror::Error;
+use std::marker::Model;
 
-/// The set lacks the participant's own vote.
-#[derive(Clone, Copy, Debug, PartialEq, Eq, Error)]
-#[error("the set lacks the participant's own vote")]
-pub struct NotMine;
-
-/// A participant that has proposed nothing.
-#[derive(Clone, Copy)]
+/// A participant that has proposed nothing yet.
+#[derive(Clone, Copy, Debug, PartialEq, Eq)]
 pub struct Fresh {
-    pub participant: u8,
+    participant: u8,
 }
 
-/// A participant that has voted in the first agreement.
-#[derive(Clone, Copy)]
+impl Model for Fresh {
+    ghost use Rattle.std.specs.Prelude.{ℕ};
+
+    ghost Value = { ℕ };
+
+    ghost view = { λ s. s.participant };
+
+    ghost inverse = { λ participant. record { participant = participant } };
+}
+
+/// A participant that has proposed, and learns a set of the first agreement next.
+#[derive(Clone, Copy, Debug, PartialEq, Eq)]
 pub struct First {
-    pub participant: u8,
-    pub value: u64,
+    participant: u8,
+    value: u64,
 }
 
-/// A participant that has voted in the second agreement.
-#[derive(Clone, Copy)]
+impl Model for First {
+    ghost use Rattle.la_commit.specs.Stages.{Proposed};
+
+    ghost Value = { Proposed };
+
+    ghost view = { λ s. record { participant = s.participant; value = s.value } };
+
+    ghost inverse = { λ s. record { participant = s.participant; value = s.value } };
+}
+
+/// A participant that has learnt a set of the first agreement, and learns one of the second next.
+#[derive(Clone, Copy, Debug, PartialEq, Eq)]
 pub struct Second {
-    pub participant: u8,
-    pub vote: Vote,
+    participant: u8,
+    vote: Vote,
 }
 
-/// A participant that has its outcome.
-#[derive(Clone, Copy)]
+impl Model for Second {
+    ghost use Rattle.la_commit.specs.Stages.{Voted};
+
+    ghost Value = { Voted };
+
+    ghost view = { λ s. record { participant = s.participant; vote = s.vote } };
+
+    ghost inverse = { λ s. record { participant = s.participant; vote = s.vote } };
+}
+
+/// A participant that has come to its outcome.
+#[derive(Clone, Copy, Debug, PartialEq, Eq)]
 pub struct Done {
-    pub outcome: Outcome,
+    reached: Outcome,
+}
+
+impl Model for Done {
+    ghost use Rattle.la_commit.specs.declared.outcome.Outcome.{Outcome};
+
+    ghost Value = { Outcome };
+
+    ghost view = { λ s. s.reached };
+
+    ghost inverse = { λ reached. record { reached = reached } };
+}
+
+impl Fresh {
+    /// A participant that has proposed nothing. Sets hold updates of replicas 0 to 7 alone, so that
+    /// one of 8 or more is answered [`NotMine`] by every set.
+    pub fn new(participant: u8) -> Fresh
+        ensures { result ≡ participant }
+    {
+        Fresh { participant }
+    }
+
+    /// Proposes a value. The vote, which is not sole, is to be submitted in the first agreement as
+    /// the participant's first update there.
+    pub fn propose(self, value: u64) -> (First, Vote)
+        ensures next { result.0 ≡ record { participant = self; value = value } }
+        ensures vote { result.1 ≡ first_vote_for value }
+    {
+        let first = First {
+            participant: self.participant,
+            value,
+        };
+        (first, Vote { value, sole: false })
+    }
 }
 
 impl First {
+    /// A participant whose vote in the first agreement is known goes on. It has this value.
     pub fn resume(participant: u8, value: u64) -> First
         ensures { result ≡ record { participant = participant; value = value } }
     {
         First { participant, value }
     }
 
+    /// Takes a set that was learnt in the first agreement. The vote, which is sole where every vote
+    /// of the set has the participant's value, is to be submitted in the second agreement as the
+    /// participant's first update there.
+    ///
+    /// It is refused exactly where the set lacks the participant's vote of the first agreement; the
+    /// participant comes back as it was.
     pub fn first(self, learnt: &UpdateSet) -> Result<(Second, Vote), (First, NotMine)>
-        ensures ok { IfOk result (λ made. made.1 ≡ second_vote_for learnt.now self.value) }
+        ensures mine { IsOk result
+            ↔ HoldsVote learnt.now self.participant (first_vote_for self.value) }
+        ensures next { IfOk result (λ ok. ok.0 ≡ record {
+          participant = self.participant;
+          vote = second_vote_for learnt.now self.value;
+        }) }
+        ensures vote { IfOk result (λ ok. ok.1 ≡ second_vote_for learnt.now self.value) }
+        ensures back { IfErr result (λ err. err.0 ≡ self) }
     {
-        Err((self, NotMine))
+        let First { participant, value } = self;
+        if own_vote(learnt, participant) != Some(Vote { value, sole: false }) {
+            return Err((self, NotMine));
+        }
+        let vote = Vote {
+            value,
+            sole: all_have(learnt, value),
+        };
+        Ok((Second { participant, vote }, vote))
     }
 }
 
 impl Second {
+    /// A participant whose vote in the second agreement is known goes on.
     pub fn resume(participant: u8, vote: Vote) -> Second
         ensures { result ≡ record { participant = participant; vote = vote } }
     {
         Second { participant, vote }
     }
 
+    /// Takes a set that was learnt in the second agreement. Where all its votes are sole the
+    /// outcome commits, where only some are it adopts, both with the value of the sole vote of
+    /// least id; where none is, it adopts the participant's own value.
+    ///
+    /// It is refused exactly where the set lacks the participant's vote of the second agreement, of
+    /// this very value and sole or not as it was; the participant comes back as it was.
     pub fn second(self, learnt: &UpdateSet) -> Result<(Done, Outcome), (Second, NotMine)>
-        ensures ok { IfOk result (λ made. made.1 ≡ outcome learnt.now self.vote.value) }
+        ensures mine { IsOk result ↔ HoldsVote learnt.now self.participant self.vote }
+        ensures next { IfOk result (λ ok. ok.0 ≡ outcome learnt.now self.vote.value) }
+        ensures outcome { IfOk result (λ ok. ok.1 ≡ outcome learnt.now self.vote.value) }
+        ensures back { IfErr result (λ err. err.0 ≡ self) }
     {
-        Err((self, NotMine))
+        let Second { participant, vote } = self;
+        if own_vote(learnt, participant) != Some(vote) {
+            return Err((self, NotMine));
+        }
+        let reached = match first_sole(learnt) {
+            None => Outcome::Adopt(vote.value),
+            Some(sole) if all_sole(learnt) => Outcome::Commit(sole.value),
+            Some(sole) => Outcome::Adopt(sole.value),
+        };
+        Ok((Done { reached }, reached))
     }
 }
 
-impl Fresh {
-    pub fn new(participant: u8) -> Fresh
-        ensures { result ≡ record { participant = participant } }
+impl Done {
+    /// What the participant came to.
+    pub fn outcome(&self) -> Outcome
+        ensures { result ≡ self.now }
     {
-        Fresh { participant }
-    }
-
-    pub fn propose(self, value: u64) -> (First, Vote)
-        ensures { result.1 ≡ first_vote_for value }
-    {
-        (First { participant: self.participant, value }, Vote { value, sole: false })
-    }
-}
-
-pub fn own_vote(set: &UpdateSet, participant: u8) -> Option<Vote>
-    ensures { result ≡ own set.now participant }
-{
-    match &set.get(la_set::UpdateId { replica: participant, number: 1 })?.op {
-        la_set::Op::Vote { value, sole } => Some(Vote { value: *value, sole: *sole }),
-        _ => None,
+        self.reached
     }
 }

@@ -1,5 +1,5 @@
 ghost use Rattle.std.specs.Prelude.{◌≡◌};
-ghost use Rattle.la_commit.specs.Votes.{op_of};
+ghost use Rattle.la_commit.specs.Votes.{vote_of, op_of};
 
 use la_set::Op;
 
@@ -8,8 +8,24 @@ use la_set::Op;
 pub struct Vote {
     /// The value that is voted for.
     pub value: u64,
-    /// Whether all votes of the set that the participant learnt in the first agreement have it.
+    /// Whether all votes of the set that the participant learnt in the first agreement have it. In
+    /// that agreement itself no vote is sole.
     pub sole: bool,
+}
+
+impl Vote {
+    /// The vote that an operation casts, if it is one.
+    pub fn of(op: &Op) -> Option<Vote>
+        ensures { result ≡ vote_of op.now }
+    {
+        match op {
+            Op::Vote { value, sole } => Some(Vote {
+                value: *value,
+                sole: *sole,
+            }),
+            _ => None,
+        }
+    }
 }
 
 impl From<Vote> for Op {

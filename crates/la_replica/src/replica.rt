@@ -1,5 +1,5 @@
-ghost use Rattle.std.specs.Prelude.{◌≡◌, ◌≢◌, ◌+◌, ◌*◌, ◌<◌, ◌≤◌, length, true, Some, None, IsOk};
-ghost use Rattle.std.specs.Prelude.{IfOk, IfErr, OnOk, OnErr};
+ghost use Rattle.std.specs.Prelude.{◌≡◌, ◌≢◌, ◌+◌, ◌*◌, ◌<◌, ◌≤◌, length, slice_get, slice_set};
+ghost use Rattle.std.specs.Prelude.{true, Some, None, IsOk, IfOk, IfErr, OnOk, OnErr};
 ghost use Rattle.std.specs.Option.{option_copied};
 ghost use Rattle.la_proposer.specs.declared.proposer.TheConstants.{MAX_CAP};
 ghost use Rattle.la_proposer.specs.Majority.{votes_of};
@@ -8,7 +8,8 @@ ghost use Rattle.la_replica.specs.Whole.{whole_of, whole_out, whole_both};
 ghost use Rattle.la_replica.specs.Whole as whole;
 ghost use Rattle.la_replica.specs.ReplicaState.{ReplicaState, start, submits, receives, sender_of};
 ghost use Rattle.la_replica.specs.ReplicaState.{last_learnt, submitted_in, receives_and_submits};
-ghost use Rattle.la_replica.specs.Invariant.{IsReplicaState};
+ghost use Rattle.la_replica.specs.ReplicaState.{with_instance, SubmitsThere};
+ghost use Rattle.la_replica.specs.Invariant.{IsReplicaState, IsOf};
 ghost use Rattle.la_replica.specs.Steps.{learnt_in};
 ghost use Rattle.la_replica.specs.Refusals.{IsSubmitRefusal, IsReceiveRefusal, IsReceivable};
 ghost use Rattle.la_replica.specs.Refusals.{HasRoom, SubmittingSpares, ReceivingSpares};
@@ -247,7 +248,8 @@ impl Replica {
 
     /// Receives a message that fits, as [`Replica::take_message`] does, and submits an update in
     /// another instance in the same step, as [`Replica::take_submission`] does: both, or neither.
-    /// It is refused for want of memory alone; then the replica is as before.
+    /// It is refused for want of memory alone; then the replica is as before. The cost is that of
+    /// the two, and of a copy of the two instances and of the view, which share their updates.
     pub fn take_message_and_submit(
         &mut self,
         message: &Message,
@@ -264,11 +266,12 @@ impl Replica {
             ≡ Some (whole_both both, self.new)) }
         ensures err { OnErr result (self.new ≡ self.old) }
     {
-        let mut copy = self.copy()?;
-        let received = copy.take_message(message)?;
-        let submitted = copy.take_submission(instance, object, op)?;
+        let (at, view, received) = self.received_apart(message)?;
+        let (other, submitted) = self.submitted_apart(instance, object, op)?;
         let both = Both::new(received, submitted)?;
-        *self = copy;
+        self.put(message.instance, at);
+        self.put(instance, other);
+        self.see(view);
         Ok(both)
     }
 
@@ -305,6 +308,70 @@ impl Replica {
             // By `IsReceivable` there is such an instance.
             None => unreachable!(),
         }
+    }
+
+    // What a message that fits comes to, in copies of its instance and of the view: what stands
+    // there afterwards, and what is answered.
+    fn received_apart(&self, message: &Message) -> Result<(Instance, UpdateSet, Out), AllocError>
+        requires { FitsReceiver self.now (whole_of message.now) }
+        ensures step { IfOk result (λ after. receives self.now (whole_of message.now) ≡ Some (
+          whole_out after.2,
+          with_instance self.now message.now.instance after.0 after.1,
+        )) }
+        ensures alike { IfOk result (λ after. IsOf self.now.votes self.now.own after.0) }
+    {
+        let alloc = *self.instances.allocator();
+        let sender = self.sender(message.instance);
+        let mut at = self.copy_at(message.instance)?;
+        let mut view = self.view().copy()?;
+        let out = at.take_message(alloc, &sender, message, &mut view, true)?;
+        Ok((at, view, out))
+    }
+
+    // What a submission that is admitted comes to, in a copy of its instance: what stands there
+    // afterwards, and what is answered. It is the same whatever the view is.
+    fn submitted_apart(
+        &self,
+        instance: u8,
+        object: u16,
+        op: Op,
+    ) -> Result<(Instance, Out), AllocError>
+        requires room { HasRoom self.now instance }
+        requires spares { SubmittingSpares self.now instance }
+        ensures step { IfOk result (λ after.
+            SubmitsThere self.now instance (op_on object op) (whole_out after.1) after.0) }
+        ensures alike { IfOk result (λ after. IsOf self.now.votes self.now.own after.0) }
+    {
+        let alloc = *self.instances.allocator();
+        let sender = self.sender(instance);
+        let mut at = self.copy_at(instance)?;
+        let out = at.take_submission(alloc, &sender, object, op)?;
+        Ok((at, out))
+    }
+
+    // A copy of what it keeps of an instance.
+    fn copy_at(&self, instance: u8) -> Result<Instance, AllocError>
+        requires { instance < length self.now.instances }
+        ensures { IfOk result (λ copy. slice_get self.now.instances instance ≡ Some copy) }
+    {
+        self.instances[instance as usize].copy()
+    }
+
+    // Puts this in an instance's place.
+    fn put(&mut self, instance: u8, at: Instance)
+        requires there { instance < length self.old.instances }
+        requires alike { IsOf self.old.votes self.old.own at }
+        ensures { self.new
+            ≡ record self.old { instances = slice_set self.old.instances instance at } }
+    {
+        self.instances[instance as usize] = at;
+    }
+
+    // Puts this in the view's place.
+    fn see(&mut self, view: UpdateSet)
+        ensures { self.new ≡ record self.old { view = view } }
+    {
+        self.view = view;
     }
 
     // Where the replica's messages of an instance come from.

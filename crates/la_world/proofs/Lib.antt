@@ -36,9 +36,15 @@ pub mod Starting
 pub mod StoredMessages
 pub mod Shown
 pub mod Telling
+pub mod Proposals
 pub mod WorldSteps
 pub mod SentCounts
 pub mod Receivers
+pub mod Participants
 pub mod Worlds
+pub mod Returned
 pub mod Playback
-pub mod Proposals
+pub mod SubmittedVotes
+pub mod LearntVotes
+pub mod Returns
+pub mod Agreement

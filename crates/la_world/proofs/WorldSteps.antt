@@ -185,6 +185,13 @@ module _ (w : World) (events : List Event) (stands : StandsFor w events) where
       go true e (Some value) = let odd = eqb-true (i % 2) 1 e in omega (arith, div-add-mod i 2, odd)
       go false e o = refl
 
+  -- a kept message is to a replica of the group
+  pub receiver_in_group : (k : ℕ) (m : code.Message) → slice_get w.messages k ≡ Some m → m.to < replicas g
+  receiver_in_group k m stored = (legal_between g events stands.legal k (whole_of m) (get_message k m stored)).to
+
+  pub delivery_step : (k : ℕ) (m : code.Message) → slice_get w.messages k ≡ Some m → refused g t (Deliver k) ≡ None → takes (replica_state g t m.to) (whole_of m) ≡ Some (record { said = said_by (entry g t (Deliver k)).did; mail = sent_at (replicas g) (entry g t (Deliver k)) }, replica_state g (entry g t (Deliver k) ∷ t) m.to)
+  delivery_step k m stored allowed = (delivery_steps g events k (whole_of m) few stands.legal (get_message k m stored)).step
+
   -- of the kept message with this number, where its receiver learns this by it
   pub delivery_plays : (k : ℕ) (m : code.Message) → slice_get w.messages k ≡ Some m → refused g t (Deliver k) ≡ None → (copy : Option Histories) → copy ≡ learnt_in (said_by (entry g t (Deliver k)).did) → PlaysTo (Deliver k) (receiver_speaks w m copy) (takes (replica_state g t m.to) (whole_of m))
   delivery_plays k m stored allowed copy kept =

@@ -1,7 +1,6 @@
 // What a replica does as a participant of an adopt-commit object, by the sets that it learns. No
 // state is kept of it: its own vote in a set tells how far it is.
 ghost use Rattle.std.specs.Prelude.{◌≡◌, ◌*◌, ◌<◌, ◌≤◌, Some, option_and_then, IfOk, OnErr};
-ghost use Rattle.std.specs.Option.{option_copied};
 ghost use Rattle.la_replica.specs.declared.replica.TheConstants.{MAX_COMMITS};
 ghost use Rattle.la_replica.specs.Whole.{Out as OutOf, whole_of, whole_out};
 ghost use Rattle.la_replica.specs.Steps.{learnt_in};
@@ -11,9 +10,10 @@ ghost use Rattle.la_world.specs.Groups.{is_first_instance, is_second_instance};
 ghost use Rattle.la_world.specs.Votes.{vote_in, instance_after};
 ghost use Rattle.la_world.specs.Outcomes.{outcome_of, outcome_in};
 ghost use Rattle.la_world.specs.Calls.{returned_by};
-ghost use Rattle.la_world.specs.Following.{learnt_with, takes};
+ghost use Rattle.la_world.specs.Following.{opened_in, learnt_with, takes};
 
 use la_commit::{First, Outcome, Second, Vote, own_vote};
+use la_proposer::Ballot;
 use la_replica::{Message, Out, Replica, Said};
 use la_set::{Op, UpdateSet};
 use std::alloc::AllocError;
@@ -34,10 +34,10 @@ pub fn is_second(instance: u8) -> bool
 
 // The vote that a replica gives in an object's second instance, where it learns this set in the
 // first one.
-pub fn second_vote(instance: u8, own: u8, learnt: Option<&UpdateSet>) -> Option<Vote>
-    ensures { result ≡ option_and_then (vote_in instance own) (option_copied learnt) }
+pub fn second_vote(instance: u8, own: u8, learnt: &Option<UpdateSet>) -> Option<Vote>
+    ensures { result ≡ option_and_then (vote_in instance own) learnt.now }
 {
-    let learnt = learnt?;
+    let learnt = learnt.as_ref()?;
     if !is_first(instance) {
         return None;
     }
@@ -63,14 +63,14 @@ pub fn outcome_of_set(own: u8, second: &UpdateSet) -> Option<Outcome>
 }
 
 // The same, where it learns this set in this instance.
-pub fn outcome_in_instance(instance: u8, own: u8, learnt: Option<&UpdateSet>) -> Option<Outcome>
-    ensures { result ≡ option_and_then (outcome_in instance own) (option_copied learnt) }
+pub fn outcome_by(instance: u8, own: u8, learnt: &Option<UpdateSet>) -> Option<Outcome>
+    ensures { result ≡ option_and_then (outcome_in instance own) learnt.now }
 {
-    if is_second(instance) {
-        outcome_of_set(own, learnt?)
-    } else {
-        None
+    let learnt = learnt.as_ref()?;
+    if !is_second(instance) {
+        return None;
     }
+    outcome_of_set(own, learnt)
 }
 
 // What a replica returned from an object, if it has.
@@ -115,10 +115,19 @@ pub fn take(receiver: &mut Replica, message: &Message, vote: Option<Vote>) -> Re
 fn learnt_and_voted(received: Said, submitted: Said) -> Said
     ensures { result ≡ learnt_with received submitted }
 {
-    match (received, submitted) {
-        (Said::Learnt(updates, _), Said::Opened(ballot)) => Said::Learnt(updates, Some(ballot)),
-        (Said::Learnt(updates, _), _) => Said::Learnt(updates, None),
-        (_, submitted) => submitted,
+    match received {
+        Said::Learnt(updates, _) => Said::Learnt(updates, opened(submitted)),
+        other => other,
+    }
+}
+
+// The ballot that a submission opened, if it did.
+fn opened(submitted: Said) -> Option<Ballot>
+    ensures { result ≡ opened_in submitted }
+{
+    match submitted {
+        Said::Opened(ballot) => Some(ballot),
+        _ => None,
     }
 }
 

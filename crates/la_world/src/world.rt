@@ -1,4 +1,4 @@
-ghost use Rattle.std.specs.Prelude.{◌≡◌, ◌+◌, ◌<◌, ◌≤◌, ◌^◌, [], ◌++◌, length, slice_get, Some, None};
+ghost use Rattle.std.specs.Prelude.{◌≡◌, ℕ, ◌+◌, ◌<◌, ◌≤◌, ◌^◌, [], ◌++◌, length, slice_get, Some, None};
 ghost use Rattle.std.specs.Prelude.{IfOk, IfErr, OnOk, OnErr};
 ghost use Rattle.std.specs.Option.{option_copied};
 ghost use Rattle.la_set.specs.ObjectOps.{ObjectOp};
@@ -21,7 +21,7 @@ ghost use Rattle.la_world.specs.Calls.{returned_in, returned_of};
 ghost use Rattle.la_world.specs.Calls.{report_with, report_after};
 
 use crate::journal::Journal;
-use crate::participant::{opening_instance, outcome_in_instance, returned, second_vote, take};
+use crate::participant::{opening_instance, outcome_by, returned, second_vote, take};
 use crate::speaker::Speaker;
 use crate::{Config, Decision, Decisions, Event, Learnings, Learnt, Report, Step, Steps, Views};
 use crate::WorldError;
@@ -178,7 +178,7 @@ impl World {
     // fits.
     fn admit_proposal(&self, replica: u8, commit: u8) -> Result<(), WorldError>
         ensures known { OnOk result (replica < length self.now.replica_states) }
-        ensures object { OnOk result (commit < self.now.config.commits) }
+        ensures object { OnOk result (commit < MAX_COMMITS) }
         ensures allowed { (events : Past) → StandsFor self.now events →
             OnOk result ((value : ℕ) →
             refused_in self.now events (Decide replica commit value) ≡ None) }
@@ -192,10 +192,10 @@ impl World {
         if commit >= self.config.commits {
             return Err(WorldError::NoSuchCommit);
         }
-        match submitted_among(&self.replicas, 2 * commit + 1, replica) {
-            Some(0) => Ok(()),
-            _ => Err(WorldError::AlreadyProposed),
+        if submitted_among(&self.replicas, 2 * commit + 1, replica) != Some(0) {
+            return Err(WorldError::AlreadyProposed);
         }
+        Ok(())
     }
 
     // Whether a replica may submit, whatever it submits: by the first refusal that fits.
@@ -248,13 +248,13 @@ impl World {
         let (instance, to) = (message.instance, message.to);
         let receiver = &mut self.replicas[to as usize];
         let learnt = learning(receiver, message)?;
-        let vote = second_vote(instance, to, learnt.as_ref());
+        let vote = second_vote(instance, to, &learnt);
         let speaker = Speaker {
             replicas: self.config.replicas,
             replica: to,
             instance,
             ballot: message.ballot,
-            outcome: outcome_in_instance(instance, to, learnt.as_ref()),
+            outcome: outcome_by(instance, to, &learnt),
             opens_in: opening_instance(instance, vote),
         };
         // `laws::deliveries_fit`: what was sent fits its receiver, so that only memory is left.
@@ -310,15 +310,25 @@ impl World {
     /// What a replica returned from an adopt-commit object; `None` where it has not, or the group
     /// has no such replica, or no such object. The cost is that of a pass over the votes, of which
     /// there is one a replica.
+    #[tactic(auto, using(crate::proofs::Returned::returned_found))]
     pub fn outcome(&self, commit: u8, replica: u8) -> Option<Outcome>
         ensures value { result ≡ returned_in self.now commit replica }
         ensures stands { (events : Past) → StandsFor self.now events → result
             ≡ returned_of (group_of self.now.config) (trace_in self.now events) commit replica }
     {
+        self.returned_from(commit, replica)
+    }
+
+    fn returned_from(&self, commit: u8, replica: u8) -> Option<Outcome>
+        ensures { result ≡ returned_in self.now commit replica }
+    {
         if commit >= self.config.commits {
             return None;
         }
-        returned(self.replicas.get(replica as usize)?, commit)
+        match self.replicas.get(replica as usize) {
+            Some(replica) => returned(replica, commit),
+            None => None,
+        }
     }
 
     // What was returned, by object, and then by replica.
@@ -335,7 +345,10 @@ impl World {
     /// A report of these lines, of what was learnt and of the views, at the cost of an entry for
     /// each learnt set and each view; their updates are shared. It refuses with want of memory
     /// alone.
-    #[tactic(auto, using(crate::proofs::Worlds::views_are))]
+    #[tactic(
+        auto,
+        using(crate::proofs::Worlds::views_are, crate::proofs::Returned::decisions_are)
+    )]
     pub fn report(&self, steps: Steps) -> Result<Report, AllocError>
         ensures value { IfOk result (λ report. report ≡ report_with self.now steps) }
         ensures stands { (events : Past) → StandsFor self.now events →
@@ -353,7 +366,10 @@ impl World {
     /// The report that [`World::report`] would make, of a world that goes: what was learnt is
     /// handed out, and the views are copied. It refuses with want of memory alone, and then the
     /// world is lost.
-    #[tactic(auto, using(crate::proofs::Worlds::views_are))]
+    #[tactic(
+        auto,
+        using(crate::proofs::Worlds::views_are, crate::proofs::Returned::decisions_are)
+    )]
     pub fn into_report(self, steps: Steps) -> Result<Report, AllocError>
         ensures value { IfOk result (λ report. report ≡ report_with self steps) }
         ensures stands { (events : Past) → StandsFor self events →
@@ -449,18 +465,18 @@ fn copy_views(replicas: &Vec<Replica>) -> Result<Vec<UpdateSet>, AllocError>
 // Puts last what each replica returned from an object.
 fn add_decisions(
     made: &mut Vec<Decision>,
-    replicas: &[Replica],
+    replicas: &Vec<Replica>,
     commit: u8,
 ) -> Result<(), AllocError>
-    requires few { length replicas.now ≤ 8 }
-    requires known { commit < MAX_COMMITS }
-    ensures { OnOk result (made.new.items ≡ made.old.items ++ decisions_at replicas.now commit) }
+    requires { commit < MAX_COMMITS }
+    ensures { OnOk result
+        (made.new.items ≡ made.old.items ++ decisions_at replicas.now.items commit) }
 {
-    for replica in 0..replicas.len() as u8 {
-        if let Some(outcome) = returned(&replicas[replica as usize], commit) {
+    for participant in replicas {
+        if let Some(outcome) = returned(participant, commit) {
             made.push(Decision {
                 commit,
-                replica,
+                replica: participant.own(),
                 outcome,
             })?;
         }

@@ -1,4 +1,6 @@
 pub mod Adding
 pub mod Tagging
 pub mod Viewing
+pub mod Voting
 pub mod Runs
+pub mod Committing

@@ -1,3 +1,4 @@
 pub mod Reading
 pub mod Promises
 pub mod Scripts
+pub mod Commits

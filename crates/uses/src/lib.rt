@@ -3,6 +3,7 @@
 #![tactic(auto)]
 
 pub mod acceptors;
+pub mod commits;
 pub mod objects;
 pub mod proposers;
 pub mod replicas;

@@ -105,3 +105,26 @@ pub fn three_replicas(alloc: Global) -> Result<bool, ReplicaError> {
     let first = group[0].view();
     Ok(first.len() == 1 && first.same(group[1].view()) && first.same(group[2].view()))
 }
+
+// ---- two steps at once
+ghost use Rattle.std.specs.Prelude.{OnErr};
+
+use la_replica::Both;
+
+/// Takes in a message of an instance above 0, and votes in the next one in the same step: both, or
+/// neither. Whatever refuses it, the replica is as before.
+pub fn take_in_and_vote(
+    replica: &mut Replica,
+    message: &Message,
+    value: u64,
+) -> Result<Both, ReplicaError>
+    requires above { 0 < message.now.instance }
+    requires next { message.now.instance < 32 }
+    ensures { OnErr result (replica.new ≡ replica.old) }
+{
+    let next = message.instance + 1;
+    replica.admit_message(message)?;
+    replica.admit_submission(next)?;
+    let vote = Op::Vote { value, sole: true };
+    Ok(replica.take_message_and_submit(message, next, 0, vote)?)
+}

@@ -1,5 +1,5 @@
 // Callers that know nothing but the contracts: each makes a call twice and promises equal answers.
-ghost use Rattle.std.specs.Prelude.{◌≡◌, ◌↔◌, ◌≤◌, ◌<◌};
+ghost use Rattle.std.specs.Prelude.{◌≡◌, ◌≢◌, ◌↔◌, ◌≤◌, ◌<◌};
 ghost use Rattle.std.specs.Prelude.{length, IsTrue, IfOk, OnOk, OnErr, option_copied};
 ghost use Rattle.la_proposer.specs.Majority.{votes_of};
 ghost use Rattle.la_replica.specs.Whole.{whole_of};
@@ -8,7 +8,7 @@ ghost use Rattle.la_replica.specs.Fitting.{FitsReceiver};
 
 use la_acceptor::{AcceptorError, Reply};
 use la_proposer::{Heard, MAX_CAP, ProposerError, Votes};
-use la_replica::{Body, MAX_COMMITS, Mail, Message, Out, Replica, ReplicaError, Said, laws};
+use la_replica::{Body, Both, MAX_COMMITS, Mail, Message, Out, Replica, ReplicaError, Said, laws};
 use la_set::{Op, UpdateSet};
 use smallvec::SmallVec;
 use std::alloc::{AllocError, Global};
@@ -107,6 +107,18 @@ fn push_is_exact(
     ensures { OnOk result.0 (OnOk result.1 (one.new ≡ other.new)) }
 {
     (one.push(messages.0), other.push(messages.1))
+}
+
+fn append_is_exact(
+    one: &mut Mail,
+    other: &mut Mail,
+    further: (Mail, Mail),
+) -> (Result<(), AllocError>, Result<(), AllocError>)
+    requires mail { one.old ≡ other.old }
+    requires further { further.0 ≡ further.1 }
+    ensures { OnOk result.0 (OnOk result.1 (one.new ≡ other.new)) }
+{
+    (one.append(further.0), other.append(further.1))
 }
 
 fn lists_are_one(mails: (Mail, Mail)) -> (SmallVec<Message, 1>, SmallVec<Message, 1>)
@@ -290,6 +302,30 @@ fn take_message_is_exact(
     ensures stays { OnErr result.0 (one.new ≡ one.old) }
 {
     (one.take_message(message), other.take_message(message))
+}
+
+type TakesBoth = Result<Both, AllocError>;
+
+fn take_message_and_submit_is_exact(
+    one: &mut Replica,
+    other: &mut Replica,
+    message: &Message,
+    instance: u8,
+    by: u32,
+) -> (TakesBoth, TakesBoth)
+    requires same { one.old ≡ other.old }
+    requires fits { FitsReceiver one.old (whole_of message.now) }
+    requires elsewhere { instance ≢ message.now.instance }
+    requires room { HasRoom one.old instance }
+    requires spares { SubmittingSpares one.old instance }
+    ensures answers { IfOk result.0 (λ a. IfOk result.1 (λ b. a ≡ b)) }
+    ensures steps { OnOk result.0 (OnOk result.1 (one.new ≡ other.new)) }
+    ensures stays { OnErr result.0 (one.new ≡ one.old) }
+{
+    (
+        one.take_message_and_submit(message, instance, 1, Op::Inc(by)),
+        other.take_message_and_submit(message, instance, 1, Op::Inc(by)),
+    )
 }
 
 // A message that fits comes to what receiving it comes to.

@@ -13,6 +13,7 @@ use la_set::{Op, UpdateId, UpdateSet};
 use std::alloc::Global;
 use std::process::Abort;
 
+#[derive(Drop)]
 pub enum Input {
     /// A submission in an instance that adds 5 to object 1.
     Submits(u8),
@@ -121,7 +122,7 @@ fn instance_of(input: &Input) -> u8 {
     }
 }
 
-fn message_of(rt: &impl Abort, alloc: Global, input: &Input) -> Option<Message> {
+pub fn message_of(rt: &impl Abort, alloc: Global, input: &Input) -> Option<Message> {
     Some(match input {
         Input::Submits(_) => return None,
         Input::Offer(instance, from, ballot, updates) => {
@@ -169,25 +170,25 @@ fn to_0(instance: u8, from: u8, ballot: u32, body: Body) -> Message {
     }
 }
 
-// What is compared around a call that is refused.
-fn standing(replica: &Replica) -> (usize, bool, Option<u32>) {
+/// What is compared of an instance around a call that is refused.
+pub fn standing(replica: &Replica, instance: u8) -> (usize, bool, Option<u32>) {
     (
         replica.view().len(),
-        replica.last_learnt(0).is_some(),
-        replica.submitted(0),
+        replica.last_learnt(instance).is_some(),
+        replica.submitted(instance),
     )
 }
 
-fn submit(
+pub fn submit(
     rt: &impl Abort,
     replica: &mut Replica,
     instance: u8,
     way: Way,
 ) -> Result<Out, ReplicaError> {
-    let before = standing(replica);
+    let before = standing(replica, 0);
     match submit_by(replica, instance, way) {
         Err(ReplicaError::Memory) => {
-            assert!(rt; standing(replica) == before);
+            assert!(rt; standing(replica, 0) == before);
             submit_by(replica, instance, way)
         }
         answer => answer,
@@ -203,18 +204,18 @@ fn submit_by(replica: &mut Replica, instance: u8, way: Way) -> Result<Out, Repli
 }
 
 // Receives a message, and looks that what it leads to learning was told before.
-fn receive(
+pub fn receive(
     rt: &impl Abort,
     alloc: Global,
     replica: &mut Replica,
     message: &Message,
     way: Way,
 ) -> Result<Out, ReplicaError> {
-    let before = standing(replica);
+    let before = standing(replica, 0);
     let foretold = learns(replica, message);
     let answer = match receive_by(alloc, replica, message, way) {
         Err(ReplicaError::Memory) => {
-            assert!(rt; standing(replica) == before);
+            assert!(rt; standing(replica, 0) == before);
             receive_by(alloc, replica, message, way)
         }
         answer => answer,
@@ -241,7 +242,7 @@ fn receive_by(
 
 // Whether the set that may become the view fits it, as far as can be told from outside: a told set
 // by comparing, and the one that a reply may lead to learning where the view is empty.
-fn fits_view(alloc: Global, replica: &Replica, message: &Message) -> bool
+pub fn fits_view(alloc: Global, replica: &Replica, message: &Message) -> bool
     ensures { IsTrue result → IsReceivable replica.now (whole_of message.now)
         → IsSomeAnd (slice_get replica.now.instances message.now.instance) (λ x.
         FitsViewBody x replica.now.view (whole_of message.now) (whole_of message.now).body) }
@@ -280,7 +281,7 @@ fn is_said(answer: &Result<Out, ReplicaError>, outcome: Outcome) -> bool {
     }
 }
 
-fn brief(said: &Said) -> Outcome {
+pub fn brief(said: &Said) -> Outcome {
     match said {
         Said::Opened(ballot) => Outcome::Opened(ballot.number, ballot.updates.len()),
         Said::Held(id) => Outcome::Held(id.number),
@@ -310,7 +311,7 @@ fn sends(answer: &Result<Out, ReplicaError>, mail: &[(u8, u8)]) -> bool {
     }
 }
 
-fn is_mail(mail: &Mail, sent: &[(u8, u8)]) -> bool {
+pub fn is_mail(mail: &Mail, sent: &[(u8, u8)]) -> bool {
     for (message, (letter, to)) in mail.all().iter().zip(sent) {
         if letter_of(&message.body) != *letter || message.to != *to || message.from != 0 {
             return false;

@@ -1,0 +1,142 @@
+// Participants: what each step answers of a learnt set. No call takes memory, so that only the sets
+// need it.
+use crate::set::helpers::{Does, Row, set_of};
+use la_commit::{Fresh, NotMine, Outcome, Second, Vote, laws, own_vote};
+use la_set::UpdateSet;
+
+// Participant 1 has proposed 9. A set of the first agreement, and whether the vote by it is sole;
+// `None` where the set is not taken.
+const FIRSTS: [(&[Row], Option<bool>); 8] = [
+    (&[(0, 1, Does::Vote(7, false))], None),
+    (
+        &[(0, 1, Does::Vote(7, false)), (1, 1, Does::Vote(9, false))],
+        Some(false),
+    ),
+    (&[(1, 1, Does::Vote(9, false))], Some(true)),
+    (
+        &[
+            (0, 1, Does::Inc(5)),
+            (1, 1, Does::Vote(9, false)),
+            (1, 2, Does::Mark),
+            (2, 1, Does::Vote(9, false)),
+        ],
+        Some(true),
+    ),
+    (
+        &[(1, 1, Does::Vote(9, false)), (7, 1, Does::Vote(8, true))],
+        Some(false),
+    ),
+    (&[(1, 1, Does::Vote(9, true))], None),
+    (&[(1, 1, Does::Mark), (1, 2, Does::Vote(9, false))], None),
+    (&[], None),
+];
+
+const MINE: Vote = Vote {
+    value: 9,
+    sole: false,
+};
+
+const MINE_SOLE: Vote = Vote {
+    value: 9,
+    sole: true,
+};
+
+// Participant 1 has voted so. A set of the second agreement, and the outcome; `None` where the set
+// is not taken.
+const SECONDS: [(Vote, &[Row], Option<Outcome>); 9] = [
+    (
+        MINE,
+        &[(0, 1, Does::Vote(7, true)), (1, 1, Does::Vote(9, false))],
+        Some(Outcome::Adopt(7)),
+    ),
+    (
+        MINE_SOLE,
+        &[(1, 1, Does::Vote(9, true)), (2, 1, Does::Vote(7, false))],
+        Some(Outcome::Adopt(9)),
+    ),
+    (
+        MINE_SOLE,
+        &[(0, 1, Does::Vote(9, true)), (1, 1, Does::Vote(9, true))],
+        Some(Outcome::Commit(9)),
+    ),
+    (
+        MINE,
+        &[(0, 1, Does::Vote(7, false)), (1, 1, Does::Vote(9, false))],
+        Some(Outcome::Adopt(9)),
+    ),
+    (
+        MINE_SOLE,
+        &[
+            (0, 1, Does::Put(7)),
+            (1, 1, Does::Vote(9, true)),
+            (3, 1, Does::Mark),
+        ],
+        Some(Outcome::Commit(9)),
+    ),
+    (
+        MINE,
+        &[
+            (0, 1, Does::Vote(7, false)),
+            (1, 1, Does::Vote(9, false)),
+            (2, 1, Does::Vote(5, true)),
+            (3, 1, Does::Vote(6, true)),
+        ],
+        Some(Outcome::Adopt(5)),
+    ),
+    (MINE_SOLE, &[(1, 1, Does::Vote(9, false))], None),
+    (MINE_SOLE, &[(0, 1, Does::Vote(9, true))], None),
+    (MINE, &[], None),
+];
+
+// The set's answer, or the participant as it was.
+fn answers_first(set: &UpdateSet, sole: Option<bool>) -> bool {
+    let (proposed, _vote) = Fresh::new(1).propose(9);
+    match proposed.first(set) {
+        Ok((voted, vote)) => {
+            sole == Some(vote.sole) && vote.value == 9 && voted == Second::resume(1, vote)
+        }
+        Err((back, NotMine)) => sole == None && back == proposed,
+    }
+}
+
+fn answers_second(vote: Vote, set: &UpdateSet, outcome: Option<Outcome>) -> bool {
+    let voted = Second::resume(1, vote);
+    match voted.second(set) {
+        Ok((done, reached)) => outcome == Some(reached) && done.outcome() == reached,
+        Err((back, NotMine)) => outcome == None && back == voted,
+    }
+}
+
+#[test]
+fn a_proposal_is_not_sole(rt: HostRuntime) {
+    let (_proposed, vote) = Fresh::new(1).propose(9);
+    assert!(rt; vote == MINE);
+}
+
+#[test]
+fn the_first_sets_are_answered(rt: HostRuntime) {
+    laws::own_votes_are_votes();
+    for (rows, sole) in &FIRSTS {
+        let set = set_of(&rt, rt.alloc(), rows);
+        assert!(rt; answers_first(&set, *sole));
+    }
+}
+
+#[test]
+fn the_second_sets_are_answered(rt: HostRuntime) {
+    laws::unanimous_commit();
+    laws::outcome_is_voted();
+    for (vote, rows, outcome) in &SECONDS {
+        let set = set_of(&rt, rt.alloc(), rows);
+        assert!(rt; answers_second(*vote, &set, *outcome));
+    }
+}
+
+// A set holds updates of replicas 0 to 7.
+#[test]
+fn no_set_has_a_vote_of_participant_8(rt: HostRuntime) {
+    let set = set_of(&rt, rt.alloc(), &[(7, 1, Does::Vote(9, false))]);
+    let (proposed, _vote) = Fresh::new(8).propose(9);
+    assert!(rt; own_vote(&set, 7) == Some(MINE) && own_vote(&set, 8) == None);
+    assert!(rt; proposed.first(&set).is_err());
+}

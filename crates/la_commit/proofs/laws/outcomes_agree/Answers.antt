@@ -1,0 +1,5 @@
+use Rattle.la_commit.proofs.Agreeing.{outcomes-agree}
+use Rattle.la_commit.proofs.laws.outcomes_agree.Goals as goal
+
+pub returns : goal.returns
+returns c = outcomes-agree

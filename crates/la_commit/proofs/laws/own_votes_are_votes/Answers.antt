@@ -1,0 +1,5 @@
+use Rattle.la_commit.proofs.Casting.{own_vote-votes}
+use Rattle.la_commit.proofs.laws.own_votes_are_votes.Goals as goal
+
+pub returns : goal.returns
+returns c = own_vote-votes

@@ -1,0 +1,5 @@
+use Rattle.la_commit.proofs.Agreeing.{unanimous-commit}
+use Rattle.la_commit.proofs.laws.unanimous_commit.Goals as goal
+
+pub returns : goal.returns
+returns c = unanimous-commit

@@ -1,0 +1,5 @@
+use Rattle.la_commit.proofs.Casting.{votes-subset}
+use Rattle.la_commit.proofs.laws.votes_stay.Goals as goal
+
+pub returns : goal.returns
+returns c = votes-subset
