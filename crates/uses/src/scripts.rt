@@ -15,8 +15,8 @@ pub fn report_of(alloc: Global, bytes: &[u8]) -> Result<Text, ReadError>
     let script = read(alloc, bytes)?;
     let report = match run(alloc, script.config, script.events.all()) {
         Ok(report) => report,
-        // The clauses `config` and `commits` of `read` say that its group can be played, so by the
-        // clause `error` of `run` only memory is wanting.
+        // The clause `config` of `read` says that its group can be played, so by the clause `error`
+        // of `run` only memory is wanting.
         Err(_) => return Err(ReadError::Memory),
     };
     let text = print(alloc, &report)?;
