@@ -7,7 +7,7 @@ use std::alloc::{AllocError, Global};
 const HEADER: &[u8] = b"lattice 1\nreplicas 8 commits 0 cap 10\n";
 
 // The words fit no form, or the spaces do not part words one by one.
-const BAD_LINES: [&[u8]; 34] = [
+const BAD_LINES: [&[u8]; 36] = [
     b"submit 0 0 inc",
     b"submit 0 0 inc 1 2",
     b"submit 0 0 dec",
@@ -24,7 +24,9 @@ const BAD_LINES: [&[u8]; 34] = [
     b"submit +0 0 foo 01",
     b"deliver 01 02",
     b"ask 0 1 total",
-    b"decide 0 0 7",
+    b"decide 0 0",
+    b"decide 0 0 7 1",
+    b"decide 0 0  7",
     b"submit  0 0 inc 1",
     b"submit 0 0 inc  1",
     b"submit  0 inc 1",
@@ -48,7 +50,7 @@ const BAD_LINES: [&[u8]; 34] = [
 ];
 
 // One past each end of each range, and what is no canonical number or no tag.
-const BAD_NUMBERS: [&[u8]; 54] = [
+const BAD_NUMBERS: [&[u8]; 59] = [
     b"submit 256 0 inc 0",
     b"submit 0 65536 inc 0",
     b"submit 0 0 inc 4294967296",
@@ -70,6 +72,11 @@ const BAD_NUMBERS: [&[u8]; 54] = [
     b"submit 0 65536 mark",
     b"deliver 18446744073709551616",
     b"deliver 99999999999999999999999",
+    b"decide 256 0 7",
+    b"decide 0 256 7",
+    b"decide 0 0 18446744073709551616",
+    b"decide 0 00 7",
+    b"decide 0 0 07",
     b"submit 00 0 inc 0",
     b"submit 0 01 dec 0",
     b"submit 0 0 inc 05",

@@ -9,25 +9,28 @@ const BAD: ScriptFault = ScriptFault {
     name: BadHeader,
 };
 
-// Scripts, how many replicas their groups have, and how many updates each replica may submit.
-const GROUPS: [(&[u8], u8, u32); 4] = [
-    (b"lattice 1\nreplicas 1 commits 0 cap 1", 1, 1),
-    (b"lattice 1\nreplicas 1 commits 0 cap 1000000\n", 1, 1000000),
-    (b"lattice 1\nreplicas 8 commits 0 cap 1\n# x\n\n", 8, 1),
+// Scripts, how many replicas and adopt-commit objects their groups have, and how many updates each
+// replica may submit.
+const GROUPS: [(&[u8], u8, u8, u32); 6] = [
+    (b"lattice 1\nreplicas 1 commits 0 cap 1", 1, 0, 1),
+    (b"lattice 1\nreplicas 1 commits 0 cap 1000000\n", 1, 0, 1000000),
+    (b"lattice 1\nreplicas 8 commits 0 cap 1\n# x\n\n", 8, 0, 1),
     (
         b"lattice 1\nreplicas 8 commits 0 cap 1000000\n\n",
         8,
+        0,
         1000000,
     ),
+    (b"lattice 1\nreplicas 3 commits 1 cap 10\n", 3, 1, 10),
+    (b"lattice 1\nreplicas 3 commits 16 cap 10\n", 3, 16, 10),
 ];
 
 // Scripts whose second line is no header.
-const NO_HEADERS: [&[u8]; 21] = [
+const NO_HEADERS: [&[u8]; 20] = [
     b"lattice 1\nreplicas 0 commits 0 cap 10\nx",
     b"lattice 1\nreplicas 9 commits 0 cap 10\nx",
-    b"lattice 1\nreplicas 3 commits 1 cap 10\n",
-    b"lattice 1\nreplicas 3 commits 16 cap 10\n",
     b"lattice 1\nreplicas 3 commits 17 cap 10\n",
+    b"lattice 1\nreplicas 3 commits 256 cap 10\n",
     b"lattice 1\nreplicas 3 commits 0 cap 0\n",
     b"lattice 1\nreplicas 3 commits 0 cap 1000001\n",
     b"lattice 1\nreplicas 3 commits 0 cap 4294967297\n",
@@ -47,19 +50,19 @@ const NO_HEADERS: [&[u8]; 21] = [
 ];
 
 // Whether the script has this group, one vote a replica, and no events.
-fn has_group(script: &Script, replicas: u8, cap: u32) -> bool {
+fn has_group(script: &Script, replicas: u8, commits: u8, cap: u32) -> bool {
     let config = &script.config;
     config.replicas == replicas
-        && config.commits == 0
+        && config.commits == commits
         && config.cap == cap
         && config.votes.len() == replicas as usize
         && config.votes.total() == u32::from(replicas)
         && script.events.len() == 0
 }
 
-fn is_group(alloc: Global, script: &[u8], replicas: u8, cap: u32) -> bool {
+fn is_group(alloc: Global, script: &[u8], replicas: u8, commits: u8, cap: u32) -> bool {
     match read_again(alloc, script) {
-        Ok(script) => has_group(&script, replicas, cap),
+        Ok(script) => has_group(&script, replicas, commits, cap),
         Err(_) => false,
     }
 }
@@ -73,8 +76,9 @@ fn is_no_header(alloc: Global, script: &[u8]) -> bool {
 
 #[test]
 fn headers_have_ranges(rt: HostRuntime) {
-    for (row, (script, replicas, cap)) in GROUPS.iter().enumerate() {
-        assert!(rt; is_group(rt.alloc(), script, *replicas, *cap), "row {row}");
+    for (row, (script, replicas, commits, cap)) in GROUPS.iter().enumerate() {
+        let is = is_group(rt.alloc(), script, *replicas, *commits, *cap);
+        assert!(rt; is, "row {row}");
     }
     for (row, script) in NO_HEADERS.iter().enumerate() {
         assert!(rt; is_no_header(rt.alloc(), script), "row {row}");

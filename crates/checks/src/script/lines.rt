@@ -14,14 +14,16 @@ enum Act {
     Mark,
 }
 
-// What an event is to be: the replica, the object and the operation, or the message.
+// What an event is to be: the replica, the object and the operation; the message; or the replica,
+// the adopt-commit object and the value.
 enum Want {
     Submit(u8, u16, Act),
     Deliver(u64),
+    Decide(u8, u8, u64),
 }
 
 use self::Act::{Dec, Inc, Mark, Put, Raise, Remove};
-use self::Want::{Deliver, Submit};
+use self::Want::{Decide, Deliver, Submit};
 
 const SCRIPT: &[u8] = b"lattice 1
 replicas 8 commits 0 cap 1000000
@@ -43,9 +45,11 @@ submit 0 0 mark
 submit 255 65535 mark
 deliver 0
 deliver 18446744073709551615
+decide 0 0 0
+decide 255 255 18446744073709551615
 ";
 
-const EVENTS: [Want; 17] = [
+const EVENTS: [Want; 19] = [
     Submit(0, 0, Inc(0)),
     Submit(255, 65535, Inc(4294967295)),
     Submit(0, 0, Dec(0)),
@@ -63,6 +67,8 @@ const EVENTS: [Want; 17] = [
     Submit(255, 65535, Mark),
     Deliver(0),
     Deliver(18446744073709551615),
+    Decide(0, 0, 0),
+    Decide(255, 255, 18446744073709551615),
 ];
 
 const SIXTY_FOUR: &[u8] =
@@ -119,6 +125,14 @@ fn is_event(event: &Event, want: &Want) -> bool {
             Submit(by, to, act),
         ) => replica == by && object == to && is_act(op, act),
         (Event::Deliver(message), Deliver(want)) => message == want,
+        (
+            Event::Decide {
+                replica,
+                commit,
+                value,
+            },
+            Decide(by, to, proposed),
+        ) => replica == by && commit == to && value == proposed,
         _ => false,
     }
 }

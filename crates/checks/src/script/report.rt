@@ -3,11 +3,13 @@ ghost use Rattle.std.specs.Prelude.{◌+◌, ◌<◌, ◌≤◌, ◌^◌, All, I
 ghost use Rattle.la_world.specs.Printable.{named_by, IsPrintableLine, IsPrintableReport};
 
 use la_acceptor::Reply;
+use la_commit::Outcome;
 use la_proposer::Votes;
 use la_script::{Events, Pieces, Stretch, Text, pieces_of, print};
 use la_set::{Op, Update, UpdateId, UpdateSet};
 use la_world::{
-    Config, Did, Event, Learnings, Learnt, Line, Opening, Refusal, Report, Step, Steps, Views,
+    Config, Decision, Decisions, Did, Event, Learnings, Learnt, Line, Opening, Refusal, Report,
+    Step, Steps, Views,
 };
 use std::alloc::{AllocError, Global};
 
@@ -30,13 +32,15 @@ enum What {
     Refined(Ballot),
     Learnt(Ballot, u8),
     LearntAndOpened(Ballot, u8, Ballot),
+    LearntWith(Ballot, Outcome),
     Took(Counts),
     Kept,
     Refused(Refusal),
 }
 
 use self::What::{
-    Counted, Held, Ignored, Kept, LearntAndOpened, No, Opened, Refined, Refused, Took, Yes,
+    Counted, Held, Ignored, Kept, LearntAndOpened, LearntWith, No, Opened, Refined, Refused, Took,
+    Yes,
 };
 
 const ONE: Counts = Counts(1, 0);
@@ -44,7 +48,7 @@ const ONE: Counts = Counts(1, 0);
 const BOTH: Counts = Counts(1, 1);
 
 // Each with the number of the first message.
-const LINES: [(What, u32); 23] = [
+const LINES: [(What, u32); 25] = [
     (Opened(Ballot(0, 0, 1, ONE)), 0),
     (Held(0, 2), 3),
     (Held(255, 4294967295), 3),
@@ -74,12 +78,36 @@ const LINES: [(What, u32); 23] = [
     (Refused(Refusal::AlreadyProposed), 0),
     (Took(Counts(9, 8)), 19),
     (Took(Counts(8, 7)), 19),
+    (LearntWith(Ballot(0, 2, 1, ONE), Outcome::Commit(7)), 19),
+    (
+        LearntWith(Ballot(1, 2, 2, BOTH), Outcome::Adopt(18446744073709551615)),
+        19,
+    ),
 ];
 
 const VIEWS: [Counts; 3] = [Counts(2, 0), Counts(0, 0), BOTH];
 
+// By object and replica, as they come in a report.
+const DECISIONS: [Decision; 3] = [
+    Decision {
+        commit: 0,
+        replica: 1,
+        outcome: Outcome::Commit(7),
+    },
+    Decision {
+        commit: 0,
+        replica: 2,
+        outcome: Outcome::Adopt(0),
+    },
+    Decision {
+        commit: 15,
+        replica: 0,
+        outcome: Outcome::Adopt(18446744073709551615),
+    },
+];
+
 const TEXT: &[u8] = b"lattice 1
-replicas 3 commits 0 cap 10
+replicas 3 commits 16 cap 10
 1 opened r0 i0 b1 {0.1} m0-m2
 2 held 0.2
 3 held 255.4294967295
@@ -103,9 +131,14 @@ replicas 3 commits 0 cap 10
 21 refused AlreadyProposed
 22 took {0.1 0.2 0.3 0.4 0.5 0.6 0.7 0.8 0.9 1.1 1.2 1.3 1.4 1.5 1.6 1.7 1.8}
 23 took {0.1 0.2 0.3 0.4 0.5 0.6 0.7 0.8 1.1 1.2 1.3 1.4 1.5 1.6 1.7}
+24 learnt r0 i2 b1 {0.1} commit 7
+25 learnt r1 i2 b2 {0.1 1.1} adopt 18446744073709551615
 view 0 {0.1 0.2}
 view 1 {}
 view 2 {0.1 1.1}
+outcome 0 1 commit 7
+outcome 0 2 adopt 0
+outcome 15 0 adopt 18446744073709551615
 ";
 
 fn add(set: &mut UpdateSet, replica: u8, number: u32) -> Result<(), AllocError> {
@@ -184,9 +217,30 @@ fn refuses(alloc: Global, counts: Counts, first: u32) -> Result<Line, AllocError
 fn learns(alloc: Global, ballot: Ballot, told: u8, first: u32) -> Result<Line, AllocError>
     ensures { IfOk result IsPrintableLine }
 {
-    let learnt = learnt(alloc, ballot)?;
-    let next = None;
-    Ok(done(Did::Learnt { learnt, told, next }, first, u32::from(told)))
+    let did = Did::Learnt {
+        learnt: learnt(alloc, ballot)?,
+        told,
+        outcome: None,
+        next: None,
+    };
+    Ok(done(did, first, u32::from(told)))
+}
+
+fn learns_with(
+    alloc: Global,
+    ballot: Ballot,
+    outcome: Outcome,
+    first: u32,
+) -> Result<Line, AllocError>
+    ensures { IfOk result IsPrintableLine }
+{
+    let did = Did::Learnt {
+        learnt: learnt(alloc, ballot)?,
+        told: 0,
+        outcome: Some(outcome),
+        next: None,
+    };
+    Ok(done(did, first, 0))
 }
 
 fn learns_and_opens(
@@ -198,13 +252,13 @@ fn learns_and_opens(
 ) -> Result<Line, AllocError>
     ensures { IfOk result IsPrintableLine }
 {
-    let learnt = learnt(alloc, ballot)?;
-    let next = Some(opening(alloc, next)?);
-    Ok(done(
-        Did::Learnt { learnt, told, next },
-        first,
-        u32::from(told) + 3,
-    ))
+    let did = Did::Learnt {
+        learnt: learnt(alloc, ballot)?,
+        told,
+        outcome: None,
+        next: Some(opening(alloc, next)?),
+    };
+    Ok(done(did, first, u32::from(told) + 3))
 }
 
 fn took(alloc: Global, counts: Counts, first: u32) -> Result<Line, AllocError>
@@ -234,6 +288,7 @@ fn line_of(alloc: Global, what: &What, first: u32) -> Result<Line, AllocError>
         LearntAndOpened(ballot, told, next) => {
             learns_and_opens(alloc, *ballot, *told, *next, first)
         }
+        LearntWith(ballot, outcome) => learns_with(alloc, *ballot, *outcome, first),
         Took(counts) => took(alloc, *counts, first),
         Kept => Ok(done(Did::Kept, first, 0)),
         Refused(refusal) => Ok(Line::Refused(*refusal)),
@@ -258,21 +313,31 @@ fn views(alloc: Global) -> Result<Views, AllocError> {
     Ok(views)
 }
 
+fn decisions(alloc: Global) -> Result<Decisions, AllocError> {
+    let mut decisions = Decisions::new(alloc);
+    for decision in &DECISIONS {
+        decisions.push(*decision)?;
+    }
+    Ok(decisions)
+}
+
 fn report(alloc: Global) -> Result<Report, AllocError>
     ensures { IfOk result IsPrintableReport }
 {
     let steps = steps(alloc)?;
     let views = views(alloc)?;
+    let outcomes = decisions(alloc)?;
     Ok(Report {
         config: Config {
             replicas: 3,
-            commits: 0,
+            commits: 16,
             cap: 10,
             votes: Votes::one_each(3),
         },
         steps,
         learnt: Learnings::new(alloc),
         views,
+        outcomes,
     })
 }
 
