@@ -2,10 +2,10 @@
 from __future__ import annotations
 
 from .report import (
-    Ballot, Held, Learnt, No, Opened, Outcome, Refined, Refused, Took, Yes, id_text, set_text,
+    Ballot, Held, Learnt, No, Opened, Outcome, Refined, Refused, Took, Yes, set_text,
 )
 from .run import Moment
-from .script import Submit
+from .script import Decide, Submit
 
 # The width of a character of the picture's font, with a little to spare, and the height of a line.
 CHARACTER = 6.7
@@ -35,8 +35,9 @@ def wrap(text: str, style: str) -> Caption:
 
 
 def with_ballot(word: str, ballot: Ballot, style: str) -> Caption:
-    """What became of a ballot: a word, the ballot's number and its set."""
-    return [(f"{word} b{ballot.number}", style), *wrap(set_text(ballot.updates), style)]
+    """What became of a ballot: a word, its instance but 0, its number, and its set."""
+    instance = f"i{ballot.instance} " if ballot.instance else ""
+    return [(f"{word} {instance}b{ballot.number}", style), *wrap(set_text(ballot.updates), style)]
 
 
 def outcome_caption(outcome: Outcome) -> Caption:
@@ -45,9 +46,10 @@ def outcome_caption(outcome: Outcome) -> Caption:
         case Opened(ballot) | Refined(ballot):
             word = "opened" if isinstance(outcome, Opened) else "refined"
             return with_ballot(word, ballot, "plain")
-        case Learnt(ballot, _, following):
+        case Learnt(ballot, _, decision, following):
+            decided = wrap(str(decision), "strong") if decision else []
             after = with_ballot("opened", following.ballot, "plain") if following else []
-            return with_ballot("learnt", ballot, "strong") + after
+            return with_ballot("learnt", ballot, "strong") + decided + after
         case Yes(mail):
             return [(f"yes {mail}", "plain")]
         case No(updates, mail):
@@ -64,6 +66,8 @@ def event_caption(moment: Moment) -> Caption:
     event = moment.event
     if isinstance(event, Submit):
         return wrap(f"submit {event.operation}", "plain") + [(f"on object {event.object}", "plain")]
+    if isinstance(event, Decide):
+        return wrap(f"decide {event.value}", "plain") + [(f"adopt-commit {event.commit}", "plain")]
     if moment.message is None:
         return wrap(f"deliver m{event.message}", "plain")
     return [(str(moment.message), moment.message.kind.value)]

@@ -26,8 +26,10 @@ def description_of(run: Run) -> str:
     learnt = []
     for moment in run.moments:
         if isinstance(moment.outcome, Learnt):
-            updates = set_text(moment.outcome.ballot.updates)
-            learnt.append(f"event {moment.number}: replica {moment.replica} learns {updates}")
+            ballot, decision = moment.outcome.ballot, moment.outcome.decision
+            what = set_text(ballot.updates) + (f" in i{ballot.instance}" if ballot.instance else "")
+            what += f" and returns {decision}" if decision else ""
+            learnt.append(f"event {moment.number}: replica {moment.replica} learns {what}")
     return "; ".join(learnt) if learnt else "nothing is learnt"
 
 

@@ -1,4 +1,4 @@
-"""Reports: what each event did, and every replica's view. docs/SCRIPT.md has the texts."""
+"""Reports: what each event did, every replica's view, and all outcomes, as in docs/SCRIPT.md."""
 from __future__ import annotations
 
 import re
@@ -36,14 +36,26 @@ class Mail:
 
 @dataclass(frozen=True)
 class Ballot:
-    """A ballot of a replica in instance 0."""
+    """A ballot of a replica in an instance."""
 
     replica: int
+    instance: int
     number: int
     updates: UpdateSet
 
     def __str__(self) -> str:
-        return f"r{self.replica} i0 b{self.number} {set_text(self.updates)}"
+        return f"r{self.replica} i{self.instance} b{self.number} {set_text(self.updates)}"
+
+
+@dataclass(frozen=True)
+class Decision:
+    """What a replica returns from an adopt-commit object: it commits a value, or adopts it."""
+
+    commits: bool
+    value: int
+
+    def __str__(self) -> str:
+        return f"{'commit' if self.commits else 'adopt'} {self.value}"
 
 
 @dataclass(frozen=True)
@@ -117,15 +129,17 @@ class Refined:
 
 @dataclass(frozen=True)
 class Learnt:
-    """A ballot's set was learnt, and told where there are others; the next one may have opened."""
+    """A ballot's set was learnt: the tells, the decision, and the ballot that opened at once."""
 
     ballot: Ballot
     told: Mail | None
+    decision: Decision | None
     next: Opened | None
 
     def __str__(self) -> str:
         told = f" told {self.told}" if self.told else ""
-        return f"learnt {self.ballot}{told}" + (f" {self.next}" if self.next else "")
+        more = "".join(f" {part}" for part in (self.decision, self.next) if part)
+        return f"learnt {self.ballot}{told}{more}"
 
 
 @dataclass(frozen=True)
@@ -178,30 +192,35 @@ def mail_of(text: str) -> Mail:
     return Mail(int(first), int(last or first) - int(first) + 1)
 
 
-def ballot_of(replica: str, count: str, updates: str) -> Ballot:
+def ballot_of(replica: str, instance: str, count: str, updates: str) -> Ballot:
     """A ballot, from the texts of its parts."""
-    return Ballot(int(replica), int(count), set_of(updates))
+    return Ballot(int(replica), int(instance), int(count), set_of(updates))
 
 
-def opened_of(replica: str, count: str, updates: str, mail: str) -> Opened:
-    """An opened ballot, from the texts of its parts."""
-    return Opened(ballot_of(replica, count, updates), mail_of(mail))
+def opened_of(*parts: str) -> Opened:
+    """An opened ballot, from the texts of its parts, the last of which is its mail."""
+    return Opened(ballot_of(*parts[:-1]), mail_of(parts[-1]))
 
 
-def refined_of(replica: str, count: str, updates: str, mail: str) -> Refined:
-    """A refinement, from the texts of its parts."""
-    return Refined(ballot_of(replica, count, updates), mail_of(mail))
+def refined_of(*parts: str) -> Refined:
+    """A refinement, from the texts of its parts, the last of which is its mail."""
+    return Refined(ballot_of(*parts[:-1]), mail_of(parts[-1]))
 
 
-def learnt_of(
-    replica: str, count: str, updates: str, told: str | None, *opened: str | None
-) -> Learnt:
+def decision_of(text: str) -> Decision:
+    """The decision in a text such as `commit 7`."""
+    word, value = text.split(" ")
+    return Decision(word == "commit", int(value))
+
+
+def learnt_of(*parts: str | None) -> Learnt:
     """A learnt set, from the texts of its parts, some of which may be missing."""
-    parts = [part for part in opened if part is not None]
+    ballot, (told, decision), opened = parts[:4], parts[4:6], parts[6:]
     return Learnt(
-        ballot_of(replica, count, updates),
+        ballot_of(*map(str, ballot)),
         mail_of(told) if told else None,
-        opened_of(*parts) if parts else None,
+        decision_of(decision) if decision else None,
+        opened_of(*map(str, opened)) if opened[0] else None,
     )
 
 
@@ -209,7 +228,8 @@ DIGITS = "[0-9]{1,20}"
 ID = rf"{DIGITS}\.{DIGITS}"
 SET = rf"(\{{(?:{ID}(?: {ID})*)?\}})"
 MAIL = f"(m{DIGITS}(?:-m{DIGITS})?)"
-BALLOT = f"r({DIGITS}) i0 b({DIGITS}) {SET}"
+BALLOT = f"r({DIGITS}) i({DIGITS}) b({DIGITS}) {SET}"
+DECISION = f"((?:commit|adopt) {DIGITS})"
 FORMS: tuple[tuple[str, Callable[..., Outcome]], ...] = (
     (f"opened {BALLOT} {MAIL}", opened_of),
     (f"held ({ID})", lambda update: Held(id_of(update))),
@@ -218,10 +238,10 @@ FORMS: tuple[tuple[str, Callable[..., Outcome]], ...] = (
     ("counted", Counted),
     ("ignored", Ignored),
     (f"refined {BALLOT} {MAIL}", refined_of),
-    (f"learnt {BALLOT}(?: told {MAIL})?(?: opened {BALLOT} {MAIL})?", learnt_of),
+    (f"learnt {BALLOT}(?: told {MAIL})?(?: {DECISION})?(?: opened {BALLOT} {MAIL})?", learnt_of),
     (f"took {SET}", lambda updates: Took(set_of(updates))),
     ("kept", Kept),
-    ("refused (NoSuchReplica|Full|NoSuchMessage)", Refused),
+    ("refused (NoSuchReplica|Full|NoSuchMessage|NoSuchCommit|AlreadyProposed)", Refused),
 )
 
 
@@ -248,3 +268,8 @@ def take_outcome(lines: Lines, event: int) -> tuple[Line, Outcome]:
 def take_view(lines: Lines, replica: int, view: UpdateSet) -> None:
     """Takes the line of a replica's view, which must be this one."""
     lines.expect(f"view {replica} {set_text(view)}")
+
+
+def take_decision(lines: Lines, commit: int, replica: int, decision: Decision) -> None:
+    """Takes the line of what a replica returned from an adopt-commit object."""
+    lines.expect(f"outcome {commit} {replica} {decision}")

@@ -3,7 +3,8 @@
 A report does not say who a message is from and to. That follows from the events and from the lines
 above: a ballot is offered to every replica from 0 on, a reply goes back, and a learnt set is told
 to every other replica before the next ballot's offers are sent. On the way each line is held
-against its event and the lines above it, so that a report of another script is refused.
+against its event and the lines above it, so that a report of another script is refused. All this
+goes on in each instance by itself; tells and views are of instance 0.
 """
 from __future__ import annotations
 
@@ -12,10 +13,12 @@ from enum import Enum
 
 from .lines import Line, Lines
 from .report import (
-    Ballot, Counted, Held, Ignored, Kept, Learnt, Mail, No, Opened, Outcome, Refined, Refused, Took,
-    UpdateId, UpdateSet, Yes, set_text, take_header, take_outcome, take_view,
+    Ballot, Counted, Decision, Held, Ignored, Kept, Learnt, Mail, No, Opened, Outcome, Refined,
+    Refused, Took, UpdateId, UpdateSet, Yes, set_text, take_decision, take_header, take_outcome,
+    take_view,
 )
-from .script import Deliver, Event, Group, Script, Submit
+from .script import Decide, Deliver, Event, Group, Script, Submit
+from .votes import Vote, decision_of, second_vote
 
 EMPTY: UpdateSet = frozenset()
 
@@ -37,6 +40,7 @@ class Message:
     kind: Kind
     source: int
     target: int
+    instance: int
     ballot: int
     updates: UpdateSet
     sent_at: int
@@ -67,23 +71,23 @@ class Run:
 
 
 @dataclass
-class Replica:
-    """What the lines so far say of a replica."""
+class Place:
+    """What the lines so far say of a replica in one instance."""
 
-    number: int
+    replica: int
+    instance: int
     submitted: int = 0
     accepted: UpdateSet = EMPTY
-    view: UpdateSet = EMPTY
     ballot: Ballot = field(init=False)
     is_open: bool = False
     tally: dict[int, Message] = field(default_factory=dict)
 
     def __post_init__(self) -> None:
-        self.ballot = Ballot(self.number, 0, EMPTY)
+        self.ballot = Ballot(self.replica, self.instance, 0, EMPTY)
 
     def own_updates(self) -> UpdateSet:
         """All that the replica submitted."""
-        return frozenset((self.number, count) for count in range(1, self.submitted + 1))
+        return frozenset((self.replica, count) for count in range(1, self.submitted + 1))
 
     def counts(self, reply: Message) -> bool:
         """Whether a reply is to the open ballot, and the first of its acceptor there."""
@@ -101,17 +105,12 @@ class Replica:
 
     def next_ballot(self, more: UpdateSet) -> Ballot:
         """The ballot after the last one, with these updates added to its set."""
-        return Ballot(self.number, self.ballot.number + 1, self.ballot.updates | more)
+        last = self.ballot
+        return Ballot(self.replica, self.instance, last.number + 1, last.updates | more)
 
     def open(self, ballot: Ballot) -> None:
         """A ballot is open, and no reply has counted in it."""
         self.ballot, self.is_open, self.tally = ballot, True, {}
-
-    def show(self, updates: UpdateSet) -> bool:
-        """Whether this set is strictly larger than the view, which it then becomes."""
-        is_larger = self.view < updates
-        self.view = updates if is_larger else self.view
-        return is_larger
 
 
 class Follower:
@@ -119,7 +118,13 @@ class Follower:
 
     def __init__(self, group: Group) -> None:
         self.group = group
-        self.replicas = [Replica(number) for number in range(group.replicas)]
+        self.places = [
+            [Place(replica, instance) for instance in range(2 * group.commits + 1)]
+            for replica in range(group.replicas)
+        ]
+        self.views = [EMPTY] * group.replicas
+        self.votes: dict[tuple[int, int], Vote] = {}
+        self.decisions: dict[tuple[int, int], Decision] = {}
         self.messages: list[Message] = []
         self.event = 0
         self.line = Line("", 0, None)
@@ -136,19 +141,24 @@ class Follower:
         """Whether so many replicas are more than half of all."""
         return 2 * count > self.group.replicas
 
+    def show(self, replica: int, updates: UpdateSet) -> bool:
+        """Whether this set is strictly larger than the replica's view, which it then becomes."""
+        is_larger = self.views[replica] < updates
+        self.views[replica] = updates if is_larger else self.views[replica]
+        return is_larger
+
     # Sending
 
     def send(self, kind: Kind, ballot: Ballot, target: int, source: int) -> None:
         """Adds the next message, sent at this event."""
-        number = len(self.messages)
-        self.messages.append(
-            Message(number, kind, source, target, ballot.number, ballot.updates, self.event)
-        )
+        number, ends = len(self.messages), (source, target)
+        what = (ballot.instance, ballot.number, ballot.updates)
+        self.messages.append(Message(number, kind, *ends, *what, self.event))
 
     def offer(self, ballot: Ballot) -> Mail:
         """Opens a ballot and sends its offers, to every replica."""
         mail = Mail(len(self.messages), self.group.replicas)
-        self.replicas[ballot.replica].open(ballot)
+        self.places[ballot.replica][ballot.instance].open(ballot)
         for target in range(self.group.replicas):
             self.send(Kind.OFFER, ballot, target, ballot.replica)
         return mail
@@ -165,24 +175,42 @@ class Follower:
 
     def submission(self, event: Submit, outcome: Outcome) -> None:
         """Follows a submission by a replica of the group."""
-        replica = self.replicas[event.replica]
-        if replica.submitted == self.group.cap:
+        place = self.places[event.replica][0]
+        if place.submitted == self.group.cap:
             return self.require_outcome(outcome, Refused("Full"), "the cap is reached")
-        replica.submitted += 1
-        update: UpdateId = (replica.number, replica.submitted)
-        if replica.is_open:
-            expected: Outcome = Held(update)
-            return self.require_outcome(outcome, expected, "the replica's ballot is open")
-        ballot = replica.next_ballot(frozenset([update]))
-        expected = Opened(ballot, self.offer(ballot))
-        return self.require_outcome(outcome, expected, "the replica has no open ballot")
+        if place.is_open:
+            place.submitted += 1
+            update: UpdateId = (place.replica, place.submitted)
+            return self.require_outcome(outcome, Held(update), "the replica's ballot is open")
+        return self.require_outcome(outcome, self.opening(place), "the replica has no open ballot")
+
+    def opening(self, place: Place) -> Opened:
+        """Submits an update where no ballot is open."""
+        place.submitted += 1
+        ballot = place.next_ballot(frozenset([(place.replica, place.submitted)]))
+        return Opened(ballot, self.offer(ballot))
+
+    def cast(self, replica: int, instance: int, vote: Vote) -> Opened:
+        """Submits a replica's vote in an instance of an adopt-commit object."""
+        self.votes[instance, replica] = vote
+        return self.opening(self.places[replica][instance])
+
+    def proposal(self, event: Decide, outcome: Outcome) -> None:
+        """Follows a proposal by a replica of the group."""
+        first = 2 * event.commit + 1
+        if event.commit >= self.group.commits:
+            return self.require_outcome(outcome, Refused("NoSuchCommit"), str(event))
+        if (first, event.replica) in self.votes:
+            return self.require_outcome(outcome, Refused("AlreadyProposed"), str(event))
+        opened = self.cast(event.replica, first, Vote(event.value, False))
+        return self.require_outcome(outcome, opened, str(event))
 
     def answer(self, offer: Message, outcome: Outcome) -> None:
         """Follows the delivery of an offer."""
-        acceptor = self.replicas[offer.target]
+        acceptor = self.places[offer.target][offer.instance]
         mail = Mail(len(self.messages), 1)
         joined = acceptor.accepted | offer.updates
-        why = f"replica {acceptor.number} was offered {set_text(offer.updates)}"
+        why = f"replica {acceptor.replica} was offered {set_text(offer.updates)}"
         why += f" and had accepted {set_text(acceptor.accepted)}"
         if isinstance(outcome, Yes):
             kind, expected = Kind.YES, Yes(mail)
@@ -192,47 +220,74 @@ class Follower:
             self.require(joined != offer.updates, f"`{Yes(mail)}` ({why})")
         self.require_outcome(outcome, expected, why)
         acceptor.accepted = joined
-        self.send(kind, Ballot(offer.source, offer.ballot, joined), offer.source, offer.target)
+        ballot = Ballot(offer.source, offer.instance, offer.ballot, joined)
+        self.send(kind, ballot, offer.source, offer.target)
 
     def hear(self, reply: Message, outcome: Outcome) -> None:
         """Follows the delivery of a reply."""
-        replica = self.replicas[reply.target]
+        place = self.places[reply.target][reply.instance]
         why = f"a {reply.kind.value} from replica {reply.source} to ballot {reply.ballot}"
-        why += f" of replica {replica.number}"
-        if not replica.counts(reply):
+        why += f" of replica {place.replica}"
+        if not place.counts(reply):
             return self.require_outcome(outcome, Ignored(), why)
-        replica.tally[reply.source] = reply
-        acknowledged = self.is_majority(replica.acknowledgements())
-        refused = not acknowledged and self.is_majority(len(replica.tally))
+        place.tally[reply.source] = reply
+        acknowledged = self.is_majority(place.acknowledgements())
+        refused = not acknowledged and self.is_majority(len(place.tally))
         match outcome:
             case Learnt():
                 self.require(acknowledged, f"no `learnt` ({why}: no majority acknowledges)")
-                return self.learning(replica, outcome)
+                return self.learning(place, outcome)
             case Refined():
                 self.require(refused, f"no `refined` ({why}: no majority with a refusal)")
-                ballot = replica.next_ballot(replica.refusals())
+                ballot = place.next_ballot(place.refusals())
                 return self.require_outcome(outcome, Refined(ballot, self.offer(ballot)), why)
-        self.require(not acknowledged, f"`learnt {replica.ballot} ..` ({why})")
+        self.require(not acknowledged, f"`learnt {place.ballot} ..` ({why})")
         self.require(not refused, f"`refined ..` ({why})")
         return self.require_outcome(outcome, Counted(), why)
 
-    def learning(self, replica: Replica, outcome: Learnt) -> None:
-        """Follows a learning: the tells, and then the ballot with all that waited."""
-        ballot = replica.ballot
-        replica.is_open = False
-        replica.show(ballot.updates)
+    def learning(self, place: Place, outcome: Learnt) -> None:
+        """Follows a learning, and what comes of it at once in its instance."""
+        place.is_open = False
+        if place.instance == 0:
+            expected = self.object_learning(place)
+        elif place.instance % 2 == 1:
+            expected = self.first_learning(place.ballot)
+        else:
+            expected = self.second_learning(place.ballot)
+        self.require_outcome(outcome, expected, "the ballot is learnt")
+
+    def object_learning(self, place: Place) -> Learnt:
+        """In instance 0: the tells, and then the ballot with all that waited."""
+        ballot = place.ballot
+        self.show(ballot.replica, ballot.updates)
         told, following = self.tell(ballot), None
-        if not replica.own_updates() <= ballot.updates:
-            wider = replica.next_ballot(replica.own_updates())
+        if not place.own_updates() <= ballot.updates:
+            wider = place.next_ballot(place.own_updates())
             following = Opened(wider, self.offer(wider))
-        self.require_outcome(outcome, Learnt(ballot, told, following), "the ballot is learnt")
+        return Learnt(ballot, told, None, following)
+
+    def votes_of(self, ballot: Ballot) -> dict[int, Vote]:
+        """The votes in a ballot's set, by replica."""
+        replicas = sorted(replica for replica, _ in ballot.updates)
+        return {replica: self.votes[ballot.instance, replica] for replica in replicas}
+
+    def first_learning(self, ballot: Ballot) -> Learnt:
+        """In the first instance of an adopt-commit object: the second vote, in the second one."""
+        vote = second_vote(self.votes_of(ballot), ballot.replica)
+        following = self.cast(ballot.replica, ballot.instance + 1, vote)
+        return Learnt(ballot, None, None, following)
+
+    def second_learning(self, ballot: Ballot) -> Learnt:
+        """In the second instance of an adopt-commit object: what the replica returns."""
+        decision = decision_of(self.votes_of(ballot), ballot.replica)
+        self.decisions[ballot.instance // 2 - 1, ballot.replica] = decision
+        return Learnt(ballot, None, decision, None)
 
     def hear_tell(self, tell: Message, outcome: Outcome) -> None:
         """Follows the delivery of a tell."""
-        replica = self.replicas[tell.target]
         why = f"replica {tell.target} was told {set_text(tell.updates)}"
-        why += f" and showed {set_text(replica.view)}"
-        expected = Took(tell.updates) if replica.show(tell.updates) else Kept()
+        why += f" and showed {set_text(self.views[tell.target])}"
+        expected = Took(tell.updates) if self.show(tell.target, tell.updates) else Kept()
         self.require_outcome(outcome, expected, why)
 
     def delivery(self, message: Message, outcome: Outcome) -> None:
@@ -252,11 +307,14 @@ class Follower:
             case Submit(replica) if replica < self.group.replicas:
                 self.submission(event, outcome)
                 return Moment(self.event, event, outcome, replica, None)
+            case Decide(replica) if replica < self.group.replicas:
+                self.proposal(event, outcome)
+                return Moment(self.event, event, outcome, replica, None)
             case Deliver(number) if number < len(self.messages):
                 message = self.messages[number]
                 self.delivery(message, outcome)
                 return Moment(self.event, event, outcome, message.target, message)
-        name = "NoSuchReplica" if isinstance(event, Submit) else "NoSuchMessage"
+        name = "NoSuchMessage" if isinstance(event, Deliver) else "NoSuchReplica"
         self.require_outcome(outcome, Refused(name), str(event))
         return Moment(self.event, event, outcome, None, None)
 
@@ -269,8 +327,10 @@ def follow_run(script: Script, report: Lines) -> Run:
     for number, event in enumerate(script.events, start=1):
         line, outcome = take_outcome(report, number)
         moments.append(follower.follow(line, event, outcome))
-    views = tuple(replica.view for replica in follower.replicas)
+    views = tuple(follower.views)
     for replica, view in enumerate(views):
         take_view(report, replica, view)
+    for (commit, replica), decision in sorted(follower.decisions.items(), key=lambda item: item[0]):
+        take_decision(report, commit, replica, decision)
     report.expect_end()
     return Run(script.group, tuple(moments), tuple(follower.messages), views)

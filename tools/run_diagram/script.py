@@ -8,6 +8,7 @@ from .lines import Line, Lines
 
 VERSION = "lattice 1"
 MAX_REPLICAS = 8
+MAX_COMMITS = 16
 MAX_CAP = 1_000_000
 MAX_TAGS = 64
 MAX_BYTE = 2**8 - 1
@@ -19,13 +20,14 @@ GREATEST = {"inc": MAX_AMOUNT, "dec": MAX_AMOUNT, "raise": MAX_VALUE, "put": MAX
 
 @dataclass(frozen=True)
 class Group:
-    """How many replicas there are, with one vote each, and what each may submit."""
+    """How many replicas there are, with one vote each, the objects, and what each may submit."""
 
     replicas: int
+    commits: int
     cap: int
 
     def __str__(self) -> str:
-        return f"replicas {self.replicas} commits 0 cap {self.cap}"
+        return f"replicas {self.replicas} commits {self.commits} cap {self.cap}"
 
 
 @dataclass(frozen=True)
@@ -50,7 +52,19 @@ class Deliver:
         return f"a delivery of m{self.message}"
 
 
-Event = Submit | Deliver
+@dataclass(frozen=True)
+class Decide:
+    """A replica proposes a value to an adopt-commit object."""
+
+    replica: int
+    commit: int
+    value: int
+
+    def __str__(self) -> str:
+        return f"a proposal by replica {self.replica} to object {self.commit}"
+
+
+Event = Submit | Deliver | Decide
 
 
 @dataclass(frozen=True)
@@ -75,12 +89,13 @@ def number(line: Line, word: str, name: str, least: int, greatest: int) -> int:
 def read_group(line: Line) -> Group:
     """Reads the second line of a script."""
     match (line.text or "").split(" "):
-        case ["replicas", replicas, "commits", "0", "cap", cap]:
+        case ["replicas", replicas, "commits", commits, "cap", cap]:
             return Group(
                 number(line, replicas, "a number of replicas", 1, MAX_REPLICAS),
+                number(line, commits, "a number of adopt-commit objects", 0, MAX_COMMITS),
                 number(line, cap, "a cap", 1, MAX_CAP),
             )
-    raise line.fault("`replicas N commits 0 cap K`")
+    raise line.fault("`replicas N commits C cap K`")
 
 
 def is_tag(word: str) -> bool:
@@ -115,7 +130,13 @@ def read_event(line: Line) -> Event:
                 number(line, object_number, "an object", 0, MAX_OBJECT),
                 read_operation(line, operation),
             )
-    raise line.fault("`submit R O ..` or `deliver K`")
+        case ["decide", replica, commit, value]:
+            return Decide(
+                number(line, replica, "a replica", 0, MAX_BYTE),
+                number(line, commit, "an adopt-commit object", 0, MAX_BYTE),
+                number(line, value, "a value", 0, MAX_VALUE),
+            )
+    raise line.fault("`submit R O ..`, `deliver K` or `decide R C V`")
 
 
 def is_skipped(line: Line) -> bool:

@@ -6,7 +6,7 @@ from math import cos, hypot, pi, sin
 from . import svg
 from .report import Learnt, Refused
 from .run import Kind, Moment
-from .script import Submit
+from .script import Decide, Submit
 
 COLOURS = {
     Kind.OFFER: "#1f5fa8",
@@ -114,7 +114,7 @@ def mark(moment: Moment, x: float, y: float) -> str:
         return cross(x, y)
     if isinstance(moment.outcome, Learnt):
         return star(x, y)
-    if isinstance(moment.event, Submit):
+    if isinstance(moment.event, Submit | Decide):
         return diamond(x, y, "refused" if isinstance(moment.outcome, Refused) else "mark")
     return disc(x, y)
 
