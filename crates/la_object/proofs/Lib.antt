@@ -1,5 +1,7 @@
 pub mod IdOrder
+pub mod Sorted
 pub mod IdMaps
+pub mod Copies
 pub mod Steps
 pub mod Presence
 pub mod Tags

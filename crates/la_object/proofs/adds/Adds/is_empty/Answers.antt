@@ -1,6 +1,6 @@
 use Rattle.std.proofs.Common.{◌∙◌, sym}
-use Rattle.la_orset.proofs.Sets.{no_entries, empty_entries}
-use Rattle.la_orset.proofs.puts.Puts.is_empty.Goals as goal
+use Rattle.la_object.proofs.IdMaps.{no_entries, empty_entries}
+use Rattle.la_object.proofs.adds.Adds.is_empty.Goals as goal
 
 pub returns : goal.returns
 returns c = (

@@ -1,8 +1,8 @@
 use Rattle.std.proofs.Common.{rules}
 use Rattle.la_object.specs.IdOrder.{id_cmp}
-use Rattle.la_orset.proofs.Sorted.{sorted-keys}
-use Rattle.la_orset.proofs.Filling.{all_put-from_entries}
-use Rattle.la_orset.proofs.puts.Puts.copy.Goals as goal
+use Rattle.la_object.proofs.Sorted.{sorted-keys}
+use Rattle.la_object.proofs.Copies.{all_put-from_entries}
+use Rattle.la_object.proofs.adds.Adds.copy.Goals as goal
 
 pub returns : goal.returns
 returns c =

@@ -2,19 +2,18 @@ ghost use Rattle.std.specs.Prelude.{◌≡◌, ◌↔◌, IsTrue, IfOk, OnOk, On
 ghost use Rattle.std.specs.Option.{option_copied};
 ghost use Rattle.std.specs.FinMap as map;
 
-use la_object::Adds;
 use la_set::UpdateId;
 use std::alloc::{AllocError, Global};
 use std::collections::BTreeMap;
 use std::marker::Model;
 
-/// The elements that were put, by the ids of their Puts.
+/// Elements by the ids of the updates that put them: a finite map.
 #[derive(Drop)]
-pub struct Puts {
+pub struct Adds {
     puts: BTreeMap<UpdateId, u64>,
 }
 
-impl Model for Puts {
+impl Model for Adds {
     ghost use Rattle.la_object.specs.IdOrder.{Elements, elements_code};
     ghost use Rattle.std.specs.FinMap as map;
 
@@ -25,25 +24,25 @@ impl Model for Puts {
     ghost view = { λ a. map.from_entries a.puts.entries };
 }
 
-impl Puts {
+impl Adds {
     /// No element.
-    pub fn new(alloc: Global) -> Puts
+    pub fn new(alloc: Global) -> Adds
         ensures { result ≡ map.empty }
     {
-        Puts {
+        Adds {
             puts: BTreeMap::new(alloc),
         }
     }
 
-    /// Whether nothing is there.
+    /// Whether no element is there, at constant cost.
     pub fn is_empty(&self) -> bool
         ensures { IsTrue result ↔ (self.now ≡ map.empty) }
     {
         self.puts.is_empty()
     }
 
-    /// Whether an element was put under an id, at logarithmic cost.
-    pub fn knows(&self, id: UpdateId) -> bool
+    /// Whether an element is there under an id, at logarithmic cost.
+    pub fn has(&self, id: UpdateId) -> bool
         ensures { result ≡ map.contains_key self.now id }
     {
         self.puts.contains_key(&id)
@@ -56,7 +55,8 @@ impl Puts {
         self.puts.get(&id)
     }
 
-    /// Puts an element under an id, at logarithmic cost. After a refusal nothing has changed.
+    /// Puts an element under an id, in the place of the one there, at logarithmic cost. After a
+    /// refusal nothing has changed.
     pub fn insert(&mut self, id: UpdateId, element: u64) -> Result<(), AllocError>
         ensures ok { OnOk result (self.new ≡ map.insert self.old id element) }
         ensures err { OnErr result (self.new ≡ self.old) }
@@ -65,7 +65,7 @@ impl Puts {
         Ok(())
     }
 
-    /// A copy.
+    /// A copy, made one element after another.
     pub fn copy(&self, alloc: Global) -> Result<Adds, AllocError>
         ensures { IfOk result (λ copy. copy ≡ self.now) }
     {

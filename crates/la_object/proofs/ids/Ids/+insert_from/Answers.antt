@@ -1,9 +1,17 @@
-use Rattle.std.proofs.Common.{◌+◌, drop, sym, ap, ◌∙◌, arith}
+use Rattle.std.proofs.Common.{◌≡◌, ◌+◌, Bool, true, false, not, drop, refl, sym, ap, ◌∙◌, arith}
 use Rattle.std.specs.FinSet as set
 use Rattle.std.proofs.lemmas.Option.{slice_get_within}
 use Rattle.la_object.specs.OrSet.{with_ids}
-use Rattle.la_orset.proofs.Sets.{with_ids-nil, with_ids-more, undone, nothing_new, drop_none, drop_some, not_true, not_false}
-use Rattle.la_orset.proofs.gone.Gone.+insert_from.Goals as goal
+use Rattle.la_object.proofs.IdMaps.{with_ids-nil, with_ids-more, undone, nothing_new, drop_none, drop_some}
+use Rattle.la_object.proofs.ids.Ids.+insert_from.Goals as goal
+
+not_true : (b : Bool) → not b ≡ true → b ≡ false
+not_true true h = sym h
+not_true false h = refl
+
+not_false : (b : Bool) → not b ≡ false → b ≡ true
+not_false true h = refl
+not_false false h = sym h
 
 pub returns-in_default-clause-ok : goal.returns-in_default-clause-ok
 returns-in_default-clause-ok t c = sym (ap (with_ids c.args.self.now) (drop_none c.args.ids.now c.args.place (sym c.in_default.ensures)) ∙ with_ids-nil c.args.self.now)

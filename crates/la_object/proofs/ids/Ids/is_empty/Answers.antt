@@ -1,6 +1,6 @@
 use Rattle.std.proofs.Common.{◌∙◌, sym}
-use Rattle.la_orset.proofs.Sets.{no_ids, empty_ids}
-use Rattle.la_orset.proofs.gone.Gone.is_empty.Goals as goal
+use Rattle.la_object.proofs.IdMaps.{no_ids, empty_ids}
+use Rattle.la_object.proofs.ids.Ids.is_empty.Goals as goal
 
 pub returns : goal.returns
 returns c = (
