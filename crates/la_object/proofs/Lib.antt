@@ -4,6 +4,7 @@ pub mod IdMaps
 pub mod Copies
 pub mod Steps
 pub mod Presence
+pub mod LivePuts
 pub mod Tags
 pub mod Orders
 pub mod Replies

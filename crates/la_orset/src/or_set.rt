@@ -3,7 +3,7 @@ ghost use Rattle.la_object.specs.declared.kind.Kind.TheVariants.{OrSet as OrSetK
 ghost use Rattle.la_object.specs.declared.state.State.TheVariants.{Set};
 ghost use Rattle.la_object.specs.IdOrder.{IdSet};
 ghost use Rattle.la_object.specs.OrSet.{with_element, with_ids};
-ghost use Rattle.la_object.specs.Objects.{start};
+ghost use Rattle.la_object.specs.Objects.{start, after};
 ghost use Rattle.la_orset.specs.Index.{IsIndex};
 
 use crate::live::Live;
@@ -105,7 +105,12 @@ impl Replicated for OrSet {
         true
     }
 
-    fn absorb(&mut self, update: &Update) -> Result<(), AllocError> {
+    fn absorb(&mut self, update: &Update) -> Result<(), AllocError>
+        ensures ok { OnOk result
+            (Set self.new.puts self.new.gone ≡ after (Set self.old.puts self.old.gone) update.now) }
+        ensures err { OnErr result
+            (Set self.new.puts self.new.gone ≡ Set self.old.puts self.old.gone) }
+    {
         match &update.op {
             Op::Put(element) => self.put(update.id, *element),
             Op::Remove(ids) => self.remove(ids),

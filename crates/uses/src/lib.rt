@@ -4,6 +4,7 @@
 
 pub mod acceptors;
 pub mod objects;
+pub mod orsets;
 pub mod proposers;
 pub mod replicas;
 pub mod scripts;
