@@ -2,12 +2,15 @@
 // there. Where it is refused all is done again.
 use la_acceptor::{Acceptor, Reply};
 use la_commit::{Outcome, Vote};
+use la_object::{Answer, Query, Replicated};
+use la_orset::OrSet;
 use la_proposer::{Proposer, Votes};
 use la_replica::{Body, Message, Replica};
 use la_set::{Op, Update, UpdateId, UpdateSet};
 use std::alloc::Global;
 use uses::acceptors::acknowledges;
 use uses::commits::{Learner, finish_both};
+use uses::orsets::{ask, follow_both, put, removal as removal_of};
 use uses::proposers::hear;
 use uses::replicas::{take_in_and_vote, three_replicas};
 use uses::scripts::report_of;
@@ -57,6 +60,43 @@ fn removals(alloc: Global) -> Option<bool> {
         Op::Remove(tags) => Some(tags.len() == 2 && tags.has(first) && tags.has(second)),
         _ => Some(false),
     }
+}
+
+fn id(replica: u8, number: u32) -> UpdateId {
+    UpdateId { replica, number }
+}
+
+fn update(id: UpdateId, op: Op) -> Update {
+    Update { id, object: 1, op }
+}
+
+// One removes 9, while another puts it again: the add wins, and only where it is put again.
+fn adds_win(alloc: Global) -> Option<bool> {
+    let mut set = OrSet::new(alloc);
+    put(&mut set, id(0, 1), 9).ok()?;
+    put(&mut set, id(0, 2), 8).ok()?;
+    let (nine, eight) = (removal_of(&set, 9).ok()?, removal_of(&set, 8).ok()?);
+    put(&mut set, id(1, 1), 9).ok()?;
+    set.absorb(&update(id(2, 1), nine)).ok()?;
+    set.absorb(&update(id(2, 2), eight)).ok()?;
+    match set.ask(&Query::Items).ok()? {
+        Answer::Items(items) => Some(items.len() == 1 && items.at(0) == Some(&9)),
+        _ => Some(false),
+    }
+}
+
+// A shelf that absorbs a Put, and then what another replica removed and put.
+fn followers(alloc: Global) -> Option<bool> {
+    let mut first = UpdateSet::new(alloc);
+    first.push(update(id(0, 1), Op::Put(9))).ok()?;
+    let mut other = UpdateSet::new(alloc);
+    let gone = removal(alloc, &[id(0, 1), id(0, 2)]).ok()?;
+    other.push(update(id(1, 1), gone)).ok()?;
+    other.push(update(id(1, 2), Op::Put(8))).ok()?;
+    let shelf = follow_both(alloc, 1, &first, &other).ok()?;
+    let answers = (ask(&shelf, 1, 8).ok()?, ask(&shelf, 1, 9).ok()?);
+    let right = matches!(answers, (Answer::Has(true), Answer::Has(false)));
+    Some(right && shelf.view().len() == 3)
 }
 
 fn acknowledgements(alloc: Global) -> Option<bool> {
@@ -149,4 +189,11 @@ fn callers_do_what_they_are_for(rt: HostRuntime) {
     assert!(rt; scripts(alloc).or_else(|| scripts(alloc)) == Some(true));
     assert!(rt; votes(alloc).or_else(|| votes(alloc)) == Some(true));
     assert!(rt; replicas(alloc).or_else(|| replicas(alloc)) == Some(true));
+}
+
+#[test]
+fn callers_of_sets_do_what_they_are_for(rt: HostRuntime) {
+    let alloc = rt.alloc();
+    assert!(rt; adds_win(alloc).or_else(|| adds_win(alloc)) == Some(true));
+    assert!(rt; followers(alloc).or_else(|| followers(alloc)) == Some(true));
 }

@@ -2,6 +2,7 @@
 mod edges;
 pub mod exactness;
 pub mod helpers;
+mod ids;
 mod laws;
 pub mod plays;
 mod refusals;

@@ -1,7 +1,10 @@
 pub mod IdOrder
+pub mod Sorted
 pub mod IdMaps
+pub mod Copies
 pub mod Steps
 pub mod Presence
+pub mod LivePuts
 pub mod Tags
 pub mod Orders
 pub mod Replies

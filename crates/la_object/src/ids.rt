@@ -1,57 +1,11 @@
-ghost use Rattle.std.specs.Prelude.{◌≡◌, OnOk, OnErr};
-ghost use Rattle.std.specs.Option.{option_copied};
-ghost use Rattle.std.specs.FinMap as map;
+ghost use Rattle.std.specs.Prelude.{◌≡◌, ◌↔◌, not, drop, IsTrue, IfOk, OnOk, OnErr};
 ghost use Rattle.std.specs.FinSet as set;
+ghost use Rattle.la_object.specs.OrSet.{with_ids};
 
-use la_set::UpdateId;
+use la_set::{Tags, UpdateId};
 use std::alloc::{AllocError, Global};
-use std::collections::{BTreeMap, BTreeSet};
+use std::collections::BTreeSet;
 use std::marker::Model;
-
-/// Elements by the ids of the updates that put them: a finite map.
-#[derive(Drop)]
-pub struct Adds {
-    puts: BTreeMap<UpdateId, u64>,
-}
-
-impl Model for Adds {
-    ghost use Rattle.la_object.specs.IdOrder.{Elements, elements_code};
-    ghost use Rattle.std.specs.FinMap as map;
-
-    ghost Value = { Elements };
-
-    ghost coded = { elements_code };
-
-    ghost view = { λ a. map.from_entries a.puts.entries };
-}
-
-impl Adds {
-    /// No element.
-    pub fn new(alloc: Global) -> Adds
-        ensures { result ≡ map.empty }
-    {
-        Adds {
-            puts: BTreeMap::new(alloc),
-        }
-    }
-
-    /// The element under an id, at logarithmic cost.
-    pub fn get(&self, id: UpdateId) -> Option<&u64>
-        ensures { option_copied result ≡ map.get self.now id }
-    {
-        self.puts.get(&id)
-    }
-
-    /// Puts an element under an id, in the place of the one there, at logarithmic cost. After a
-    /// refusal nothing has changed.
-    pub fn insert(&mut self, id: UpdateId, element: u64) -> Result<(), AllocError>
-        ensures ok { OnOk result (self.new ≡ map.insert self.old id element) }
-        ensures err { OnErr result (self.new ≡ self.old) }
-    {
-        self.puts.insert(id, element)?;
-        Ok(())
-    }
-}
 
 /// A finite set of ids.
 #[derive(Drop)]
@@ -80,6 +34,13 @@ impl Ids {
         }
     }
 
+    /// Whether no id is there, at constant cost.
+    pub fn is_empty(&self) -> bool
+        ensures { IsTrue result ↔ (self.now ≡ set.empty) }
+    {
+        self.ids.is_empty()
+    }
+
     /// Whether the id is one of them, at logarithmic cost.
     pub fn has(&self, id: UpdateId) -> bool
         ensures { result ≡ set.contains self.now id }
@@ -87,12 +48,60 @@ impl Ids {
         self.ids.contains(&id)
     }
 
-    /// Puts an id in, at logarithmic cost. After a refusal nothing has changed.
-    pub fn insert(&mut self, id: UpdateId) -> Result<(), AllocError>
+    /// Puts an id in, at logarithmic cost, and answers whether it is new. After a refusal nothing
+    /// has changed.
+    pub fn insert(&mut self, id: UpdateId) -> Result<bool, AllocError>
         ensures ok { OnOk result (self.new ≡ set.insert self.old id) }
+        ensures new { IfOk result (λ new. new ≡ not (set.contains self.old id)) }
         ensures err { OnErr result (self.new ≡ self.old) }
     {
-        self.ids.insert(id)?;
+        Ok(self.ids.insert(id)?)
+    }
+
+    /// Takes an id out, at logarithmic cost and without memory.
+    pub fn remove(&mut self, id: UpdateId)
+        ensures { self.new ≡ set.remove self.old id }
+    {
+        self.ids.remove(&id);
+    }
+
+    /// Puts all that a `Remove` names in, at logarithmic cost each. After a refusal nothing has
+    /// changed.
+    pub fn insert_all(&mut self, ids: &Tags) -> Result<(), AllocError>
+        ensures ok { OnOk result (self.new ≡ with_ids self.old ids.now) }
+        ensures err { OnErr result (self.new ≡ self.old) }
+    {
+        self.insert_from(ids, 0)
+    }
+
+    // Puts the ids from a place on in. It calls itself once for each id, of which there are few.
+    fn insert_from(&mut self, ids: &Tags, place: usize) -> Result<(), AllocError>
+        ensures ok { OnOk result (self.new ≡ with_ids self.old (drop place ids.now)) }
+        ensures err { OnErr result (self.new ≡ self.old) }
+    {
+        // a hint to the prover: there are at most so many ids that the place has a next one
+        let _few = ids.len();
+        let Some(id) = ids.at(place) else {
+            return Ok(());
+        };
+        let new = self.insert(*id)?;
+        if let Err(refused) = self.insert_from(ids, place + 1) {
+            if new {
+                self.remove(*id);
+            }
+            return Err(refused);
+        }
         Ok(())
+    }
+
+    /// A copy, made one id after another.
+    pub fn copy(&self, alloc: Global) -> Result<Ids, AllocError>
+        ensures { IfOk result (λ copy. copy ≡ self.now) }
+    {
+        let mut copy = Ids::new(alloc);
+        for id in self.ids.iter() {
+            copy.insert(*id)?;
+        }
+        Ok(copy)
     }
 }

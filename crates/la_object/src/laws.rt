@@ -1,14 +1,19 @@
 // What the definitions mean: laws over all updates, sets and shelves, which no code runs.
-ghost use Rattle.std.specs.Prelude.{◌≡◌, ◌≢◌, ℕ, ◌^◌, List, filter, IsPermutation};
+ghost use Rattle.std.specs.Prelude.{◌≡◌, ◌≢◌, ℕ, ◌^◌, true, false, List, Contains, filter};
+ghost use Rattle.std.specs.Prelude.{IsPermutation};
 ghost use Rattle.la_set.specs.declared.update.Update.{Update};
+ghost use Rattle.la_set.specs.declared.update.Op.TheVariants.{Put};
 ghost use Rattle.la_set.specs.Histories.{Histories};
 ghost use Rattle.la_object.specs.declared.kind.Kind.{Kind};
 ghost use Rattle.la_object.specs.declared.query.Query.{Query};
+ghost use Rattle.la_object.specs.declared.query.Query.TheVariants.{Has};
+ghost use Rattle.la_object.specs.declared.query.Answer.TheVariants.{Has as HasIs};
 ghost use Rattle.la_object.specs.declared.state.State.{State};
 ghost use Rattle.la_object.specs.Objects.{after, steps, start, reply, value, tags_of, tags_by};
 ghost use Rattle.la_object.specs.Objects.{is_of_kind, is_of_some_kind};
 ghost use Rattle.la_object.specs.Shelves.{ShelfState, updates_at, kind_at, answer_at, tags_at};
 ghost use Rattle.la_object.specs.Shelves.{state_at};
+ghost use Rattle.la_object.specs.OrSet.{is_removed, set_value};
 
 use crate::MAX_SUM;
 
@@ -40,6 +45,14 @@ pub fn only_own_operations_count()
         → tags_by kind (filter (λ u. is_of_kind kind u.op) us) x ≡ tags_by kind us x }
     ensures marks { (kind : Kind) (us : List Update) (query : Query)
         → value kind (filter (λ u. is_of_some_kind u.op) us) query ≡ value kind us query }
+{}
+
+/// Adds win: an element is in an observed-remove set where one of its updates is a Put of it whose
+/// id no Remove there names, whatever else was put and removed, before or after.
+pub fn live_puts_count()
+    ensures { (us : List Update) (u : Update) (x : ℕ)
+        → Contains us u → u.op ≡ Put x → is_removed us u.id ≡ false
+        → set_value us (Has x) ≡ HasIs true }
 {}
 
 /// Two shelves with equal views, and objects of one kind under a number, answer every query alike,

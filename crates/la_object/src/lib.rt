@@ -10,6 +10,7 @@
 //! defined here like the other kinds, and its type stands in a crate of its own.
 #![tactic(auto)]
 
+mod adds;
 mod boxed;
 mod counter;
 mod error;
@@ -22,9 +23,10 @@ mod replicated;
 mod shelf;
 mod state;
 
+pub use adds::Adds;
 pub use counter::{Counter, MAX_SUM};
 pub use error::{AbsorbError, ObserveError, ShelfError};
-pub use ids::{Adds, Ids};
+pub use ids::Ids;
 pub use kind::Kind;
 pub use max_register::MaxRegister;
 pub use query::{Answer, Items, Query};

@@ -1,4 +1,3 @@
-pub mod Sorted
 pub mod Sets
 pub mod Filling
 pub mod LiveTags

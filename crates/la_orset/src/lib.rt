@@ -7,10 +7,8 @@
 #![tactic(auto)]
 
 mod chain;
-mod gone;
 mod live;
 mod or_set;
-mod puts;
 mod tag_set;
 
 pub use chain::Chain;

@@ -3,13 +3,11 @@ ghost use Rattle.la_object.specs.declared.kind.Kind.TheVariants.{OrSet as OrSetK
 ghost use Rattle.la_object.specs.declared.state.State.TheVariants.{Set};
 ghost use Rattle.la_object.specs.IdOrder.{IdSet};
 ghost use Rattle.la_object.specs.OrSet.{with_element, with_ids};
-ghost use Rattle.la_object.specs.Objects.{start};
+ghost use Rattle.la_object.specs.Objects.{start, after};
 ghost use Rattle.la_orset.specs.Index.{IsIndex};
 
-use crate::gone::Gone;
 use crate::live::Live;
-use crate::puts::Puts;
-use la_object::{Answer, Kind, ObserveError, Query, Replicated, State};
+use la_object::{Adds, Answer, Ids, Kind, ObserveError, Query, Replicated, State};
 use la_set::{Op, Tags, Update, UpdateId};
 use std::alloc::{AllocError, Global};
 
@@ -22,8 +20,8 @@ use std::alloc::{AllocError, Global};
 #[derive(Drop)]
 pub struct OrSet {
     alloc: Global,
-    puts: Puts,
-    gone: Gone,
+    puts: Adds,
+    gone: Ids,
     live: Live,
     ghost indexed: { IsIndex puts gone live },
 }
@@ -35,8 +33,8 @@ impl OrSet {
     {
         OrSet {
             alloc,
-            puts: Puts::new(alloc),
-            gone: Gone::new(alloc),
+            puts: Adds::new(alloc),
+            gone: Ids::new(alloc),
             live: Live::new(alloc),
         }
     }
@@ -48,7 +46,7 @@ impl OrSet {
         ensures err { OnErr result (self.new.puts ≡ self.old.puts) }
         ensures gone { self.new.gone ≡ self.old.gone }
     {
-        if self.puts.knows(id) {
+        if self.puts.has(id) {
             return Ok(());
         }
         if self.gone.has(id) {
@@ -68,14 +66,14 @@ impl OrSet {
         ensures err { OnErr result (self.new.gone ≡ self.old.gone) }
         ensures puts { self.new.puts ≡ self.old.puts }
     {
-        self.gone.insert_from(ids, 0)?;
+        self.gone.insert_all(ids)?;
         take_out(&self.puts, &mut self.live, ids, 0);
         Ok(())
     }
 }
 
 // Takes the ids from a place on out of the live tags.
-fn take_out(puts: &Puts, live: &mut Live, ids: &Tags, place: usize)
+fn take_out(puts: &Adds, live: &mut Live, ids: &Tags, place: usize)
     ensures { (gone : IdSet) → IsIndex puts.now gone live.old
         → IsIndex puts.now (with_ids gone (drop place ids.now)) live.new }
 {
@@ -107,7 +105,12 @@ impl Replicated for OrSet {
         true
     }
 
-    fn absorb(&mut self, update: &Update) -> Result<(), AllocError> {
+    fn absorb(&mut self, update: &Update) -> Result<(), AllocError>
+        ensures ok { OnOk result
+            (Set self.new.puts self.new.gone ≡ after (Set self.old.puts self.old.gone) update.now) }
+        ensures err { OnErr result
+            (Set self.new.puts self.new.gone ≡ Set self.old.puts self.old.gone) }
+    {
         match &update.op {
             Op::Put(element) => self.put(update.id, *element),
             Op::Remove(ids) => self.remove(ids),

@@ -5,6 +5,7 @@
 pub mod acceptors;
 pub mod commits;
 pub mod objects;
+pub mod orsets;
 pub mod proposers;
 pub mod replicas;
 pub mod scripts;

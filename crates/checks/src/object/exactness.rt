@@ -6,8 +6,8 @@ ghost use Rattle.la_set.specs.Join.{IsCompatible};
 ghost use Rattle.la_object.specs.Objects.{HasRoom};
 
 use la_object::{
-    AbsorbError, Adds, Answer, Counter, Ids, Kind, MaxRegister, ObserveError, Query, Replicated,
-    Shelf, ShelfError, State,
+    AbsorbError, Answer, Counter, Kind, MaxRegister, ObserveError, Query, Replicated, Shelf,
+    ShelfError, State,
 };
 use la_set::{Tags, Update, UpdateId, UpdateSet};
 use std::alloc::{AllocError, Global};
@@ -203,55 +203,4 @@ fn retire_is_exact<B: Replicated>(
     ensures unchanged { OnErr result.0 (OnErr result.1 (one.new ≡ other.new)) }
 {
     (one.retire(number), other.retire(number))
-}
-
-// ## Ids
-
-fn new_adds_are_one(alloc: Global) -> (Adds, Adds)
-    ensures { result.0 ≡ result.1 }
-{
-    (Adds::new(alloc), Adds::new(alloc))
-}
-
-fn get_is_exact(adds: &Adds, id: UpdateId) -> (Option<&u64>, Option<&u64>)
-    ensures { option_copied result.0 ≡ option_copied result.1 }
-{
-    (adds.get(id), adds.get(id))
-}
-
-fn insert_an_element_is_exact(
-    one: &mut Adds,
-    other: &mut Adds,
-    id: UpdateId,
-    element: u64,
-) -> (Result<(), AllocError>, Result<(), AllocError>)
-    requires { one.old ≡ other.old }
-    ensures ok { OnOk result.0 (OnOk result.1 (one.new ≡ other.new)) }
-    ensures err { OnErr result.0 (OnErr result.1 (one.new ≡ other.new)) }
-{
-    (one.insert(id, element), other.insert(id, element))
-}
-
-fn new_ids_are_one(alloc: Global) -> (Ids, Ids)
-    ensures { result.0 ≡ result.1 }
-{
-    (Ids::new(alloc), Ids::new(alloc))
-}
-
-fn has_id_is_exact(ids: &Ids, id: UpdateId) -> (bool, bool)
-    ensures { result.0 ≡ result.1 }
-{
-    (ids.has(id), ids.has(id))
-}
-
-fn insert_an_id_is_exact(
-    one: &mut Ids,
-    other: &mut Ids,
-    id: UpdateId,
-) -> (Result<(), AllocError>, Result<(), AllocError>)
-    requires { one.old ≡ other.old }
-    ensures ok { OnOk result.0 (OnOk result.1 (one.new ≡ other.new)) }
-    ensures err { OnErr result.0 (OnErr result.1 (one.new ≡ other.new)) }
-{
-    (one.insert(id), other.insert(id))
 }

@@ -1,7 +1,0 @@
-use Rattle.std.proofs.Common.{◌∙◌, ap}
-use Rattle.std.specs.FinMap as map
-use Rattle.la_object.proofs.IdMaps.{one_put}
-use Rattle.la_object.proofs.ids.Adds.insert.Goals as goal
-
-pub returns-clause-ok : goal.returns-clause-ok
-returns-clause-ok c = one_put c.self.inside.puts.entries c.insert.new.self.entries c.args.id c.args.element c.in_ok-insert.ensures.updates.0 ∙ ap (λ m. map.insert m c.args.id c.args.element) c.self.view_is
