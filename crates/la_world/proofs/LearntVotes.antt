@@ -1,6 +1,6 @@
--- What a set holds that was learnt in an instance of an adopt-commit object, where no event is refused: its replica's
--- own vote, and only votes that were submitted there.
-use Rattle.std.proofs.Common.{◌≡◌, ℕ, zero, suc, ◌<◌, ◌≤◌, ◌⊎◌, inl, inr, true, List, [], ◌∷◌, length, Contains, Option, Some, None, option_map, option_and_then, refl, sym, ◌∙◌, ap, subst, subst₂, arith}
+-- What a set holds that was learnt in an instance of an adopt-commit object, where no event is
+-- refused: its replica's own vote, and only votes that were submitted there.
+use Rattle.std.proofs.Common.{◌≡◌, ℕ, zero, suc, ◌<◌, ◌≤◌, inl, inr, true, List, [], ◌∷◌, length, Contains, Option, Some, None, option_map, option_and_then, refl, sym, ◌∙◌, ap, subst, subst₂, arith}
 use Rattle.std.specs.List.{cons_option}
 use Rattle.std.proofs.lemmas.Bool.{cases_lt}
 use Rattle.std.proofs.lemmas.Option.{same_Some, none-some}
@@ -35,7 +35,7 @@ use Rattle.la_world.proofs.Traces.{Holds, always, holds, own}
 use Rattle.la_world.proofs.Chains.{learning_justified}
 use Rattle.la_world.proofs.InGroup.{IsOfGroup, grouped}
 use Rattle.la_world.proofs.Openings.{only_is}
-use Rattle.la_world.proofs.SubmittedVotes.{HasProposed, proposals, HasVoted, second_votes_cast}
+use Rattle.la_world.proofs.SubmittedVotes.{proposals, HasVoted, second_votes_cast}
 
 -- ## Ballots have an update of their own replica
 
@@ -187,9 +187,9 @@ module _ (g : Group) (events : List Event) (few : replicas g ≤ 8) (legal : IsL
         | inr le ↦ absurd (numbered_none u.id.number (object_op_of u) (subst (λ ds. object_op_number ds u.id.number ≡ Some (object_op_of u)) (history_past (whole t x.instance) u.id.replica le) at))
       ]
 
-  -- each of its votes is the one that its replica submitted
-  vote_submitted : (i : ℕ) → x.instance ≡ i → (u : Update) → ContainsUpdate x.updates u → (v : Vote) → vote_of u.op ≡ Some v → (ds : List ObjectOp) → submitted (trace g events) i u.id.replica ≡ ds → object_op_number ds u.id.number ≡ Some (object_op_of u)
-  vote_submitted i at u member v casts_it ds e = subst (λ zs. object_op_number zs u.id.number ≡ Some (object_op_of u)) (ap (λ j. submitted (trace g events) j u.id.replica) at ∙ e) (update_submitted u member)
+  -- where these are all that its replica submitted there, it is one of them
+  submitted_at : (i : ℕ) → x.instance ≡ i → (u : Update) → ContainsUpdate x.updates u → (ds : List ObjectOp) → submitted (trace g events) i u.id.replica ≡ ds → object_op_number ds u.id.number ≡ Some (object_op_of u)
+  submitted_at i at u member ds e = subst (λ zs. object_op_number zs u.id.number ≡ Some (object_op_of u)) (ap (λ j. submitted (trace g events) j u.id.replica) at ∙ e) (update_submitted u member)
 
   casts_only : (u : Update) (v w : Vote) (k : ℕ) → vote_of u.op ≡ Some v → casts k w ≡ object_op_of u → v ≡ w
   casts_only u v w k e same = sym (same_Some w v (ap (λ (d : ObjectOp). vote_of d.op) same ∙ e))
@@ -200,14 +200,14 @@ module _ (g : Group) (events : List Event) (few : replicas g ≤ 8) (legal : IsL
       let u = cast.update in
       let q = u.id.replica in
       elim (proposals g events legal k q) [
-        | inl none ↦ absurd (numbered_none u.id.number (object_op_of u) (vote_submitted (first_instance k) at u cast.member v cast.casts [] none))
+        | inl none ↦ absurd (numbered_none u.id.number (object_op_of u) (submitted_at (first_instance k) at u cast.member [] none))
         | inr p ↦
             let d = casts k (first_vote_for p.value) in
             record {
               replica = q;
               value = p.value;
               accepted = p.accepted;
-              is = casts_only u v (first_vote_for p.value) k cast.casts (numbered_one d u.id.number (object_op_of u) (vote_submitted (first_instance k) at u cast.member v cast.casts (d ∷ []) p.all));
+              is = casts_only u v (first_vote_for p.value) k cast.casts (numbered_one d u.id.number (object_op_of u) (submitted_at (first_instance k) at u cast.member (d ∷ []) p.all));
             }
       ]
 
@@ -217,13 +217,13 @@ module _ (g : Group) (events : List Event) (few : replicas g ≤ 8) (legal : IsL
       let u = cast.update in
       let q = u.id.replica in
       elim (second_votes_cast g events legal k q) [
-        | inl none ↦ absurd (numbered_none u.id.number (object_op_of u) (vote_submitted (second_instance k) at u cast.member v cast.casts [] none))
+        | inl none ↦ absurd (numbered_none u.id.number (object_op_of u) (submitted_at (second_instance k) at u cast.member [] none))
         | inr w ↦
             let y = second_vote_for w.first.updates w.value in
             let d = casts k y in
             record {
               replica = q;
               voted = w;
-              is = casts_only u v y k cast.casts (numbered_one d u.id.number (object_op_of u) (vote_submitted (second_instance k) at u cast.member v cast.casts (d ∷ []) w.all));
+              is = casts_only u v y k cast.casts (numbered_one d u.id.number (object_op_of u) (submitted_at (second_instance k) at u cast.member (d ∷ []) w.all));
             }
       ]

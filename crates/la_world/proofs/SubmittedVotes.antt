@@ -1,5 +1,6 @@
--- What is submitted to an adopt-commit object where no event is refused: in its first instance the votes of accepted
--- proposals, and in its second one those to which sets that were learnt in the first one lead.
+-- What is submitted to an adopt-commit object where no event is refused: in its first instance the
+-- votes of accepted proposals, and in its second one those to which sets that were learnt in the
+-- first one lead.
 use Rattle.std.proofs.Common.{◌≡◌, ℕ, ◌<◌, ◌⊎◌, inl, inr, Bool, true, false, cond, List, [], ◌∷◌, ◌++◌, length, Contains, Option, Some, None, option_and_then, refl, sym, ◌∙◌, ap, subst, subst₂, arith}
 use Rattle.std.proofs.lemmas.List.{length_push}
 use Rattle.std.proofs.lemmas.Option.{same_Some, none-some}
@@ -120,8 +121,8 @@ leads_to b s e = go (is_first_instance b.instance) (proposed b.updates b.replica
       casts_it = sym (ap (λ (z : Submission). z.object_op) (same_Some _ s k));
     }
 
--- what r submitted in the second instance of object k is the vote to which a set leads that it learnt in the first
--- one, with its vote for this value
+-- what r submitted in the second instance of object k is the vote to which a set leads that it
+-- learnt in the first one, with its vote for this value
 pub record HasVoted (t : Trace) (k r : ℕ) : Type 0 where
   pub first : Learnt
   pub was : Contains (learnt t) first
