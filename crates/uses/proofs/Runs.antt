@@ -1,6 +1,6 @@
 -- What the laws of la_world say of a run's report.
 use Rattle.std.proofs.Common.{◌≡◌, ℕ, zero, suc, ◌+◌, ◌<◌, inl, inr, cond, ◌&&◌, List, [], ◌∷◌, length, map, Contains, slice_get, slice_index_or, Option, Some, None, refl, sym, ◌∙◌, ap, ap₂, subst, subst₂, arith, eq-eqb}
-use Rattle.std.specs.Prelude.{reverse, Result, Ok, Err, IfOk, IfSome}
+use Rattle.std.specs.Prelude.{Result, Ok, Err, IfOk, OnOk, IfSome}
 use Rattle.std.specs.List.{range_with_len}
 use Rattle.std.proofs.lemmas.List.Elements.{Contains-append_left, Contains-append_right, Contains-append_cases}
 use Rattle.la_set.specs.Histories.{Histories}
@@ -11,20 +11,16 @@ use Rattle.la_world.specs.declared.error.WorldError.{WorldError}
 use Rattle.la_world.specs.declared.report.Report.{Report}
 use Rattle.la_world.specs.declared.step.Opening.{Opening}
 use Rattle.la_world.specs.declared.step.Learnt.{Learnt}
-use Rattle.la_world.specs.Groups.{Group, group_of, replicas}
+use Rattle.la_world.specs.Groups.{Group, group_of, replicas, IsConfig}
 use Rattle.la_world.specs.Events.{Event}
 use Rattle.la_world.specs.Trace.{Trace}
 use Rattle.la_world.specs.Ballots.{only, learnt_by}
 use Rattle.la_world.specs.Views.{set_of, told_to, seen_at, seen, view}
 use Rattle.la_world.specs.Playing.{trace}
 use Rattle.la_world.specs.Learnings.{learning, learning_of, learnt}
-use Rattle.la_world.specs.Report.{report, runs, views}
-use Rattle.la_world.specs.Laws.{AreComparable, LearntAreComparable, ViewsAreComparable, ViewsAreLargest}
-use Rattle.uses.specs.Promises.{AreAllComparable, AreOneHistory, ViewsHoldTheirOwn}
-
--- the events of a list that are accepted, the newest first
-abbrev accepted : Config → List Event → List Event
-accepted c events = (runs (group_of c) (reverse events)).accepted
+use Rattle.la_world.specs.Report.{report, views}
+use Rattle.la_world.specs.Laws.{AreComparable, LearntAreComparable, ViewsAreComparable, ViewsAreLargest, CommitsAgree, ReturnsAreProposed, ReportedOutcomesAreSafe}
+use Rattle.uses.specs.Promises.{AreAllComparable, AreOneHistory, ViewsHoldTheirOwn, accepted}
 
 pub run_comparable : LearntAreComparable → (c : Config) (events : List Event) (r : Result Report WorldError) → IfOk r (λ made. made ≡ report c events) → IfOk r (λ (made : Report). AreAllComparable made.learnt)
 run_comparable law c events (Ok made) e = subst (λ (m : Report). AreAllComparable m.learnt) (sym e) (law (group_of c) (accepted c events))
@@ -95,3 +91,13 @@ views_comparable law g events a b c d =
 pub run_one_history : ViewsAreComparable → (c : Config) (events : List Event) (r : Result Report WorldError) → IfOk r (λ made. made ≡ report c events) → IfOk r (λ (made : Report). AreOneHistory made.views)
 run_one_history law c events (Ok made) e = subst (λ (m : Report). AreOneHistory m.views) (sym e) (views_comparable law (group_of c) (accepted c events))
 run_one_history law c events (Err d) e = tt
+
+-- ## Outcomes
+
+pub run_agrees : ReportedOutcomesAreSafe → (c : Config) (events : List Event) (r : Result Report WorldError) → IfOk r (λ made. made ≡ report c events) → OnOk r (IsConfig c) → IfOk r (λ (made : Report). CommitsAgree made.outcomes)
+run_agrees law c events (Ok made) e is = subst (λ (m : Report). CommitsAgree m.outcomes) (sym e) (law c events is).agree
+run_agrees law c events (Err d) e is = tt
+
+pub run_returns_proposed : ReportedOutcomesAreSafe → (c : Config) (events : List Event) (r : Result Report WorldError) → IfOk r (λ made. made ≡ report c events) → OnOk r (IsConfig c) → IfOk r (λ (made : Report). ReturnsAreProposed (accepted c events) made.outcomes)
+run_returns_proposed law c events (Ok made) e is = subst (λ (m : Report). ReturnsAreProposed (accepted c events) m.outcomes) (sym e) (law c events is).proposed
+run_returns_proposed law c events (Err d) e is = tt

@@ -1,9 +1,13 @@
 -- What a group promises, of the lists that a report has.
-use Rattle.std.specs.Prelude.{◌≡◌, ℕ, List, Contains, slice_get, slice_index_or, IfSome}
+use Rattle.std.specs.Prelude.{◌≡◌, ℕ, List, reverse, Contains, slice_get, slice_index_or, IfSome}
 use Rattle.la_set.specs.Histories.{Histories}
 use Rattle.la_set.specs.Inclusion.{IsSubset}
 use Rattle.la_replica.specs.ReplicaState.{ReplicaState}
+use Rattle.la_world.specs.declared.config.Config.{Config}
 use Rattle.la_world.specs.declared.step.Learnt.{Learnt}
+use Rattle.la_world.specs.Groups.{group_of}
+use Rattle.la_world.specs.Events.{Event}
+use Rattle.la_world.specs.Report.{runs}
 use Rattle.la_world.specs.Laws.{AreComparable}
 
 -- of any two learnt sets of one instance one contains the other
@@ -24,3 +28,7 @@ ViewsHoldTheirOwn views learnt = (x : Learnt) → Contains learnt x → x.instan
 abbrev pub NoViewShrinks : (before after : List ReplicaState) → Type 0
 NoViewShrinks before after = (k : ℕ) (none : ReplicaState) →
     IsSubset (slice_index_or before k none).view (slice_index_or after k none).view
+
+-- the events of a list that are accepted, the newest first
+abbrev pub accepted : Config → List Event → List Event
+accepted c events = (runs (group_of c) (reverse events)).accepted

@@ -59,3 +59,24 @@ pub fn shown(made: &Report, replica: u8) -> Option<&UpdateSet>
 {
     made.views.at(replica as usize)
 }
+
+// ---- adopt-commit
+ghost use Rattle.la_world.specs.Laws.{CommitsAgree, ReturnsAreProposed};
+ghost use Rattle.uses.specs.Promises.{accepted};
+
+/// Plays a list of events, proposals among them. Where one participant of an adopt-commit object
+/// commits a value, each participant of it that returns has this value; and each value that is
+/// returned was proposed to the object, by an event that was accepted.
+pub fn play_proposals(
+    alloc: Global,
+    config: Config,
+    events: &[Event],
+) -> Result<Report, WorldError>
+    ensures agree { IfOk result (λ made. CommitsAgree made.outcomes) }
+    ensures proposed { IfOk result (λ made.
+        ReturnsAreProposed (accepted config (map event_of events.now)) made.outcomes) }
+    ensures error { IfErr result (IsMakingRefusal config) }
+{
+    laws::reported_outcomes_are_safe();
+    run(alloc, config, events)
+}
