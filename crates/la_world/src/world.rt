@@ -77,16 +77,23 @@ impl World {
         })
     }
 
-    /// Plays an event: a replica submits, or a message that was sent is delivered.
+    /// Plays an event: a replica submits, a message that was sent is delivered, or a replica
+    /// proposes a value to an adopt-commit object.
     ///
-    /// In this order: `NoSuchReplica` where the group has no such replica; `Full` where it has
-    /// submitted its cap; `NoSuchMessage` where fewer messages were sent; `Memory`. After each the
-    /// world is as before. Fewer than 2^64 - 1 events may be accepted.
+    /// A submission is refused with `NoSuchReplica` where the group has no such replica, and else
+    /// with `Full` where it has submitted its cap; a delivery with `NoSuchMessage` where fewer
+    /// messages were sent; a proposal with `NoSuchReplica`, else with `NoSuchCommit` where the
+    /// group has no such object, else with `AlreadyProposed` where this replica has proposed to it.
+    /// `Memory` comes where none of these fits. After each the world is as before. Fewer than
+    /// 2^64 - 1 events may be accepted.
+    ///
+    /// A replica that learns a set in the first instance of an adopt-commit object casts its second
+    /// vote in the same step; by the set that it learns in the second one it returns its outcome.
     ///
     /// The cost is that of the replica's step, in which no updates are compared: what was sent fits
     /// all that its receiver knows. Sets that are sent, said, learnt and kept share their updates,
-    /// so that an event takes memory for what it adds: one update for a submission, its mail, and a
-    /// learning's entry.
+    /// so that an event takes memory for what it adds: one update for a submission or a vote, its
+    /// mail, and a learning's entry. A second vote also costs a copy of two instances.
     pub fn play(&mut self, event: &Event) -> Result<Step, WorldError>
         requires { self.old.count + 1 < 2 ^ 64 }
         ensures step { (events : Past) → StandsFor self.old events →
@@ -344,9 +351,8 @@ impl World {
         Ok(Decisions::from(made))
     }
 
-    /// A report of these lines, of what was learnt and of the views, at the cost of an entry for
-    /// each learnt set and each view; their updates are shared. It refuses with want of memory
-    /// alone.
+    /// A report of these lines, of what was learnt, of the views and of what was returned, at the
+    /// cost of an entry for each; their updates are shared. It refuses with want of memory alone.
     #[tactic(auto, using(crate::proofs::Worlds::views_are, crate::proofs::Returned::decisions_are, crate::proofs::Safe::returns_safely))]
     pub fn report(&self, steps: Steps) -> Result<Report, AllocError>
         ensures value { IfOk result (λ report. report ≡ report_with self.now steps) }
