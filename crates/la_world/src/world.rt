@@ -23,10 +23,9 @@ ghost use Rattle.la_world.specs.Laws.{IsAdoptCommit};
 
 use crate::journal::Journal;
 use crate::participant::{opening_instance, outcome_by, returned, second_vote, take};
+use crate::reporting::{add_decisions, copy_learnings, copy_views};
 use crate::speaker::Speaker;
-use crate::{
-    Config, Decision, Decisions, Event, Learnings, Learnt, Report, Step, Steps, Views, WorldError,
-};
+use crate::{Config, Decisions, Event, Learnings, Report, Step, Steps, Views, WorldError};
 use la_commit::{Fresh, Outcome};
 use la_replica::{Message, Replica};
 use la_set::{Op, UpdateSet};
@@ -438,48 +437,4 @@ fn start(alloc: Global, config: Config) -> Result<Vec<Replica>, AllocError>
         )?)?;
     }
     Ok(replicas)
-}
-
-// A copy of a list of learnt sets.
-fn copy_learnings(learnt: &Vec<Learnt>) -> Result<Vec<Learnt>, AllocError>
-    ensures { IfOk result (λ copy. copy.items ≡ learnt.now.items) }
-{
-    let mut copy = Vec::with_capacity(*learnt.allocator(), learnt.len())?;
-    for learning in learnt {
-        copy.push(learning.copy()?)?;
-    }
-    Ok(copy)
-}
-
-// A copy of every replica's view.
-fn copy_views(replicas: &Vec<Replica>) -> Result<Vec<UpdateSet>, AllocError>
-    ensures { IfOk result (λ views. views.items ≡ views_of replicas.now.items) }
-{
-    let mut views = Vec::with_capacity(*replicas.allocator(), replicas.len())?;
-    for replica in replicas {
-        views.push(replica.view().copy()?)?;
-    }
-    Ok(views)
-}
-
-// Puts last what each replica returned from an object.
-fn add_decisions(
-    made: &mut Vec<Decision>,
-    replicas: &Vec<Replica>,
-    commit: u8,
-) -> Result<(), AllocError>
-    requires { commit < MAX_COMMITS }
-    ensures { OnOk result
-        (made.new.items ≡ made.old.items ++ decisions_at replicas.now.items commit) }
-{
-    for participant in replicas {
-        if let Some(outcome) = returned(participant, commit) {
-            made.push(Decision {
-                commit,
-                replica: participant.own(),
-                outcome,
-            })?;
-        }
-    }
-    Ok(())
 }
