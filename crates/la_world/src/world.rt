@@ -1,4 +1,4 @@
-ghost use Rattle.std.specs.Prelude.{◌≡◌, ℕ, ◌+◌, ◌<◌, ◌≤◌, ◌^◌, [], ◌++◌, length, slice_get, Some, None};
+ghost use Rattle.std.specs.Prelude.{◌≡◌, ℕ, ◌+◌, ◌<◌, ◌^◌, [], length, slice_get, Some, None};
 ghost use Rattle.std.specs.Prelude.{IfOk, IfErr, OnOk, OnErr};
 ghost use Rattle.std.specs.Option.{option_copied};
 ghost use Rattle.la_set.specs.ObjectOps.{ObjectOp};
@@ -15,8 +15,8 @@ ghost use Rattle.la_world.specs.StandsFor.{StandsFor, trace_in, sent_in, refused
 ghost use Rattle.la_world.specs.Groups.{IsConfig};
 ghost use Rattle.la_world.specs.Calls.{IsMakingRefusal, replica_states_at_start};
 ghost use Rattle.la_world.specs.Calls.{Plays, IsAllowed, Refuses, StandsForMessage};
-ghost use Rattle.la_world.specs.Calls.{submitted_at, view_at, view_in, view_of, views_of};
-ghost use Rattle.la_world.specs.Calls.{IsSubmission, decisions_at, decisions_in};
+ghost use Rattle.la_world.specs.Calls.{submitted_at, view_at, view_in, view_of};
+ghost use Rattle.la_world.specs.Calls.{IsSubmission, decisions_in};
 ghost use Rattle.la_world.specs.Calls.{returned_in, returned_of};
 ghost use Rattle.la_world.specs.Calls.{report_with, report_after};
 ghost use Rattle.la_world.specs.Laws.{IsAdoptCommit};
