@@ -9,7 +9,7 @@ use Rattle.std.specs.FinMap as map
 use Rattle.std.specs.FinSet as set
 use Rattle.std.proofs.lemmas.Option.{none-some, same_Some}
 use Rattle.la_set.specs.declared.update.UpdateId.{UpdateId}
-use Rattle.la_object.specs.IdOrder.{id_cmp, IdSet}
+use Rattle.la_object.specs.IdOrder.{id_cmp, Elements, IdSet}
 use Rattle.la_object.specs.OrSet.{with_ids}
 use Rattle.la_object.proofs.IdOrder.{id_cmp_total, id_cmp-IsAntisymmetric}
 
@@ -54,6 +54,26 @@ nothing_new gone id there = same_ids _ _ (λ q. set.contains-insert id_cmp_total
   where
     by : (q : UpdateId) (b : Bool) → eq_by_cmp id_cmp q id ≡ b → (b || set.contains gone q) ≡ set.contains gone q
     by q true is = sym (ap (set.contains gone) (id_cmp-IsAntisymmetric q id ((Equal-is (id_cmp q id)).0 is)) ∙ there)
+    by q false is = refl
+
+-- ## One element
+
+-- what was there is put there again
+pub put_back : (adds : Elements) (id : UpdateId) (x was : ℕ) → map.get adds id ≡ Some was → map.insert (map.insert adds id x) id was ≡ adds
+put_back adds id x was there = map.same_map id_cmp_total id_cmp-IsAntisymmetric _ _ (λ q.
+    map.get-insert id_cmp_total (map.insert adds id x) id was q ∙ ap (cond (eq_by_cmp id_cmp q id) (Some was)) (map.get-insert id_cmp_total adds id x q) ∙ by q (eq_by_cmp id_cmp q id) refl)
+  where
+    by : (q : UpdateId) (b : Bool) → eq_by_cmp id_cmp q id ≡ b → cond b (Some was) (cond b (Some x) (map.get adds q)) ≡ map.get adds q
+    by q true is = sym (ap (map.get adds) (id_cmp-IsAntisymmetric q id ((Equal-is (id_cmp q id)).0 is)) ∙ there)
+    by q false is = refl
+
+-- what was put where there was nothing is taken out again
+pub taken_back : (adds : Elements) (id : UpdateId) (x : ℕ) → map.get adds id ≡ None → map.remove (map.insert adds id x) id ≡ adds
+taken_back adds id x none = map.same_map id_cmp_total id_cmp-IsAntisymmetric _ _ (λ q.
+    map.get-remove id_cmp_total (map.insert adds id x) id q ∙ ap (cond (eq_by_cmp id_cmp q id) None) (map.get-insert id_cmp_total adds id x q) ∙ by q (eq_by_cmp id_cmp q id) refl)
+  where
+    by : (q : UpdateId) (b : Bool) → eq_by_cmp id_cmp q id ≡ b → cond b None (cond b (Some x) (map.get adds q)) ≡ map.get adds q
+    by q true is = sym (ap (map.get adds) (id_cmp-IsAntisymmetric q id ((Equal-is (id_cmp q id)).0 is)) ∙ none)
     by q false is = refl
 
 -- ## A list of ids

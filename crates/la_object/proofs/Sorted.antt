@@ -124,3 +124,9 @@ module _ {K X : Type 0} {R : K → K → Ordering} (o : IsTotalOrder R) where
   one_put same es fs k x h = map.same_map o same _ _ (λ q.
       get-lookup fs q ∙ h q ∙ ap (λ b. cond b (Some x) (lookup (is_at (R q)) es)) ((eq_by_cmp_equiv o).symm k q)
       ∙ sym (map.get-insert o (map.from_entries es) k x q ∙ ap (cond (eq_by_cmp R q k) (Some x)) (get-lookup es q)))
+
+  -- entries that lack one key make a map that lacks it
+  pub one_taken : IsAntisymmetric R → (es fs : List (K × X)) (k : K) → ((q : K) → lookup (is_at (R q)) fs ≡ cond (is_at (R k) q) None (lookup (is_at (R q)) es)) → map.from_entries {R = R} fs ≡ map.remove (map.from_entries es) k
+  one_taken same es fs k h = map.same_map o same _ _ (λ q.
+      get-lookup fs q ∙ h q ∙ ap (λ b. cond b None (lookup (is_at (R q)) es)) ((eq_by_cmp_equiv o).symm k q)
+      ∙ sym (map.get-remove o (map.from_entries es) k q ∙ ap (cond (eq_by_cmp R q k) None) (get-lookup es q)))

@@ -1,6 +1,7 @@
-ghost use Rattle.std.specs.Prelude.{◌≡◌, ◌↔◌, IsTrue, IfOk, OnOk, OnErr};
+ghost use Rattle.std.specs.Prelude.{◌≡◌, ◌↔◌, not, Some, IsTrue, IfOk, OnOk, OnErr};
 ghost use Rattle.std.specs.Option.{option_copied};
 ghost use Rattle.std.specs.FinMap as map;
+ghost use Rattle.la_object.specs.OrSet.{with_element};
 
 use la_set::UpdateId;
 use std::alloc::{AllocError, Global};
@@ -63,6 +64,30 @@ impl Adds {
     {
         self.puts.insert(id, element)?;
         Ok(())
+    }
+
+    /// Puts an element under an id where there is none, at logarithmic cost, and answers whether
+    /// there was none. After a refusal nothing has changed.
+    pub fn insert_new(&mut self, id: UpdateId, element: u64) -> Result<bool, AllocError>
+        ensures ok { OnOk result (self.new ≡ with_element self.old id (Some element)) }
+        ensures new { IfOk result (λ new. new ≡ not (map.contains_key self.old id)) }
+        ensures err { OnErr result (self.new ≡ self.old) }
+    {
+        match self.puts.insert(id, element)? {
+            None => Ok(true),
+            Some(was) => {
+                // what was there is put back, which takes no memory
+                self.puts.insert(id, was)?;
+                Ok(false)
+            }
+        }
+    }
+
+    /// Takes the element under an id out, at logarithmic cost and without memory.
+    pub fn remove(&mut self, id: UpdateId)
+        ensures { self.new ≡ map.remove self.old id }
+    {
+        self.puts.remove(&id);
     }
 
     /// A copy, made one element after another.

@@ -6,7 +6,7 @@ use Rattle.std.specs.Cmp.{nat_cmp_total, Equal-is, nat_eq_equiv}
 use Rattle.std.specs.FinMap as map
 use Rattle.std.specs.FinMap.{nat_cmp-IsAntisymmetric}
 use Rattle.std.specs.FinSet as set
-use Rattle.std.proofs.lemmas.Bool.{eq-eqb, eqb-true}
+use Rattle.std.proofs.lemmas.Bool.{eqb-true}
 use Rattle.la_set.specs.declared.update.UpdateId.{UpdateId}
 use Rattle.la_object.specs.IdOrder.{id_cmp, Elements, IdSet}
 use Rattle.la_object.specs.OrSet.{stays, held, held_tags, with_element}
@@ -115,21 +115,6 @@ module _ (adds : Elements) (gone : IdSet) (id : UpdateId) (x : ℕ) (old : Index
       by true here false is = contains-put id_cmp_total id_cmp-IsAntisymmetric (tags_at old x) id q ∙ ap (λ d. d || map.contains_key (tags_at old x) q) is ∙ indexed x q ∙ ap (λ z. is_tag gone z q (map.get adds q)) (sym (eqb-true y x here))
       by false here true is = indexed y q ∙ was_none y q is ∙ sym (λ i. lives is i && flip false here i)
       by false here false is = indexed y q
-
-  -- what a refused Put takes back
-  pub put_back : (mid new : Index) → HasTags old x (map.insert (tags_at old x) id tt) mid → HasTags mid x (map.remove (tags_at mid x) id) new → IsIndex adds gone new
-  put_back mid new more less y q = ap (λ t. map.contains_key t q) (less y) ∙ by (y == x) refl (eq_by_cmp id_cmp q id) refl
-    where
-      mid_is : tags_at mid x ≡ map.insert (tags_at old x) id tt
-      mid_is = more x ∙ ap (λ b. cond b (map.insert (tags_at old x) id tt) (tags_at old x)) (eq-eqb x x refl)
-
-      both_steps : map.contains_key (map.remove (tags_at mid x) id) q ≡ (not (eq_by_cmp id_cmp q id) && (eq_by_cmp id_cmp q id || map.contains_key (tags_at old x) q))
-      both_steps = contains-taken id_cmp_total id_cmp-IsAntisymmetric (tags_at mid x) id q ∙ ap (λ t. not (eq_by_cmp id_cmp q id) && map.contains_key t q) mid_is ∙ ap (λ d. not (eq_by_cmp id_cmp q id) && d) (contains-put id_cmp_total id_cmp-IsAntisymmetric (tags_at old x) id q)
-
-      by : (b : Bool) → y == x ≡ b → (c : Bool) → eq_by_cmp id_cmp q id ≡ c → map.contains_key (cond b (map.remove (tags_at mid x) id) (tags_at mid y)) q ≡ is_tag gone y q (map.get adds q)
-      by true here true is = both_steps ∙ ap (λ d. not d && (d || map.contains_key (tags_at old x) q)) is ∙ sym (was_none y q is)
-      by true here false is = both_steps ∙ ap (λ d. not d && (d || map.contains_key (tags_at old x) q)) is ∙ indexed x q ∙ ap (λ z. is_tag gone z q (map.get adds q)) (sym (eqb-true y x here))
-      by false here c is = ap (λ t. map.contains_key t q) (more y ∙ ap (λ b. cond b (map.insert (tags_at old x) id tt) (tags_at old y)) here) ∙ indexed y q
 
 is_tag-gone : (gone : IdSet) (id : UpdateId) (y : ℕ) (q : UpdateId) (o : Option ℕ) → is_tag (set.insert gone id) y q o ≡ (not (eq_by_cmp id_cmp q id) && is_tag gone y q o)
 is_tag-gone gone id y q None = elim (eq_by_cmp id_cmp q id) as (λ c. false ≡ (not c && false)) [ true ↦ refl | false ↦ refl ]

@@ -46,15 +46,14 @@ impl OrSet {
         ensures err { OnErr result (self.new.puts ≡ self.old.puts) }
         ensures gone { self.new.gone ≡ self.old.gone }
     {
-        if self.puts.has(id) {
+        if !self.puts.insert_new(id, element)? {
             return Ok(());
         }
         if self.gone.has(id) {
-            return self.puts.insert(id, element);
+            return Ok(());
         }
-        self.live.insert(element, id)?;
-        if let Err(refused) = self.puts.insert(id, element) {
-            self.live.remove(element, id);
+        if let Err(refused) = self.live.insert(element, id) {
+            self.puts.remove(id);
             return Err(refused);
         }
         Ok(())

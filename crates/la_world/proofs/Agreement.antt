@@ -1,7 +1,7 @@
 -- Why adopt-commit objects are safe. All sole votes of an object are for one value, since two sets of
 -- its first instance of which each has votes for one value alone are comparable, and so have a vote
 -- in common.
-use Rattle.std.proofs.Common.{◌≡◌, ℕ, ◌==◌, ◌<◌, ◌≤◌, ◌⊎◌, inl, inr, Bool, true, false, List, [], ◌∷◌, length, reverse, slice_index_or, All, Any, Contains, Option, Some, None, refl, sym, ◌∙◌, ap, subst, arith, eq-eqb}
+use Rattle.std.proofs.Common.{◌≡◌, ℕ, ◌==◌, ◌<◌, ◌≤◌, ◌⊎◌, inl, inr, Bool, true, false, List, [], ◌∷◌, length, slice_index_or, All, Any, Contains, refl, sym, ◌∙◌, ap, subst, arith, eq-eqb}
 use Rattle.std.proofs.lemmas.List.Sums.{list_all-from_AllPass}
 use Rattle.std.proofs.lemmas.List.Elements.{Contains-get_or}
 use Rattle.la_set.specs.Histories.{Histories}
@@ -14,15 +14,13 @@ use Rattle.la_commit.specs.Laws.{HasVoteFor}
 use Rattle.la_commit.proofs.Casting.{own_vote-votes, sole_votes-vote}
 use Rattle.la_commit.proofs.Agreeing.{sole_values-agree, outcomes-agree, unanimous-commit}
 use Rattle.la_world.specs.declared.step.Learnt.{Learnt}
-use Rattle.la_world.specs.Groups.{Group, group_of, replicas, first_instance, second_instance}
+use Rattle.la_world.specs.Groups.{Group, replicas, first_instance, second_instance}
 use Rattle.la_world.specs.Events.{Event, Decide}
 use Rattle.la_world.specs.Learnings.{learnt}
 use Rattle.la_world.specs.Playing.{trace}
 use Rattle.la_world.specs.StandsFor.{IsLegal}
 use Rattle.la_world.specs.Outcomes.{decisions}
-use Rattle.la_world.specs.declared.error.Refusal.{Refusal}
-use Rattle.la_world.specs.Report.{Run, refused, runs, runs_on}
-use Rattle.la_world.specs.Laws.{CommitsAgree, ReturnsAreProposed, UnanimousCommit, AdoptCommitIsSafe, ReportedOutcomesAreSafe}
+use Rattle.la_world.specs.Laws.{CommitsAgree, ReturnsAreProposed, UnanimousCommit, AdoptCommitIsSafe}
 use Rattle.la_world.proofs.Chains.{learnt_comparable}
 use Rattle.la_world.proofs.SubmittedVotes.{HasVoted}
 use Rattle.la_world.proofs.LearntVotes.{IsSecond, first_votes, second_votes}

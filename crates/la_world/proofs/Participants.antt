@@ -1,5 +1,5 @@
 -- What a replica makes of a message, where it votes by it and where it does not.
-use Rattle.std.proofs.Common.{◌≡◌, ℕ, ◌+◌, ◌/◌, ◌%◌, Bool, true, false, cond, Option, Some, None, option_map, option_and_then, Result, Ok, Err, IfOk, refl, ap, sym, ◌∙◌, arith, eqb-true}
+use Rattle.std.proofs.Common.{◌≡◌, ℕ, ◌+◌, ◌/◌, ◌%◌, Bool, true, false, cond, Option, Some, None, IsSomeAnd, slice_get, option_map, option_and_then, Result, Ok, Err, IfOk, refl, ap, sym, ◌∙◌, arith, eqb-true}
 use Rattle.std.proofs.Math.Nat.{div-add-mod}
 use Rattle.std.proofs.lemmas.Option.{same_Some, none-some}
 use Rattle.la_set.specs.Histories.{Histories}
@@ -7,7 +7,11 @@ use Rattle.la_commit.specs.declared.vote.Vote.{Vote}
 use Rattle.la_commit.specs.Votes.{proposed, second_vote_for}
 use Rattle.la_replica.specs.declared.out.Said.{Said}
 use Rattle.la_replica.specs.Whole.{Message, Out, Both, both_of}
+use Rattle.la_replica.specs.declared.instance.Instance.{Instance}
+use Rattle.la_replica.specs.Steps as steps
 use Rattle.la_replica.specs.Steps.{learnt_in}
+use Rattle.la_replica.specs.Refusals.{FitsMessage}
+use Rattle.la_replica.specs.Fitting.{FitsReceiver}
 use Rattle.la_replica.specs.ReplicaState as acting
 use Rattle.la_replica.specs.ReplicaState.{ReplicaState}
 use Rattle.la_world.specs.Groups.{is_first_instance, commit_of, second_instance}
@@ -15,7 +19,7 @@ use Rattle.la_world.specs.Votes.{Submission, casts, vote_in, second_vote_of, sec
 use Rattle.la_world.specs.Following.{vote_due, learnt_with, and_submission, submits_with, takes}
 
 -- a vote as it is submitted in the second instance
-abbrev submission_of : (i r : ℕ) → Vote → Submission
+abbrev pub submission_of : (i r : ℕ) → Vote → Submission
 submission_of i r v = record { instance = second_instance (commit_of i); replica = r; object_op = casts (commit_of i) v }
 
 -- the vote that is due is the one that is submitted
@@ -53,6 +57,21 @@ module _ (at : ReplicaState) (m : Message) where
 
   due : (x : Said) → vote_due m.instance at.own x ≡ option_map (submission_of m.instance at.own) (vote_by x)
   due x = all_due m.instance at.own (learnt_in x)
+
+  -- a message that fits is received
+  pub received : FitsReceiver at m → (made : Out × ReplicaState) × (acting.receives at m ≡ Some made)
+  received fits = go (slice_get at.instances m.instance) fits.receivable.1
+    where
+      step : Instance → Out × ReplicaState
+      step x = acting.after_step at m.instance (steps.receives (acting.sender_of at m.instance) x at.view m)
+
+      go : (o : Option Instance) → IsSomeAnd o (λ x. FitsMessage x m) → (made : Out × ReplicaState) × (option_map step o ≡ Some made)
+      go None h = absurd h
+      go (Some x) h = (step x, refl)
+
+  -- and where this vote is due, it is submitted in the next instance
+  pub due_next : (v : Vote) (x : Said) → vote_by x ≡ Some v → (vote_due m.instance at.own x ≡ Some (submission_of m.instance at.own v)) × (second_instance (commit_of m.instance) ≡ m.instance + 1)
+  due_next v x is = (due x ∙ ap (option_map (submission_of m.instance at.own)) is, next_instance m.instance at.own (learnt_in x) v is)
 
   -- no vote is due
   pub takes_plainly : (out : Out) (after : ReplicaState) → acting.receives at m ≡ Some (out, after) → None ≡ vote_by out.said → takes at m ≡ Some (out, after)

@@ -22,7 +22,7 @@ use Rattle.la_world.specs.Trace.{Did, Entry, Trace}
 use Rattle.la_world.specs.Sent.{sent_at, sent}
 use Rattle.la_world.specs.Ballots.{opened_by, learnt_by, round, is_open}
 use Rattle.la_world.specs.Submissions.{submitted, second_vote_after}
-use Rattle.la_world.specs.Votes.{vote_in, instance_after, second_vote_of, second_vote_in, second_vote}
+use Rattle.la_world.specs.Votes.{Submission, vote_in, instance_after, second_vote_of, second_vote_in, second_vote}
 use Rattle.la_world.specs.Outcomes.{outcome_in, outcome_by}
 use Rattle.la_world.specs.Shown.{shown_by}
 use Rattle.la_world.specs.Playing.{next_ballot, opens_or_waits, submits, receives, entry, trace}
@@ -32,13 +32,14 @@ use Rattle.la_world.specs.ReplicaStates.{replica_state}
 use Rattle.la_world.specs.StandsFor.{World, StandsFor}
 use Rattle.la_world.specs.Calls.{replica_states_at_start, IsSubmission}
 use Rattle.la_world.proofs.OneReplicaSteps.{get_made, replica_state-else, replica_states-set}
-use Rattle.la_world.specs.Following.{said_by, takes}
+use Rattle.la_world.specs.Following.{said_by, vote_due, takes}
+use Rattle.la_replica.specs.Refusals.{HasRoom, SubmittingSpares}
 use Rattle.la_replica.specs.Fitting.{FitsReceiver}
 use Rattle.la_world.proofs.EventCases.{entry_of}
 use Rattle.la_world.proofs.Openings.{IsOf}
 use Rattle.la_world.proofs.SubmissionEvents.{submission_entry, submission_replica, submission_instance}
 use Rattle.la_world.proofs.Legal.{legal_submits, legal_between, entry_delivers, opens_in, IsPlaced, delivery_steps, delivery_placed}
-use Rattle.la_world.proofs.RefusedForMemory.{delivery_fits}
+use Rattle.la_world.proofs.RefusedForMemory.{delivery_fits, vote_has_room}
 use Rattle.la_world.proofs.Starting.{replica_state_at_start}
 use Rattle.la_world.proofs.StoredMessages.{messages_more, message_at}
 use Rattle.la_world.proofs.Shown.{opens_by, SpeaksOf, shown_is, learnt_number, length_trace}
@@ -243,3 +244,7 @@ module _ (w : World) (events : List Event) (stands : StandsFor w events) where
       let lt = (legal_between g events stands.legal k (whole_of m) (get_message k m stored)).instance in
       let most = stands.config.commits in
       omega arith
+
+  -- where its receiver votes by it, it has not voted yet
+  pub vote_room : (k : ℕ) (m : code.Message) → slice_get w.messages k ≡ Some m → (s : Submission) (made : Out × ReplicaState) → acting.receives (replica_state g t m.to) (whole_of m) ≡ Some made → vote_due m.instance m.to made.0.said ≡ Some s → HasRoom (replica_state g t m.to) s.instance × SubmittingSpares (replica_state g t m.to) s.instance
+  vote_room k m stored s made is due = vote_has_room g events k (whole_of m) s made few stands.config.cap_most stands.legal (get_message k m stored) is due

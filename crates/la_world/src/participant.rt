@@ -1,10 +1,11 @@
 // What a replica does as a participant of an adopt-commit object, by the sets that it learns. No
 // state is kept of it: its own vote in a set tells how far it is.
-ghost use Rattle.std.specs.Prelude.{◌≡◌, ◌*◌, ◌<◌, ◌≤◌, Some, option_and_then, IfOk, OnErr};
+ghost use Rattle.std.specs.Prelude.{◌≡◌, ◌*◌, ◌<◌, ◌≤◌, ◌+◌, Some, IsSome, option_and_then, IfOk, OnErr};
 ghost use Rattle.la_replica.specs.declared.replica.TheConstants.{MAX_COMMITS};
 ghost use Rattle.la_replica.specs.Whole.{Out as OutOf, whole_of, whole_out};
 ghost use Rattle.la_replica.specs.Steps.{learnt_in};
 ghost use Rattle.la_replica.specs.ReplicaState.{ReplicaState, receives};
+ghost use Rattle.la_replica.specs.Refusals.{HasRoom, SubmittingSpares};
 ghost use Rattle.la_replica.specs.Fitting.{FitsReceiver};
 ghost use Rattle.la_world.specs.Groups.{is_first_instance, is_second_instance};
 ghost use Rattle.la_world.specs.Votes.{vote_in, instance_after};
@@ -45,10 +46,8 @@ pub fn second_vote(instance: u8, own: u8, learnt: &Option<UpdateSet>) -> Option<
     if vote.sole {
         return None;
     }
-    match First::resume(own, vote.value).first(learnt) {
-        Ok((_, second)) => Some(second),
-        Err(_) => None,
-    }
+    let (_, second) = First::resume(own, vote.value).first(learnt).ok()?;
+    Some(second)
 }
 
 // What a replica returns by a set that it learnt in an object's second instance.
@@ -56,10 +55,8 @@ pub fn outcome_of_set(own: u8, second: &UpdateSet) -> Option<Outcome>
     ensures { result ≡ outcome_of second.now own }
 {
     let vote = own_vote(second, own)?;
-    match Second::resume(own, vote).second(second) {
-        Ok((_, outcome)) => Some(outcome),
-        Err(_) => None,
-    }
+    let (_, outcome) = Second::resume(own, vote).second(second).ok()?;
+    Some(outcome)
 }
 
 // The same, where it learns this set in this instance.
@@ -95,6 +92,8 @@ pub fn take(
     requires vote { (out : OutOf) (after : ReplicaState) →
         receives receiver.old (whole_of message.now) ≡ Some (out, after) → vote
         ≡ option_and_then (vote_in message.now.instance receiver.old.own) (learnt_in out.said) }
+    requires room { IsSome vote → HasRoom receiver.old (message.now.instance + 1) }
+    requires spares { IsSome vote → SubmittingSpares receiver.old (message.now.instance + 1) }
     ensures step { IfOk result (λ out.
         takes receiver.old (whole_of message.now) ≡ Some (whole_out out, receiver.new)) }
     ensures err { OnErr result (receiver.new ≡ receiver.old) }
@@ -102,12 +101,7 @@ pub fn take(
     let Some(vote) = vote else {
         return receiver.take_message(message);
     };
-    let second = message.instance + 1;
-    // `laws::submissions_fit`: nobody has voted there yet, so that it is admitted.
-    if receiver.admit_submission(second).is_err() {
-        return Err(AllocError);
-    }
-    let commit = (message.instance / 2) as u16;
+    let (second, commit) = (message.instance + 1, (message.instance / 2) as u16);
     let both = receiver.take_message_and_submit(message, second, commit, Op::from(vote))?;
     Ok(Out {
         said: learnt_and_voted(both.received, both.submitted),

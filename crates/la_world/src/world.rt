@@ -1,4 +1,4 @@
-ghost use Rattle.std.specs.Prelude.{◌≡◌, ℕ, ◌+◌, ◌<◌, ◌≤◌, ◌^◌, [], ◌++◌, length, slice_get, Some, None};
+ghost use Rattle.std.specs.Prelude.{◌≡◌, ℕ, ◌+◌, ◌<◌, ◌^◌, [], length, slice_get, Some, None};
 ghost use Rattle.std.specs.Prelude.{IfOk, IfErr, OnOk, OnErr};
 ghost use Rattle.std.specs.Option.{option_copied};
 ghost use Rattle.la_set.specs.ObjectOps.{ObjectOp};
@@ -15,18 +15,17 @@ ghost use Rattle.la_world.specs.StandsFor.{StandsFor, trace_in, sent_in, refused
 ghost use Rattle.la_world.specs.Groups.{IsConfig};
 ghost use Rattle.la_world.specs.Calls.{IsMakingRefusal, replica_states_at_start};
 ghost use Rattle.la_world.specs.Calls.{Plays, IsAllowed, Refuses, StandsForMessage};
-ghost use Rattle.la_world.specs.Calls.{submitted_at, view_at, view_in, view_of, views_of};
-ghost use Rattle.la_world.specs.Calls.{IsSubmission, decisions_at, decisions_in};
+ghost use Rattle.la_world.specs.Calls.{submitted_at, view_at, view_in, view_of};
+ghost use Rattle.la_world.specs.Calls.{IsSubmission, decisions_in};
 ghost use Rattle.la_world.specs.Calls.{returned_in, returned_of};
 ghost use Rattle.la_world.specs.Calls.{report_with, report_after};
 ghost use Rattle.la_world.specs.Laws.{IsAdoptCommit};
 
 use crate::journal::Journal;
 use crate::participant::{opening_instance, outcome_by, returned, second_vote, take};
+use crate::reporting::{add_decisions, copy_learnings, copy_views};
 use crate::speaker::Speaker;
-use crate::{
-    Config, Decision, Decisions, Event, Learnings, Learnt, Report, Step, Steps, Views, WorldError,
-};
+use crate::{Config, Decisions, Event, Learnings, Report, Step, Steps, Views, WorldError};
 use la_commit::{Fresh, Outcome};
 use la_replica::{Message, Replica};
 use la_set::{Op, UpdateSet};
@@ -444,48 +443,4 @@ fn start(alloc: Global, config: Config) -> Result<Vec<Replica>, AllocError>
         )?)?;
     }
     Ok(replicas)
-}
-
-// A copy of a list of learnt sets.
-fn copy_learnings(learnt: &Vec<Learnt>) -> Result<Vec<Learnt>, AllocError>
-    ensures { IfOk result (λ copy. copy.items ≡ learnt.now.items) }
-{
-    let mut copy = Vec::with_capacity(*learnt.allocator(), learnt.len())?;
-    for learning in learnt {
-        copy.push(learning.copy()?)?;
-    }
-    Ok(copy)
-}
-
-// A copy of every replica's view.
-fn copy_views(replicas: &Vec<Replica>) -> Result<Vec<UpdateSet>, AllocError>
-    ensures { IfOk result (λ views. views.items ≡ views_of replicas.now.items) }
-{
-    let mut views = Vec::with_capacity(*replicas.allocator(), replicas.len())?;
-    for replica in replicas {
-        views.push(replica.view().copy()?)?;
-    }
-    Ok(views)
-}
-
-// Puts last what each replica returned from an object.
-fn add_decisions(
-    made: &mut Vec<Decision>,
-    replicas: &Vec<Replica>,
-    commit: u8,
-) -> Result<(), AllocError>
-    requires { commit < MAX_COMMITS }
-    ensures { OnOk result
-        (made.new.items ≡ made.old.items ++ decisions_at replicas.now.items commit) }
-{
-    for participant in replicas {
-        if let Some(outcome) = returned(participant, commit) {
-            made.push(Decision {
-                commit,
-                replica: participant.own(),
-                outcome,
-            })?;
-        }
-    }
-    Ok(())
 }

@@ -47,6 +47,28 @@ fn has_is_exact(adds: &Adds, id: UpdateId) -> (bool, bool)
     (adds.has(id), adds.has(id))
 }
 
+fn insert_new_is_exact(
+    one: &mut Adds,
+    other: &mut Adds,
+    id: UpdateId,
+    element: u64,
+) -> (Result<bool, AllocError>, Result<bool, AllocError>)
+    requires { one.old ≡ other.old }
+    ensures new { IfOk result.0 (λ a. IfOk result.1 (λ b. a ≡ b)) }
+    ensures ok { OnOk result.0 (OnOk result.1 (one.new ≡ other.new)) }
+    ensures err { OnErr result.0 (OnErr result.1 (one.new ≡ other.new)) }
+{
+    (one.insert_new(id, element), other.insert_new(id, element))
+}
+
+fn remove_an_element_is_exact(one: &mut Adds, other: &mut Adds, id: UpdateId)
+    requires { one.old ≡ other.old }
+    ensures { one.new ≡ other.new }
+{
+    one.remove(id);
+    other.remove(id);
+}
+
 fn copy_is_exact(adds: &Adds, alloc: Global) -> (Result<Adds, AllocError>, Result<Adds, AllocError>)
     ensures { IfOk result.0 (λ a. IfOk result.1 (λ b. a ≡ b)) }
 {

@@ -1,6 +1,8 @@
 use Rattle.std.proofs.Common.{rules, ◌≡◌, ◌<◌, ◌++◌, length, get_or, slice_get, slice_set, Some, refl, ap, ap₂, subst, subst₂, sym, ◌∙◌}
 use Rattle.std.specs.Prelude.{option_and_then}
-use Rattle.la_replica.specs.Whole.{whole_of, whole_out}
+use Rattle.la_replica.specs.Whole.{Out, whole_of, whole_out}
+use Rattle.la_replica.specs.Steps.{learnt_in}
+use Rattle.la_replica.specs.ReplicaState.{ReplicaState, receives}
 use Rattle.la_world.specs.declared.speaker.Speaker.{Speaker}
 use Rattle.la_world.specs.Events.{Deliver}
 use Rattle.la_world.specs.Votes.{vote_in}
@@ -8,7 +10,7 @@ use Rattle.la_world.specs.Shown.{shown_by, learnings_by}
 use Rattle.la_world.specs.StandsFor.{World, StandsFor}
 use Rattle.la_world.specs.Calls.{HoldsInvariant, Plays}
 use Rattle.la_world.proofs.WorldSteps.{receiver_speaks}
-use Rattle.la_world.proofs.Worlds.{same_world, unchanged_as, noted_as, step_as, printable_as, found_at, receiver_known, instance_known, message_fits, kept_as_learnt, speaker_is, delivery_known, delivery_few, delivery_is_named, delivery_played, delivery_invariant}
+use Rattle.la_world.proofs.Worlds.{same_world, unchanged_as, noted_as, step_as, printable_as, found_at, receiver_known, instance_known, message_fits, kept_as_learnt, vote_has_room, vote_spares, speaker_is, delivery_known, delivery_few, delivery_is_named, delivery_played, delivery_invariant}
 use Rattle.la_world.proofs.world.World.take_delivery.Goals as goal
 
 pub invariant_of-self : goal.invariant_of-self
@@ -77,6 +79,34 @@ take-requires-clause-vote c out after is =
     let found_to : slice_get w.replica_states m.to ≡ Some at = found_at w.replica_states m.to at (receiver_known w c.self.invariant k m found) c.index_mut-receiver.ensures.value in
     let fits = message_fits w c.self.invariant k m found at found_to in
     c.second_vote-vote.ensures ∙ ap₂ (λ r o. option_and_then (vote_in m.instance r) o) fits.receivable.0.1 (c.in_ok-learnt.ensures out after is)
+
+pub take-requires-clause-room : goal.take-requires-clause-room
+take-requires-clause-room c some =
+    let w : World = record { config = c.self.inside.config; replica_states = c.self.inside.replicas.items; messages = c.self.inside.journal.messages.items; learnt = c.self.inside.journal.learnt.items; count = c.self.inside.journal.count } in
+    let k = c.args.number in
+    let m = c.index-message.result.now in
+    let reserved = c.reserve.ensures in
+    let found : slice_get w.messages k ≡ Some m = found_at w.messages k m (subst (λ v. k < length v.messages) (sym c.self.view_is) c.requires.known) (subst (λ ms. m ≡ get_or ms k m) reserved.messages c.index-message.ensures) in
+    let at = c.index_mut-receiver.result.now in
+    let found_to : slice_get w.replica_states m.to ≡ Some at = found_at w.replica_states m.to at (receiver_known w c.self.invariant k m found) c.index_mut-receiver.ensures.value in
+    let fits = message_fits w c.self.invariant k m found at found_to in
+    let wanted : (out : Out) (after : ReplicaState) → receives at (whole_of m) ≡ Some (out, after) → c.second_vote-vote.result ≡ option_and_then (vote_in m.instance at.own) (learnt_in out.said) =
+    λ out after is. c.second_vote-vote.ensures ∙ ap₂ (λ r o. option_and_then (vote_in m.instance r) o) fits.receivable.0.1 (c.in_ok-learnt.ensures out after is) in
+    vote_has_room w c.self.invariant k m found at found_to c.second_vote-vote.result wanted some
+
+pub take-requires-clause-spares : goal.take-requires-clause-spares
+take-requires-clause-spares c some =
+    let w : World = record { config = c.self.inside.config; replica_states = c.self.inside.replicas.items; messages = c.self.inside.journal.messages.items; learnt = c.self.inside.journal.learnt.items; count = c.self.inside.journal.count } in
+    let k = c.args.number in
+    let m = c.index-message.result.now in
+    let reserved = c.reserve.ensures in
+    let found : slice_get w.messages k ≡ Some m = found_at w.messages k m (subst (λ v. k < length v.messages) (sym c.self.view_is) c.requires.known) (subst (λ ms. m ≡ get_or ms k m) reserved.messages c.index-message.ensures) in
+    let at = c.index_mut-receiver.result.now in
+    let found_to : slice_get w.replica_states m.to ≡ Some at = found_at w.replica_states m.to at (receiver_known w c.self.invariant k m found) c.index_mut-receiver.ensures.value in
+    let fits = message_fits w c.self.invariant k m found at found_to in
+    let wanted : (out : Out) (after : ReplicaState) → receives at (whole_of m) ≡ Some (out, after) → c.second_vote-vote.result ≡ option_and_then (vote_in m.instance at.own) (learnt_in out.said) =
+    λ out after is. c.second_vote-vote.ensures ∙ ap₂ (λ r o. option_and_then (vote_in m.instance r) o) fits.receivable.0.1 (c.in_ok-learnt.ensures out after is) in
+    vote_spares w c.self.invariant k m found at found_to c.second_vote-vote.result wanted some
 
 pub invariant_of-self-in_err-out : goal.invariant_of-self-in_err-out
 invariant_of-self-in_err-out c =

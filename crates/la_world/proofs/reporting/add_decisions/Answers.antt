@@ -6,8 +6,8 @@ use Rattle.la_world.specs.declared.report.Decision.{Decision}
 use Rattle.la_world.specs.Outcomes.{decision_of}
 use Rattle.la_world.specs.Calls.{decision_by}
 use Rattle.la_world.proofs.Worlds.{found_at}
-use Rattle.la_world.proofs.world.add_decisions.Goals as goal
-use Rattle.la_world.proofs.world.add_decisions.Goals.{in-Some+in_ok-push, in_default}
+use Rattle.la_world.proofs.reporting.add_decisions.Goals as goal
+use Rattle.la_world.proofs.reporting.add_decisions.Goals.{in-Some+in_ok-push, in_default}
 
 pub loop-participant-preserved : goal.loop-participant-preserved
 loop-participant-preserved c =
