@@ -2,8 +2,9 @@
 ghost use Rattle.std.specs.Prelude.{◌≡◌, ◌+◌, ◌<◌, ◌^◌, IfOk, IfErr, OnOk, option_copied};
 ghost use Rattle.la_world.specs.Events.{Past};
 ghost use Rattle.la_world.specs.StandsFor.{StandsFor};
-ghost use Rattle.la_world.specs.Calls.{IsPlayable};
+ghost use Rattle.la_world.specs.Groups.{IsConfig};
 
+use la_commit::Outcome;
 use la_replica::Message;
 use la_set::UpdateSet;
 use la_world::{Config, Event, Learnt, Report, Step, Steps, World, WorldError, run};
@@ -18,7 +19,7 @@ fn new_worlds_are_one(
 ) -> (Result<World, WorldError>, Result<World, WorldError>)
     ensures worlds { IfOk result.0 (λ a. IfOk result.1 (λ b. a ≡ b)) }
     ensures alike { IfErr result.0 (λ d. IfErr result.1 (λ e. d ≡ e)) }
-    ensures playable { OnOk result.0 (IsPlayable config) }
+    ensures group { OnOk result.0 (IsConfig config) }
 {
     (World::new(alloc, config), World::new(alloc, config))
 }
@@ -50,7 +51,7 @@ fn runs_are_one(
 ) -> (Result<Report, WorldError>, Result<Report, WorldError>)
     ensures reports { IfOk result.0 (λ a. IfOk result.1 (λ b. a ≡ b)) }
     ensures alike { IfErr result.0 (λ d. IfErr result.1 (λ e. d ≡ e)) }
-    ensures playable { OnOk result.0 (IsPlayable config) }
+    ensures group { OnOk result.0 (IsConfig config) }
 {
     (run(alloc, config, events), run(alloc, config, events))
 }
@@ -77,6 +78,15 @@ fn view_is_exact(world: &World, replica: u8) -> (Option<&UpdateSet>, Option<&Upd
     ensures { option_copied result.0 ≡ option_copied result.1 }
 {
     (world.view(replica), world.view(replica))
+}
+
+fn outcome_is_exact(world: &World, commit: u8, replica: u8) -> (Option<Outcome>, Option<Outcome>)
+    ensures { result.0 ≡ result.1 }
+{
+    (
+        world.outcome(commit, replica),
+        world.outcome(commit, replica),
+    )
 }
 
 fn reports_are_one(world: &World, steps: Steps, same: Steps) -> Result<(Report, Report), AllocError>
