@@ -7,7 +7,7 @@ use Rattle.la_set.specs.Histories.{Histories}
 use Rattle.la_replica.specs.declared.message.Message as code
 use Rattle.la_world.specs.declared.config.Config.{Config}
 use Rattle.la_world.specs.declared.error.WorldError.{WorldError}
-use Rattle.la_world.specs.declared.error.WorldError.TheVariants.{BadConfig, NoSuchReplica, Full, NoSuchMessage, Memory}
+use Rattle.la_world.specs.declared.error.WorldError.TheVariants.{BadConfig, NoSuchReplica, Full, NoSuchMessage, NoSuchCommit, AlreadyProposed, Memory}
 use Rattle.la_world.specs.declared.error.Refusal.{Refusal}
 use Rattle.la_world.specs.declared.error.Refusal.TheVariants as named
 use Rattle.la_world.specs.declared.report.Line.TheVariants.{Done}
@@ -63,12 +63,18 @@ making_agrees c Memory Memory h k = refl
 making_agrees c NoSuchReplica e h k = absurd h
 making_agrees c Full e h k = absurd h
 making_agrees c NoSuchMessage e h k = absurd h
+making_agrees c NoSuchCommit e h k = absurd h
+making_agrees c AlreadyProposed e h k = absurd h
 making_agrees c BadConfig NoSuchReplica h k = absurd k
 making_agrees c BadConfig Full h k = absurd k
 making_agrees c BadConfig NoSuchMessage h k = absurd k
+making_agrees c BadConfig NoSuchCommit h k = absurd k
+making_agrees c BadConfig AlreadyProposed h k = absurd k
 making_agrees c Memory NoSuchReplica h k = absurd k
 making_agrees c Memory Full h k = absurd k
 making_agrees c Memory NoSuchMessage h k = absurd k
+making_agrees c Memory NoSuchCommit h k = absurd k
+making_agrees c Memory AlreadyProposed h k = absurd k
 
 pub makings_agree : {A B : Type 0} (c : Config) (a : Result A WorldError) (b : Result B WorldError) → IfErr a (IsMakingRefusal c) → IfErr b (IsMakingRefusal c) → IfErr a (λ d. IfErr b (λ e. d ≡ e))
 makings_agree c (Ok w) b h k = tt
@@ -81,13 +87,15 @@ error_of None = Memory
 error_of (Some named.NoSuchReplica) = NoSuchReplica
 error_of (Some named.Full) = Full
 error_of (Some named.NoSuchMessage) = NoSuchMessage
-error_of (Some named.NoSuchCommit) = BadConfig
-error_of (Some named.AlreadyProposed) = BadConfig
+error_of (Some named.NoSuchCommit) = NoSuchCommit
+error_of (Some named.AlreadyProposed) = AlreadyProposed
 
 refusal_is : (g : Group) (t : Trace) (v : Event) (e : WorldError) → IsPlayRefusal g t v e → e ≡ error_of (refused g t v)
 refusal_is g t v NoSuchReplica h = sym (ap error_of h)
 refusal_is g t v Full h = sym (ap error_of h)
 refusal_is g t v NoSuchMessage h = sym (ap error_of h)
+refusal_is g t v NoSuchCommit h = sym (ap error_of h)
+refusal_is g t v AlreadyProposed h = sym (ap error_of h)
 refusal_is g t v Memory h = sym (ap error_of h)
 refusal_is g t v BadConfig h = absurd h
 

@@ -155,7 +155,7 @@ fn scripts(alloc: Global) -> Option<bool> {
 }
 
 // A replica of a group of one learns its first vote, and casts the second.
-fn votes(alloc: Global) -> Option<bool> {
+fn second_vote(alloc: Global) -> Option<bool> {
     let mut replica = Replica::new(alloc, 1, 0, 10, 1, Votes::one_each(1)).ok()?;
     let vote = Op::Vote {
         value: 9,
@@ -187,7 +187,7 @@ fn callers_do_what_they_are_for(rt: HostRuntime) {
     assert!(rt; learning(alloc).or_else(|| learning(alloc)) == Some(true));
     assert!(rt; worlds(alloc).or_else(|| worlds(alloc)) == Some(true));
     assert!(rt; scripts(alloc).or_else(|| scripts(alloc)) == Some(true));
-    assert!(rt; votes(alloc).or_else(|| votes(alloc)) == Some(true));
+    assert!(rt; second_vote(alloc).or_else(|| second_vote(alloc)) == Some(true));
     assert!(rt; replicas(alloc).or_else(|| replicas(alloc)) == Some(true));
 }
 

@@ -7,5 +7,6 @@ mod laws;
 mod many;
 mod million;
 mod plays;
+mod proposals;
 mod runs;
 mod shown;

@@ -25,4 +25,5 @@ DecideTwice = (few : 3 ≤ 8) → report (three few 1) events ≡ record {
       ∷ [];
   learnt = [];
   views = nothing ∷ nothing ∷ nothing ∷ [];
+  outcomes = [];
 }

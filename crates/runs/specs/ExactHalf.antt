@@ -39,9 +39,10 @@ ExactHalf = (few : 3 ≤ 8) → report (half few) events ≡ record {
       ∷ done Counted 5 0
       ∷ done Counted 5 0
       ∷ done (Answered Yes) 5 1
-      ∷ done (Learnt (learning 6 (ballot 0 0 1 increment)) 2 None) 6 2
+      ∷ done (Learnt (learning 6 (ballot 0 0 1 increment)) 2 None None) 6 2
       ∷ [];
   learnt = learning 6 (ballot 0 0 1 increment)
       ∷ [];
   views = increment ∷ nothing ∷ nothing ∷ [];
+  outcomes = [];
 }

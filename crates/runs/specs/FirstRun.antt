@@ -30,9 +30,10 @@ FirstRun = (few : 3 ≤ 8) → report (three few 0) events ≡ record {
       ∷ done (Answered Yes) 3 1
       ∷ done (Answered Yes) 4 1
       ∷ done Counted 5 0
-      ∷ done (Learnt (learning 4 (ballot 0 0 1 increment)) 2 None) 5 2
+      ∷ done (Learnt (learning 4 (ballot 0 0 1 increment)) 2 None None) 5 2
       ∷ [];
   learnt = learning 4 (ballot 0 0 1 increment)
       ∷ [];
   views = increment ∷ nothing ∷ nothing ∷ [];
+  outcomes = [];
 }

@@ -1,9 +1,11 @@
 -- A second participant proposes another value once the first has learnt in both instances.
 use Rattle.std.specs.Prelude.{◌≡◌, ◌≤◌, List, [], ◌∷◌}
 use Rattle.la_acceptor.specs.declared.reply.Reply.TheVariants.{Yes, No}
+use Rattle.la_commit.specs.declared.outcome.Outcome.TheVariants.{Commit, Adopt}
 use Rattle.la_world.specs.declared.step.Did.TheVariants.{Opened, Answered, Counted, Refined}
 use Rattle.la_world.specs.Events.{Event, Deliver, Decide}
 use Rattle.la_world.specs.Learnings.{learning}
+use Rattle.la_world.specs.Outcomes.{decision_of}
 use Rattle.la_world.specs.Report.{report}
 use Rattle.runs.specs.Words.{three, nothing, ballot, learnt_then, learnt_last, done}
 use Rattle.runs.specs.VoteSets.{seven, nine, both, sole_seven, sole_seven_and_nine}
@@ -50,7 +52,7 @@ LateDissenter = (few : 3 ≤ 8) → report (three few 1) events ≡ record {
       ∷ done (Answered Yes) 8 1
       ∷ done (Answered Yes) 9 1
       ∷ done Counted 10 0
-      ∷ done (learnt_last 8 (ballot 0 2 1 sole_seven)) 10 0
+      ∷ done (learnt_last 8 (ballot 0 2 1 sole_seven) (Commit 7)) 10 0
       ∷ done (Opened (ballot 1 1 1 nine)) 10 3
       ∷ done (Answered (No both)) 13 1
       ∷ done (Answered Yes) 14 1
@@ -67,7 +69,7 @@ LateDissenter = (few : 3 ≤ 8) → report (three few 1) events ≡ record {
       ∷ done (Answered Yes) 28 1
       ∷ done (Answered Yes) 29 1
       ∷ done Counted 30 0
-      ∷ done (learnt_last 25 (ballot 1 2 2 sole_seven_and_nine)) 30 0
+      ∷ done (learnt_last 25 (ballot 1 2 2 sole_seven_and_nine) (Adopt 7)) 30 0
       ∷ [];
   learnt = learning 4 (ballot 0 1 1 seven)
       ∷ learning 8 (ballot 0 2 1 sole_seven)
@@ -75,4 +77,7 @@ LateDissenter = (few : 3 ≤ 8) → report (three few 1) events ≡ record {
       ∷ learning 25 (ballot 1 2 2 sole_seven_and_nine)
       ∷ [];
   views = nothing ∷ nothing ∷ nothing ∷ [];
+  outcomes = decision_of 0 0 (Commit 7)
+      ∷ decision_of 0 1 (Adopt 7)
+      ∷ [];
 }

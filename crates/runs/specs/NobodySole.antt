@@ -1,9 +1,11 @@
 -- Two values, and both participants see both.
 use Rattle.std.specs.Prelude.{◌≡◌, ◌≤◌, List, [], ◌∷◌}
 use Rattle.la_acceptor.specs.declared.reply.Reply.TheVariants.{Yes, No}
+use Rattle.la_commit.specs.declared.outcome.Outcome.TheVariants.{Adopt}
 use Rattle.la_world.specs.declared.step.Did.TheVariants.{Opened, Answered, Counted, Refined}
 use Rattle.la_world.specs.Events.{Event, Deliver, Decide}
 use Rattle.la_world.specs.Learnings.{learning}
+use Rattle.la_world.specs.Outcomes.{decision_of}
 use Rattle.la_world.specs.Report.{report}
 use Rattle.runs.specs.Words.{three, nothing, ballot, learnt_then, learnt_last, done}
 use Rattle.runs.specs.VoteSets.{seven, nine, both}
@@ -67,7 +69,7 @@ NobodySole = (few : 3 ≤ 8) → report (three few 1) events ≡ record {
       ∷ done (Answered Yes) 26 1
       ∷ done (Answered Yes) 27 1
       ∷ done Counted 28 0
-      ∷ done (learnt_last 21 (ballot 0 2 1 seven)) 28 0
+      ∷ done (learnt_last 21 (ballot 0 2 1 seven) (Adopt 7)) 28 0
       ∷ done (Answered (No both)) 28 1
       ∷ done (Answered Yes) 29 1
       ∷ done Counted 30 0
@@ -75,7 +77,7 @@ NobodySole = (few : 3 ≤ 8) → report (three few 1) events ≡ record {
       ∷ done (Answered Yes) 33 1
       ∷ done (Answered Yes) 34 1
       ∷ done Counted 35 0
-      ∷ done (learnt_last 29 (ballot 1 2 2 both)) 35 0
+      ∷ done (learnt_last 29 (ballot 1 2 2 both) (Adopt 9)) 35 0
       ∷ [];
   learnt = learning 13 (ballot 0 1 2 both)
       ∷ learning 17 (ballot 1 1 2 both)
@@ -83,4 +85,7 @@ NobodySole = (few : 3 ≤ 8) → report (three few 1) events ≡ record {
       ∷ learning 29 (ballot 1 2 2 both)
       ∷ [];
   views = nothing ∷ nothing ∷ nothing ∷ [];
+  outcomes = decision_of 0 0 (Adopt 7)
+      ∷ decision_of 0 1 (Adopt 9)
+      ∷ [];
 }

@@ -2,9 +2,11 @@
 use Rattle.std.specs.Prelude.{◌≡◌, ◌≤◌, List, [], ◌∷◌, true, false}
 use Rattle.la_set.specs.Histories.{Histories}
 use Rattle.la_acceptor.specs.declared.reply.Reply.TheVariants.{Yes}
+use Rattle.la_commit.specs.declared.outcome.Outcome.TheVariants.{Commit}
 use Rattle.la_world.specs.declared.step.Did.TheVariants.{Opened, Answered, Counted}
 use Rattle.la_world.specs.Events.{Event, Deliver, Decide}
 use Rattle.la_world.specs.Learnings.{learning}
+use Rattle.la_world.specs.Outcomes.{decision_of}
 use Rattle.la_world.specs.Report.{report}
 use Rattle.runs.specs.Words.{three, vote, these, nothing, ballot, learnt_then, learnt_last, done}
 
@@ -40,10 +42,12 @@ OneValueAlone = (few : 3 ≤ 8) → report (three few 2) events ≡ record {
       ∷ done (Answered Yes) 8 1
       ∷ done (Answered Yes) 9 1
       ∷ done Counted 10 0
-      ∷ done (learnt_last 8 (ballot 1 4 1 sole_nine)) 10 0
+      ∷ done (learnt_last 8 (ballot 1 4 1 sole_nine) (Commit 9)) 10 0
       ∷ [];
   learnt = learning 4 (ballot 1 3 1 nine)
       ∷ learning 8 (ballot 1 4 1 sole_nine)
       ∷ [];
   views = nothing ∷ nothing ∷ nothing ∷ [];
+  outcomes = decision_of 1 1 (Commit 9)
+      ∷ [];
 }

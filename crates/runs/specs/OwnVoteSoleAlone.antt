@@ -1,9 +1,11 @@
 -- A sole vote, and a second set with another vote beside it.
 use Rattle.std.specs.Prelude.{◌≡◌, ◌≤◌, List, [], ◌∷◌}
 use Rattle.la_acceptor.specs.declared.reply.Reply.TheVariants.{Yes, No}
+use Rattle.la_commit.specs.declared.outcome.Outcome.TheVariants.{Adopt}
 use Rattle.la_world.specs.declared.step.Did.TheVariants.{Opened, Answered, Counted, Refined}
 use Rattle.la_world.specs.Events.{Event, Deliver, Decide}
 use Rattle.la_world.specs.Learnings.{learning}
+use Rattle.la_world.specs.Outcomes.{decision_of}
 use Rattle.la_world.specs.Report.{report}
 use Rattle.runs.specs.Words.{three, nothing, ballot, learnt_then, learnt_last, done}
 use Rattle.runs.specs.VoteSets.{seven, nine, both, sole_seven, sole_seven_and_nine}
@@ -61,11 +63,13 @@ OwnVoteSoleAlone = (few : 3 ≤ 8) → report (three few 1) events ≡ record {
       ∷ done (Answered Yes) 27 1
       ∷ done (Answered Yes) 28 1
       ∷ done Counted 29 0
-      ∷ done (learnt_last 22 (ballot 0 2 2 sole_seven_and_nine)) 29 0
+      ∷ done (learnt_last 22 (ballot 0 2 2 sole_seven_and_nine) (Adopt 7)) 29 0
       ∷ [];
   learnt = learning 4 (ballot 0 1 1 seven)
       ∷ learning 13 (ballot 1 1 2 both)
       ∷ learning 22 (ballot 0 2 2 sole_seven_and_nine)
       ∷ [];
   views = nothing ∷ nothing ∷ nothing ∷ [];
+  outcomes = decision_of 0 0 (Adopt 7)
+      ∷ [];
 }

@@ -3,11 +3,13 @@
 use Rattle.std.specs.Prelude.{◌≡◌, ◌≤◌, List, [], ◌∷◌, true, false}
 use Rattle.la_set.specs.Histories.{Histories}
 use Rattle.la_acceptor.specs.declared.reply.Reply.TheVariants.{Yes}
+use Rattle.la_commit.specs.declared.outcome.Outcome.TheVariants.{Commit}
 use Rattle.la_world.specs.declared.error.Refusal.TheVariants.{AlreadyProposed}
 use Rattle.la_world.specs.declared.report.Line.TheVariants.{Refused}
 use Rattle.la_world.specs.declared.step.Did.TheVariants.{Opened, Answered}
 use Rattle.la_world.specs.Events.{Event, Deliver, Decide}
 use Rattle.la_world.specs.Learnings.{learning}
+use Rattle.la_world.specs.Outcomes.{decision_of}
 use Rattle.la_world.specs.Report.{report}
 use Rattle.runs.specs.Words.{single, vote, these, ballot, learnt_then, learnt_last, done}
 
@@ -37,7 +39,7 @@ ProposedForGood = (few : 1 ≤ 8) → report (single few 1) events ≡ record {
       ∷ done (Answered Yes) 1 1
       ∷ done (learnt_then 2 (ballot 0 1 1 seven) (ballot 0 2 1 sole_seven)) 2 1
       ∷ done (Answered Yes) 3 1
-      ∷ done (learnt_last 4 (ballot 0 2 1 sole_seven)) 4 0
+      ∷ done (learnt_last 4 (ballot 0 2 1 sole_seven) (Commit 7)) 4 0
       ∷ Refused AlreadyProposed
       ∷ Refused AlreadyProposed
       ∷ [];
@@ -45,4 +47,6 @@ ProposedForGood = (few : 1 ≤ 8) → report (single few 1) events ≡ record {
       ∷ learning 4 (ballot 0 2 1 sole_seven)
       ∷ [];
   views = these ([] ∷ []) ∷ [];
+  outcomes = decision_of 0 0 (Commit 7)
+      ∷ [];
 }

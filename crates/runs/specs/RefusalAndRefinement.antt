@@ -43,4 +43,5 @@ RefusalAndRefinement = (few : 3 ≤ 8) → report (three few 0) events ≡ recor
       ∷ [];
   learnt = [];
   views = nothing ∷ nothing ∷ nothing ∷ [];
+  outcomes = [];
 }

@@ -32,4 +32,5 @@ RefusalOrder = (few : 3 ≤ 8) → report (three few 1) events ≡ record {
       ∷ [];
   learnt = [];
   views = nothing ∷ nothing ∷ nothing ∷ [];
+  outcomes = [];
 }

@@ -52,13 +52,14 @@ RemoveOfALearntAdd = (few : 1 ≤ 8) → report (single few 0) events ≡ record
   steps =
       done (Opened (ballot 0 0 1 added)) 0 1
       ∷ done (Answered Yes) 1 1
-      ∷ done (Learnt first 0 None) 2 0
+      ∷ done (Learnt first 0 None None) 2 0
       ∷ done (Opened (ballot 0 0 2 added_and_removed)) 2 1
       ∷ done (Answered Yes) 3 1
-      ∷ done (Learnt second 0 None) 4 0
+      ∷ done (Learnt second 0 None None) 4 0
       ∷ [];
   learnt = first ∷ second ∷ [];
   views = added_and_removed ∷ [];
+  outcomes = [];
 }
 
 -- ## The events in two parts, the newest first

@@ -2,9 +2,11 @@
 use Rattle.std.specs.Prelude.{◌≡◌, ◌≤◌, List, [], ◌∷◌, Bool, true, false}
 use Rattle.la_set.specs.Histories.{Histories}
 use Rattle.la_acceptor.specs.declared.reply.Reply.TheVariants.{Yes, No}
+use Rattle.la_commit.specs.declared.outcome.Outcome.TheVariants.{Commit}
 use Rattle.la_world.specs.declared.step.Did.TheVariants.{Opened, Answered, Counted, Refined}
 use Rattle.la_world.specs.Events.{Event, Deliver, Decide}
 use Rattle.la_world.specs.Learnings.{learning}
+use Rattle.la_world.specs.Outcomes.{decision_of}
 use Rattle.la_world.specs.Report.{report}
 use Rattle.runs.specs.Words.{three, vote, these, nothing, ballot, learnt_then, learnt_last, done}
 
@@ -106,14 +108,14 @@ Unanimous = (few : 3 ≤ 8) → report (three few 1) events ≡ record {
       ∷ done (Answered Yes) 35 1
       ∷ done (Answered Yes) 36 1
       ∷ done Counted 37 0
-      ∷ done (learnt_last 27 (ballot 0 2 1 (by_0 true))) 37 0
+      ∷ done (learnt_last 27 (ballot 0 2 1 (by_0 true)) (Commit 7)) 37 0
       ∷ done (Answered (No (by_0_and_1 true))) 37 1
       ∷ done Counted 38 0
       ∷ done (Refined (ballot 1 2 2 (by_0_and_1 true))) 38 3
       ∷ done (Answered Yes) 41 1
       ∷ done (Answered Yes) 42 1
       ∷ done Counted 43 0
-      ∷ done (learnt_last 34 (ballot 1 2 2 (by_0_and_1 true))) 43 0
+      ∷ done (learnt_last 34 (ballot 1 2 2 (by_0_and_1 true)) (Commit 7)) 43 0
       ∷ done (Answered (No (by_1_and_2 true))) 43 1
       ∷ done (Answered (No (by_all true))) 44 1
       ∷ done Counted 45 0
@@ -121,7 +123,7 @@ Unanimous = (few : 3 ≤ 8) → report (three few 1) events ≡ record {
       ∷ done (Answered Yes) 48 1
       ∷ done (Answered Yes) 49 1
       ∷ done Counted 50 0
-      ∷ done (learnt_last 42 (ballot 2 2 2 (by_all true))) 50 0
+      ∷ done (learnt_last 42 (ballot 2 2 2 (by_all true)) (Commit 7)) 50 0
       ∷ [];
   learnt = learning 6 (ballot 0 1 1 (by_0 false))
       ∷ learning 14 (ballot 1 1 2 (by_0_and_1 false))
@@ -131,4 +133,8 @@ Unanimous = (few : 3 ≤ 8) → report (three few 1) events ≡ record {
       ∷ learning 42 (ballot 2 2 2 (by_all true))
       ∷ [];
   views = nothing ∷ nothing ∷ nothing ∷ [];
+  outcomes = decision_of 0 0 (Commit 7)
+      ∷ decision_of 0 1 (Commit 7)
+      ∷ decision_of 0 2 (Commit 7)
+      ∷ [];
 }

@@ -2,8 +2,8 @@
 //! does, what is learnt, and the views at the end.
 //!
 //! Each function here has an empty body, and a contract that says: the report of these events in
-//! this group is this one. A reader can check the definitions by them: eight runs have proposals,
-//! and four others submissions alone. Runs as scripts are rows of the program.
+//! this group is this one. A reader can check the definitions by them. They are those
+//! of proposals and of what is returned, and four others.
 #![tactic(auto)]
 
 ghost use Rattle.runs.specs.ByReplicas.{LateDissenterByReplicas};

@@ -18,7 +18,7 @@ use Rattle.la_world.specs.Ballots.{only, learnt_by}
 use Rattle.la_world.specs.Views.{set_of, told_to, seen_at, seen, view}
 use Rattle.la_world.specs.Playing.{trace}
 use Rattle.la_world.specs.Learnings.{learning, learning_of, learnt}
-use Rattle.la_world.specs.Report.{report, views}
+use Rattle.la_world.specs.Report.{report, views, accepted_among}
 use Rattle.la_world.specs.Laws.{AreComparable, LearntAreComparable, ViewsAreComparable, ViewsAreLargest, CommitsAgree, ReturnsAreProposed, ReportedOutcomesAreSafe}
 use Rattle.uses.specs.Promises.{AreAllComparable, AreOneHistory, ViewsHoldTheirOwn, accepted}
 
@@ -98,6 +98,6 @@ pub run_agrees : ReportedOutcomesAreSafe → (c : Config) (events : List Event) 
 run_agrees law c events (Ok made) e is = subst (λ (m : Report). CommitsAgree m.outcomes) (sym e) (law c events is).agree
 run_agrees law c events (Err d) e is = tt
 
-pub run_returns_proposed : ReportedOutcomesAreSafe → (c : Config) (events : List Event) (r : Result Report WorldError) → IfOk r (λ made. made ≡ report c events) → OnOk r (IsConfig c) → IfOk r (λ (made : Report). ReturnsAreProposed (accepted c events) made.outcomes)
-run_returns_proposed law c events (Ok made) e is = subst (λ (m : Report). ReturnsAreProposed (accepted c events) m.outcomes) (sym e) (law c events is).proposed
+pub run_returns_proposed : ReportedOutcomesAreSafe → (c : Config) (events : List Event) (r : Result Report WorldError) → IfOk r (λ made. made ≡ report c events) → OnOk r (IsConfig c) → IfOk r (λ (made : Report). ReturnsAreProposed (accepted_among events made.steps) made.outcomes)
+run_returns_proposed law c events (Ok made) e is = subst (λ (m : Report). ReturnsAreProposed (accepted_among events m.steps) m.outcomes) (sym e) (law c events is).proposed
 run_returns_proposed law c events (Err d) e is = tt

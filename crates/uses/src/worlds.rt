@@ -1,6 +1,6 @@
 ghost use Rattle.std.specs.Prelude.{◌≡◌, map, IfOk, IfErr};
 ghost use Rattle.la_world.specs.Events.{event_of};
-ghost use Rattle.la_world.specs.Report.{report};
+ghost use Rattle.la_world.specs.Report.{report, accepted_among};
 ghost use Rattle.la_world.specs.Calls.{IsMakingRefusal};
 ghost use Rattle.uses.specs.Promises.{AreAllComparable, AreOneHistory, ViewsHoldTheirOwn};
 
@@ -62,19 +62,14 @@ pub fn shown(made: &Report, replica: u8) -> Option<&UpdateSet>
 
 // ---- adopt-commit
 ghost use Rattle.la_world.specs.Laws.{CommitsAgree, ReturnsAreProposed};
-ghost use Rattle.uses.specs.Promises.{accepted};
 
 /// Plays a list of events, proposals among them. Where one participant of an adopt-commit object
 /// commits a value, each participant of it that returns has this value; and each value that is
 /// returned was proposed to the object, by an event that was accepted.
-pub fn play_proposals(
-    alloc: Global,
-    config: Config,
-    events: &[Event],
-) -> Result<Report, WorldError>
+pub fn play_proposals(alloc: Global, config: Config, events: &[Event]) -> Result<Report, WorldError>
     ensures agree { IfOk result (λ made. CommitsAgree made.outcomes) }
     ensures proposed { IfOk result (λ made.
-        ReturnsAreProposed (accepted config (map event_of events.now)) made.outcomes) }
+        ReturnsAreProposed (accepted_among (map event_of events.now) made.steps) made.outcomes) }
     ensures error { IfErr result (IsMakingRefusal config) }
 {
     laws::reported_outcomes_are_safe();

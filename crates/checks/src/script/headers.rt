@@ -13,7 +13,12 @@ const BAD: ScriptFault = ScriptFault {
 // replica may submit.
 const GROUPS: [(&[u8], u8, u8, u32); 6] = [
     (b"lattice 1\nreplicas 1 commits 0 cap 1", 1, 0, 1),
-    (b"lattice 1\nreplicas 1 commits 0 cap 1000000\n", 1, 0, 1000000),
+    (
+        b"lattice 1\nreplicas 1 commits 0 cap 1000000\n",
+        1,
+        0,
+        1000000,
+    ),
     (b"lattice 1\nreplicas 8 commits 0 cap 1\n# x\n\n", 8, 0, 1),
     (
         b"lattice 1\nreplicas 8 commits 0 cap 1000000\n\n",

@@ -5,21 +5,26 @@ use la_world::{Config, World, WorldError, run};
 use std::alloc::Global;
 
 // Replicas, adopt-commit objects and cap, where there are votes for three replicas.
-const OUT_OF_RANGE: [(u8, u8, u32); 11] = [
+const OUT_OF_RANGE: [(u8, u8, u32); 10] = [
     (0, 0, 10),
     (2, 0, 10),
     (4, 0, 10),
     (9, 0, 10),
     (255, 0, 10),
-    (3, 1, 10),
-    (3, 16, 10),
     (3, 17, 10),
+    (3, 255, 10),
     (3, 0, 0),
     (3, 0, 1_000_001),
     (3, 0, 4_294_967_295),
 ];
 
-const IN_RANGE: [(u8, u32); 3] = [(1, 1_000_000), (8, 1), (3, 10)];
+const IN_RANGE: [(u8, u8, u32); 5] = [
+    (1, 0, 1_000_000),
+    (8, 16, 1),
+    (3, 0, 10),
+    (3, 1, 10),
+    (3, 16, 10),
+];
 
 fn refusals(alloc: Global, config: Config) -> (Option<WorldError>, Option<WorldError>) {
     (
@@ -47,11 +52,11 @@ fn no_world_has_a_value_out_of_its_range(rt: HostRuntime) {
 
 #[test]
 fn the_ends_of_the_ranges_are_taken(rt: HostRuntime) {
-    for (replicas, cap) in IN_RANGE {
+    for (replicas, commits, cap) in IN_RANGE {
         assert!(rt; replicas >= 1 && replicas <= 8);
         let config = Config {
             replicas,
-            commits: 0,
+            commits,
             cap,
             votes: Votes::one_each(replicas),
         };

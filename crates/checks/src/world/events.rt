@@ -12,6 +12,8 @@ pub enum Act {
     Remove(u8, u32),
     Mark(u8),
     Deliver(u64),
+    // Of a replica, to an object, and the value.
+    Decide(u8, u8, u64),
 }
 
 fn tags_of(alloc: Global, count: u32) -> Result<Tags, WorldError> {
@@ -34,6 +36,13 @@ pub fn event_of(alloc: Global, act: Act) -> Result<Event, WorldError> {
         Act::Remove(replica, count) => (replica, Op::Remove(tags_of(alloc, count)?)),
         Act::Mark(replica) => (replica, Op::Mark),
         Act::Deliver(number) => return Ok(Event::Deliver(number)),
+        Act::Decide(replica, commit, value) => {
+            return Ok(Event::Decide {
+                replica,
+                commit,
+                value,
+            });
+        }
     };
     Ok(Event::Submit {
         replica,

@@ -89,6 +89,15 @@ fn view_is_exact(world: &World, replica: u8) -> (Option<&UpdateSet>, Option<&Upd
     (world.view(replica), world.view(replica))
 }
 
+fn outcome_is_exact(world: &World, commit: u8, replica: u8) -> (Option<Outcome>, Option<Outcome>)
+    ensures { result.0 ≡ result.1 }
+{
+    (
+        world.outcome(commit, replica),
+        world.outcome(commit, replica),
+    )
+}
+
 fn reports_are_one(world: &World, steps: Steps, same: Steps) -> Result<(Report, Report), AllocError>
     requires { steps ≡ same }
     ensures { IfOk result (λ both. both.0 ≡ both.1) }

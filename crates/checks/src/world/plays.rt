@@ -56,6 +56,8 @@ fn shown(answer: Result<Step, WorldError>) -> Option<Row> {
         Err(WorldError::NoSuchReplica) => refused(Refusal::NoSuchReplica),
         Err(WorldError::Full) => refused(Refusal::Full),
         Err(WorldError::NoSuchMessage) => refused(Refusal::NoSuchMessage),
+        Err(WorldError::NoSuchCommit) => refused(Refusal::NoSuchCommit),
+        Err(WorldError::AlreadyProposed) => refused(Refusal::AlreadyProposed),
         Err(_) => None,
     }
 }

@@ -64,7 +64,12 @@ fn did_of(did: &Did) -> Shown {
         Did::Counted => Shown::Counted,
         Did::Ignored => Shown::Ignored,
         Did::Refined(opening) if opening.instance == 0 => Shown::Refined(ballot_of(opening)),
-        Did::Learnt { learnt, told, next } if learnt.instance == 0 => {
+        Did::Learnt {
+            learnt,
+            told,
+            next,
+            ..
+        } if learnt.instance == 0 => {
             Shown::Learnt(learnt_of(learnt), *told, next.as_ref().map(ballot_of))
         }
         Did::Took(updates) => Shown::Took(counts_of(updates)),
