@@ -68,15 +68,6 @@ fn sent_is_exact(world: &World) -> (u64, u64)
     (world.sent(), world.sent())
 }
 
-fn outcome_is_exact(world: &World, commit: u8, replica: u8) -> (Option<Outcome>, Option<Outcome>)
-    ensures { result.0 ≡ result.1 }
-{
-    (
-        world.outcome(commit, replica),
-        world.outcome(commit, replica),
-    )
-}
-
 fn message_is_exact(world: &World, number: u64) -> (Option<&Message>, Option<&Message>)
     ensures { option_copied result.0 ≡ option_copied result.1 }
 {
