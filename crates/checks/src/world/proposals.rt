@@ -1,5 +1,5 @@
 // Runs with proposals, from tables: what is learnt, refused and returned, by `run` and event by
-// event. The tables were made by hand from the rules.
+// event. What the last two tables expect was worked out by hand from the rules.
 use super::events::Act::{self, Decide, Deliver};
 use super::events::event_of;
 use super::plays::{act, play, voters, world_of};
