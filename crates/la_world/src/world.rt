@@ -7,13 +7,13 @@ ghost use Rattle.la_replica.specs.declared.replica.TheConstants.{MAX_COMMITS};
 ghost use Rattle.la_replica.specs.Whole.{Out, whole_of};
 ghost use Rattle.la_replica.specs.ReplicaState.{ReplicaState, receives};
 ghost use Rattle.la_replica.specs.Steps.{learnt_in};
-ghost use Rattle.la_world.specs.Events.{Event as EventOf, Past, Submit, Deliver, Decide};
+ghost use Rattle.la_world.specs.Events.{Event as EventOf, Past, Submit, Deliver, Decide, Ask};
 ghost use Rattle.la_world.specs.Events.{submission_of, event_of};
-ghost use Rattle.la_world.specs.Groups.{group_of};
 ghost use Rattle.la_world.specs.Printable.{IsPrintable};
-ghost use Rattle.la_world.specs.StandsFor.{StandsFor, trace_in, sent_in, refused_in};
+ghost use Rattle.la_world.specs.StandsFor.{StandsFor, group_in, trace_in, sent_in, refused_in};
 ghost use Rattle.la_world.specs.Groups.{IsConfig};
-ghost use Rattle.la_world.specs.Calls.{IsMakingRefusal, replica_states_at_start};
+ghost use Rattle.la_world.specs.Calls.{IsGroup, IsMakingRefusal, replica_states_at_start};
+ghost use Rattle.la_world.specs.Calls.{Keeps, may_absorb, IsSameUnless, tags_of, IsTagsRefusal};
 ghost use Rattle.la_world.specs.Calls.{Plays, IsAllowed, Refuses, StandsForMessage};
 ghost use Rattle.la_world.specs.Calls.{submitted_at, view_at, view_in, view_of};
 ghost use Rattle.la_world.specs.Calls.{IsSubmission, decisions_in};
@@ -24,11 +24,13 @@ ghost use Rattle.la_world.specs.Laws.{IsAdoptCommit};
 use crate::journal::Journal;
 use crate::participant::{opening_instance, outcome_by, returned, second_vote, take};
 use crate::reporting::{add_decisions, copy_learnings, copy_views};
+use crate::shelves::are_unused;
 use crate::speaker::Speaker;
 use crate::{Config, Decisions, Event, Learnings, Report, Step, Steps, Views, WorldError};
 use la_commit::{Fresh, Outcome};
+use la_object::{Query, Replicated, Shelf, ShelfError};
 use la_replica::{Message, Replica};
-use la_set::{Op, UpdateSet};
+use la_set::{Op, Tags, UpdateSet};
 use std::alloc::{AllocError, Global};
 use std::marker::Model;
 
@@ -37,62 +39,78 @@ use std::marker::Model;
 ///
 /// It keeps every message and every learnt set, so its memory grows by what is sent and learnt: by
 /// an entry for each, since sets share their updates.
+///
+/// Each replica has a shelf of objects, which its view is absorbed by when they are asked.
 #[derive(Drop)]
-pub struct World {
+pub struct World<B: Replicated> {
     config: Config,
     replicas: Vec<Replica>,
+    shelves: Vec<Shelf<B>>,
     journal: Journal,
 }
 
-impl Model for World {
+impl<B: Replicated> Model for World<B> {
     ghost use Rattle.la_world.specs.StandsFor.{World, world_of};
     ghost use Rattle.la_world.specs.Calls.{HoldsInvariant};
 
     ghost Value = { World };
 
-    ghost view = { λ w. world_of w.config w.replicas.items w.journal };
+    ghost view = { λ w. world_of w.config w.replicas.items w.shelves.items w.journal };
 
-    ghost invariant = { λ w. HoldsInvariant (world_of w.config w.replicas.items w.journal) };
+    ghost invariant = { λ w. HoldsInvariant
+        (world_of w.config w.replicas.items w.shelves.items w.journal) };
 }
 
-impl World {
-    /// A group in which nothing has happened.
+impl<B: Replicated> World<B> {
+    /// A group in which nothing has happened, with a shelf for each replica, from 0 on.
     ///
-    /// `BadConfig` comes exactly where a value is out of its range, or there are votes for another
-    /// number of replicas; else `Memory`.
-    pub fn new(alloc: Global, config: Config) -> Result<World, WorldError>
+    /// `BadConfig` comes exactly where a value is out of its range, there are votes for another
+    /// number of replicas, there are not as many shelves as replicas, or one of them has absorbed
+    /// something; else `Memory`. After a refusal the shelves are dropped.
+    pub fn new(alloc: Global, config: Config, shelves: Vec<Shelf<B>>)
+        -> Result<World<B>, WorldError>
         ensures config { IfOk result (λ world. world.config ≡ config) }
+        ensures shelves { IfOk result (λ world. world.shelves ≡ shelves.items) }
         ensures stands { IfOk result (λ world. StandsFor world []) }
-        ensures group { OnOk result (IsConfig config) }
-        ensures error { IfErr result (IsMakingRefusal config) }
+        ensures group { OnOk result (IsGroup config shelves.items) }
+        ensures error { IfErr result (IsMakingRefusal config shelves.items) }
     {
-        if !config.is_group() {
+        let shelves_fit = shelves.len() == config.replicas as usize && are_unused(&shelves);
+        if !config.is_group() || !shelves_fit {
             return Err(WorldError::BadConfig);
         }
         Ok(World {
             config,
             replicas: start(alloc, config)?,
+            shelves,
             journal: Journal::new(alloc),
         })
     }
 
-    /// Plays an event: a replica submits, a message that was sent is delivered, or a replica
-    /// proposes a value to an adopt-commit object.
+    /// Plays an event: a replica submits, a message that was sent is delivered, a replica proposes a
+    /// value to an adopt-commit object, or an object on a replica's shelf is asked.
     ///
     /// A submission is refused with `NoSuchReplica` where the group has no such replica, and else
     /// with `Full` where it has submitted its cap; a delivery with `NoSuchMessage` where fewer
     /// messages were sent; a proposal with `NoSuchReplica`, else with `NoSuchCommit` where the
     /// group has no such object, else with `AlreadyProposed` where this replica has proposed to it.
-    /// `Memory` comes where none of these fits. After each the world is as before. Fewer than
-    /// 2^64 - 1 events may be accepted.
+    /// A question is refused with `NoSuchReplica`, else with `NoSuchObject` where no object stands
+    /// under the number on the replica's shelf. `Memory` comes where none of these fits. After each
+    /// the world is as before; but after `Memory` at a question the shelf may have absorbed some of
+    /// its replica's view, by which no later answer differs. Fewer than 2^64 - 1 events may be
+    /// accepted.
     ///
     /// A replica that learns a set in the first instance of an adopt-commit object casts its second
     /// vote in the same step; by the set that it learns in the second one it returns its outcome.
     ///
+    /// At a question the shelf absorbs the replica's view, and the answer is the query's value over
+    /// that. It is an event as any other: it takes a place.
+    ///
     /// The cost is that of the replica's step, in which no updates are compared: what was sent fits
     /// all that its receiver knows. Sets that are sent, said, learnt and kept share their updates,
     /// so that an event takes memory for what it adds: one update for a submission or a vote, its
-    /// mail, and a learning's entry. A second vote also costs a copy of two instances.
+    /// mail, and a learning's entry. A second vote also costs a copy of two instances. A question
+    /// costs what the view has gained since the last one to this replica, and the answer.
     pub fn play(&mut self, event: &Event) -> Result<Step, WorldError>
         requires { self.old.count + 1 < 2 ^ 64 }
         ensures step { (events : Past) → StandsFor self.old events →
@@ -100,7 +118,9 @@ impl World {
         ensures printable { IfOk result IsPrintable }
         ensures error { (events : Past) → StandsFor self.old events →
             IfErr result (Refuses self.old events (event_of event.now)) }
-        ensures err { OnErr result (self.new ≡ self.old) }
+        ensures keeps { OnErr result (Keeps self.old self.new) }
+        ensures err { IfErr result (λ e.
+            IsSameUnless (may_absorb (event_of event.now) e) self.old self.new) }
     {
         match event {
             Event::Submit {
@@ -114,6 +134,53 @@ impl World {
                 commit,
                 value,
             } => self.decide(*replica, *commit, *value),
+            Event::Ask {
+                replica,
+                object,
+                query,
+            } => self.ask(*replica, *object, query),
+        }
+    }
+
+    fn ask(&mut self, replica: u8, object: u16, query: &Query) -> Result<Step, WorldError>
+        requires { self.old.count + 1 < 2 ^ 64 }
+        ensures step { (events : Past) → StandsFor self.old events → IfOk result (λ step.
+            Plays self.old events (Ask replica object query.now) step self.new) }
+        ensures printable { IfOk result IsPrintable }
+        ensures error { (events : Past) → StandsFor self.old events →
+            IfErr result (Refuses self.old events (Ask replica object query.now)) }
+        ensures keeps { OnErr result (Keeps self.old self.new) }
+        ensures err { IfErr result (λ e.
+            IsSameUnless (may_absorb (Ask replica object query.now) e) self.old self.new) }
+    {
+        self.admit_question(replica, object)?;
+        self.follow_view(replica)?;
+        let Ok(answer) = self.shelves[replica as usize].ask(object, query) else {
+            return Err(WorldError::Memory);
+        };
+        Ok(self.journal.note_answer(answer))
+    }
+
+    // Whether a replica's shelf may be asked for an object: by the first refusal that fits.
+    fn admit_question(&self, replica: u8, object: u16) -> Result<(), WorldError>
+    {
+        let Some(shelf) = self.shelves.get(replica as usize) else {
+            return Err(WorldError::NoSuchReplica);
+        };
+        if !shelf.has(object) {
+            return Err(WorldError::NoSuchObject);
+        }
+        Ok(())
+    }
+
+    // Lets a replica's shelf absorb its view.
+    fn follow_view(&mut self, replica: u8) -> Result<(), AllocError>
+    {
+        let view = self.replicas[replica as usize].view();
+        // The view has all that the shelf has absorbed, so that only memory is left.
+        match self.shelves[replica as usize].absorb_compatible(view) {
+            Ok(_) => Ok(()),
+            Err(_) => Err(AllocError),
         }
     }
 
@@ -310,9 +377,33 @@ impl World {
     pub fn view(&self, replica: u8) -> Option<&UpdateSet>
         ensures value { option_copied result ≡ view_in self.now replica }
         ensures stands { (events : Past) → StandsFor self.now events → option_copied result
-            ≡ view_of (group_of self.now.config) (trace_in self.now events) replica }
+            ≡ view_of (group_in self.now) (trace_in self.now events) replica }
     {
         view_among(&self.replicas, replica)
+    }
+
+    /// The live tags of an element of an object on a replica's shelf, by the replica's view, which
+    /// the shelf absorbs first: what a `Remove` of it submitted there is to name. It is no event.
+    ///
+    /// `NoSuchReplica` comes where the group has no such replica, else `NoSuchObject` where no object
+    /// stands under the number on its shelf, else `TooManyTags` where the tags are more than a
+    /// `Remove` may name, or `Memory`. The world stands for the same events as before, whatever is
+    /// answered. The cost is that of a question.
+    pub fn observed(&mut self, replica: u8, object: u16, element: u64) -> Result<Tags, WorldError>
+        ensures tags { (events : Past) → StandsFor self.old events → IfOk result (λ tags.
+            tags_of (group_in self.old) (trace_in self.old events) replica object element
+            ≡ Some tags) }
+        ensures error { (events : Past) → StandsFor self.old events → IfErr result
+            (IsTagsRefusal (group_in self.old) (trace_in self.old events) replica object element) }
+        ensures keeps { Keeps self.old self.new }
+    {
+        self.admit_question(replica, object)?;
+        self.follow_view(replica)?;
+        match self.shelves[replica as usize].observed(object, element) {
+            Ok(tags) => Ok(tags),
+            Err(ShelfError::TooManyTags) => Err(WorldError::TooManyTags),
+            Err(_) => Err(WorldError::Memory),
+        }
     }
 
     /// What a replica returned from an adopt-commit object; `None` where it has not, or the group
@@ -322,7 +413,7 @@ impl World {
     pub fn outcome(&self, commit: u8, replica: u8) -> Option<Outcome>
         ensures value { result ≡ returned_in self.now commit replica }
         ensures stands { (events : Past) → StandsFor self.now events → result
-            ≡ returned_of (group_of self.now.config) (trace_in self.now events) commit replica }
+            ≡ returned_of (group_in self.now) (trace_in self.now events) commit replica }
     {
         self.returned_from(commit, replica)
     }
