@@ -1,13 +1,12 @@
 -- The places of the events that were handed in, and those of the events that were accepted.
-use Rattle.std.proofs.Common.{◌≡◌, ℕ, zero, suc, ◌+◌, ◌<◌, ◌≤◌, List, [], ◌∷◌, ◌++◌, length, map, take, reverse, get_or, slice_get, Option, Some, None, IsSome, Contains, refl, ap, sym, ◌∙◌, subst, arith, inl, inr}
+use Rattle.std.proofs.Common.{◌≡◌, ℕ, zero, suc, ◌+◌, ◌<◌, ◌≤◌, List, [], ◌∷◌, ◌++◌, length, take, reverse, get_or, slice_get, Option, Some, None, IsSome, Contains, refl, ap, sym, ◌∙◌, subst, arith, inl, inr}
 use Rattle.std.proofs.lemmas.Bool.{cases_lt}
-use Rattle.std.proofs.lemmas.List.{append_assoc, reverse-append, reverse-reverse, length-reverse, take_all, take_more, take-take, take-append-le}
+use Rattle.std.proofs.lemmas.List.{reverse-append, reverse-reverse, length-reverse, take_all, take_more, take-take, take-append-le}
 use Rattle.std.proofs.lemmas.List.Elements.{Contains-push}
 use Rattle.std.proofs.lemmas.Option.{same_Some, none-some, slice_get_within, get_or_from_slice_get}
 use Rattle.la_set.specs.declared.update.UpdateId.{UpdateId}
 use Rattle.la_set.specs.declared.update.Op.TheVariants.{Remove}
-use Rattle.la_set.specs.Histories.{Histories, get}
-use Rattle.la_set.specs.Inclusion.{IsSubset}
+use Rattle.la_set.specs.Histories.{get}
 use Rattle.la_replica.specs.Messages.{group}
 use Rattle.la_world.specs.declared.error.Refusal.{Refusal}
 use Rattle.la_world.specs.declared.report.Line.{Line}
@@ -15,18 +14,19 @@ use Rattle.la_world.specs.declared.report.Line.TheVariants.{Done}
 use Rattle.la_world.specs.declared.step.Did as step
 use Rattle.la_world.specs.declared.step.Did.TheVariants as shown
 use Rattle.la_world.specs.declared.step.Learnt.{Learnt}
+use Rattle.la_world.specs.declared.step.Opening.{Opening}
 use Rattle.la_world.specs.declared.step.Step.{Step}
 use Rattle.la_world.specs.Groups.{Group, replicas}
 use Rattle.la_world.specs.Events.{Event, submission_of}
-use Rattle.la_world.specs.Trace.{Entry, Trace}
+use Rattle.la_world.specs.Trace.{Trace}
 use Rattle.la_world.specs.Ballots.{learnt_by}
 use Rattle.la_world.specs.Submissions.{submitted}
 use Rattle.la_world.specs.Views.{view}
 use Rattle.la_world.specs.Playing.{entry, trace}
 use Rattle.la_world.specs.Learnings.{learning_of, learnt}
-use Rattle.la_world.specs.Report.{refused, shown_as, line_of, Run, runs, runs_on, lines, trace_of, views}
+use Rattle.la_world.specs.Report.{refused, line_of, runs, runs_on, lines, trace_of, views}
 use Rattle.la_world.specs.Laws.{IsSubmittedLater, WasLearnt, next_id}
-use Rattle.la_world.specs.Promises.{learnt_in, IsLearntAt, IsSubmittedAt, trace_before, LearntAreInOrder, WasLearntBefore, RemovedAreShown}
+use Rattle.la_world.specs.Promises.{learnt_in, IsLearntAt, IsSubmittedAt, trace_before, ArePlacesInOrder, WasLearntBefore, RemovedAreShown}
 use Rattle.la_world.proofs.Asking.{becomes, done_by, line_of_place}
 use Rattle.la_world.proofs.Lists.{contains_IsIn, IsIn_made}
 use Rattle.la_world.proofs.Order.{in_order, learnt_still, learnt_submitted, removed_held}
@@ -47,11 +47,11 @@ unfolding runs
 accepted_earlier g [] k = record { more = []; is = sym (ap (λ xs. accepted_of g xs) (take_all k [] (omega arith))) }
 accepted_earlier g (e ∷ es) k = elim (cases_lt (length es) k) [
   | inl all ↦
-    let whole : take k (reverse (e ∷ es)) ≡ reverse (e ∷ es) = take_all k (reverse (e ∷ es)) (omega (arith, length-reverse (e ∷ es), all)) in
-    record { more = []; is = sym (ap (accepted_of g) whole ∙ ap (λ xs. (runs g xs).accepted) (reverse-reverse (e ∷ es))) }
+      let whole : take k (reverse (e ∷ es)) ≡ reverse (e ∷ es) = take_all k (reverse (e ∷ es)) (omega (arith, length-reverse (e ∷ es), all)) in
+      record { more = []; is = sym (ap (accepted_of g) whole ∙ ap (λ xs. (runs g xs).accepted) (reverse-reverse (e ∷ es))) }
   | inr le ↦
-    let same : take k (reverse (e ∷ es)) ≡ take k (reverse es) = ap (take k) (reverse-append (e ∷ []) es) ∙ take-append-le k (reverse es) (e ∷ []) (omega (arith, length-reverse es, le)) in
-    subst (λ xs. Later g (runs g (e ∷ es)).accepted (accepted_of g xs)) (sym same) (go (refused g (trace g (runs g es).accepted) e) (accepted_earlier g es k))
+      let same : take k (reverse (e ∷ es)) ≡ take k (reverse es) = ap (take k) (reverse-append (e ∷ []) es) ∙ take-append-le k (reverse es) (e ∷ []) (omega (arith, length-reverse es, le)) in
+      subst (λ xs. Later g (runs g (e ∷ es)).accepted (accepted_of g xs)) (sym same) (go (refused g (trace g (runs g es).accepted) e) (accepted_earlier g es k))
 ]
   where
     go : (o : Option Refusal) → Later g (runs g es).accepted (accepted_of g (take k (reverse es))) → Later g (runs_on g (runs g es) e (trace g (runs g es).accepted) o).accepted (accepted_of g (take k (reverse es)))
@@ -120,6 +120,10 @@ done_did : Line → List Learnt
 done_did (Done s) = learnings_in s.did
 done_did _ = []
 
+placed : (b : Option Opening) (place : ℕ) (x : Learnt) → learning_of place b ≡ x ∷ [] → x.place ≡ place
+placed None place x e = absurd (omega (arith, ap length e))
+placed (Some b) place x e = ap (λ ls. (get_or ls 0 x).place) (sym e)
+
 module _ (g : Group) (events : List Event) where
   -- it is among those that were learnt by then
   pub learnt_then : (j : ℕ) (x : Learnt) → IsLearntAt (lines g events) j x → Contains (learnt (trace g (accepted_of g (take (j + 1) events)))) x
@@ -139,7 +143,17 @@ module _ (g : Group) (events : List Event) where
           let listed : learning_of (length t) (learnt_by did) ≡ x ∷ [] = sym (learnings_shown (replicas g) (length t) did) ∙ ap done_did line ∙ learnt_listed s.did x e in
           subst (λ ls. Contains (learnt t ++ ls) x) (sym listed) (Contains-push (learnt t) x)
 
-  -- and stays
+  -- its place counts the events that were accepted before
+  pub place_counts : (j : ℕ) (x : Learnt) → IsLearntAt (lines g events) j x → x.place ≡ length (trace_before g events j)
+  unfolding done_did
+  place_counts j x h =
+      let p = handed_in_at g events j (Done h.step) h.done in
+      let t = trace_before g events j in
+      let did = (entry g t p.0).did in
+      let was = was_done g events j p.0 h.step p.1 h.done in
+      placed (learnt_by did) (length t) x (sym (learnings_shown (replicas g) (length t) did) ∙ ap done_did was.line ∙ learnt_listed h.step.did x h.learnt)
+
+  -- and it stays
   pub learnt_at_end : (j : ℕ) (x : Learnt) → IsLearntAt (lines g events) j x → Contains (learnt (trace_of g events)) x
   learnt_at_end j x h =
       let p = accepted_before g events (j + 1) in
@@ -155,7 +169,7 @@ module _ (g : Group) (events : List Event) where
       let number : id.number ≡ length (submitted (trace_before g events k) i id.replica) + 1 = h.number ∙ ap (λ r. length (submitted (trace_before g events k) i r) + 1) (sym h.replica) in
       omega (arith, fewer, number)
 
-  pub learnt_in_order_of_places : LearntAreInOrder g events (lines g events) (learnt (trace_of g events))
+  pub learnt_in_order_of_places : ArePlacesInOrder g events (lines g events) (learnt (trace_of g events))
   learnt_in_order_of_places j k x y id at submitted_at lt was same holds =
       let until = accepted_of g (take (j + 1) events) in
       in_order g (accepted_of g events) until x y id (learnt_at_end j x at) was same

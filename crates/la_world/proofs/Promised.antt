@@ -1,24 +1,26 @@
 -- What a world promises of what it has learnt and shows.
-use Rattle.std.proofs.Common.{◌≡◌, ℕ, ◌+◌, ◌<◌, List, [], ◌∷◌, ◌++◌, length, map, take, drop, reverse, slice_get, Some, None, Contains, Bool, true, false, cond, refl, ap, ap₂, sym, ◌∙◌, subst, subst₂, arith}
-use Rattle.std.proofs.lemmas.Option.{same_Some, none-some, slice_get-map}
+use Rattle.std.proofs.Common.{◌≡◌, ◌+◌, List, ◌∷◌, ◌++◌, reverse, Some, None, IsSome, Bool, true, false, cond, ap, ap₂, sym, ◌∙◌, subst, subst₂, arith}
+use Rattle.std.proofs.lemmas.Option.{same_Some, none-some}
 use Rattle.std.proofs.lemmas.List.{reverse-reverse}
 use Rattle.std.specs.Prelude.{nat_lt}
-use Rattle.la_set.specs.Histories.{Histories}
+use Rattle.la_set.specs.declared.update.Op.TheVariants.{Remove}
+use Rattle.la_set.specs.Histories.{get}
 use Rattle.la_set.specs.Inclusion.{IsSubset}
 use Rattle.la_world.specs.declared.step.Step.{Step}
 use Rattle.la_replica.specs.Messages.{group}
 use Rattle.la_world.specs.Groups.{Group, group_of, replicas}
-use Rattle.la_world.specs.Events.{Event, Past}
+use Rattle.la_world.specs.Events.{Event, Past, submission_of}
 use Rattle.la_world.specs.Views.{seen, view}
 use Rattle.la_world.specs.Playing.{trace}
 use Rattle.la_world.specs.Learnings.{learnt}
 use Rattle.la_world.specs.Report.{lines, trace_of, views, accepted_among}
 use Rattle.la_world.specs.StandsFor.{World, group_in, StandsFor}
 use Rattle.la_world.specs.Calls.{Plays, views_of, view_of}
-use Rattle.la_world.specs.Laws.{IsLargest, AreComparable}
+use Rattle.la_world.specs.Laws.{IsLargest, AreComparable, next_id}
 use Rattle.la_world.specs.Promises.{KeepsPromises, accepted_in, NoViewShrinks}
 use Rattle.la_world.proofs.Chains.{learnt_comparable}
 use Rattle.la_world.proofs.Validity.{learnt_valid}
+use Rattle.la_world.proofs.Order.{learnt_in_order, removed_held}
 use Rattle.la_world.proofs.LearntOrder.{learnt_grow}
 use Rattle.la_world.proofs.LargestViews.{views_largest, views_comparable}
 use Rattle.la_world.proofs.Lists.{contains_IsIn, IsIn_made}
@@ -36,9 +38,15 @@ trace_keeps g events = record {
   valid = learnt_valid g events;
   largest = λ r s at. let p = made_at (view (trace g events)) 0 (replicas g) r s at in let same : view (trace g events) r ≡ s = ap (view (trace g events)) {x = r} {y = 0 + r} (omega arith) ∙ p in subst (IsLargest (seen (trace g events) r)) same (views_largest g events r);
   one_history = λ a b p q.
-    let x = IsIn_made (view (trace g events)) (group (replicas g)) a (contains_IsIn (views g (trace g events)) a p) in
-    let y = IsIn_made (view (trace g events)) (group (replicas g)) b (contains_IsIn (views g (trace g events)) b q) in
-    subst₂ AreComparable x.1 y.1 (views_comparable g events 0 0 x.0 y.0);
+      let x = IsIn_made (view (trace g events)) (group (replicas g)) a (contains_IsIn (views g (trace g events)) a p) in
+      let y = IsIn_made (view (trace g events)) (group (replicas g)) b (contains_IsIn (views g (trace g events)) b q) in
+      subst₂ AreComparable x.1 y.1 (views_comparable g events 0 0 x.0 y.0);
+  in_order = learnt_in_order g events;
+  removed = λ more before r object tags shown same stood listed holds tag named.
+      let p = IsIn_made (view (trace g events)) (group (replicas g)) shown (contains_IsIn (views g (trace g events)) shown listed) in
+      let is : view (trace g (more ++ submission_of r object (Remove tags) ∷ before)) p.0 ≡ shown = sym (ap (λ es. view (trace g es) p.0) same) ∙ p.1 in
+      subst (λ s. IsSome (get s tag)) is
+      (removed_held g before more r object tags p.0 stood (subst (λ s. IsSome (get s (next_id (trace g before) r))) (sym is) holds) tag named);
 }
 
 -- of a world

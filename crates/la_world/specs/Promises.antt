@@ -1,6 +1,6 @@
 -- What a world promises of what it has learnt and shows, whatever is lost, repeated or delivered
 -- late: in words about the lists that a report has.
-use Rattle.std.specs.Prelude.{◌≡◌, ℕ, ◌+◌, ◌<◌, List, length, take, reverse, slice_get, Option, Some, None, IsSome, Contains}
+use Rattle.std.specs.Prelude.{◌≡◌, ℕ, ◌+◌, ◌<◌, List, ◌∷◌, ◌++◌, length, take, drop, reverse, slice_get, Option, Some, None, IsSome, Contains}
 use Rattle.la_set.specs.declared.update.UpdateId.{UpdateId}
 use Rattle.la_set.specs.declared.update.Op.TheVariants.{Remove}
 use Rattle.la_set.specs.Histories.{Histories, get}
@@ -19,10 +19,10 @@ use Rattle.la_world.specs.Votes.{Submission}
 use Rattle.la_world.specs.Submissions.{submission_by, submitted}
 use Rattle.la_world.specs.Views.{seen}
 use Rattle.la_world.specs.Playing.{entry, trace}
-use Rattle.la_world.specs.Report.{trace_of, accepted_among}
+use Rattle.la_world.specs.Report.{lines, trace_of, accepted_among}
 use Rattle.la_world.specs.StandsFor.{World}
 use Rattle.la_world.specs.Calls.{view_in}
-use Rattle.la_world.specs.Laws.{IsStrictSubset, IsValid, IsLargest, next_id}
+use Rattle.la_world.specs.Laws.{IsStrictSubset, IsValid, IsLargest, IsSubmittedLater, WasLearnt, next_id}
 
 -- ## What is learnt and shown
 
@@ -42,9 +42,30 @@ AreGrowing learnt =
 abbrev pub AreOneHistory : (views : List Histories) → Type 0
 AreOneHistory views = (a b : Histories) → Contains views a → Contains views b → AreComparable a b
 
+-- where a set was learnt at a place, each learnt set of its instance that holds an update which was
+-- submitted after this place contains it
+abbrev pub AreInOrder : Group → (accepted : Past) → (learnt : List Learnt) → Type 0
+AreInOrder g accepted learnt =
+    (x y : Learnt) (later : ℕ) (id : UpdateId) →
+    Contains learnt x → Contains learnt y → x.instance ≡ y.instance →
+    length (drop later accepted) ≡ x.place + 1 →
+    IsSubmittedLater (trace g (drop later accepted)) x.instance id →
+    IsSome (get y.updates id) → IsSubset x.updates y.updates
+
+-- where each id that a Remove names stood in a set of instance 0 that was learnt before the Remove
+-- was submitted, each view that holds the Remove holds the updates that it names
+abbrev pub RemovedAreInViews : Group → (accepted : Past) → (views : List Histories) → Type 0
+RemovedAreInViews g accepted views =
+    (more before : Past) (r object : ℕ) (tags : List UpdateId) (view : Histories) →
+    accepted ≡ more ++ submission_of r object (Remove tags) ∷ before →
+    ((tag : UpdateId) → Contains tags tag → WasLearnt (trace g before) tag) →
+    Contains views view → IsSome (get view (next_id (trace g before) r)) →
+    (tag : UpdateId) → Contains tags tag → IsSome (get view tag)
+
 -- of the events that were accepted, the newest first, of the sets that were learnt, and of each
--- replica's view: learnt sets are comparable, grow and are valid; and each view is the largest of
--- the sets of instance 0 that its replica learnt or was told, or empty where there is none
+-- replica's view: learnt sets are comparable, grow, are valid and in order; and each view is the
+-- largest of the sets of instance 0 that its replica learnt or was told, or empty where there is
+-- none, and holds what its Removes name
 pub record KeepsPromises (g : Group) (accepted : Past) (learnt : List Learnt)
     (views : List Histories) : Type 0 where
   pub comparable : AreAllComparable learnt
@@ -53,6 +74,8 @@ pub record KeepsPromises (g : Group) (accepted : Past) (learnt : List Learnt)
   pub largest : (r : ℕ) (view : Histories) → slice_get views r ≡ Some view →
       IsLargest (seen (trace g accepted) r) view
   pub one_history : AreOneHistory views
+  pub in_order : AreInOrder g accepted learnt
+  pub removed : RemovedAreInViews g accepted views
 
 -- the events of a list that were accepted, by what became of each; the newest is first
 abbrev pub accepted_in : (events : List Event) → (steps : List Line) → Past
@@ -99,8 +122,8 @@ pub record IsSubmittedAt (g : Group) (events : List Event) (steps : List Line) (
 -- where a set was learnt at a place, each learnt set of its instance that holds an update which was
 -- submitted at a later place contains it. So a learnt set with a Mark, which changes no object, has
 -- all that anyone had learnt before the Mark was submitted
-abbrev pub LearntAreInOrder : Group → List Event → List Line → (learnt : List Learnt) → Type 0
-LearntAreInOrder g events steps learnt =
+abbrev pub ArePlacesInOrder : Group → List Event → List Line → (learnt : List Learnt) → Type 0
+ArePlacesInOrder g events steps learnt =
     (j k : ℕ) (x y : Learnt) (id : UpdateId) →
     IsLearntAt steps j x → IsSubmittedAt g events steps k x.instance id → j < k →
     Contains learnt y → x.instance ≡ y.instance → IsSome (get y.updates id) →
@@ -125,3 +148,9 @@ RemovedAreShown g events steps views =
     ((tag : UpdateId) → Contains tags tag → WasLearntBefore steps place tag) →
     Contains views view → IsSome (get view (next_id (trace_before g events place) r)) →
     (tag : UpdateId) → Contains tags tag → IsSome (get view tag)
+
+-- the place of a learnt set counts the accepted events alone: those before the place at which it was
+-- learnt
+abbrev pub PlacesCountAccepted : Type 0
+PlacesCountAccepted = (g : Group) (events : List Event) (place : ℕ) (x : Learnt) →
+    IsLearntAt (lines g events) place x → x.place ≡ length (trace_before g events place)
