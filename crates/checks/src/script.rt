@@ -1,6 +1,0 @@
-// Checks of la_script. The tests pass with every single allocation failing too: they call again.
-mod exactness;
-mod faults;
-mod headers;
-mod lines;
-mod report;

@@ -1,0 +1,126 @@
+// Callers that promise what only exact contracts let them: each calls a function twice, knows
+// nothing but its contract, and has one answer.
+ghost use Rattle.std.specs.Prelude.{◌≡◌, ◌<◌, ◌≤◌, ◌^◌, length, IfOk, IfSome, IsTrue};
+ghost use Rattle.la_script.specs.Scripts.{said_by};
+ghost use Rattle.la_script.specs.Pieces.{joined};
+ghost use Rattle.la_world.specs.Printable.{IsPrintableReport};
+
+use la_script::{
+    Events, Pieces, ReadError, Script, ScriptFault, Stretch, Text, pieces_of, print, random_events,
+    read,
+};
+use la_world::{Event, Report};
+use std::alloc::{AllocError, AllocFailed, Global};
+
+fn scripts_are_one(alloc: Global, bytes: &[u8]) -> Result<(Script, Script), ReadError>
+    requires { length bytes.now < 2 ^ 32 }
+    ensures { IfOk result (λ both. said_by both.0 ≡ said_by both.1) }
+{
+    Ok((read(alloc, bytes)?, read(alloc, bytes)?))
+}
+
+fn faults_are_one(alloc: Global, bytes: &[u8]) -> Option<(ScriptFault, ScriptFault)>
+    requires { length bytes.now < 2 ^ 32 }
+    ensures { IfSome result (λ both. both.0 ≡ both.1) }
+{
+    match (read(alloc, bytes), read(alloc, bytes)) {
+        (Err(ReadError::Fault(one)), Err(ReadError::Fault(other))) => Some((one, other)),
+        _ => None,
+    }
+}
+
+// What is read once has no fault, unless memory is refused.
+fn read_or_refused(alloc: Global, bytes: &[u8]) -> bool
+    requires { length bytes.now < 2 ^ 32 }
+    ensures { IsTrue result }
+{
+    match (read(alloc, bytes), read(alloc, bytes)) {
+        (Ok(_), Err(ReadError::Fault(_))) => false,
+        _ => true,
+    }
+}
+
+fn texts_are_one(alloc: Global, report: &Report) -> Result<(Text, Text), AllocError>
+    requires { IsPrintableReport report.now }
+    ensures { IfOk result (λ both. both.0 ≡ both.1) }
+{
+    Ok((print(alloc, report)?, print(alloc, report)?))
+}
+
+fn pieces_are_one(alloc: Global, report: &Report) -> Result<(Pieces, Pieces), AllocError>
+    requires { IsPrintableReport report.now }
+    ensures { IfOk result (λ both. joined both.0 ≡ joined both.1) }
+{
+    Ok((pieces_of(alloc, report)?, pieces_of(alloc, report)?))
+}
+
+fn len_of_pieces_is_exact(pieces: &Pieces) -> (usize, usize)
+    ensures { result.0 ≡ result.1 }
+{
+    (pieces.len(), pieces.len())
+}
+
+fn stretch_is_exact(pieces: &Pieces, place: usize) -> Option<(Stretch<'_>, Stretch<'_>)>
+    ensures words { IfSome result (λ both. both.0.words.now ≡ both.1.words.now) }
+    ensures ids { IfSome result (λ both. both.0.ids.now ≡ both.1.ids.now) }
+{
+    Some((pieces.at(place)?, pieces.at(place)?))
+}
+
+fn stretch_is_there_or_not(pieces: &Pieces, place: usize) -> (bool, bool)
+    ensures { result.0 ≡ result.1 }
+{
+    (pieces.at(place).is_some(), pieces.at(place).is_some())
+}
+
+fn rest_is_exact(pieces: &Pieces) -> (&[u8], &[u8])
+    ensures { result.0.now ≡ result.1.now }
+{
+    (pieces.rest(), pieces.rest())
+}
+
+fn bytes_are_exact(text: &Text) -> (&[u8], &[u8])
+    ensures { result.0.now ≡ result.1.now }
+{
+    (text.bytes(), text.bytes())
+}
+
+fn texts_are_their_strings(one: Text, other: Text) -> (Text, Text)
+    requires { one ≡ other }
+    ensures { result.0 ≡ result.1 }
+{
+    (
+        Text::from(String::from(one)),
+        Text::from(String::from(other)),
+    )
+}
+
+fn random_events_are_one(
+    alloc: Global,
+    seed: u64,
+    replicas: u8,
+    count: u32,
+) -> Result<(Events, Events), AllocError>
+    requires { 1 ≤ replicas }
+    ensures { IfOk result (λ both. both.0 ≡ both.1) }
+{
+    Ok((
+        random_events(alloc, seed, replicas, count)?,
+        random_events(alloc, seed, replicas, count)?,
+    ))
+}
+
+fn want_of_memory_is_one_error(one: AllocError, other: AllocError) -> (ReadError, ReadError)
+    ensures { result.0 ≡ result.1 }
+{
+    (ReadError::from(one), ReadError::from(other))
+}
+
+fn a_refused_push_is_the_same_error(
+    one: AllocFailed<Event>,
+    other: AllocError,
+) -> (ReadError, ReadError)
+    ensures { result.0 ≡ result.1 }
+{
+    (ReadError::from(one), ReadError::from(other))
+}

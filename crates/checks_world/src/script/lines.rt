@@ -1,0 +1,216 @@
+// Each form at both ends of each of its ranges, against values written by hand.
+use la_object::Query;
+use la_script::{Events, ReadError, Script, read};
+use la_set::{Op, Tags, UpdateId};
+use la_world::Event;
+use std::alloc::Global;
+
+// What an operation is to be; a tag by its replica and its number.
+pub enum Act {
+    Inc(u32),
+    Dec(u32),
+    Raise(u64),
+    Put(u64),
+    Remove(&'static [(u8, u32)]),
+    Mark,
+}
+
+// What an event is to be: the replica, the object and the operation; the message; the replica, the
+// adopt-commit object and the value; or the replica, the object and the question.
+pub enum Want {
+    Submit(u8, u16, Act),
+    Deliver(u64),
+    Decide(u8, u8, u64),
+    Ask(u8, u16, Query),
+}
+
+use self::Act::{Dec, Inc, Mark, Put, Raise, Remove};
+use self::Want::{Ask, Decide, Deliver, Submit};
+
+const SCRIPT: &[u8] = b"lattice 1
+replicas 8 commits 0 cap 1000000
+# the smallest and the largest number at each place
+submit 0 0 inc 0
+submit 255 65535 inc 4294967295
+submit 0 0 dec 0
+submit 255 65535 dec 4294967295
+submit 0 0 raise 0
+submit 255 65535 raise 18446744073709551615
+submit 0 0 put 0
+submit 255 65535 put 18446744073709551615
+submit 0 0 remove
+submit 255 65535 remove
+submit 0 0 remove 0.1
+submit 255 65535 remove 255.4294967295
+submit 0 0 remove 1.2 255.4294967295 0.1 1.2
+submit 0 0 mark
+submit 255 65535 mark
+deliver 0
+deliver 18446744073709551615
+decide 0 0 0
+decide 255 255 18446744073709551615
+ask 0 0 total
+ask 255 65535 total
+ask 0 0 largest
+ask 255 65535 largest
+ask 0 0 has 0
+ask 255 65535 has 18446744073709551615
+ask 0 0 size
+ask 255 65535 size
+ask 0 0 items
+ask 255 65535 items
+";
+
+const EVENTS: [Want; 29] = [
+    Submit(0, 0, Inc(0)),
+    Submit(255, 65535, Inc(4294967295)),
+    Submit(0, 0, Dec(0)),
+    Submit(255, 65535, Dec(4294967295)),
+    Submit(0, 0, Raise(0)),
+    Submit(255, 65535, Raise(18446744073709551615)),
+    Submit(0, 0, Put(0)),
+    Submit(255, 65535, Put(18446744073709551615)),
+    Submit(0, 0, Remove(&[])),
+    Submit(255, 65535, Remove(&[])),
+    Submit(0, 0, Remove(&[(0, 1)])),
+    Submit(255, 65535, Remove(&[(255, 4294967295)])),
+    Submit(0, 0, Remove(&[(0, 1), (1, 2), (255, 4294967295)])),
+    Submit(0, 0, Mark),
+    Submit(255, 65535, Mark),
+    Deliver(0),
+    Deliver(18446744073709551615),
+    Decide(0, 0, 0),
+    Decide(255, 255, 18446744073709551615),
+    Ask(0, 0, Query::Total),
+    Ask(255, 65535, Query::Total),
+    Ask(0, 0, Query::Largest),
+    Ask(255, 65535, Query::Largest),
+    Ask(0, 0, Query::Has(0)),
+    Ask(255, 65535, Query::Has(18446744073709551615)),
+    Ask(0, 0, Query::Size),
+    Ask(255, 65535, Query::Size),
+    Ask(0, 0, Query::Items),
+    Ask(255, 65535, Query::Items),
+];
+
+const SIXTY_FOUR: &[u8] =
+    b"lattice 1\nreplicas 1 commits 0 cap 1\nsubmit 0 0 remove 7.1 7.2 7.3 7.4 7.5 7.6 7.7 7.8 \
+    7.9 7.10 7.11 7.12 7.13 7.14 7.15 7.16 7.17 7.18 7.19 7.20 7.21 7.22 7.23 7.24 7.25 \
+    7.26 7.27 7.28 7.29 7.30 7.31 7.32 7.33 7.34 7.35 7.36 7.37 7.38 7.39 7.40 7.41 7.42 \
+    7.43 7.44 7.45 7.46 7.47 7.48 7.49 7.50 7.51 7.52 7.53 7.54 7.55 7.56 7.57 7.58 7.59 \
+    7.60 7.61 7.62 7.63 7.64";
+
+// The script, read again where memory was refused. The bytes are few.
+pub fn read_again(alloc: Global, bytes: &[u8]) -> Result<Script, ReadError> {
+    if bytes.len() > 1_000_000 {
+        return Err(ReadError::Memory);
+    }
+    match read(alloc, bytes) {
+        Err(ReadError::Memory) => read(alloc, bytes),
+        answer => answer,
+    }
+}
+
+fn are_tags(tags: &Tags, want: &[(u8, u32)]) -> bool {
+    for (place, (replica, number)) in want.iter().enumerate() {
+        let id = UpdateId {
+            replica: *replica,
+            number: *number,
+        };
+        if tags.at(place) != Some(&id) {
+            return false;
+        }
+    }
+    tags.len() == want.len()
+}
+
+fn is_act(op: &Op, want: &Act) -> bool {
+    match (op, want) {
+        (Op::Inc(by), Inc(want)) => by == want,
+        (Op::Dec(by), Dec(want)) => by == want,
+        (Op::Raise(to), Raise(want)) => to == want,
+        (Op::Put(element), Put(want)) => element == want,
+        (Op::Remove(tags), Remove(want)) => are_tags(tags, want),
+        (Op::Mark, Mark) => true,
+        _ => false,
+    }
+}
+
+fn is_event(event: &Event, want: &Want) -> bool {
+    match (event, want) {
+        (
+            Event::Submit {
+                replica,
+                object,
+                op,
+            },
+            Submit(by, to, act),
+        ) => replica == by && object == to && is_act(op, act),
+        (Event::Deliver(message), Deliver(want)) => message == want,
+        (
+            Event::Decide {
+                replica,
+                commit,
+                value,
+            },
+            Decide(by, to, proposed),
+        ) => replica == by && commit == to && value == proposed,
+        (
+            Event::Ask {
+                replica,
+                object,
+                query,
+            },
+            Ask(by, of, want),
+        ) => replica == by && object == of && query == want,
+        _ => false,
+    }
+}
+
+// Whether the events are these.
+pub fn are_events(events: &Events, want: &[Want]) -> bool {
+    for (place, want) in want.iter().enumerate() {
+        match events.at(place) {
+            Some(event) if is_event(event, want) => {}
+            _ => return false,
+        }
+    }
+    events.len() == want.len()
+}
+
+// Whether an event removes the tags 7.1 to 7.64.
+fn removes_sixty_four(event: &Event) -> bool {
+    match event {
+        Event::Submit {
+            op: Op::Remove(tags),
+            ..
+        } => {
+            for number in 1..65 {
+                let id = UpdateId { replica: 7, number };
+                if tags.at(number as usize - 1) != Some(&id) {
+                    return false;
+                }
+            }
+            tags.len() == 64
+        }
+        _ => false,
+    }
+}
+
+#[test]
+fn each_form_is_read_at_both_ends_of_its_ranges(rt: HostRuntime) {
+    let is = match read_again(rt.alloc(), SCRIPT) {
+        Ok(script) => are_events(&script.events, &EVENTS),
+        Err(_) => false,
+    };
+    assert!(rt; is);
+}
+
+#[test]
+fn a_remove_names_64_tags(rt: HostRuntime) {
+    let is = match read_again(rt.alloc(), SIXTY_FOUR) {
+        Ok(script) => script.events.at(0).is_some_and(removes_sixty_four),
+        Err(_) => false,
+    };
+    assert!(rt; is);
+}
