@@ -1,12 +1,14 @@
 -- The contracts of a world leave one answer: worlds of one group that stand for the same events are one but for what their
 -- shelves have absorbed, and so are the answers of a call on each of two.
 use Rattle.std.proofs.Common.{◌≡◌, ◌≢◌, ℕ, Bool, true, false, cond, List, [], ◌∷◌, length, Option, Some, None, refl, sym, ◌∙◌, ap, ap₂, subst, subst₂, arith}
-use Rattle.std.specs.Prelude.{◌<◌, ◌≤◌, Result, Ok, Err, IfOk, IfErr, OnErr, IsSomeAnd}
+use Rattle.std.specs.Prelude.{◌<◌, ◌≤◌, nat_lt, option_map, Result, Ok, Err, IfOk, IfErr, OnErr, IsSomeAnd}
+use Rattle.std.proofs.lemmas.Bool.{le-ltb}
 use Rattle.std.proofs.lemmas.Option.{same_Some}
 use Rattle.la_set.specs.declared.tags.TheConstants.{MAX_TAGS}
 use Rattle.la_set.specs.declared.update.UpdateId.{UpdateId}
 use Rattle.la_object.specs.declared.kind.Kind.{Kind}
-use Rattle.la_object.specs.Shelves.{ShelfState}
+use Rattle.la_object.specs.Objects.{tags_by}
+use Rattle.la_object.specs.Shelves.{ShelfState, kind_at, tags_at, updates_at}
 use Rattle.la_replica.specs.declared.message.Message as code
 use Rattle.la_world.specs.declared.config.Config.{Config}
 use Rattle.la_world.specs.declared.error.WorldError.{WorldError}
@@ -15,11 +17,12 @@ use Rattle.la_world.specs.declared.error.Refusal.{Refusal}
 use Rattle.la_world.specs.declared.error.Refusal.TheVariants as named
 use Rattle.la_world.specs.declared.report.Line.TheVariants.{Done}
 use Rattle.la_world.specs.declared.step.Step.{Step}
-use Rattle.la_world.specs.Groups.{Group, group_of, replicas}
+use Rattle.la_world.specs.Groups.{Group, group_of, replicas, kinds_on}
 use Rattle.la_world.specs.Events.{Event, Past, Submit, Deliver, Decide, Ask}
 use Rattle.la_world.specs.Trace.{Trace}
 use Rattle.la_world.specs.Sent.{sent}
-use Rattle.la_world.specs.Playing.{trace}
+use Rattle.la_world.specs.Playing.{trace, shelf_of}
+use Rattle.la_world.specs.Views.{view}
 use Rattle.la_world.specs.Learnings.{learnt}
 use Rattle.la_world.specs.Report.{refused, line_of}
 use Rattle.la_world.specs.ReplicaStates.{replica_states}
@@ -226,7 +229,7 @@ no_tags_of g t r object element none =
     ap (λ k. cond (nat_lt r (replicas g)) (option_map (λ kind. tags_by kind (updates_at (view t r) object) element) k) None) none ∙ no_tags (nat_lt r (replicas g))
 
 no_replica : (g : Group) (t : Trace) (r object element : ℕ) → replicas g ≤ r → tags_of g t r object element ≡ None
-no_replica g t r object element above = ap (λ b. cond b (tags_at (shelf_of g t r) object element) None) (not_less r (replicas g) above)
+no_replica g t r object element above = ap (λ b. cond b (tags_at (shelf_of g t r) object element) None) (le-ltb r (replicas g) above)
 
 many : Option (List UpdateId) → Type 0
 many o = IsSomeAnd o (λ tags. MAX_TAGS < length tags)
