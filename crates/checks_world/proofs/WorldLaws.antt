@@ -1,8 +1,13 @@
 -- What follows from the laws of la_world.
 use Rattle.std.proofs.Common.{◌≡◌, ℕ, ◌+◌, ◌<◌, ◌≤◌, List, [], ◌∷◌, ◌++◌, length, drop, slice_get, Some, Contains, sym, ◌∙◌, ap, subst, arith}
 use Rattle.std.specs.Prelude.{reverse, Result, Ok, Err, IfOk}
+use Rattle.std.proofs.lemmas.Option.{same_Some}
 use Rattle.la_set.specs.Histories.{history}
 use Rattle.la_set.specs.Inclusion.{IsSubset}
+use Rattle.la_object.specs.declared.kind.Kind.{Kind}
+use Rattle.la_object.specs.declared.query.Query.{Query}
+use Rattle.la_object.specs.declared.query.Answer.{Answer}
+use Rattle.la_object.specs.Shelves.{answer_at}
 use Rattle.la_replica.specs.Whole.{Message, Yes}
 use Rattle.la_world.specs.declared.config.Config.{Config}
 use Rattle.la_world.specs.declared.error.WorldError.{WorldError}
@@ -10,36 +15,36 @@ use Rattle.la_world.specs.declared.error.Refusal.TheVariants.{AlreadyProposed}
 use Rattle.la_world.specs.declared.report.Report.{Report}
 use Rattle.la_world.specs.declared.step.Opening.{Opening}
 use Rattle.la_world.specs.declared.step.Learnt.{Learnt}
-use Rattle.la_world.specs.Groups.{Group, group_of, replicas, IsConfig}
+use Rattle.la_world.specs.Groups.{Group, group_of, replicas, kinds_on, IsConfig}
 use Rattle.la_world.specs.Events.{Event, Decide}
 use Rattle.la_world.specs.Sent.{sent}
 use Rattle.la_world.specs.Acceptors.{accepted}
 use Rattle.la_world.specs.Ballots.{ballots}
 use Rattle.la_world.specs.Submissions.{submitted, taken}
 use Rattle.la_world.specs.Playing.{trace}
-use Rattle.la_world.specs.Report.{report, refused, runs, trace_of}
-use Rattle.la_world.specs.Laws.{AreComparable, LearntAreComparable, AcknowledgementsHavePlaces, LearntHoldWhatWasTaken, NumbersNameBallots, BallotsGrow, LearntGrow, SecondProposalsAreRefused, ProposalsAreTestedInOrder, LimitsAre}
+use Rattle.la_world.specs.Report.{report, refused, runs, lines, trace_of}
+use Rattle.la_world.specs.Laws.{AreComparable, LearntAreComparable, AcknowledgementsHavePlaces, LearntHoldWhatWasTaken, NumbersNameBallots, BallotsGrow, LearntGrow, SecondProposalsAreRefused, ProposalsAreTestedInOrder, LimitsAre, ReportedAnswersAreValues, IsAnswered, view_at_place}
 
 -- ## Of a run
 
-abbrev played : Config → List Event → List Event
-played c events = (runs (group_of c) (reverse events)).accepted
+abbrev played : Config → (kinds : List (List (ℕ × Kind))) → List Event → List Event
+played c kinds events = (runs (group_of c kinds) (reverse events)).accepted
 
-pub run_own : LearntHoldWhatWasTaken → (c : Config) (events : List Event) (r : Result Report WorldError) → IfOk r (λ made. made ≡ report c events)
-    → IfOk r (λ (made : Report). (x : Learnt) → Contains made.learnt x → x.replica < 8 → history x.updates x.replica ≡ taken (trace_of (group_of c) events) x.instance x.replica x.ballot)
-run_own law c events (Ok made) e = λ x i lt. law (group_of c) (played c events) x (subst (λ (m : Report). Contains m.learnt x) e i) lt
-run_own law c events (Err d) e = tt
+pub run_own : LearntHoldWhatWasTaken → (c : Config) (kinds : List (List (ℕ × Kind))) (events : List Event) (r : Result Report WorldError) → IfOk r (λ made. made ≡ report c kinds events)
+    → IfOk r (λ (made : Report). (x : Learnt) → Contains made.learnt x → x.replica < 8 → history x.updates x.replica ≡ taken (trace_of (group_of c kinds) events) x.instance x.replica x.ballot)
+run_own law c kinds events (Ok made) e = λ x i lt. law (group_of c kinds) (played c kinds events) x (subst (λ (m : Report). Contains m.learnt x) e i) lt
+run_own law c kinds events (Err d) e = tt
 
-pub run_comparable : LearntAreComparable → (c : Config) (events : List Event) (r : Result Report WorldError) → IfOk r (λ made. made ≡ report c events)
+pub run_comparable : LearntAreComparable → (c : Config) (kinds : List (List (ℕ × Kind))) (events : List Event) (r : Result Report WorldError) → IfOk r (λ made. made ≡ report c kinds events)
     → IfOk r (λ (made : Report). (x y : Learnt) → Contains made.learnt x → Contains made.learnt y → x.instance ≡ y.instance → AreComparable x.updates y.updates)
-run_comparable law c events (Ok made) e = λ x y i j same. law (group_of c) (played c events) x y (subst (λ (m : Report). Contains m.learnt x) e i) (subst (λ (m : Report). Contains m.learnt y) e j) same
-run_comparable law c events (Err d) e = tt
+run_comparable law c kinds events (Ok made) e = λ x y i j same. law (group_of c kinds) (played c kinds events) x y (subst (λ (m : Report). Contains m.learnt x) e i) (subst (λ (m : Report). Contains m.learnt y) e j) same
+run_comparable law c kinds events (Err d) e = tt
 
-pub run_grows : LearntGrow → (c : Config) (events : List Event) (r : Result Report WorldError) → IfOk r (λ made. made ≡ report c events)
+pub run_grows : LearntGrow → (c : Config) (kinds : List (List (ℕ × Kind))) (events : List Event) (r : Result Report WorldError) → IfOk r (λ made. made ≡ report c kinds events)
     → IfOk r (λ (made : Report). (j k : ℕ) (x y : Learnt) → slice_get made.learnt j ≡ Some x → slice_get made.learnt k ≡ Some y → x.instance ≡ y.instance → x.replica ≡ y.replica → j < k → IsSubset x.updates y.updates)
-run_grows law c events (Ok made) e = λ j k x y p q ei er lt.
-    (law (group_of c) (played c events) j k x y (subst (λ (m : Report). slice_get m.learnt j ≡ Some x) e p) (subst (λ (m : Report). slice_get m.learnt k ≡ Some y) e q) ei er lt).0
-run_grows law c events (Err d) e = tt
+run_grows law c kinds events (Ok made) e = λ j k x y p q ei er lt.
+    (law (group_of c kinds) (played c kinds events) j k x y (subst (λ (m : Report). slice_get m.learnt j ≡ Some x) e p) (subst (λ (m : Report). slice_get m.learnt k ≡ Some y) e q) ei er lt).0
+run_grows law c kinds events (Err d) e = tt
 
 -- ## Acknowledgements
 
@@ -75,3 +80,10 @@ limits_taken law c h =
 
 pub ballots_contain : BallotsGrow → (g : Group) (events : List Event) (i r : ℕ) (b c : Opening) → Contains (ballots (trace g events) i r) b → Contains (ballots (trace g events) i r) c → b.ballot + 1 ≤ c.ballot → IsSubset b.updates c.updates
 ballots_contain law g events i r b c p q le = (law g events i r b c p q (omega arith)).0
+
+-- ## Questions
+
+pub answers_stay : ReportedAnswersAreValues → (g : Group) (events : List Event) (j k r object : ℕ) (query : Query) (a b : Answer) → IsAnswered events (lines g events) j r object query a → IsAnswered events (lines g events) k r object query b
+    → view_at_place g events j r ≡ view_at_place g events k r → a ≡ b
+answers_stay law g events j k r object query a b x y views =
+    same_Some a b (sym (law g events j r object query a x) ∙ ap (λ v. answer_at (record { view = v; objects = kinds_on g r }) object query) views ∙ law g events k r object query b y)

@@ -15,7 +15,7 @@ use uses::proposers::hear;
 use uses::replicas::{take_in_and_vote, three_replicas};
 use uses::scripts::report_of;
 use uses::sets::{added, catch_up, later, merged, removal};
-use uses::worlds::{one_learning, shown};
+use uses::worlds::{answer_at, counter_beside_a_set, one_learning, shown};
 
 // The first update of a replica, which adds to object 1.
 fn adds(replica: u8, by: u32) -> Update {
@@ -148,6 +148,16 @@ fn worlds(alloc: Global) -> Option<bool> {
     Some(report.learnt.len() == 1 && views == (1, true))
 }
 
+// Before the first learning the total is 0 and the element missing.
+fn questions(alloc: Global) -> Option<bool> {
+    let report = counter_beside_a_set(alloc).ok()?;
+    let before = (answer_at(&report, 0)?, answer_at(&report, 1)?);
+    let after = (answer_at(&report, 8)?, answer_at(&report, 9)?);
+    let first = matches!(before, (Answer::Total(0), Answer::Has(false)));
+    let last = matches!(after, (Answer::Total(5), Answer::Has(true)));
+    Some(first && last && answer_at(&report, 2).is_none())
+}
+
 fn scripts(alloc: Global) -> Option<bool> {
     let script = b"lattice 1\nreplicas 1 commits 0 cap 10\nsubmit 0 1 inc 5\n";
     let text = report_of(alloc, script).ok()?;
@@ -196,4 +206,5 @@ fn callers_of_sets_do_what_they_are_for(rt: HostRuntime) {
     let alloc = rt.alloc();
     assert!(rt; adds_win(alloc).or_else(|| adds_win(alloc)) == Some(true));
     assert!(rt; followers(alloc).or_else(|| followers(alloc)) == Some(true));
+    assert!(rt; questions(alloc).or_else(|| questions(alloc)) == Some(true));
 }

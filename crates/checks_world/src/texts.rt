@@ -55,11 +55,15 @@ const OF_REPLICAS: [(ReplicaError, &str); 6] = [
     (ReplicaError::Memory, "out of memory"),
 ];
 
-const OF_WORLDS: [(WorldError, &str); 5] = [
+const OF_WORLDS: [(WorldError, &str); 9] = [
     (WorldError::BadConfig, "not a group that can be played"),
     (WorldError::NoSuchReplica, "no such replica"),
     (WorldError::Full, "the cap is reached"),
     (WorldError::NoSuchMessage, "no such message"),
+    (WorldError::NoSuchCommit, "no such adopt-commit object"),
+    (WorldError::AlreadyProposed, "already proposed"),
+    (WorldError::NoSuchObject, "no object has this number"),
+    (WorldError::TooManyTags, "more than 64 live tags"),
     (WorldError::Memory, "out of memory"),
 ];
 

@@ -1,12 +1,16 @@
-// la_world: runs that no row of the program can say, want of memory, groups that are out of their
-// ranges, and callers that know nothing but its clauses.
+// la_world: runs that no row of the program can say, questions, want of memory, groups and shelves
+// that are out of their ranges, and callers that know nothing but its clauses.
+mod asked;
 mod configs;
 mod events;
 mod exactness;
 mod laws;
+mod making;
 mod many;
 mod million;
 mod plays;
 mod proposals;
+mod questions;
 mod runs;
+mod shelves;
 mod shown;

@@ -5,13 +5,15 @@ use Rattle.std.specs.List.{range_with_len}
 use Rattle.std.proofs.lemmas.List.Elements.{Contains-append_left, Contains-append_right, Contains-append_cases}
 use Rattle.la_set.specs.Histories.{Histories}
 use Rattle.la_set.specs.Inclusion.{IsSubset}
+use Rattle.la_object.specs.declared.kind.Kind.{Kind}
+use Rattle.la_object.specs.Shelves.{ShelfState}
 use Rattle.la_replica.specs.Messages.{group}
 use Rattle.la_world.specs.declared.config.Config.{Config}
 use Rattle.la_world.specs.declared.error.WorldError.{WorldError}
 use Rattle.la_world.specs.declared.report.Report.{Report}
 use Rattle.la_world.specs.declared.step.Opening.{Opening}
 use Rattle.la_world.specs.declared.step.Learnt.{Learnt}
-use Rattle.la_world.specs.Groups.{Group, group_of, replicas, IsConfig}
+use Rattle.la_world.specs.Groups.{Group, group_of, replicas}
 use Rattle.la_world.specs.Events.{Event}
 use Rattle.la_world.specs.Trace.{Trace}
 use Rattle.la_world.specs.Ballots.{only, learnt_by}
@@ -19,12 +21,14 @@ use Rattle.la_world.specs.Views.{set_of, told_to, seen_at, seen, view}
 use Rattle.la_world.specs.Playing.{trace}
 use Rattle.la_world.specs.Learnings.{learning, learning_of, learnt}
 use Rattle.la_world.specs.Report.{report, views, accepted_among}
+use Rattle.la_world.specs.StandsFor.{kinds_of}
+use Rattle.la_world.specs.Calls.{IsGroup}
 use Rattle.la_world.specs.Laws.{AreComparable, LearntAreComparable, ViewsAreComparable, ViewsAreLargest, CommitsAgree, ReturnsAreProposed, ReportedOutcomesAreSafe}
 use Rattle.uses.specs.Promises.{AreAllComparable, AreOneHistory, ViewsHoldTheirOwn, accepted}
 
-pub run_comparable : LearntAreComparable → (c : Config) (events : List Event) (r : Result Report WorldError) → IfOk r (λ made. made ≡ report c events) → IfOk r (λ (made : Report). AreAllComparable made.learnt)
-run_comparable law c events (Ok made) e = subst (λ (m : Report). AreAllComparable m.learnt) (sym e) (law (group_of c) (accepted c events))
-run_comparable law c events (Err d) e = tt
+pub run_comparable : LearntAreComparable → (c : Config) (kinds : List (List (ℕ × Kind))) (events : List Event) (r : Result Report WorldError) → IfOk r (λ made. made ≡ report c kinds events) → IfOk r (λ (made : Report). AreAllComparable made.learnt)
+run_comparable law c kinds events (Ok made) e = subst (λ (m : Report). AreAllComparable m.learnt) (sym e) (law (group_of c kinds) (accepted c kinds events))
+run_comparable law c kinds events (Err d) e = tt
 
 -- ## What a replica learnt in instance 0, it saw
 
@@ -72,9 +76,9 @@ views_hold law g events x c e =
     let r : x.replica ≡ 0 + x.replica = omega arith in
     each_from (view t) (IsSubset x.updates) 0 (replicas g) x.replica (subst (λ k. IsSubset x.updates (view t k)) r ((law g events x.replica).contains x.updates (learnt_seen t x c e)))
 
-pub run_shows : ViewsAreLargest → (c : Config) (events : List Event) (r : Result Report WorldError) → IfOk r (λ made. made ≡ report c events) → IfOk r (λ (made : Report). ViewsHoldTheirOwn made.views made.learnt)
-run_shows law c events (Ok made) e = subst (λ (m : Report). ViewsHoldTheirOwn m.views m.learnt) (sym e) (views_hold law (group_of c) (accepted c events))
-run_shows law c events (Err d) e = tt
+pub run_shows : ViewsAreLargest → (c : Config) (kinds : List (List (ℕ × Kind))) (events : List Event) (r : Result Report WorldError) → IfOk r (λ made. made ≡ report c kinds events) → IfOk r (λ (made : Report). ViewsHoldTheirOwn made.views made.learnt)
+run_shows law c kinds events (Ok made) e = subst (λ (m : Report). ViewsHoldTheirOwn m.views m.learnt) (sym e) (views_hold law (group_of c kinds) (accepted c kinds events))
+run_shows law c kinds events (Err d) e = tt
 
 -- what stands in such a list is made from one of the numbers
 made_from : (f : ℕ → Histories) (rs : List ℕ) (k : ℕ) (a : Histories) → k < length (map f rs) → slice_index_or (map f rs) k a ≡ a → (r : ℕ) × (f r ≡ a)
@@ -88,16 +92,16 @@ views_comparable law g events a b c d =
     let n = made_from (view (trace g events)) (group (replicas g)) d.0 b d.1 d.2 in
     subst₂ AreComparable m.1 n.1 (law g events 0 0 m.0 n.0)
 
-pub run_one_history : ViewsAreComparable → (c : Config) (events : List Event) (r : Result Report WorldError) → IfOk r (λ made. made ≡ report c events) → IfOk r (λ (made : Report). AreOneHistory made.views)
-run_one_history law c events (Ok made) e = subst (λ (m : Report). AreOneHistory m.views) (sym e) (views_comparable law (group_of c) (accepted c events))
-run_one_history law c events (Err d) e = tt
+pub run_one_history : ViewsAreComparable → (c : Config) (kinds : List (List (ℕ × Kind))) (events : List Event) (r : Result Report WorldError) → IfOk r (λ made. made ≡ report c kinds events) → IfOk r (λ (made : Report). AreOneHistory made.views)
+run_one_history law c kinds events (Ok made) e = subst (λ (m : Report). AreOneHistory m.views) (sym e) (views_comparable law (group_of c kinds) (accepted c kinds events))
+run_one_history law c kinds events (Err d) e = tt
 
 -- ## Outcomes
 
-pub run_agrees : ReportedOutcomesAreSafe → (c : Config) (events : List Event) (r : Result Report WorldError) → IfOk r (λ made. made ≡ report c events) → OnOk r (IsConfig c) → IfOk r (λ (made : Report). CommitsAgree made.outcomes)
-run_agrees law c events (Ok made) e is = subst (λ (m : Report). CommitsAgree m.outcomes) (sym e) (law c events is).agree
-run_agrees law c events (Err d) e is = tt
+pub run_agrees : ReportedOutcomesAreSafe → (c : Config) (shelves : List ShelfState) (events : List Event) (r : Result Report WorldError) → IfOk r (λ made. made ≡ report c (kinds_of shelves) events) → OnOk r (IsGroup c shelves) → IfOk r (λ (made : Report). CommitsAgree made.outcomes)
+run_agrees law c shelves events (Ok made) e is = subst (λ (m : Report). CommitsAgree m.outcomes) (sym e) (law c (kinds_of shelves) events is.config).agree
+run_agrees law c shelves events (Err d) e is = tt
 
-pub run_returns_proposed : ReportedOutcomesAreSafe → (c : Config) (events : List Event) (r : Result Report WorldError) → IfOk r (λ made. made ≡ report c events) → OnOk r (IsConfig c) → IfOk r (λ (made : Report). ReturnsAreProposed (accepted_among events made.steps) made.outcomes)
-run_returns_proposed law c events (Ok made) e is = subst (λ (m : Report). ReturnsAreProposed (accepted_among events m.steps) m.outcomes) (sym e) (law c events is).proposed
-run_returns_proposed law c events (Err d) e is = tt
+pub run_returns_proposed : ReportedOutcomesAreSafe → (c : Config) (shelves : List ShelfState) (events : List Event) (r : Result Report WorldError) → IfOk r (λ made. made ≡ report c (kinds_of shelves) events) → OnOk r (IsGroup c shelves) → IfOk r (λ (made : Report). ReturnsAreProposed (accepted_among events made.steps) made.outcomes)
+run_returns_proposed law c shelves events (Ok made) e is = subst (λ (m : Report). ReturnsAreProposed (accepted_among events m.steps) m.outcomes) (sym e) (law c (kinds_of shelves) events is.config).proposed
+run_returns_proposed law c shelves events (Err d) e is = tt

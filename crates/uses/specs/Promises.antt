@@ -1,14 +1,19 @@
 -- What a group promises, of the lists that a report has.
-use Rattle.std.specs.Prelude.{◌≡◌, ℕ, List, reverse, Contains, slice_get, slice_index_or, IfSome}
+use Rattle.std.specs.Prelude.{◌≡◌, ℕ, ◌<◌, List, reverse, Contains, slice_get, slice_index_or, IfSome}
 use Rattle.la_set.specs.Histories.{Histories}
 use Rattle.la_set.specs.Inclusion.{IsSubset}
+use Rattle.la_object.specs.declared.kind.Kind.{Kind}
+use Rattle.la_object.specs.declared.query.Query.{Query}
+use Rattle.la_object.specs.declared.query.Answer.{Answer}
+use Rattle.la_object.specs.Shelves.{ShelfState, kind_at}
 use Rattle.la_replica.specs.ReplicaState.{ReplicaState}
 use Rattle.la_world.specs.declared.config.Config.{Config}
+use Rattle.la_world.specs.declared.report.Line.{Line}
 use Rattle.la_world.specs.declared.step.Learnt.{Learnt}
-use Rattle.la_world.specs.Groups.{group_of}
+use Rattle.la_world.specs.Groups.{Group, group_of, replicas}
 use Rattle.la_world.specs.Events.{Event}
 use Rattle.la_world.specs.Report.{runs}
-use Rattle.la_world.specs.Laws.{AreComparable}
+use Rattle.la_world.specs.Laws.{AreComparable, IsAnswered, view_at_place}
 
 -- of any two learnt sets of one instance one contains the other
 abbrev pub AreAllComparable : List Learnt → Type 0
@@ -30,5 +35,17 @@ NoViewShrinks before after = (k : ℕ) (none : ReplicaState) →
     IsSubset (slice_index_or before k none).view (slice_index_or after k none).view
 
 -- the events of a list that are accepted, the newest first
-abbrev pub accepted : Config → List Event → List Event
-accepted c events = (runs (group_of c) (reverse events)).accepted
+abbrev pub accepted : Config → (kinds : List (List (ℕ × Kind))) → List Event → List Event
+accepted c kinds events = (runs (group_of c kinds) (reverse events)).accepted
+
+-- the object under a number is of one kind on all shelves, or stands on none
+abbrev pub HaveOneKind : List ShelfState → Type 0
+HaveOneKind shelves = (s u : ShelfState) (number : ℕ) → Contains shelves s → Contains shelves u →
+    kind_at s.objects number ≡ kind_at u.objects number
+
+-- of two replicas that were asked the same where their views were equal, the answers are equal
+abbrev pub AnswersAgree : Group → (events : List Event) → (steps : List Line) → Type 0
+AnswersAgree g events steps = (j k r q object : ℕ) (query : Query) (a b : Answer) →
+    r < replicas g → q < replicas g →
+    IsAnswered events steps j r object query a → IsAnswered events steps k q object query b →
+    view_at_place g events j r ≡ view_at_place g events k q → a ≡ b

@@ -1,13 +1,14 @@
 -- What a script's report is, from bytes to bytes.
-use Rattle.std.specs.Prelude.{◌≡◌, ℕ, List, map, Ok}
+use Rattle.std.specs.Prelude.{◌≡◌, ℕ, List, [], map, replicate, Ok}
 use Rattle.la_world.specs.Events.{event_of}
 use Rattle.la_world.specs.Report.{report}
 use Rattle.la_script.specs.declared.script.Script.{Script}
 use Rattle.la_script.specs.Scripts.{script_of, said_by}
 use Rattle.la_script.specs.Text.{text_of}
 
--- the bytes are a script, and the text is that of its report
+-- the bytes are a script, and the text is that of its report, in a group without objects
 pub record IsReportOf (bytes text : List ℕ) : Type 0 where
   pub script : Script
   pub said : script_of bytes ≡ Ok (said_by script)
-  pub is_text : text ≡ text_of (report script.config (map event_of script.events))
+  pub is_text : text ≡ text_of
+      (report script.config (replicate script.config.replicas []) (map event_of script.events))

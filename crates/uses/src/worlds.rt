@@ -2,34 +2,45 @@ ghost use Rattle.std.specs.Prelude.{◌≡◌, map, IfOk, IfErr};
 ghost use Rattle.la_world.specs.Events.{event_of};
 ghost use Rattle.la_world.specs.Report.{report, accepted_among};
 ghost use Rattle.la_world.specs.Calls.{IsMakingRefusal};
+ghost use Rattle.la_world.specs.StandsFor.{kinds_of};
 ghost use Rattle.uses.specs.Promises.{AreAllComparable, AreOneHistory, ViewsHoldTheirOwn};
 
+use la_object::{Replicated, Shelf};
 use la_world::{Config, Event, Report, WorldError, laws, run};
 use std::alloc::Global;
 
 /// Plays a list of submissions and deliveries. Of any two sets that were learnt in one instance one
 /// contains the other, and so it is of any two views. Each view holds what its replica learnt.
-pub fn play(alloc: Global, config: Config, events: &[Event]) -> Result<Report, WorldError>
-    ensures report { IfOk result (λ made. made ≡ report config (map event_of events.now)) }
+pub fn play<B: Replicated>(
+    alloc: Global,
+    config: Config,
+    shelves: Vec<Shelf<B>>,
+    events: &[Event],
+) -> Result<Report, WorldError>
+    ensures report { IfOk result (λ made.
+        made ≡ report config (kinds_of shelves.items) (map event_of events.now)) }
     ensures comparable { IfOk result (λ made. AreAllComparable made.learnt) }
     ensures one_history { IfOk result (λ made. AreOneHistory made.views) }
     ensures shown { IfOk result (λ made. ViewsHoldTheirOwn made.views made.learnt) }
-    ensures error { IfErr result (IsMakingRefusal config) }
+    ensures error { IfErr result (IsMakingRefusal config shelves.items) }
 {
     laws::learnt_sets_are_comparable();
     laws::views_are_comparable();
     laws::views_are_largest();
-    run(alloc, config, events)
+    run(alloc, config, shelves, events)
 }
 
 // ---- more callers
 ghost use Rattle.std.specs.Prelude.{slice_get};
 ghost use Rattle.std.specs.Option.{option_copied};
 
+use la_object::Counter;
 use la_proposer::Votes;
 use la_set::{Op, UpdateSet};
+use la_world::empty_shelves;
 
-/// A submission at one of three replicas. All that is sent is delivered, in the order of sending.
+/// A submission at one of three replicas, which are asked nothing. All that is sent is delivered, in
+/// the order of sending.
 pub fn one_learning(alloc: Global) -> Result<Report, WorldError>
     ensures comparable { IfOk result (λ made. AreAllComparable made.learnt) }
     ensures one_history { IfOk result (λ made. AreOneHistory made.views) }
@@ -50,7 +61,8 @@ pub fn one_learning(alloc: Global) -> Result<Report, WorldError>
     for message in 0..8 {
         events.push(Event::Deliver(message))?;
     }
-    play(alloc, config, events.as_slice())
+    let shelves = empty_shelves::<Counter>(alloc, 3)?;
+    play(alloc, config, shelves, events.as_slice())
 }
 
 /// What a replica shows at the end of a run; `None` where the group has no such replica.
@@ -66,12 +78,127 @@ ghost use Rattle.la_world.specs.Laws.{CommitsAgree, ReturnsAreProposed};
 /// Plays a list of events, proposals among them. Where one participant of an adopt-commit object
 /// commits a value, each participant of it that returns has this value; and each value that is
 /// returned was proposed to the object, by an event that was accepted.
-pub fn play_proposals(alloc: Global, config: Config, events: &[Event]) -> Result<Report, WorldError>
+pub fn play_proposals<B: Replicated>(
+    alloc: Global,
+    config: Config,
+    shelves: Vec<Shelf<B>>,
+    events: &[Event],
+) -> Result<Report, WorldError>
     ensures agree { IfOk result (λ made. CommitsAgree made.outcomes) }
     ensures proposed { IfOk result (λ made.
         ReturnsAreProposed (accepted_among (map event_of events.now) made.steps) made.outcomes) }
-    ensures error { IfErr result (IsMakingRefusal config) }
+    ensures error { IfErr result (IsMakingRefusal config shelves.items) }
 {
     laws::reported_outcomes_are_safe();
-    run(alloc, config, events)
+    run(alloc, config, shelves, events)
+}
+
+// ---- questions
+ghost use Rattle.la_world.specs.Groups.{group_of};
+ghost use Rattle.uses.specs.Promises.{HaveOneKind, AnswersAgree};
+
+use la_object::{Answer, Query, ShelfError};
+use la_orset::OrSet;
+use la_world::{Did, Line};
+
+/// Plays a list of events, questions among them. Where the objects under a number are of one kind
+/// on all shelves, two replicas that are asked the same with equal views answer alike, each at
+/// whatever moment.
+pub fn play_questions<B: Replicated>(
+    alloc: Global,
+    config: Config,
+    shelves: Vec<Shelf<B>>,
+    events: &[Event],
+) -> Result<Report, WorldError>
+    ensures agree { HaveOneKind shelves.items → IfOk result (λ made. AnswersAgree
+        (group_of config (kinds_of shelves.items)) (map event_of events.now) made.steps) }
+    ensures error { IfErr result (IsMakingRefusal config shelves.items) }
+{
+    run(alloc, config, shelves, events)
+}
+
+/// A shelf for each pair of objects, with the one under 1 and the other under 2.
+pub fn shelves_of<B: Replicated>(
+    alloc: Global,
+    objects: Vec<(B, B)>,
+) -> Result<Vec<Shelf<B>>, ShelfError> {
+    let mut shelves = Vec::with_capacity(alloc, objects.len())?;
+    for (one, other) in objects {
+        let mut shelf = Shelf::new(alloc);
+        shelf.add(1, one)?;
+        shelf.add(2, other)?;
+        shelves.push(shelf)?;
+    }
+    Ok(shelves)
+}
+
+/// One replica adds to a counter and puts into a set, and asks both before and after it learns that.
+/// It is a group of one, so it hears its own acceptor alone.
+pub fn asked_before_and_after<B: Replicated>(
+    alloc: Global,
+    objects: Vec<(B, B)>,
+) -> Result<Report, WorldError> {
+    let config = Config {
+        replicas: 1,
+        commits: 0,
+        cap: 1000,
+        votes: Votes::one_each(1),
+    };
+    let Ok(shelves) = shelves_of(alloc, objects) else {
+        return Err(WorldError::Memory);
+    };
+    let mut events = Vec::new(alloc);
+    add_questions(&mut events)?;
+    events.push(submission(1, Op::Inc(5)))?;
+    events.push(submission(2, Op::Put(9)))?;
+    for message in 0..4 {
+        events.push(Event::Deliver(message))?;
+    }
+    add_questions(&mut events)?;
+    play_questions(alloc, config, shelves, events.as_slice())
+}
+
+fn submission(object: u16, op: Op) -> Event {
+    Event::Submit {
+        replica: 0,
+        object,
+        op,
+    }
+}
+
+fn add_questions(events: &mut Vec<Event>) -> Result<(), WorldError> {
+    events.push(question(1, Query::Total))?;
+    events.push(question(2, Query::Has(9)))?;
+    Ok(())
+}
+
+fn question(object: u16, query: Query) -> Event {
+    Event::Ask {
+        replica: 0,
+        object,
+        query,
+    }
+}
+
+/// The same with a counter and a set: they are boxed here, where their types are known.
+pub fn counter_beside_a_set(alloc: Global) -> Result<Report, WorldError> {
+    let mut objects: Vec<(Box<dyn Replicated + Send>, Box<dyn Replicated + Send>)> = Vec::new(
+        alloc,
+    );
+    objects.push((
+        Box::new(alloc, Counter::new(alloc))?,
+        Box::new(alloc, OrSet::new(alloc))?,
+    ))?;
+    asked_before_and_after(alloc, objects)
+}
+
+/// The answer to the question that was the event at a place, from 0; `None` where there is none.
+pub fn answer_at(made: &Report, place: usize) -> Option<&Answer> {
+    match made.steps.at(place)? {
+        Line::Done(step) => match &step.did {
+            Did::Replied(answer) => Some(answer),
+            _ => None,
+        },
+        Line::Refused(_) => None,
+    }
 }

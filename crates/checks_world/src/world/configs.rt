@@ -1,8 +1,10 @@
 // Groups at the ends of the ranges: no world has one out of them, and no run is made of it.
 use super::plays::world_of;
+use la_object::{Counter, Shelf};
 use la_proposer::Votes;
-use la_world::{Config, World, WorldError, run};
+use la_world::{Config, World, WorldError, empty_shelves, run};
 use std::alloc::Global;
+use std::process::Abort;
 
 // Replicas, adopt-commit objects and cap, where there are votes for three replicas.
 const OUT_OF_RANGE: [(u8, u8, u32); 10] = [
@@ -26,10 +28,22 @@ const IN_RANGE: [(u8, u8, u32); 5] = [
     (3, 16, 10),
 ];
 
-fn refusals(alloc: Global, config: Config) -> (Option<WorldError>, Option<WorldError>) {
+// As many shelves as the group is said to have replicas.
+fn shelves_for(rt: &impl Abort, alloc: Global, config: Config) -> Vec<Shelf<Counter>> {
+    match empty_shelves(alloc, config.replicas) {
+        Ok(shelves) => shelves,
+        Err(_) => empty_shelves(alloc, config.replicas).expect(rt, "memory is there again"),
+    }
+}
+
+fn refusals(
+    rt: &impl Abort,
+    alloc: Global,
+    config: Config,
+) -> (Option<WorldError>, Option<WorldError>) {
     (
-        World::new(alloc, config).err(),
-        run(alloc, config, &[]).err(),
+        World::new(alloc, config, shelves_for(rt, alloc, config)).err(),
+        run(alloc, config, shelves_for(rt, alloc, config), &[]).err(),
     )
 }
 
@@ -44,7 +58,7 @@ fn no_world_has_a_value_out_of_its_range(rt: HostRuntime) {
             votes: Votes::one_each(3),
         };
         assert!(rt;
-            refusals(rt.alloc(), config) == refused,
+            refusals(&rt, rt.alloc(), config) == refused,
             "{replicas} {commits} {cap}"
         );
     }
@@ -60,6 +74,7 @@ fn the_ends_of_the_ranges_are_taken(rt: HostRuntime) {
             cap,
             votes: Votes::one_each(replicas),
         };
-        assert!(rt; world_of(&rt, rt.alloc(), config).events() == 0);
+        let world: World<Counter> = world_of(&rt, rt.alloc(), config);
+        assert!(rt; world.events() == 0);
     }
 }

@@ -1,7 +1,7 @@
 // The laws, each by what follows from it. To call a law is a hint to the prover, and no work: its
 // contract is what it hands on.
 ghost use Rattle.std.specs.Prelude.{◌≡◌, ◌+◌, ◌<◌, ◌≤◌, [], ◌∷◌, ◌++◌};
-ghost use Rattle.std.specs.Prelude.{ℕ, drop, map, slice_get, Some, Contains, IfOk};
+ghost use Rattle.std.specs.Prelude.{ℕ, List, drop, map, slice_get, Some, Contains, IfOk};
 ghost use Rattle.la_set.specs.Histories.{Histories, history};
 ghost use Rattle.la_set.specs.Inclusion.{IsSubset};
 ghost use Rattle.la_replica.specs.Whole.{Message, Yes};
@@ -9,7 +9,10 @@ ghost use Rattle.la_world.specs.declared.config.Config.{Config};
 ghost use Rattle.la_world.specs.declared.error.Refusal.TheVariants.{AlreadyProposed};
 ghost use Rattle.la_world.specs.declared.step.Opening.{Opening};
 ghost use Rattle.la_world.specs.declared.step.Learnt.{Learnt};
+ghost use Rattle.la_object.specs.declared.query.Query.{Query};
+ghost use Rattle.la_object.specs.declared.query.Answer.{Answer};
 ghost use Rattle.la_world.specs.Groups.{Group, group_of, replicas, IsConfig};
+ghost use Rattle.la_world.specs.StandsFor.{kinds_of};
 ghost use Rattle.la_world.specs.Events.{Past, Event as Occurrence, event_of, Decide};
 ghost use Rattle.la_world.specs.Learnings.{learnt};
 ghost use Rattle.la_world.specs.Sent.{sent};
@@ -19,29 +22,32 @@ ghost use Rattle.la_world.specs.Submissions.{taken, whole};
 ghost use Rattle.la_world.specs.Views.{seen, view};
 ghost use Rattle.la_world.specs.Playing.{trace};
 ghost use Rattle.la_world.specs.Report.{refused, trace_of};
-ghost use Rattle.la_world.specs.Laws.{AreComparable};
+ghost use Rattle.la_world.specs.Report.{lines};
+ghost use Rattle.la_world.specs.Laws.{AreComparable, IsAnswered, view_at_place};
 
+use la_object::{Replicated, Shelf};
 use la_world::{Config, Event, Report, WorldError, laws, run};
 use std::alloc::Global;
 
 // What a run's learnt sets hold of their own replicas is what was taken, and any two of one
 // instance are comparable.
 #[tactic(auto, using(crate::proofs::WorldLaws::run_own, crate::proofs::WorldLaws::run_comparable))]
-fn learnt_sets_of_a_run(
+fn learnt_sets_of_a_run<B: Replicated>(
     alloc: Global,
     config: Config,
+    shelves: Vec<Shelf<B>>,
     events: &[Event],
 ) -> Result<Report, WorldError>
     ensures own { IfOk result (λ made. (x : Learnt) → Contains made.learnt x → x.replica < 8
-        → history x.updates x.replica ≡ taken (trace_of (group_of config) (map event_of events.now))
-        x.instance x.replica x.ballot) }
+        → history x.updates x.replica ≡ taken (trace_of (group_of config (kinds_of shelves.items))
+        (map event_of events.now)) x.instance x.replica x.ballot) }
     ensures comparable { IfOk result (λ made. (x y : Learnt)
         → Contains made.learnt x → Contains made.learnt y
         → x.instance ≡ y.instance → AreComparable x.updates y.updates) }
 {
     laws::learnt_sets_hold_what_was_taken();
     laws::learnt_sets_are_comparable();
-    run(alloc, config, events)
+    run(alloc, config, shelves, events)
 }
 
 // An acknowledgement's acceptor had accepted exactly the set of each ballot that has this number,
@@ -99,9 +105,10 @@ fn views_contain_what_is_seen()
 
 // Of the sets of a run that one replica learnt in one instance the later contains the earlier.
 #[tactic(auto, using(crate::proofs::WorldLaws::run_grows))]
-fn learnt_sets_of_a_run_grow(
+fn learnt_sets_of_a_run_grow<B: Replicated>(
     alloc: Global,
     config: Config,
+    shelves: Vec<Shelf<B>>,
     events: &[Event],
 ) -> Result<Report, WorldError>
     ensures { IfOk result (λ made. (j k : ℕ) (x y : Learnt)
@@ -109,7 +116,7 @@ fn learnt_sets_of_a_run_grow(
         → x.instance ≡ y.instance → x.replica ≡ y.replica → j < k → IsSubset x.updates y.updates) }
 {
     laws::learnt_sets_grow();
-    run(alloc, config, events)
+    run(alloc, config, shelves, events)
 }
 
 // No view shrinks over two further events.
@@ -128,4 +135,16 @@ fn a_learnt_set_has_only_what_was_submitted()
         → (later : ℕ) × IsSubset x.updates (whole (trace g (drop later events)) x.instance) }
 {
     laws::learnt_sets_are_valid();
+}
+
+// A question that was answered is answered by the view of the replica that was asked alone: whatever
+// came between two such places, where it left the view the second answer is the first one.
+#[tactic(auto, using(crate::proofs::WorldLaws::answers_stay))]
+fn answers_stay_with_the_view()
+    ensures { (g : Group) (events : List Occurrence) (j k r object : ℕ) (query : Query)
+        (a b : Answer) → IsAnswered events (lines g events) j r object query a
+        → IsAnswered events (lines g events) k r object query b
+        → view_at_place g events j r ≡ view_at_place g events k r → a ≡ b }
+{
+    laws::answers_are_values();
 }

@@ -2,6 +2,7 @@
 use super::events::Act;
 use super::plays::{act, play, voters, world_of};
 use super::shown::{Ballot, Row, Shown};
+use la_object::Counter;
 use la_world::{Config, Refusal, World};
 use std::alloc::Global;
 use std::process::Abort;
@@ -29,12 +30,18 @@ const ENDS: [Row; 4] = [
 ];
 
 // Whether a submission does this.
-fn submits(rt: &impl Abort, alloc: Global, world: &mut World, row: Row) -> bool {
+fn submits(rt: &impl Abort, alloc: Global, world: &mut World<Counter>, row: Row) -> bool {
     let event = act(rt, alloc, Act::Inc(0, 1));
     play(rt, world, &event) == Some(row)
 }
 
-fn delivers(rt: &impl Abort, alloc: Global, world: &mut World, number: u64, row: Row) -> bool {
+fn delivers(
+    rt: &impl Abort,
+    alloc: Global,
+    world: &mut World<Counter>,
+    number: u64,
+    row: Row,
+) -> bool {
     let event = act(rt, alloc, Act::Deliver(number));
     play(rt, world, &event) == Some(row)
 }
@@ -45,7 +52,7 @@ fn thousands_of_submissions(rt: HostRuntime) {
         cap: MANY,
         ..voters(&rt, &[1])
     };
-    let mut world = world_of(&rt, rt.alloc(), config);
+    let mut world: World<Counter> = world_of(&rt, rt.alloc(), config);
     assert!(rt; submits(&rt, rt.alloc(), &mut world, FIRST));
     for number in 2..=MANY {
         let row = Row(Shown::Held(0, number), 1, 0);

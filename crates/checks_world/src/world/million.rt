@@ -1,6 +1,7 @@
 // A million updates of one replica, each learnt at once: time and memory grow with what is sent.
 use super::events::Act;
 use super::plays::{act, voters, world_of};
+use la_object::Counter;
 use la_world::{Config, Did, Event, Step, World, WorldError};
 use std::alloc::Global;
 use std::process::Abort;
@@ -11,7 +12,7 @@ const MILLION: u32 = 1_000_000;
 const MOST: u64 = 3_000_000;
 
 // Plays an event, once more where memory was refused: that changed nothing.
-fn plays(rt: &impl Abort, world: &mut World, event: &Event) -> Result<Step, WorldError> {
+fn plays(rt: &impl Abort, world: &mut World<Counter>, event: &Event) -> Result<Step, WorldError> {
     assert!(rt; world.events() < MOST);
     match world.play(event) {
         Err(WorldError::Memory) => world.play(event),
@@ -24,7 +25,7 @@ fn plays(rt: &impl Abort, world: &mut World, event: &Event) -> Result<Step, Worl
 fn learns(
     rt: &impl Abort,
     alloc: Global,
-    world: &mut World,
+    world: &mut World<Counter>,
     submission: &Event,
     learnt: u32,
 ) -> bool {
@@ -56,7 +57,7 @@ fn a_million_learnings(rt: HostRuntime) {
         cap: MILLION,
         ..voters(&rt, &[1])
     };
-    let mut world = world_of(&rt, rt.alloc(), config);
+    let mut world: World<Counter> = world_of(&rt, rt.alloc(), config);
     let submission = act(&rt, rt.alloc(), Act::Inc(0, 1));
     for learnt in 0..MILLION {
         assert!(rt;

@@ -2,7 +2,9 @@
 // of memory has changed nothing and is made again.
 use super::events::{Act, event_of};
 use super::runs::{EXACT_HALF, HEAVY_VOTER, Run, UNEQUAL_VOTERS};
+use super::shelves::{Numbered, shelves, shelves_again};
 use super::shown::{Ballot, Row, Shown, counts_of, learnt_of, line_of, row_of};
+use la_object::{Counter, Replicated};
 use la_proposer::Votes;
 use la_world::{Config, Event, Refusal, Report, Step, Steps, World, WorldError, run};
 use std::alloc::Global;
@@ -24,10 +26,13 @@ pub fn voters(rt: &impl Abort, votes: &[u16]) -> Config {
     }
 }
 
-pub fn world_of(rt: &impl Abort, alloc: Global, config: Config) -> World {
-    match World::new(alloc, config) {
+pub fn world_of<B: Numbered>(rt: &impl Abort, alloc: Global, config: Config) -> World<B> {
+    match World::new(alloc, config, shelves_again(rt, alloc, config.replicas)) {
         Ok(world) => world,
-        Err(_) => World::new(alloc, config).expect(rt, "memory is there again"),
+        Err(_) => {
+            let shelves = shelves_again(rt, alloc, config.replicas);
+            World::new(alloc, config, shelves).expect(rt, "memory is there again")
+        }
     }
 }
 
@@ -39,7 +44,7 @@ pub fn act(rt: &impl Abort, alloc: Global, act: Act) -> Event {
 }
 
 // How many events and messages there were, and how large the views are.
-fn standing(world: &World) -> (u64, u64, [usize; 8]) {
+fn standing<B: Replicated>(world: &World<B>) -> (u64, u64, [usize; 8]) {
     let mut sizes = [0; 8];
     for replica in 0..8u8 {
         if let Some(view) = world.view(replica) {
@@ -58,6 +63,7 @@ fn shown(answer: Result<Step, WorldError>) -> Option<Row> {
         Err(WorldError::NoSuchMessage) => refused(Refusal::NoSuchMessage),
         Err(WorldError::NoSuchCommit) => refused(Refusal::NoSuchCommit),
         Err(WorldError::AlreadyProposed) => refused(Refusal::AlreadyProposed),
+        Err(WorldError::NoSuchObject) => refused(Refusal::NoSuchObject),
         Err(_) => None,
     }
 }
@@ -67,7 +73,7 @@ fn refused(refusal: Refusal) -> Option<Row> {
 }
 
 // Plays an event. Where it did not happen the world has to stand as before.
-pub fn play(rt: &impl Abort, world: &mut World, event: &Event) -> Option<Row> {
+pub fn play<B: Replicated>(rt: &impl Abort, world: &mut World<B>, event: &Event) -> Option<Row> {
     assert!(rt; world.events() < MOST);
     let before = standing(world);
     let row = match world.play(event) {
@@ -83,7 +89,12 @@ pub fn play(rt: &impl Abort, world: &mut World, event: &Event) -> Option<Row> {
 }
 
 // Whether each event does what stands beside it.
-fn plays(rt: &impl Abort, alloc: Global, world: &mut World, lines: &[(Act, Row)]) -> bool {
+pub fn plays<B: Replicated>(
+    rt: &impl Abort,
+    alloc: Global,
+    world: &mut World<B>,
+    lines: &[(Act, Row)],
+) -> bool {
     for (what, row) in lines {
         let event = act(rt, alloc, *what);
         if play(rt, world, &event) != Some(*row) {
@@ -94,7 +105,7 @@ fn plays(rt: &impl Abort, alloc: Global, world: &mut World, lines: &[(Act, Row)]
 }
 
 // Whether the lines of a report are those of a table.
-fn has_lines(steps: &Steps, lines: &[(Act, Row)]) -> bool {
+pub fn has_lines(steps: &Steps, lines: &[(Act, Row)]) -> bool {
     for place in 0..lines.len() {
         match steps.at(place) {
             Some(line) if line_of(line) == lines[place].1 => {}
@@ -105,7 +116,7 @@ fn has_lines(steps: &Steps, lines: &[(Act, Row)]) -> bool {
 }
 
 // Whether these sets were learnt, and the views are these.
-fn has_end(report: &Report, run: &Run) -> bool {
+pub fn has_end(report: &Report, run: &Run) -> bool {
     for place in 0..run.learnt.len() {
         let (before, ballot) = run.learnt[place];
         match report.learnt.at(place) {
@@ -122,22 +133,34 @@ fn has_end(report: &Report, run: &Run) -> bool {
     report.learnt.len() == run.learnt.len() && report.views.len() == run.views.len()
 }
 
-fn report_of(alloc: Global, config: Config, lines: &[(Act, Row)]) -> Result<Report, WorldError> {
+fn report_of<B: Numbered>(
+    alloc: Global,
+    config: Config,
+    lines: &[(Act, Row)],
+) -> Result<Report, WorldError> {
+    let Ok(shelves) = shelves::<B>(alloc, config.replicas) else {
+        return Err(WorldError::Memory);
+    };
     let mut events = Vec::with_capacity(alloc, lines.len())?;
     for (what, _) in lines {
         events.push(event_of(alloc, *what)?)?;
     }
-    run(alloc, config, events.as_slice())
+    run(alloc, config, shelves, events.as_slice())
 }
 
-fn report_again(rt: &impl Abort, alloc: Global, config: Config, lines: &[(Act, Row)]) -> Report {
-    match report_of(alloc, config, lines) {
+pub fn report_again<R: Abort, B: Numbered>(
+    rt: &R,
+    alloc: Global,
+    config: Config,
+    lines: &[(Act, Row)],
+) -> Report {
+    match report_of::<B>(alloc, config, lines) {
         Ok(report) => report,
-        Err(_) => report_of(alloc, config, lines).expect(rt, "memory is there again"),
+        Err(_) => report_of::<B>(alloc, config, lines).expect(rt, "memory is there again"),
     }
 }
 
-fn end_of(rt: &impl Abort, alloc: Global, world: &World) -> Report {
+pub fn end_of<B: Replicated>(rt: &impl Abort, alloc: Global, world: &World<B>) -> Report {
     match world.report(Steps::new(alloc)) {
         Ok(report) => report,
         Err(_) => world
@@ -150,7 +173,7 @@ fn end_of(rt: &impl Abort, alloc: Global, world: &World) -> Report {
 fn runs_with_unequal_votes(rt: HostRuntime) {
     for run in RUNS {
         let config = voters(&rt, run.votes);
-        let report = report_again(&rt, rt.alloc(), config, run.lines);
+        let report = report_again::<_, Counter>(&rt, rt.alloc(), config, run.lines);
         assert!(rt; has_lines(&report.steps, run.lines) && has_end(&report, &run));
     }
 }
@@ -158,7 +181,7 @@ fn runs_with_unequal_votes(rt: HostRuntime) {
 #[test]
 fn the_same_event_by_event(rt: HostRuntime) {
     for run in RUNS {
-        let mut world = world_of(&rt, rt.alloc(), voters(&rt, run.votes));
+        let mut world: World<Counter> = world_of(&rt, rt.alloc(), voters(&rt, run.votes));
         assert!(rt; plays(&rt, rt.alloc(), &mut world, run.lines));
         assert!(rt; has_end(&end_of(&rt, rt.alloc(), &world), &run));
     }
@@ -196,7 +219,7 @@ fn refused_events_change_nothing(rt: HostRuntime) {
         cap: 1,
         ..voters(&rt, &[1, 3])
     };
-    let mut world = world_of(&rt, rt.alloc(), config);
+    let mut world: World<Counter> = world_of(&rt, rt.alloc(), config);
     assert!(rt; plays(&rt, rt.alloc(), &mut world, &REFUSED));
     assert!(rt; world.message(2).is_some() && world.message(3).is_none());
     assert!(rt; world.view(1).is_some() && world.view(2).is_none());

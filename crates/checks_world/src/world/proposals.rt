@@ -3,8 +3,10 @@
 use super::events::Act::{self, Decide, Deliver};
 use super::events::event_of;
 use super::plays::{act, play, voters, world_of};
+use super::shelves::shelves;
 use super::shown::{Row, Shown};
 use la_commit::Outcome::{self, Adopt, Commit};
+use la_object::Counter;
 use la_world::{Config, Line, Refusal, Report, World, WorldError, run};
 use std::alloc::Global;
 use std::process::Abort;
@@ -320,11 +322,14 @@ fn config_of(rt: &impl Abort, run: &Run) -> Config {
 }
 
 fn report_of(alloc: Global, config: Config, events: &[Act]) -> Result<Report, WorldError> {
+    let Ok(shelves) = shelves::<Counter>(alloc, config.replicas) else {
+        return Err(WorldError::Memory);
+    };
     let mut made = Vec::with_capacity(alloc, events.len())?;
     for what in events {
         made.push(event_of(alloc, *what)?)?;
     }
-    run(alloc, config, made.as_slice())
+    run(alloc, config, shelves, made.as_slice())
 }
 
 fn has_learnt(report: &Report, run: &Run) -> bool {
@@ -377,7 +382,7 @@ fn reports_of_proposals(rt: HostRuntime) {
 }
 
 // Whether what was returned is this, and nothing else of the objects and replicas up to a number.
-fn returned(world: &World, outcomes: &[(u8, u8, Outcome)]) -> bool {
+fn returned(world: &World<Counter>, outcomes: &[(u8, u8, Outcome)]) -> bool {
     for (commit, replica, outcome) in outcomes {
         if world.outcome(*commit, *replica) != Some(*outcome) {
             return false;
@@ -398,7 +403,7 @@ fn returned(world: &World, outcomes: &[(u8, u8, Outcome)]) -> bool {
 #[test]
 fn outcomes_event_by_event(rt: HostRuntime) {
     for run in RUNS {
-        let mut world = world_of(&rt, rt.alloc(), config_of(&rt, &run));
+        let mut world: World<Counter> = world_of(&rt, rt.alloc(), config_of(&rt, &run));
         assert!(rt; returned(&world, &[]));
         for what in run.events {
             let event = act(&rt, rt.alloc(), *what);
@@ -431,7 +436,13 @@ fn outcomes_event_by_event(rt: HostRuntime) {
     }
 }
 
-fn refuses(rt: &impl Abort, alloc: Global, world: &mut World, what: Act, refusal: Refusal) -> bool {
+fn refuses(
+    rt: &impl Abort,
+    alloc: Global,
+    world: &mut World<Counter>,
+    what: Act,
+    refusal: Refusal,
+) -> bool {
     let event = act(rt, alloc, what);
     play(rt, world, &event) == Some(Row(Shown::Refused(refusal), 0, 0))
 }

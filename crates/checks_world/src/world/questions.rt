@@ -1,0 +1,140 @@
+// Worlds that are asked: what the runs of the tables answer, and which tags a replica observes.
+use super::asked::{
+    BUFFER_AND_TELLS, FIRST_QUESTIONS, HEAVY_VOTER, LARGEST, READ_BY_MARK, SET_OF_TAGS,
+};
+use super::events::Act;
+use super::plays::{act, end_of, has_end, has_lines, play, plays, report_again, voters, world_of};
+use super::runs::Run;
+use super::shelves::{Numbered, Object};
+use la_object::Counter;
+use la_orset::OrSet;
+use la_set::{Tags, UpdateId};
+use la_world::{Config, World, WorldError};
+use std::alloc::Global;
+use std::process::Abort;
+
+const RUNS: [Run; 6] = [
+    FIRST_QUESTIONS,
+    BUFFER_AND_TELLS,
+    SET_OF_TAGS,
+    READ_BY_MARK,
+    LARGEST,
+    HEAVY_VOTER,
+];
+
+fn runs_as_it_should<R: Abort, B: Numbered>(rt: &R, alloc: Global, run: &Run) -> bool {
+    let report = report_again::<R, B>(rt, alloc, voters(rt, run.votes), run.lines);
+    has_lines(&report.steps, run.lines) && has_end(&report, run)
+}
+
+#[test]
+fn runs_with_questions(rt: HostRuntime) {
+    for run in RUNS {
+        assert!(rt; runs_as_it_should::<_, Object>(&rt, rt.alloc(), &run));
+    }
+}
+
+fn plays_as_it_should<R: Abort, B: Numbered>(rt: &R, alloc: Global, run: &Run) -> bool {
+    let mut world: World<B> = world_of(rt, alloc, voters(rt, run.votes));
+    plays(rt, alloc, &mut world, run.lines) && has_end(&end_of(rt, alloc, &world), run)
+}
+
+// `play` makes a question again that was refused for want of memory: the shelf may have absorbed
+// some of the view then, and the answers are the same.
+#[test]
+fn questions_event_by_event(rt: HostRuntime) {
+    for run in RUNS {
+        assert!(rt; plays_as_it_should::<_, Object>(&rt, rt.alloc(), &run));
+    }
+}
+
+// ## What a replica observes
+
+// How many messages a learning takes in a group of three: three offers, two acknowledgements and two
+// tells.
+const MESSAGES: u64 = 7;
+
+// The most that a replica learns, one update after another.
+const MOST: u64 = 100;
+
+// Lets replica 0 put 9 into the set 3, and learn that, after so many others. No tell is delivered.
+fn puts(rt: &impl Abort, alloc: Global, world: &mut World<OrSet>, before: u64) -> bool {
+    let first = before.min(MOST) * MESSAGES;
+    let acts = [
+        Act::PutOn(0, 3, 9),
+        Act::Deliver(first),
+        Act::Deliver(first + 1),
+        Act::Deliver(first + 3),
+        Act::Deliver(first + 4),
+    ];
+    for what in acts {
+        let event = act(rt, alloc, what);
+        if play(rt, world, &event).is_none() {
+            return false;
+        }
+    }
+    true
+}
+
+fn observed(
+    world: &mut World<OrSet>,
+    replica: u8,
+    object: u16,
+    element: u64,
+) -> Result<Tags, WorldError> {
+    match world.observed(replica, object, element) {
+        Err(WorldError::Memory) => world.observed(replica, object, element),
+        first => first,
+    }
+}
+
+// Whether these are the tags of replica 0 from 1 to a number.
+fn are_first(tags: &Tags, count: u32) -> bool {
+    for number in 1..=count {
+        if !tags.has(UpdateId { replica: 0, number }) {
+            return false;
+        }
+    }
+    tags.len() == count as usize
+}
+
+fn observes(world: &mut World<OrSet>, replica: u8, count: u32) -> bool {
+    observed(world, replica, 3, 9).is_ok_and(|tags| are_first(&tags, count))
+}
+
+fn refuses(world: &mut World<OrSet>, replica: u8, object: u16, refusal: WorldError) -> bool {
+    observed(world, replica, object, 9).err() == Some(refusal)
+}
+
+#[test]
+fn live_tags_are_observed_by_the_view(rt: HostRuntime) {
+    let config = Config {
+        cap: 100,
+        ..voters(&rt, &[1, 1, 1])
+    };
+    let mut world: World<OrSet> = world_of(&rt, rt.alloc(), config);
+    for before in 0..3u64 {
+        assert!(rt; puts(&rt, rt.alloc(), &mut world, before), "{before}");
+    }
+    assert!(rt; observes(&mut world, 0, 3) && observes(&mut world, 1, 0));
+    for before in 3..64u64 {
+        assert!(rt; puts(&rt, rt.alloc(), &mut world, before), "{before}");
+    }
+    assert!(rt; observes(&mut world, 0, 64) && puts(&rt, rt.alloc(), &mut world, 64));
+    assert!(rt; refuses(&mut world, 0, 3, WorldError::TooManyTags) && observes(&mut world, 1, 0));
+}
+
+#[test]
+fn tags_are_observed_of_objects_that_there_are(rt: HostRuntime) {
+    let mut world: World<OrSet> = world_of(&rt, rt.alloc(), voters(&rt, &[1, 1, 1]));
+    assert!(rt; refuses(&mut world, 0, 4, WorldError::NoSuchObject));
+    assert!(rt; refuses(&mut world, 3, 4, WorldError::NoSuchReplica));
+    assert!(rt; observes(&mut world, 2, 0) && world.events() == 0);
+}
+
+// A counter has no tags.
+#[test]
+fn counters_observe_nothing(rt: HostRuntime) {
+    let mut world: World<Counter> = world_of(&rt, rt.alloc(), voters(&rt, &[1]));
+    assert!(rt; world.observed(0, 1, 9).is_ok_and(|tags| tags.len() == 0));
+}
