@@ -1,13 +1,12 @@
 -- Shelves with objects of one kind under a number, and shelves without objects.
-use Rattle.std.proofs.Common.{◌≡◌, ℕ, zero, suc, ◌<◌, ◌≤◌, List, [], ◌∷◌, length, map, Contains, slice_get, refl, sym, ◌∙◌, ap, arith}
+use Rattle.std.proofs.Common.{◌≡◌, ℕ, zero, suc, ◌<◌, List, [], ◌∷◌, length, Contains, slice_get, refl, sym, ◌∙◌, ap, arith}
 use Rattle.std.specs.Prelude.{Result, Ok, Err, IfOk, OnOk, unwrap_or, replicate}
 use Rattle.la_set.specs.Histories.{empty}
-use Rattle.la_object.specs.declared.kind.Kind.{Kind}
 use Rattle.la_object.specs.Shelves.{ShelfState, kind_at}
 use Rattle.la_world.specs.declared.config.Config.{Config}
 use Rattle.la_world.specs.declared.error.WorldError.{WorldError}
 use Rattle.la_world.specs.declared.report.Report.{Report}
-use Rattle.la_world.specs.Groups.{Group, group_of, replicas, kinds_on}
+use Rattle.la_world.specs.Groups.{group_of, replicas, kinds_on}
 use Rattle.la_world.specs.Events.{Event}
 use Rattle.la_world.specs.StandsFor.{kinds_of}
 use Rattle.la_world.specs.Laws.{EqualViewsAnswerAlike}

@@ -182,8 +182,9 @@ fn question(object: u16, query: Query) -> Event {
 
 /// The same with a counter and a set: they are boxed here, where their types are known.
 pub fn counter_beside_a_set(alloc: Global) -> Result<Report, WorldError> {
-    let mut objects: Vec<(Box<dyn Replicated + Send>, Box<dyn Replicated + Send>)> =
-        Vec::new(alloc);
+    let mut objects: Vec<(Box<dyn Replicated + Send>, Box<dyn Replicated + Send>)> = Vec::new(
+        alloc,
+    );
     objects.push((
         Box::new(alloc, Counter::new(alloc))?,
         Box::new(alloc, OrSet::new(alloc))?,
@@ -192,8 +193,7 @@ pub fn counter_beside_a_set(alloc: Global) -> Result<Report, WorldError> {
 }
 
 /// The answer to the question that was the event at a place, from 0; `None` where there is none.
-pub fn answer_at(made: &Report, place: usize) -> Option<&Answer>
-{
+pub fn answer_at(made: &Report, place: usize) -> Option<&Answer> {
     match made.steps.at(place)? {
         Line::Done(step) => match &step.did {
             Did::Replied(answer) => Some(answer),
