@@ -21,7 +21,8 @@ pub fn empty_shelves<B: Replicated>(
     Ok(shelves)
 }
 
-// Whether no shelf has absorbed anything.
+/// Whether none of the shelves has absorbed anything, as a new world asks of them. The cost is a step
+/// for each.
 pub fn are_unused<B: Replicated>(shelves: &[Shelf<B>]) -> bool
     ensures { IsTrue result ↔ All (λ (s : ShelfState). s.view ≡ empty) shelves.now }
 {
