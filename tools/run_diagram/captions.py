@@ -2,10 +2,10 @@
 from __future__ import annotations
 
 from .report import (
-    Ballot, Held, Learnt, No, Opened, Outcome, Refined, Refused, Took, Yes, set_text,
+    Ballot, Held, Learnt, No, Opened, Outcome, Refined, Refused, Replied, Took, Yes, set_text,
 )
 from .run import Moment
-from .script import Decide, Submit
+from .script import Ask, Decide, Submit
 
 # The width of a character of the picture's font, with a little to spare, and the height of a line.
 CHARACTER = 6.7
@@ -56,18 +56,28 @@ def outcome_caption(outcome: Outcome) -> Caption:
             return [(f"no {mail}", "plain"), *wrap(set_text(updates), "plain")]
         case Took(updates):
             return [("took", "plain"), *wrap(set_text(updates), "plain")]
-        case Held() | Refused():
+        case Held() | Replied() | Refused():
             return wrap(str(outcome), "plain")
     return [(str(outcome), "plain")]
+
+
+def short(operation: tuple[str, ...]) -> str:
+    """An operation in short words."""
+    is_long = operation[0] == "remove" and len(operation) > 3
+    return f"remove {len(set(operation[1:]))} tags" if is_long else " ".join(operation)
 
 
 def event_caption(moment: Moment) -> Caption:
     """What happened: what was submitted, or which message came."""
     event = moment.event
     if isinstance(event, Submit):
-        return wrap(f"submit {event.operation}", "plain") + [(f"on object {event.object}", "plain")]
+        words = wrap(f"submit {short(event.operation)}", "plain")
+        return words + [(f"on object {event.object}", "plain")]
     if isinstance(event, Decide):
         return wrap(f"decide {event.value}", "plain") + [(f"adopt-commit {event.commit}", "plain")]
+    if isinstance(event, Ask):
+        words = wrap(f"ask {' '.join(event.question)}", "plain")
+        return words + [(f"of object {event.object}", "plain")]
     if moment.message is None:
         return wrap(f"deliver m{event.message}", "plain")
     return [(str(moment.message), moment.message.kind.value)]

@@ -7,7 +7,7 @@ from dataclasses import dataclass
 from . import svg
 from .captions import width_of
 from .run import Kind
-from .shapes import STAR, arrow, cross, diamond, disc, lost_line, star
+from .shapes import STAR, arrow, cross, diamond, disc, lost_line, square, star
 
 LEFT = 12.0
 LEADING = 22
@@ -47,21 +47,23 @@ def mark_entry(mark: Symbol, words: str) -> Entry:
     return Entry(lambda x, y: mark(x + STAR, y), 2 * STAR, words)
 
 
-def entries() -> list[Entry]:
+def entries(has_questions: bool) -> list[Entry]:
     """What the legend explains, in order."""
+    question = mark_entry(lambda x, y: square(x, y, "mark"), "question")
     return [
         *(Entry(arrow_symbol(kind), ARROW, words) for kind, words in WORDS.items()),
         Entry(lost_symbol, ARROW, "never delivered"),
         mark_entry(lambda x, y: diamond(x, y, "mark"), "submission"),
         mark_entry(disc, "delivery"),
         mark_entry(star, "a set is learnt"),
+        *([question] if has_questions else []),
     ]
 
 
-def draw_legend(width: float, top: float) -> tuple[list[str], float]:
+def draw_legend(width: float, top: float, has_questions: bool) -> tuple[list[str], float]:
     """The legend, in as many lines as this width asks for, and where it ends."""
     parts, x, y = [], LEFT, top
-    for entry in entries():
+    for entry in entries(has_questions):
         text = x + entry.room + 6
         end = text + width_of(entry.words)
         if end > width and x > LEFT:

@@ -7,6 +7,7 @@ from .layout import DOWN, LOOP_LABEL, NEAR, STUB, UP, Column, lay_out
 from .legend import draw_legend
 from .report import Learnt, set_text
 from .run import Message, Run
+from .script import Ask
 from .shapes import (
     Point, arrow, arrow_heads, cross, loop, lost_line, mark, radius, style_sheet, towards,
 )
@@ -140,7 +141,8 @@ class Picture:
     def draw(self) -> str:
         """The whole picture."""
         width = max(self.layout.width, LEAST_WIDTH)
-        legend, height = draw_legend(width, self.layout.height)
+        asked = any(isinstance(moment.event, Ask) for moment in self.run.moments)
+        legend, height = draw_legend(width, self.layout.height, asked)
         size = {"width": width, "height": height}
         parts = [
             svg.element("title", title_of(self.run)), svg.element("desc", description_of(self.run)),

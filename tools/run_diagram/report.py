@@ -161,6 +161,16 @@ class Kept:
 
 
 @dataclass(frozen=True)
+class Replied:
+    """An object answered so."""
+
+    answer: str
+
+    def __str__(self) -> str:
+        return self.answer
+
+
+@dataclass(frozen=True)
 class Refused:
     """The event was refused, by this name."""
 
@@ -171,7 +181,8 @@ class Refused:
 
 
 Outcome = (
-    Opened | Held | Yes | No | Counted | Ignored | Refined | Learnt | Took | Kept | Refused
+    Opened | Held | Yes | No | Counted | Ignored | Refined | Learnt | Took | Kept | Replied
+    | Refused
 )
 
 
@@ -230,6 +241,9 @@ SET = rf"(\{{(?:{ID}(?: {ID})*)?\}})"
 MAIL = f"(m{DIGITS}(?:-m{DIGITS})?)"
 BALLOT = f"r({DIGITS}) i({DIGITS}) b({DIGITS}) {SET}"
 DECISION = f"((?:commit|adopt) {DIGITS})"
+ITEMS = rf"items \[(?:{DIGITS}(?: {DIGITS})*)?\]"
+ANSWER = f"(total -?{DIGITS}|largest {DIGITS}|has yes|has no|size {DIGITS}|{ITEMS}|foreign)"
+NAMES = "NoSuchReplica|Full|NoSuchMessage|NoSuchCommit|AlreadyProposed|NoSuchObject"
 FORMS: tuple[tuple[str, Callable[..., Outcome]], ...] = (
     (f"opened {BALLOT} {MAIL}", opened_of),
     (f"held ({ID})", lambda update: Held(id_of(update))),
@@ -241,7 +255,8 @@ FORMS: tuple[tuple[str, Callable[..., Outcome]], ...] = (
     (f"learnt {BALLOT}(?: told {MAIL})?(?: {DECISION})?(?: opened {BALLOT} {MAIL})?", learnt_of),
     (f"took {SET}", lambda updates: Took(set_of(updates))),
     ("kept", Kept),
-    ("refused (NoSuchReplica|Full|NoSuchMessage|NoSuchCommit|AlreadyProposed)", Refused),
+    (ANSWER, Replied),
+    (f"refused ({NAMES})", Refused),
 )
 
 

@@ -4,7 +4,8 @@ A report does not say who a message is from and to. That follows from the events
 above: a ballot is offered to every replica from 0 on, a reply goes back, and a learnt set is told
 to every other replica before the next ballot's offers are sent. On the way each line is held
 against its event and the lines above it, so that a report of another script is refused. All this
-goes on in each instance by itself; tells and views are of instance 0.
+goes on in each instance by itself; tells and views are of instance 0. What an object answers follows
+from the view of its replica.
 """
 from __future__ import annotations
 
@@ -12,12 +13,13 @@ from dataclasses import dataclass, field
 from enum import Enum
 
 from .lines import Line, Lines
+from .objects import OBJECTS, Update
 from .report import (
     Ballot, Counted, Decision, Held, Ignored, Kept, Learnt, Mail, No, Opened, Outcome, Refined,
-    Refused, Took, UpdateId, UpdateSet, Yes, set_text, take_decision, take_header, take_outcome,
-    take_view,
+    Refused, Replied, Took, UpdateId, UpdateSet, Yes, id_text, set_text, take_decision, take_header,
+    take_outcome, take_view,
 )
-from .script import Decide, Deliver, Event, Group, Script, Submit
+from .script import Ask, Decide, Deliver, Event, Group, Script, Submit
 from .votes import Vote, decision_of, second_vote
 
 EMPTY: UpdateSet = frozenset()
@@ -123,6 +125,7 @@ class Follower:
             for replica in range(group.replicas)
         ]
         self.views = [EMPTY] * group.replicas
+        self.updates: dict[UpdateId, Submit] = {}
         self.votes: dict[tuple[int, int], Vote] = {}
         self.decisions: dict[tuple[int, int], Decision] = {}
         self.messages: list[Message] = []
@@ -178,6 +181,7 @@ class Follower:
         place = self.places[event.replica][0]
         if place.submitted == self.group.cap:
             return self.require_outcome(outcome, Refused("Full"), "the cap is reached")
+        self.updates[place.replica, place.submitted + 1] = event
         if place.is_open:
             place.submitted += 1
             update: UpdateId = (place.replica, place.submitted)
@@ -290,6 +294,20 @@ class Follower:
         expected = Took(tell.updates) if self.show(tell.target, tell.updates) else Kept()
         self.require_outcome(outcome, expected, why)
 
+    def question(self, event: Ask, outcome: Outcome) -> None:
+        """Follows a question to a replica of the group: its objects know what is in its view."""
+        if event.object not in OBJECTS:
+            return self.require_outcome(outcome, Refused("NoSuchObject"), str(event))
+        view = self.views[event.replica]
+        updates = [
+            Update(id_text(update), submission.operation)
+            for update, submission in self.updates.items()
+            if update in view and submission.object == event.object
+        ]
+        expected = Replied(OBJECTS[event.object](updates, event.question))
+        why = f"{event}, with the view {set_text(view)}"
+        return self.require_outcome(outcome, expected, why)
+
     def delivery(self, message: Message, outcome: Outcome) -> None:
         """Follows the delivery of a message that was sent."""
         match message.kind:
@@ -309,6 +327,9 @@ class Follower:
                 return Moment(self.event, event, outcome, replica, None)
             case Decide(replica) if replica < self.group.replicas:
                 self.proposal(event, outcome)
+                return Moment(self.event, event, outcome, replica, None)
+            case Ask(replica) if replica < self.group.replicas:
+                self.question(event, outcome)
                 return Moment(self.event, event, outcome, replica, None)
             case Deliver(number) if number < len(self.messages):
                 message = self.messages[number]

@@ -15,6 +15,7 @@ MAX_BYTE = 2**8 - 1
 MAX_OBJECT = 2**16 - 1
 MAX_AMOUNT = 2**32 - 1
 MAX_VALUE = 2**64 - 1
+QUESTIONS = ("total", "largest", "size", "items")
 GREATEST = {"inc": MAX_AMOUNT, "dec": MAX_AMOUNT, "raise": MAX_VALUE, "put": MAX_VALUE}
 
 
@@ -32,11 +33,11 @@ class Group:
 
 @dataclass(frozen=True)
 class Submit:
-    """A replica submits an update of an object; the operation is in short words."""
+    """A replica submits an update of an object; the operation is in the script's words."""
 
     replica: int
     object: int
-    operation: str
+    operation: tuple[str, ...]
 
     def __str__(self) -> str:
         return f"a submission by replica {self.replica}"
@@ -64,7 +65,19 @@ class Decide:
         return f"a proposal by replica {self.replica} to object {self.commit}"
 
 
-Event = Submit | Deliver | Decide
+@dataclass(frozen=True)
+class Ask:
+    """An object on a replica's shelf is asked; the question is in the script's words."""
+
+    replica: int
+    object: int
+    question: tuple[str, ...]
+
+    def __str__(self) -> str:
+        return f"a question to replica {self.replica} about object {self.object}"
+
+
+Event = Submit | Deliver | Decide | Ask
 
 
 @dataclass(frozen=True)
@@ -104,19 +117,30 @@ def is_tag(word: str) -> bool:
     return is_number(replica, 0, MAX_BYTE) and is_number(count, 1, MAX_AMOUNT)
 
 
-def read_operation(line: Line, words: list[str]) -> str:
-    """Reads what a submission does to its object, and says it in short words."""
+def read_operation(line: Line, words: list[str]) -> tuple[str, ...]:
+    """Reads what a submission does to its object."""
     match words:
         case ["mark"]:
-            return "mark"
+            return ("mark",)
         case [("inc" | "dec" | "raise" | "put") as name, value]:
             number(line, value, "a number", 0, GREATEST[name])
-            return f"{name} {value}"
+            return name, value
         case ["remove", *tags]:
             line.require(len(tags) <= MAX_TAGS, f"at most {MAX_TAGS} tags")
             line.require(all(map(is_tag, tags)), "tags `P.N`")
-            return " ".join(words) if len(tags) < 3 else f"remove {len(set(tags))} tags"
+            return tuple(words)
     raise line.fault("an operation: inc X, dec X, raise X, put X, remove T .., or mark")
+
+
+def read_question(line: Line, words: list[str]) -> tuple[str, ...]:
+    """Reads what an object is asked."""
+    match words:
+        case [name] if name in QUESTIONS:
+            return (name,)
+        case ["has", element]:
+            number(line, element, "an element", 0, MAX_VALUE)
+            return "has", element
+    raise line.fault("a question: total, largest, has X, size, or items")
 
 
 def read_event(line: Line) -> Event:
@@ -136,7 +160,13 @@ def read_event(line: Line) -> Event:
                 number(line, commit, "an adopt-commit object", 0, MAX_BYTE),
                 number(line, value, "a value", 0, MAX_VALUE),
             )
-    raise line.fault("`submit R O ..`, `deliver K` or `decide R C V`")
+        case ["ask", replica, object_number, *question]:
+            return Ask(
+                number(line, replica, "a replica", 0, MAX_BYTE),
+                number(line, object_number, "an object", 0, MAX_OBJECT),
+                read_question(line, question),
+            )
+    raise line.fault("`submit R O ..`, `deliver K`, `decide R C V` or `ask R O ..`")
 
 
 def is_skipped(line: Line) -> bool:

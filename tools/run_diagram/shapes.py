@@ -6,7 +6,7 @@ from math import cos, hypot, pi, sin
 from . import svg
 from .report import Learnt, Refused
 from .run import Kind, Moment
-from .script import Decide, Submit
+from .script import Ask, Decide, Submit
 
 COLOURS = {
     Kind.OFFER: "#1f5fa8",
@@ -103,6 +103,12 @@ def diamond(x: float, y: float, style: str) -> str:
     return svg.polygon([(x, y - r), (x + r, y), (x, y + r), (x - r, y)], style)
 
 
+def square(x: float, y: float, style: str) -> str:
+    """The mark of a question."""
+    r = MARK
+    return svg.polygon([(x - r, y - r), (x + r, y - r), (x + r, y + r), (x - r, y + r)], style)
+
+
 def disc(x: float, y: float) -> str:
     """The mark of a delivery."""
     return svg.element("circle", cx=x, cy=y, r=MARK, class_="mark")
@@ -114,8 +120,11 @@ def mark(moment: Moment, x: float, y: float) -> str:
         return cross(x, y)
     if isinstance(moment.outcome, Learnt):
         return star(x, y)
+    style = "refused" if isinstance(moment.outcome, Refused) else "mark"
     if isinstance(moment.event, Submit | Decide):
-        return diamond(x, y, "refused" if isinstance(moment.outcome, Refused) else "mark")
+        return diamond(x, y, style)
+    if isinstance(moment.event, Ask):
+        return square(x, y, style)
     return disc(x, y)
 
 
