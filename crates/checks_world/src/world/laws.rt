@@ -140,7 +140,6 @@ fn a_learnt_set_has_only_what_was_submitted()
 
 // A question that was answered is answered by the view of the replica that was asked alone: whatever
 // came between two such places, where it left the view the second answer is the first one.
-#[tactic(auto, using(crate::proofs::WorldLaws::answers_stay))]
 fn answers_stay_with_the_view()
     ensures { (g : Group) (events : List Occurrence) (j k r object : ℕ) (query : Query)
         (a b : Answer) → IsAnswered events (lines g events) j r object query a
@@ -152,7 +151,6 @@ fn answers_stay_with_the_view()
 
 // A step keeps the promises: after it any two learnt sets of one instance are comparable, and no view
 // has shrunk.
-#[tactic(auto, using(crate::proofs::WorldLaws::step_comparable))]
 fn a_step_keeps_learnt_sets_comparable<B: Replicated>(
     world: &mut World<B>,
     event: &Event,
@@ -167,7 +165,6 @@ fn a_step_keeps_learnt_sets_comparable<B: Replicated>(
 }
 
 // What is learnt at one place of a list has one place among the accepted events.
-#[tactic(auto, using(crate::proofs::WorldLaws::one_place))]
 fn learnt_at_one_place()
     ensures { (g : Group) (events : List Occurrence) (place : ℕ) (x y : Learnt)
         → IsLearntAt (lines g events) place x → IsLearntAt (lines g events) place y
