@@ -219,28 +219,31 @@ tags_agree w v one r object element a b h k events stands also = go a b (h event
     go (Ok s) (Err d) p q = tt
     go (Err d) b p q = tt
 
-no_tags : (b : Bool) → cond b None None ≡ None
+abbrev untold : Option (List UpdateId)
+untold = None
+
+no_tags : (b : Bool) → cond b untold untold ≡ untold
 no_tags true = refl
 no_tags false = refl
 
 -- where there is no such object, there are no tags of it
-no_tags_of : (g : Group) (t : Trace) (r object element : ℕ) → kind_at (kinds_on g r) object ≡ None → tags_of g t r object element ≡ None
+no_tags_of : (g : Group) (t : Trace) (r object element : ℕ) → kind_at (kinds_on g r) object ≡ None → tags_of g t r object element ≡ untold
 no_tags_of g t r object element none =
-    ap (λ k. cond (nat_lt r (replicas g)) (option_map (λ kind. tags_by kind (updates_at (view t r) object) element) k) None) none ∙ no_tags (nat_lt r (replicas g))
+    ap (λ k. cond (nat_lt r (replicas g)) (option_map (λ kind. tags_by kind (updates_at (view t r) object) element) k) untold) none ∙ no_tags (nat_lt r (replicas g))
 
-no_replica : (g : Group) (t : Trace) (r object element : ℕ) → replicas g ≤ r → tags_of g t r object element ≡ None
-no_replica g t r object element above = ap (λ b. cond b (tags_at (shelf_of g t r) object element) None) (le-ltb r (replicas g) above)
+no_replica : (g : Group) (t : Trace) (r object element : ℕ) → replicas g ≤ r → tags_of g t r object element ≡ untold
+no_replica g t r object element above = ap (λ b. cond b (tags_at (shelf_of g t r) object element) untold) (le-ltb r (replicas g) above)
 
-many : Option (List UpdateId) → Type 0
+abbrev many : Option (List UpdateId) → Type 0
 many o = IsSomeAnd o (λ tags. MAX_TAGS < length tags)
 
 tags_refusal_is : (g : Group) (t : Trace) (r object element : ℕ) (d e : WorldError) → IsTagsRefusal g t r object element d → IsTagsRefusal g t r object element e → d ≢ Memory → e ≢ Memory → d ≡ e
 tags_refusal_is g t r object element Memory e p q not also = absurd (not refl)
 tags_refusal_is g t r object element NoSuchReplica NoSuchReplica p q not also = refl
-tags_refusal_is g t r object element NoSuchReplica NoSuchObject p q not also = absurd (omega arith)
+tags_refusal_is g t r object element NoSuchReplica NoSuchObject p q not also = let lt = q.0 in absurd (omega arith)
 tags_refusal_is g t r object element NoSuchReplica TooManyTags p q not also = absurd (subst many (no_replica g t r object element p) q)
 tags_refusal_is g t r object element NoSuchReplica Memory p q not also = absurd (also refl)
-tags_refusal_is g t r object element NoSuchObject NoSuchReplica p q not also = absurd (omega arith)
+tags_refusal_is g t r object element NoSuchObject NoSuchReplica p q not also = let lt = p.0 in absurd (omega arith)
 tags_refusal_is g t r object element NoSuchObject NoSuchObject p q not also = refl
 tags_refusal_is g t r object element NoSuchObject TooManyTags p q not also = absurd (subst many (no_tags_of g t r object element p.1) q)
 tags_refusal_is g t r object element NoSuchObject Memory p q not also = absurd (also refl)
