@@ -99,7 +99,7 @@ replied_by : step.Did → Option Answer
 replied_by (shown.Replied answer) = Some answer
 replied_by _ = None
 
-done_by : Line → Option Step
+abbrev pub done_by : Line → Option Step
 done_by (Done s) = Some s
 done_by (Refused name) = None
 
@@ -109,7 +109,7 @@ value_there None f answer allowed is = cc
 value_there (Some kind) f answer allowed is = ap Some is
 
 pub answers_are_values : ReportedAnswersAreValues
-unfolding answer_of done_by replied_by
+unfolding answer_of replied_by
 answers_are_values g events place r object query answer h = go (refused g t e) refl line_is
   where
     t : Trace

@@ -50,4 +50,6 @@ pub mod Returns
 pub mod Agreement
 pub mod Safe
 pub mod Asking
+pub mod Places
+pub mod Promised
 pub mod Questions

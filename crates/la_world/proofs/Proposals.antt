@@ -62,7 +62,7 @@ is_submitted g events r k value =
     omega (arith, ap length (submitted_with (entry g t (Decide r k value)) t (first_instance k) r vote refl refl refl) ∙ length_push (submitted t (first_instance k) r) (first_vote k value))
 
 -- what is submitted stays so
-stays_submitted : (g : Group) (more events : List Event) (i r : ℕ) → length (submitted (trace g events) i r) ≤ length (submitted (trace g (more ++ events)) i r)
+pub stays_submitted : (g : Group) (more events : List Event) (i r : ℕ) → length (submitted (trace g events) i r) ≤ length (submitted (trace g (more ++ events)) i r)
 unfolding trace
 stays_submitted g [] events i r = omega arith
 stays_submitted g (e ∷ more) events i r =

@@ -54,7 +54,7 @@ among-push (d ∷ es) (Done s ∷ ls) e l same = ap (λ xs. d ∷ xs) (among-pus
 among-push (d ∷ es) (Refused name ∷ ls) e l same = among-push es ls e l (omega (arith, same))
 
 -- the events that were accepted are those whose line says so
-accepted_are : (g : Group) (es : List Event) → accepted_among (reverse es) (reverse (runs g es).lines) ≡ reverse (runs g es).accepted
+pub accepted_are : (g : Group) (es : List Event) → accepted_among (reverse es) (reverse (runs g es).lines) ≡ reverse (runs g es).accepted
 unfolding runs
 accepted_are g [] = refl
 accepted_are g (e ∷ es) = go (refused g t e) (accepted_are g es)

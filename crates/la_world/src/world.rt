@@ -1,4 +1,4 @@
-ghost use Rattle.std.specs.Prelude.{◌≡◌, ℕ, ◌+◌, ◌<◌, ◌^◌, [], length, slice_get, Some, None};
+ghost use Rattle.std.specs.Prelude.{◌≡◌, ℕ, ◌+◌, ◌<◌, ◌^◌, [], ◌∷◌, length, slice_get, Some, None};
 ghost use Rattle.std.specs.Prelude.{IfOk, IfErr, OnOk, OnErr};
 ghost use Rattle.std.specs.Option.{option_copied};
 ghost use Rattle.la_set.specs.ObjectOps.{ObjectOp};
@@ -16,11 +16,12 @@ ghost use Rattle.la_world.specs.Calls.{IsGroup, IsMakingRefusal, replica_states_
 ghost use Rattle.la_world.specs.Calls.{Keeps, may_absorb, IsSameUnless, tags_of, IsTagsRefusal};
 ghost use Rattle.la_world.specs.Calls.{HasObject, IsObjectRefusal, IsFollowing};
 ghost use Rattle.la_world.specs.Calls.{Plays, IsAllowed, Refuses, StandsForMessage};
-ghost use Rattle.la_world.specs.Calls.{submitted_at, view_at, view_in, view_of};
+ghost use Rattle.la_world.specs.Calls.{submitted_at, view_at, view_in, view_of, views_of};
 ghost use Rattle.la_world.specs.Calls.{IsSubmission, decisions_in};
 ghost use Rattle.la_world.specs.Calls.{returned_in, returned_of};
 ghost use Rattle.la_world.specs.Calls.{report_with, report_after};
 ghost use Rattle.la_world.specs.Laws.{IsAdoptCommit};
+ghost use Rattle.la_world.specs.Promises.{KeepsPromises, NoViewShrinks};
 
 use crate::journal::Journal;
 use crate::participant::{opening_instance, outcome_by, returned, second_vote, take};
@@ -116,6 +117,26 @@ impl<B: Replicated> World<B> {
     /// mail, and a learning's entry. A second vote also costs a copy of two instances. A question
     /// costs what the view has gained since the last one to this replica, and the answer.
     pub fn play(&mut self, event: &Event) -> Result<Step, WorldError>
+        requires { self.old.count + 1 < 2 ^ 64 }
+        ensures step { (events : Past) → StandsFor self.old events →
+            IfOk result (λ step. Plays self.old events (event_of event.now) step self.new) }
+        ensures promises { (events : Past) → StandsFor self.old events →
+            OnOk result (KeepsPromises (group_in self.new) (event_of event.now ∷ events)
+            self.new.learnt (views_of self.new.replica_states)) }
+        ensures views { (events : Past) → StandsFor self.old events →
+            OnOk result (NoViewShrinks self.old self.new) }
+        ensures printable { IfOk result IsPrintable }
+        ensures error { (events : Past) → StandsFor self.old events →
+            IfErr result (Refuses self.old events (event_of event.now)) }
+        ensures keeps { OnErr result (Keeps self.old self.new) }
+        ensures err { IfErr result (λ e.
+            IsSameUnless (may_absorb (event_of event.now) e) self.old self.new) }
+    {
+        self.take_event(event)
+    }
+
+    // The same, by what kind of event it is.
+    fn take_event(&mut self, event: &Event) -> Result<Step, WorldError>
         requires { self.old.count + 1 < 2 ^ 64 }
         ensures step { (events : Past) → StandsFor self.old events →
             IfOk result (λ step. Plays self.old events (event_of event.now) step self.new) }
@@ -453,11 +474,13 @@ impl<B: Replicated> World<B> {
 
     /// A report of these lines, of what was learnt, of the views and of what was returned, at the
     /// cost of an entry for each; their updates are shared. It refuses with want of memory alone.
-    #[tactic(auto, using(crate::proofs::Worlds::views_are, crate::proofs::Returned::decisions_are, crate::proofs::Safe::returns_safely))]
+    #[tactic(auto, using(crate::proofs::Worlds::views_are, crate::proofs::Returned::decisions_are, crate::proofs::Safe::returns_safely, crate::proofs::Promised::world_keeps))]
     pub fn report(&self, steps: Steps) -> Result<Report, AllocError>
         ensures value { IfOk result (λ report. report ≡ report_with self.now steps) }
         ensures stands { (events : Past) → StandsFor self.now events →
             IfOk result (λ report. report ≡ report_after self.now events steps) }
+        ensures promises { (events : Past) → StandsFor self.now events → IfOk result (λ report.
+            KeepsPromises (group_in self.now) events report.learnt report.views) }
         ensures safe { (events : Past) → StandsFor self.now events →
             IfOk result (λ report. IsAdoptCommit events report.outcomes) }
     {
@@ -473,11 +496,13 @@ impl<B: Replicated> World<B> {
     /// The report that [`World::report`] would make, of a world that goes: what was learnt is
     /// handed out, and the views are copied. It refuses with want of memory alone, and then the
     /// world is lost.
-    #[tactic(auto, using(crate::proofs::Worlds::views_are, crate::proofs::Returned::decisions_are, crate::proofs::Safe::returns_safely))]
+    #[tactic(auto, using(crate::proofs::Worlds::views_are, crate::proofs::Returned::decisions_are, crate::proofs::Safe::returns_safely, crate::proofs::Promised::world_keeps))]
     pub fn into_report(self, steps: Steps) -> Result<Report, AllocError>
         ensures value { IfOk result (λ report. report ≡ report_with self steps) }
         ensures stands { (events : Past) → StandsFor self events →
             IfOk result (λ report. report ≡ report_after self events steps) }
+        ensures promises { (events : Past) → StandsFor self events → IfOk result (λ report.
+            KeepsPromises (group_in self) events report.learnt report.views) }
         ensures safe { (events : Past) → StandsFor self events →
             IfOk result (λ report. IsAdoptCommit events report.outcomes) }
     {
