@@ -10,7 +10,7 @@ use Rattle.la_world.specs.Ballots.{ballots, round, is_open}
 use Rattle.la_world.specs.Counting.{replies, counted}
 use Rattle.la_world.specs.Submissions.{submitted}
 use Rattle.la_world.specs.Views.{seen, view}
-use Rattle.la_world.specs.Playing.{submits, counts, after_learning, hears, answers, is_told, trace}
+use Rattle.la_world.specs.Playing.{submits, counts, after_learning, hears, answers, is_told, answer_of, trace}
 use Rattle.la_world.specs.Learnings.{learnt, last_learnt}
 use Rattle.la_world.specs.Report.{runs}
 use Rattle.runs.specs.FirstRun.{FirstRun}
@@ -26,6 +26,7 @@ use Rattle.runs.specs.NobodySole.{NobodySole}
 use Rattle.runs.specs.OwnVoteSoleAlone.{OwnVoteSoleAlone}
 use Rattle.runs.specs.LateDissenter.{LateDissenter}
 use Rattle.runs.specs.ByReplicas.{LateDissenterByReplicas}
+use Rattle.runs.specs.Questions.{Questions}
 use Rattle.la_world.specs.ReplicaStates.{proposer_state, instance_of, replica_state}
 
 pub first_run : FirstRun
@@ -79,3 +80,7 @@ late_dissenter few = refl
 pub late_dissenter_by_replicas : LateDissenterByReplicas
 unfolding history from_histories empty updates with_history is_subset join is_majority sent offers accepted ballots round is_open replies counted submitted seen view submits counts after_learning hears answers is_told trace proposer_state last_learnt instance_of replica_state
 late_dissenter_by_replicas = refl
+
+pub questions : Questions
+unfolding history from_histories empty updates with_history is_subset join is_majority sent offers accepted ballots round is_open replies counted submitted seen view submits counts after_learning hears answers is_told answer_of trace learnt last_learnt runs
+questions few = refl

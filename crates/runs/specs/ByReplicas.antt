@@ -12,11 +12,12 @@ use Rattle.la_replica.specs.ReplicaState as replica
 use Rattle.la_replica.specs.Messages.{group}
 use Rattle.la_world.specs.declared.step.Opening.{Opening}
 use Rattle.la_world.specs.Groups.{Group, replicas, first_instance}
-use Rattle.la_world.specs.Events.{Event, Submit, Deliver, Decide}
+use Rattle.la_world.specs.Events.{Event, Submit, Deliver, Decide, Ask}
 use Rattle.la_world.specs.Sent.{sent}
 use Rattle.la_world.specs.Votes.{Submission, first_vote, second_vote}
 use Rattle.la_world.specs.Playing.{trace}
 use Rattle.la_world.specs.ReplicaStates.{replica_states}
+use Rattle.runs.specs.Words.{no_objects}
 use Rattle.runs.specs.LateDissenter.{events}
 
 -- the replicas, and all that they sent
@@ -79,6 +80,7 @@ abbrev pub plays : Played → Event → Played
 plays w (Submit r object_op) = submit w r 0 object_op
 plays w (Decide r k value) = submit w r (first_instance k) (first_vote k value)
 plays w (Deliver k) = deliver w (slice_get w.mail k)
+plays w (Ask r object query) = w
 
 abbrev pub played : Group → List Event → Played
 played g events = fold plays (begun g) events
@@ -90,7 +92,7 @@ traced g events =
     record { replica_states = replica_states g t; mail = sent (replicas g) t }
 
 abbrev pub three : Group
-three = record { votes = 1 ∷ 1 ∷ 1 ∷ []; commits = 1; cap = 10 }
+three = record { votes = 1 ∷ 1 ∷ 1 ∷ []; commits = 1; cap = 10; kinds = no_objects 3 }
 
 -- the first events of the late dissenter's run: in each instance one set is learnt, and the other
 -- participant proposes

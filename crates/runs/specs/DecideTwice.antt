@@ -5,7 +5,7 @@ use Rattle.la_world.specs.declared.report.Line.TheVariants.{Refused}
 use Rattle.la_world.specs.declared.step.Did.TheVariants.{Opened}
 use Rattle.la_world.specs.Events.{Event, Decide}
 use Rattle.la_world.specs.Report.{report}
-use Rattle.runs.specs.Words.{three, nothing, ballot, done}
+use Rattle.runs.specs.Words.{three, no_objects, nothing, ballot, done}
 use Rattle.runs.specs.VoteSets.{seven}
 
 abbrev pub events : List Event
@@ -16,7 +16,7 @@ events =
     ∷ []
 
 abbrev pub DecideTwice : Type 0
-DecideTwice = (few : 3 ≤ 8) → report (three few 1) events ≡ record {
+DecideTwice = (few : 3 ≤ 8) → report (three few 1) (no_objects 3) events ≡ record {
   config = three few 1;
   steps =
       done (Opened (ballot 0 1 1 seven)) 0 3

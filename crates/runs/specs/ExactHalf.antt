@@ -8,7 +8,7 @@ use Rattle.la_world.specs.Events.{Event, Submit, Deliver}
 use Rattle.la_world.specs.Learnings.{learning}
 use Rattle.la_world.specs.Report.{report}
 use Rattle.la_world.specs.declared.config.Config.{Config}
-use Rattle.runs.specs.Words.{config, object_op, these, nothing, ballot, done}
+use Rattle.runs.specs.Words.{config, no_objects, object_op, these, nothing, ballot, done}
 
 -- three replicas, of which the last has half of all votes
 abbrev pub half : 3 ≤ 8 → Config
@@ -30,7 +30,7 @@ events =
     ∷ []
 
 abbrev pub ExactHalf : Type 0
-ExactHalf = (few : 3 ≤ 8) → report (half few) events ≡ record {
+ExactHalf = (few : 3 ≤ 8) → report (half few) (no_objects 3) events ≡ record {
   config = half few;
   steps =
       done (Opened (ballot 0 0 1 increment)) 0 3

@@ -7,7 +7,7 @@ use Rattle.la_world.specs.declared.step.Did.TheVariants.{Opened, Answered, Count
 use Rattle.la_world.specs.Events.{Event, Submit, Deliver}
 use Rattle.la_world.specs.Learnings.{learning}
 use Rattle.la_world.specs.Report.{report}
-use Rattle.runs.specs.Words.{three, object_op, these, nothing, ballot, done}
+use Rattle.runs.specs.Words.{three, no_objects, object_op, these, nothing, ballot, done}
 
 -- the set of what is submitted
 abbrev pub increment : Histories
@@ -23,7 +23,7 @@ events =
     ∷ []
 
 abbrev pub FirstRun : Type 0
-FirstRun = (few : 3 ≤ 8) → report (three few 0) events ≡ record {
+FirstRun = (few : 3 ≤ 8) → report (three few 0) (no_objects 3) events ≡ record {
   config = three few 0;
   steps =
       done (Opened (ballot 0 0 1 increment)) 0 3

@@ -13,3 +13,4 @@ pub mod NobodySole
 pub mod OwnVoteSoleAlone
 pub mod LateDissenter
 pub mod ByReplicas
+pub mod Questions

@@ -7,7 +7,7 @@ use Rattle.la_world.specs.Events.{Event, Deliver, Decide}
 use Rattle.la_world.specs.Learnings.{learning}
 use Rattle.la_world.specs.Outcomes.{decision_of}
 use Rattle.la_world.specs.Report.{report}
-use Rattle.runs.specs.Words.{three, nothing, ballot, learnt_then, learnt_last, done}
+use Rattle.runs.specs.Words.{three, no_objects, nothing, ballot, learnt_then, learnt_last, done}
 use Rattle.runs.specs.VoteSets.{seven, nine, both}
 
 abbrev pub events : List Event
@@ -45,7 +45,7 @@ events =
     ∷ []
 
 abbrev pub NobodySole : Type 0
-NobodySole = (few : 3 ≤ 8) → report (three few 1) events ≡ record {
+NobodySole = (few : 3 ≤ 8) → report (three few 1) (no_objects 3) events ≡ record {
   config = three few 1;
   steps =
       done (Opened (ballot 0 1 1 seven)) 0 3

@@ -8,7 +8,7 @@ use Rattle.la_world.specs.Events.{Event, Deliver, Decide}
 use Rattle.la_world.specs.Learnings.{learning}
 use Rattle.la_world.specs.Outcomes.{decision_of}
 use Rattle.la_world.specs.Report.{report}
-use Rattle.runs.specs.Words.{three, vote, these, nothing, ballot, learnt_then, learnt_last, done}
+use Rattle.runs.specs.Words.{three, no_objects, vote, these, nothing, ballot, learnt_then, learnt_last, done}
 
 -- the set of replica 1's vote in the object's first instance, and in the second
 abbrev pub nine : Histories
@@ -31,7 +31,7 @@ events =
     ∷ []
 
 abbrev pub OneValueAlone : Type 0
-OneValueAlone = (few : 3 ≤ 8) → report (three few 2) events ≡ record {
+OneValueAlone = (few : 3 ≤ 8) → report (three few 2) (no_objects 3) events ≡ record {
   config = three few 2;
   steps =
       done (Opened (ballot 1 3 1 nine)) 0 3

@@ -11,7 +11,7 @@ use Rattle.la_world.specs.Events.{Event, Deliver, Decide}
 use Rattle.la_world.specs.Learnings.{learning}
 use Rattle.la_world.specs.Outcomes.{decision_of}
 use Rattle.la_world.specs.Report.{report}
-use Rattle.runs.specs.Words.{single, vote, these, ballot, learnt_then, learnt_last, done}
+use Rattle.runs.specs.Words.{single, no_objects, vote, these, ballot, learnt_then, learnt_last, done}
 
 -- the set of the vote in the object's first instance, and in the second
 abbrev pub seven : Histories
@@ -32,7 +32,7 @@ events =
     ∷ []
 
 abbrev pub ProposedForGood : Type 0
-ProposedForGood = (few : 1 ≤ 8) → report (single few 1) events ≡ record {
+ProposedForGood = (few : 1 ≤ 8) → report (single few 1) (no_objects 1) events ≡ record {
   config = single few 1;
   steps =
       done (Opened (ballot 0 1 1 seven)) 0 1

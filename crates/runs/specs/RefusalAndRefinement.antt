@@ -6,7 +6,7 @@ use Rattle.la_acceptor.specs.declared.reply.Reply.TheVariants.{Yes, No}
 use Rattle.la_world.specs.declared.step.Did.TheVariants.{Opened, Answered, Counted, Refined}
 use Rattle.la_world.specs.Events.{Event, Submit, Deliver}
 use Rattle.la_world.specs.Report.{report}
-use Rattle.runs.specs.Words.{three, object_op, these, nothing, ballot, done}
+use Rattle.runs.specs.Words.{three, no_objects, object_op, these, nothing, ballot, done}
 
 -- the sets of what is submitted, by each and by both
 abbrev pub increment : Histories
@@ -30,7 +30,7 @@ events =
     ∷ []
 
 abbrev pub RefusalAndRefinement : Type 0
-RefusalAndRefinement = (few : 3 ≤ 8) → report (three few 0) events ≡ record {
+RefusalAndRefinement = (few : 3 ≤ 8) → report (three few 0) (no_objects 3) events ≡ record {
   config = three few 0;
   steps =
       done (Opened (ballot 0 0 1 increment)) 0 3

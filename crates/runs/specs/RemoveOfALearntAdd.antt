@@ -14,7 +14,7 @@ use Rattle.la_world.specs.Trace.{Trace}
 use Rattle.la_world.specs.Playing.{trace}
 use Rattle.la_world.specs.Learnings.{learning}
 use Rattle.la_world.specs.Report.{report}
-use Rattle.runs.specs.Words.{single, object_op, these, ballot, done}
+use Rattle.runs.specs.Words.{single, no_objects, object_op, these, ballot, done}
 
 abbrev pub add : UpdateId
 add = record { replica = 0; number = 1 }
@@ -47,7 +47,7 @@ events =
     ∷ []
 
 abbrev pub RemoveOfALearntAdd : Type 0
-RemoveOfALearntAdd = (few : 1 ≤ 8) → report (single few 0) events ≡ record {
+RemoveOfALearntAdd = (few : 1 ≤ 8) → report (single few 0) (no_objects 1) events ≡ record {
   config = single few 0;
   steps =
       done (Opened (ballot 0 0 1 added)) 0 1
@@ -65,7 +65,7 @@ RemoveOfALearntAdd = (few : 1 ≤ 8) → report (single few 0) events ≡ record
 -- ## The events in two parts, the newest first
 
 abbrev pub g : Group
-g = record { votes = 1 ∷ []; commits = 0; cap = 10 }
+g = record { votes = 1 ∷ []; commits = 0; cap = 10; kinds = no_objects 1 }
 
 abbrev pub until_learnt : List Event
 until_learnt = Deliver 1 ∷ Deliver 0 ∷ Submit 0 (object_op 1 (Put 7)) ∷ []

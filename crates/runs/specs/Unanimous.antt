@@ -8,7 +8,7 @@ use Rattle.la_world.specs.Events.{Event, Deliver, Decide}
 use Rattle.la_world.specs.Learnings.{learning}
 use Rattle.la_world.specs.Outcomes.{decision_of}
 use Rattle.la_world.specs.Report.{report}
-use Rattle.runs.specs.Words.{three, vote, these, nothing, ballot, learnt_then, learnt_last, done}
+use Rattle.runs.specs.Words.{three, no_objects, vote, these, nothing, ballot, learnt_then, learnt_last, done}
 
 -- ## Sets of votes for 7
 
@@ -78,7 +78,7 @@ events =
     ∷ []
 
 abbrev pub Unanimous : Type 0
-Unanimous = (few : 3 ≤ 8) → report (three few 1) events ≡ record {
+Unanimous = (few : 3 ≤ 8) → report (three few 1) (no_objects 3) events ≡ record {
   config = three few 1;
   steps =
       done (Opened (ballot 0 1 1 (by_0 false))) 0 3

@@ -3,7 +3,7 @@
 //!
 //! Each function here has an empty body, and a contract that says: the report of these events in
 //! this group is this one. A reader can check the definitions by them. They are those
-//! of proposals and of what is returned, and four others.
+//! of proposals and of what is returned, one of questions, and four others.
 #![tactic(auto)]
 
 ghost use Rattle.runs.specs.ByReplicas.{LateDissenterByReplicas};
@@ -18,6 +18,7 @@ ghost use Rattle.runs.specs.Unanimous.{Unanimous};
 ghost use Rattle.runs.specs.NobodySole.{NobodySole};
 ghost use Rattle.runs.specs.OwnVoteSoleAlone.{OwnVoteSoleAlone};
 ghost use Rattle.runs.specs.LateDissenter.{LateDissenter};
+ghost use Rattle.runs.specs.Questions.{Questions};
 ghost use Rattle.runs.specs.RemoveOfALearntAdd.{RemoveOfALearntAdd, add, first, second, t};
 ghost use Rattle.std.specs.Prelude.{IsSome};
 ghost use Rattle.la_set.specs.Histories.{get};
@@ -88,7 +89,12 @@ pub fn late_dissenter()
     ensures { LateDissenter }
 {}
 
-/// The first events of the last run, played by the replicas' own steps: what each replica comes to
+/// Questions before and after what is learnt, to a replica that has learnt it and one that has not.
+pub fn questions()
+    ensures { Questions }
+{}
+
+/// The first events of the late dissenter's run, played by the replicas' own steps: what each replica comes to
 /// keep, and what was sent, is what the trace says.
 #[tactic(auto, using(crate::proofs::Runs::late_dissenter_by_replicas))]
 pub fn late_dissenter_by_replicas()
