@@ -237,10 +237,10 @@ many o = IsSomeAnd o (λ tags. MAX_TAGS < length tags)
 tags_refusal_is : (g : Group) (t : Trace) (r object element : ℕ) (d e : WorldError) → IsTagsRefusal g t r object element d → IsTagsRefusal g t r object element e → d ≢ Memory → e ≢ Memory → d ≡ e
 tags_refusal_is g t r object element Memory e p q not also = absurd (not refl)
 tags_refusal_is g t r object element NoSuchReplica NoSuchReplica p q not also = refl
-tags_refusal_is g t r object element NoSuchReplica NoSuchObject p q not also = absurd (omega arith)
+tags_refusal_is g t r object element NoSuchReplica NoSuchObject p q not also = let lt = q.0 in absurd (omega arith)
 tags_refusal_is g t r object element NoSuchReplica TooManyTags p q not also = absurd (subst many (no_replica g t r object element p) q)
 tags_refusal_is g t r object element NoSuchReplica Memory p q not also = absurd (also refl)
-tags_refusal_is g t r object element NoSuchObject NoSuchReplica p q not also = absurd (omega arith)
+tags_refusal_is g t r object element NoSuchObject NoSuchReplica p q not also = let lt = p.0 in absurd (omega arith)
 tags_refusal_is g t r object element NoSuchObject NoSuchObject p q not also = refl
 tags_refusal_is g t r object element NoSuchObject TooManyTags p q not also = absurd (subst many (no_tags_of g t r object element p.1) q)
 tags_refusal_is g t r object element NoSuchObject Memory p q not also = absurd (also refl)

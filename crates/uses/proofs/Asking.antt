@@ -1,5 +1,5 @@
 -- Shelves with objects of one kind under a number, and shelves without objects.
-use Rattle.std.proofs.Common.{◌≡◌, ℕ, zero, suc, ◌<◌, List, [], ◌∷◌, length, Contains, slice_get, refl, sym, ◌∙◌, ap, arith}
+use Rattle.std.proofs.Common.{◌≡◌, ℕ, zero, suc, ◌<◌, List, [], ◌∷◌, length, Contains, slice_get, refl, sym, ◌∙◌, ap, subst, arith}
 use Rattle.std.specs.Prelude.{Result, Ok, Err, IfOk, OnOk, unwrap_or, replicate}
 use Rattle.la_set.specs.Histories.{empty}
 use Rattle.la_object.specs.Shelves.{ShelfState, kind_at}
@@ -11,7 +11,8 @@ use Rattle.la_world.specs.Events.{Event}
 use Rattle.la_world.specs.StandsFor.{kinds_of}
 use Rattle.la_world.specs.Laws.{EqualViewsAnswerAlike}
 use Rattle.la_world.specs.Calls.{IsGroup}
-use Rattle.uses.specs.Promises.{HaveOneKind, AnswersAgree}
+use Rattle.la_world.specs.Promises.{IsSubmittedAt, ArePlacesInOrder}
+use Rattle.uses.specs.Promises.{HaveOneKind, AnswersAgree, MarksShowWhatWasLearnt}
 
 -- the shelf that stands at a place
 record Stands (shelves : List ShelfState) (r : ℕ) : Type 0 where
@@ -46,3 +47,12 @@ run_answers_agree c shelves events (Err d) alike h one = tt
 pub no_kinds : (n : ℕ) → kinds_of (replicate n (record { view = empty; objects = [] })) ≡ replicate n []
 no_kinds zero = refl
 no_kinds (suc n) = ap (λ ks. [] ∷ ks) (no_kinds n)
+
+-- ## Reading by a Mark
+
+pub run_shows_by_marks : (c : Config) (shelves : List ShelfState) (events : List Event) (r : Result Report WorldError)
+    → IfOk r (λ (made : Report). ArePlacesInOrder (group_of c (kinds_of shelves)) events made.steps made.learnt)
+    → IfOk r (λ (made : Report). MarksShowWhatWasLearnt (group_of c (kinds_of shelves)) events made.steps made.learnt)
+run_shows_by_marks c shelves events (Ok made) order = λ j k earlier later mark learnt_at of_objects marked lt there also holds.
+    order j k earlier later mark learnt_at (subst (λ i. IsSubmittedAt (group_of c (kinds_of shelves)) events made.steps k i mark) (sym of_objects) marked.submitted) lt there (of_objects ∙ sym also) holds
+run_shows_by_marks c shelves events (Err d) order = tt

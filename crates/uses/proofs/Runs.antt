@@ -21,14 +21,21 @@ use Rattle.la_world.specs.Views.{set_of, told_to, seen_at, seen, view}
 use Rattle.la_world.specs.Playing.{trace}
 use Rattle.la_world.specs.Learnings.{learning, learning_of, learnt}
 use Rattle.la_world.specs.Report.{report, views, accepted_among}
+use Rattle.la_world.specs.Promises.{KeepsPromises, accepted_in, AreAllComparable, AreOneHistory}
 use Rattle.la_world.specs.StandsFor.{kinds_of}
 use Rattle.la_world.specs.Calls.{IsGroup}
-use Rattle.la_world.specs.Laws.{AreComparable, LearntAreComparable, ViewsAreComparable, ViewsAreLargest, CommitsAgree, ReturnsAreProposed, ReportedOutcomesAreSafe}
-use Rattle.uses.specs.Promises.{AreAllComparable, AreOneHistory, ViewsHoldTheirOwn, accepted}
+use Rattle.la_world.specs.Laws.{ViewsAreLargest, CommitsAgree, ReturnsAreProposed, ReportedOutcomesAreSafe}
+use Rattle.uses.specs.Promises.{ViewsHoldTheirOwn, accepted}
 
-pub run_comparable : LearntAreComparable → (c : Config) (kinds : List (List (ℕ × Kind))) (events : List Event) (r : Result Report WorldError) → IfOk r (λ made. made ≡ report c kinds events) → IfOk r (λ (made : Report). AreAllComparable made.learnt)
-run_comparable law c kinds events (Ok made) e = subst (λ (m : Report). AreAllComparable m.learnt) (sym e) (law (group_of c kinds) (accepted c kinds events))
-run_comparable law c kinds events (Err d) e = tt
+pub run_comparable : (c : Config) (shelves : List ShelfState) (events : List Event) (r : Result Report WorldError)
+    → IfOk r (λ (made : Report). KeepsPromises (group_of c (kinds_of shelves)) (accepted_in events made.steps) made.learnt made.views) → IfOk r (λ (made : Report). AreAllComparable made.learnt)
+run_comparable c shelves events (Ok made) kept = kept.comparable
+run_comparable c shelves events (Err d) kept = tt
+
+pub run_one_history : (c : Config) (shelves : List ShelfState) (events : List Event) (r : Result Report WorldError)
+    → IfOk r (λ (made : Report). KeepsPromises (group_of c (kinds_of shelves)) (accepted_in events made.steps) made.learnt made.views) → IfOk r (λ (made : Report). AreOneHistory made.views)
+run_one_history c shelves events (Ok made) kept = kept.one_history
+run_one_history c shelves events (Err d) kept = tt
 
 -- ## What a replica learnt in instance 0, it saw
 
@@ -79,22 +86,6 @@ views_hold law g events x c e =
 pub run_shows : ViewsAreLargest → (c : Config) (kinds : List (List (ℕ × Kind))) (events : List Event) (r : Result Report WorldError) → IfOk r (λ made. made ≡ report c kinds events) → IfOk r (λ (made : Report). ViewsHoldTheirOwn made.views made.learnt)
 run_shows law c kinds events (Ok made) e = subst (λ (m : Report). ViewsHoldTheirOwn m.views m.learnt) (sym e) (views_hold law (group_of c kinds) (accepted c kinds events))
 run_shows law c kinds events (Err d) e = tt
-
--- what stands in such a list is made from one of the numbers
-made_from : (f : ℕ → Histories) (rs : List ℕ) (k : ℕ) (a : Histories) → k < length (map f rs) → slice_index_or (map f rs) k a ≡ a → (r : ℕ) × (f r ≡ a)
-made_from f [] k a lt e = absurd (omega arith)
-made_from f (r ∷ rs) zero a lt e = (r, e)
-made_from f (r ∷ rs) (suc k) a lt e = made_from f rs k a (omega arith) e
-
-views_comparable : ViewsAreComparable → (g : Group) (events : List Event) → AreOneHistory (views g (trace g events))
-views_comparable law g events a b c d =
-    let m = made_from (view (trace g events)) (group (replicas g)) c.0 a c.1 c.2 in
-    let n = made_from (view (trace g events)) (group (replicas g)) d.0 b d.1 d.2 in
-    subst₂ AreComparable m.1 n.1 (law g events 0 0 m.0 n.0)
-
-pub run_one_history : ViewsAreComparable → (c : Config) (kinds : List (List (ℕ × Kind))) (events : List Event) (r : Result Report WorldError) → IfOk r (λ made. made ≡ report c kinds events) → IfOk r (λ (made : Report). AreOneHistory made.views)
-run_one_history law c kinds events (Ok made) e = subst (λ (m : Report). AreOneHistory m.views) (sym e) (views_comparable law (group_of c kinds) (accepted c kinds events))
-run_one_history law c kinds events (Err d) e = tt
 
 -- ## Outcomes
 

@@ -1,6 +1,8 @@
 -- What a group promises, of the lists that a report has.
-use Rattle.std.specs.Prelude.{◌≡◌, ℕ, ◌<◌, List, reverse, Contains, slice_get, slice_index_or, IfSome}
-use Rattle.la_set.specs.Histories.{Histories}
+use Rattle.std.specs.Prelude.{◌≡◌, ℕ, ◌<◌, List, reverse, Contains, slice_get, slice_index_or, Some, IsSome, IfSome}
+use Rattle.la_set.specs.declared.update.UpdateId.{UpdateId}
+use Rattle.la_set.specs.declared.update.Op.TheVariants.{Mark}
+use Rattle.la_set.specs.Histories.{Histories, get}
 use Rattle.la_set.specs.Inclusion.{IsSubset}
 use Rattle.la_object.specs.declared.kind.Kind.{Kind}
 use Rattle.la_object.specs.declared.query.Query.{Query}
@@ -11,18 +13,10 @@ use Rattle.la_world.specs.declared.config.Config.{Config}
 use Rattle.la_world.specs.declared.report.Line.{Line}
 use Rattle.la_world.specs.declared.step.Learnt.{Learnt}
 use Rattle.la_world.specs.Groups.{Group, group_of, replicas}
-use Rattle.la_world.specs.Events.{Event}
+use Rattle.la_world.specs.Events.{Event, submission_of}
 use Rattle.la_world.specs.Report.{runs}
-use Rattle.la_world.specs.Laws.{AreComparable, IsAnswered, view_at_place}
-
--- of any two learnt sets of one instance one contains the other
-abbrev pub AreAllComparable : List Learnt → Type 0
-AreAllComparable learnt = (x y : Learnt) → Contains learnt x → Contains learnt y →
-    x.instance ≡ y.instance → AreComparable x.updates y.updates
-
--- of any two views one contains the other
-abbrev pub AreOneHistory : (views : List Histories) → Type 0
-AreOneHistory views = (a b : Histories) → Contains views a → Contains views b → AreComparable a b
+use Rattle.la_world.specs.Laws.{IsAnswered, view_at_place}
+use Rattle.la_world.specs.Promises.{IsLearntAt, IsSubmittedAt}
 
 -- the view of each replica contains each set that it learnt in instance 0
 abbrev pub ViewsHoldTheirOwn : (views : List Histories) → List Learnt → Type 0
@@ -49,3 +43,19 @@ AnswersAgree g events steps = (j k r q object : ℕ) (query : Query) (a b : Answ
     r < replicas g → q < replicas g →
     IsAnswered events steps j r object query a → IsAnswered events steps k q object query b →
     view_at_place g events j r ≡ view_at_place g events k q → a ≡ b
+
+-- a Mark was submitted at this place, under this id
+pub record IsMarkedAt (g : Group) (events : List Event) (steps : List Line) (place : ℕ)
+    (id : UpdateId) : Type 0 where
+  pub replica : ℕ
+  pub object : ℕ
+  pub handed_in : slice_get events place ≡ Some (submission_of replica object Mark)
+  pub submitted : IsSubmittedAt g events steps place 0 id
+
+-- a learnt set that holds a Mark contains each set that anyone had learnt when it was submitted
+abbrev pub MarksShowWhatWasLearnt : Group → List Event → List Line → (learnt : List Learnt) → Type 0
+MarksShowWhatWasLearnt g events steps learnt =
+    (j k : ℕ) (earlier later : Learnt) (mark : UpdateId) →
+    IsLearntAt steps j earlier → earlier.instance ≡ 0 → IsMarkedAt g events steps k mark → j < k →
+    Contains learnt later → later.instance ≡ 0 → IsSome (get later.updates mark) →
+    IsSubset earlier.updates later.updates

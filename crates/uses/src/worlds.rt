@@ -3,7 +3,8 @@ ghost use Rattle.la_world.specs.Events.{event_of};
 ghost use Rattle.la_world.specs.Report.{report, accepted_among};
 ghost use Rattle.la_world.specs.Calls.{IsMakingRefusal};
 ghost use Rattle.la_world.specs.StandsFor.{kinds_of};
-ghost use Rattle.uses.specs.Promises.{AreAllComparable, AreOneHistory, ViewsHoldTheirOwn};
+ghost use Rattle.la_world.specs.Promises.{AreAllComparable, AreOneHistory};
+ghost use Rattle.uses.specs.Promises.{ViewsHoldTheirOwn};
 
 use la_object::{Replicated, Shelf};
 use la_world::{Config, Event, Report, WorldError, laws, run};
@@ -24,8 +25,6 @@ pub fn play<B: Replicated>(
     ensures shown { IfOk result (λ made. ViewsHoldTheirOwn made.views made.learnt) }
     ensures error { IfErr result (IsMakingRefusal config shelves.items) }
 {
-    laws::learnt_sets_are_comparable();
-    laws::views_are_comparable();
     laws::views_are_largest();
     run(alloc, config, shelves, events)
 }
@@ -95,7 +94,7 @@ pub fn play_proposals<B: Replicated>(
 
 // ---- questions
 ghost use Rattle.la_world.specs.Groups.{group_of};
-ghost use Rattle.uses.specs.Promises.{HaveOneKind, AnswersAgree};
+ghost use Rattle.uses.specs.Promises.{HaveOneKind, AnswersAgree, MarksShowWhatWasLearnt};
 
 use la_object::{Answer, Query, ShelfError};
 use la_orset::OrSet;
@@ -113,6 +112,24 @@ pub fn play_questions<B: Replicated>(
     ensures agree { HaveOneKind shelves.items → IfOk result (λ made. AnswersAgree
         (group_of config (kinds_of shelves.items)) (map event_of events.now) made.steps) }
     ensures error { IfErr result (IsMakingRefusal config shelves.items) }
+{
+    run(alloc, config, shelves, events)
+}
+
+/// Plays a list of events in which replicas read by a Mark: one submits it, and is asked once it has
+/// learnt a set that holds it. Such a set contains each set that anyone had learnt when the Mark was
+/// submitted; and two replicas that are asked the same with equal views answer alike.
+pub fn play_reads<B: Replicated>(
+    alloc: Global,
+    config: Config,
+    shelves: Vec<Shelf<B>>,
+    events: &[Event],
+) -> Result<Report, WorldError>
+    ensures current { IfOk result (λ made. MarksShowWhatWasLearnt
+        (group_of config (kinds_of shelves.items)) (map event_of events.now)
+        made.steps made.learnt) }
+    ensures agree { HaveOneKind shelves.items → IfOk result (λ made. AnswersAgree
+        (group_of config (kinds_of shelves.items)) (map event_of events.now) made.steps) }
 {
     run(alloc, config, shelves, events)
 }

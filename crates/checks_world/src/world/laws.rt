@@ -1,6 +1,6 @@
 // The laws, each by what follows from it. To call a law is a hint to the prover, and no work: its
 // contract is what it hands on.
-ghost use Rattle.std.specs.Prelude.{◌≡◌, ◌+◌, ◌<◌, ◌≤◌, [], ◌∷◌, ◌++◌};
+ghost use Rattle.std.specs.Prelude.{◌≡◌, ◌+◌, ◌<◌, ◌≤◌, ◌^◌, [], ◌∷◌, ◌++◌, OnOk};
 ghost use Rattle.std.specs.Prelude.{ℕ, List, drop, map, slice_get, Some, Contains, IfOk};
 ghost use Rattle.la_set.specs.Histories.{Histories, history};
 ghost use Rattle.la_set.specs.Inclusion.{IsSubset};
@@ -12,7 +12,8 @@ ghost use Rattle.la_world.specs.declared.step.Learnt.{Learnt};
 ghost use Rattle.la_object.specs.declared.query.Query.{Query};
 ghost use Rattle.la_object.specs.declared.query.Answer.{Answer};
 ghost use Rattle.la_world.specs.Groups.{Group, group_of, replicas, IsConfig};
-ghost use Rattle.la_world.specs.StandsFor.{kinds_of};
+ghost use Rattle.la_world.specs.StandsFor.{StandsFor, kinds_of};
+ghost use Rattle.la_world.specs.Promises.{AreAllComparable, NoViewShrinks, IsLearntAt};
 ghost use Rattle.la_world.specs.Events.{Past, Event as Occurrence, event_of, Decide};
 ghost use Rattle.la_world.specs.Learnings.{learnt};
 ghost use Rattle.la_world.specs.Sent.{sent};
@@ -26,7 +27,7 @@ ghost use Rattle.la_world.specs.Report.{lines};
 ghost use Rattle.la_world.specs.Laws.{AreComparable, IsAnswered, view_at_place};
 
 use la_object::{Replicated, Shelf};
-use la_world::{Config, Event, Report, WorldError, laws, run};
+use la_world::{Config, Event, Report, Step, World, WorldError, laws, run};
 use std::alloc::Global;
 
 // What a run's learnt sets hold of their own replicas is what was taken, and any two of one
@@ -139,7 +140,6 @@ fn a_learnt_set_has_only_what_was_submitted()
 
 // A question that was answered is answered by the view of the replica that was asked alone: whatever
 // came between two such places, where it left the view the second answer is the first one.
-#[tactic(auto, using(crate::proofs::WorldLaws::answers_stay))]
 fn answers_stay_with_the_view()
     ensures { (g : Group) (events : List Occurrence) (j k r object : ℕ) (query : Query)
         (a b : Answer) → IsAnswered events (lines g events) j r object query a
@@ -147,4 +147,28 @@ fn answers_stay_with_the_view()
         → view_at_place g events j r ≡ view_at_place g events k r → a ≡ b }
 {
     laws::answers_are_values();
+}
+
+// A step keeps the promises: after it any two learnt sets of one instance are comparable, and no view
+// has shrunk.
+fn a_step_keeps_learnt_sets_comparable<B: Replicated>(
+    world: &mut World<B>,
+    event: &Event,
+) -> Result<Step, WorldError>
+    requires { world.old.count + 1 < 2 ^ 64 }
+    ensures comparable { (events : Past) → StandsFor world.old events →
+        OnOk result (AreAllComparable world.new.learnt) }
+    ensures views { (events : Past) → StandsFor world.old events →
+        OnOk result (NoViewShrinks world.old world.new) }
+{
+    world.play(event)
+}
+
+// What is learnt at one place of a list has one place among the accepted events.
+fn learnt_at_one_place()
+    ensures { (g : Group) (events : List Occurrence) (place : ℕ) (x y : Learnt)
+        → IsLearntAt (lines g events) place x → IsLearntAt (lines g events) place y
+        → x.place ≡ y.place }
+{
+    laws::places_count_accepted_events();
 }

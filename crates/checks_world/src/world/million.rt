@@ -15,7 +15,10 @@ const MOST: u64 = 3_000_000;
 fn plays(rt: &impl Abort, world: &mut World<Counter>, event: &Event) -> Result<Step, WorldError> {
     assert!(rt; world.events() < MOST);
     match world.play(event) {
-        Err(WorldError::Memory) => world.play(event),
+        Err(WorldError::Memory) => {
+            assert!(rt; world.events() < MOST);
+            world.play(event)
+        }
         played => played,
     }
 }

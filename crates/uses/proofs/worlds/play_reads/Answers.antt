@@ -1,0 +1,10 @@
+use Rattle.std.specs.Prelude.{map}
+use Rattle.la_world.specs.Events.{event_of}
+use Rattle.uses.proofs.Asking.{run_answers_agree, run_shows_by_marks}
+use Rattle.uses.proofs.worlds.play_reads.Goals as goal
+
+pub returns-clause-current : goal.returns-clause-current
+returns-clause-current g c = run_shows_by_marks c.args.config c.args.shelves.items (map event_of c.args.events.now) c.run.result c.run.ensures.order
+
+pub returns-clause-agree : goal.returns-clause-agree
+returns-clause-agree g c = run_answers_agree c.args.config c.args.shelves.items (map event_of c.args.events.now) c.run.result c.run.ensures.answers c.run.ensures.group
