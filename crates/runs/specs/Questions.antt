@@ -23,13 +23,13 @@ abbrev pub increment : Histories
 increment = these ((object_op 1 (Inc 5) ∷ []) ∷ [] ∷ [] ∷ [])
 
 abbrev pub increment_and_raise : Histories
-increment_and_raise = these ((object_op 1 (Inc 5) ∷ object_op 2 (Raise 9) ∷ []) ∷ [] ∷ [] ∷ [])
+increment_and_raise = these ((object_op 1 (Inc 5) ∷ object_op 2 (Raise 8) ∷ []) ∷ [] ∷ [] ∷ [])
 
 abbrev pub events : List Event
 events =
     Ask 0 2 Largest
     ∷ Submit 0 (object_op 1 (Inc 5))
-    ∷ Submit 0 (object_op 2 (Raise 9))
+    ∷ Submit 0 (object_op 2 (Raise 8))
     ∷ Deliver 0
     ∷ Deliver 3
     ∷ Ask 0 1 Total
@@ -38,7 +38,7 @@ events =
     ∷ Deliver 9
     ∷ Ask 0 2 Largest
     ∷ Ask 1 1 Total
-    ∷ Ask 0 3 Largest
+    ∷ Ask 0 1 Largest
     ∷ Ask 0 4 Total
     ∷ Ask 3 4 Total
     ∷ []
@@ -51,12 +51,13 @@ Questions = (few : 3 ≤ 8) → report (heavy few) (three_objects 3) events ≡ 
       ∷ done (Opened (ballot 0 0 1 increment)) 0 3
       ∷ done (Held (record { replica = 0; number = 2 })) 3 0
       ∷ done (Answered Yes) 3 1
-      ∷ done (Learnt (learning 4 (ballot 0 0 1 increment)) 2 None (Some (ballot 0 0 2 increment_and_raise))) 4 5
+      ∷ done (Learnt (learning 4 (ballot 0 0 1 increment)) 2 None
+          (Some (ballot 0 0 2 increment_and_raise))) 4 5
       ∷ done (Replied (answer.Total (pos 5))) 9 0
       ∷ done (Replied (answer.Largest 0)) 9 0
       ∷ done (Answered Yes) 9 1
       ∷ done (Learnt (learning 8 (ballot 0 0 2 increment_and_raise)) 2 None None) 10 2
-      ∷ done (Replied (answer.Largest 9)) 12 0
+      ∷ done (Replied (answer.Largest 8)) 12 0
       ∷ done (Replied (answer.Total (pos 0))) 12 0
       ∷ done (Replied answer.Foreign) 12 0
       ∷ Refused NoSuchObject
