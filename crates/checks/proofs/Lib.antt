@@ -4,5 +4,3 @@ pub mod OfferAnswers
 pub mod ProposerAnswers
 pub mod Carried
 pub mod ReplicaAnswers
-pub mod SameWorlds
-pub mod WorldLaws

@@ -1,12 +1,10 @@
-//! Checks of the crates below, and nothing else: tests of what no contract says, and callers that
-//! promise what only exact contracts let them. They stand here, at the top, so that each is proved
-//! once.
+//! Checks of the layers below worlds, and nothing else: tests of what no contract says, and callers
+//! that promise what only exact contracts let them. They stand here, above those layers, so that
+//! each is proved once; `checks_world` has the others.
 #![tactic(auto)]
 
 #[cfg(test)]
 mod acceptor;
-#[cfg(test)]
-mod callers;
 #[cfg(test)]
 mod commit;
 #[cfg(test)]
@@ -20,10 +18,4 @@ mod proposer;
 #[cfg(test)]
 mod replica;
 #[cfg(test)]
-mod script;
-#[cfg(test)]
 mod set;
-#[cfg(test)]
-mod texts;
-#[cfg(test)]
-mod world;

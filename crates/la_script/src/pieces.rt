@@ -1,5 +1,5 @@
 ghost use Rattle.std.specs.Prelude.{◌≡◌, ℕ, ◌<◌, [], length, slice_get, option_map, IfOk, OnOk};
-ghost use Rattle.std.specs.Fmt.{decimal};
+ghost use Rattle.std.specs.Fmt.{decimal, signed_decimal};
 ghost use Rattle.la_set.specs.declared.set.TheConstants.{REPLICAS};
 ghost use Rattle.la_script.specs.Pieces.{words_and_ids, front, joined, Adds};
 
@@ -91,6 +91,13 @@ impl Pieces {
     // Adds a number.
     pub(crate) fn push_number(&mut self, number: u64) -> Result<(), AllocError>
         ensures { OnOk result (Adds self.old self.new (decimal number)) }
+    {
+        self.push_str(Buffer::new().format(number))
+    }
+
+    // Adds a number that may be below zero.
+    pub(crate) fn push_signed(&mut self, number: i64) -> Result<(), AllocError>
+        ensures { OnOk result (Adds self.old self.new (signed_decimal number)) }
     {
         self.push_str(Buffer::new().format(number))
     }

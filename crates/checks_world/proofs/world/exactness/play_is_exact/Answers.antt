@@ -1,5 +1,5 @@
-use Rattle.checks.proofs.SameWorlds.{steps_agree, worlds_agree, refusals_agree, unchanged_agree}
-use Rattle.checks.proofs.world.exactness.play_is_exact.Goals as goal
+use Rattle.checks_world.proofs.SameWorlds.{steps_agree, worlds_agree, refusals_agree, unchanged_agree}
+use Rattle.checks_world.proofs.world.exactness.play_is_exact.Goals as goal
 
 pub returns-clause-steps : goal.returns-clause-steps
 returns-clause-steps c = steps_agree c.args.one.now c.args.other.now c.requires.same _ c.play.result c.play-2.result _ _ c.play.ensures.step c.play-2.ensures.step

@@ -1,5 +1,5 @@
 use Rattle.std.specs.Prelude.{◌∷◌}
-use Rattle.checks.proofs.world.laws.a_view_stays_over_two_events.Goals as goal
+use Rattle.checks_world.proofs.world.laws.a_view_stays_over_two_events.Goals as goal
 
 pub returns : goal.returns
 returns c = λ g events e f r.

@@ -1,5 +1,5 @@
-use Rattle.checks.proofs.WorldLaws.{limits_most, limits_least, limits_taken}
-use Rattle.checks.proofs.world.laws.groups_have_these_limits.Goals as goal
+use Rattle.checks_world.proofs.WorldLaws.{limits_most, limits_least, limits_taken}
+use Rattle.checks_world.proofs.world.laws.groups_have_these_limits.Goals as goal
 
 pub returns-clause-most : goal.returns-clause-most
 returns-clause-most c = limits_most c.limits.ensures

@@ -1,0 +1,2 @@
+pub mod SameWorlds
+pub mod WorldLaws

@@ -1,0 +1,60 @@
+// What objects answered.
+ghost use Rattle.std.specs.Prelude.{◌≡◌, OnOk};
+ghost use Rattle.la_script.specs.Text.{items_text, has_text, answer_text};
+ghost use Rattle.la_script.specs.Pieces.{Adds};
+
+use crate::Pieces;
+use la_object::Answer;
+use std::alloc::AllocError;
+
+// Writes elements, with single spaces between them.
+fn put_items(out: &mut Pieces, items: &[u64]) -> Result<(), AllocError>
+    ensures { OnOk result (Adds out.old out.new (items_text items.now)) }
+{
+    let [first, others @ ..] = items else {
+        return Ok(());
+    };
+    out.push_number(*first)?;
+    for item in others {
+        out.push_str(" ")?;
+        out.push_number(*item)?;
+    }
+    Ok(())
+}
+
+fn put_has(out: &mut Pieces, has: bool) -> Result<(), AllocError>
+    ensures { OnOk result (Adds out.old out.new (has_text has)) }
+{
+    if has {
+        out.push_str("has yes")
+    } else {
+        out.push_str("has no")
+    }
+}
+
+/// Writes what an object answered.
+pub fn put_answer(out: &mut Pieces, answer: &Answer) -> Result<(), AllocError>
+    ensures { OnOk result (Adds out.old out.new (answer_text answer.now)) }
+{
+    match answer {
+        Answer::Total(total) => {
+            out.push_str("total ")?;
+            out.push_signed(*total)
+        }
+        Answer::Largest(value) => {
+            out.push_str("largest ")?;
+            out.push_number(*value)
+        }
+        Answer::Has(has) => put_has(out, *has),
+        Answer::Size(size) => {
+            out.push_str("size ")?;
+            out.push_number(*size)
+        }
+        Answer::Items(items) => {
+            out.push_str("items [")?;
+            put_items(out, items.all())?;
+            out.push_str("]")
+        }
+        Answer::Foreign => out.push_str("foreign"),
+    }
+}
