@@ -1,19 +1,32 @@
-// A stub of a local commit.
-ghost use Rattle.std.specs.Prelude.{◌≡◌, ◌↔◌, IsTrue, All};
+// What a world needs of the shelves that are handed to it.
+ghost use Rattle.std.specs.Prelude.{◌≡◌, ◌↔◌, IsTrue, IfOk, All, [], replicate};
 ghost use Rattle.la_set.specs.Histories.{empty};
 ghost use Rattle.la_object.specs.Shelves.{ShelfState};
 
 use la_object::{Replicated, Shelf};
-use la_set::UpdateSet;
-use std::alloc::Global;
+use std::alloc::{AllocError, Global};
+
+/// So many shelves without objects: of a group that is asked nothing, or to add objects to.
+pub fn empty_shelves<B: Replicated>(
+    alloc: Global,
+    replicas: u8,
+) -> Result<Vec<Shelf<B>>, AllocError>
+    ensures { IfOk result (λ shelves. shelves.items
+        ≡ replicate replicas (record { view = empty; objects = [] })) }
+{
+    let mut shelves = Vec::with_capacity(alloc, replicas as usize)?;
+    for _ in 0..replicas {
+        shelves.push(Shelf::new(alloc))?;
+    }
+    Ok(shelves)
+}
 
 // Whether no shelf has absorbed anything.
-pub fn are_unused<B: Replicated>(alloc: Global, shelves: &[Shelf<B>]) -> bool
+pub fn are_unused<B: Replicated>(shelves: &[Shelf<B>]) -> bool
     ensures { IsTrue result ↔ All (λ (s : ShelfState). s.view ≡ empty) shelves.now }
 {
-    let nothing = UpdateSet::new(alloc);
     for shelf in shelves {
-        if !shelf.view().same(&nothing) {
+        if shelf.view().len() != 0 {
             return false;
         }
     }

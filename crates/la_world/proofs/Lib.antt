@@ -1,0 +1,51 @@
+mod Lists
+mod EventCases
+mod Accepted
+mod Quorum
+mod GrowingViews
+mod Chains
+mod Within
+mod SubmittedBound
+mod Growth
+mod TakenUpdates
+mod Validity
+mod LearntOrder
+mod LargestViews
+mod Order
+pub mod OwnHistories
+pub mod Sizes
+pub mod Openings
+pub mod Unaffected
+pub mod OwnBound
+pub mod OneReplicaSteps
+pub mod Allowing
+pub mod InGroup
+pub mod Traces
+pub mod Once
+pub mod Taking
+pub mod SubmissionEvents
+pub mod Submitting
+pub mod Replying
+pub mod Delivering
+pub mod Placing
+pub mod SecondVotes
+pub mod Voting
+pub mod Legal
+pub mod RefusedForMemory
+pub mod Starting
+pub mod StoredMessages
+pub mod Shown
+pub mod Telling
+pub mod Proposals
+pub mod WorldSteps
+pub mod SentCounts
+pub mod Receivers
+pub mod Participants
+pub mod Worlds
+pub mod Returned
+pub mod Playback
+pub mod SubmittedVotes
+pub mod LearntVotes
+pub mod Returns
+pub mod Agreement
+pub mod Safe

@@ -1,0 +1,250 @@
+-- A world that stands for a list of events, and the world after one event more.
+use Rattle.std.proofs.Common.{◌≡◌, ◌≢◌, ℕ, ◌+◌, ◌*◌, ◌%◌, ◌<◌, ◌≤◌, Bool, true, false, cond, List, [], ◌∷◌, ◌++◌, length, map, slice_get, slice_set, Option, Some, None, option_map, option_and_then, refl, ap, ap₂, sym, ◌∙◌, subst, arith, eqb-true}
+use Rattle.std.proofs.Math.Nat.{div-add-mod}
+use Rattle.std.proofs.lemmas.Option.{none-some}
+use Rattle.la_set.specs.ObjectOps.{ObjectOp}
+use Rattle.la_set.specs.Histories.{Histories}
+use Rattle.la_commit.specs.Votes.{proposed, second_vote_for}
+use Rattle.la_replica.specs.declared.message.Message as code
+use Rattle.la_replica.specs.Whole.{Out, whole_of, CarryAll}
+use Rattle.la_replica.specs.declared.replica.TheConstants.{MAX_COMMITS}
+use Rattle.la_replica.specs.Messages.{group}
+use Rattle.la_replica.specs.Steps.{learnt_in}
+use Rattle.la_replica.specs.ReplicaState as acting
+use Rattle.la_replica.specs.ReplicaState.{ReplicaState, start}
+use Rattle.la_world.specs.declared.config.Config.{Config}
+use Rattle.la_world.specs.declared.speaker.Speaker.{Speaker}
+use Rattle.la_world.specs.declared.step.Opening.{Opening}
+use Rattle.la_world.specs.Groups.{Group, group_of, replicas, is_first_instance, commit_of, IsConfig}
+use Rattle.la_world.specs.Events.{Event, Deliver}
+use Rattle.la_world.specs.Trace as did
+use Rattle.la_world.specs.Trace.{Did, Entry, Trace}
+use Rattle.la_world.specs.Sent.{sent_at, sent}
+use Rattle.la_world.specs.Ballots.{opened_by, learnt_by, round, is_open}
+use Rattle.la_world.specs.Submissions.{submitted, second_vote_after}
+use Rattle.la_world.specs.Votes.{Submission, vote_in, instance_after, second_vote_of, second_vote_in, second_vote}
+use Rattle.la_world.specs.Outcomes.{outcome_in, outcome_by}
+use Rattle.la_world.specs.Shown.{shown_by}
+use Rattle.la_world.specs.Playing.{next_ballot, opens_or_waits, submits, receives, entry, trace}
+use Rattle.la_world.specs.Learnings.{learning_of, learnt}
+use Rattle.la_world.specs.Report.{refused, shown_as}
+use Rattle.la_world.specs.ReplicaStates.{replica_state}
+use Rattle.la_world.specs.StandsFor.{World, StandsFor}
+use Rattle.la_world.specs.Calls.{replica_states_at_start, IsSubmission}
+use Rattle.la_world.proofs.OneReplicaSteps.{get_made, replica_state-else, replica_states-set}
+use Rattle.la_world.specs.Following.{said_by, vote_due, takes}
+use Rattle.la_replica.specs.Refusals.{HasRoom, SubmittingSpares}
+use Rattle.la_replica.specs.Fitting.{FitsReceiver}
+use Rattle.la_world.proofs.EventCases.{entry_of}
+use Rattle.la_world.proofs.Openings.{IsOf}
+use Rattle.la_world.proofs.SubmissionEvents.{submission_entry, submission_replica, submission_instance}
+use Rattle.la_world.proofs.Legal.{legal_submits, legal_between, entry_delivers, opens_in, IsPlaced, delivery_steps, delivery_placed}
+use Rattle.la_world.proofs.RefusedForMemory.{delivery_fits, vote_has_room}
+use Rattle.la_world.proofs.Starting.{replica_state_at_start}
+use Rattle.la_world.proofs.StoredMessages.{messages_more, message_at}
+use Rattle.la_world.proofs.Shown.{opens_by, SpeaksOf, shown_is, learnt_number, length_trace}
+
+pub few_of : (c : Config) → IsConfig c → replicas (group_of c) ≤ 8
+few_of c is = let a = is.replicas in let b = is.few in omega arith
+
+-- ## The start
+
+abbrev pub world_at_start : Config → World
+world_at_start c = record { config = c; replica_states = replica_states_at_start c; messages = []; learnt = []; count = 0 }
+
+same_made : {A : Type 0} (f h : ℕ → A) → ((q : ℕ) → f q ≡ h q) → (xs : List ℕ) → map f xs ≡ map h xs
+same_made f h e [] = refl
+same_made f h e (x ∷ xs) = ap₂ (λ y ys. y ∷ ys) (e x) (same_made f h e xs)
+
+pub stands_at_start : (c : Config) → IsConfig c → StandsFor (world_at_start c) []
+unfolding trace sent learnt
+stands_at_start c is = record {
+  config = is;
+  legal = tt;
+  replica_states = sym (same_made (replica_state (group_of c) []) (λ r. start (group_of c).votes r c.cap c.commits) (replica_state_at_start (group_of c)) (group (replicas (group_of c))));
+  messages = refl;
+  learnt = refl;
+  count = refl;
+}
+
+-- ## One event more
+
+-- with this replica, these messages more and what was learnt
+abbrev pub world_after : World → (r : ℕ) → ReplicaState → List code.Message → Did → World
+world_after w r m mail did = record { config = w.config; replica_states = slice_set w.replica_states r m; messages = w.messages ++ mail; learnt = w.learnt ++ learning_of w.count (learnt_by did); count = w.count + 1 }
+
+-- a replica of this world that submits in i
+abbrev pub submitter_speaks : World → (i r : ℕ) → Speaker
+submitter_speaks w i r = record { replicas = w.config.replicas; replica = r; instance = i; ballot = 0; outcome = None; opens_in = i }
+
+-- and one that receives this message, and learns this by it
+abbrev pub receiver_speaks : World → code.Message → (copy : Option Histories) → Speaker
+receiver_speaks w m copy = record {
+  replicas = w.config.replicas;
+  replica = m.to;
+  instance = m.instance;
+  ballot = m.ballot;
+  outcome = option_and_then (outcome_in m.instance m.to) copy;
+  opens_in = instance_after m.instance (option_and_then (vote_in m.instance m.to) copy);
+}
+
+module _ (w : World) (events : List Event) (stands : StandsFor w events) where
+  abbrev g : Group
+  g = group_of w.config
+
+  abbrev t : Trace
+  t = trace g events
+
+  pub get_replica_state : (r : ℕ) → r < replicas g → slice_get w.replica_states r ≡ Some (replica_state g t r)
+  get_replica_state r lt = ap (λ ms. slice_get ms r) stands.replica_states ∙ get_made (replica_state g t) 0 (replicas g) r r lt (omega arith)
+
+  count_is : w.count ≡ length t
+  count_is = stands.count ∙ sym (length_trace g events)
+
+  -- a kept message carries the one that was sent
+  pub get_message : (k : ℕ) (m : code.Message) → slice_get w.messages k ≡ Some m → slice_get (sent (replicas g) t) k ≡ Some (whole_of m)
+  get_message k m stored = sym (message_at w.messages (sent (replicas g) t) k stands.messages) ∙ ap (option_map whole_of) stored
+
+  -- where all replicas but one stay as they were
+  pub stands_after : (e : Event) (r : ℕ) → refused g t e ≡ None → ((q : ℕ) → q ≢ r → replica_state g (entry g t e ∷ t) q ≡ replica_state g t q) → r < replicas g → (mail : List code.Message) → CarryAll mail (sent_at (replicas g) (entry g t e)) → StandsFor (world_after w r (replica_state g (entry g t e ∷ t) r) mail (entry g t e).did) (e ∷ events)
+  unfolding trace sent learnt
+  stands_after e r allowed others lt mail carry =
+      let x = entry g t e in
+      record {
+        config = stands.config;
+        legal = (allowed, stands.legal);
+        replica_states = ap (λ ms. slice_set ms r (replica_state g (x ∷ t) r)) stands.replica_states ∙ sym (replica_states-set g x t r others lt);
+        messages = messages_more w.messages mail (sent (replicas g) t) (sent_at (replicas g) x) stands.messages carry;
+        learnt = ap₂ (λ ls n. ls ++ learning_of n (learnt_by x.did)) stands.learnt count_is;
+        count = let c = stands.count in omega arith;
+      }
+
+  few : replicas g ≤ 8
+  few = few_of w.config stands.config
+
+  -- what one event comes to, where this is what its replica makes of it and tells
+  pub record PlaysTo (e : Event) (by : Speaker) (made : Option (Out × ReplicaState)) : Type 0 where
+    pub in_group : by.replica < replicas g
+    pub step : made ≡ Some (record { said = said_by (entry g t e).did; mail = sent_at (replicas g) (entry g t e) }, replica_state g (entry g t e ∷ t) by.replica)
+    pub shown : shown_by by w.count (said_by (entry g t e).did) ≡ shown_as (replicas g) (length t) (entry g t e).did
+    pub after : (mail : List code.Message) → CarryAll mail (sent_at (replicas g) (entry g t e)) → StandsFor (world_after w by.replica (replica_state g (entry g t e ∷ t) by.replica) mail (entry g t e).did) (e ∷ events)
+
+  -- a speaker of this world that speaks of an event
+  shown_so : (by : Speaker) (d : Did) → by.replicas ≡ w.config.replicas → SpeaksOf by d → shown_by by w.count (said_by d) ≡ shown_as (replicas g) (length t) d
+  shown_so by d n h = shown_is by w.count d h ∙ ap₂ (λ k place. shown_as k place d) (n ∙ stands.config.replicas) count_is
+
+  submits_learns : (i r : ℕ) (object_op : ObjectOp) → learnt_by (submits t i r object_op) ≡ None
+  unfolding submits
+  submits_learns i r object_op = go (cond (is_open t i r) None (next_ballot (round t i r) (submitted t i r ++ object_op ∷ [])))
+    where
+      go : (o : Option Opening) → learnt_by (opens_or_waits r (length (submitted t i r ++ object_op ∷ [])) o) ≡ None
+      go None = refl
+      go (Some b) = refl
+
+  pub submission_plays : (e : Event) (i r : ℕ) (object_op : ObjectOp) → IsSubmission e i r object_op → refused g t e ≡ None → PlaysTo e (submitter_speaks w i r) (acting.submits (replica_state g t r) i object_op)
+  submission_plays e i r object_op by allowed =
+      let lt = submission_replica g t i r object_op e by allowed in
+      let h = legal_submits g events stands.legal few e i r object_op by (submission_instance g t i r object_op e by allowed) lt in
+      let d = submits t i r object_op in
+      let x : Entry = entry_of e None d in
+      let same : entry g t e ≡ x = submission_entry g t i r object_op e by in
+      let others : (q : ℕ) → q ≢ r → replica_state g (entry g t e ∷ t) q ≡ replica_state g t q = subst (λ (y : Entry). (q : ℕ) → q ≢ r → replica_state g (y ∷ t) q ≡ replica_state g t q) (sym same) (λ q ne. replica_state-else g x t i r q h.concerns ne) in
+      let none = submits_learns i r object_op in
+      record {
+        in_group = lt;
+        step = subst (λ (y : Entry). acting.submits (replica_state g t r) i object_op ≡ Some (record { said = said_by y.did; mail = sent_at (replicas g) y }, replica_state g (y ∷ t) r)) (sym same) h.step;
+        shown = subst (λ (y : Entry). shown_by (submitter_speaks w i r) w.count (said_by y.did) ≡ shown_as (replicas g) (length t) y.did) (sym same)
+            (shown_so (submitter_speaks w i r) d refl (record {
+              opened = λ b f. subst (λ o. IsOf (opens_by (submitter_speaks w i r) o) r b) (sym none) (h.concerns.opened b f);
+              learnt = λ b f. absurd (none-some b (sym none ∙ f));
+              number = λ b f. absurd (none-some b (sym none ∙ f));
+              outcome = λ b f. absurd (none-some b (sym none ∙ f));
+            }));
+        after = stands_after e r allowed others lt;
+      }
+
+  -- ## A delivery
+
+  -- what a replica says that it learnt
+  learnt_said : (d : Did) → learnt_in (said_by d) ≡ option_map (λ (b : Opening). b.updates) (learnt_by d)
+  learnt_said (did.Learnt b next) = refl
+  learnt_said (did.Opened b) = refl
+  learnt_said (did.Held id) = refl
+  learnt_said (did.Answered reply) = refl
+  learnt_said did.Counted = refl
+  learnt_said did.Ignored = refl
+  learnt_said (did.Refined b) = refl
+  learnt_said (did.Took s) = refl
+  learnt_said did.Kept = refl
+
+  -- what opens, opens in the instance of the vote that it casts
+  vote_opens : (i r : ℕ) (b : Opening) → IsOf i r b → opens_in i (second_vote b) ≡ instance_after i (vote_in i r b.updates)
+  vote_opens i r b of = ap₂ (λ j q. opens_in i (second_vote_in j q b.updates)) of.instance of.replica ∙ go (is_first_instance i) refl (proposed b.updates r)
+    where
+      go : (v : Bool) → is_first_instance i ≡ v → (o : Option ℕ) → opens_in i (cond v (second_vote_of (commit_of i) r b.updates o) None) ≡ instance_after i (cond v (option_map (second_vote_for b.updates) o) None)
+      go true e None = refl
+      go true e (Some value) = let odd = eqb-true (i % 2) 1 e in omega (arith, div-add-mod i 2, odd)
+      go false e o = refl
+
+  -- a kept message is to a replica of the group
+  pub receiver_in_group : (k : ℕ) (m : code.Message) → slice_get w.messages k ≡ Some m → m.to < replicas g
+  receiver_in_group k m stored = (legal_between g events stands.legal k (whole_of m) (get_message k m stored)).to
+
+  pub delivery_step : (k : ℕ) (m : code.Message) → slice_get w.messages k ≡ Some m → refused g t (Deliver k) ≡ None → takes (replica_state g t m.to) (whole_of m) ≡ Some (record { said = said_by (entry g t (Deliver k)).did; mail = sent_at (replicas g) (entry g t (Deliver k)) }, replica_state g (entry g t (Deliver k) ∷ t) m.to)
+  delivery_step k m stored allowed = (delivery_steps g events k (whole_of m) few stands.legal (get_message k m stored)).step
+
+  -- of the kept message with this number, where its receiver learns this by it
+  pub delivery_plays : (k : ℕ) (m : code.Message) → slice_get w.messages k ≡ Some m → refused g t (Deliver k) ≡ None → (copy : Option Histories) → copy ≡ learnt_in (said_by (entry g t (Deliver k)).did) → PlaysTo (Deliver k) (receiver_speaks w m copy) (takes (replica_state g t m.to) (whole_of m))
+  delivery_plays k m stored allowed copy kept =
+      let v = whole_of m in
+      let is : slice_get (sent (replicas g) t) k ≡ Some v = get_message k m stored in
+      let h = delivery_steps g events k v few stands.legal is in
+      let placed = delivery_placed g events stands.legal few k v is in
+      let lt = (legal_between g events stands.legal k v is).to in
+      let same : (entry g t (Deliver k)).did ≡ receives g t (Some v) = ap (λ (y : Entry). y.did) (entry_delivers g t k v is) in
+      let d = receives g t (Some v) in
+      let by = receiver_speaks w m copy in
+      let learnt_copy : copy ≡ option_map (λ (b : Opening). b.updates) (learnt_by d) = kept ∙ ap (λ y. learnt_in (said_by y)) same ∙ learnt_said d in
+      record {
+        in_group = lt;
+        step = h.step;
+        shown = subst (λ y. shown_by by w.count (said_by y) ≡ shown_as (replicas g) (length t) y) (sym same)
+            (shown_so by d refl (record {
+              opened = λ b f. opened_so m copy d placed learnt_copy b f;
+              learnt = placed.learnt;
+              number = λ b f. learnt_number g t v b f;
+              outcome = λ b f. outcome_so m copy d placed learnt_copy b f;
+            }));
+        after = stands_after (Deliver k) m.to allowed h.others lt;
+      }
+    where
+      opened_so : (m : code.Message) (copy : Option Histories) (d : Did) → IsPlaced m.instance m.to d → copy ≡ option_map (λ (b : Opening). b.updates) (learnt_by d) → (b : Opening) → opened_by d ≡ Some b → IsOf (opens_by (receiver_speaks w m copy) (learnt_by d)) m.to b
+      opened_so m copy d placed c b f = go (learnt_by d) refl
+        where
+          go : (o : Option Opening) → learnt_by d ≡ o → IsOf (opens_by (receiver_speaks w m copy) o) m.to b
+          go None e = subst (λ o. IsOf (opens_in m.instance (second_vote_after o)) m.to b) e (placed.opened b f)
+          go (Some l) e =
+              let in_place : opens_in m.instance (second_vote l) ≡ instance_after m.instance (option_and_then (vote_in m.instance m.to) copy) =
+              vote_opens m.instance m.to l (placed.learnt l e) ∙ ap (λ o. instance_after m.instance (option_and_then (vote_in m.instance m.to) o)) (sym (c ∙ ap (option_map (λ (b : Opening). b.updates)) e)) in
+              subst (λ j. IsOf j m.to b) in_place (subst (λ o. IsOf (opens_in m.instance (second_vote_after o)) m.to b) e (placed.opened b f))
+
+      outcome_so : (m : code.Message) (copy : Option Histories) (d : Did) → IsPlaced m.instance m.to d → copy ≡ option_map (λ (b : Opening). b.updates) (learnt_by d) → (b : Opening) → learnt_by d ≡ Some b → option_and_then (outcome_in m.instance m.to) copy ≡ outcome_by b
+      outcome_so m copy d placed c b f =
+          let of = placed.learnt b f in
+          ap (option_and_then (outcome_in m.instance m.to)) (c ∙ ap (option_map (λ (b : Opening). b.updates)) f)
+          ∙ ap₂ (λ j q. outcome_in j q b.updates) (sym of.instance) (sym of.replica)
+
+  -- a kept message fits its receiver
+  pub message_fits : (k : ℕ) (m : code.Message) → slice_get w.messages k ≡ Some m → FitsReceiver (replica_state g t m.to) (whole_of m)
+  message_fits k m stored = (delivery_fits g events k (whole_of m) few stands.config.cap_most stands.legal (get_message k m stored)).0
+
+  -- and is of an instance of the group
+  pub message_instance : (k : ℕ) (m : code.Message) → slice_get w.messages k ≡ Some m → m.instance ≤ 2 * MAX_COMMITS
+  message_instance k m stored =
+      let lt = (legal_between g events stands.legal k (whole_of m) (get_message k m stored)).instance in
+      let most = stands.config.commits in
+      omega arith
+
+  -- where its receiver votes by it, it has not voted yet
+  pub vote_room : (k : ℕ) (m : code.Message) → slice_get w.messages k ≡ Some m → (s : Submission) (made : Out × ReplicaState) → acting.receives (replica_state g t m.to) (whole_of m) ≡ Some made → vote_due m.instance m.to made.0.said ≡ Some s → HasRoom (replica_state g t m.to) s.instance × SubmittingSpares (replica_state g t m.to) s.instance
+  vote_room k m stored s made is due = vote_has_room g events k (whole_of m) s made few stands.config.cap_most stands.legal (get_message k m stored) is due
