@@ -147,13 +147,15 @@ impl<B: Replicated> Shelf<B> {
     /// Lets each object absorb what the set has of its number beyond the view, in the order of ids
     /// and once each, and answers how many updates those are; the set is then the view. `Smaller`
     /// comes exactly where the set does not contain the view. After `Memory` the view is the old one
-    /// with the first `done` of these updates. Where the set is the view no memory is taken. The cost
+    /// with the first `done` of these updates, and still lies in the set. Where the set is the view no
+    /// memory is taken. The cost
     /// is that of the inclusion test, and then a logarithmic one for each new update.
     pub fn absorb(&mut self, set: &UpdateSet) -> Result<u64, AbsorbError>
         ensures ok { OnOk result (self.new ≡ record self.old { view = set.now }) }
         ensures many { IfOk result (λ many. many ≡ length (beyond set.now self.old.view)) }
         ensures contained { OnOk result (IsSubset self.old.view set.now) }
         ensures error { IfErr result (IsAbsorbRefusal self.old set.now self.new) }
+        ensures within { IsSubset self.old.view set.now → IsSubset self.new.view set.now }
         ensures again { set.now ≡ self.old.view → result ≡ Ok 0 }
     {
         if !set.contains_all(self.view()) {
@@ -171,6 +173,7 @@ impl<B: Replicated> Shelf<B> {
         ensures many { IfOk result (λ many. many ≡ length (beyond set.now self.old.view)) }
         ensures contained { OnOk result (IsSubset self.old.view set.now) }
         ensures error { IfErr result (IsAbsorbRefusal self.old set.now self.new) }
+        ensures within { IsSubset self.old.view set.now → IsSubset self.new.view set.now }
         ensures again { set.now ≡ self.old.view → result ≡ Ok 0 }
     {
         if !set.contains_compatible(self.view()) {
@@ -185,6 +188,7 @@ impl<B: Replicated> Shelf<B> {
         ensures ok { OnOk result (self.new ≡ record self.old { view = set.now }) }
         ensures many { IfOk result (λ many. many ≡ length (beyond set.now self.old.view)) }
         ensures error { IfErr result (IsAbsorbRefusal self.old set.now self.new) }
+        ensures within { IsSubset self.old.view set.now → IsSubset self.new.view set.now }
         ensures again { set.now ≡ self.old.view → result ≡ Ok 0 }
     {
         // a hint to the prover: a set has at most 8,000,000 updates, so the count does not wrap

@@ -13,7 +13,7 @@ use Rattle.la_replica.specs.Messages.{group, offer_to}
 use Rattle.la_commit.specs.Votes.{proposed}
 use Rattle.la_world.specs.declared.step.Opening.{Opening}
 use Rattle.la_world.specs.Groups.{Group, replicas, instances, first_instance, second_instance, is_first_instance, commit_of}
-use Rattle.la_world.specs.Events.{Event, Submit, Deliver, Decide}
+use Rattle.la_world.specs.Events.{Event, Submit, Deliver, Decide, Ask}
 use Rattle.la_world.specs.Trace.{Did, Entry, Trace}
 use Rattle.la_world.specs.Sent.{sender_for, ballot_of, offers_for, offers_for_next, tells_for, sent_by, sent}
 use Rattle.la_world.specs.Ballots.{opened_by, learnt_by, only, ballots, round}
@@ -173,6 +173,7 @@ submits_grouped g t (Deliver k) h allowed s e =
       instance = subst (λ i. i < instances g) (sym is.1) (second_within g b.instance is.0 ok.instance);
       replica = subst (λ r. r < replicas g) (sym is.2) ok.replica;
     }
+submits_grouped g t (Ask r object query) h allowed s e = absurd (none-some s e)
 
 grouped_start : (g : Group) → Grouped g []
 unfolding submitted ballots sent
@@ -201,6 +202,7 @@ capped_more g t (Deliver k) allowed q le s =
     let v = vote_after (learnt_by (entry g t (Deliver k)).did) s.submission s.by in
     let is = second_vote_is v.0 s.submission v.2 in
     absurd (omega (arith, is.1, s.instance))
+capped_more g t (Ask r object query) allowed q le s = absurd (none-some s.submission s.by)
 
 pub capped : (g : Group) (events : List Event) → IsLegal g events → (q : ℕ) → length (submitted (trace g events) 0 q) ≤ g.cap
 unfolding trace submitted

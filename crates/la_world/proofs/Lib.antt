@@ -49,3 +49,5 @@ pub mod LearntVotes
 pub mod Returns
 pub mod Agreement
 pub mod Safe
+pub mod Asking
+pub mod Questions

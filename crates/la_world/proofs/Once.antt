@@ -15,8 +15,8 @@ use Rattle.la_proposer.proofs.LeastIds.{some-get}
 use Rattle.la_commit.specs.Votes.{vote_of, proposal}
 use Rattle.la_world.specs.declared.step.Opening.{Opening}
 use Rattle.la_world.specs.Groups.{Group, first_instance, second_instance, is_first_instance, commit_of, cap_of}
-use Rattle.la_world.specs.Events.{Event, Submit, Deliver, Decide}
-use Rattle.la_world.specs.Trace.{Did, Opened, Held, Answered, Counted, Ignored, Refined, Learnt, Took, Kept, Entry, Trace}
+use Rattle.la_world.specs.Events.{Event, Submit, Deliver, Decide, Ask}
+use Rattle.la_world.specs.Trace.{Did, Opened, Held, Answered, Counted, Ignored, Refined, Learnt, Took, Kept, Replied, Entry, Trace}
 use Rattle.la_world.specs.Ballots.{opened_by, learnt_by, only, round, is_open}
 use Rattle.la_world.specs.Votes.{Submission, second_vote_of, second_vote}
 use Rattle.la_world.specs.Submissions.{submitted, alone, is_refined}
@@ -52,6 +52,7 @@ learnt_only Ignored b e f = none-some b e
 learnt_only (Refined c) b e f = none-some b e
 learnt_only (Took s) b e f = none-some b e
 learnt_only Kept b e f = none-some b e
+learnt_only (Replied answer) b e f = none-some b e
 
 -- the ballot in the first instance has ended, with an update of the replica's own
 pub record IsDone (t : Trace) (k r : ℕ) : Type 0 where
@@ -142,6 +143,7 @@ module _ (g : Group) (t : Trace) (h : Holds g t) (v : VotesOnce t) where
       let w = vote_after (learnt_by (entry g t (Deliver j)).did) s.submission s.by in
       let is = second_vote_is w.0 s.submission w.2 in
       absurd (omega (arith, is.1, s.instance))
+  first_at (Ask q object query) allowed k r s = absurd (none-some s.submission s.by)
 
   first_more : (e : Event) → refused g t e ≡ None → (k r : ℕ) → length (submitted (entry g t e ∷ t) (first_instance k) r) ≤ 1
   first_more e allowed k r = elim (submitted_by (entry g t e) t (first_instance k) r) [
@@ -171,6 +173,7 @@ module _ (g : Group) (t : Trace) (h : Holds g t) (v : VotesOnce t) where
           | inr d ↦ absurd (true≢false (sym asking ∙ d.closed))
         ],
       )
+  second_at (Ask q object query) allowed k r s = absurd (none-some s.submission s.by)
 
   votes_more : (e : Event) → refused g t e ≡ None → VotesOnce (entry g t e ∷ t)
   votes_more e allowed = record {

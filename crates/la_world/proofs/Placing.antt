@@ -15,7 +15,7 @@ use Rattle.la_replica.specs.Whole.{Message, Body, Offer, Yes, No, Tell}
 use Rattle.la_replica.specs.Views.{is_larger}
 use Rattle.la_world.specs.declared.step.Opening.{Opening}
 use Rattle.la_world.specs.Groups.{Group}
-use Rattle.la_world.specs.Trace.{Did, Ignored, Took, Kept, Trace}
+use Rattle.la_world.specs.Trace.{Did, Ignored, Took, Kept, Replied, Trace}
 use Rattle.la_world.specs.Ballots.{opened_by, learnt_by, round, is_open}
 use Rattle.la_world.specs.Votes.{Submission, second_vote}
 use Rattle.la_world.specs.Submissions.{alone, submitted, second_vote_after}
@@ -29,16 +29,23 @@ abbrev pub opens_in : (i : ℕ) → Option Submission → ℕ
 opens_in i None = i
 opens_in i (Some s) = s.instance
 
+-- a question was answered
+abbrev pub is_answer : Did → Bool
+is_answer (Replied answer) = true
+is_answer _ = false
+
 -- a delivery's ballots are of the receiver: what it learns in i, and what opens there or, with a vote, in
 -- the vote's instance
 pub record IsPlaced (i r : ℕ) (d : Did) : Type 0 where
   pub learnt : (b : Opening) → learnt_by d ≡ Some b → IsOf i r b
   pub opened : (b : Opening) → opened_by d ≡ Some b → IsOf (opens_in i (second_vote_after (learnt_by d))) r b
+  pub no_answer : is_answer d ≡ false
 
-quiet_placed : (i r : ℕ) (d : Did) → opened_by d ≡ None → learnt_by d ≡ None → IsPlaced i r d
-quiet_placed i r d opened learnt = record {
+quiet_placed : (i r : ℕ) (d : Did) → opened_by d ≡ None → learnt_by d ≡ None → is_answer d ≡ false → IsPlaced i r d
+quiet_placed i r d opened learnt plain = record {
   learnt = λ b e. absurd (none-some b (sym learnt ∙ e));
   opened = λ b e. absurd (none-some b (sym opened ∙ e));
+  no_answer = plain;
 }
 
 -- a replica's next ballot in an instance
@@ -76,16 +83,18 @@ module _ (g : Group) (t : Trace) (m : Message) where
 
   ends_placed : (tally : List Counted) (w : Verdict) → IsPlaced i r (ends t last tally w)
   unfolding after_learning
-  ends_placed tally Waits = quiet_placed i r (ends t last tally Waits) refl refl
+  ends_placed tally Waits = quiet_placed i r (ends t last tally Waits) refl refl refl
   ends_placed tally Refines =
       let of = round_is t i r in
       record {
         learnt = λ b e. absurd (none-some b e);
         opened = λ b e. subst (IsOf i r) (same_Some _ b e) (record { instance = of.instance; replica = of.replica });
+        no_answer = refl;
       }
   ends_placed tally Learns = record {
     learnt = λ b e. subst (IsOf i r) (same_Some last b e) (round_is t i r);
     opened = vote_placed (second_vote last) refl;
+    no_answer = refl;
   }
 
   hears_placed : (reply : Reply) → IsPlaced i r (hears g t m reply)
@@ -97,20 +106,20 @@ module _ (g : Group) (t : Trace) (m : Message) where
 
       go : (v : Bool) → IsPlaced i r (cond v (ends t last tally (verdict g.votes tally)) Ignored)
       go true = ends_placed tally (verdict g.votes tally)
-      go false = quiet_placed i r Ignored refl refl
+      go false = quiet_placed i r Ignored refl refl refl
 
   told_placed : (s : Histories) → IsPlaced i r (is_told t m s)
   unfolding is_told
   told_placed s = go (i == 0) (is_larger (view t r) s)
     where
       go : (v w : Bool) → IsPlaced i r (cond v (cond w (Took s) Kept) Ignored)
-      go true true = quiet_placed i r (Took s) refl refl
-      go true false = quiet_placed i r Kept refl refl
-      go false w = quiet_placed i r Ignored refl refl
+      go true true = quiet_placed i r (Took s) refl refl refl
+      go true false = quiet_placed i r Kept refl refl refl
+      go false w = quiet_placed i r Ignored refl refl refl
 
   body_placed : (b : Body) → IsPlaced i r (receives_body g t m b)
   unfolding answers
-  body_placed (Offer s) = quiet_placed i r (answers t m s) refl refl
+  body_placed (Offer s) = quiet_placed i r (answers t m s) refl refl refl
   body_placed Yes = hears_placed replied.Yes
   body_placed (No s) = hears_placed (replied.No s)
   body_placed (Tell s) = told_placed s

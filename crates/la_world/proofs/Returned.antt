@@ -7,13 +7,13 @@ use Rattle.la_commit.specs.declared.outcome.Outcome.{Outcome}
 use Rattle.la_replica.specs.Messages.{group}
 use Rattle.la_replica.specs.ReplicaState.{ReplicaState, learnt_of}
 use Rattle.la_world.specs.declared.report.Decision.{Decision}
-use Rattle.la_world.specs.Groups.{Group, group_of, replicas, second_instance}
+use Rattle.la_world.specs.Groups.{Group, replicas, second_instance}
 use Rattle.la_world.specs.Events.{Event}
 use Rattle.la_world.specs.Trace.{Trace}
 use Rattle.la_world.specs.Outcomes.{outcome_of, decision_of, returned, decisions_on, decisions}
 use Rattle.la_world.specs.Playing.{trace}
 use Rattle.la_world.specs.ReplicaStates.{instance_of, replica_state}
-use Rattle.la_world.specs.StandsFor.{World, StandsFor}
+use Rattle.la_world.specs.StandsFor.{World, group_in, StandsFor}
 use Rattle.la_world.specs.Calls.{returned_by, returned_at, returned_in, returned_of, decision_by, decisions_at, decisions_in}
 use Rattle.la_world.proofs.OneReplicaSteps.{get_instance}
 use Rattle.la_world.proofs.Worlds.{replica_state_found}
@@ -42,7 +42,7 @@ returned_is g t k r lt = ap (option_and_then (λ s. outcome_of s r)) (ap learnt_
 
 module _ (w : World) (events : List Event) (stands : StandsFor w events) where
   abbrev g : Group
-  g = group_of w.config
+  g = group_in w
 
   abbrev t : Trace
   t = trace g events

@@ -13,7 +13,7 @@ use Rattle.la_world.specs.Trace.{Trace}
 use Rattle.la_world.specs.Playing.{trace}
 use Rattle.la_world.specs.Outcomes.{decisions}
 use Rattle.la_world.specs.Report.{refused, line_of, Run, runs, runs_on, accepted_among}
-use Rattle.la_world.specs.StandsFor.{World, StandsFor, IsLegal}
+use Rattle.la_world.specs.StandsFor.{World, kinds_of, group_in, StandsFor, IsLegal}
 use Rattle.la_world.specs.Calls.{decisions_in}
 use Rattle.la_world.specs.Laws.{IsAdoptCommit, ReportedOutcomesAreSafe}
 use Rattle.la_world.proofs.Agreement.{adopt_commit}
@@ -22,7 +22,7 @@ use Rattle.la_world.proofs.WorldSteps.{few_of}
 
 -- of a world
 pub returns_safely : (w : World) (events : List Event) → StandsFor w events → IsAdoptCommit events (decisions_in w)
-returns_safely w events stands = subst (IsAdoptCommit events) (sym (decisions_are w events stands)) (adopt_commit (group_of w.config) events (few_of w.config stands.config) stands.legal)
+returns_safely w events stands = subst (IsAdoptCommit events) (sym (decisions_are w events stands)) (adopt_commit (group_in w) events (few_of w.config (kinds_of w.shelves) stands.config) stands.legal)
 
 -- ## A list that is played
 
@@ -37,7 +37,7 @@ runs_legal g (e ∷ es) = go (refused g (trace g (runs g es).accepted) e) refl (
     go (Some name) is legal = legal
 
 -- there is a line for each event
-line_each : (g : Group) (es : List Event) → length (runs g es).lines ≡ length es
+pub line_each : (g : Group) (es : List Event) → length (runs g es).lines ≡ length es
 unfolding runs
 line_each g [] = refl
 line_each g (e ∷ es) = go (refused g (trace g (runs g es).accepted) e) (line_each g es)
@@ -94,9 +94,9 @@ in_order events returned h = record {
 }
 
 pub reported : ReportedOutcomesAreSafe
-reported c events is =
-    let g = group_of c in
+reported c kinds events is =
+    let g = group_of c kinds in
     let es = reverse events in
     let accepted = (runs g es).accepted in
     subst (λ xs. IsAdoptCommit xs (decisions g (trace g accepted))) (sym (ap (λ xs. accepted_among xs (reverse (runs g es).lines)) (sym (reverse-reverse events)) ∙ accepted_are g es))
-    (in_order accepted (decisions g (trace g accepted)) (adopt_commit g accepted (few_of c is) (runs_legal g es)))
+    (in_order accepted (decisions g (trace g accepted)) (adopt_commit g accepted (few_of c kinds is) (runs_legal g es)))

@@ -12,7 +12,7 @@ use Rattle.la_commit.specs.Votes.{HoldsVote, own_vote, proposal, proposed, first
 use Rattle.la_world.specs.declared.step.Learnt.{Learnt}
 use Rattle.la_world.specs.declared.step.Opening.{Opening}
 use Rattle.la_world.specs.Groups.{Group, first_instance, second_instance, is_first_instance, commit_of}
-use Rattle.la_world.specs.Events.{Event, Submit, Deliver, Decide}
+use Rattle.la_world.specs.Events.{Event, Submit, Deliver, Decide, Ask}
 use Rattle.la_world.specs.Trace.{Entry, Trace}
 use Rattle.la_world.specs.Ballots.{learnt_by}
 use Rattle.la_world.specs.Votes.{Submission, casts, first_vote, second_vote_of, second_vote}
@@ -72,6 +72,7 @@ first_by g t events (Deliver j) allowed k r s =
     let w = vote_after (learnt_by (entry g t (Deliver j)).did) s.submission s.by in
     let is = second_vote_is w.0 s.submission w.2 in
     absurd (omega (arith, is.1, s.instance))
+first_by g t events (Ask q object query) allowed k r s = absurd (none-some s.submission s.by)
 
 pub proposals : (g : Group) (events : List Event) → IsLegal g events → (k r : ℕ) → (submitted (trace g events) (first_instance k) r ≡ []) ⊎ HasProposed events (trace g events) k r
 unfolding trace
@@ -157,6 +158,7 @@ second_by g t (Deliver j) once k r s =
       own = subst (λ q. HoldsVote b.updates q (first_vote_for leads.value)) er leads.own;
       all = s.all ∙ ap (λ ds. ds ++ s.submission.object_op ∷ []) none ∙ ap (λ d. d ∷ []) (leads.casts_it ∙ ap (λ i. casts i (second_vote_for b.updates leads.value)) of);
     }
+second_by g t (Ask q object query) once k r s = absurd (none-some s.submission s.by)
 
 pub second_votes_cast : (g : Group) (events : List Event) → IsLegal g events → (k r : ℕ) → (submitted (trace g events) (second_instance k) r ≡ []) ⊎ HasVoted (trace g events) k r
 unfolding trace

@@ -1,9 +1,13 @@
 -- A world that stands for a list of events, and the world after one event more.
-use Rattle.std.proofs.Common.{◌≡◌, ◌≢◌, ℕ, ◌+◌, ◌*◌, ◌%◌, ◌<◌, ◌≤◌, Bool, true, false, cond, List, [], ◌∷◌, ◌++◌, length, map, slice_get, slice_set, Option, Some, None, option_map, option_and_then, refl, ap, ap₂, sym, ◌∙◌, subst, arith, eqb-true}
+use Rattle.std.proofs.Common.{◌≡◌, ◌≢◌, ℕ, ◌+◌, ◌*◌, ◌%◌, ◌<◌, ◌≤◌, Bool, true, false, cond, List, [], ◌∷◌, ◌++◌, length, map, slice_get, slice_set, All, Option, Some, None, option_map, option_and_then, refl, ap, ap₂, sym, ◌∙◌, subst, arith, eqb-true}
 use Rattle.std.proofs.Math.Nat.{div-add-mod}
-use Rattle.std.proofs.lemmas.Option.{none-some}
+use Rattle.std.proofs.lemmas.Option.{none-some, slice_get_within, get_or_from_slice_get}
 use Rattle.la_set.specs.ObjectOps.{ObjectOp}
-use Rattle.la_set.specs.Histories.{Histories}
+use Rattle.la_set.specs.Histories.{Histories, empty}
+use Rattle.la_set.specs.Inclusion.{IsSubset}
+use Rattle.la_set.proofs.Inclusions.{subset-trans}
+use Rattle.la_object.specs.declared.kind.Kind.{Kind}
+use Rattle.la_object.specs.Shelves.{ShelfState}
 use Rattle.la_commit.specs.Votes.{proposed, second_vote_for}
 use Rattle.la_replica.specs.declared.message.Message as code
 use Rattle.la_replica.specs.Whole.{Out, whole_of, CarryAll}
@@ -29,8 +33,11 @@ use Rattle.la_world.specs.Playing.{next_ballot, opens_or_waits, submits, receive
 use Rattle.la_world.specs.Learnings.{learning_of, learnt}
 use Rattle.la_world.specs.Report.{refused, shown_as}
 use Rattle.la_world.specs.ReplicaStates.{replica_state}
-use Rattle.la_world.specs.StandsFor.{World, StandsFor}
-use Rattle.la_world.specs.Calls.{replica_states_at_start, IsSubmission}
+use Rattle.la_world.specs.Views.{view}
+use Rattle.la_world.specs.StandsFor.{World, kinds_of, group_in, AreBehind, StandsFor}
+use Rattle.la_world.specs.Calls.{IsGroup, replica_states_at_start, IsSubmission}
+use Rattle.la_world.proofs.GrowingViews.{view_more}
+use Rattle.la_world.proofs.LargestViews.{empty_least}
 use Rattle.la_world.proofs.OneReplicaSteps.{get_made, replica_state-else, replica_states-set}
 use Rattle.la_world.specs.Following.{said_by, vote_due, takes}
 use Rattle.la_replica.specs.Refusals.{HasRoom, SubmittingSpares}
@@ -38,30 +45,36 @@ use Rattle.la_replica.specs.Fitting.{FitsReceiver}
 use Rattle.la_world.proofs.EventCases.{entry_of}
 use Rattle.la_world.proofs.Openings.{IsOf}
 use Rattle.la_world.proofs.SubmissionEvents.{submission_entry, submission_replica, submission_instance}
-use Rattle.la_world.proofs.Legal.{legal_submits, legal_between, entry_delivers, opens_in, IsPlaced, delivery_steps, delivery_placed}
+use Rattle.la_world.proofs.Legal.{legal_submits, legal_between, entry_delivers, opens_in, is_answer, IsPlaced, delivery_steps, delivery_placed}
 use Rattle.la_world.proofs.RefusedForMemory.{delivery_fits, vote_has_room}
 use Rattle.la_world.proofs.Starting.{replica_state_at_start}
 use Rattle.la_world.proofs.StoredMessages.{messages_more, message_at}
 use Rattle.la_world.proofs.Shown.{opens_by, SpeaksOf, shown_is, learnt_number, length_trace}
 
-pub few_of : (c : Config) → IsConfig c → replicas (group_of c) ≤ 8
-few_of c is = let a = is.replicas in let b = is.few in omega arith
+pub few_of : (c : Config) (kinds : List (List (ℕ × Kind))) → IsConfig c → replicas (group_of c kinds) ≤ 8
+few_of c kinds is = let a = is.replicas in let b = is.few in omega arith
 
 -- ## The start
 
-abbrev pub world_at_start : Config → World
-world_at_start c = record { config = c; replica_states = replica_states_at_start c; messages = []; learnt = []; count = 0 }
+abbrev pub world_at_start : Config → List ShelfState → World
+world_at_start c shelves = record { config = c; replica_states = replica_states_at_start c; shelves = shelves; messages = []; learnt = []; count = 0 }
 
 same_made : {A : Type 0} (f h : ℕ → A) → ((q : ℕ) → f q ≡ h q) → (xs : List ℕ) → map f xs ≡ map h xs
 same_made f h e [] = refl
 same_made f h e (x ∷ xs) = ap₂ (λ y ys. y ∷ ys) (e x) (same_made f h e xs)
 
-pub stands_at_start : (c : Config) → IsConfig c → StandsFor (world_at_start c) []
+-- what has absorbed nothing is behind
+unused_behind : (shelves : List ShelfState) (t : Trace) → All (λ (s : ShelfState). s.view ≡ empty) shelves → AreBehind shelves t
+unused_behind shelves t unused r s found = subst (λ v. IsSubset v (view t r)) (sym (subst (λ (z : ShelfState). z.view ≡ empty) (get_or_from_slice_get shelves r s s found) (unused r s (slice_get_within shelves r s found)))) (empty_least (view t r))
+
+pub stands_at_start : (c : Config) (shelves : List ShelfState) → IsGroup c shelves → StandsFor (world_at_start c shelves) []
 unfolding trace sent learnt
-stands_at_start c is = record {
-  config = is;
+stands_at_start c shelves is = let g = group_of c (kinds_of shelves) in record {
+  config = is.config;
   legal = tt;
-  replica_states = sym (same_made (replica_state (group_of c) []) (λ r. start (group_of c).votes r c.cap c.commits) (replica_state_at_start (group_of c)) (group (replicas (group_of c))));
+  replica_states = sym (same_made (replica_state g []) (λ r. start g.votes r c.cap c.commits) (replica_state_at_start g) (group (replicas g)));
+  shelves = is.one_each;
+  absorbed = unused_behind shelves [] is.unused;
   messages = refl;
   learnt = refl;
   count = refl;
@@ -71,7 +84,7 @@ stands_at_start c is = record {
 
 -- with this replica, these messages more and what was learnt
 abbrev pub world_after : World → (r : ℕ) → ReplicaState → List code.Message → Did → World
-world_after w r m mail did = record { config = w.config; replica_states = slice_set w.replica_states r m; messages = w.messages ++ mail; learnt = w.learnt ++ learning_of w.count (learnt_by did); count = w.count + 1 }
+world_after w r m mail did = record { config = w.config; replica_states = slice_set w.replica_states r m; shelves = w.shelves; messages = w.messages ++ mail; learnt = w.learnt ++ learning_of w.count (learnt_by did); count = w.count + 1 }
 
 -- a replica of this world that submits in i
 abbrev pub submitter_speaks : World → (i r : ℕ) → Speaker
@@ -90,7 +103,7 @@ receiver_speaks w m copy = record {
 
 module _ (w : World) (events : List Event) (stands : StandsFor w events) where
   abbrev g : Group
-  g = group_of w.config
+  g = group_in w
 
   abbrev t : Trace
   t = trace g events
@@ -114,13 +127,15 @@ module _ (w : World) (events : List Event) (stands : StandsFor w events) where
         config = stands.config;
         legal = (allowed, stands.legal);
         replica_states = ap (λ ms. slice_set ms r (replica_state g (x ∷ t) r)) stands.replica_states ∙ sym (replica_states-set g x t r others lt);
+        shelves = stands.shelves;
+        absorbed = λ q s found. subset-trans s.view (view t q) (view (x ∷ t) q) (stands.absorbed q s found) (view_more x t q);
         messages = messages_more w.messages mail (sent (replicas g) t) (sent_at (replicas g) x) stands.messages carry;
         learnt = ap₂ (λ ls n. ls ++ learning_of n (learnt_by x.did)) stands.learnt count_is;
         count = let c = stands.count in omega arith;
       }
 
   few : replicas g ≤ 8
-  few = few_of w.config stands.config
+  few = few_of w.config (kinds_of w.shelves) stands.config
 
   -- what one event comes to, where this is what its replica makes of it and tells
   pub record PlaysTo (e : Event) (by : Speaker) (made : Option (Out × ReplicaState)) : Type 0 where
@@ -138,6 +153,14 @@ module _ (w : World) (events : List Event) (stands : StandsFor w events) where
   submits_learns i r object_op = go (cond (is_open t i r) None (next_ballot (round t i r) (submitted t i r ++ object_op ∷ [])))
     where
       go : (o : Option Opening) → learnt_by (opens_or_waits r (length (submitted t i r ++ object_op ∷ [])) o) ≡ None
+      go None = refl
+      go (Some b) = refl
+
+  submits_plain : (i r : ℕ) (object_op : ObjectOp) → is_answer (submits t i r object_op) ≡ false
+  unfolding submits
+  submits_plain i r object_op = go (cond (is_open t i r) None (next_ballot (round t i r) (submitted t i r ++ object_op ∷ [])))
+    where
+      go : (o : Option Opening) → is_answer (opens_or_waits r (length (submitted t i r ++ object_op ∷ [])) o) ≡ false
       go None = refl
       go (Some b) = refl
 
@@ -159,6 +182,7 @@ module _ (w : World) (events : List Event) (stands : StandsFor w events) where
               learnt = λ b f. absurd (none-some b (sym none ∙ f));
               number = λ b f. absurd (none-some b (sym none ∙ f));
               outcome = λ b f. absurd (none-some b (sym none ∙ f));
+              no_answer = submits_plain i r object_op;
             }));
         after = stands_after e r allowed others lt;
       }
@@ -176,6 +200,7 @@ module _ (w : World) (events : List Event) (stands : StandsFor w events) where
   learnt_said (did.Refined b) = refl
   learnt_said (did.Took s) = refl
   learnt_said did.Kept = refl
+  learnt_said (did.Replied answer) = refl
 
   -- what opens, opens in the instance of the vote that it casts
   vote_opens : (i r : ℕ) (b : Opening) → IsOf i r b → opens_in i (second_vote b) ≡ instance_after i (vote_in i r b.updates)
@@ -214,6 +239,7 @@ module _ (w : World) (events : List Event) (stands : StandsFor w events) where
               learnt = placed.learnt;
               number = λ b f. learnt_number g t v b f;
               outcome = λ b f. outcome_so m copy d placed learnt_copy b f;
+              no_answer = placed.no_answer;
             }));
         after = stands_after (Deliver k) m.to allowed h.others lt;
       }

@@ -14,6 +14,7 @@ ghost use Rattle.la_world.specs.StandsFor.{StandsFor, group_in, trace_in, sent_i
 ghost use Rattle.la_world.specs.Groups.{IsConfig};
 ghost use Rattle.la_world.specs.Calls.{IsGroup, IsMakingRefusal, replica_states_at_start};
 ghost use Rattle.la_world.specs.Calls.{Keeps, may_absorb, IsSameUnless, tags_of, IsTagsRefusal};
+ghost use Rattle.la_world.specs.Calls.{HasObject, IsObjectRefusal, IsFollowing};
 ghost use Rattle.la_world.specs.Calls.{Plays, IsAllowed, Refuses, StandsForMessage};
 ghost use Rattle.la_world.specs.Calls.{submitted_at, view_at, view_in, view_of};
 ghost use Rattle.la_world.specs.Calls.{IsSubmission, decisions_in};
@@ -67,8 +68,11 @@ impl<B: Replicated> World<B> {
     /// `BadConfig` comes exactly where a value is out of its range, there are votes for another
     /// number of replicas, there are not as many shelves as replicas, or one of them has absorbed
     /// something; else `Memory`. After a refusal the shelves are dropped.
-    pub fn new(alloc: Global, config: Config, shelves: Vec<Shelf<B>>)
-        -> Result<World<B>, WorldError>
+    pub fn new(
+        alloc: Global,
+        config: Config,
+        shelves: Vec<Shelf<B>>,
+    ) -> Result<World<B>, WorldError>
         ensures config { IfOk result (λ world. world.config ≡ config) }
         ensures shelves { IfOk result (λ world. world.shelves ≡ shelves.items) }
         ensures stands { IfOk result (λ world. StandsFor world []) }
@@ -163,6 +167,8 @@ impl<B: Replicated> World<B> {
 
     // Whether a replica's shelf may be asked for an object: by the first refusal that fits.
     fn admit_question(&self, replica: u8, object: u16) -> Result<(), WorldError>
+        ensures ok { OnOk result (HasObject self.now.shelves replica object) }
+        ensures error { IfErr result (IsObjectRefusal self.now.shelves replica object) }
     {
         let Some(shelf) = self.shelves.get(replica as usize) else {
             return Err(WorldError::NoSuchReplica);
@@ -175,6 +181,10 @@ impl<B: Replicated> World<B> {
 
     // Lets a replica's shelf absorb its view.
     fn follow_view(&mut self, replica: u8) -> Result<(), AllocError>
+        requires { replica < length self.old.shelves }
+        ensures ok { OnOk result (IsFollowing self.new replica) }
+        ensures rest { self.new ≡ record self.old { shelves = self.new.shelves } }
+        ensures keeps { Keeps self.old self.new }
     {
         let view = self.replicas[replica as usize].view();
         // The view has all that the shelf has absorbed, so that only memory is left.

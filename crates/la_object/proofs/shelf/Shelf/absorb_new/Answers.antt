@@ -65,3 +65,10 @@ returns-in_default-absorb_next-clause-again g c =
 
 pub returns-clause-again : goal.returns-clause-again
 returns-clause-again g c = λ same. ap (λ n. Ok n) {x = c.loop-update.done} {y = 0} (omega (arith, c.loop-update.invariant.few, nothing_new c.args.self.now.view c.args.set.now same))
+
+pub returns-in_default-absorb_next-clause-within : goal.returns-in_default-absorb_next-clause-within
+returns-in_default-absorb_next-clause-within g c sub =
+    subst (λ (s : ShelfState). IsSubset s.view c.args.set.now) (sym c.in_default-absorb_next.ensures.err) c.loop-update.invariant.within
+
+pub returns-clause-within : goal.returns-clause-within
+returns-clause-within g c sub = subst (λ (s : ShelfState). IsSubset s.view c.args.set.now) (sym c.share.ensures) c.loop-update.invariant.within

@@ -5,7 +5,7 @@ use Rattle.la_world.proofs.Worlds.{submitter_known, first_proposal, second_propo
 use Rattle.la_world.proofs.world.World.admit_proposal.Goals as goal
 
 pub returns-then-ne-clause-error : goal.returns-then-ne-clause-error
-returns-then-ne-clause-error c events stands value =
+returns-then-ne-clause-error g c events stands value =
     let k = c.args.commit in
     let r = c.args.replica in
     let at = c.submitted_among.ensures ∙ ap (λ ms. submitted_at ms (first_instance k) r) (c.deref.ensures.value ∙ ap (λ w. w.replica_states) c.self.view_is) in
@@ -13,13 +13,13 @@ returns-then-ne-clause-error c events stands value =
     second_proposal c.args.self.now events stands r k (subst (λ w. r < w.config.replicas) c.self.view_is c.if-replica-self.false) (subst (λ w. k < w.config.commits) c.self.view_is c.if-commit-self.false) (λ e. other (at ∙ sym e)) value
 
 pub returns-clause-known : goal.returns-clause-known
-returns-clause-known c =
+returns-clause-known g c =
     let at = c.submitted_among.ensures ∙ ap (λ ms. submitted_at ms (first_instance c.args.commit) c.args.replica) (c.deref.ensures.value ∙ ap (λ w. w.replica_states) c.self.view_is) in
     let first : c.submitted_among.result ≡ Some 0 = search rules in
     submitter_known c.args.self.now.replica_states (first_instance c.args.commit) c.args.replica 0 (sym first ∙ at)
 
 pub returns-clause-allowed : goal.returns-clause-allowed
-returns-clause-allowed c events stands value =
+returns-clause-allowed g c events stands value =
     let k = c.args.commit in
     let r = c.args.replica in
     let at = c.submitted_among.ensures ∙ ap (λ ms. submitted_at ms (first_instance k) r) (c.deref.ensures.value ∙ ap (λ w. w.replica_states) c.self.view_is) in

@@ -4,27 +4,28 @@ use Rattle.la_proposer.specs.ProposerState.{op_on}
 use Rattle.la_world.specs.Events.{Decide}
 use Rattle.la_world.specs.Calls.{IsSubmission}
 use Rattle.la_world.proofs.world.World.decide.Goals as goal
+use Rattle.la_world.proofs.world.World.decide.Given.{Over}
 
 pub returns-in_err-admit_proposal-clause-error : goal.returns-in_err-admit_proposal-clause-error
-returns-in_err-admit_proposal-clause-error c events stands =
+returns-in_err-admit_proposal-clause-error g c events stands =
     let refused = c.in_err-admit_proposal.ensures.error events stands c.args.value in
     search rules
 
 -- what is submitted is the vote of the proposal
-is_proposal : (c : goal.After-from) → IsSubmission (Decide c.args.replica c.args.commit c.args.value) (2 * c.args.commit + 1) c.args.replica (op_on c.args.commit c.from.result)
-is_proposal c did = ap (λ o. Some (record { instance = 2 * c.args.commit + 1; replica = c.args.replica; object_op = op_on c.args.commit o })) (sym (c.from.ensures ∙ ap op_of c.propose.ensures.vote))
+is_proposal : (g : Over) (c : goal.After-from g) → IsSubmission (Decide c.args.replica c.args.commit c.args.value) (2 * c.args.commit + 1) c.args.replica (op_on c.args.commit c.from.result)
+is_proposal g c did = ap (λ o. Some (record { instance = 2 * c.args.commit + 1; replica = c.args.replica; object_op = op_on c.args.commit o })) (sym (c.from.ensures ∙ ap op_of c.propose.ensures.vote))
 
 pub take_submission-requires-clause-event : goal.take_submission-requires-clause-event
-take_submission-requires-clause-event c =
-    (Decide c.args.replica c.args.commit c.args.value, is_proposal c, λ events stands. c.in_ok-admit_proposal.ensures.allowed events stands c.args.value)
+take_submission-requires-clause-event g c κs live =
+    (Decide c.args.replica c.args.commit c.args.value, is_proposal g c, λ events stands. c.in_ok-admit_proposal.ensures.allowed events stands c.args.value)
 
 pub returns-in_err-take_submission-clause-error : goal.returns-in_err-take_submission-clause-error
-returns-in_err-take_submission-clause-error c events stands =
+returns-in_err-take_submission-clause-error g c events stands =
     let allowed = c.in_ok-admit_proposal.ensures.allowed events stands c.args.value in
     search rules
 
 pub returns-clause-step : goal.returns-clause-step
-returns-clause-step c events stands =
+returns-clause-step g c events stands =
     c.in_ok-take_submission.ensures.step events (Decide c.args.replica c.args.commit c.args.value)
     (λ did. ap (λ o. Some (record { instance = 2 * c.args.commit + 1; replica = c.args.replica; object_op = op_on c.args.commit o })) (sym (c.from.ensures ∙ ap op_of c.propose.ensures.vote)))
     (c.in_ok-admit_proposal.ensures.allowed events stands c.args.value) stands

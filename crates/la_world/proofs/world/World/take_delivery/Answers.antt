@@ -14,13 +14,13 @@ use Rattle.la_world.proofs.Worlds.{same_world, unchanged_as, noted_as, step_as, 
 use Rattle.la_world.proofs.world.World.take_delivery.Goals as goal
 
 pub invariant_of-self : goal.invariant_of-self
-invariant_of-self c =
-    let w : World = record { config = c.self.inside.config; replica_states = c.self.inside.replicas.items; messages = c.self.inside.journal.messages.items; learnt = c.self.inside.journal.learnt.items; count = c.self.inside.journal.count } in
+invariant_of-self g c =
+    let w : World = record { config = c.self.inside.config; replica_states = c.self.inside.replicas.items; shelves = c.self.inside.shelves.items; messages = c.self.inside.journal.messages.items; learnt = c.self.inside.journal.learnt.items; count = c.self.inside.journal.count } in
     subst HoldsInvariant (sym (same_world w c.reserve.new.self.messages.items c.reserve.new.self.learnt.items c.reserve.new.self.count c.reserve.ensures.messages c.reserve.ensures.learnt c.reserve.ensures.count)) c.self.invariant
 
 pub index_mut-receiver-requires : goal.index_mut-receiver-requires
-index_mut-receiver-requires c =
-    let w : World = record { config = c.self.inside.config; replica_states = c.self.inside.replicas.items; messages = c.self.inside.journal.messages.items; learnt = c.self.inside.journal.learnt.items; count = c.self.inside.journal.count } in
+index_mut-receiver-requires g c =
+    let w : World = record { config = c.self.inside.config; replica_states = c.self.inside.replicas.items; shelves = c.self.inside.shelves.items; messages = c.self.inside.journal.messages.items; learnt = c.self.inside.journal.learnt.items; count = c.self.inside.journal.count } in
     let k = c.args.number in
     let m = c.index-message.result.now in
     let reserved = c.reserve.ensures in
@@ -29,8 +29,8 @@ index_mut-receiver-requires c =
     search rules
 
 pub invariant_of-self-in_err-learnt : goal.invariant_of-self-in_err-learnt
-invariant_of-self-in_err-learnt c =
-    let w : World = record { config = c.self.inside.config; replica_states = c.self.inside.replicas.items; messages = c.self.inside.journal.messages.items; learnt = c.self.inside.journal.learnt.items; count = c.self.inside.journal.count } in
+invariant_of-self-in_err-learnt g c =
+    let w : World = record { config = c.self.inside.config; replica_states = c.self.inside.replicas.items; shelves = c.self.inside.shelves.items; messages = c.self.inside.journal.messages.items; learnt = c.self.inside.journal.learnt.items; count = c.self.inside.journal.count } in
     let k = c.args.number in
     let m = c.index-message.result.now in
     let reserved = c.reserve.ensures in
@@ -40,8 +40,8 @@ invariant_of-self-in_err-learnt c =
     subst HoldsInvariant (sym (unchanged_as w m.to at at c.reserve.new.self.messages.items c.reserve.new.self.learnt.items c.reserve.new.self.count found_to refl reserved.messages reserved.learnt reserved.count)) c.self.invariant
 
 pub opening_instance-requires : goal.opening_instance-requires
-opening_instance-requires c =
-    let w : World = record { config = c.self.inside.config; replica_states = c.self.inside.replicas.items; messages = c.self.inside.journal.messages.items; learnt = c.self.inside.journal.learnt.items; count = c.self.inside.journal.count } in
+opening_instance-requires g c =
+    let w : World = record { config = c.self.inside.config; replica_states = c.self.inside.replicas.items; shelves = c.self.inside.shelves.items; messages = c.self.inside.journal.messages.items; learnt = c.self.inside.journal.learnt.items; count = c.self.inside.journal.count } in
     let k = c.args.number in
     let m = c.index-message.result.now in
     let reserved = c.reserve.ensures in
@@ -49,8 +49,8 @@ opening_instance-requires c =
     instance_known w c.self.invariant k m found
 
 pub take-requires-clause-fits : goal.take-requires-clause-fits
-take-requires-clause-fits c =
-    let w : World = record { config = c.self.inside.config; replica_states = c.self.inside.replicas.items; messages = c.self.inside.journal.messages.items; learnt = c.self.inside.journal.learnt.items; count = c.self.inside.journal.count } in
+take-requires-clause-fits g c =
+    let w : World = record { config = c.self.inside.config; replica_states = c.self.inside.replicas.items; shelves = c.self.inside.shelves.items; messages = c.self.inside.journal.messages.items; learnt = c.self.inside.journal.learnt.items; count = c.self.inside.journal.count } in
     let k = c.args.number in
     let m = c.index-message.result.now in
     let reserved = c.reserve.ensures in
@@ -60,8 +60,8 @@ take-requires-clause-fits c =
     message_fits w c.self.invariant k m found at found_to
 
 pub take-requires-clause-few : goal.take-requires-clause-few
-take-requires-clause-few c =
-    let w : World = record { config = c.self.inside.config; replica_states = c.self.inside.replicas.items; messages = c.self.inside.journal.messages.items; learnt = c.self.inside.journal.learnt.items; count = c.self.inside.journal.count } in
+take-requires-clause-few g c =
+    let w : World = record { config = c.self.inside.config; replica_states = c.self.inside.replicas.items; shelves = c.self.inside.shelves.items; messages = c.self.inside.journal.messages.items; learnt = c.self.inside.journal.learnt.items; count = c.self.inside.journal.count } in
     let k = c.args.number in
     let m = c.index-message.result.now in
     let reserved = c.reserve.ensures in
@@ -69,8 +69,8 @@ take-requires-clause-few c =
     instance_known w c.self.invariant k m found
 
 pub take-requires-clause-vote : goal.take-requires-clause-vote
-take-requires-clause-vote c out after is =
-    let w : World = record { config = c.self.inside.config; replica_states = c.self.inside.replicas.items; messages = c.self.inside.journal.messages.items; learnt = c.self.inside.journal.learnt.items; count = c.self.inside.journal.count } in
+take-requires-clause-vote g c out after is =
+    let w : World = record { config = c.self.inside.config; replica_states = c.self.inside.replicas.items; shelves = c.self.inside.shelves.items; messages = c.self.inside.journal.messages.items; learnt = c.self.inside.journal.learnt.items; count = c.self.inside.journal.count } in
     let k = c.args.number in
     let m = c.index-message.result.now in
     let reserved = c.reserve.ensures in
@@ -81,8 +81,8 @@ take-requires-clause-vote c out after is =
     c.second_vote-vote.ensures ∙ ap₂ (λ r o. option_and_then (vote_in m.instance r) o) fits.receivable.0.1 (c.in_ok-learnt.ensures out after is)
 
 pub take-requires-clause-room : goal.take-requires-clause-room
-take-requires-clause-room c some =
-    let w : World = record { config = c.self.inside.config; replica_states = c.self.inside.replicas.items; messages = c.self.inside.journal.messages.items; learnt = c.self.inside.journal.learnt.items; count = c.self.inside.journal.count } in
+take-requires-clause-room g c some =
+    let w : World = record { config = c.self.inside.config; replica_states = c.self.inside.replicas.items; shelves = c.self.inside.shelves.items; messages = c.self.inside.journal.messages.items; learnt = c.self.inside.journal.learnt.items; count = c.self.inside.journal.count } in
     let k = c.args.number in
     let m = c.index-message.result.now in
     let reserved = c.reserve.ensures in
@@ -95,8 +95,8 @@ take-requires-clause-room c some =
     vote_has_room w c.self.invariant k m found at found_to c.second_vote-vote.result wanted some
 
 pub take-requires-clause-spares : goal.take-requires-clause-spares
-take-requires-clause-spares c some =
-    let w : World = record { config = c.self.inside.config; replica_states = c.self.inside.replicas.items; messages = c.self.inside.journal.messages.items; learnt = c.self.inside.journal.learnt.items; count = c.self.inside.journal.count } in
+take-requires-clause-spares g c some =
+    let w : World = record { config = c.self.inside.config; replica_states = c.self.inside.replicas.items; shelves = c.self.inside.shelves.items; messages = c.self.inside.journal.messages.items; learnt = c.self.inside.journal.learnt.items; count = c.self.inside.journal.count } in
     let k = c.args.number in
     let m = c.index-message.result.now in
     let reserved = c.reserve.ensures in
@@ -109,8 +109,8 @@ take-requires-clause-spares c some =
     vote_spares w c.self.invariant k m found at found_to c.second_vote-vote.result wanted some
 
 pub invariant_of-self-in_err-out : goal.invariant_of-self-in_err-out
-invariant_of-self-in_err-out c =
-    let w : World = record { config = c.self.inside.config; replica_states = c.self.inside.replicas.items; messages = c.self.inside.journal.messages.items; learnt = c.self.inside.journal.learnt.items; count = c.self.inside.journal.count } in
+invariant_of-self-in_err-out g c =
+    let w : World = record { config = c.self.inside.config; replica_states = c.self.inside.replicas.items; shelves = c.self.inside.shelves.items; messages = c.self.inside.journal.messages.items; learnt = c.self.inside.journal.learnt.items; count = c.self.inside.journal.count } in
     let k = c.args.number in
     let m = c.index-message.result.now in
     let reserved = c.reserve.ensures in
@@ -120,8 +120,8 @@ invariant_of-self-in_err-out c =
     subst HoldsInvariant (sym (unchanged_as w m.to at c.take.new.receiver c.reserve.new.self.messages.items c.reserve.new.self.learnt.items c.reserve.new.self.count found_to c.in_err-out.ensures.err reserved.messages reserved.learnt reserved.count)) c.self.invariant
 
 pub note-requires-clause-known : goal.note-requires-clause-known
-note-requires-clause-known c =
-    let w : World = record { config = c.self.inside.config; replica_states = c.self.inside.replicas.items; messages = c.self.inside.journal.messages.items; learnt = c.self.inside.journal.learnt.items; count = c.self.inside.journal.count } in
+note-requires-clause-known g c =
+    let w : World = record { config = c.self.inside.config; replica_states = c.self.inside.replicas.items; shelves = c.self.inside.shelves.items; messages = c.self.inside.journal.messages.items; learnt = c.self.inside.journal.learnt.items; count = c.self.inside.journal.count } in
     let k = c.args.number in
     let m = c.index-message.result.now in
     let reserved = c.reserve.ensures in
@@ -136,8 +136,8 @@ note-requires-clause-known c =
     delivery_known w c.self.invariant k m found at found_to out after is copy kept
 
 pub note-requires-clause-few : goal.note-requires-clause-few
-note-requires-clause-few c =
-    let w : World = record { config = c.self.inside.config; replica_states = c.self.inside.replicas.items; messages = c.self.inside.journal.messages.items; learnt = c.self.inside.journal.learnt.items; count = c.self.inside.journal.count } in
+note-requires-clause-few g c =
+    let w : World = record { config = c.self.inside.config; replica_states = c.self.inside.replicas.items; shelves = c.self.inside.shelves.items; messages = c.self.inside.journal.messages.items; learnt = c.self.inside.journal.learnt.items; count = c.self.inside.journal.count } in
     let k = c.args.number in
     let m = c.index-message.result.now in
     let reserved = c.reserve.ensures in
@@ -152,8 +152,8 @@ note-requires-clause-few c =
     delivery_few w c.self.invariant k m found at found_to out after is copy kept
 
 pub invariant_of-self-2 : goal.invariant_of-self-2
-invariant_of-self-2 c =
-    let w : World = record { config = c.self.inside.config; replica_states = c.self.inside.replicas.items; messages = c.self.inside.journal.messages.items; learnt = c.self.inside.journal.learnt.items; count = c.self.inside.journal.count } in
+invariant_of-self-2 g c =
+    let w : World = record { config = c.self.inside.config; replica_states = c.self.inside.replicas.items; shelves = c.self.inside.shelves.items; messages = c.self.inside.journal.messages.items; learnt = c.self.inside.journal.learnt.items; count = c.self.inside.journal.count } in
     let k = c.args.number in
     let m = c.index-message.result.now in
     let reserved = c.reserve.ensures in
@@ -173,8 +173,8 @@ invariant_of-self-2 c =
     (delivery_invariant w c.self.invariant k m found at found_to out after is copy kept)
 
 pub returns-clause-step : goal.returns-clause-step
-returns-clause-step c events stands =
-    let w : World = record { config = c.self.inside.config; replica_states = c.self.inside.replicas.items; messages = c.self.inside.journal.messages.items; learnt = c.self.inside.journal.learnt.items; count = c.self.inside.journal.count } in
+returns-clause-step g c events stands =
+    let w : World = record { config = c.self.inside.config; replica_states = c.self.inside.replicas.items; shelves = c.self.inside.shelves.items; messages = c.self.inside.journal.messages.items; learnt = c.self.inside.journal.learnt.items; count = c.self.inside.journal.count } in
     let k = c.args.number in
     let m = c.index-message.result.now in
     let reserved = c.reserve.ensures in
@@ -193,13 +193,13 @@ returns-clause-step c events stands =
     c.note.new.self.messages.items c.note.new.self.learnt.items c.note.new.self.count c.note.ensures.messages (c.note.ensures.learnt ∙ ap (λ z. c.reserve.new.self.learnt.items ++ learnings_by z c.reserve.new.self.count copy) speaks) c.note.ensures.count in
     let step = step_as w m.to after s out copy c.reserve.new.self.messages.items c.reserve.new.self.learnt.items c.reserve.new.self.count reserved.messages reserved.learnt reserved.count c.note.result (c.note.ensures.step ∙ ap (λ z. record { did = shown_by z c.reserve.new.self.count out.said; first = length c.reserve.new.self.messages.items; sent = length out.mail }) speaks) in
     let played = delivery_played w c.self.invariant k m found at found_to out after is copy kept events (subst (λ v. StandsFor v events) (sym c.self.view_is) stands) in
-    let now : World = record { config = w.config; replica_states = slice_set w.replica_states m.to after; messages = c.note.new.self.messages.items; learnt = c.note.new.self.learnt.items; count = c.note.new.self.count } in
+    let now : World = record { config = w.config; replica_states = slice_set w.replica_states m.to after; shelves = w.shelves; messages = c.note.new.self.messages.items; learnt = c.note.new.self.learnt.items; count = c.note.new.self.count } in
     subst (λ v. Plays v events (Deliver k) c.note.result now) c.self.view_is
     (subst₂ (λ t v. Plays w events (Deliver k) t v) (sym step) (sym then) played)
 
 pub returns-clause-printable : goal.returns-clause-printable
-returns-clause-printable c =
-    let w : World = record { config = c.self.inside.config; replica_states = c.self.inside.replicas.items; messages = c.self.inside.journal.messages.items; learnt = c.self.inside.journal.learnt.items; count = c.self.inside.journal.count } in
+returns-clause-printable g c =
+    let w : World = record { config = c.self.inside.config; replica_states = c.self.inside.replicas.items; shelves = c.self.inside.shelves.items; messages = c.self.inside.journal.messages.items; learnt = c.self.inside.journal.learnt.items; count = c.self.inside.journal.count } in
     let k = c.args.number in
     let m = c.index-message.result.now in
     let reserved = c.reserve.ensures in

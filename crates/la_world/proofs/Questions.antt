@@ -1,0 +1,355 @@
+-- Questions to a world: a shelf follows its replica's view, and then answers by it.
+use Rattle.std.proofs.Common.{◌≡◌, ℕ, zero, suc, ◌+◌, ◌<◌, ◌≤◌, ◌⊎◌, inl, inr, List, [], ◌∷◌, length, get_or, slice_get, slice_set, unwrap_or, append-nil, Option, Some, None, Result, Ok, Err, OnOk, IfErr, IsSome, IsSomeAnd, option_map, refl, ap, ap₂, sym, ◌∙◌, subst, subst₂, arith}
+use Rattle.std.specs.Prelude.{nat_le, nat_lt}
+use Rattle.std.specs.List.{AllWithin}
+use Rattle.std.proofs.Math.Bridge.{le_prop}
+use Rattle.std.proofs.Math.Logic.{∥∥₁_elim, ∥∥₁_map}
+use Rattle.std.proofs.Math.Nat.{ℕ_set}
+use Rattle.std.proofs.Math.Seq.{map-set_same}
+use Rattle.std.proofs.lemmas.Bool.{cond-true, cond-false, cases_lt, le-leb, lt-leb, lt-ltb}
+use Rattle.std.proofs.lemmas.List.{length-set}
+use Rattle.std.proofs.lemmas.Option.{same_Some, none-some, slice_get-map, slice_get_within, get_or_from_slice_get}
+use Rattle.la_set.specs.declared.update.UpdateId.{UpdateId}
+use Rattle.la_set.specs.Histories.{Histories, empty, get, history, from_histories, updates}
+use Rattle.la_set.specs.Inclusion.{IsSubset}
+use Rattle.la_set.specs.Join.{IsCompatible}
+use Rattle.la_set.proofs.Differences.{same_length}
+use Rattle.la_object.specs.declared.kind.Kind.{Kind}
+use Rattle.la_object.specs.declared.query.Query.{Query}
+use Rattle.la_object.specs.declared.query.Answer.{Answer}
+use Rattle.la_object.specs.declared.query.Answer.TheVariants.{Foreign}
+use Rattle.la_object.specs.declared.error.AbsorbError.{AbsorbError}
+use Rattle.la_object.specs.declared.error.AbsorbError.TheVariants.{Smaller, Memory}
+use Rattle.la_object.specs.Refusals.{IsAbsorbRefusal}
+use Rattle.la_object.specs.Shelves.{ShelfState, kind_at, answer_at, tags_at}
+use Rattle.la_replica.specs.declared.message.Message as code
+use Rattle.la_replica.specs.Whole.{CarryAll}
+use Rattle.la_replica.specs.ReplicaState.{ReplicaState}
+use Rattle.la_world.specs.declared.error.Refusal.TheVariants.{NoSuchReplica, NoSuchObject}
+use Rattle.la_world.specs.declared.report.Line.TheVariants.{Done}
+use Rattle.la_world.specs.declared.step.Did.TheVariants as shown
+use Rattle.la_world.specs.declared.step.Learnt.{Learnt}
+use Rattle.la_world.specs.declared.step.Step.{Step}
+use Rattle.la_world.specs.Groups.{Group, group_of, replicas, kinds_on, IsConfig}
+use Rattle.la_world.specs.Events.{Event, Ask}
+use Rattle.la_world.specs.Trace.{Trace}
+use Rattle.la_world.specs.Sent.{sent}
+use Rattle.la_world.specs.Views.{view}
+use Rattle.la_world.specs.Playing.{answer_of, shelf_of, entry, trace}
+use Rattle.la_world.specs.Learnings.{learnt}
+use Rattle.la_world.specs.Report.{refused, refused_object, line_of}
+use Rattle.la_world.specs.ReplicaStates.{replica_state, replica_states}
+use Rattle.la_world.specs.StandsFor.{World, kinds_of, group_in, IsLegal, AreBehind, StandsFor}
+use Rattle.la_world.specs.Calls.{HoldsInvariant, Plays, Keeps, view_in, HasObject, IsFollowing, tags_of}
+use Rattle.la_world.proofs.GrowingViews.{view_more}
+use Rattle.la_world.proofs.OneReplicaSteps.{map_same, replica_state-else}
+use Rattle.la_world.proofs.Receivers.{compatible_from}
+use Rattle.la_world.proofs.Unaffected.{Concerns}
+use Rattle.la_world.proofs.LargestViews.{empty_least}
+use Rattle.la_world.proofs.Worlds.{view_is, sent_is, replicas_are, found_at}
+
+-- ## What a world keeps
+
+pub keeps-refl : (w : World) → Keeps w w
+keeps-refl w = record { config = refl; kinds = refl; stands = λ events stands. stands }
+
+pub kept_group : (w after : World) → Keeps w after → group_in after ≡ group_in w
+kept_group w after k = ap₂ group_of k.config k.kinds
+
+pub kept_invariant : (w after : World) → Keeps w after → HoldsInvariant w → HoldsInvariant after
+kept_invariant w after k h = record {
+  config = subst IsConfig (sym k.config) h.config;
+  reached = ∥∥₁_map h.reached (λ p. (p.0, k.stands p.0 p.1));
+}
+
+-- what is played after nothing has happened is played before it
+pub kept_plays : (w now : World) → Keeps w now → (events : List Event) (e : Event) (step : Step) (after : World) → Plays now events e step after → Plays w events e step after
+kept_plays w now k events e step after p =
+    let same = kept_group w now k in
+    record {
+      allowed = subst (λ (g : Group). refused g (trace g events) e ≡ None) same p.allowed;
+      line = subst (λ (g : Group). Done step ≡ line_of g (trace g events) e) same p.line;
+      config = p.config ∙ k.config;
+      kinds = p.kinds ∙ k.kinds;
+      stands = p.stands;
+    }
+
+-- ## The entry of a question concerns no replica
+
+asked_concerns : (g : Group) (t : Trace) (r object : ℕ) (query : Query) (q : ℕ) → Concerns 0 q (entry g t (Ask r object query))
+asked_concerns g t r object query q = record {
+  opened = λ b e. absurd (none-some b e);
+  learnt = λ b e. absurd (none-some b e);
+  submission = λ s e. absurd (none-some s e);
+  message = λ m e. absurd (none-some m e);
+}
+
+replicas_stay : (g : Group) (t : Trace) (r object : ℕ) (query : Query) → replica_states g t ≡ replica_states g (entry g t (Ask r object query) ∷ t)
+replicas_stay g t r object query =
+    let x = entry g t (Ask r object query) in
+    map_same (replica_state g t) (replica_state g (x ∷ t)) 0 (replicas g) (λ q le. sym (replica_state-else g x t 0 (suc q) q (asked_concerns g t r object query (suc q)) (λ e. omega (arith, e))))
+
+-- ## What stands for events
+
+module _ (w : World) (events : List Event) (stands : StandsFor w events) where
+  abbrev g : Group
+  g = group_in w
+
+  abbrev t : Trace
+  t = trace g events
+
+  pub no_replica : (r : ℕ) → length w.shelves ≤ r → replicas g ≤ r
+  no_replica r le = let a = stands.shelves in let b = stands.config.replicas in omega arith
+
+  module _ (r : ℕ) (s : ShelfState) (found : slice_get w.shelves r ≡ Some s) where
+    pub is_replica : r < replicas g
+    is_replica = let lt = slice_get_within w.shelves r s found in let a = stands.shelves in let b = stands.config.replicas in omega arith
+
+    pub shelf_kinds : s.objects ≡ kinds_on g r
+    shelf_kinds = sym (ap (λ (o : Option (List (ℕ × Kind))). unwrap_or o []) (slice_get-map (λ (z : ShelfState). z.objects) w.shelves r ∙ ap (option_map (λ (z : ShelfState). z.objects)) found))
+
+    known_replica : (object : ℕ) (query : Query) → refused g t (Ask r object query) ≡ refused_object (kind_at s.objects object)
+    known_replica object query = cond-false (nat_le (replicas g) r) (Some NoSuchReplica) (refused_object (kind_at (kinds_on g r) object)) (lt-leb (replicas g) r is_replica) ∙ ap (λ o. refused_object (kind_at o object)) (sym shelf_kinds)
+
+    -- where the shelf has absorbed the whole view
+    module _ (follows : view_in w r ≡ Some s.view) where
+      shelf_is : ◌≡◌ {A = ShelfState} (shelf_of g t r) s
+      shelf_is =
+          let there : view_in w r ≡ Some (view t r) = view_is w events stands r ∙ cond-true (nat_lt r (replicas g)) (Some (view t r)) None (lt-ltb r (replicas g) is_replica) in
+          λ j. record { view = same_Some (view t r) s.view (sym there ∙ follows) j; objects = sym shelf_kinds j }
+
+      pub answer_is : (object : ℕ) (query : Query) → answer_of g t r object query ≡ answer_at s object query
+      unfolding answer_of
+      answer_is object query = ap (λ (z : ShelfState). answer_at z object query) shelf_is
+
+      pub tags_are : (object element : ℕ) → tags_of g t r object element ≡ tags_at s object element
+      tags_are object element =
+          cond-true (nat_lt r (replicas g)) (tags_at (shelf_of g t r) object element) None (lt-ltb r (replicas g) is_replica)
+          ∙ ap (λ (z : ShelfState). tags_at z object element) shelf_is
+
+  -- ### Refusals
+
+  pub no_replica_refused : (r object : ℕ) (query : Query) → length w.shelves ≤ r → refused g t (Ask r object query) ≡ Some NoSuchReplica
+  no_replica_refused r object query le = cond-true (nat_le (replicas g) r) (Some NoSuchReplica) (refused_object (kind_at (kinds_on g r) object)) (le-leb (replicas g) r (no_replica r le))
+
+  pub no_object_refused : (r object : ℕ) (query : Query) → IsSomeAnd (slice_get w.shelves r) (λ (s : ShelfState). kind_at s.objects object ≡ None) → refused g t (Ask r object query) ≡ Some NoSuchObject
+  no_object_refused r object query none = go (slice_get w.shelves r) refl none
+    where
+      go : (o : Option ShelfState) → slice_get w.shelves r ≡ o → IsSomeAnd o (λ (s : ShelfState). kind_at s.objects object ≡ None) → refused g t (Ask r object query) ≡ Some NoSuchObject
+      go None found k = absurd k
+      go (Some s) found k = known_replica r s found object query ∙ ap refused_object k
+
+  pub no_object_there : (r object : ℕ) → IsSomeAnd (slice_get w.shelves r) (λ (s : ShelfState). kind_at s.objects object ≡ None) → (r < replicas g) × (kind_at (kinds_on g r) object ≡ None)
+  no_object_there r object none = go (slice_get w.shelves r) refl none
+    where
+      go : (o : Option ShelfState) → slice_get w.shelves r ≡ o → IsSomeAnd o (λ (s : ShelfState). kind_at s.objects object ≡ None) → (r < replicas g) × (kind_at (kinds_on g r) object ≡ None)
+      go None found k = absurd k
+      go (Some s) found k = (is_replica r s found, ap (λ o. kind_at o object) (sym (shelf_kinds r s found)) ∙ k)
+
+  some_object : (o : Option Kind) → IsSome o → refused_object o ≡ None
+  some_object None h = cc
+  some_object (Some kind) h = refl
+
+  pub question_allowed : (r object : ℕ) (query : Query) → HasObject w.shelves r object → refused g t (Ask r object query) ≡ None
+  question_allowed r object query there = go (slice_get w.shelves r) refl there
+    where
+      go : (o : Option ShelfState) → slice_get w.shelves r ≡ o → IsSomeAnd o (λ (s : ShelfState). IsSome (kind_at s.objects object)) → refused g t (Ask r object query) ≡ None
+      go None found k = absurd k
+      go (Some s) found k = known_replica r s found object query ∙ some_object (kind_at s.objects object) k
+
+  -- ### An answer
+
+  -- the world after a question stands for the events with it
+  asked_stands : (r object : ℕ) (query : Query) → refused g t (Ask r object query) ≡ None → StandsFor (record w { count = w.count + 1 }) (Ask r object query ∷ events)
+  unfolding trace sent learnt
+  asked_stands r object query allowed =
+      let x = entry g t (Ask r object query) in
+      record {
+        config = stands.config;
+        legal = (allowed, stands.legal);
+        replica_states = stands.replica_states ∙ replicas_stay g t r object query;
+        shelves = stands.shelves;
+        absorbed = λ q s found u has. view_more x t q u (stands.absorbed q s found u has);
+        messages = subst (CarryAll w.messages) (sym (append-nil (sent (replicas g) t))) stands.messages;
+        learnt = stands.learnt ∙ sym (append-nil (learnt t));
+        count = let c = stands.count in omega arith;
+      }
+
+  pub question_plays : (r object : ℕ) (query : Query) (s : ShelfState) (answer : Answer) → slice_get w.shelves r ≡ Some s → view_in w r ≡ Some s.view → HasObject w.shelves r object → answer_at s object query ≡ Some answer
+      → Plays w events (Ask r object query) (record { did = shown.Replied answer; first = length w.messages; sent = 0 }) (record w { count = w.count + 1 })
+  question_plays r object query s answer found follows there is =
+      let allowed = question_allowed r object query there in
+      let same : unwrap_or (answer_of g t r object query) Foreign ≡ answer = ap (λ o. unwrap_or o Foreign) (answer_is r s found follows object query ∙ is) in
+      record {
+        allowed = allowed;
+        line = λ j. Done (record { did = shown.Replied (sym same j); first = sent_is w events stands j; sent = 0 });
+        config = refl;
+        kinds = refl;
+        stands = asked_stands r object query allowed;
+      }
+
+-- ## A shelf that follows
+
+-- what is found in a list in which one thing was put
+pub get_set : {A : Type 0} (xs : List A) (k q : ℕ) (y z : A) → slice_get (slice_set xs k y) q ≡ Some z → ((q ≡ k) × (y ≡ z)) ⊎ (slice_get xs q ≡ Some z)
+get_set [] k q y z e = inr e
+get_set (x ∷ xs) zero zero y z e = inl (refl, same_Some y z e)
+get_set (x ∷ xs) zero (suc q) y z e = inr e
+get_set (x ∷ xs) (suc k) zero y z e = inr e
+get_set (x ∷ xs) (suc k) (suc q) y z e = elim (get_set xs k q y z e) [ inl p ↦ inl (ap suc p.0, p.1) | inr p ↦ inr p ]
+
+pub get_put : {A : Type 0} (xs : List A) (k : ℕ) (x y : A) → slice_get xs k ≡ Some x → slice_get (slice_set xs k y) k ≡ Some y
+get_put [] k x y e = absurd (none-some x e)
+get_put (z ∷ xs) zero x y e = refl
+get_put (z ∷ xs) (suc k) x y e = get_put xs k x y e
+
+-- r's shelf was this one, and is that one
+module _ (w : World) (r : ℕ) (at : ReplicaState) (s new : ShelfState) (state : slice_get w.replica_states r ≡ Some at) (found : slice_get w.shelves r ≡ Some s) where
+  view_at_is : view_in w r ≡ Some at.view
+  view_at_is = ap (option_map (λ (z : ReplicaState). z.view)) state
+
+  module _ (events : List Event) (stands : StandsFor w events) where
+    view_then : at.view ≡ view (trace (group_in w) events) r
+    view_then =
+        let g = group_in w in let t = trace g events in
+        same_Some at.view (view t r) (sym view_at_is ∙ view_is w events stands r ∙ cond-true (nat_lt r (replicas g)) (Some (view t r)) None (lt-ltb r (replicas g) (is_replica w events stands r s found)))
+
+    within : IsSubset s.view at.view
+    within = subst (IsSubset s.view) (sym view_then) (stands.absorbed r s found)
+
+  pub fits_view : HoldsInvariant w → IsCompatible at.view s.view
+  fits_view h = compatible_from h.reached at.view s.view (λ p u v in_view in_shelf e.
+      let there = within p.0 p.1 v in_shelf in
+      same_Some u v (sym in_view ∙ ap (get at.view) e ∙ there))
+
+  abbrev pub then : World
+  then = record w { shelves = slice_set w.shelves r new }
+
+  module _ (objects : new.objects ≡ s.objects) (stays : IsSubset s.view at.view → IsSubset new.view at.view) where
+    kinds_stay : kinds_of (slice_set w.shelves r new) ≡ kinds_of w.shelves
+    kinds_stay = map-set_same (λ (z : ShelfState). z.objects) w.shelves r new s (objects ∙ ap (λ (z : ShelfState). z.objects) (sym (get_or_from_slice_get w.shelves r s s found)))
+
+    behind : (events : List Event) → StandsFor w events → AreBehind (slice_set w.shelves r new) (trace (group_in w) events)
+    behind events stands q z is u has = elim (get_set w.shelves r q new z is) [
+      | inl p ↦
+          let t = trace (group_in w) events in
+          let new_within : IsSubset new.view (view t r) = subst (IsSubset new.view) (view_then events stands) (stays (within events stands)) in
+          subst₂ (λ (y : ShelfState) (k : ℕ). IsSubset y.view (view t k)) p.1 (sym p.0) new_within u has
+      | inr old ↦ stands.absorbed q z old u has
+    ]
+
+    pub keeps : Keeps w then
+    keeps = record {
+      config = refl;
+      kinds = kinds_stay;
+      stands = λ events stands.
+          let same : group_of w.config (kinds_of w.shelves) ≡ group_of w.config (kinds_of (slice_set w.shelves r new)) = ap (group_of w.config) (sym kinds_stay) in
+          record {
+            config = stands.config;
+            legal = subst (λ (g : Group). IsLegal g events) same stands.legal;
+            replica_states = subst (λ (g : Group). w.replica_states ≡ replica_states g (trace g events)) same stands.replica_states;
+            shelves = length-set w.shelves r new ∙ stands.shelves;
+            absorbed = subst (λ (g : Group). AreBehind (slice_set w.shelves r new) (trace g events)) same (behind events stands);
+            messages = subst (λ (g : Group). CarryAll w.messages (sent (replicas g) (trace g events))) same stands.messages;
+            learnt = subst (λ (g : Group). w.learnt ≡ learnt (trace g events)) same stands.learnt;
+            count = stands.count;
+          };
+    }
+
+    pub follows_then : new.view ≡ at.view → IsFollowing then r
+    follows_then same = subst (λ o. IsSomeAnd o (λ (z : ShelfState). view_in then r ≡ Some z.view)) (sym (get_put w.shelves r s new found)) (view_at_is ∙ ap Some (sym same))
+
+-- ## What a world finds of its shelves
+
+pub replica_known : (w : World) → HoldsInvariant w → (r : ℕ) → r < length w.shelves → r < length w.replica_states
+replica_known w h r lt = ∥∥₁_elim h.reached (hlevel (ℕ_set, le_prop)) (λ p.
+    let same = replicas_are w p.0 p.1 in
+    let a = p.1.shelves in
+    let b = p.1.config.replicas in
+    omega arith)
+
+-- a set that has no update is empty
+pub empty_has_none : length (updates empty) ≡ 0
+unfolding empty updates history from_histories
+empty_has_none = refl
+
+pub none_empty : (s : Histories) → length (updates s) ≡ 0 → s ≡ empty
+none_empty s none = sym (same_length empty s (empty_least s) (empty_has_none ∙ sym none))
+
+-- of the shelves so far, and one more
+pub unused_more : (shelves : List ShelfState) (i : ℕ) (s : ShelfState) → AllWithin (λ (z : ShelfState). z.view ≡ empty) shelves 0 i → i < length shelves → s ≡ get_or shelves i s → s.view ≡ empty → AllWithin (λ (z : ShelfState). z.view ≡ empty) shelves 0 (i + 1)
+unused_more shelves i s so_far lt at unused k d le more = elim (cases_lt k i) [
+  | inl before ↦ so_far k d le before
+  | inr after ↦
+      let here : i ≡ k = omega (arith, more) in
+      let same : get_or shelves i d ≡ s = get_or_from_slice_get shelves i s d (found_at shelves i s lt at) in
+      subst (λ j. (get_or shelves j d).view ≡ empty) here (ap (λ (z : ShelfState). z.view) same ∙ unused)
+]
+
+-- whatever comes of an absorption, the objects stay
+pub same_objects : (result : Result ℕ AbsorbError) (s : ShelfState) (set : Histories) (new : ShelfState) → OnOk result (new ≡ record s { view = set }) → IfErr result (IsAbsorbRefusal s set new) → new.objects ≡ s.objects
+same_objects (Ok n) s set new ok err = ap (λ (z : ShelfState). z.objects) ok
+same_objects (Err Smaller) s set new ok err = ap (λ (z : ShelfState). z.objects) err.1
+same_objects (Err (Memory done)) s set new ok err = ap (λ (z : ShelfState). z.objects) err.1.1
+
+-- ## An answer, by what the code has put together
+
+some_and : {A : Type 0} (o : Option A) (P : A → Type 0) (x : A) → IsSomeAnd o P → o ≡ Some x → P x
+some_and None P x h e = absurd h
+some_and (Some y) P x h e = subst P (same_Some y x e) h
+
+kind_there : {A : Type 0} (o : Option Kind) (f : Kind → A) (x : A) → option_map f o ≡ Some x → IsSome o
+kind_there None f x e = absurd (none-some x e)
+kind_there (Some kind) f x e = refl
+
+-- a shelf that has absorbed the whole view has answered, and the question was noted
+module _ (w : World) (r object : ℕ) (query : Query) (s : ShelfState) (answer : Answer) (found : slice_get w.shelves r ≡ Some s) (following : IsFollowing w r) (is : answer_at s object query ≡ Some answer)
+    (messages : List code.Message) (learnt_then : List Learnt) (count : ℕ) (a : messages ≡ w.messages) (b : learnt_then ≡ w.learnt) (d : count ≡ w.count + 1) where
+  abbrev pub noted : World
+  noted = record { config = w.config; replica_states = w.replica_states; shelves = w.shelves; messages = messages; learnt = learnt_then; count = count }
+
+  noted_is : noted ≡ record w { count = w.count + 1 }
+  noted_is = λ j. record { config = w.config; replica_states = w.replica_states; shelves = w.shelves; messages = a j; learnt = b j; count = d j }
+
+  there : HasObject w.shelves r object
+  there = subst (λ o. IsSomeAnd o (λ (z : ShelfState). IsSome (kind_at z.objects object))) (sym found) (kind_there (kind_at s.objects object) _ answer is)
+
+  pub question_played : (events : List Event) → StandsFor w events → Plays w events (Ask r object query) (record { did = shown.Replied answer; first = length w.messages; sent = 0 }) noted
+  question_played events stands =
+      subst (λ v. Plays w events (Ask r object query) (record { did = shown.Replied answer; first = length w.messages; sent = 0 }) v) (sym noted_is)
+      (question_plays w events stands r object query s answer found (some_and (slice_get w.shelves r) (λ (z : ShelfState). view_in w r ≡ Some z.view) s following found) there is)
+
+  pub question_invariant : HoldsInvariant w → HoldsInvariant noted
+  question_invariant h = record { config = h.config; reached = ∥∥₁_map h.reached (λ p. (Ask r object query ∷ p.0, (question_played p.0 p.1).stands)) }
+
+pub is_there : (w : World) (r : ℕ) → IsFollowing w r → r < length w.shelves
+is_there w r following = go (slice_get w.shelves r) refl following
+  where
+    go : (o : Option ShelfState) → slice_get w.shelves r ≡ o → IsSomeAnd o (λ (z : ShelfState). view_in w r ≡ Some z.view) → r < length w.shelves
+    go None e h = absurd h
+    go (Some s) e h = slice_get_within w.shelves r s e
+
+-- ## The tags that are observed
+
+module _ (w now : World) (k : Keeps w now) (events : List Event) (stands : StandsFor w events) (r object element : ℕ) where
+  abbrev tags_then : Option (List UpdateId)
+  tags_then = tags_of (group_in w) (trace (group_in w) events) r object element
+
+  pub tags_kept : (s : ShelfState) → slice_get now.shelves r ≡ Some s → IsFollowing now r → tags_then ≡ tags_at s object element
+  tags_kept s found following =
+      subst (λ (g : Group). tags_of g (trace g events) r object element ≡ tags_at s object element) (kept_group w now k)
+      (tags_are now events (k.stands events stands) r s found (some_and (slice_get now.shelves r) (λ (z : ShelfState). view_in now r ≡ Some z.view) s following found) object element)
+
+  some_mapped : {A : Type 0} (o : Option Kind) (f : Kind → A) → IsSome o → IsSome (option_map f o)
+  some_mapped None f h = cc
+  some_mapped (Some kind) f h = refl
+
+  pub tags_there : HasObject w.shelves r object → IsSome tags_then
+  tags_there has = go (slice_get w.shelves r) refl has
+    where
+      go : (o : Option ShelfState) → slice_get w.shelves r ≡ o → IsSomeAnd o (λ (s : ShelfState). IsSome (kind_at s.objects object)) → IsSome tags_then
+      go None found h = absurd h
+      go (Some s) found h =
+          let g = group_in w in
+          subst IsSome (sym (cond-true (nat_lt r (replicas g)) (tags_at (shelf_of g (trace g events) r) object element) None (lt-ltb r (replicas g) (is_replica w events stands r s found))))
+          (some_mapped (kind_at (kinds_on g r) object) _ (subst (λ o. IsSome (kind_at o object)) (shelf_kinds w events stands r s found) h))
