@@ -1,11 +1,14 @@
 // Callers that promise what only exact contracts let them: each calls a function twice, knows
 // nothing but its contract, and has one answer.
-ghost use Rattle.std.specs.Prelude.{◌≡◌, ◌<◌, ◌^◌, length, IfOk, IfSome, IsTrue};
+ghost use Rattle.std.specs.Prelude.{◌≡◌, ◌<◌, ◌≤◌, ◌^◌, length, IfOk, IfSome, IsTrue};
 ghost use Rattle.la_script.specs.Scripts.{said_by};
 ghost use Rattle.la_script.specs.Pieces.{joined};
 ghost use Rattle.la_world.specs.Printable.{IsPrintableReport};
 
-use la_script::{Pieces, ReadError, Script, ScriptFault, Stretch, Text, pieces_of, print, read};
+use la_script::{
+    Events, Pieces, ReadError, Script, ScriptFault, Stretch, Text, pieces_of, print, random_events,
+    read,
+};
 use la_world::{Event, Report};
 use std::alloc::{AllocError, AllocFailed, Global};
 
@@ -90,6 +93,21 @@ fn texts_are_their_strings(one: Text, other: Text) -> (Text, Text)
         Text::from(String::from(one)),
         Text::from(String::from(other)),
     )
+}
+
+fn random_events_are_one(
+    alloc: Global,
+    seed: u64,
+    replicas: u8,
+    count: u32,
+) -> Result<(Events, Events), AllocError>
+    requires { 1 ≤ replicas }
+    ensures { IfOk result (λ both. both.0 ≡ both.1) }
+{
+    Ok((
+        random_events(alloc, seed, replicas, count)?,
+        random_events(alloc, seed, replicas, count)?,
+    ))
 }
 
 fn want_of_memory_is_one_error(one: AllocError, other: AllocError) -> (ReadError, ReadError)

@@ -7,7 +7,7 @@ use std::alloc::{AllocError, Global};
 const HEADER: &[u8] = b"lattice 1\nreplicas 8 commits 0 cap 10\n";
 
 // The words fit no form, or the spaces do not part words one by one.
-const BAD_LINES: [&[u8]; 36] = [
+const BAD_LINES: [&[u8]; 47] = [
     b"submit 0 0 inc",
     b"submit 0 0 inc 1 2",
     b"submit 0 0 dec",
@@ -23,7 +23,18 @@ const BAD_LINES: [&[u8]; 36] = [
     b"submit 0 0 Dec 1",
     b"submit +0 0 foo 01",
     b"deliver 01 02",
-    b"ask 0 1 total",
+    b"ask 0 1",
+    b"ask 0 total",
+    b"ask 0 1 total 1",
+    b"ask 0 1 largest 0",
+    b"ask 0 1 has",
+    b"ask 0 1 has 1 2",
+    b"ask 0 1 size 1",
+    b"ask 0 1 items 1",
+    b"ask 0 1 items ",
+    b"ask 0 1 sum",
+    b"ask 0 1 Total",
+    b"total 0 1 ask",
     b"decide 0 0",
     b"decide 0 0 7 1",
     b"decide 0 0  7",
@@ -50,7 +61,7 @@ const BAD_LINES: [&[u8]; 36] = [
 ];
 
 // One past each end of each range, and what is no canonical number or no tag.
-const BAD_NUMBERS: [&[u8]; 59] = [
+const BAD_NUMBERS: [&[u8]; 75] = [
     b"submit 256 0 inc 0",
     b"submit 0 65536 inc 0",
     b"submit 0 0 inc 4294967296",
@@ -77,6 +88,22 @@ const BAD_NUMBERS: [&[u8]; 59] = [
     b"decide 0 0 18446744073709551616",
     b"decide 0 00 7",
     b"decide 0 0 07",
+    b"ask 256 0 total",
+    b"ask 0 65536 total",
+    b"ask 256 0 largest",
+    b"ask 0 65536 largest",
+    b"ask 256 0 has 0",
+    b"ask 0 65536 has 0",
+    b"ask 0 0 has 18446744073709551616",
+    b"ask 256 0 size",
+    b"ask 0 65536 size",
+    b"ask 256 0 items",
+    b"ask 0 65536 items",
+    b"ask 00 0 total",
+    b"ask 0 01 largest",
+    b"ask 0 0 has 01",
+    b"ask 0 0 has -1",
+    b"ask +0 0 items",
     b"submit 00 0 inc 0",
     b"submit 0 01 dec 0",
     b"submit 0 0 inc 05",

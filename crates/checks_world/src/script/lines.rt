@@ -1,11 +1,12 @@
 // Each form at both ends of each of its ranges, against values written by hand.
-use la_script::{ReadError, Script, read};
+use la_object::Query;
+use la_script::{Events, ReadError, Script, read};
 use la_set::{Op, Tags, UpdateId};
 use la_world::Event;
 use std::alloc::Global;
 
 // What an operation is to be; a tag by its replica and its number.
-enum Act {
+pub enum Act {
     Inc(u32),
     Dec(u32),
     Raise(u64),
@@ -14,16 +15,17 @@ enum Act {
     Mark,
 }
 
-// What an event is to be: the replica, the object and the operation; the message; or the replica,
-// the adopt-commit object and the value.
-enum Want {
+// What an event is to be: the replica, the object and the operation; the message; the replica, the
+// adopt-commit object and the value; or the replica, the object and the question.
+pub enum Want {
     Submit(u8, u16, Act),
     Deliver(u64),
     Decide(u8, u8, u64),
+    Ask(u8, u16, Query),
 }
 
 use self::Act::{Dec, Inc, Mark, Put, Raise, Remove};
-use self::Want::{Decide, Deliver, Submit};
+use self::Want::{Ask, Decide, Deliver, Submit};
 
 const SCRIPT: &[u8] = b"lattice 1
 replicas 8 commits 0 cap 1000000
@@ -47,9 +49,19 @@ deliver 0
 deliver 18446744073709551615
 decide 0 0 0
 decide 255 255 18446744073709551615
+ask 0 0 total
+ask 255 65535 total
+ask 0 0 largest
+ask 255 65535 largest
+ask 0 0 has 0
+ask 255 65535 has 18446744073709551615
+ask 0 0 size
+ask 255 65535 size
+ask 0 0 items
+ask 255 65535 items
 ";
 
-const EVENTS: [Want; 19] = [
+const EVENTS: [Want; 29] = [
     Submit(0, 0, Inc(0)),
     Submit(255, 65535, Inc(4294967295)),
     Submit(0, 0, Dec(0)),
@@ -69,6 +81,16 @@ const EVENTS: [Want; 19] = [
     Deliver(18446744073709551615),
     Decide(0, 0, 0),
     Decide(255, 255, 18446744073709551615),
+    Ask(0, 0, Query::Total),
+    Ask(255, 65535, Query::Total),
+    Ask(0, 0, Query::Largest),
+    Ask(255, 65535, Query::Largest),
+    Ask(0, 0, Query::Has(0)),
+    Ask(255, 65535, Query::Has(18446744073709551615)),
+    Ask(0, 0, Query::Size),
+    Ask(255, 65535, Query::Size),
+    Ask(0, 0, Query::Items),
+    Ask(255, 65535, Query::Items),
 ];
 
 const SIXTY_FOUR: &[u8] =
@@ -133,18 +155,27 @@ fn is_event(event: &Event, want: &Want) -> bool {
             },
             Decide(by, to, proposed),
         ) => replica == by && commit == to && value == proposed,
+        (
+            Event::Ask {
+                replica,
+                object,
+                query,
+            },
+            Ask(by, of, want),
+        ) => replica == by && object == of && query == want,
         _ => false,
     }
 }
 
-fn are_events(script: &Script, want: &[Want]) -> bool {
+// Whether the events are these.
+pub fn are_events(events: &Events, want: &[Want]) -> bool {
     for (place, want) in want.iter().enumerate() {
-        match script.events.at(place) {
+        match events.at(place) {
             Some(event) if is_event(event, want) => {}
             _ => return false,
         }
     }
-    script.events.len() == want.len()
+    events.len() == want.len()
 }
 
 // Whether an event removes the tags 7.1 to 7.64.
@@ -169,7 +200,7 @@ fn removes_sixty_four(event: &Event) -> bool {
 #[test]
 fn each_form_is_read_at_both_ends_of_its_ranges(rt: HostRuntime) {
     let is = match read_again(rt.alloc(), SCRIPT) {
-        Ok(script) => are_events(&script, &EVENTS),
+        Ok(script) => are_events(&script.events, &EVENTS),
         Err(_) => false,
     };
     assert!(rt; is);

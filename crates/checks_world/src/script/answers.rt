@@ -1,0 +1,129 @@
+// A report with each thing that an object can answer, and its text, written by hand.
+ghost use Rattle.std.specs.Prelude.{All, IfOk};
+ghost use Rattle.la_world.specs.Printable.{IsPrintableLine, IsPrintableReport};
+
+use la_object::{Answer, Items};
+use la_proposer::Votes;
+use la_script::{Text, print};
+use la_world::{Config, Decisions, Did, Learnings, Line, Refusal, Report, Step, Steps, Views};
+use std::alloc::{AllocError, Global};
+
+// What is answered.
+enum What {
+    Total(i64),
+    Largest(u64),
+    Has(bool),
+    Size(u64),
+    Items(&'static [u64]),
+    Foreign,
+}
+
+const ANSWERS: [What; 15] = [
+    What::Total(0),
+    What::Total(5),
+    What::Total(-5),
+    What::Total(9223372036854775807),
+    What::Total(-9223372036854775808),
+    What::Largest(0),
+    What::Largest(18446744073709551615),
+    What::Has(true),
+    What::Has(false),
+    What::Size(0),
+    What::Size(18446744073709551615),
+    What::Items(&[]),
+    What::Items(&[0]),
+    What::Items(&[1, 7, 18446744073709551615]),
+    What::Foreign,
+];
+
+const TEXT: &[u8] = b"lattice 1
+replicas 1 commits 0 cap 1
+1 total 0
+2 total 5
+3 total -5
+4 total 9223372036854775807
+5 total -9223372036854775808
+6 largest 0
+7 largest 18446744073709551615
+8 has yes
+9 has no
+10 size 0
+11 size 18446744073709551615
+12 items []
+13 items [0]
+14 items [1 7 18446744073709551615]
+15 foreign
+16 refused NoSuchObject
+";
+
+fn items_of(alloc: Global, want: &[u64]) -> Result<Items, AllocError> {
+    let mut items = Items::new(alloc);
+    for item in want {
+        items.push(*item)?;
+    }
+    Ok(items)
+}
+
+fn answer_of(alloc: Global, what: &What) -> Result<Answer, AllocError> {
+    Ok(match what {
+        What::Total(total) => Answer::Total(*total),
+        What::Largest(value) => Answer::Largest(*value),
+        What::Has(has) => Answer::Has(*has),
+        What::Size(size) => Answer::Size(*size),
+        What::Items(items) => Answer::Items(items_of(alloc, items)?),
+        What::Foreign => Answer::Foreign,
+    })
+}
+
+// A question sends nothing.
+fn replied(answer: Answer) -> Line
+    ensures { IsPrintableLine result }
+{
+    Line::Done(Step {
+        did: Did::Replied(answer),
+        first: 7,
+        sent: 0,
+    })
+}
+
+fn steps(alloc: Global) -> Result<Steps, AllocError>
+    ensures { IfOk result (λ steps. All IsPrintableLine steps) }
+{
+    let mut steps = Steps::new(alloc);
+    for what in &ANSWERS {
+        steps.push(replied(answer_of(alloc, what)?))?;
+    }
+    steps.push(Line::Refused(Refusal::NoSuchObject))?;
+    Ok(steps)
+}
+
+fn report(alloc: Global) -> Result<Report, AllocError>
+    ensures { IfOk result IsPrintableReport }
+{
+    Ok(Report {
+        config: Config {
+            replicas: 1,
+            commits: 0,
+            cap: 1,
+            votes: Votes::one_each(1),
+        },
+        steps: steps(alloc)?,
+        learnt: Learnings::new(alloc),
+        views: Views::new(alloc),
+        outcomes: Decisions::new(alloc),
+    })
+}
+
+fn printed(alloc: Global) -> Result<Text, AllocError> {
+    let report = report(alloc)?;
+    print(alloc, &report)
+}
+
+#[test]
+fn answers_are_printed(rt: HostRuntime) {
+    let text = match printed(rt.alloc()) {
+        Ok(text) => Ok(text),
+        Err(_) => printed(rt.alloc()),
+    };
+    assert!(rt; text.is_ok_and(|text| text.bytes() == TEXT));
+}

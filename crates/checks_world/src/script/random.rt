@@ -1,0 +1,101 @@
+// Random events, against values that another program computed by the rule.
+use super::lines::Act::{Inc, Put};
+use super::lines::Want::{Ask, Decide, Deliver, Submit};
+use super::lines::{Want, are_events};
+use la_object::Query;
+use la_script::{Events, random_events};
+use std::alloc::{AllocError, Global};
+
+// Of seed 1, for three replicas.
+const OF_ONE: [Want; 24] = [
+    Submit(2, 3, Put(6)),
+    Deliver(2),
+    Deliver(2),
+    Deliver(0),
+    Decide(0, 0, 0),
+    Submit(1, 3, Put(1)),
+    Deliver(7),
+    Deliver(0),
+    Deliver(11),
+    Deliver(16),
+    Deliver(17),
+    Deliver(0),
+    Deliver(18),
+    Ask(1, 1, Query::Total),
+    Submit(1, 3, Put(0)),
+    Deliver(29),
+    Ask(2, 1, Query::Total),
+    Deliver(7),
+    Deliver(25),
+    Deliver(3),
+    Deliver(15),
+    Submit(2, 1, Inc(81)),
+    Ask(1, 1, Query::Total),
+    Submit(0, 3, Put(4)),
+];
+
+// Of the largest seed, for eight replicas.
+const OF_LARGEST: [Want; 24] = [
+    Submit(6, 3, Put(2)),
+    Deliver(0),
+    Deliver(4),
+    Submit(7, 3, Put(7)),
+    Deliver(1),
+    Deliver(1),
+    Submit(5, 3, Put(1)),
+    Deliver(14),
+    Submit(1, 3, Put(9)),
+    Deliver(10),
+    Decide(6, 0, 0),
+    Ask(6, 1, Query::Total),
+    Submit(1, 3, Put(8)),
+    Deliver(9),
+    Deliver(15),
+    Deliver(13),
+    Submit(0, 1, Inc(78)),
+    Deliver(26),
+    Deliver(18),
+    Submit(2, 3, Put(3)),
+    Deliver(40),
+    Submit(6, 3, Put(6)),
+    Decide(6, 0, 1),
+    Decide(7, 0, 1),
+];
+
+// The events, drawn again where memory was refused. There are few, for one replica at least.
+fn drawn(alloc: Global, seed: u64, replicas: u8, count: u32) -> Result<Events, AllocError> {
+    if replicas == 0 {
+        return Err(AllocError);
+    }
+    match random_events(alloc, seed, replicas, count) {
+        Err(_) => random_events(alloc, seed, replicas, count),
+        answer => answer,
+    }
+}
+
+fn draws(alloc: Global, seed: u64, replicas: u8, want: &[Want]) -> bool {
+    if want.len() > 100 {
+        return false;
+    }
+    let events = drawn(alloc, seed, replicas, want.len() as u32);
+    events.is_ok_and(|events| are_events(&events, want))
+}
+
+#[test]
+fn a_seed_gives_its_events(rt: HostRuntime) {
+    assert!(rt; draws(rt.alloc(), 1, 3, &OF_ONE));
+}
+
+#[test]
+fn the_largest_seed_gives_its_events(rt: HostRuntime) {
+    assert!(rt; draws(rt.alloc(), 18446744073709551615, 8, &OF_LARGEST));
+}
+
+// None are asked for, and as many as are asked for.
+#[test]
+fn as_many_events_are_drawn_as_are_asked_for(rt: HostRuntime) {
+    let none = drawn(rt.alloc(), 1, 1, 0);
+    assert!(rt; none.is_ok_and(|events| events.len() == 0));
+    let many = drawn(rt.alloc(), 1, 255, 10000);
+    assert!(rt; many.is_ok_and(|events| events.len() == 10000));
+}
