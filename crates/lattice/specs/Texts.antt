@@ -4,7 +4,7 @@ use Rattle.std.specs.Fmt.{decimal}
 use Rattle.la_script.specs.declared.error.FaultName.{FaultName}
 use Rattle.la_script.specs.declared.error.FaultName.TheVariants.{BadHeader, BadLine, BadNumber}
 use Rattle.lattice.specs.declared.error.PlayFault.{PlayFault}
-use Rattle.lattice.specs.declared.error.PlayFault.TheVariants.{Script, ReadFault, TooLong, WriteFault, Memory}
+use Rattle.lattice.specs.declared.error.PlayFault.TheVariants.{Script, ReadFault, TooLong, BadConfig, WriteFault, Memory}
 
 abbrev pub name_of : FaultName → List ℕ
 name_of BadHeader = codes "BadHeader"
@@ -16,12 +16,13 @@ abbrev pub fault_text : PlayFault → List ℕ
 fault_text (Script f) = codes "line " ++ decimal f.line ++ codes ": " ++ name_of f.name
 fault_text TooLong = codes "TooLong"
 fault_text ReadFault = codes "ReadFault"
+fault_text BadConfig = codes "BadConfig"
 fault_text WriteFault = codes "WriteFault"
 fault_text Memory = codes "Memory"
 
 abbrev pub fault_line : PlayFault → List ℕ
 fault_line f = fault_text f ++ codes "\n"
 
--- how the program is called
-abbrev pub usage_line : List ℕ
-usage_line = codes "usage: lattice play <SCRIPT\n"
+-- what is told where a word of the command line is no text
+abbrev pub no_text_line : List ℕ
+no_text_line = codes "a word of the command line is no text: see lattice --help\n"

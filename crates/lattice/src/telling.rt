@@ -1,7 +1,7 @@
 // What is told on standard error. Telling takes no memory.
 ghost use Rattle.std.specs.Prelude.{◌≡◌, ◌≤◌, OnOk, OnErr, length};
 ghost use Rattle.lattice.specs.Streams.{Writes, WritesPrefix};
-ghost use Rattle.lattice.specs.Texts.{name_of, fault_text, fault_line, usage_line};
+ghost use Rattle.lattice.specs.Texts.{name_of, fault_text, fault_line, no_text_line};
 
 use crate::PlayFault;
 use crate::streams::{WriteFailed, write_all};
@@ -13,7 +13,7 @@ use std::io::Write;
 // A line with a number of 32 bits has at most 27 bytes.
 type FaultLine = ArrayString<27>;
 
-const USAGE: &str = "usage: lattice play <SCRIPT\n";
+const NO_TEXT: &str = "a word of the command line is no text: see lattice --help\n";
 
 fn name_of(name: FaultName) -> &'static str
     ensures text { result.now ≡ name_of name }
@@ -42,6 +42,7 @@ pub(crate) fn text_of(fault: PlayFault) -> FaultLine
         PlayFault::TooLong => text.push_str("TooLong"),
         PlayFault::Memory => text.push_str("Memory"),
         PlayFault::ReadFault => text.push_str("ReadFault"),
+        PlayFault::BadConfig => text.push_str("BadConfig"),
         PlayFault::WriteFault => text.push_str("WriteFault"),
     }
     text
@@ -58,10 +59,10 @@ pub fn tell<W: Write>(writer: &mut W, fault: PlayFault) -> Result<(), WriteFaile
     write_all(writer, line.as_str().as_bytes())
 }
 
-/// Writes how the program is called, and LF. The refusal is that of [`write_all`].
-pub fn explain<W: Write>(writer: &mut W) -> Result<(), WriteFailed>
-    ensures ok { OnOk result (Writes W.contents writer.old writer.new usage_line) }
-    ensures err { OnErr result (WritesPrefix W.contents writer.old writer.new usage_line) }
+/// Tells that a word of the command line is no text. The refusal is that of [`write_all`].
+pub fn tell_no_text<W: Write>(writer: &mut W) -> Result<(), WriteFailed>
+    ensures ok { OnOk result (Writes W.contents writer.old writer.new no_text_line) }
+    ensures err { OnErr result (WritesPrefix W.contents writer.old writer.new no_text_line) }
 {
-    write_all(writer, USAGE.as_bytes())
+    write_all(writer, NO_TEXT.as_bytes())
 }

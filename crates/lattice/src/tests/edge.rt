@@ -1,22 +1,41 @@
 // Command lines, and what comes of each: what is written, what is told, and the exit status.
 use super::rows::{FIRST_REPORT, FIRST_SCRIPT};
-use super::streams::{End, Narrow, narrow_writer, slow_reader, wide_writer};
-use crate::{Ended, end_without_words, run_words};
+use super::streams::{End, narrow_writer, slow_reader, wide_writer};
+use crate::{Numbered, all_objects, end_without_words, fill, run_words};
+use la_object::Replicated;
+use la_proposer::Votes;
+use la_script::{Text, print, random_events};
+use la_world::{Config, run};
 use std::alloc::{AllocError, Global};
 use std::io::ErrorKind;
 
-/// The words of wrong calls, the program's name first.
-pub const WRONG_CALLS: [&[&str]; 10] = [
+/// Words with a mistake, the program's name first.
+pub const MISTAKES: [&[&str]; 16] = [
     &[],
     &["lattice"],
     &["play"],
     &["lattice", ""],
     &["lattice", "Play"],
     &["lattice", "plays"],
-    &["lattice", "--help"],
+    &["lattice", "help"],
+    &["lattice", "threads"],
     &["lattice", "play", "x"],
-    &["lattice", "play", "play"],
     &["lattice", "x", "play"],
+    &["lattice", "random", "--replicas", "0"],
+    &["lattice", "random", "--replicas", "9"],
+    &["lattice", "random", "--events", "0"],
+    &["lattice", "random", "--events=10001"],
+    &["lattice", "random", "--seed", "4294967296"],
+    &["lattice", "random", "--seed", "1", "--seed", "2"],
+];
+
+/// Words that ask for a text, and how it begins.
+pub const ASKED_FOR: [(&[&str], &str); 5] = [
+    (&["lattice", "--help"], "Plays scripts"),
+    (&["lattice", "-h"], "Plays scripts"),
+    (&["lattice", "--version"], "lattice "),
+    (&["lattice", "play", "--help"], "Plays the script"),
+    (&["lattice", "random", "--help"], "Draws events"),
 ];
 
 /// A play, by which read fails, how much room standard output and standard error have, and what
@@ -29,7 +48,6 @@ pub struct Case {
     pub errors_room: usize,
     pub written: &'static str,
     pub told: &'static str,
-    pub told_all: bool,
     pub status: u8,
 }
 
@@ -41,7 +59,6 @@ pub const CASES: [Case; 7] = [
         errors_room: 0,
         written: FIRST_REPORT,
         told: "",
-        told_all: true,
         status: 0,
     },
     Case {
@@ -51,7 +68,6 @@ pub const CASES: [Case; 7] = [
         errors_room: usize::MAX,
         written: "",
         told: "line 1: BadHeader\n",
-        told_all: true,
         status: 1,
     },
     Case {
@@ -61,7 +77,6 @@ pub const CASES: [Case; 7] = [
         errors_room: usize::MAX,
         written: "",
         told: "line 3: BadNumber\n",
-        told_all: true,
         status: 1,
     },
     Case {
@@ -71,7 +86,6 @@ pub const CASES: [Case; 7] = [
         errors_room: usize::MAX,
         written: "",
         told: "line 5: BadLine\n",
-        told_all: true,
         status: 1,
     },
     Case {
@@ -81,7 +95,6 @@ pub const CASES: [Case; 7] = [
         errors_room: 16,
         written: "",
         told: "line 1: BadHeade",
-        told_all: false,
         status: 1,
     },
     Case {
@@ -91,7 +104,6 @@ pub const CASES: [Case; 7] = [
         errors_room: usize::MAX,
         written: "",
         told: "ReadFault\n",
-        told_all: true,
         status: 4,
     },
     Case {
@@ -101,18 +113,16 @@ pub const CASES: [Case; 7] = [
         errors_room: usize::MAX,
         written: "lattice 1\n",
         told: "WriteFault\n",
-        told_all: true,
         status: 4,
     },
 ];
 
-/// What came of the program: how it ended, and whether just the texts that were looked for were
-/// written and told.
-#[derive(Clone, Copy)]
+/// What came of the program: its status, and what was written and told.
+#[derive(Drop)]
 struct Came {
-    ended: Ended,
-    wrote: bool,
-    told: bool,
+    status: u8,
+    written: Vec<u8>,
+    told: Vec<u8>,
 }
 
 fn words_of(alloc: Global, words: &[&str]) -> Result<Vec<String>, AllocError> {
@@ -123,65 +133,141 @@ fn words_of(alloc: Global, words: &[&str]) -> Result<Vec<String>, AllocError> {
     Ok(all)
 }
 
-// Calls the program with these words.
-fn call(
+// Calls the program with these words and shelves of these objects.
+fn call_with<B: Replicated>(
     alloc: Global,
     words: &[&str],
     case: &Case,
-    output: Narrow,
-    errors: Narrow,
+    all: Vec<Numbered<B>>,
 ) -> Result<Came, AllocError> {
     let words = words_of(alloc, words)?;
-    let (mut output, mut errors) = (output, errors);
+    let shelves = fill(alloc, all).map_err(|_| AllocError)?;
+    let mut output = narrow_writer(alloc, case.room, End::Fails);
+    let mut errors = narrow_writer(alloc, case.errors_room, End::Fails);
     let mut input = slow_reader(case.script.as_bytes(), 7, case.fails_at);
-    let ended = run_words(alloc, &words, &mut input, &mut output, &mut errors);
+    let status = run_words(alloc, &words, &mut input, &mut output, &mut errors, shelves);
     Ok(Came {
-        ended,
-        wrote: output.taken.as_slice() == case.written.as_bytes(),
-        told: errors.taken.as_slice() == case.told.as_bytes(),
+        status,
+        written: output.taken,
+        told: errors.taken,
     })
 }
 
-// Whether it came so, or `None` for want of memory.
-fn came_so(alloc: Global, words: &[&str], case: &Case) -> Option<bool> {
-    let output = narrow_writer(alloc, case.room, End::Fails);
-    let errors = narrow_writer(alloc, case.errors_room, End::Fails);
-    let came = call(alloc, words, case, output, errors).ok()?;
-    if came.ended.status == 3 {
-        return None;
+// What comes of these words, or `None` for want of memory.
+fn call(alloc: Global, words: &[&str], case: &Case) -> Option<Came> {
+    let all = all_objects(alloc).ok()?;
+    let came = call_with(alloc, words, case, all).ok()?;
+    if came.status == 3 { None } else { Some(came) }
+}
+
+// The same, where one refusal of memory is passed over.
+fn called(alloc: Global, words: &[&str], case: &Case) -> Option<Came> {
+    match call(alloc, words, case) {
+        None => call(alloc, words, case),
+        came => came,
     }
-    let is_end = came.ended.status == case.status && came.ended.told.is_ok() == case.told_all;
-    Some(is_end && came.wrote && came.told)
 }
 
 /// Whether the program, called with these words, comes to this.
 pub fn comes_to(alloc: Global, words: &[&str], case: &Case) -> bool {
-    came_so(alloc, words, case).unwrap_or_else(|| came_so(alloc, words, case) == Some(true))
+    match called(alloc, words, case) {
+        Some(came) => {
+            came.status == case.status
+                && came.written.as_slice() == case.written.as_bytes()
+                && came.told.as_slice() == case.told.as_bytes()
+        }
+        None => false,
+    }
 }
 
-/// What comes of a wrong call.
-pub const MISCALLED: Case = Case {
-    script: FIRST_SCRIPT,
-    fails_at: 1,
-    room: 0,
-    errors_room: usize::MAX,
-    written: "",
-    told: "usage: lattice play <SCRIPT\n",
-    told_all: true,
-    status: 2,
-};
+/// A call that reads no script, with so much room in standard output and standard error.
+const fn no_script(room: usize, errors_room: usize) -> Case {
+    Case {
+        script: FIRST_SCRIPT,
+        fails_at: 1,
+        room,
+        errors_room,
+        written: "",
+        told: "",
+        status: 2,
+    }
+}
 
-/// The same, where standard error does not take it all.
-pub const MISCALLED_UNHEARD: Case = Case {
-    script: FIRST_SCRIPT,
-    fails_at: 1,
-    room: 0,
-    errors_room: 5,
-    written: "",
-    told: "usage",
-    told_all: false,
-    status: 2,
-};
+/// Whether words are told to be mistaken, with status 2, and nothing is written.
+pub fn is_mistaken(alloc: Global, words: &[&str]) -> bool {
+    match called(alloc, words, &no_script(usize::MAX, usize::MAX)) {
+        Some(came) => {
+            came.status == 2 && came.written.is_empty() && came.told.starts_with(b"error: ")
+        }
+        None => false,
+    }
+}
+
+/// Whether the status is the same where standard error takes five bytes of what is told.
+pub fn is_mistaken_unheard(alloc: Global, words: &[&str]) -> bool {
+    match called(alloc, words, &no_script(usize::MAX, 5)) {
+        Some(came) => came.status == 2 && came.told.as_slice() == b"error",
+        None => false,
+    }
+}
+
+/// Whether words are answered by a text that begins so, with status 0, and nothing is told.
+pub fn is_shown(alloc: Global, words: &[&str], begins: &str) -> bool {
+    match called(alloc, words, &no_script(usize::MAX, usize::MAX)) {
+        Some(came) => {
+            came.status == 0 && came.told.is_empty() && came.written.starts_with(begins.as_bytes())
+        }
+        None => false,
+    }
+}
+
+/// Whether standard output that takes seven bytes of a text ends the program with status 4.
+pub fn is_cut_short(alloc: Global, words: &[&str]) -> bool {
+    match called(alloc, words, &no_script(7, usize::MAX)) {
+        Some(came) => {
+            came.status == 4 && came.written.len() == 7 && came.told.as_slice() == b"WriteFault\n"
+        }
+        None => false,
+    }
+}
+
+// The text of the report of drawn events, played with shelves of these objects.
+fn drawn_text<B: Replicated>(
+    alloc: Global,
+    seed: u64,
+    replicas: u8,
+    count: u32,
+    all: Vec<Numbered<B>>,
+) -> Option<Text> {
+    let config = Config {
+        replicas,
+        commits: 1,
+        cap: 1_000_000,
+        votes: Votes::new(&[1, 1, 1, 1, 1, 1, 1, 1][..replicas.min(8) as usize]).ok()?,
+    };
+    let mut shelves = fill(alloc, all).ok()?;
+    shelves.truncate(replicas as usize);
+    let events = random_events(alloc, seed, replicas.max(1), count).ok()?;
+    let report = run(alloc, config, shelves, events.all()).ok()?;
+    print(alloc, &report).ok()
+}
+
+fn drawn(alloc: Global, seed: u64, replicas: u8, count: u32) -> Option<Text> {
+    let all = all_objects(alloc).ok()?;
+    drawn_text(alloc, seed, replicas, count, all)
+}
+
+/// Whether the program, called with these words, writes the text of the report of these events.
+pub fn draws(alloc: Global, words: &[&str], seed: u64, replicas: u8, count: u32) -> bool {
+    let text = match drawn(alloc, seed, replicas, count) {
+        None => drawn(alloc, seed, replicas, count),
+        text => text,
+    };
+    match (text, called(alloc, words, &no_script(usize::MAX, 0))) {
+        (Some(text), Some(came)) => came.status == 0 && came.written.as_slice() == text.bytes(),
+        _ => false,
+    }
+}
 
 /// Whether a program whose words were not gathered, for this kind of error, ends with this status
 /// and tells this.

@@ -1,8 +1,10 @@
 // Callers that know the contracts alone, and by them that two calls come to the same.
 ghost use Rattle.std.specs.Prelude.{◌≡◌, ◌<◌, ◌^◌, length, IfSome};
 ghost use Rattle.la_script.specs.Pieces.{joined};
+ghost use Rattle.lattice.specs.Play.{FitAnyGroup};
 
-use crate::{PlayFault, answer_to, status_of, task_of};
+use crate::{PlayFault, answer_to, status_of};
+use la_object::{Replicated, Shelf};
 use la_script::Pieces;
 use std::alloc::Global;
 
@@ -12,19 +14,21 @@ pub fn status_of_is_exact(fault: PlayFault) -> (u8, u8)
     (status_of(fault), status_of(fault))
 }
 
-pub fn task_of_is_exact(words: &[String]) -> (bool, bool)
-    ensures { result.0 ≡ result.1 }
-{
-    (task_of(words).is_ok(), task_of(words).is_ok())
-}
-
-// Both answers, where memory was not refused and the bytes are a script.
+// Both answers, where memory was not refused and the bytes are a script: with shelves of the same
+// kinds of objects the text is one.
 #[tactic(auto, using(crate::proofs::OneText::one_answer))]
-pub fn answer_to_is_exact(alloc: Global, input: &[u8]) -> Option<(Pieces, Pieces)>
-    requires { length input.now < 2 ^ 32 }
+pub fn answer_to_is_exact<B: Replicated>(
+    alloc: Global,
+    input: &[u8],
+    shelves: Vec<Shelf<B>>,
+    others: Vec<Shelf<B>>,
+) -> Option<(Pieces, Pieces)>
+    requires short { length input.now < 2 ^ 32 }
+    requires shelves { FitAnyGroup shelves.items }
+    requires others { others.items ≡ shelves.items }
     ensures { IfSome result (λ texts. joined texts.0 ≡ joined texts.1) }
 {
-    let first = answer_to(alloc, input).ok()?;
-    let second = answer_to(alloc, input).ok()?;
+    let first = answer_to(alloc, input, shelves).ok()?;
+    let second = answer_to(alloc, input, others).ok()?;
     Some((first, second))
 }

@@ -1,6 +1,6 @@
 use Rattle.std.proofs.Common.{OnErr, subst}
 use Rattle.lattice.specs.Streams.{AppendsPrefix}
-use Rattle.lattice.proofs.telling.explain.Goals as goal
+use Rattle.lattice.proofs.telling.tell_no_text.Goals as goal
 
 pub returns-clause-err : goal.returns-clause-err
 returns-clause-err g c =

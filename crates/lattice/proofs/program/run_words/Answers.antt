@@ -1,0 +1,4 @@
+use Rattle.lattice.proofs.program.run_words.Goals as goal
+
+pub returns-clause-ends : goal.returns-clause-ends
+returns-clause-ends g c = (c.carry_out.result.told, c.carry_out.ensures.ends)
