@@ -1,5 +1,5 @@
 -- What the matches of a command line say of its task.
-use Rattle.std.proofs.Common.{◌≡◌, ◌∙◌, ℕ, List, Option, Some, None, Result, Ok, Err, sym, subst, true, true≢false, ap, ap₂, refl, unwrap_or, option_map, codes}
+use Rattle.std.proofs.Common.{◌≡◌, ◌∙◌, ℕ, List, Option, Some, None, Result, Ok, sym, subst, true, true≢false, ap, ap₂, refl, unwrap_or, option_map, codes}
 use Rattle.std.specs.Str.Parse.{ParsesUnsigned}
 use Rattle.std.specs.Box.{box_value}
 use Rattle.std.specs.Prelude.{Box}

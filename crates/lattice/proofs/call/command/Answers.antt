@@ -1,6 +1,6 @@
-use Rattle.std.proofs.Common.{rules, ◌≡◌, ◌∙◌, ap, sym, codes, List, [], Option, Some, map, option_map, string_bytes}
-use Rattle.clap.specs.Words.{App, Text, app_of, is_simple_and_free, is_simple, subcommand_of, fault_of, found_of, rows_of, subcommand_rows_of, subcommand_name_of}
-use Rattle.lattice.specs.Calls.{lattice, Names, Calls}
+use Rattle.std.proofs.Common.{rules, ◌≡◌, ◌∙◌, ap, sym, codes, Some, map, option_map, string_bytes}
+use Rattle.clap.specs.Words.{App, app_of, is_simple_and_free, is_simple, subcommand_of, fault_of, found_of, rows_of, subcommand_name_of}
+use Rattle.lattice.specs.Calls.{lattice}
 use Rattle.lattice.proofs.CommandLines.{lattice_is_simple, lattice_is_free, names_of_parse, draw_is_named}
 use Rattle.lattice.proofs.call.command.Goals as goal
 

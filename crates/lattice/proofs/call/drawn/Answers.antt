@@ -1,9 +1,8 @@
-use Rattle.std.proofs.Common.{rules, ◌≡◌, ◌≤◌, ℕ, Some, List, Result, codes}
+use Rattle.std.proofs.Common.{codes}
 use Rattle.std.specs.Str.Parse.{ParsesUnsigned, ExplainsUnsignedError, HasUnsignedDigitsIfOk}
 use Rattle.clap.specs.Words.{found_of}
 use Rattle.lattice.proofs.CommandLines.{read_is_given}
 use Rattle.lattice.proofs.call.drawn.Goals as goal
-
 
 pub returns : goal.returns
 returns c =
