@@ -105,7 +105,6 @@ fn views_contain_what_is_seen()
 }
 
 // Of the sets of a run that one replica learnt in one instance the later contains the earlier.
-#[tactic(auto, using(crate::proofs::WorldLaws::run_grows))]
 fn learnt_sets_of_a_run_grow<B: Replicated>(
     alloc: Global,
     config: Config,
