@@ -63,7 +63,13 @@ fn random_command<'a>(alloc: Global) -> Result<Command<'a>, AllocError>
     let counts = value_parser!(u32).range(1..=10_000);
     let seed = number(alloc, "seed", seeds, "1", "What the draws begin with");
     let replicas = number(alloc, "replicas", sizes, "3", "How many replicas, 1 to 8");
-    let events = number(alloc, "events", counts, "100", "How many events, 1 to 10000");
+    let events = number(
+        alloc,
+        "events",
+        counts,
+        "100",
+        "How many events, 1 to 10000",
+    );
     Command::new(alloc, "random")
         .about("Draws events from a seed and plays them")
         .arg(seed)?

@@ -2,7 +2,6 @@
 ghost use Rattle.std.specs.Prelude.{◌≡◌, ◌≢◌, map, string_bytes, IfErr, OnOk, Result};
 ghost use Rattle.clap.specs.Words.{HasKind, fault_of};
 ghost use Rattle.lattice.specs.declared.error.PlayFault.TheVariants.{Memory};
-
 ghost use Rattle.lattice.specs.Calls.{lattice, IsInRange};
 ghost use Rattle.lattice.specs.Faults.{status_of};
 ghost use Rattle.lattice.specs.Program.{Ends, EndsWell, EndsWithoutTask, IsDone, IsTaskRefusal};

@@ -4,7 +4,6 @@ use Rattle.clap.specs.Words.{found_of}
 use Rattle.lattice.proofs.CommandLines.{read_is_given}
 use Rattle.lattice.proofs.call.drawn.Goals as goal
 
-
 pub returns : goal.returns
 returns c =
     let found = found_of c.args.given.now in

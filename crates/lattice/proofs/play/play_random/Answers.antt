@@ -7,7 +7,6 @@ use Rattle.lattice.specs.declared.error.PlayFault.{PlayFault}
 use Rattle.lattice.specs.Play.{FitAnyGroup, text_by, AnswersDraw, IsDrawRefusal}
 use Rattle.lattice.proofs.play.play_random.Goals as goal
 
-
 pub returns-clause-ok : goal.returns-clause-ok
 returns-clause-ok g c =
     let fit : FitAnyGroup c.args.shelves.items = search rules in
