@@ -1,7 +1,8 @@
 // Command lines, and what comes of each: what is written, what is told, and the exit status.
 use super::rows::{FIRST_REPORT, FIRST_SCRIPT};
+use super::shelves::{ByNumber, eight_shelves};
 use super::streams::{End, narrow_writer, slow_reader, wide_writer};
-use crate::{Numbered, all_objects, end_without_words, fill, run_words};
+use crate::{end_without_words, run_words};
 use la_object::Replicated;
 use la_proposer::Votes;
 use la_script::{Text, print, random_events};
@@ -133,15 +134,10 @@ fn words_of(alloc: Global, words: &[&str]) -> Result<Vec<String>, AllocError> {
     Ok(all)
 }
 
-// Calls the program with these words and shelves of these objects.
-fn call_with<B: Replicated>(
-    alloc: Global,
-    words: &[&str],
-    case: &Case,
-    all: Vec<Numbered<B>>,
-) -> Result<Came, AllocError> {
+// Calls the program with these words and shelves of such objects.
+fn call_with<B: ByNumber>(alloc: Global, words: &[&str], case: &Case) -> Result<Came, AllocError> {
     let words = words_of(alloc, words)?;
-    let shelves = fill(alloc, all).map_err(|_| AllocError)?;
+    let shelves = eight_shelves::<B>(alloc).map_err(|_| AllocError)?;
     let mut output = narrow_writer(alloc, case.room, End::Fails);
     let mut errors = narrow_writer(alloc, case.errors_room, End::Fails);
     let mut input = slow_reader(case.script.as_bytes(), 7, case.fails_at);
@@ -155,8 +151,7 @@ fn call_with<B: Replicated>(
 
 // What comes of these words, or `None` for want of memory.
 fn call(alloc: Global, words: &[&str], case: &Case) -> Option<Came> {
-    let all = all_objects(alloc).ok()?;
-    let came = call_with(alloc, words, case, all).ok()?;
+    let came = call_with::<Box<dyn Replicated + Send>>(alloc, words, case).ok()?;
     if came.status == 3 { None } else { Some(came) }
 }
 
@@ -231,21 +226,15 @@ pub fn is_cut_short(alloc: Global, words: &[&str]) -> bool {
     }
 }
 
-// The text of the report of drawn events, played with shelves of these objects.
-fn drawn_text<B: Replicated>(
-    alloc: Global,
-    seed: u64,
-    replicas: u8,
-    count: u32,
-    all: Vec<Numbered<B>>,
-) -> Option<Text> {
+// The text of the report of drawn events, played with shelves of such objects.
+fn drawn_text<B: ByNumber>(alloc: Global, seed: u64, replicas: u8, count: u32) -> Option<Text> {
     let config = Config {
         replicas,
         commits: 1,
         cap: 1_000_000,
         votes: Votes::new(&[1, 1, 1, 1, 1, 1, 1, 1][..replicas.min(8) as usize]).ok()?,
     };
-    let mut shelves = fill(alloc, all).ok()?;
+    let mut shelves = eight_shelves::<B>(alloc).ok()?;
     shelves.truncate(replicas as usize);
     let events = random_events(alloc, seed, replicas.max(1), count).ok()?;
     let report = run(alloc, config, shelves, events.all()).ok()?;
@@ -253,8 +242,7 @@ fn drawn_text<B: Replicated>(
 }
 
 fn drawn(alloc: Global, seed: u64, replicas: u8, count: u32) -> Option<Text> {
-    let all = all_objects(alloc).ok()?;
-    drawn_text(alloc, seed, replicas, count, all)
+    drawn_text::<Box<dyn Replicated + Send>>(alloc, seed, replicas, count)
 }
 
 /// Whether the program, called with these words, writes the text of the report of these events.
