@@ -51,7 +51,7 @@ use Rattle.la_world.proofs.Worlds.{view_is, sent_is, replicas_are, found_at}
 -- ## What a world keeps
 
 pub keeps-refl : (w : World) → Keeps w w
-keeps-refl w = record { config = refl; kinds = refl; stands = λ events stands. stands }
+keeps-refl w = record { config = refl; kinds = refl; count = refl; stands = λ events stands. stands }
 
 pub kept_group : (w after : World) → Keeps w after → group_in after ≡ group_in w
 kept_group w after k = ap₂ group_of k.config k.kinds
@@ -242,6 +242,7 @@ module _ (w : World) (r : ℕ) (at : ReplicaState) (s new : ShelfState) (state :
     keeps = record {
       config = refl;
       kinds = kinds_stay;
+      count = refl;
       stands = λ events stands.
           let same : group_of w.config (kinds_of w.shelves) ≡ group_of w.config (kinds_of (slice_set w.shelves r new)) = ap (group_of w.config) (sym kinds_stay) in
           record {
