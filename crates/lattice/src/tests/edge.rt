@@ -201,7 +201,7 @@ pub fn is_mistaken(alloc: Global, words: &[&str]) -> bool {
 /// Whether the status is the same where standard error takes five bytes of what is told.
 pub fn is_mistaken_unheard(alloc: Global, words: &[&str]) -> bool {
     match called(alloc, words, &no_script(usize::MAX, 5)) {
-        Some(came) => came.status == 2 && came.told.as_slice() == b"error",
+        Some(came) => came.status == 2 && came.told.as_slice() == b"error".as_slice(),
         None => false,
     }
 }
@@ -220,7 +220,9 @@ pub fn is_shown(alloc: Global, words: &[&str], begins: &str) -> bool {
 pub fn is_cut_short(alloc: Global, words: &[&str]) -> bool {
     match called(alloc, words, &no_script(7, usize::MAX)) {
         Some(came) => {
-            came.status == 4 && came.written.len() == 7 && came.told.as_slice() == b"WriteFault\n"
+            came.status == 4
+                && came.written.len() == 7
+                && came.told.as_slice() == b"WriteFault\n".as_slice()
         }
         None => false,
     }
