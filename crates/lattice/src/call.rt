@@ -51,7 +51,7 @@ fn play_command<'a>(alloc: Global) -> Command<'a>
     ensures app { app_of result ≡ play }
     ensures local { (fields_of result).has_globals ≡ false }
 {
-    Command::new(alloc, "play").about("Plays the script on standard input")
+    Command::new(alloc, "play").about("Plays the script on standard input: lattice play <script")
 }
 
 fn random_command<'a>(alloc: Global) -> Result<Command<'a>, AllocError>
@@ -71,7 +71,7 @@ fn random_command<'a>(alloc: Global) -> Result<Command<'a>, AllocError>
         "How many events, 1 to 10000",
     );
     Command::new(alloc, "random")
-        .about("Draws events from a seed and plays them")
+        .about("Draws events from a seed and plays them: lattice random --seed 7 --replicas 5")
         .arg(seed)?
         .arg(replicas)?
         .arg(events)
