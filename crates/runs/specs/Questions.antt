@@ -52,7 +52,7 @@ Questions = (few : 3 ≤ 8) → report (heavy few) (three_objects 3) events ≡ 
       ∷ done (Held (record { replica = 0; number = 2 })) 3 0
       ∷ done (Answered Yes) 3 1
       ∷ done (Learnt (learning 4 (ballot 0 0 1 increment)) 2 None
-          (Some (ballot 0 0 2 increment_and_raise))) 4 5
+      (Some (ballot 0 0 2 increment_and_raise))) 4 5
       ∷ done (Replied (answer.Total (pos 5))) 9 0
       ∷ done (Replied (answer.Largest 0)) 9 0
       ∷ done (Answered Yes) 9 1
