@@ -4,6 +4,7 @@ mod asked;
 mod configs;
 mod events;
 mod exactness;
+mod following;
 mod laws;
 mod making;
 mod many;
