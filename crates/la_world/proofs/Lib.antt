@@ -42,6 +42,7 @@ pub mod SentCounts
 pub mod Receivers
 pub mod Participants
 pub mod Worlds
+pub mod Noted
 pub mod Returned
 pub mod Playback
 pub mod SubmittedVotes

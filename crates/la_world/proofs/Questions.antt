@@ -188,6 +188,43 @@ module _ (w : World) (events : List Event) (stands : StandsFor w events) where
         stands = asked_stands r object query allowed;
       }
 
+-- ## What a world finds of its shelves
+
+pub replica_known : (w : World) → HoldsInvariant w → (r : ℕ) → r < length w.shelves → r < length w.replica_states
+replica_known w h r lt = ∥∥₁_elim h.reached (hlevel (ℕ_set, le_prop)) (λ p.
+    let same = replicas_are w p.0 p.1 in
+    let a = p.1.shelves in
+    let b = p.1.config.replicas in
+    omega arith)
+
+-- the replica r is this one, and this is its shelf
+pub record IsShelf (w : World) (r : ℕ) (at : ReplicaState) (s : ShelfState) : Type 0 where
+  pub invariant : HoldsInvariant w
+  pub state : slice_get w.replica_states r ≡ Some at
+  pub found : slice_get w.shelves r ≡ Some s
+
+pub read_shelf : {w old : World} → HoldsInvariant w → w ≡ old → (r : ℕ) → r < length old.shelves → {at : ReplicaState} → at ≡ get_or w.replica_states r at → {s : ShelfState} → s ≡ get_or w.shelves r s → IsShelf w r at s
+read_shelf {w = w} invariant same r known {at = at} read_state {s = s} read =
+    let there : r < length w.shelves = subst (λ (v : World). r < length v.shelves) (sym same) known in
+    record { invariant = invariant; state = found_at w.replica_states r at (replica_known w invariant r there) read_state; found = found_at w.shelves r s there read }
+
+-- the shelf has absorbed some of its replica's view, or nothing
+pub record HasAbsorbed (at : ReplicaState) (s new : ShelfState) : Type 0 where
+  pub objects : new.objects ≡ s.objects
+  pub within : IsSubset s.view at.view → IsSubset new.view at.view
+
+-- whatever comes of an absorption, the objects stay
+same_objects : (result : Result ℕ AbsorbError) (s : ShelfState) (set : Histories) (new : ShelfState) → OnOk result (new ≡ record s { view = set }) → IfErr result (IsAbsorbRefusal s set new) → new.objects ≡ s.objects
+same_objects (Ok n) s set new ok err = ap (λ (z : ShelfState). z.objects) ok
+same_objects (Err Smaller) s set new ok err = ap (λ (z : ShelfState). z.objects) err.1
+same_objects (Err (Memory done)) s set new ok err = ap (λ (z : ShelfState). z.objects) err.1.1
+
+pub absorbed_as : (result : Result ℕ AbsorbError) (at : ReplicaState) (s : ShelfState) (set : Histories) (new : ShelfState) → set ≡ at.view → OnOk result (new ≡ record s { view = set }) → IfErr result (IsAbsorbRefusal s set new) → (IsSubset s.view set → IsSubset new.view set) → HasAbsorbed at s new
+absorbed_as result at s set new same ok err within = record {
+  objects = same_objects result s set new ok err;
+  within = subst (λ v. IsSubset s.view v → IsSubset new.view v) same within;
+}
+
 -- ## A shelf that follows
 
 -- what is found in a list in which one thing was put
@@ -203,42 +240,42 @@ get_put [] k x y e = absurd (none-some x e)
 get_put (z ∷ xs) zero x y e = refl
 get_put (z ∷ xs) (suc k) x y e = get_put xs k x y e
 
--- r's shelf was this one, and is that one
-module _ (w : World) (r : ℕ) (at : ReplicaState) (s new : ShelfState) (state : slice_get w.replica_states r ≡ Some at) (found : slice_get w.shelves r ≡ Some s) where
+-- the world with this shelf in the place of r's
+abbrev pub then : World → (r : ℕ) → ShelfState → World
+then w r new = record w { shelves = slice_set w.shelves r new }
+
+module _ {w : World} {r : ℕ} {at : ReplicaState} {s : ShelfState} (is : IsShelf w r at s) where
   view_at_is : view_in w r ≡ Some at.view
-  view_at_is = ap (option_map (λ (z : ReplicaState). z.view)) state
+  view_at_is = ap (option_map (λ (z : ReplicaState). z.view)) is.state
 
   module _ (events : List Event) (stands : StandsFor w events) where
     view_then : at.view ≡ view (trace (group_in w) events) r
     view_then =
         let g = group_in w in let t = trace g events in
-        same_Some at.view (view t r) (sym view_at_is ∙ view_is w events stands r ∙ cond-true (nat_lt r (replicas g)) (Some (view t r)) None (lt-ltb r (replicas g) (is_replica w events stands r s found)))
+        same_Some at.view (view t r) (sym view_at_is ∙ view_is w events stands r ∙ cond-true (nat_lt r (replicas g)) (Some (view t r)) None (lt-ltb r (replicas g) (is_replica w events stands r s is.found)))
 
     within : IsSubset s.view at.view
-    within = subst (IsSubset s.view) (sym view_then) (stands.absorbed r s found)
+    within = subst (IsSubset s.view) (sym view_then) (stands.absorbed r s is.found)
 
-  pub fits_view : HoldsInvariant w → IsCompatible at.view s.view
-  fits_view h = compatible_from h.reached at.view s.view (λ p u v in_view in_shelf e.
+  pub fits_view : IsCompatible at.view s.view
+  fits_view = compatible_from is.invariant.reached at.view s.view (λ p u v in_view in_shelf e.
       let there = within p.0 p.1 v in_shelf in
       same_Some u v (sym in_view ∙ ap (get at.view) e ∙ there))
 
-  abbrev pub then : World
-  then = record w { shelves = slice_set w.shelves r new }
-
-  module _ (objects : new.objects ≡ s.objects) (stays : IsSubset s.view at.view → IsSubset new.view at.view) where
+  module _ {new : ShelfState} (absorbed : HasAbsorbed at s new) where
     kinds_stay : kinds_of (slice_set w.shelves r new) ≡ kinds_of w.shelves
-    kinds_stay = map-set_same (λ (z : ShelfState). z.objects) w.shelves r new s (objects ∙ ap (λ (z : ShelfState). z.objects) (sym (get_or_from_slice_get w.shelves r s s found)))
+    kinds_stay = map-set_same (λ (z : ShelfState). z.objects) w.shelves r new s (absorbed.objects ∙ ap (λ (z : ShelfState). z.objects) (sym (get_or_from_slice_get w.shelves r s s is.found)))
 
     behind : (events : List Event) → StandsFor w events → AreBehind (slice_set w.shelves r new) (trace (group_in w) events)
-    behind events stands q z is u has = elim (get_set w.shelves r q new z is) [
+    behind events stands q z there u has = elim (get_set w.shelves r q new z there) [
       | inl p ↦
           let t = trace (group_in w) events in
-          let new_within : IsSubset new.view (view t r) = subst (IsSubset new.view) (view_then events stands) (stays (within events stands)) in
+          let new_within : IsSubset new.view (view t r) = subst (IsSubset new.view) (view_then events stands) (absorbed.within (within events stands)) in
           subst₂ (λ (y : ShelfState) (k : ℕ). IsSubset y.view (view t k)) p.1 (sym p.0) new_within u has
       | inr old ↦ stands.absorbed q z old u has
     ]
 
-    pub keeps : Keeps w then
+    pub keeps : Keeps w (then w r new)
     keeps = record {
       config = refl;
       kinds = kinds_stay;
@@ -257,17 +294,15 @@ module _ (w : World) (r : ℕ) (at : ReplicaState) (s new : ShelfState) (state :
           };
     }
 
-    pub follows_then : new.view ≡ at.view → IsFollowing then r
-    follows_then same = subst (λ o. IsSomeAnd o (λ (z : ShelfState). view_in then r ≡ Some z.view)) (sym (get_put w.shelves r s new found)) (view_at_is ∙ ap Some (sym same))
+    pub keeps_invariant : HoldsInvariant (then w r new)
+    keeps_invariant = kept_invariant w (then w r new) keeps is.invariant
 
--- ## What a world finds of its shelves
+    pub follows_then : {set : Histories} → new ≡ record s { view = set } → set ≡ at.view → IsFollowing (then w r new) r
+    follows_then whole same =
+        let seen : new.view ≡ at.view = ap (λ (z : ShelfState). z.view) whole ∙ same in
+        subst (λ o. IsSomeAnd o (λ (z : ShelfState). view_in (then w r new) r ≡ Some z.view)) (sym (get_put w.shelves r s new is.found)) (view_at_is ∙ ap Some (sym seen))
 
-pub replica_known : (w : World) → HoldsInvariant w → (r : ℕ) → r < length w.shelves → r < length w.replica_states
-replica_known w h r lt = ∥∥₁_elim h.reached (hlevel (ℕ_set, le_prop)) (λ p.
-    let same = replicas_are w p.0 p.1 in
-    let a = p.1.shelves in
-    let b = p.1.config.replicas in
-    omega arith)
+-- ## A shelf that has absorbed nothing
 
 -- a set that has no update is empty
 pub empty_has_none : length (updates empty) ≡ 0
@@ -286,12 +321,6 @@ unused_more shelves i s so_far lt at unused k d le more = elim (cases_lt k i) [
       let same : get_or shelves i d ≡ s = get_or_from_slice_get shelves i s d (found_at shelves i s lt at) in
       subst (λ j. (get_or shelves j d).view ≡ empty) here (ap (λ (z : ShelfState). z.view) same ∙ unused)
 ]
-
--- whatever comes of an absorption, the objects stay
-pub same_objects : (result : Result ℕ AbsorbError) (s : ShelfState) (set : Histories) (new : ShelfState) → OnOk result (new ≡ record s { view = set }) → IfErr result (IsAbsorbRefusal s set new) → new.objects ≡ s.objects
-same_objects (Ok n) s set new ok err = ap (λ (z : ShelfState). z.objects) ok
-same_objects (Err Smaller) s set new ok err = ap (λ (z : ShelfState). z.objects) err.1
-same_objects (Err (Memory done)) s set new ok err = ap (λ (z : ShelfState). z.objects) err.1.1
 
 -- ## An answer, by what the code has put together
 

@@ -1,0 +1,92 @@
+// Questions to the objects on a replica's shelf, which absorbs the replica's view first.
+ghost use Rattle.std.specs.Prelude.{◌≡◌, ◌+◌, ◌<◌, ◌^◌, length, Some, IfOk, IfErr, OnOk, OnErr};
+ghost use Rattle.la_world.specs.Events.{Past, Ask};
+ghost use Rattle.la_world.specs.Printable.{IsPrintable};
+ghost use Rattle.la_world.specs.StandsFor.{StandsFor, group_in, trace_in};
+ghost use Rattle.la_world.specs.Calls.{Keeps, may_absorb, IsSameUnless, tags_of, IsTagsRefusal};
+ghost use Rattle.la_world.specs.Calls.{HasObject, IsObjectRefusal, IsFollowing, Plays, Refuses};
+
+use super::World;
+use crate::{Step, WorldError};
+use la_object::{Query, Replicated, ShelfError};
+use la_set::Tags;
+use std::alloc::AllocError;
+
+impl<B: Replicated> World<B> {
+    pub(super) fn ask(
+        &mut self,
+        replica: u8,
+        object: u16,
+        query: &Query,
+    ) -> Result<Step, WorldError>
+        requires { self.old.count + 1 < 2 ^ 64 }
+        ensures step { (events : Past) → StandsFor self.old events → IfOk result (λ step.
+            Plays self.old events (Ask replica object query.now) step self.new) }
+        ensures printable { IfOk result IsPrintable }
+        ensures error { (events : Past) → StandsFor self.old events →
+            IfErr result (Refuses self.old events (Ask replica object query.now)) }
+        ensures keeps { OnErr result (Keeps self.old self.new) }
+        ensures err { IfErr result (λ e.
+            IsSameUnless (may_absorb (Ask replica object query.now) e) self.old self.new) }
+    {
+        self.admit_question(replica, object)?;
+        self.follow_view(replica)?;
+        let Ok(answer) = self.shelves[replica as usize].ask(object, query) else {
+            return Err(WorldError::Memory);
+        };
+        Ok(self.journal.note_answer(answer))
+    }
+
+    /// The live tags of an element of an object on a replica's shelf, by the replica's view, which
+    /// the shelf absorbs first: what a `Remove` of it submitted there is to name. It is no event.
+    ///
+    /// `NoSuchReplica` comes where the group has no such replica, else `NoSuchObject` where no object
+    /// stands under the number on its shelf, else `TooManyTags` where the tags are more than a
+    /// `Remove` may name, or `Memory`. The world stands for the same events as before, whatever is
+    /// answered. The cost is that of a question.
+    pub fn observed(&mut self, replica: u8, object: u16, element: u64) -> Result<Tags, WorldError>
+        ensures tags { (events : Past) → StandsFor self.old events → IfOk result (λ tags.
+            tags_of (group_in self.old) (trace_in self.old events) replica object element
+            ≡ Some tags) }
+        ensures error { (events : Past) → StandsFor self.old events → IfErr result
+            (IsTagsRefusal (group_in self.old) (trace_in self.old events) replica object element) }
+        ensures keeps { Keeps self.old self.new }
+    {
+        self.admit_question(replica, object)?;
+        self.follow_view(replica)?;
+        match self.shelves[replica as usize].observed(object, element) {
+            Ok(tags) => Ok(tags),
+            Err(ShelfError::TooManyTags) => Err(WorldError::TooManyTags),
+            Err(_) => Err(WorldError::Memory),
+        }
+    }
+
+    // Whether a replica's shelf may be asked for an object: by the first refusal that fits.
+    fn admit_question(&self, replica: u8, object: u16) -> Result<(), WorldError>
+        ensures ok { OnOk result (HasObject self.now.shelves replica object) }
+        ensures error { IfErr result (IsObjectRefusal self.now.shelves replica object) }
+    {
+        let Some(shelf) = self.shelves.get(replica as usize) else {
+            return Err(WorldError::NoSuchReplica);
+        };
+        if !shelf.has(object) {
+            return Err(WorldError::NoSuchObject);
+        }
+        Ok(())
+    }
+
+    // Lets a replica's shelf absorb its view.
+    fn follow_view(&mut self, replica: u8) -> Result<(), AllocError>
+        requires { replica < length self.old.shelves }
+        ensures ok { OnOk result (IsFollowing self.new replica) }
+        ensures rest { self.new ≡ record self.old { shelves = self.new.shelves } }
+        ensures keeps { Keeps self.old self.new }
+    {
+        let view = self.replicas[replica as usize].view();
+        // The view has all that the shelf has absorbed, so that only memory is left.
+        match self.shelves[replica as usize].absorb_compatible(view) {
+            Ok(_) => Ok(()),
+            Err(_) => Err(AllocError),
+        }
+    }
+}
