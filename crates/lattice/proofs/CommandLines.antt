@@ -21,11 +21,15 @@ use Rattle.clap.specs.Simple.{App, Shape, built, filled, new_shape}
 use Rattle.std.proofs.Common.{length, arith}
 use Rattle.std.specs.Option.{option_map_or}
 use Rattle.clap.specs.Walk.{answers_to, finished, stop_after, walk_from}
-use Rattle.clap.specs.Simple.{argument_words, entered, label_of, names_of, rows_at}
+use Rattle.clap.specs.Simple.{argument_words, new_app, entered, label_of, names_of, rows_at}
 use Rattle.clap.specs.Faults.{check_fault, defaults_fault, entered_fault, level_fault, settle_fault, walk_fault}
 use Rattle.clap.specs.Words.{fault_of}
 use Rattle.lattice.proofs.Faultless.{AllOne, defaults_there, first_none, level_reads, next_none, some_kinds}
-use Rattle.lattice.specs.Calls.{IsGiven, IsDraw, AreTaken, IsNamed, IsTaken, Names, lattice, option}
+use Rattle.clap.specs.Words.{HasKind, kind_of}
+use Rattle.clap.specs.declared.error.Error.{Error}
+use Rattle.clap.specs.declared.error.kind.ErrorKind.TheVariants.{OutOfMemory}
+use Rattle.std.specs.Str.Parse.{digits_value, without_leading_plus}
+use Rattle.lattice.specs.Calls.{AreGiven, Calls, IsGiven, IsDraw, AreTaken, IsNamed, IsTaken, Names, lattice, option}
 use Rattle.lattice.specs.declared.call.Task.{Task}
 use Rattle.lattice.specs.declared.call.Task.TheVariants.{Play, Random}
 
@@ -75,6 +79,17 @@ taken_is_given k {E} G f name least most r n taken fits is none value parses =
     let read = number_read k {E = E} G f name least most r taken fits value parses in
     let same : read.0 ≡ n = some_is _ _ (sym read.1 ∙ is) in
     (read_is_given k {E = E} G f name r n is none value parses, subst (λ m. least ≤ m) same read.2, subst (λ m. m ≤ most) same read.3)
+
+-- the program's command before it has subcommands
+abbrev pub lattice_alone : App
+lattice_alone = record {
+  top = record (new_app (codes "lattice")).top {
+    has_version = true;
+    subcommand_required = true;
+    disable_help_subcommand = true;
+  };
+  subs = [];
+}
 
 pub lattice_is_simple : is_simple lattice ≡ true
 unfolding clap_on_literals
@@ -188,12 +203,44 @@ faultless_names words e =
     wanted rows true f = refl
     wanted rows false f = absurd (some_kinds _ _ f)
 
+-- ---- the words call for one task
+
+given_once : (rows : List Row) (name : Text) (n m : ℕ) → IsGiven rows name n → IsGiven rows name m → n ≡ m
+given_once rows name n m g h = g.value ∙ ap (λ t. digits_value 10 (without_leading_plus t)) (some_is _ _ (sym g.given ∙ h.given)) ∙ sym h.value
+
+play_is_no_draw : (words : List Text) (a b : List Row) → Names words (codes "play") a → Names words (codes "random") b → ⊥
+play_is_no_draw words a b plays draws =
+    let names : codes "play" ≡ codes "random" = ap (λ o. unwrap_or (option_map (λ p. p.0) o) []) (sym plays ∙ draws) in
+    let lengths : length (codes "play") ≡ length (codes "random") = ap length names in
+    absurd (omega arith)
+
+same_rows : (words : List Text) (name : Text) (a b : List Row) → Names words name a → Names words name b → a ≡ b
+same_rows words name a b x y = ap (λ o. unwrap_or (option_map (λ p. p.1) o) []) (sym x ∙ y)
+
 -- what a faultless draw was given has each of its numbers
 pub draw_is_taken : (words : List Text) (rows : List Row) → fault_of lattice words ≡ [] → Names words (codes "random") rows → AreTaken rows
 draw_is_taken words rows faultless named = elim (faultless_names words faultless) [
-  | inl plays ↦
-      let names : codes "play" ≡ codes "random" = ap (λ o. unwrap_or (option_map (λ p. p.0) o) []) (sym plays.1 ∙ named) in
-      let lengths : length (codes "play") ≡ length (codes "random") = ap length names in
-      absurd (omega arith)
-  | inr draws ↦ subst AreTaken (ap (λ o. unwrap_or (option_map (λ p. p.1) o) []) (sym draws.1 ∙ named)) draws.2
+  | inl plays ↦ absurd (play_is_no_draw words plays.0 rows plays.1 named)
+  | inr draws ↦ subst AreTaken (same_rows words (codes "random") draws.0 rows draws.1 named) draws.2
 ]
+
+same_draw : (rows : List Row) (s r e t q f : ℕ) → AreGiven rows s r e → AreGiven rows t q f → Random s r e ≡ Random t q f
+same_draw rows s r e t q f x y =
+    let seed = given_once rows (codes "seed") s t x.seed_given y.seed_given in
+    let replicas = given_once rows (codes "replicas") r q x.replicas_given y.replicas_given in
+    let events = given_once rows (codes "events") e f x.events_given y.events_given in
+    λ i. Random (seed i) (replicas i) (events i)
+
+-- two tasks that the same words call for are one
+pub one_task : (words : List Text) (a b : Task) → Calls words a → Calls words b → a ≡ b
+one_task words Play Play x y = refl
+one_task words Play (Random t q f) x y = absurd (play_is_no_draw words _ _ x.named.1 y.named.1)
+one_task words (Random s r e) Play x y = absurd (play_is_no_draw words _ _ y.named.1 x.named.1)
+one_task words (Random s r e) (Random t q f) x y =
+    same_draw y.named.0 s r e t q f (subst (λ rows. AreGiven rows s r e) (same_rows words (codes "random") x.named.0 y.named.0 x.named.1 y.named.1) x.named.2) y.named.2
+
+-- where nothing is wrong with the words, an error is want of memory
+pub faultless_errors : (words : List Text) (task : Task) (error : Error) → Calls words task → HasKind (fault_of lattice words) error → kind_of error ≡ OutOfMemory
+faultless_errors words task error calls has =
+    let is : HasKind [] error = subst (λ kinds. HasKind kinds error) calls.faultless has in
+    elim is [ inl memory ↦ memory | inr none ↦ absurd none ]

@@ -41,3 +41,6 @@ returns-in-Some-2-clause-ok c =
       faultless = sym (ap (λ (a : App). fault_of a words) is) ∙ faultless;
       named = draw_is_named words _ c.drawn.result named (search rules);
     }
+
+pub unreachable-requires : goal.unreachable-requires
+unreachable-requires c = search rules
