@@ -1,7 +1,7 @@
 -- What the words of a command line call for, the program's name first, by what `clap` makes of them.
 use Rattle.std.specs.Prelude.{◌≡◌, ◌⊎◌, ℕ, ◌≤◌, List, [], ◌∷◌, codes, pos, Some, true}
 use Rattle.std.specs.Str.Parse.{IsNumeral, without_leading_plus, digits_value}
-use Rattle.clap.specs.Words.{App, Row, Rule, Text, new_app, new_rule, with_rule, with_subcommand, one_of, subcommand_of, fault_of, IsAmong}
+use Rattle.clap.specs.Words.{App, Row, Rule, Text, new_app, new_rule, with_rule, with_subcommand, one_of, subcommand_of, fault_of, IsAmong, IsSignedIn, without_minus}
 use Rattle.clap.specs.declared.builder.value_parser.ValueParser.TheVariants.{Signed}
 use Rattle.clap.specs.declared.error.kind.ErrorKind.{ErrorKind}
 use Rattle.clap.specs.declared.error.kind.ErrorKind.TheVariants.{DisplayHelp, DisplayVersion}
@@ -52,6 +52,18 @@ pub record IsGiven (rows : List Row) (name : Text) (n : ℕ) : Type 0 where
   pub given : one_of name rows ≡ Some text
   pub numeral : IsNumeral 10 (without_leading_plus text)
   pub value : n ≡ digits_value 10 (without_leading_plus text)
+
+-- a text stands for this number of a draw, and its number is from `least` to `most`
+pub record IsTaken (rows : List Row) (name : Text) (least most : ℕ) : Type 0 where
+  pub text : Text
+  pub given : one_of name rows ≡ Some (without_minus text)
+  pub passed : IsSignedIn (pos least) (pos most) text
+
+-- a text in its range stands for each number of a draw
+pub record AreTaken (rows : List Row) : Type 0 where
+  pub seed : IsTaken rows (codes "seed") 0 4294967295
+  pub replicas : IsTaken rows (codes "replicas") 1 8
+  pub events : IsTaken rows (codes "events") 1 10000
 
 -- the numbers of a draw are in their ranges
 pub record AreInRange (replicas events : ℕ) : Type 0 where

@@ -3,7 +3,7 @@ ghost use Rattle.std.specs.Prelude.{◌≡◌, ◌≤◌, codes, false, map, str
 ghost use Rattle.clap.specs.Words.{app_of, found_of, rows_of, rule_of, HasKind, fault_of};
 ghost use Rattle.clap.specs.declared.builder.command.Command.TheViews.{out-Command as fields_of};
 ghost use Rattle.clap.specs.declared.builder.value_parser.ValueParser.TheVariants.{Signed};
-ghost use Rattle.lattice.specs.Calls.{option, play, random, lattice, Calls, IsDraw, IsInRange};
+ghost use Rattle.lattice.specs.Calls.{option, play, random, lattice, Calls, IsDraw, IsInRange, AreTaken};
 
 use clap::builder::ValueParser;
 use clap::{Arg, ArgMatches, Command, Error, value_parser};
@@ -90,21 +90,16 @@ fn program<'a>(alloc: Global) -> Result<Command<'a>, AllocError>
         .subcommand(random)
 }
 
-// The numbers of a draw, where they are in their ranges.
-fn drawn(given: &ArgMatches<'_>) -> Option<Task>
-    ensures { IfSome result (IsDraw (rows_of (found_of given.now))) }
+// The numbers of a draw, each of which is there and in its range.
+fn drawn(given: &ArgMatches<'_>) -> Task
+    requires { AreTaken (rows_of (found_of given.now)) }
+    ensures { IsDraw (rows_of (found_of given.now)) result }
 {
-    let seed = given.get_one::<u32>("seed")?;
-    let replicas = given.get_one::<u8>("replicas")?;
-    let events = given.get_one::<u32>("events")?;
-    if !(replicas >= 1 && replicas <= 8 && events >= 1 && events <= 10_000) {
-        return None;
+    Task::Random {
+        seed: given.get_one::<u32>("seed").unwrap(),
+        replicas: given.get_one::<u8>("replicas").unwrap(),
+        events: given.get_one::<u32>("events").unwrap(),
     }
-    Some(Task::Random {
-        seed,
-        replicas,
-        events,
-    })
 }
 
 /// What the words of a command line call for, the program's name first.
@@ -116,10 +111,8 @@ pub fn command(alloc: Global, words: &[String]) -> Result<Task, Error>
     let matches = program(alloc)?.try_get_matches_from(words)?;
     match matches.subcommand() {
         Some((name, _)) if name == "play" => Ok(Task::Play),
-        Some((name, given)) if name == "random" => match drawn(given) {
-            Some(task) => Ok(task),
-            None => Err(Error::from(AllocError)),
-        },
-        _ => Err(Error::from(AllocError)),
+        Some((name, given)) if name == "random" => Ok(drawn(given)),
+        // A subcommand is required, and there are these two.
+        _ => unreachable!(),
     }
 }

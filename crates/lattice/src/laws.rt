@@ -1,9 +1,18 @@
-//! What holds of the numbers that the program is made with.
-ghost use Rattle.std.specs.Prelude.{◌≡◌};
+//! What holds of the numbers that the program is made with, and of the words that it is called by.
+ghost use Rattle.std.specs.Prelude.{◌≡◌, List};
+ghost use Rattle.clap.specs.Words.{Text};
+ghost use Rattle.lattice.specs.Calls.{Calls};
+ghost use Rattle.lattice.specs.declared.call.Task.{Task};
 
 use crate::LIMIT;
 
 /// An input may have 16,777,216 bytes.
 pub fn the_limit_is_a_number()
     ensures { LIMIT ≡ 16777216 }
+{}
+
+/// The words of a command line call for one task at most.
+#[tactic(auto, using(crate::proofs::CommandLines::one_task))]
+pub fn words_call_for_one_task()
+    ensures { (words : List Text) (a b : Task) → Calls words a → Calls words b → a ≡ b }
 {}

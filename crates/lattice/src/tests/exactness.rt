@@ -1,9 +1,12 @@
 // Callers that know the contracts alone, and by them that two calls come to the same.
 ghost use Rattle.std.specs.Prelude.{◌≡◌, ◌<◌, ◌^◌, length, IfSome};
+ghost use Rattle.clap.specs.Words.{kind_of};
+ghost use Rattle.clap.specs.declared.error.kind.ErrorKind.TheVariants.{OutOfMemory};
 ghost use Rattle.la_script.specs.Pieces.{joined};
 ghost use Rattle.lattice.specs.Play.{FitAnyGroup};
 
-use crate::{PlayFault, answer_to, status_of};
+use crate::{PlayFault, Task, answer_to, command, status_of};
+use clap::Error;
 use la_object::{Replicated, Shelf};
 use la_script::Pieces;
 use std::alloc::Global;
@@ -31,4 +34,23 @@ pub fn answer_to_is_exact<B: Replicated>(
     let first = answer_to(alloc, input, shelves).ok()?;
     let second = answer_to(alloc, input, others).ok()?;
     Some((first, second))
+}
+
+// Both tasks, where both calls find one.
+#[tactic(auto, using(crate::proofs::CommandLines::one_task))]
+pub fn command_is_exact(alloc: Global, words: &[String]) -> Option<(Task, Task)>
+    ensures { IfSome result (λ tasks. tasks.0 ≡ tasks.1) }
+{
+    let first = command(alloc, words).ok()?;
+    let second = command(alloc, words).ok()?;
+    Some((first, second))
+}
+
+// The error of a call where another call finds a task: it is want of memory.
+#[tactic(auto, using(crate::proofs::CommandLines::faultless_errors))]
+pub fn command_fails_by_memory(alloc: Global, words: &[String]) -> Option<Error>
+    ensures { IfSome result (λ error. kind_of error ≡ OutOfMemory) }
+{
+    let _task = command(alloc, words).ok()?;
+    command(alloc, words).err()
 }
