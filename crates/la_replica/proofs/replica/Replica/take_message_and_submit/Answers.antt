@@ -1,9 +1,40 @@
-use Rattle.std.proofs.Common.{◌≡◌, Some, Result, Ok, Err, OnErr, slice_set, refl, sym, ap, ◌∙◌}
-use Rattle.la_proposer.specs.ProposerState.{op_on}
+use Rattle.std.proofs.Common.{◌≡◌, ◌<◌, length, Some, Result, Ok, Err, OnErr, slice_set, refl, sym, subst, ap, ◌∙◌}
+use Rattle.std.proofs.lemmas.List.{length-set}
+use Rattle.la_proposer.specs.ProposerState.{op_on, submitted}
 use Rattle.la_replica.specs.Whole.{whole_of, whole_out, whole_both}
 use Rattle.la_replica.specs.ReplicaState.{ReplicaState, with_instance}
+use Rattle.la_replica.specs.Invariant.{IsOf}
+use Rattle.la_replica.specs.Refusals.{FitsMessage}
+use Rattle.la_replica.proofs.Calls.{at_within}
 use Rattle.la_replica.proofs.Beside.{both_are}
 use Rattle.la_replica.proofs.replica.Replica.take_message_and_submit.Goals as goal
+
+pub received_apart-requires : goal.received_apart-requires
+received_apart-requires c = c.requires.fits
+
+pub submitted_apart-requires-clause-room : goal.submitted_apart-requires-clause-room
+submitted_apart-requires-clause-room c = c.requires.room
+
+pub submitted_apart-requires-clause-spares : goal.submitted_apart-requires-clause-spares
+submitted_apart-requires-clause-spares c = c.requires.spares
+
+pub put-requires-clause-there : goal.put-requires-clause-there
+put-requires-clause-there c =
+    at_within (λ x. FitsMessage x (whole_of c.args.message.now)) c.args.self.now.instances c.args.message.now.instance c.requires.fits.receivable.1
+
+pub put-requires-clause-alike : goal.put-requires-clause-alike
+put-requires-clause-alike c = c.in_ok-at.ensures.alike
+
+pub put-requires-2-clause-there : goal.put-requires-2-clause-there
+put-requires-2-clause-there c =
+    let m = c.args.self.now in let i = c.args.instance in
+    subst (λ (q : ReplicaState). i < length q.instances) (sym c.put.ensures)
+    (subst (λ n. i < n) (sym (length-set m.instances c.args.message.now.instance c.in_ok-at.at))
+    (at_within (λ x. submitted x.proposer < x.proposer.cap) m.instances i c.requires.room))
+
+pub put-requires-2-clause-alike : goal.put-requires-2-clause-alike
+put-requires-2-clause-alike c =
+    subst (λ (q : ReplicaState). IsOf q.votes q.own c.in_ok-other.other) (sym c.put.ensures) c.in_ok-other.ensures.alike
 
 pub returns-clause-step : goal.returns-clause-step
 returns-clause-step c =
