@@ -1,13 +1,14 @@
 -- Objects that can stand on one shelf, as they are added one after another.
-use Rattle.std.proofs.Common.{◌≡◌, ℕ, ◌||◌, ◌⊎◌, inl, inr, nat_eq, Bool, true, false, cond, List, [], ◌∷◌, ◌++◌, length, map, Option, Some, None, refl, ap, sym, ◌∙◌, subst, All}
+use Rattle.std.proofs.Common.{◌≡◌, ℕ, ◌||◌, ◌⊎◌, inl, inr, nat_eq, Bool, true, false, cond, List, [], ◌∷◌, ◌++◌, length, map, Option, Some, None, refl, ap, sym, ◌∙◌, subst, All, true≢false}
 use Rattle.std.specs.Global.{Vec}
 use Rattle.std.specs.Cmp.{nat_eq_equiv}
-use Rattle.std.specs.List.{IsDistinct, list_any}
+use Rattle.std.specs.List.{IsDistinct, AllByRecursion, list_any}
+use Rattle.std.specs.Option.{IsSome}
 use Rattle.std.specs.Map.{lookup}
 use Rattle.std.proofs.lemmas.Option.{none-some}
 use Rattle.std.proofs.lemmas.Map.Keys.{IsDistinct-push}
 use Rattle.std.proofs.lemmas.List.{nil_from_length, append-nil, append_assoc, map-append}
-use Rattle.std.proofs.lemmas.List.Elements.{All-nil, All-push}
+use Rattle.std.proofs.lemmas.List.Elements.{All-nil, All-head, All-tail, All-push, All-from_recursion}
 use Rattle.la_set.specs.Histories.{empty}
 use Rattle.la_object.specs.declared.error.ShelfError.{ShelfError}
 use Rattle.la_object.specs.declared.error.ShelfError.TheVariants.{Taken, NotFresh, NoSuchObject, TooManyTags, Memory}
@@ -16,7 +17,7 @@ use Rattle.la_object.specs.Objects.{kind_of, IsFresh}
 use Rattle.la_object.specs.Shelves.{ShelfState, kinds, kind_at}
 use Rattle.la_object.specs.Refusals.{IsAddRefusal}
 use Rattle.la_object.proofs.Rows.{rows-push, kinds-push}
-use Rattle.lattice.specs.Shelves.{states_of, all_states_of, shelf_of, CanStand, IsUnfit, HasUnfit, IsFillRefusal}
+use Rattle.lattice.specs.Shelves.{states_of, all_states_of, shelf_of, CanStand, IsUnfit, HasUnfit, IsFillRefusal, standard_objects}
 
 -- no number is this one, where none of the objects stands under it
 none_is : (number : ℕ) (os : List (ℕ × State)) → kind_at (kinds os) number ≡ None → list_any (nat_eq number) (map (λ o. o.0) os) ≡ false
@@ -129,3 +130,54 @@ is_fill_refusal all NotFresh (inr unfit) = unfit
 is_fill_refusal all Memory (inr unfit) = tt
 is_fill_refusal all NoSuchObject (inr unfit) = unfit.unfit.refused
 is_fill_refusal all TooManyTags (inr unfit) = unfit.unfit.refused
+
+-- ## Objects that can all stand
+
+-- what holds of each holds of one in the middle
+middle : {X : Type 0} (P : X → Type 0) (xs : List X) (y : X) (ys : List X) → All P (xs ++ y ∷ ys) → P y
+middle P [] y ys h = All-head P y ys h
+middle P (x ∷ xs) y ys h = middle P xs y ys (All-tail P x (xs ++ y ∷ ys) h)
+
+-- the number of one in the middle is free before it
+free_before : (before : List (ℕ × State)) (o : ℕ × State) (behind : List (ℕ × State)) → IsDistinct nat_eq (map (λ o. o.0) (before ++ o ∷ behind)) → kind_at (kinds before) o.0 ≡ None
+unfolding IsDistinct
+free_before [] o behind apart = refl
+free_before (p ∷ before) o behind apart =
+    ap (λ b. cond b (Some (kind_of p.1)) (kind_at (kinds before) o.0)) (nat_eq_equiv.symm o.0 p.0 ∙ other before (apart.0)) ∙ free_before before o behind apart.1
+  where
+    other : (os : List (ℕ × State)) → AllByRecursion (λ n. nat_eq p.0 n ≡ false) (map (λ o. o.0) (os ++ o ∷ behind)) → nat_eq p.0 o.0 ≡ false
+    other [] h = h.0
+    other (q ∷ os) h = other os h.1
+
+-- none of them is refused for what it is
+none_unfit : (objects : List (ℕ × State)) (e : ShelfError) → CanStand objects → IsUnfit objects e → e ≡ Memory
+none_unfit objects e can unfit = by e free fresh unfit.refused
+  where
+    same : CanStand (unfit.before ++ unfit.object ∷ unfit.behind)
+    same = subst CanStand unfit.parts can
+    free : kind_at (kinds unfit.before) unfit.object.0 ≡ None
+    free = free_before unfit.before unfit.object unfit.behind same.apart
+    fresh : IsFresh unfit.object.1
+    fresh = middle (λ o. IsFresh o.1) unfit.before unfit.object unfit.behind same.fresh
+    by : (e : ShelfError) → kind_at (kinds unfit.before) unfit.object.0 ≡ None → IsFresh unfit.object.1 → IsAddRefusal (kind_at (kinds unfit.before) unfit.object.0) unfit.object.1 e → e ≡ Memory
+    by Taken none new r = absurd (true≢false (sym (subst IsSome none r)))
+    by NotFresh none new r = absurd (r.1 new)
+    by Memory none new r = refl
+    by NoSuchObject none new r = absurd r
+    by TooManyTags none new r = absurd r
+
+-- so memory alone may be refused
+pub only_memory : (all : List (List (ℕ × State))) (e : ShelfError) → All CanStand all → IsFillRefusal all e → e ≡ Memory
+only_memory all Memory can r = refl
+only_memory all Taken can r = none_unfit r.objects Taken (middle CanStand r.before r.objects r.behind (subst (All CanStand) r.parts can)) r.unfit
+only_memory all NotFresh can r = none_unfit r.objects NotFresh (middle CanStand r.before r.objects r.behind (subst (All CanStand) r.parts can)) r.unfit
+only_memory all NoSuchObject can r = absurd r
+only_memory all TooManyTags can r = absurd r
+
+-- the program's objects can
+pub standard_stand : CanStand standard_objects
+unfolding IsDistinct
+standard_stand = record {
+  apart = ((refl, (refl, tt)), ((refl, tt), (tt, tt)));
+  fresh = All-from_recursion (λ o. IsFresh o.1) standard_objects (refl, (refl, (refl, tt)));
+}
