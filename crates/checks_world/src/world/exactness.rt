@@ -2,7 +2,7 @@
 // What a shelf has absorbed changes no answer: so two worlds of one group that stand for the same
 // events need not be equal, and are alike afterwards.
 ghost use Rattle.std.specs.Prelude.{◌≡◌, ◌≢◌, ◌+◌, ◌<◌, ◌^◌};
-ghost use Rattle.std.specs.Prelude.{IfOk, IfErr, OnOk, option_copied};
+ghost use Rattle.std.specs.Prelude.{◌↔◌, IsTrue, IfOk, IfErr, OnOk, option_copied};
 ghost use Rattle.la_world.specs.declared.error.WorldError.TheVariants.{Memory as MemoryIs};
 ghost use Rattle.la_world.specs.Events.{Past};
 ghost use Rattle.la_world.specs.StandsFor.{StandsFor};
@@ -13,7 +13,9 @@ use la_commit::Outcome;
 use la_object::{Replicated, Shelf};
 use la_replica::Message;
 use la_set::{Tags, UpdateSet};
-use la_world::{Config, Event, Learnt, Report, Step, Steps, World, WorldError, empty_shelves, run};
+use la_world::{
+    Config, Event, Learnt, Report, Step, Steps, World, WorldError, are_unused, empty_shelves, run,
+};
 use std::alloc::{AllocError, Global};
 
 // ## A world
@@ -28,6 +30,12 @@ fn empty_shelves_are_one<B: Replicated>(
         empty_shelves(alloc, replicas)?,
         empty_shelves(alloc, replicas)?,
     ))
+}
+
+fn are_unused_is_exact<B: Replicated>(shelves: &[Shelf<B>]) -> (bool, bool)
+    ensures { IsTrue result.0 ↔ IsTrue result.1 }
+{
+    (are_unused(shelves), are_unused(shelves))
 }
 
 fn new_worlds_are_one<B: Replicated>(

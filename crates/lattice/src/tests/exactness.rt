@@ -1,11 +1,11 @@
 // Callers that know the contracts alone, and by them that two calls come to the same.
-ghost use Rattle.std.specs.Prelude.{◌≡◌, ◌<◌, ◌^◌, length, IfSome};
+ghost use Rattle.std.specs.Prelude.{◌≡◌, ◌<◌, ◌^◌, ◌↔◌, IsTrue, length, IfSome};
 ghost use Rattle.clap.specs.Words.{kind_of};
 ghost use Rattle.clap.specs.declared.error.kind.ErrorKind.TheVariants.{OutOfMemory};
 ghost use Rattle.la_script.specs.Pieces.{joined};
 ghost use Rattle.lattice.specs.Play.{FitAnyGroup};
 
-use crate::{PlayFault, Task, answer_to, command, status_of};
+use crate::{PlayFault, Task, answer_to, command, fit_any_group, status_of};
 use clap::Error;
 use la_object::{Replicated, Shelf};
 use la_script::Pieces;
@@ -15,6 +15,12 @@ pub fn status_of_is_exact(fault: PlayFault) -> (u8, u8)
     ensures { result.0 ≡ result.1 }
 {
     (status_of(fault), status_of(fault))
+}
+
+pub fn fit_any_group_is_exact<B: Replicated>(shelves: &[Shelf<B>]) -> (bool, bool)
+    ensures { IsTrue result.0 ↔ IsTrue result.1 }
+{
+    (fit_any_group(shelves), fit_any_group(shelves))
 }
 
 // Both answers, where memory was not refused and the bytes are a script: with shelves of the same
