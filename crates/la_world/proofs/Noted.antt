@@ -1,6 +1,6 @@
 -- What a call has put together where its replica's step was taken: the world of the replica
 -- afterwards, and of a journal in which the step was noted, or nothing was.
-use Rattle.std.proofs.Common.{◌≡◌, ℕ, ◌+◌, ◌<◌, ◌≤◌, ◌^◌, List, ◌++◌, length, slice_get, slice_set, Option, Some, ap, ap₂, sym, ◌∙◌, subst, subst₂}
+use Rattle.std.proofs.Common.{◌≡◌, ℕ, ◌+◌, ◌<◌, ◌≤◌, ◌^◌, List, ◌++◌, length, slice_get, slice_set, Option, Some, None, ap, ap₂, sym, ◌∙◌, subst, subst₂}
 use Rattle.std.specs.Prelude.{option_and_then}
 use Rattle.la_set.specs.Histories.{Histories}
 use Rattle.la_commit.specs.declared.outcome.Outcome.{Outcome}
@@ -18,11 +18,11 @@ use Rattle.la_world.specs.Printable.{named_by, IsPrintable}
 use Rattle.la_world.specs.Shown.{shown_by, learnings_by, step_by}
 use Rattle.la_world.specs.StandsFor.{World, world_of}
 use Rattle.la_world.specs.Calls.{HoldsInvariant, Plays}
-use Rattle.la_world.proofs.WorldSteps.{receiver_speaks}
-use Rattle.la_world.proofs.Worlds.{set_same, world_with, step_with}
+use Rattle.la_world.proofs.WorldSteps.{receiver_speaks, submitter_speaks}
+use Rattle.la_world.proofs.Worlds.{set_same, world_with, step_with, IsDelivery}
 
 -- the speaker of a delivery
-pub speaker_is : (w : World) (m : code.Message) (copy : Option Histories) {returns : Option Outcome} {vote : Option Vote} {opens : ℕ}
+speaker_is : (w : World) (m : code.Message) (copy : Option Histories) {returns : Option Outcome} {vote : Option Vote} {opens : ℕ}
     → returns ≡ option_and_then (outcome_in m.instance m.to) copy → vote ≡ option_and_then (vote_in m.instance m.to) copy → opens ≡ instance_after m.instance vote
     → ◌≡◌ {A = Speaker} (record { replicas = w.config.replicas; replica = m.to; instance = m.instance; ballot = m.ballot; outcome = returns; opens_in = opens }) (receiver_speaks w m copy)
 speaker_is w m copy a b d =
@@ -49,6 +49,26 @@ pub record IsNoted (w : World) (s : Speaker) (out : code_out.Out) (copy : Option
   pub learnt_after : after.learnt.items ≡ room.learnt.items ++ learnings_by s room.count copy
   pub count_after : after.count ≡ room.count + 1
   pub numbers : length room.messages.items + length out.mail < 2 ^ 64
+
+-- of a submission
+pub submission_noted : {w : World} (i r : ℕ) (room after : Journal) (out : code_out.Out) {made : Step} → HoldsInvariant w → room.messages.items ≡ w.messages → room.learnt.items ≡ w.learnt → room.count ≡ w.count
+    → made ≡ step_by (submitter_speaks w i r) room out → after.messages.items ≡ room.messages.items ++ out.mail → after.learnt.items ≡ room.learnt.items ++ learnings_by (submitter_speaks w i r) room.count None → after.count ≡ room.count + 1
+    → length room.messages.items + length out.mail < 2 ^ 64 → IsNoted w (submitter_speaks w i r) out None room after made
+submission_noted i r room after out invariant messages learnt count step messages_after learnt_after count_after numbers =
+    record { messages = messages; learnt = learnt; count = count; step = step; messages_after = messages_after; learnt_after = learnt_after; count_after = count_after; numbers = numbers }
+
+-- of a delivery, where it was computed what the receiver returns and votes by what it learns
+module _ {w : World} {k : ℕ} {m : code.Message} {at : ReplicaState} (d : IsDelivery w k m at) (copy : Option Histories) {returns : Option Outcome} {vote : Option Vote} {opens : ℕ}
+    (a : returns ≡ option_and_then (outcome_in m.instance m.to) copy) (b : vote ≡ option_and_then (vote_in m.instance m.to) copy) (o : opens ≡ instance_after m.instance vote) where
+  abbrev speaks : Speaker
+  speaks = record { replicas = w.config.replicas; replica = m.to; instance = m.instance; ballot = m.ballot; outcome = returns; opens_in = opens }
+
+  pub delivery_noted : (room after : Journal) (out : code_out.Out) {made : Step} → room.messages.items ≡ w.messages → room.learnt.items ≡ w.learnt → room.count ≡ w.count
+      → made ≡ step_by speaks room out → after.messages.items ≡ room.messages.items ++ out.mail → after.learnt.items ≡ room.learnt.items ++ learnings_by speaks room.count copy → after.count ≡ room.count + 1
+      → length room.messages.items + length out.mail < 2 ^ 64 → IsNoted w (receiver_speaks w m copy) out copy room after made
+  delivery_noted room after out {made = made} messages learnt count step messages_after learnt_after count_after numbers =
+      subst (λ s. IsNoted w s out copy room after made) (speaker_is w m copy a b o)
+      record { messages = messages; learnt = learnt; count = count; step = step; messages_after = messages_after; learnt_after = learnt_after; count_after = count_after; numbers = numbers }
 
 module _ {w : World} {s : Speaker} {out : code_out.Out} {copy : Option Histories} {room after : Journal} {made : Step} (n : IsNoted w s out copy room after made) where
   module _ (r : ℕ) (m : ReplicaState) where

@@ -1,11 +1,9 @@
 use Rattle.std.proofs.Common.{◌≡◌, None, subst, sym}
 use Rattle.la_proposer.specs.ProposerState.{op_on}
-use Rattle.la_world.specs.StandsFor.{World, StandsFor, world_of, refused_in}
-use Rattle.la_world.proofs.Worlds.{read_submitter, IsTaken, submission_known, submission_few, submission_is_named, submission_played, submission_invariant}
-use Rattle.la_world.proofs.WorldSteps.{submitter_speaks}
-use Rattle.la_world.proofs.Noted.{holds_reserved, holds_unchanged, IsNoted, noted_holds, noted_plays, noted_prints}
+use Rattle.la_world.specs.StandsFor.{StandsFor, refused_in}
+use Rattle.la_world.proofs.Worlds.{read_submitter, submission_known, submission_few, submission_is_named, submission_played, submission_invariant}
+use Rattle.la_world.proofs.Noted.{holds_reserved, holds_unchanged, submission_noted, noted_holds, noted_plays, noted_prints}
 use Rattle.la_world.proofs.world.World.take_submission.Goals as goal
-use Rattle.la_world.proofs.world.World.take_submission.Given.{Over}
 
 pub invariant_of-self : goal.invariant_of-self
 invariant_of-self g c = holds_reserved c.self.invariant c.reserve.new.self c.reserve.ensures.messages c.reserve.ensures.learnt c.reserve.ensures.count
@@ -25,32 +23,24 @@ note-requires-clause-few g c =
     let s = read_submitter c.self.invariant c.self.view_is c.args.instance c.args.replica (op_on c.args.object c.args.op) c.requires.event c.requires.known c.index_mut.ensures.value in
     submission_few s c.in-Ok.out c.submit.new.self c.in-Ok.ensures.step
 
--- the world before the event
-abbrev before : (g : Over) → goal.After-note g → World
-before g c = world_of c.self.inside.config c.self.inside.replicas.items c.self.inside.shelves.items c.self.inside.journal
-
-taken : (g : Over) (c : goal.After-note g) → IsTaken (before g c) c.args.instance c.args.replica (op_on c.args.object c.args.op) c.index_mut.result.now
-taken g c = read_submitter c.self.invariant c.self.view_is c.args.instance c.args.replica (op_on c.args.object c.args.op) c.requires.event c.requires.known c.index_mut.ensures.value
-
-noted : (g : Over) (c : goal.After-note g) → IsNoted (before g c) (submitter_speaks (before g c) c.args.instance c.args.replica) c.in-Ok.out None c.reserve.new.self c.note.new.self c.note.result
-noted g c = record {
-  messages = c.reserve.ensures.messages;
-  learnt = c.reserve.ensures.learnt;
-  count = c.reserve.ensures.count;
-  step = c.note.ensures.step;
-  messages_after = c.note.ensures.messages;
-  learnt_after = c.note.ensures.learnt;
-  count_after = c.note.ensures.count;
-  numbers = c.note.ensures.numbers;
-}
-
 pub invariant_of-self-2 : goal.invariant_of-self-2
-invariant_of-self-2 g c = noted_holds (noted g c) c.args.replica c.submit.new.self (submission_invariant (taken g c) c.in-Ok.out c.submit.new.self c.in-Ok.ensures.step)
+invariant_of-self-2 g c =
+    let s = read_submitter c.self.invariant c.self.view_is c.args.instance c.args.replica (op_on c.args.object c.args.op) c.requires.event c.requires.known c.index_mut.ensures.value in
+    let n = submission_noted c.args.instance c.args.replica c.reserve.new.self c.note.new.self c.in-Ok.out c.self.invariant
+    c.reserve.ensures.messages c.reserve.ensures.learnt c.reserve.ensures.count c.note.ensures.step c.note.ensures.messages c.note.ensures.learnt c.note.ensures.count c.note.ensures.numbers in
+    noted_holds n c.args.replica c.submit.new.self (submission_invariant s c.in-Ok.out c.submit.new.self c.in-Ok.ensures.step)
 
 pub returns-clause-step : goal.returns-clause-step
 returns-clause-step g c events e event allowed stands =
-    noted_plays (noted g c) c.args.replica c.submit.new.self c.self.view_is events e
-    (submission_played (taken g c) c.in-Ok.out c.submit.new.self c.in-Ok.ensures.step e event events (subst (λ v. refused_in v events e ≡ None) (sym c.self.view_is) allowed) (subst (λ v. StandsFor v events) (sym c.self.view_is) stands))
+    let s = read_submitter c.self.invariant c.self.view_is c.args.instance c.args.replica (op_on c.args.object c.args.op) c.requires.event c.requires.known c.index_mut.ensures.value in
+    let n = submission_noted c.args.instance c.args.replica c.reserve.new.self c.note.new.self c.in-Ok.out c.self.invariant
+    c.reserve.ensures.messages c.reserve.ensures.learnt c.reserve.ensures.count c.note.ensures.step c.note.ensures.messages c.note.ensures.learnt c.note.ensures.count c.note.ensures.numbers in
+    noted_plays n c.args.replica c.submit.new.self c.self.view_is events e
+    (submission_played s c.in-Ok.out c.submit.new.self c.in-Ok.ensures.step e event events (subst (λ v. refused_in v events e ≡ None) (sym c.self.view_is) allowed) (subst (λ v. StandsFor v events) (sym c.self.view_is) stands))
 
 pub returns-clause-printable : goal.returns-clause-printable
-returns-clause-printable g c = noted_prints (noted g c) (submission_is_named (taken g c) c.in-Ok.out c.submit.new.self c.in-Ok.ensures.step)
+returns-clause-printable g c =
+    let s = read_submitter c.self.invariant c.self.view_is c.args.instance c.args.replica (op_on c.args.object c.args.op) c.requires.event c.requires.known c.index_mut.ensures.value in
+    let n = submission_noted c.args.instance c.args.replica c.reserve.new.self c.note.new.self c.in-Ok.out c.self.invariant
+    c.reserve.ensures.messages c.reserve.ensures.learnt c.reserve.ensures.count c.note.ensures.step c.note.ensures.messages c.note.ensures.learnt c.note.ensures.count c.note.ensures.numbers in
+    noted_prints n (submission_is_named s c.in-Ok.out c.submit.new.self c.in-Ok.ensures.step)
