@@ -3,7 +3,7 @@ use Rattle.std.proofs.lemmas.Bool.{cond-true, cond-false}
 use Rattle.la_set.specs.Histories.{Histories}
 use Rattle.la_replica.specs.declared.out.Out.{Out}
 use Rattle.la_replica.specs.declared.out.Said.TheVariants.{Ignored, Kept, Took}
-use Rattle.la_replica.specs.Views.{is_larger, view_after, view_after_learning}
+use Rattle.la_replica.specs.Views.{is_larger, view_after_learning}
 use Rattle.la_replica.specs.Steps.{said_of_told}
 use Rattle.la_replica.specs.Memory.{IsFreeTell}
 use Rattle.la_replica.proofs.instance.hear_tell.Goals as goal

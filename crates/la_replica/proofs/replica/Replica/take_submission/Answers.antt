@@ -1,4 +1,4 @@
-use Rattle.std.proofs.Common.{◌≡◌, Some, IfOk, refl, slice_set, subst, sym, ap, ◌∙◌}
+use Rattle.std.proofs.Common.{◌≡◌, Some, IfOk, slice_set, subst, sym, ap, ◌∙◌}
 use Rattle.la_set.specs.ObjectOps.{ObjectOp}
 use Rattle.la_proposer.specs.Majority.{votes_of}
 use Rattle.la_replica.specs.Whole.{whole_out}
