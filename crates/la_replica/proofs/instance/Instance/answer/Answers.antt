@@ -1,4 +1,4 @@
-use Rattle.std.proofs.Common.{rules, Result, Ok, Err, OnErr, ap, sym, ◌∙◌}
+use Rattle.std.proofs.Common.{Result, Ok, Err, OnErr, refl, ap, sym, ◌∙◌}
 use Rattle.std.proofs.lemmas.Bool.{both_ways}
 use Rattle.la_set.specs.Inclusion.{is_subset}
 use Rattle.la_replica.proofs.Calls.{offer_kept, offer_again}
@@ -17,4 +17,4 @@ pub returns-in_err-acceptor-clause-free : goal.returns-in_err-acceptor-clause-fr
 returns-in_err-acceptor-clause-free c = λ same. absurd (offer_again c.args.self.now.acceptor c.args.offered.now c.contains_compatible.result (c.contains_compatible.ensures ∙ ap (is_subset c.args.offered.now) c.accepted.ensures) (both_ways _ c.if-contains_compatible.false) same)
 
 pub returns-in_err-out-clause-err : goal.returns-in_err-out-clause-err
-returns-in_err-out-clause-err c = search rules
+returns-in_err-out-clause-err c = on_err _ refl
