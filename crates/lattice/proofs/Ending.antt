@@ -2,7 +2,6 @@
 use Rattle.std.proofs.Common.{◌≡◌, ◌≢◌, ◌∙◌, ℕ, List, Option, inl, inr, ⊎_elim, sym}
 use Rattle.clap.specs.Words.{HasKind, IsAmong, fault_of, kind_of}
 use Rattle.clap.specs.declared.error.Error.{Error}
-use Rattle.clap.specs.declared.error.kind.ErrorKind.{ErrorKind}
 use Rattle.clap.specs.declared.error.kind.ErrorKind.TheVariants.{OutOfMemory, DisplayHelp, DisplayVersion}
 use Rattle.la_object.specs.Shelves.{ShelfState}
 use Rattle.lattice.specs.Calls.{lattice, IsText, IsMistaken, AsksForText}

@@ -8,9 +8,10 @@ use Rattle.la_world.specs.declared.report.Report.{Report}
 use Rattle.la_world.specs.Events.{event_of}
 use Rattle.la_world.specs.Report.{report}
 use Rattle.la_world.specs.StandsFor.{kinds_of}
+use Rattle.la_script.specs.RandomEvents.{random_events}
 use Rattle.la_script.specs.Text.{text_of}
 use Rattle.lattice.specs.Faults.{of_input}
-use Rattle.lattice.specs.Play.{shelves_of, text_by, ReadsInput, IsAnswerRefusal, IsPlayRefusal}
+use Rattle.lattice.specs.Play.{shelves_of, text_by, IsRandomGroup, AnswersDraw, ReadsInput, IsAnswerRefusal, IsPlayRefusal}
 use Rattle.lattice.specs.Streams.{Takes}
 use Rattle.lattice.specs.declared.error.PlayFault.{PlayFault}
 use Rattle.lattice.specs.declared.error.PlayFault.TheVariants as fault
@@ -22,6 +23,12 @@ use Rattle.lattice.specs.declared.streams.TheConstants.{LIMIT}
 pub text_of_run : (c : Config) (events : List Event) (shelves used : List ShelfState) (made : Report) (text : List ℕ) → used ≡ shelves_of c shelves
     → made ≡ report c (kinds_of used) (map event_of events) → text ≡ text_of made → text ≡ text_by c events shelves
 text_of_run c events shelves used made text u m t = t ∙ ap text_of (m ∙ ap (λ (s : List ShelfState). report c (kinds_of s) (map event_of events)) u)
+
+-- the same of events that were drawn
+pub draw_is_answered : (shelves : List ShelfState) (seed replicas count : ℕ) (c : Config) (events : List Event) (text : List ℕ) → IsRandomGroup replicas c
+    → events ≡ random_events seed replicas count → text ≡ text_by c events shelves → AnswersDraw shelves seed replicas count text
+draw_is_answered shelves seed replicas count c events text group drawn is =
+    record { config = c; group = group; is_text = is ∙ ap (λ (es : List Event). text_by c es shelves) drawn }
 
 -- ## Refusals
 

@@ -1,4 +1,4 @@
-use Rattle.std.proofs.Common.{rules, ◌≡◌, ◌≢◌, inl, inr, map, string_bytes, refl}
+use Rattle.std.proofs.Common.{rules, ◌≢◌, inl, inr, map, string_bytes, refl}
 use Rattle.std.proofs.lemmas.Result.{MatchResult-from_both}
 use Rattle.clap.specs.Words.{kind_of}
 use Rattle.clap.specs.declared.error.kind.ErrorKind.TheVariants.{OutOfMemory, DisplayHelp, DisplayVersion}
