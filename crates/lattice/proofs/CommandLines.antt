@@ -80,16 +80,19 @@ taken_is_given k {E} G f name least most r n taken fits is none value parses =
     let same : read.0 ≡ n = some_is _ _ (sym read.1 ∙ is) in
     (read_is_given k {E = E} G f name r n is none value parses, subst (λ m. least ≤ m) same read.2, subst (λ m. m ≤ most) same read.3)
 
--- the program's command before it has subcommands
-abbrev pub lattice_alone : App
-lattice_alone = record {
-  top = record (new_app (codes "lattice")).top {
+-- the command with a version, of which a subcommand is wanted, and no subcommand `help` is there
+abbrev pub requires_one : App → App
+requires_one a = record a {
+  top = record a.top {
     has_version = true;
     subcommand_required = true;
     disable_help_subcommand = true;
   };
-  subs = [];
 }
+
+-- the program's command before it has subcommands
+abbrev pub lattice_alone : App
+lattice_alone = requires_one (new_app (codes "lattice"))
 
 pub lattice_is_simple : is_simple lattice ≡ true
 unfolding clap_on_literals
