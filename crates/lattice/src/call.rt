@@ -1,9 +1,10 @@
 // What the program is called for.
-ghost use Rattle.std.specs.Prelude.{◌≡◌, ◌≤◌, codes, false, map, string_bytes, IfOk, IfErr, IfSome, Some, pos};
+ghost use Rattle.std.specs.Prelude.{◌≡◌, false, map, string_bytes, IfOk, IfErr, Some, pos};
 ghost use Rattle.clap.specs.Words.{app_of, found_of, rows_of, rule_of, HasKind, fault_of};
 ghost use Rattle.clap.specs.declared.builder.command.Command.TheViews.{out-Command as fields_of};
 ghost use Rattle.clap.specs.declared.builder.value_parser.ValueParser.TheVariants.{Signed};
-ghost use Rattle.lattice.specs.Calls.{option, play, random, lattice, Calls, IsDraw, IsInRange, AreTaken};
+ghost use Rattle.lattice.specs.Calls.{option, play, random, lattice};
+ghost use Rattle.lattice.specs.Calls.{AreTaken, Calls, IsDraw, IsInRange};
 
 use clap::builder::ValueParser;
 use clap::{Arg, ArgMatches, Command, Error, value_parser};
