@@ -1,6 +1,6 @@
 -- What the matches of a command line say of its task.
-use Rattle.std.proofs.Common.{◌≡◌, ◌∙◌, ℕ, List, Option, Some, None, Result, Ok, sym, subst, true, true≢false, ap, ap₂, refl, unwrap_or, option_map, codes}
-use Rattle.std.specs.Str.Parse.{ParsesUnsigned}
+use Rattle.std.proofs.Common.{◌≡◌, ◌∙◌, ℕ, List, Option, Some, None, Result, Ok, sym, subst, true, true≢false, ap, ap₂, refl, unwrap_or, option_map, codes, [], ◌∷◌, ◌⊎◌, Bool, cond, is_some, inl, inr, drop, false, ◌≤◌, ◌<◌, ◌^◌, length, arith}
+use Rattle.std.specs.Str.Parse.{ParsesUnsigned, digits_value, without_leading_plus}
 use Rattle.std.specs.Box.{box_value}
 use Rattle.std.specs.Prelude.{Box}
 use Rattle.clap.specs.declared.parser.matches.ArgMatches.{ArgMatches}
@@ -8,27 +8,19 @@ use Rattle.clap.specs.declared.parser.matches.ArgMatches.TheViews.{out-ArgMatche
 use Rattle.clap.specs.declared.parser.matches.SubCommand.{SubCommand}
 use Rattle.clap.specs.declared.parser.matches.Found.{Found}
 use Rattle.clap.specs.Matches.{ReadsOne}
-use Rattle.clap.specs.Words.{Text, Row, one_text, rows_of, is_simple, is_simple_and_free, subcommand_name_of, subcommand_of, subcommand_rows, subcommand_rows_of}
+use Rattle.clap.specs.Words.{Text, Row, one_text, rows_of, is_simple, is_simple_and_free, subcommand_name_of, subcommand_of, subcommand_rows, subcommand_rows_of, fault_of, HasKind, kind_of}
 use Rattle.clap.proofs.OnLiterals.{clap_on_literals}
 use Rattle.clap.proofs.WalkLemmas.{one_text-rows}
-use Rattle.std.proofs.Common.{[], ◌∷◌, ◌⊎◌, Bool, cond, is_some, inl, inr, drop, false, ◌≤◌, ◌<◌, ◌^◌}
-use Rattle.std.specs.Option.{IsSome}
+use Rattle.std.specs.Option.{IsSome, option_map_or}
 use Rattle.clap.specs.Lexer.{without_minus}
 use Rattle.clap.proofs.CallerReads.{signed_reads}
 use Rattle.std.specs.List.{slice_index_or}
-use Rattle.clap.specs.Walk.{Rule, nothing_held, rows_after, settled, walk}
-use Rattle.clap.specs.Simple.{App, Shape, built, filled, new_shape}
-use Rattle.std.proofs.Common.{length, arith}
-use Rattle.std.specs.Option.{option_map_or}
-use Rattle.clap.specs.Walk.{answers_to, finished, stop_after, walk_from}
-use Rattle.clap.specs.Simple.{argument_words, new_app, entered, label_of, names_of, rows_at}
+use Rattle.clap.specs.Walk.{Rule, nothing_held, rows_after, settled, walk, answers_to, finished, stop_after, walk_from}
+use Rattle.clap.specs.Simple.{App, Shape, built, filled, new_shape, argument_words, new_app, entered, label_of, names_of, rows_at}
 use Rattle.clap.specs.Faults.{check_fault, defaults_fault, entered_fault, level_fault, settle_fault, walk_fault}
-use Rattle.clap.specs.Words.{fault_of}
 use Rattle.lattice.proofs.Faultless.{AllOne, defaults_there, first_none, level_reads, next_none, some_kinds}
-use Rattle.clap.specs.Words.{HasKind, kind_of}
 use Rattle.clap.specs.declared.error.Error.{Error}
 use Rattle.clap.specs.declared.error.kind.ErrorKind.TheVariants.{OutOfMemory}
-use Rattle.std.specs.Str.Parse.{digits_value, without_leading_plus}
 use Rattle.lattice.specs.Calls.{AreGiven, Calls, IsGiven, IsDraw, AreTaken, IsNamed, IsTaken, Names, lattice, option}
 use Rattle.lattice.specs.declared.call.Task.{Task}
 use Rattle.lattice.specs.declared.call.Task.TheVariants.{Play, Random}
@@ -80,16 +72,19 @@ taken_is_given k {E} G f name least most r n taken fits is none value parses =
     let same : read.0 ≡ n = some_is _ _ (sym read.1 ∙ is) in
     (read_is_given k {E = E} G f name r n is none value parses, subst (λ m. least ≤ m) same read.2, subst (λ m. m ≤ most) same read.3)
 
--- the program's command before it has subcommands
-abbrev pub lattice_alone : App
-lattice_alone = record {
-  top = record (new_app (codes "lattice")).top {
+-- the command with a version, of which a subcommand is wanted, and no subcommand `help` is there
+abbrev pub requires_one : App → App
+requires_one a = record a {
+  top = record a.top {
     has_version = true;
     subcommand_required = true;
     disable_help_subcommand = true;
   };
-  subs = [];
 }
+
+-- the program's command before it has subcommands
+abbrev pub lattice_alone : App
+lattice_alone = requires_one (new_app (codes "lattice"))
 
 pub lattice_is_simple : is_simple lattice ≡ true
 unfolding clap_on_literals

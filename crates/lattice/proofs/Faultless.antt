@@ -1,24 +1,19 @@
 -- What a parse without a fault leaves: each option's row begins with a value that its parser accepts.
-use Rattle.std.proofs.Common.{◌≡◌, ◌∙◌, ◌&&◌, ◌||◌, ◌⊎◌, ℕ, Bool, cond, true, false, zero, suc, refl, sym, ap, subst, arith, List, [], ◌∷◌, ◌++◌, length, drop, Option, Some, None, inl, inr, true≢false, unwrap_or, is_some}
-use Rattle.std.specs.Prelude.{⊤, encode_utf8, slice_get, find, fold}
+use Rattle.std.proofs.Common.{◌≡◌, ◌&&◌, ◌||◌, ◌⊎◌, ℕ, Bool, cond, true, false, zero, suc, refl, sym, ap, subst, arith, List, [], ◌∷◌, ◌++◌, length, Option, Some, None, inl, inr, true≢false, unwrap_or, is_some}
+use Rattle.std.specs.Prelude.{⊤, slice_get, find, fold}
 use Rattle.std.proofs.lemmas.Bool.{ne_eqb}
 use Rattle.std.specs.Option.{option_map_or}
 use Rattle.std.specs.Str.{bytes_eq, chars}
 use Rattle.clap.specs.Facts.{parser_of_value, unwrap_or_range}
 use Rattle.clap.specs.Lexer.{short_of, long_of}
-use Rattle.clap.specs.Values.{is_request, read_as}
-use Rattle.clap.specs.Walk.{Held, Names, Row, Rule, Step, Text, Waiting, Walk, Outcome, action_of, arg_by_id, arg_by_index, arg_by_long, arg_by_short, after_flag, after_step, at_row, attached_value, bundle_met, bundle_step, default_rows, has_row, is_empty, is_pending, long_met, long_or_other, most_values, more_values, one_of, option_met, plain_word, positional_held, reacted, reading_by, row_text, settled, settled_rows, short_met, short_word, subcommand_met, subcommand_or_other, takes_several, takes_values, to_positional, used, used_as, used_by_id, walked, walked_from, with_default, with_values, without, word_met}
-use Rattle.clap.specs.Values.{Accepts}
+use Rattle.clap.specs.Values.{is_request, read_as, Accepts}
+use Rattle.clap.specs.Walk.{Held, Names, Row, Rule, Step, Text, Waiting, Walk, Outcome, action_of, arg_by_id, arg_by_index, arg_by_long, arg_by_short, after_flag, after_step, at_row, attached_value, bundle_met, bundle_step, default_rows, has_row, is_empty, is_pending, long_met, long_or_other, most_values, more_values, one_of, option_met, plain_word, positional_held, reacted, reading_by, row_text, settled, settled_rows, short_met, subcommand_met, subcommand_or_other, takes_several, takes_values, to_positional, used, used_as, used_by_id, walked, walked_from, with_default, with_values, without, word_met, nothing_held, rows_after, walk, walk_from, flag_met, option_word, short_or_plain, idle, option, positional, done, waits, plain, refused, value, next, trailing, subcommand}
 use Rattle.clap.proofs.ValueTestLemmas.{accepts-Accepts}
-use Rattle.clap.specs.Faults.{level_fault}
-use Rattle.clap.specs.Walk.{nothing_held, rows_after, walk, walk_from}
-use Rattle.clap.specs.Walk.{flag_met, option_word, short_or_plain, idle, option, positional, done, waits, plain, refused, value, next, trailing, subcommand}
-use Rattle.clap.specs.Faults.{bundle_fault}
+use Rattle.clap.specs.Faults.{level_fault, bundle_fault, action_fault, bundle_step_fault, default_fault, defaults_fault, flag_word_fault, flags_fault, given_default_fault, long_fault, option_fault, other_fault, positional_fault, react_fault, repeat_fault, settle_fault, short_fault, step_fault, stray_fault, turn_fault, use_fault, values_fault, walk_fault, word_fault}
 use Rattle.clap.specs.declared.error.kind.ErrorKind.TheVariants as kind
 use Rattle.clap.specs.declared.parser.matches.ValueSource.{ValueSource}
 use Rattle.clap.specs.declared.builder.value_parser.Reading.{Reading}
 use Rattle.clap.specs.Kinds.{Kinds, or_else, range_kinds, request_kinds, value_kinds}
-use Rattle.clap.specs.Faults.{action_fault, bundle_step_fault, default_fault, defaults_fault, flag_word_fault, flags_fault, given_default_fault, long_fault, option_fault, other_fault, positional_fault, react_fault, repeat_fault, settle_fault, short_fault, step_fault, stray_fault, turn_fault, use_fault, values_fault, walk_fault, word_fault}
 use Rattle.clap.specs.Simple.{Shape}
 use Rattle.clap.specs.declared.builder.action.ArgAction.{ArgAction}
 use Rattle.clap.specs.declared.builder.action.ArgAction.TheVariants as action

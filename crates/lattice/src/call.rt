@@ -1,9 +1,10 @@
 // What the program is called for.
-ghost use Rattle.std.specs.Prelude.{◌≡◌, ◌≤◌, codes, false, map, string_bytes, IfOk, IfErr, IfSome, Some, pos};
+ghost use Rattle.std.specs.Prelude.{◌≡◌, false, map, string_bytes, IfOk, IfErr, Some, pos};
 ghost use Rattle.clap.specs.Words.{app_of, found_of, rows_of, rule_of, HasKind, fault_of};
 ghost use Rattle.clap.specs.declared.builder.command.Command.TheViews.{out-Command as fields_of};
 ghost use Rattle.clap.specs.declared.builder.value_parser.ValueParser.TheVariants.{Signed};
-ghost use Rattle.lattice.specs.Calls.{option, play, random, lattice, Calls, IsDraw, IsInRange, AreTaken};
+ghost use Rattle.lattice.specs.Calls.{option, play, random, lattice};
+ghost use Rattle.lattice.specs.Calls.{AreTaken, Calls, IsDraw, IsInRange};
 
 use clap::builder::ValueParser;
 use clap::{Arg, ArgMatches, Command, Error, value_parser};
@@ -103,6 +104,10 @@ fn drawn(given: &ArgMatches<'_>) -> Task
 }
 
 /// What the words of a command line call for, the program's name first.
+///
+/// Words in which nothing is wrong call for a task; a draw's numbers are those of its options, or
+/// their defaults. An error has a kind that `clap` finds in the words: they ask for help or for the
+/// version, or they are mistaken. Or its kind is `OutOfMemory`, which comes of memory alone.
 pub fn command(alloc: Global, words: &[String]) -> Result<Task, Error>
     ensures ok { IfOk result (Calls (map string_bytes words.now)) }
     ensures range { IfOk result IsInRange }
@@ -112,7 +117,8 @@ pub fn command(alloc: Global, words: &[String]) -> Result<Task, Error>
     match matches.subcommand() {
         Some((name, _)) if name == "play" => Ok(Task::Play),
         Some((name, given)) if name == "random" => Ok(drawn(given)),
-        // A subcommand is required, and there are these two.
+        // `crate::proofs::CommandLines::faultless_names`: a subcommand is required, and there are
+        // these two.
         _ => unreachable!(),
     }
 }

@@ -35,11 +35,11 @@ returns-in-Some-2-clause-ok c =
     let matches = c.in_ok-matches.ensures.matches (ap is_simple is ∙ lattice_is_simple) in
     let faultless = c.in_ok-matches.ensures.kinds (ap is_simple_and_free is ∙ lattice_is_free) in
     let name : subcommand_name_of c.in_ok-matches.matches ≡ Some (codes "random") = sym c.subcommand.ensures.name ∙ ap (option_map (λ p. p.0.now)) c.in-Some-2.is ∙ ap Some (search rules) in
-    let rows = sym c.subcommand.ensures.rows ∙ ap (option_map (λ p. rows_of (found_of p.1.now))) c.in-Some-2.is in
+    let rows = sym c.subcommand.ensures.rows ∙ ap (option_map (λ p. rows_of (found_of p.1.now))) c.in-Some.is in
     let named = names_of_parse words c.in_ok-matches.matches (codes "random") _ name rows (matches.1 ∙ ap (λ (a : App). subcommand_of a words) is) in
     record {
       faultless = sym (ap (λ (a : App). fault_of a words) is) ∙ faultless;
-      named = draw_is_named words _ c.drawn.result named (search rules);
+      named = draw_is_named words _ c.drawn.result named c.drawn.ensures;
     }
 
 pub unreachable-requires : goal.unreachable-requires

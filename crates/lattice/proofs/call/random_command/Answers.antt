@@ -7,11 +7,11 @@ use Rattle.lattice.proofs.call.random_command.Goals as goal
 pub returns-clause-app : goal.returns-clause-app
 returns-clause-app c =
     let seed : rule_of c.number-seed.result ≡ option (codes "seed") 0 4294967295 (codes "1") =
-    c.number-seed.ensures.rule 0 4294967295 (search rules) in
+    c.number-seed.ensures.rule 0 4294967295 c.value_parser-seeds.ensures in
     let replicas : rule_of c.number-replicas.result ≡ option (codes "replicas") 1 8 (codes "3") =
-    c.number-replicas.ensures.rule 1 8 (search rules) in
+    c.number-replicas.ensures.rule 1 8 (rw (c.value_parser.ensures, c.new.ensures.start, c.new.ensures.end) at c.range-sizes.ensures) in
     let events : rule_of c.number-events.result ≡ option (codes "events") 1 10000 (codes "100") =
-    c.number-events.ensures.rule 1 10000 (search rules) in
+    c.number-events.ensures.rule 1 10000 (rw (c.value_parser-2.ensures, c.new-2.ensures.start, c.new-2.ensures.end) at c.range-counts.ensures) in
     let start : app_of c.about.result ≡ new_app (codes "random") = search rules in
     let two : app_of c.in_ok-arg-2.field-0 ≡ with_rule (with_rule (new_app (codes "random")) (option (codes "seed") 0 4294967295 (codes "1"))) (option (codes "replicas") 1 8 (codes "3")) =
     c.in_ok-arg-2.ensures.shape c.number-replicas.ensures.local
