@@ -155,10 +155,13 @@ none_unfit objects e can unfit = by e free fresh unfit.refused
   where
     same : CanStand (unfit.before ++ unfit.object ∷ unfit.behind)
     same = subst CanStand unfit.parts can
+
     free : kind_at (kinds unfit.before) unfit.object.0 ≡ None
     free = free_before unfit.before unfit.object unfit.behind same.apart
+
     fresh : IsFresh unfit.object.1
     fresh = middle (λ o. IsFresh o.1) unfit.before unfit.object unfit.behind same.fresh
+
     by : (e : ShelfError) → kind_at (kinds unfit.before) unfit.object.0 ≡ None → IsFresh unfit.object.1 → IsAddRefusal (kind_at (kinds unfit.before) unfit.object.0) unfit.object.1 e → e ≡ Memory
     by Taken none new r = absurd (true≢false (sym (subst IsSome none r)))
     by NotFresh none new r = absurd (r.1 new)

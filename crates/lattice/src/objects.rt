@@ -55,13 +55,7 @@ fn shelves_of<B: Replicated, F: Fn() -> Result<Numbered<B>, AllocError>>(
 }
 
 // The program with such objects.
-fn run_with<
-    R: Read,
-    W: Write,
-    E: Write,
-    B: Replicated,
-    F: Fn() -> Result<Numbered<B>, AllocError>,
->(
+fn run_with<R: Read, W: Write, E: Write, B: Replicated, F: Fn() -> Result<Numbered<B>, AllocError>>(
     alloc: Global,
     words: &[String],
     input: &mut R,

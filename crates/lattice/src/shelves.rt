@@ -11,10 +11,7 @@ use std::alloc::Global;
 pub type Numbered<B> = Vec<(u16, B)>;
 
 // The shelf of one replica's objects.
-fn shelf_with<B: Replicated>(
-    alloc: Global,
-    objects: Numbered<B>,
-) -> Result<Shelf<B>, ShelfError>
+fn shelf_with<B: Replicated>(alloc: Global, objects: Numbered<B>) -> Result<Shelf<B>, ShelfError>
     ensures ok { IfOk result (λ shelf. shelf ≡ shelf_of (states_of B.state objects.items)) }
     ensures stand { OnOk result (CanStand (states_of B.state objects.items)) }
     ensures error { IfErr result (λ e. (e ≡ Memory)

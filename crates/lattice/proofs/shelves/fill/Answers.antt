@@ -11,9 +11,10 @@ loop-objects-init g c =
 
 pub loop-objects-preserved : goal.loop-objects-preserved
 loop-objects-preserved g c =
-    let i = c.loop-objects.invariant in let steps = c.in-Some.ensures.steps in
-    (one_shelved g.B.Replicated.state _ _ _ _ c.in-Some.objects _ _ _ i.0 steps.0 c.in_ok-shelf_with.ensures.ok c.in_ok-shelf_with.ensures.stand c.in_ok-push.ensures.items,
-        omega (arith, i.1, steps.1, ap length steps.0))
+    let i = c.loop-objects.invariant in let steps = c.in-Some.ensures.steps in (
+      one_shelved g.B.Replicated.state _ _ _ _ c.in-Some.objects _ _ _ i.0 steps.0 c.in_ok-shelf_with.ensures.ok c.in_ok-shelf_with.ensures.stand c.in_ok-push.ensures.items,
+      omega (arith, i.1, steps.1, ap length steps.0),
+    )
 
 pub returns-in_err-shelf_with-clause-error : goal.returns-in_err-shelf_with-clause-error
 returns-in_err-shelf_with-clause-error g c =

@@ -11,9 +11,10 @@ loop-number-init g c =
 
 pub loop-number-preserved : goal.loop-number-preserved
 loop-number-preserved g c =
-    let i = c.loop-number.invariant in let steps = c.in-Some.ensures.steps in
-    (one_put g.B.Replicated.state _ _ _ _ (c.in-Some.number, c.in-Some.object) _ _ i.0 steps.0 c.in_ok-add.ensures.absent c.in_ok-add.ensures.fresh c.in_ok-add.ensures.ok,
-        omega (arith, i.1, steps.1, ap length steps.0))
+    let i = c.loop-number.invariant in let steps = c.in-Some.ensures.steps in (
+      one_put g.B.Replicated.state _ _ _ _ (c.in-Some.number, c.in-Some.object) _ _ i.0 steps.0 c.in_ok-add.ensures.absent c.in_ok-add.ensures.fresh c.in_ok-add.ensures.ok,
+      omega (arith, i.1, steps.1, ap length steps.0),
+    )
 
 pub returns-in_err-add-clause-error : goal.returns-in_err-add-clause-error
 returns-in_err-add-clause-error g c =
