@@ -107,7 +107,7 @@ pub record EndsMistaken (words : List (List ℕ)) (old new : Standard) (ended : 
   pub text : List ℕ
   pub tells : Tells old.told new.told text 2 ended
 
--- memory was refused while the words were looked at: nothing was read or written
+-- memory was refused before a task was begun: nothing was read or written
 pub record EndsStarved (old new : Standard) (ended : Ended) : Type 0 where
   pub unread : new.left ≡ old.left
   pub unwritten : new.written ≡ old.written

@@ -1,6 +1,10 @@
 // The program with its own objects, which are boxed here, where their types are known.
 ghost use Rattle.std.specs.Prelude.{◌≡◌, map, string_bytes, IfOk, IfErr};
 ghost use Rattle.la_object.specs.declared.error.ShelfError.TheVariants.{Memory};
+ghost use Rattle.la_object.specs.declared.kind.Kind.TheVariants.{Counter as CounterKind};
+ghost use Rattle.la_object.specs.declared.kind.Kind.TheVariants.{MaxRegister as RegisterKind};
+ghost use Rattle.la_object.specs.declared.kind.Kind.TheVariants.{OrSet as SetKind};
+ghost use Rattle.la_object.specs.Objects.{start};
 ghost use Rattle.lattice.specs.Program.{Ends, EndsWell, standard};
 ghost use Rattle.lattice.specs.Shelves.{states_of, standard_objects, standard_shelves};
 
@@ -11,6 +15,25 @@ use la_orset::OrSet;
 use la_set::REPLICAS;
 use std::alloc::{AllocError, Global};
 use std::io::{ErrorKind, Read, Write};
+
+// Three objects under the numbers that they have on each shelf.
+fn numbered<B: Replicated>(
+    alloc: Global,
+    counter: B,
+    register: B,
+    set: B,
+) -> Result<Numbered<B>, AllocError>
+    requires counter { B.state counter ≡ start CounterKind }
+    requires register { B.state register ≡ start RegisterKind }
+    requires set { B.state set ≡ start SetKind }
+    ensures { IfOk result (λ objects. states_of B.state objects.items ≡ standard_objects) }
+{
+    let mut objects = Vec::with_capacity(alloc, 3)?;
+    objects.push((1, counter))?;
+    objects.push((2, register))?;
+    objects.push((3, set))?;
+    Ok(objects)
+}
 
 // A shelf for each of eight replicas, with the objects that are made for it. Only want of memory is
 // refused.
@@ -83,11 +106,10 @@ pub fn run_boxed<R: Read, W: Write, E: Write>(
     let make = || -> Result<Numbered<Box<dyn Replicated + Send>>, AllocError>
         ensures { IfOk result (λ objects. states_of state objects.items ≡ standard_objects) }
     {
-        let mut objects: Numbered<Box<dyn Replicated + Send>> = Vec::with_capacity(alloc, 3)?;
-        objects.push((1, Box::new(alloc, Counter::new(alloc))?))?;
-        objects.push((2, Box::new(alloc, MaxRegister::new(alloc))?))?;
-        objects.push((3, Box::new(alloc, OrSet::new(alloc))?))?;
-        Ok(objects)
+        let counter: Box<dyn Replicated + Send> = Box::new(alloc, Counter::new(alloc))?;
+        let register: Box<dyn Replicated + Send> = Box::new(alloc, MaxRegister::new(alloc))?;
+        let set: Box<dyn Replicated + Send> = Box::new(alloc, OrSet::new(alloc))?;
+        numbered(alloc, counter, register, set)
     };
     run_with(alloc, words, input, output, errors, make)
 }

@@ -2,7 +2,7 @@
 use super::rows::{FIRST_REPORT, FIRST_SCRIPT};
 use super::shelves::{ByNumber, eight_shelves};
 use super::streams::{End, narrow_writer, slow_reader, wide_writer};
-use crate::{end_without_words, run_words};
+use crate::{end_without_words, run_boxed};
 use la_object::Replicated;
 use la_proposer::Votes;
 use la_script::{Text, print, random_events};
@@ -134,14 +134,13 @@ fn words_of(alloc: Global, words: &[&str]) -> Result<Vec<String>, AllocError> {
     Ok(all)
 }
 
-// Calls the program with these words and shelves of such objects.
-fn call_with<B: ByNumber>(alloc: Global, words: &[&str], case: &Case) -> Result<Came, AllocError> {
+// Calls the program with these words.
+fn call_with(alloc: Global, words: &[&str], case: &Case) -> Result<Came, AllocError> {
     let words = words_of(alloc, words)?;
-    let shelves = eight_shelves::<B>(alloc).map_err(|_| AllocError)?;
     let mut output = narrow_writer(alloc, case.room, End::Fails);
     let mut errors = narrow_writer(alloc, case.errors_room, End::Fails);
     let mut input = slow_reader(case.script.as_bytes(), 7, case.fails_at);
-    let status = run_words(alloc, &words, &mut input, &mut output, &mut errors, shelves);
+    let status = run_boxed(alloc, &words, &mut input, &mut output, &mut errors);
     Ok(Came {
         status,
         written: output.taken,
@@ -151,7 +150,7 @@ fn call_with<B: ByNumber>(alloc: Global, words: &[&str], case: &Case) -> Result<
 
 // What comes of these words, or `None` for want of memory.
 fn call(alloc: Global, words: &[&str], case: &Case) -> Option<Came> {
-    let came = call_with::<Box<dyn Replicated + Send>>(alloc, words, case).ok()?;
+    let came = call_with(alloc, words, case).ok()?;
     if came.status == 3 { None } else { Some(came) }
 }
 
