@@ -1,5 +1,4 @@
 use Rattle.std.proofs.Common.{rules, ◌≡◌, ◌⊎◌, length, map, All, sym, ap, ◌∙◌, subst, arith, inl, inr}
-use Rattle.std.specs.Vec.Iter.{into_iter_items}
 use Rattle.la_object.specs.declared.error.ShelfError.TheVariants.{Memory}
 use Rattle.lattice.specs.Shelves.{all_states_of, shelf_of, CanStand, HasUnfit, IsFillRefusal}
 use Rattle.lattice.proofs.Standing.{none_shelved, one_shelved, all_shelved, has_unfit, is_fill_refusal}
@@ -12,11 +11,10 @@ loop-objects-init g c =
 
 pub loop-objects-preserved : goal.loop-objects-preserved
 loop-objects-preserved g c =
-    let i = c.loop-objects.invariant in let steps = c.in-Some.ensures.steps in
-    let all = c.args.all.items in let done = c.loop-objects.yielded in
-    let left = into_iter_items c.loop-objects.objects-iterator in let rest = into_iter_items c.next.new.self in
-    let next = one_shelved g.B.Replicated.state all done left rest c.in-Some.objects c.loop-objects.shelves.items c.push.new.self.items c.in_ok-shelf_with.field-0 in
-    (next i.0 steps.0 c.in_ok-shelf_with.ensures.ok c.in_ok-shelf_with.ensures.stand c.in_ok-push.ensures.items, omega (arith, i.1, steps.1, ap length steps.0))
+    let i = c.loop-objects.invariant in let steps = c.in-Some.ensures.steps in (
+      one_shelved g.B.Replicated.state _ _ _ _ c.in-Some.objects _ _ _ i.0 steps.0 c.in_ok-shelf_with.ensures.ok c.in_ok-shelf_with.ensures.stand c.in_ok-push.ensures.items,
+      omega (arith, i.1, steps.1, ap length steps.0),
+    )
 
 pub returns-in_err-shelf_with-clause-error : goal.returns-in_err-shelf_with-clause-error
 returns-in_err-shelf_with-clause-error g c =

@@ -1,5 +1,4 @@
 use Rattle.std.proofs.Common.{rules, ◌≡◌, ◌⊎◌, length, refl, sym, ap, ◌∙◌, subst, arith, inr}
-use Rattle.std.specs.Vec.Iter.{into_iter_items}
 use Rattle.la_object.specs.declared.error.ShelfError.TheVariants.{Memory}
 use Rattle.lattice.specs.Shelves.{states_of, shelf_of, CanStand, IsUnfit}
 use Rattle.lattice.proofs.Standing.{nothing_put, one_put, all_put, is_unfit}
@@ -12,11 +11,10 @@ loop-number-init g c =
 
 pub loop-number-preserved : goal.loop-number-preserved
 loop-number-preserved g c =
-    let i = c.loop-number.invariant in let steps = c.in-Some.ensures.steps in
-    let all = c.args.objects.items in let done = c.loop-number.yielded in
-    let left = into_iter_items c.loop-number.number-iterator in let rest = into_iter_items c.next.new.self in
-    let next = one_put g.B.Replicated.state all done left rest (c.in-Some.number, c.in-Some.object) c.loop-number.shelf c.add.new.self in
-    (next i.0 steps.0 c.in_ok-add.ensures.absent c.in_ok-add.ensures.fresh c.in_ok-add.ensures.ok, omega (arith, i.1, steps.1, ap length steps.0))
+    let i = c.loop-number.invariant in let steps = c.in-Some.ensures.steps in (
+      one_put g.B.Replicated.state _ _ _ _ (c.in-Some.number, c.in-Some.object) _ _ i.0 steps.0 c.in_ok-add.ensures.absent c.in_ok-add.ensures.fresh c.in_ok-add.ensures.ok,
+      omega (arith, i.1, steps.1, ap length steps.0),
+    )
 
 pub returns-in_err-add-clause-error : goal.returns-in_err-add-clause-error
 returns-in_err-add-clause-error g c =
