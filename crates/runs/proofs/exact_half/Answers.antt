@@ -1,5 +1,0 @@
-use Rattle.runs.proofs.Runs.{exact_half}
-use Rattle.runs.proofs.exact_half.Goals as goal
-
-pub returns : goal.returns
-returns c = exact_half

@@ -1,5 +1,0 @@
-use Rattle.runs.proofs.Runs.{one_value_alone}
-use Rattle.runs.proofs.one_value_alone.Goals as goal
-
-pub returns : goal.returns
-returns c = one_value_alone

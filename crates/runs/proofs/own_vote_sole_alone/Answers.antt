@@ -1,5 +1,0 @@
-use Rattle.runs.proofs.Runs.{own_vote_sole_alone}
-use Rattle.runs.proofs.own_vote_sole_alone.Goals as goal
-
-pub returns : goal.returns
-returns c = own_vote_sole_alone

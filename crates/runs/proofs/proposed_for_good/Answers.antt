@@ -1,5 +1,0 @@
-use Rattle.runs.proofs.Runs.{proposed_for_good}
-use Rattle.runs.proofs.proposed_for_good.Goals as goal
-
-pub returns : goal.returns
-returns c = proposed_for_good

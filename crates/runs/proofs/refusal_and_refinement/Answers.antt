@@ -1,5 +1,0 @@
-use Rattle.runs.proofs.Runs.{refusal_and_refinement}
-use Rattle.runs.proofs.refusal_and_refinement.Goals as goal
-
-pub returns : goal.returns
-returns c = refusal_and_refinement

@@ -1,5 +1,0 @@
-use Rattle.runs.proofs.Runs.{remove_of_a_learnt_add}
-use Rattle.runs.proofs.remove_of_a_learnt_add.Goals as goal
-
-pub returns : goal.returns
-returns c = remove_of_a_learnt_add
