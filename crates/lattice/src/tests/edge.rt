@@ -1,12 +1,8 @@
 // Command lines, and what comes of each: what is written, what is told, and the exit status.
-use super::rows::{FIRST_REPORT, FIRST_SCRIPT};
-use super::shelves::{ByNumber, eight_shelves};
+use super::cuts::{FIRST_REPORT, FIRST_SCRIPT};
 use super::streams::{End, narrow_writer, slow_reader, wide_writer};
-use crate::{end_without_words, run_boxed};
-use la_object::Replicated;
-use la_proposer::Votes;
-use la_script::{Text, print, random_events};
-use la_world::{Config, run};
+use crate::{PlayFault, end_without_words, run_boxed};
+use la_script::{FaultName, ScriptFault};
 use std::alloc::{AllocError, Global};
 use std::io::ErrorKind;
 
@@ -37,6 +33,65 @@ pub const ASKED_FOR: [(&[&str], &str); 5] = [
     (&["lattice", "--version"], "lattice "),
     (&["lattice", "play", "--help"], "Plays the script"),
     (&["lattice", "random", "--help"], "Draws events"),
+];
+
+#[derive(Clone, Copy)]
+pub struct Shown {
+    pub fault: PlayFault,
+    pub text: &'static str,
+    pub status: u8,
+}
+
+pub const SHOWN: [Shown; 8] = [
+    Shown {
+        fault: PlayFault::Script(ScriptFault {
+            line: 16777216,
+            name: FaultName::BadLine,
+        }),
+        text: "line 16777216: BadLine",
+        status: 1,
+    },
+    Shown {
+        fault: PlayFault::Script(ScriptFault {
+            line: 4294967295,
+            name: FaultName::BadHeader,
+        }),
+        text: "line 4294967295: BadHeader",
+        status: 1,
+    },
+    Shown {
+        fault: PlayFault::Script(ScriptFault {
+            line: 0,
+            name: FaultName::BadNumber,
+        }),
+        text: "line 0: BadNumber",
+        status: 1,
+    },
+    Shown {
+        fault: PlayFault::TooLong,
+        text: "TooLong",
+        status: 1,
+    },
+    Shown {
+        fault: PlayFault::Memory,
+        text: "Memory",
+        status: 3,
+    },
+    Shown {
+        fault: PlayFault::BadConfig,
+        text: "BadConfig",
+        status: 4,
+    },
+    Shown {
+        fault: PlayFault::ReadFault,
+        text: "ReadFault",
+        status: 4,
+    },
+    Shown {
+        fault: PlayFault::WriteFault,
+        text: "WriteFault",
+        status: 4,
+    },
 ];
 
 /// A play, by which read fails, how much room standard output and standard error have, and what
@@ -227,34 +282,11 @@ pub fn is_cut_short(alloc: Global, words: &[&str]) -> bool {
     }
 }
 
-// The text of the report of drawn events, played with shelves of such objects.
-fn drawn_text<B: ByNumber>(alloc: Global, seed: u64, replicas: u8, count: u32) -> Option<Text> {
-    let config = Config {
-        replicas,
-        commits: 1,
-        cap: 1_000_000,
-        votes: Votes::new(&[1, 1, 1, 1, 1, 1, 1, 1][..replicas.min(8) as usize]).ok()?,
-    };
-    let mut shelves = eight_shelves::<B>(alloc).ok()?;
-    shelves.truncate(replicas as usize);
-    let events = random_events(alloc, seed, replicas.max(1), count).ok()?;
-    let report = run(alloc, config, shelves, events.all()).ok()?;
-    print(alloc, &report).ok()
-}
-
-fn drawn(alloc: Global, seed: u64, replicas: u8, count: u32) -> Option<Text> {
-    drawn_text::<Box<dyn Replicated + Send>>(alloc, seed, replicas, count)
-}
-
-/// Whether the program, called with these words, writes the text of the report of these events.
-pub fn draws(alloc: Global, words: &[&str], seed: u64, replicas: u8, count: u32) -> bool {
-    let text = match drawn(alloc, seed, replicas, count) {
-        None => drawn(alloc, seed, replicas, count),
-        text => text,
-    };
-    match (text, called(alloc, words, &no_script(usize::MAX, 0))) {
-        (Some(text), Some(came)) => came.status == 0 && came.written.as_slice() == text.bytes(),
-        _ => false,
+/// Whether the program, called with these words, writes this.
+pub fn writes(alloc: Global, words: &[&str], text: &str) -> bool {
+    match called(alloc, words, &no_script(usize::MAX, 0)) {
+        Some(came) => came.status == 0 && came.written.as_slice() == text.as_bytes(),
+        None => false,
     }
 }
 
