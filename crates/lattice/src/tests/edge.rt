@@ -181,10 +181,14 @@ struct Came {
     told: Vec<u8>,
 }
 
+fn add(words: &mut Vec<String>, alloc: Global, word: &str) -> Result<(), AllocError> {
+    Ok(words.push(String::from_str(alloc, word)?)?)
+}
+
 fn words_of(alloc: Global, words: &[&str]) -> Result<Vec<String>, AllocError> {
     let mut all = Vec::new(alloc);
     for word in words {
-        all.push(String::from_str(alloc, word)?)?;
+        add(&mut all, alloc, word)?;
     }
     Ok(all)
 }

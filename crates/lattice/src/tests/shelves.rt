@@ -20,15 +20,20 @@ impl ByNumber for Box<dyn Replicated + Send> {
     }
 }
 
+// A shelf with the objects 1, 2 and 3.
+fn shelf_of<B: ByNumber>(alloc: Global) -> Result<Shelf<B>, ShelfError> {
+    let mut shelf = Shelf::new(alloc);
+    for number in 1..=3 {
+        shelf.add(number, B::make(alloc, number)?)?;
+    }
+    Ok(shelf)
+}
+
 /// Eight shelves, each with the objects 1, 2 and 3. Only want of memory is refused.
 pub fn eight_shelves<B: ByNumber>(alloc: Global) -> Result<Vec<Shelf<B>>, ShelfError> {
     let mut shelves = Vec::with_capacity(alloc, REPLICAS as usize)?;
     for _ in 0..REPLICAS {
-        let mut shelf = Shelf::new(alloc);
-        for number in 1..=3 {
-            shelf.add(number, B::make(alloc, number)?)?;
-        }
-        shelves.push(shelf)?;
+        shelves.push(shelf_of(alloc)?)?;
     }
     Ok(shelves)
 }
