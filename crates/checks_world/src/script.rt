@@ -1,8 +1,5 @@
 // Checks of la_script. The tests pass with every single allocation failing too: they call again.
 mod answers;
 mod exactness;
-mod faults;
-mod headers;
 mod lines;
 mod random;
-mod report;

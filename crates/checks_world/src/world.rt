@@ -1,13 +1,11 @@
 // la_world: runs that no row of the program can say, questions, want of memory, groups and shelves
 // that are out of their ranges, and callers that know nothing but its clauses.
-mod asked;
 mod configs;
 mod events;
 mod exactness;
 mod following;
 mod laws;
 mod making;
-mod many;
 mod million;
 mod plays;
 mod proposals;

@@ -4,8 +4,10 @@ ghost use Rattle.la_world.specs.Printable.{IsPrintableLine, IsPrintableReport};
 
 use la_object::{Answer, Items};
 use la_proposer::Votes;
-use la_script::{Text, print};
-use la_world::{Config, Decisions, Did, Learnings, Line, Refusal, Report, Step, Steps, Views};
+use la_script::{Events, Text, print};
+use la_world::{
+    Config, Decisions, Did, Event, Learnings, Line, Refusal, Report, Step, Steps, Views,
+};
 use std::alloc::{AllocError, Global};
 
 // What is answered.
@@ -125,5 +127,31 @@ fn answers_are_printed(rt: HostRuntime) {
         Ok(text) => Ok(text),
         Err(_) => printed(rt.alloc()),
     };
-    assert!(rt; text.is_ok_and(|text| text.bytes() == TEXT));
+    assert!(rt; text.is_ok_and(is_text));
+}
+
+// The text goes into a string and back.
+fn is_text(text: Text) -> bool {
+    let text = Text::from(String::from(text));
+    text.bytes() == TEXT
+}
+
+// Events go into a list and back.
+fn events_are_a_list(alloc: Global) -> Result<bool, AllocError> {
+    let mut events = Events::new(alloc);
+    events.push(Event::Deliver(4))?;
+    let mut list = Vec::from(events);
+    list.push(Event::Deliver(5))?;
+    let events = Events::from(list);
+    let last = matches!(events.at(1), Some(Event::Deliver(5)));
+    Ok(last && events.all().len() == 2 && events.len() == 2)
+}
+
+#[test]
+fn events_go_into_a_list_and_back(rt: HostRuntime) {
+    let is = match events_are_a_list(rt.alloc()) {
+        Ok(is) => is,
+        Err(_) => events_are_a_list(rt.alloc()) == Ok(true),
+    };
+    assert!(rt; is);
 }

@@ -93,15 +93,8 @@ const EVENTS: [Want; 29] = [
     Ask(255, 65535, Query::Items),
 ];
 
-const SIXTY_FOUR: &[u8] =
-    b"lattice 1\nreplicas 1 commits 0 cap 1\nsubmit 0 0 remove 7.1 7.2 7.3 7.4 7.5 7.6 7.7 7.8 \
-    7.9 7.10 7.11 7.12 7.13 7.14 7.15 7.16 7.17 7.18 7.19 7.20 7.21 7.22 7.23 7.24 7.25 \
-    7.26 7.27 7.28 7.29 7.30 7.31 7.32 7.33 7.34 7.35 7.36 7.37 7.38 7.39 7.40 7.41 7.42 \
-    7.43 7.44 7.45 7.46 7.47 7.48 7.49 7.50 7.51 7.52 7.53 7.54 7.55 7.56 7.57 7.58 7.59 \
-    7.60 7.61 7.62 7.63 7.64";
-
 // The script, read again where memory was refused. The bytes are few.
-pub fn read_again(alloc: Global, bytes: &[u8]) -> Result<Script, ReadError> {
+fn read_again(alloc: Global, bytes: &[u8]) -> Result<Script, ReadError> {
     if bytes.len() > 1_000_000 {
         return Err(ReadError::Memory);
     }
@@ -178,38 +171,10 @@ pub fn are_events(events: &Events, want: &[Want]) -> bool {
     events.len() == want.len()
 }
 
-// Whether an event removes the tags 7.1 to 7.64.
-fn removes_sixty_four(event: &Event) -> bool {
-    match event {
-        Event::Submit {
-            op: Op::Remove(tags),
-            ..
-        } => {
-            for number in 1..65 {
-                let id = UpdateId { replica: 7, number };
-                if tags.at(number as usize - 1) != Some(&id) {
-                    return false;
-                }
-            }
-            tags.len() == 64
-        }
-        _ => false,
-    }
-}
-
 #[test]
 fn each_form_is_read_at_both_ends_of_its_ranges(rt: HostRuntime) {
     let is = match read_again(rt.alloc(), SCRIPT) {
         Ok(script) => are_events(&script.events, &EVENTS),
-        Err(_) => false,
-    };
-    assert!(rt; is);
-}
-
-#[test]
-fn a_remove_names_64_tags(rt: HostRuntime) {
-    let is = match read_again(rt.alloc(), SIXTY_FOUR) {
-        Ok(script) => script.events.at(0).is_some_and(removes_sixty_four),
         Err(_) => false,
     };
     assert!(rt; is);

@@ -7,17 +7,13 @@ use std::alloc::Global;
 #[derive(Clone, Copy)]
 pub enum Act {
     Inc(u8, u32),
-    Dec(u8, u32),
     Raise(u8, u64),
     Put(u8, u64),
     // Of the tags 0.1, 0.2 and so on, so many.
     Remove(u8, u32),
     Mark(u8),
     // Of a replica, on an object.
-    RaiseOn(u8, u16, u64),
     PutOn(u8, u16, u64),
-    // Of the tags of replica 0 with these numbers.
-    RemoveFrom(u8, u16, &'static [u32]),
     Deliver(u64),
     // Of a replica, to an object, and the value.
     Decide(u8, u8, u64),
@@ -41,27 +37,14 @@ fn tags_to(alloc: Global, count: u32) -> Result<Tags, WorldError> {
     Ok(tags)
 }
 
-fn tags_of(alloc: Global, numbers: &[u32]) -> Result<Tags, WorldError> {
-    let mut tags = Tags::new(alloc);
-    for number in numbers {
-        add_tag(&mut tags, *number)?;
-    }
-    Ok(tags)
-}
-
 pub fn event_of(alloc: Global, act: Act) -> Result<Event, WorldError> {
     let (replica, object, op) = match act {
         Act::Inc(replica, by) => (replica, 1, Op::Inc(by)),
-        Act::Dec(replica, by) => (replica, 1, Op::Dec(by)),
         Act::Raise(replica, to) => (replica, 1, Op::Raise(to)),
         Act::Put(replica, element) => (replica, 1, Op::Put(element)),
         Act::Remove(replica, count) => (replica, 1, Op::Remove(tags_to(alloc, count)?)),
         Act::Mark(replica) => (replica, 1, Op::Mark),
-        Act::RaiseOn(replica, object, to) => (replica, object, Op::Raise(to)),
         Act::PutOn(replica, object, element) => (replica, object, Op::Put(element)),
-        Act::RemoveFrom(replica, object, numbers) => {
-            (replica, object, Op::Remove(tags_of(alloc, numbers)?))
-        }
         Act::Deliver(number) => return Ok(Event::Deliver(number)),
         Act::Decide(replica, commit, value) => {
             return Ok(Event::Decide {

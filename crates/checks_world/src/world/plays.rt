@@ -2,7 +2,7 @@
 // of memory has changed nothing and is made again.
 use super::events::{Act, event_of};
 use super::runs::{EXACT_HALF, HEAVY_VOTER, Run, UNEQUAL_VOTERS};
-use super::shelves::{Numbered, shelves, shelves_again};
+use super::shelves::{Numbered, Object, shelves, shelves_again};
 use super::shown::{Ballot, Row, Shown, counts_of, learnt_of, line_of, row_of};
 use la_object::{Counter, Replicated};
 use la_proposer::Votes;
@@ -89,7 +89,7 @@ pub fn play<B: Replicated>(rt: &impl Abort, world: &mut World<B>, event: &Event)
 }
 
 // Whether each event does what stands beside it.
-pub fn plays<B: Replicated>(
+fn plays<B: Replicated>(
     rt: &impl Abort,
     alloc: Global,
     world: &mut World<B>,
@@ -105,7 +105,7 @@ pub fn plays<B: Replicated>(
 }
 
 // Whether the lines of a report are those of a table.
-pub fn has_lines(steps: &Steps, lines: &[(Act, Row)]) -> bool {
+fn has_lines(steps: &Steps, lines: &[(Act, Row)]) -> bool {
     for place in 0..lines.len() {
         match steps.at(place) {
             Some(line) if line_of(line) == lines[place].1 => {}
@@ -116,7 +116,7 @@ pub fn has_lines(steps: &Steps, lines: &[(Act, Row)]) -> bool {
 }
 
 // Whether these sets were learnt, and the views are these.
-pub fn has_end(report: &Report, run: &Run) -> bool {
+fn has_end(report: &Report, run: &Run) -> bool {
     for place in 0..run.learnt.len() {
         let (before, ballot) = run.learnt[place];
         match report.learnt.at(place) {
@@ -148,7 +148,7 @@ fn report_of<B: Numbered>(
     run(alloc, config, shelves, events.as_slice())
 }
 
-pub fn report_again<R: Abort, B: Numbered>(
+fn report_again<R: Abort, B: Numbered>(
     rt: &R,
     alloc: Global,
     config: Config,
@@ -160,7 +160,7 @@ pub fn report_again<R: Abort, B: Numbered>(
     }
 }
 
-pub fn end_of<B: Replicated>(rt: &impl Abort, alloc: Global, world: &World<B>) -> Report {
+fn end_of<B: Replicated>(rt: &impl Abort, alloc: Global, world: &World<B>) -> Report {
     match world.report(Steps::new(alloc)) {
         Ok(report) => report,
         Err(_) => world
@@ -169,21 +169,29 @@ pub fn end_of<B: Replicated>(rt: &impl Abort, alloc: Global, world: &World<B>) -
     }
 }
 
-#[test]
-fn runs_with_unequal_votes(rt: HostRuntime) {
-    for run in RUNS {
-        let config = voters(&rt, run.votes);
-        let report = report_again::<_, Counter>(&rt, rt.alloc(), config, run.lines);
-        assert!(rt; has_lines(&report.steps, run.lines) && has_end(&report, &run));
-    }
+fn runs_so<R: Abort, B: Numbered>(rt: &R, alloc: Global, run: &Run) -> bool {
+    let report = report_again::<R, B>(rt, alloc, voters(rt, run.votes), run.lines);
+    has_lines(&report.steps, run.lines) && has_end(&report, run)
 }
 
 #[test]
+fn runs_with_unequal_votes(rt: HostRuntime) {
+    for run in &RUNS {
+        assert!(rt; runs_so::<_, Object>(&rt, rt.alloc(), run));
+    }
+}
+
+fn plays_so<R: Abort, B: Numbered>(rt: &R, alloc: Global, run: &Run) -> bool {
+    let mut world: World<B> = world_of(rt, alloc, voters(rt, run.votes));
+    plays(rt, alloc, &mut world, run.lines) && has_end(&end_of(rt, alloc, &world), run)
+}
+
+// `play` makes a question again that was refused for want of memory: the shelf may have absorbed
+// some of the view then, and the answers are the same.
+#[test]
 fn the_same_event_by_event(rt: HostRuntime) {
-    for run in RUNS {
-        let mut world: World<Counter> = world_of(&rt, rt.alloc(), voters(&rt, run.votes));
-        assert!(rt; plays(&rt, rt.alloc(), &mut world, run.lines));
-        assert!(rt; has_end(&end_of(&rt, rt.alloc(), &world), &run));
+    for run in &RUNS {
+        assert!(rt; plays_so::<_, Object>(&rt, rt.alloc(), run));
     }
 }
 

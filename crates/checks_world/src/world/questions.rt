@@ -1,54 +1,12 @@
-// Worlds that are asked: what the runs of the tables answer, and which tags a replica observes.
-use super::asked::{
-    BUFFER_AND_TELLS, FIRST_QUESTIONS, HEAVY_VOTER, LARGEST, READ_BY_MARK, SET_OF_TAGS,
-};
+// Worlds that are asked which tags a replica observes.
 use super::events::Act;
-use super::plays::{act, end_of, has_end, has_lines, play, plays, report_again, voters, world_of};
-use super::runs::Run;
-use super::shelves::{Numbered, Object};
+use super::plays::{act, play, voters, world_of};
 use la_object::Counter;
 use la_orset::OrSet;
 use la_set::{Tags, UpdateId};
 use la_world::{Config, World, WorldError};
 use std::alloc::Global;
 use std::process::Abort;
-
-const RUNS: [Run; 6] = [
-    FIRST_QUESTIONS,
-    BUFFER_AND_TELLS,
-    SET_OF_TAGS,
-    READ_BY_MARK,
-    LARGEST,
-    HEAVY_VOTER,
-];
-
-fn runs_as_it_should<R: Abort, B: Numbered>(rt: &R, alloc: Global, run: &Run) -> bool {
-    let report = report_again::<R, B>(rt, alloc, voters(rt, run.votes), run.lines);
-    has_lines(&report.steps, run.lines) && has_end(&report, run)
-}
-
-#[test]
-fn runs_with_questions(rt: HostRuntime) {
-    for run in RUNS {
-        assert!(rt; runs_as_it_should::<_, Object>(&rt, rt.alloc(), &run));
-    }
-}
-
-fn plays_as_it_should<R: Abort, B: Numbered>(rt: &R, alloc: Global, run: &Run) -> bool {
-    let mut world: World<B> = world_of(rt, alloc, voters(rt, run.votes));
-    plays(rt, alloc, &mut world, run.lines) && has_end(&end_of(rt, alloc, &world), run)
-}
-
-// `play` makes a question again that was refused for want of memory: the shelf may have absorbed
-// some of the view then, and the answers are the same.
-#[test]
-fn questions_event_by_event(rt: HostRuntime) {
-    for run in RUNS {
-        assert!(rt; plays_as_it_should::<_, Object>(&rt, rt.alloc(), &run));
-    }
-}
-
-// ## What a replica observes
 
 // How many messages a learning takes in a group of three: three offers, two acknowledgements and two
 // tells.

@@ -1,8 +1,11 @@
 // Runs of groups whose replicas have unequal votes, which no script says. The tables were made
-// independently of this repository.
-use super::events::Act::{self, Deliver, Inc, Mark, Put, Raise, Remove};
-use super::shown::Shown::{Counted, Held, Ignored, Kept, Learnt, No, Opened, Refined, Took, Yes};
+// independently of this repository, but for the questions, which were worked out by hand.
+use super::events::Act::{self, Ask, Deliver, Inc, Mark, Put, Raise, Remove};
+use super::shown::Shown::{
+    Counted, Foreign, Held, Ignored, Kept, Learnt, No, Opened, Refined, Took, Total, Yes,
+};
 use super::shown::{Ballot, Counts, Row};
+use la_object::Query;
 
 #[derive(Clone, Copy)]
 pub struct Run {
@@ -40,7 +43,7 @@ const EXACT_HALF_LEARNT: [(u64, Ballot); 1] = [(6, Ballot(0, 1, [1, 0, 0, 0]))];
 
 const EXACT_HALF_VIEWS: [Counts; 3] = [[1, 0, 0, 0], [0, 0, 0, 0], [0, 0, 0, 0]];
 
-// One replica has more than half of the votes.
+// One replica has more than half of the votes; questions to it and to another.
 pub const HEAVY_VOTER: Run = Run {
     votes: &[3, 1, 1],
     lines: &HEAVY_VOTER_LINES,
@@ -48,13 +51,16 @@ pub const HEAVY_VOTER: Run = Run {
     views: &HEAVY_VOTER_VIEWS,
 };
 
-const HEAVY_VOTER_LINES: [(Act, Row); 3] = [
+const HEAVY_VOTER_LINES: [(Act, Row); 6] = [
     (Inc(0, 5), Row(Opened(Ballot(0, 1, [1, 0, 0, 0])), 0, 3)),
     (Deliver(0), Row(Yes, 3, 1)),
     (
         Deliver(3),
         Row(Learnt(Ballot(0, 1, [1, 0, 0, 0]), 2, None), 4, 2),
     ),
+    (Ask(0, 1, Query::Total), Row(Total(5), 6, 0)),
+    (Ask(0, 2, Query::Total), Row(Foreign, 6, 0)),
+    (Ask(1, 1, Query::Total), Row(Total(0), 6, 0)),
 ];
 
 const HEAVY_VOTER_LEARNT: [(u64, Ballot); 1] = [(2, Ballot(0, 1, [1, 0, 0, 0]))];

@@ -1,7 +1,7 @@
 // Steps in short, so that a table can hold them. Of a set stands how many updates of each of the
 // first four replicas it has: these are the first ones that each has submitted.
 use la_acceptor::Reply;
-use la_object::{Answer, Items};
+use la_object::Answer;
 use la_set::UpdateSet;
 use la_world::{Did, Learnt, Line, Opening, Refusal, Step};
 
@@ -25,14 +25,9 @@ pub enum Shown {
     Took(Counts),
     Kept,
     Total(i64),
-    Largest(u64),
-    Has(bool),
-    Size(u64),
-    // How many elements, and the first two of them: 0 where there is none.
-    Items(usize, [u64; 2]),
     Foreign,
     Refused(Refusal),
-    // Of another instance.
+    // Of another instance, or another answer.
     Elsewhere,
 }
 
@@ -64,20 +59,11 @@ fn reply_of(reply: &Reply) -> Shown {
     }
 }
 
-fn element_at(items: &Items, place: usize) -> u64 {
-    items.at(place).copied().unwrap_or(0)
-}
-
 fn answer_of(answer: &Answer) -> Shown {
     match answer {
         Answer::Total(total) => Shown::Total(*total),
-        Answer::Largest(largest) => Shown::Largest(*largest),
-        Answer::Has(there) => Shown::Has(*there),
-        Answer::Size(size) => Shown::Size(*size),
-        Answer::Items(items) => {
-            Shown::Items(items.len(), [element_at(items, 0), element_at(items, 1)])
-        }
         Answer::Foreign => Shown::Foreign,
+        _ => Shown::Elsewhere,
     }
 }
 
