@@ -1,6 +1,5 @@
 // la_replica: runs as tables, messages and mail, and callers that know nothing but its
 // clauses.
-mod both;
 mod exactness;
 mod lists;
 mod plays;

@@ -46,36 +46,16 @@ const OFFERS: [(&[Row], Told, &[Row]); 7] = [
     (SECOND, Told::No, BOTH),
 ];
 
-// How an offer is made: by one call, or admitted and then taken.
-#[derive(Clone, Copy)]
-enum Way {
-    AtOnce,
-    InTwo,
-}
-
-fn offer_by(
-    acceptor: &mut Acceptor,
-    offered: &UpdateSet,
-    way: Way,
-) -> Result<Reply, AcceptorError> {
-    if let Way::AtOnce = way {
-        return acceptor.offer(offered);
-    }
-    acceptor.admit_offer(offered)?;
-    Ok(acceptor.take_offer(offered)?)
-}
-
 fn offer(
     rt: &impl Abort,
     acceptor: &mut Acceptor,
     offered: &UpdateSet,
-    way: Way,
 ) -> Result<Reply, AcceptorError> {
     let before = acceptor.accepted().len();
-    match offer_by(acceptor, offered, way) {
+    match acceptor.offer(offered) {
         Err(AcceptorError::Memory) => {
             assert!(rt; acceptor.accepted().len() == before);
-            offer_by(acceptor, offered, way)
+            acceptor.offer(offered)
         }
         first => first,
     }
@@ -90,24 +70,16 @@ fn is_told(reply: &Result<Reply, AcceptorError>, told: Told, accepted: &UpdateSe
     }
 }
 
-fn answers(rt: &impl Abort, alloc: Global, way: Way) {
+#[test]
+fn offers_are_answered(rt: HostRuntime) {
+    let alloc = rt.alloc();
     let mut acceptor = Acceptor::new(alloc);
     for (place, (offered, told, accepted)) in OFFERS.iter().enumerate() {
-        let reply = offer(rt, &mut acceptor, &set_of(rt, alloc, offered), way);
-        let accepted = set_of(rt, alloc, accepted);
+        let reply = offer(&rt, &mut acceptor, &set_of(&rt, alloc, offered));
+        let accepted = set_of(&rt, alloc, accepted);
         assert!(rt; is_told(&reply, *told, &accepted), "at {place}");
         assert!(rt; acceptor.accepted().same(&accepted), "at {place}");
     }
-}
-
-#[test]
-fn offers_are_answered(rt: HostRuntime) {
-    answers(&rt, rt.alloc(), Way::AtOnce);
-}
-
-#[test]
-fn offers_are_admitted_and_taken(rt: HostRuntime) {
-    answers(&rt, rt.alloc(), Way::InTwo);
 }
 
 fn copy_of(rt: &impl Abort, acceptor: &Acceptor) -> Acceptor {
@@ -128,7 +100,7 @@ fn copy_of_reply(rt: &impl Abort, reply: &Reply) -> Reply {
 fn an_acceptor_is_copied(rt: HostRuntime) {
     let mut acceptor = Acceptor::new(rt.alloc());
     let first = set_of(&rt, rt.alloc(), FIRST);
-    assert!(rt; offer(&rt, &mut acceptor, &first, Way::AtOnce).is_ok());
+    assert!(rt; offer(&rt, &mut acceptor, &first).is_ok());
     let copy = copy_of(&rt, &acceptor);
     assert!(rt; copy.accepted().same(&first));
 }
@@ -138,27 +110,17 @@ fn an_acceptor_is_copied(rt: HostRuntime) {
 fn an_offer_again_takes_no_memory(rt: HostRuntime) {
     let mut acceptor = Acceptor::new(rt.alloc());
     let first = set_of(&rt, rt.alloc(), FIRST);
-    assert!(rt; offer(&rt, &mut acceptor, &first, Way::AtOnce).is_ok());
-    for way in [Way::AtOnce, Way::InTwo] {
-        let again = offer_by(&mut acceptor, &first, way);
-        assert!(rt; again.is_ok_and(|reply| reply.same(&Reply::Yes)));
-    }
+    assert!(rt; offer(&rt, &mut acceptor, &first).is_ok());
+    let again = acceptor.offer(&first);
+    assert!(rt; again.is_ok_and(|reply| reply.same(&Reply::Yes)));
 }
 
 #[test]
 fn a_reply_is_copied(rt: HostRuntime) {
     let mut acceptor = Acceptor::new(rt.alloc());
-    assert!(rt;
-        offer(
-            &rt,
-            &mut acceptor,
-            &set_of(&rt, rt.alloc(), FIRST),
-            Way::AtOnce
-        )
-        .is_ok()
-    );
+    assert!(rt; offer(&rt, &mut acceptor, &set_of(&rt, rt.alloc(), FIRST)).is_ok());
     let second = set_of(&rt, rt.alloc(), SECOND);
-    let reply = offer(&rt, &mut acceptor, &second, Way::AtOnce).expect(&rt, "no clash");
+    let reply = offer(&rt, &mut acceptor, &second).expect(&rt, "no clash");
     let copy = copy_of_reply(&rt, &reply);
     assert!(rt; reply.same(&copy) && !reply.same(&Reply::Yes));
 }

@@ -49,20 +49,13 @@ pub struct Play {
     pub steps: &'static [Step],
 }
 
-/// How an input is heard: by one call, or admitted and then taken.
-#[derive(Clone, Copy)]
-pub enum Way {
-    AtOnce,
-    InTwo,
-}
-
 /// Plays a table at one proposer: what each reply would come to is asked, and then it is heard.
-pub fn plays(rt: &impl Abort, alloc: Global, play: &Play, way: Way) {
+pub fn plays(rt: &impl Abort, alloc: Global, play: &Play) {
     let votes = Votes::new(play.votes).expect(rt, "votes of a group");
     let mut proposer = proposer_of(rt, alloc, play, votes);
     for (place, step) in play.steps.iter().enumerate() {
         let told = tells(rt, alloc, &proposer, step);
-        let came = hears(rt, alloc, &mut proposer, &step.0, way);
+        let came = hears(rt, alloc, &mut proposer, &step.0);
         assert!(rt; told && came == step.1, "{}: outcome {place}", play.name);
         assert!(rt;
             stands(rt, alloc, &proposer, step),
@@ -116,55 +109,21 @@ fn is_verdict(verdict: &Option<Verdict>, outcome: Outcome) -> bool {
     }
 }
 
-fn hears(
-    rt: &impl Abort,
-    alloc: Global,
-    proposer: &mut Proposer,
-    input: &Input,
-    way: Way,
-) -> Outcome {
-    match hears_once(rt, alloc, proposer, input, way) {
-        Outcome::Refused(ProposerError::Memory) => hears_once(rt, alloc, proposer, input, way),
+fn hears(rt: &impl Abort, alloc: Global, proposer: &mut Proposer, input: &Input) -> Outcome {
+    match hears_once(rt, alloc, proposer, input) {
+        Outcome::Refused(ProposerError::Memory) => hears_once(rt, alloc, proposer, input),
         outcome => outcome,
     }
 }
 
-fn hears_once(
-    rt: &impl Abort,
-    alloc: Global,
-    proposer: &mut Proposer,
-    input: &Input,
-    way: Way,
-) -> Outcome {
+fn hears_once(rt: &impl Abort, alloc: Global, proposer: &mut Proposer, input: &Input) -> Outcome {
     match input {
-        Input::Submits(by) => opened(&submits(proposer, *by, way)),
+        Input::Submits(by) => opened(&proposer.submit(1, Op::Inc(*by))),
         Input::Replies(from, ballot, refused) => {
             let reply = reply_of(rt, alloc, *refused);
-            heard(&replies(proposer, *from, *ballot, reply, way))
+            heard(&proposer.reply(*from, *ballot, reply))
         }
     }
-}
-
-fn submits(proposer: &mut Proposer, by: u32, way: Way) -> Result<Option<Ballot>, ProposerError> {
-    if let Way::AtOnce = way {
-        return proposer.submit(1, Op::Inc(by));
-    }
-    proposer.admit_submission()?;
-    Ok(proposer.take_submission(1, Op::Inc(by))?)
-}
-
-fn replies(
-    proposer: &mut Proposer,
-    from: u8,
-    ballot: u32,
-    reply: Reply,
-    way: Way,
-) -> Result<Heard, ProposerError> {
-    if let Way::AtOnce = way {
-        return proposer.reply(from, ballot, reply);
-    }
-    proposer.admit_reply(from, ballot, refusal_of(&reply))?;
-    Ok(proposer.take_reply(from, ballot, reply)?)
 }
 
 // The set that a reply refuses an offer with, if it does.

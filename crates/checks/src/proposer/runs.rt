@@ -1,7 +1,7 @@
 // Runs of one proposer, worked by hand.
 use super::plays::Input::{Replies, Submits};
 use super::plays::Outcome::{Counted, Ignored, Learnt, Opened, Refined, Refused, Waits};
-use super::plays::{Play, Step, Way, plays};
+use super::plays::{Play, Step, plays};
 use crate::given::Given;
 use la_proposer::ProposerError::{Clash, Full, NoSuchReplica};
 use la_proposer::{BadConfig, Votes};
@@ -214,14 +214,7 @@ const PLAYS: [Play; 7] = [
 #[test]
 fn runs_come_to_what_is_worked(rt: HostRuntime) {
     for play in &PLAYS {
-        plays(&rt, rt.alloc(), play, Way::AtOnce);
-    }
-}
-
-#[test]
-fn what_is_admitted_is_taken(rt: HostRuntime) {
-    for play in &PLAYS {
-        plays(&rt, rt.alloc(), play, Way::InTwo);
+        plays(&rt, rt.alloc(), play);
     }
 }
 

@@ -1,10 +1,5 @@
 // Plays a table of inputs at one replica. Each call is made again where memory was refused, after a
 // look at what stands: so the tests pass with every single allocation failing too.
-ghost use Rattle.std.specs.Prelude.{IsTrue, IsSomeAnd, slice_get};
-ghost use Rattle.la_replica.specs.Whole.{whole_of};
-ghost use Rattle.la_replica.specs.Refusals.{IsReceivable};
-ghost use Rattle.la_replica.specs.Fitting.{FitsViewBody};
-
 use crate::given::{Given, set_of};
 use la_acceptor::Reply;
 use la_proposer::{Ballot, Votes};
@@ -60,19 +55,11 @@ pub struct Play {
     pub steps: &'static [Step],
 }
 
-/// How an input is played: by one call, or admitted and then taken.
-#[derive(Clone, Copy)]
-pub enum Way {
-    AtOnce,
-    InTwo,
-}
-
-/// Plays a table at one replica. In two calls goes each submission, and each message that is known
-/// to fit the view.
-pub fn plays(rt: &impl Abort, alloc: Global, play: &Play, way: Way) {
+/// Plays a table at one replica.
+pub fn plays(rt: &impl Abort, alloc: Global, play: &Play) {
     let mut replica = fresh(rt, alloc);
     for (place, step) in play.steps.iter().enumerate() {
-        let came = comes_to(rt, alloc, &mut replica, step, way);
+        let came = comes_to(rt, alloc, &mut replica, step);
         assert!(rt; came, "{}: outcome {place}", play.name);
         assert!(rt;
             stands(rt, alloc, &replica, step),
@@ -87,12 +74,12 @@ pub fn plays_copied(rt: &impl Abort, alloc: Global, play: &Play) {
     let mut replica = fresh(rt, alloc);
     for (place, step) in play.steps.iter().enumerate() {
         replica = copy_of(rt, &replica);
-        let came = comes_to(rt, alloc, &mut replica, step, Way::AtOnce);
+        let came = comes_to(rt, alloc, &mut replica, step);
         assert!(rt; came, "{}: outcome {place}", play.name);
     }
 }
 
-pub fn fresh(rt: &impl Abort, alloc: Global) -> Replica {
+fn fresh(rt: &impl Abort, alloc: Global) -> Replica {
     match Replica::new(alloc, 3, 0, 3, 1, Votes::one_each(3)) {
         Ok(replica) => replica,
         Err(_) => Replica::new(alloc, 3, 0, 3, 1, Votes::one_each(3)).expect(rt, "memory again"),
@@ -107,10 +94,10 @@ fn copy_of(rt: &impl Abort, replica: &Replica) -> Replica {
 }
 
 // Whether a step's input comes to what the step says.
-fn comes_to(rt: &impl Abort, alloc: Global, replica: &mut Replica, step: &Step, way: Way) -> bool {
+fn comes_to(rt: &impl Abort, alloc: Global, replica: &mut Replica, step: &Step) -> bool {
     let answer = match message_of(rt, alloc, &step.0) {
-        None => submit(rt, replica, instance_of(&step.0), way),
-        Some(message) => receive(rt, alloc, replica, &message, way),
+        None => submit(rt, replica, instance_of(&step.0)),
+        Some(message) => receive(rt, replica, &message),
     };
     is_said(&answer, step.1) && sends(&answer, step.2)
 }
@@ -122,7 +109,7 @@ fn instance_of(input: &Input) -> u8 {
     }
 }
 
-pub fn message_of(rt: &impl Abort, alloc: Global, input: &Input) -> Option<Message> {
+fn message_of(rt: &impl Abort, alloc: Global, input: &Input) -> Option<Message> {
     Some(match input {
         Input::Submits(_) => return None,
         Input::Offer(instance, from, ballot, updates) => {
@@ -171,7 +158,7 @@ fn to_0(instance: u8, from: u8, ballot: u32, body: Body) -> Message {
 }
 
 /// What is compared of an instance around a call that is refused.
-pub fn standing(replica: &Replica, instance: u8) -> (usize, bool, Option<u32>) {
+fn standing(replica: &Replica, instance: u8) -> (usize, bool, Option<u32>) {
     (
         replica.view().len(),
         replica.last_learnt(instance).is_some(),
@@ -179,79 +166,30 @@ pub fn standing(replica: &Replica, instance: u8) -> (usize, bool, Option<u32>) {
     )
 }
 
-pub fn submit(
-    rt: &impl Abort,
-    replica: &mut Replica,
-    instance: u8,
-    way: Way,
-) -> Result<Out, ReplicaError> {
+fn submit(rt: &impl Abort, replica: &mut Replica, instance: u8) -> Result<Out, ReplicaError> {
     let before = standing(replica, 0);
-    match submit_by(replica, instance, way) {
+    match replica.submit(instance, 1, Op::Inc(5)) {
         Err(ReplicaError::Memory) => {
             assert!(rt; standing(replica, 0) == before);
-            submit_by(replica, instance, way)
+            replica.submit(instance, 1, Op::Inc(5))
         }
         answer => answer,
     }
 }
 
-fn submit_by(replica: &mut Replica, instance: u8, way: Way) -> Result<Out, ReplicaError> {
-    if let Way::AtOnce = way {
-        return replica.submit(instance, 1, Op::Inc(5));
-    }
-    replica.admit_submission(instance)?;
-    Ok(replica.take_submission(instance, 1, Op::Inc(5))?)
-}
-
 // Receives a message, and looks that what it leads to learning was told before.
-pub fn receive(
-    rt: &impl Abort,
-    alloc: Global,
-    replica: &mut Replica,
-    message: &Message,
-    way: Way,
-) -> Result<Out, ReplicaError> {
+fn receive(rt: &impl Abort, replica: &mut Replica, message: &Message) -> Result<Out, ReplicaError> {
     let before = standing(replica, 0);
     let foretold = learns(replica, message);
-    let answer = match receive_by(alloc, replica, message, way) {
+    let answer = match replica.receive(message) {
         Err(ReplicaError::Memory) => {
             assert!(rt; standing(replica, 0) == before);
-            receive_by(alloc, replica, message, way)
+            replica.receive(message)
         }
         answer => answer,
     };
     assert!(rt; answer.is_err() || foretold == learnt_of(&answer));
     answer
-}
-
-fn receive_by(
-    alloc: Global,
-    replica: &mut Replica,
-    message: &Message,
-    way: Way,
-) -> Result<Out, ReplicaError> {
-    if let Way::AtOnce = way {
-        return replica.receive(message);
-    }
-    replica.admit_message(message)?;
-    if fits_view(alloc, replica, message) {
-        return Ok(replica.take_message(message)?);
-    }
-    replica.receive(message)
-}
-
-// Whether the set that may become the view fits it, as far as can be told from outside: a told set
-// by comparing, and the one that a reply may lead to learning where the view is empty.
-pub fn fits_view(alloc: Global, replica: &Replica, message: &Message) -> bool
-    ensures { IsTrue result → IsReceivable replica.now (whole_of message.now)
-        → IsSomeAnd (slice_get replica.now.instances message.now.instance) (λ x.
-        FitsViewBody x replica.now.view (whole_of message.now) (whole_of message.now).body) }
-{
-    match &message.body {
-        Body::Offer(_) => true,
-        Body::Tell(told) => replica.view().first_clash(told).is_none(),
-        Body::Yes | Body::No(_) => replica.view().same(&UpdateSet::new(alloc)),
-    }
 }
 
 // How many updates the set has that a message would lead the replica to learn.
@@ -281,7 +219,7 @@ fn is_said(answer: &Result<Out, ReplicaError>, outcome: Outcome) -> bool {
     }
 }
 
-pub fn brief(said: &Said) -> Outcome {
+fn brief(said: &Said) -> Outcome {
     match said {
         Said::Opened(ballot) => Outcome::Opened(ballot.number, ballot.updates.len()),
         Said::Held(id) => Outcome::Held(id.number),
@@ -311,7 +249,7 @@ fn sends(answer: &Result<Out, ReplicaError>, mail: &[(u8, u8)]) -> bool {
     }
 }
 
-pub fn is_mail(mail: &Mail, sent: &[(u8, u8)]) -> bool {
+fn is_mail(mail: &Mail, sent: &[(u8, u8)]) -> bool {
     for (message, (letter, to)) in mail.all().iter().zip(sent) {
         if letter_of(&message.body) != *letter || message.to != *to || message.from != 0 {
             return false;

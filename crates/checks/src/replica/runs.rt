@@ -1,5 +1,5 @@
 // Runs of one replica, as tables.
-use super::plays::{Input, Outcome, Play, Step, Way, plays, plays_copied};
+use super::plays::{Input, Outcome, Play, Step, plays, plays_copied};
 use crate::given::Given;
 use la_replica::{ReplicaError, laws};
 use la_set::UpdateId;
@@ -294,14 +294,7 @@ const PLAYS: [Play; 5] = [
 #[test]
 fn a_replica_does_what_its_tables_say(rt: HostRuntime) {
     for play in &PLAYS {
-        plays(&rt, rt.alloc(), play, Way::AtOnce);
-    }
-}
-
-#[test]
-fn what_is_admitted_is_taken(rt: HostRuntime) {
-    for play in &PLAYS {
-        plays(&rt, rt.alloc(), play, Way::InTwo);
+        plays(&rt, rt.alloc(), play);
     }
 }
 
