@@ -6,9 +6,8 @@ use Rattle.la_replica.specs.declared.message.Message as code
 use Rattle.la_replica.specs.declared.message.Body as code_body
 use Rattle.la_replica.specs.declared.message.Body.TheVariants as body
 use Rattle.la_replica.specs.declared.out.Out as code_out
-use Rattle.la_replica.specs.declared.out.Both as code_both
 use Rattle.la_replica.specs.ReplicaState.{ReplicaState}
-use Rattle.la_replica.specs.Whole.{Message, Out, Both, whole_body, whole_of, whole_mail, whole_out, whole_both}
+use Rattle.la_replica.specs.Whole.{Message, Out, whole_body, whole_of, whole_mail, whole_out}
 
 pub body_once : (b c : code_body.Body) → whole_body b ≡ whole_body c → b ≡ c
 body_once (body.Offer s) (body.Offer u) e = cc
@@ -52,15 +51,3 @@ pub outs_agree : {D E : Type 0} (x y : Option (Out × ReplicaState)) (a : Result
 outs_agree x y (Ok o) (Ok p) m n same h k = out_once o p (ap (λ (t : Out × ReplicaState). t.0) (same_Some (whole_out o, m) (whole_out p, n) (sym h ∙ same ∙ k)))
 outs_agree x y (Ok o) (Err e) m n same h k = tt
 outs_agree x y (Err d) b m n same h k = tt
-
-both_once : (a b : code_both.Both) → whole_both a ≡ whole_both b → a ≡ b
-both_once a b e =
-    let same : a.mail ≡ b.mail = mail_once a.mail b.mail (ap (λ (o : Both). o.mail) e) in
-    λ j. record { received = (e j).received; submitted = (e j).submitted; mail = same j }
-
--- the same of two steps at once
-pub boths_agree : {D E : Type 0} (x y : Option (Both × ReplicaState)) (a : Result code_both.Both D) (b : Result code_both.Both E) (m n : ReplicaState) → x ≡ y
-    → IfOk a (λ o. x ≡ Some (whole_both o, m)) → IfOk b (λ o. y ≡ Some (whole_both o, n)) → IfOk a (λ o. IfOk b (λ p. o ≡ p))
-boths_agree x y (Ok o) (Ok p) m n same h k = both_once o p (ap (λ (t : Both × ReplicaState). t.0) (same_Some (whole_both o, m) (whole_both p, n) (sym h ∙ same ∙ k)))
-boths_agree x y (Ok o) (Err e) m n same h k = tt
-boths_agree x y (Err d) b m n same h k = tt

@@ -1,27 +1,25 @@
--- What the contracts of la_replica leave open of a message: one refusal, and one set that it leads to learning.
+-- What the contracts of la_replica leave open of a message: one refusal.
 use Rattle.std.proofs.Common.{◌≡◌, ◌≢◌, ◌⊎◌, ℕ, ◌<◌, ◌≤◌, true, length, List, Option, Some, None, IsSomeAnd, option_map, slice_get, refl, sym, ◌∙◌, ap, subst, arith, inl, inr}
-use Rattle.std.proofs.lemmas.Option.{slice_get_past, slice_get_cases}
-use Rattle.la_set.specs.Histories.{Histories, empty}
-use Rattle.la_set.specs.Join.{IsCompatible}
+use Rattle.std.proofs.lemmas.Bool.{true≢false}
+use Rattle.std.proofs.lemmas.Option.{slice_get_past}
+use Rattle.la_set.specs.Histories.{Histories}
 use Rattle.la_acceptor.specs.declared.error.AcceptorError.{AcceptorError}
 use Rattle.la_acceptor.specs.declared.error.AcceptorError.TheVariants as accepting
 use Rattle.la_acceptor.specs.declared.reply.Reply.{Reply}
 use Rattle.la_acceptor.specs.declared.reply.Reply.TheVariants as replied
 use Rattle.la_acceptor.specs.Refusals.{IsOfferRefusal}
-use Rattle.la_acceptor.proofs.Accepting.{contains-empty}
 use Rattle.la_proposer.specs.declared.error.ProposerError.{ProposerError}
 use Rattle.la_proposer.specs.declared.error.ProposerError.TheVariants as proposer_error
 use Rattle.la_proposer.specs.ProposerState.{ProposerState, counts, with_reply}
 use Rattle.la_proposer.specs.Clashes.{Fits}
-use Rattle.la_proposer.specs.Refusals.{ReplySpends}
+use Rattle.la_proposer.specs.declared.tally.Verdict.{Verdict}
+use Rattle.la_proposer.specs.Refusals.{IsVerdictOf, ReplySpends}
 use Rattle.la_replica.specs.declared.error.ReplicaError.{ReplicaError}
 use Rattle.la_replica.specs.declared.error.ReplicaError.TheVariants.{NoSuchReplica, NoSuchInstance, Full, Clash, BallotsSpent, Memory}
 use Rattle.la_replica.specs.declared.instance.Instance.{Instance}
-use Rattle.la_replica.specs.Whole.{Message, Body, Offer, Yes, No, Tell, Out}
-use Rattle.la_replica.specs.Steps as steps
-use Rattle.la_replica.specs.Steps.{learnt_in}
-use Rattle.la_replica.specs.ReplicaState.{ReplicaState, sender_of, after_step, receives}
-use Rattle.la_replica.specs.Fitting.{FitsViewBody}
+use Rattle.la_replica.specs.Whole.{Message, Body, Offer, Yes, No, Tell}
+use Rattle.la_replica.specs.Changes.{IsVerdictOn}
+use Rattle.la_replica.specs.ReplicaState.{ReplicaState}
 use Rattle.la_replica.specs.Refusals.{of_acceptor, of_proposer, IsAnswerRefusal, IsHearingRefusal, IsTellRefusal, IsBodyRefusal, IsFor, IsReceiveRefusal, FitsBody, IsReceivable, SparesBody, ReceivingSpares}
 use Rattle.checks.proofs.OfferAnswers.{one_offer_refusal, fitting_offer}
 use Rattle.checks.proofs.ProposerAnswers.{IsCountingRefusal, one_counting_refusal, fitting_counting}
@@ -156,36 +154,19 @@ module _ (m : ReplicaState) (message : Message) where
   pub fitting_message : (e : ReplicaError) → IsReceivable m message × ReceivingSpares m message → IsReceiveRefusal m message e → e ≡ Memory
   fitting_message e g h = alone e g (reason_is e h)
 
--- ## What would be learnt
+-- ## The verdict
 
--- in an instance that there is, a message comes to something, and so what it leads to learning is one
-pub one_learning : (m : ReplicaState) (message : Message) (a b : Option Histories) → message.instance < length m.instances
-    → ((out : Out) (after : ReplicaState) → receives m message ≡ Some (out, after) → a ≡ learnt_in out.said)
-    → ((out : Out) (after : ReplicaState) → receives m message ≡ Some (out, after) → b ≡ learnt_in out.said) → a ≡ b
-one_learning m message a b lt p q = elim (slice_get_cases m.instances message.instance).1 [
-  | inl there ↦ (let e = ap (option_map (λ x. after_step m message.instance (steps.receives (sender_of m message.instance) x m.view message))) there.2 in p _ _ e ∙ sym (q _ _ e))
-  | inr past ↦ absurd (over message.instance (length m.instances) past.0 lt)
-]
+one_verdict_of : (p : ProposerState) (from ballot : ℕ) (reply : Reply) (v w : Option Verdict) → IsVerdictOf p from ballot reply v → IsVerdictOf p from ballot reply w → v ≡ w
+one_verdict_of p from ballot reply None None h k = refl
+one_verdict_of p from ballot reply None (Some w) h k = absurd (true≢false (sym k.0 ∙ h))
+one_verdict_of p from ballot reply (Some v) None h k = absurd (true≢false (sym h.0 ∙ k))
+one_verdict_of p from ballot reply (Some v) (Some w) h k = ap Some (h.1 ∙ sym k.1)
 
--- ## What fits the view
+one_verdict_on : (x : Instance) (m : Message) (body : Body) (v w : Option Verdict) → IsVerdictOn x m v body → IsVerdictOn x m w body → v ≡ w
+one_verdict_on x m (Offer s) v w h k = h ∙ sym k
+one_verdict_on x m (Tell s) v w h k = h ∙ sym k
+one_verdict_on x m Yes v w h k = one_verdict_of x.proposer m.from m.ballot replied.Yes v w h k
+one_verdict_on x m (No s) v w h k = one_verdict_of x.proposer m.from m.ballot (replied.No s) v w h k
 
-any_at : {X : Type 0} (o : Option X) (P Q : X → Type 0) → IsSomeAnd o P → ((x : X) → Q x) → IsSomeAnd o Q
-any_at None P Q p q = absurd p
-any_at (Some x) P Q p q = q x
-
--- what fits it in each instance fits it in the message's
-pub fits_there : (m : ReplicaState) (message : Message) → IsReceivable m message → ((x : Instance) → FitsViewBody x m.view message message.body) → IsSomeAnd (slice_get m.instances message.instance) (λ x. FitsViewBody x m.view message message.body)
-fits_there m message receivable fits = any_at (slice_get m.instances message.instance) _ _ receivable.1 fits
-
--- the empty view fits all
-empty_fits : (s : Histories) → IsCompatible empty s
-empty_fits s u v in_empty in_s same = absurd (contains-empty u in_empty)
-
-empty_fits_body : (x : Instance) (m : Message) (body : Body) → FitsViewBody x empty m body
-empty_fits_body x m (Offer s) = tt
-empty_fits_body x m Yes = λ at_0. empty_fits x.proposer.updates
-empty_fits_body x m (No s) = λ at_0. empty_fits x.proposer.updates
-empty_fits_body x m (Tell s) = λ at_0. empty_fits s
-
-pub empty_fits_there : (m : ReplicaState) (message : Message) → m.view ≡ empty → IsReceivable m message → IsSomeAnd (slice_get m.instances message.instance) (λ x. FitsViewBody x m.view message message.body)
-empty_fits_there m message is receivable = fits_there m message receivable (λ x. subst (λ view. FitsViewBody x view message message.body) (sym is) (empty_fits_body x message message.body))
+pub one_verdict_there : (m : ReplicaState) (message : Message) (v w : Option Verdict) → IsSomeAnd (slice_get m.instances message.instance) (λ x. IsVerdictOn x message v message.body) → IsSomeAnd (slice_get m.instances message.instance) (λ x. IsVerdictOn x message w message.body) → v ≡ w
+one_verdict_there m message v w h k = at_one (slice_get m.instances message.instance) (λ x. IsVerdictOn x message v message.body) (λ x. IsVerdictOn x message w message.body) (λ x a b. one_verdict_on x message message.body v w a b) h k

@@ -179,8 +179,8 @@ fn second_vote(alloc: Global) -> Option<bool> {
         ballot: 1,
         body: Body::Yes,
     };
-    let both = take_in_and_vote(&mut replica, &yes, 9).ok()?;
-    Some(both.mail.len() == 1 && replica.submitted(2) == Some(1))
+    let (_, voted) = take_in_and_vote(&mut replica, &yes, 9).ok()?;
+    Some(voted.mail.len() == 1 && replica.submitted(2) == Some(1))
 }
 
 fn replicas(alloc: Global) -> Option<bool> {

@@ -1,7 +1,7 @@
-ghost use Rattle.std.specs.Prelude.{◌≡◌, ◌≢◌, IfOk, IfErr, OnOk, OnErr};
+ghost use Rattle.std.specs.Prelude.{◌≡◌, ◌≢◌, IsOk, IfOk, IfErr, OnOk, OnErr};
 ghost use Rattle.la_set.specs.Histories.{Histories, empty};
 ghost use Rattle.la_set.specs.Join.{IsCompatible, join};
-ghost use Rattle.la_acceptor.specs.Answer.{answer};
+ghost use Rattle.la_acceptor.specs.Answer.{answer, accepted_next};
 ghost use Rattle.la_acceptor.specs.Refusals.{IsOfferRefusal};
 
 use crate::{AcceptorError, Reply};
@@ -57,7 +57,8 @@ impl Acceptor {
     /// `Memory` comes only where there is no clash. After a refusal the accepted set is unchanged.
     /// An offer of exactly what is accepted is answered `Yes` without memory.
     ///
-    /// It is [`Acceptor::admit_offer`] and then [`Acceptor::take_offer`], at the cost of the two.
+    /// It is [`Acceptor::admit_offer`], [`Acceptor::prepare_offer`] and [`Acceptor::commit`], at the
+    /// cost of the three.
     pub fn offer(&mut self, offered: &UpdateSet) -> Result<Reply, AcceptorError>
         ensures reply { IfOk result (λ reply. reply ≡ answer self.old offered.now) }
         ensures accepted { OnOk result (self.new ≡ join self.old offered.now) }
@@ -67,7 +68,9 @@ impl Acceptor {
         ensures again { offered.now ≡ self.old → result ≡ Ok Reply.Yes }
     {
         self.admit_offer(offered)?;
-        Ok(self.take_offer(offered)?)
+        let (reply, accepted) = self.prepare_offer(offered)?;
+        self.commit(accepted);
+        Ok(reply)
     }
 
     /// Whether an offer would be answered, memory apart: `Clash` comes exactly where an id has two
@@ -84,27 +87,41 @@ impl Acceptor {
         }
     }
 
-    /// Answers an offer that is admitted, as [`Acceptor::offer`] does. It compares no updates: the
-    /// counts tell whether the offer has what was accepted. It is refused for want of memory alone;
-    /// then the accepted set is unchanged. An offer of exactly what is accepted takes none.
+    /// Prepares to answer an offer that is admitted: the reply, and the set to accept, or `None` where
+    /// what is accepted stays. It compares no updates: the counts tell whether the offer has what was
+    /// accepted. It is refused for want of memory alone, and takes none where the offer is exactly
+    /// what is accepted.
     ///
     /// The cost is that of copying what was accepted, which shares it, and of
     /// [`UpdateSet::join_compatible`].
-    pub fn take_offer(&mut self, offered: &UpdateSet) -> Result<Reply, AllocError>
-        requires { IsCompatible self.old offered.now }
-        ensures reply { IfOk result (λ reply. reply ≡ answer self.old offered.now) }
-        ensures accepted { OnOk result (self.new ≡ join self.old offered.now) }
-        ensures err { OnErr result (self.new ≡ self.old) }
-        ensures again { offered.now ≡ self.old → result ≡ Ok Reply.Yes }
+    pub fn prepare_offer(
+        &self,
+        offered: &UpdateSet,
+    ) -> Result<(Reply, Option<UpdateSet>), AllocError>
+        requires { IsCompatible self.now offered.now }
+        ensures reply { IfOk result (λ prepared. prepared.0 ≡ answer self.now offered.now) }
+        ensures accepted { IfOk result (λ prepared.
+            accepted_next self.now prepared.1 ≡ join self.now offered.now) }
+        ensures again { offered.now ≡ self.now → IsOk result }
     {
         if self.accepted.contains_compatible(offered) {
-            return reply_from(&self.accepted, offered);
+            let reply = reply_from(&self.accepted, offered)?;
+            return Ok((reply, None));
         }
         let mut joined = self.accepted.copy()?;
         joined.join_compatible(offered)?;
         let reply = reply_from(&joined, offered)?;
-        self.accepted = joined;
-        Ok(reply)
+        Ok((reply, Some(joined)))
+    }
+
+    /// Accepts what was prepared, at constant cost. It takes no memory. What is dropped in its place
+    /// is an offer that was not answered.
+    pub fn commit(&mut self, accepted: Option<UpdateSet>)
+        ensures { self.new ≡ accepted_next self.old accepted }
+    {
+        if let Some(accepted) = accepted {
+            self.accepted = accepted;
+        }
     }
 }
 

@@ -7,19 +7,19 @@ ghost use Rattle.la_proposer.specs.ProposerState.{start, submitted, op_on, statu
 ghost use Rattle.la_proposer.specs.ProposerState.{submission_opens, after_submission, counts};
 ghost use Rattle.la_proposer.specs.ProposerState.{heard_of, after_reply};
 ghost use Rattle.la_proposer.specs.Refusals.{SubmissionSpends, IsSubmitRefusal, IsReplyRefusal};
-ghost use Rattle.la_proposer.specs.Refusals.{ReplySpares, IsVerdictOf, IsIgnored, CountsInPlace};
+ghost use Rattle.la_proposer.specs.Refusals.{ReplySpares, IsVerdictOf, IsIgnored, OnlyCounts};
 ghost use Rattle.la_proposer.specs.Clashes.{ReplyFits};
 ghost use Rattle.la_proposer.specs.Invariant.{IsProposerState};
 
 mod admitting;
-mod taking;
+mod preparing;
 
 use crate::tally::{self, Counted, Verdict};
 use crate::{Ballot, Heard, ProposerError, Status, Votes};
 use la_acceptor::Reply;
 use la_set::{Op, UpdateSet};
 use smallvec::SmallVec;
-use std::alloc::{AllocError, Global};
+use std::alloc::Global;
 use std::marker::Model;
 
 /// The largest number that a ballot may have.
@@ -28,8 +28,8 @@ pub const MAX_BALLOTS: u32 = 8_000_000;
 /// The largest cap on a proposer's submissions.
 pub const MAX_CAP: u32 = 1_000_000;
 
-/// How many replies may count in a ballot without a growth.
-pub const INLINE_TALLY: usize = 4;
+/// How many replies count in a ballot without memory: as many as a group may have acceptors.
+pub const INLINE_TALLY: usize = 8;
 
 /// Asks a group's acceptors to acknowledge its updates, and learns sets that a majority
 /// acknowledged.
@@ -83,22 +83,6 @@ impl Proposer {
         }
     }
 
-    /// A copy, at the cost of copying two sets and the counted refusals, which shares their
-    /// updates.
-    pub fn copy(&self) -> Result<Proposer, AllocError>
-        ensures { IfOk result (λ copy. copy ≡ self.now) }
-    {
-        Ok(Proposer {
-            own: self.own,
-            cap: self.cap,
-            votes: self.votes,
-            last: self.last.copy()?,
-            is_asking: self.is_asking,
-            tally: tally::copy_tally(&self.tally)?,
-            submissions: self.submissions.copy()?,
-        })
-    }
-
     /// Whether a ballot is open, and its number. Its contract also tells what holds of every
     /// proposer: so a caller learns it at any time.
     pub fn status(&self) -> Status
@@ -149,7 +133,10 @@ impl Proposer {
     ///
     /// In this order: `Full` comes where the proposer has submitted its cap; `BallotsSpent` where a
     /// ballot would open with a number over [`MAX_BALLOTS`]; `Memory`. After each nothing is
-    /// submitted. It is [`Proposer::admit_submission`] and then [`Proposer::take_submission`].
+    /// submitted. It is [`Proposer::prepare_submission`] and then [`Proposer::commit`].
+    ///
+    /// The cost is that of adding one update to a set; of a ballot also that of a
+    /// [`UpdateSet::join_compatible`] and of copies that share.
     pub fn submit(&mut self, object: u16, op: Op) -> Result<Option<Ballot>, ProposerError>
         ensures opened { IfOk result (λ ballot.
             ballot ≡ submission_opens self.old (op_on object op)) }
@@ -159,8 +146,9 @@ impl Proposer {
         ensures error { IfErr result (IsSubmitRefusal self.old) }
         ensures err { OnErr result (self.new ≡ self.old) }
     {
-        self.admit_submission()?;
-        Ok(self.take_submission(object, op)?)
+        let (opened, change) = self.prepare_submission(object, op)?;
+        self.commit(change);
+        Ok(opened)
     }
 
     /// Whether a submission would be taken, memory apart: with the errors of [`Proposer::submit`],
@@ -180,24 +168,6 @@ impl Proposer {
         Ok(())
     }
 
-    /// Submits an update that is admitted, as [`Proposer::submit`] does. It is refused for want of
-    /// memory alone; then nothing is submitted. The cost is that of adding one update to a set; of
-    /// a ballot also that of a [`UpdateSet::join_compatible`] and of copies that share.
-    pub fn take_submission(&mut self, object: u16, op: Op) -> Result<Option<Ballot>, AllocError>
-        requires room { submitted self.old < self.old.cap }
-        requires spares { ¬ SubmissionSpends self.old }
-        ensures opened { IfOk result (λ ballot.
-            ballot ≡ submission_opens self.old (op_on object op)) }
-        ensures ok { OnOk result (self.new ≡ after_submission self.old (op_on object op)) }
-        ensures err { OnErr result (self.new ≡ self.old) }
-    {
-        if self.is_asking {
-            self.hold(object, op)?;
-            return Ok(None);
-        }
-        Ok(Some(self.open_with(object, op)?))
-    }
-
     /// Hears a reply of an acceptor to a ballot.
     ///
     /// `NoSuchReplica` comes where the acceptor is out of the group. Then the reply is answered
@@ -210,22 +180,25 @@ impl Proposer {
     /// `No` among them refines. `BallotsSpent` comes where a ballot that opens would have a number
     /// over [`MAX_BALLOTS`], and `Memory` after all else. After each the proposer is as before, and
     /// the reply has not counted. A reply that counts, and leaves the ballot open, takes no memory
-    /// either while fewer than [`INLINE_TALLY`] have counted.
+    /// either.
     ///
-    /// It is [`Proposer::admit_reply`] and then [`Proposer::take_reply`], at the cost of the two.
+    /// It is [`Proposer::admit_reply`], [`Proposer::prepare_reply`] and [`Proposer::commit`], at the
+    /// cost of the three.
     pub fn reply(&mut self, from: u8, ballot: u32, reply: Reply) -> Result<Heard, ProposerError>
         ensures in_group { IfOk result (λ _. from < length self.old.votes) }
         ensures fits { IfOk result (λ _. ReplyFits self.old from ballot reply) }
         ensures spares { IfOk result (λ _. ReplySpares self.old from ballot reply) }
         ensures ignored { IsIgnored self.old from ballot → result ≡ Ok Heard.Ignored }
-        ensures counted { CountsInPlace self.old from ballot reply → result ≡ Ok Heard.Counted }
+        ensures counted { OnlyCounts self.old from ballot reply → result ≡ Ok Heard.Counted }
         ensures heard { IfOk result (λ heard. heard ≡ heard_of self.old from ballot reply) }
         ensures ok { OnOk result (self.new ≡ after_reply self.old from ballot reply) }
         ensures error { IfErr result (IsReplyRefusal self.old from ballot reply) }
         ensures err { OnErr result (self.new ≡ self.old) }
     {
-        self.admit_reply(from, ballot, refusal_of(&reply))?;
-        Ok(self.take_reply(from, ballot, reply)?)
+        let verdict = self.admit_reply(from, ballot, refusal_of(&reply))?;
+        let (heard, change) = self.prepare_reply(verdict, from, ballot, reply)?;
+        self.commit(change);
+        Ok(heard)
     }
 
     /// Whether a reply would be heard, memory apart: a `No` with this refused set, or else a `Yes`.
@@ -237,7 +210,9 @@ impl Proposer {
         from: u8,
         ballot: u32,
         refusal: Option<&UpdateSet>,
-    ) -> Result<(), ProposerError>
+    ) -> Result<Option<Verdict>, ProposerError>
+        ensures verdict { IfOk result
+            (IsVerdictOf self.now from ballot (reply_carrying refusal.entry)) }
         ensures in_group { OnOk result (from < length self.now.votes) }
         ensures fits { OnOk result (ReplyFits self.now from ballot (reply_carrying refusal.entry)) }
         ensures spares { OnOk result
@@ -250,7 +225,7 @@ impl Proposer {
             return Err(ProposerError::NoSuchReplica);
         }
         let Some(verdict) = self.verdict(from, ballot, refusal) else {
-            return Ok(());
+            return Ok(None);
         };
         if let Some(id) = self.clash(refusal) {
             return Err(ProposerError::Clash(id));
@@ -258,35 +233,7 @@ impl Proposer {
         if self.opens_by(verdict) && self.last.number >= MAX_BALLOTS {
             return Err(ProposerError::BallotsSpent);
         }
-        Ok(())
-    }
-
-    /// Hears a reply that is admitted, as [`Proposer::reply`] does. It compares no updates. It is
-    /// refused for want of memory alone; then the proposer is as before. A reply that is ignored
-    /// takes none, nor does one that counts and leaves the ballot open, while fewer than
-    /// [`INLINE_TALLY`] have counted.
-    ///
-    /// The cost is that of copies that share; of a learning that opens a ballot also that of one
-    /// [`UpdateSet::join_compatible`], and of a refinement that of one for each counted refusal.
-    pub fn take_reply(&mut self, from: u8, ballot: u32, reply: Reply) -> Result<Heard, AllocError>
-        requires in_group { from < length self.old.votes }
-        requires fits { ReplyFits self.old from ballot reply }
-        requires spares { ReplySpares self.old from ballot reply }
-        ensures ignored { counts self.old from ballot ≡ false → result ≡ Ok Heard.Ignored }
-        ensures counted { CountsInPlace self.old from ballot reply → result ≡ Ok Heard.Counted }
-        ensures heard { IfOk result (λ heard. heard ≡ heard_of self.old from ballot reply) }
-        ensures ok { OnOk result (self.new ≡ after_reply self.old from ballot reply) }
-        ensures err { OnErr result (self.new ≡ self.old) }
-    {
-        match self.verdict(from, ballot, refusal_of(&reply)) {
-            None => Ok(Heard::Ignored),
-            Some(Verdict::Waits) => {
-                self.keep(from, reply)?;
-                Ok(Heard::Counted)
-            }
-            Some(Verdict::Refines) => Ok(Heard::Refined(self.refine_with(from, reply)?)),
-            Some(Verdict::Learns) => self.learn(),
-        }
+        Ok(Some(verdict))
     }
 
     /// Whether a reply of this acceptor to this ballot would count: the ballot is the open one, and

@@ -1,27 +1,29 @@
-ghost use Rattle.std.specs.Prelude.{◌≡◌, ◌≢◌, true, ◌<◌, ◌≤◌, length, [], ◌∷◌, IsOk, IfOk, IfErr};
-ghost use Rattle.std.specs.Prelude.{OnOk, OnErr};
+ghost use Rattle.std.specs.Prelude.{◌≡◌, ◌≢◌, true, false, ◌<◌, ◌≤◌, length, [], ◌∷◌, IsOk, IfOk};
+ghost use Rattle.std.specs.Prelude.{IfErr, OnOk, OnErr, Some, None, if◌then◌else◌};
 ghost use Rattle.std.specs.Option.{option_copied};
 ghost use Rattle.la_set.specs.Histories.{Histories};
 ghost use Rattle.la_set.specs.Join.{IsCompatible};
+ghost use Rattle.la_acceptor.specs.Answer.{accepted_next};
 ghost use Rattle.la_proposer.specs.declared.proposer.TheConstants.{MAX_CAP};
 ghost use Rattle.la_proposer.specs.Majority.{votes_of};
 ghost use Rattle.la_proposer.specs.ProposerState.{submitted, op_on};
-ghost use Rattle.la_proposer.specs.Refusals.{SubmissionSpends};
+ghost use Rattle.la_proposer.specs.Refusals.{SubmissionSpends, IsVerdictOf};
+ghost use Rattle.la_replica.specs.declared.instance.Instance.{Instance as InstanceOf};
 ghost use Rattle.la_replica.specs.declared.out.Said.TheVariants.{Answered};
-ghost use Rattle.la_replica.specs.Whole.{whole_of, whole_out};
+ghost use Rattle.la_replica.specs.Whole.{whole_of, whole_out, whole_body};
 ghost use Rattle.la_replica.specs.Messages.{reply_of, reply_to};
-ghost use Rattle.la_replica.specs.Views.{view_after_learning};
-ghost use Rattle.la_replica.specs.Steps.{learnt_in, fresh, step_of, submits, answers, said_of_told};
-ghost use Rattle.la_replica.specs.Steps.{last_learnt_after, view_after_hearing, hears, receives};
+ghost use Rattle.la_replica.specs.Steps.{learnt_in, said_of, fresh, submits, answers, hears, is_told};
+ghost use Rattle.la_replica.specs.Steps.{receives};
 ghost use Rattle.la_replica.specs.Refusals.{IsSubmissionRefusal, HearingFits, HearingSpares};
 ghost use Rattle.la_replica.specs.Refusals.{IsHearingRefusal, IsMessageRefusal, FitsMessage};
 ghost use Rattle.la_replica.specs.Refusals.{SparesMessage};
-ghost use Rattle.la_replica.specs.Fitting.{FitsViewMessage, FitsViewHeard};
-ghost use Rattle.la_replica.specs.Memory.{IsFreeReply, IsFreeTell, IsFreeMessage};
+ghost use Rattle.la_replica.specs.Memory.{IsFreeReply, IsFreeMessage};
+ghost use Rattle.la_replica.specs.Changes.{proposer_after, IsProposerFrom, learnt_next, step_by};
+ghost use Rattle.la_replica.specs.Changes.{candidate, is_taken, learnt_in_view, told_in_view};
+ghost use Rattle.la_replica.specs.Changes.{IsVerdictOn};
 
 use crate::sender::Sender;
-use crate::view::{is_larger, take_larger};
-use crate::{Body, Mail, Message, Out, ReplicaError, Said};
+use crate::{Body, Change, Mail, Message, Out, ReplicaError, Said};
 use la_acceptor::{Acceptor, Reply};
 use la_proposer::{Heard, Proposer, Verdict, Votes};
 use la_set::{Op, UpdateId, UpdateSet};
@@ -51,81 +53,70 @@ impl Instance {
         }
     }
 
-    pub fn copy(&self) -> Result<Instance, AllocError>
-        ensures { IfOk result (λ copy. copy ≡ self.now) }
-    {
-        Ok(Instance {
-            acceptor: self.acceptor.copy()?,
-            proposer: self.proposer.copy()?,
-            learnt: match &self.learnt {
-                Some(learnt) => Some(learnt.copy()?),
-                None => None,
-            },
-        })
-    }
-
-    // Whether a submission would be taken, memory apart.
-    pub fn admit_submission(&self) -> Result<(), ReplicaError>
-        ensures room { OnOk result (submitted self.now.proposer < self.now.proposer.cap) }
-        ensures spares { OnOk result (¬ SubmissionSpends self.now.proposer) }
-        ensures error { IfErr result (IsSubmissionRefusal self.now.proposer) }
-        ensures memory { result ≢ Err ReplicaError.Memory }
-    {
-        Ok(self.proposer.admit_submission()?)
-    }
-
-    // Submits an update: its ballot opens, or it waits.
-    pub fn take_submission(
-        &mut self,
+    // Prepares a submission: its ballot opens, or it waits.
+    pub fn prepare_submission(
+        &self,
         alloc: Global,
         sender: &Sender,
         object: u16,
         op: Op,
-    ) -> Result<Out, AllocError>
-        requires room { submitted self.old.proposer < self.old.proposer.cap }
-        requires spares { ¬ SubmissionSpends self.old.proposer }
-        requires own { self.old.proposer.own ≡ sender.now.from }
-        ensures step { IfOk result (λ out. (view : Histories)
-            → submits sender.now self.old view (op_on object op)
-            ≡ step_of (whole_out out) self.new view) }
-        ensures err { OnErr result (self.new ≡ self.old) }
+    ) -> Result<(Out, Change), ReplicaError>
+        requires own { self.now.proposer.own ≡ sender.now.from }
+        ensures step { IfOk result (λ prepared. (view : Histories)
+            → submits sender.now self.now view (op_on object op)
+            ≡ step_by self.now view (whole_out prepared.0) prepared.1) }
+        ensures from { IfOk result (λ prepared.
+            IsProposerFrom self.now.proposer prepared.1.proposer) }
+        ensures instance { IfOk result (λ prepared. prepared.1.instance ≡ sender.now.instance) }
+        ensures room { IfOk result (λ _. submitted self.now.proposer < self.now.proposer.cap) }
+        ensures spares { IfOk result (λ _. ¬ SubmissionSpends self.now.proposer) }
+        ensures error { IfErr result (IsSubmissionRefusal self.now.proposer) }
     {
-        let mut proposer = self.proposer.copy()?;
-        let opened = proposer.take_submission(object, op)?;
+        let _state = self.proposer.status();
+        let (opened, change) = self.proposer.prepare_submission(object, op)?;
         let mut mail = Mail::new(alloc);
         sender.offer_next(&mut mail, &opened)?;
         let said = match opened {
             Some(ballot) => Said::Opened(ballot),
             None => Said::Held(UpdateId {
                 replica: sender.from,
-                number: proposer.submitted(),
+                number: self.proposer.submitted() + 1,
             }),
         };
-        self.proposer = proposer;
-        Ok(Out { said, mail })
+        Ok((Out { said, mail }, proposing(sender.instance, change)))
     }
 
-    // Whether what a message to this instance asks for would be done, memory apart.
-    pub fn admit_message(&self, message: &Message) -> Result<(), ReplicaError>
+    // Whether what a message to this instance asks for would be done, memory apart; and where it is
+    // a reply, the verdict on it.
+    pub fn admit_message(&self, message: &Message) -> Result<Option<Verdict>, ReplicaError>
         requires { message.now.from < length self.now.proposer.votes }
-        ensures fits { OnOk result (FitsMessage self.now (whole_of message.now)) }
-        ensures spares { OnOk result (SparesMessage self.now (whole_of message.now)) }
+        ensures verdict { IfOk result (λ verdict. IsVerdictOn self.now (whole_of message.now)
+            verdict (whole_body message.now.body)) }
+        ensures fits { IfOk result (λ _. FitsMessage self.now (whole_of message.now)) }
+        ensures spares { IfOk result (λ _. SparesMessage self.now (whole_of message.now)) }
         ensures error { (view : Histories)
             → IfErr result (IsMessageRefusal self.now view (whole_of message.now)) }
         ensures memory { result ≢ Err ReplicaError.Memory }
     {
         match &message.body {
-            Body::Offer(offered) => Ok(self.acceptor.admit_offer(offered)?),
+            Body::Offer(offered) => {
+                self.acceptor.admit_offer(offered)?;
+                Ok(None)
+            }
             Body::Yes | Body::No(_) => self.admit_reply(message),
-            Body::Tell(_) => Ok(()),
+            Body::Tell(_) => Ok(None),
         }
     }
 
-    // Whether a reply would be heard, memory apart.
-    fn admit_reply(&self, message: &Message) -> Result<(), ReplicaError>
+    // Whether a reply would be heard, memory apart, and the verdict on it.
+    fn admit_reply(&self, message: &Message) -> Result<Option<Verdict>, ReplicaError>
         requires { message.now.from < length self.now.proposer.votes }
-        ensures fits { OnOk result (HearingFits self.now.proposer (whole_of message.now)) }
-        ensures spares { OnOk result (HearingSpares self.now.proposer (whole_of message.now)) }
+        ensures verdict { IfOk result (IsVerdictOf self.now.proposer message.now.from
+            message.now.ballot (reply_of (whole_of message.now))) }
+        ensures fits { IfOk result (λ _.
+            HearingFits self.now.proposer (whole_of message.now)) }
+        ensures spares { IfOk result (λ _.
+            HearingSpares self.now.proposer (whole_of message.now)) }
         ensures error { IfErr result (IsHearingRefusal self.now.proposer (whole_of message.now)
             (reply_of (whole_of message.now))) }
         ensures memory { result ≢ Err ReplicaError.Memory }
@@ -134,166 +125,249 @@ impl Instance {
         Ok(self.proposer.admit_reply(from, ballot, message.refusal())?)
     }
 
-    // Does what a message to this instance asks for, which is admitted. Where a set that may become
-    // the view is known to fit it, no updates are compared.
-    pub fn take_message(
-        &mut self,
+    // The verdict on a message, where it is a reply.
+    pub fn verdict(&self, message: &Message) -> Option<Verdict>
+        ensures { IsVerdictOn self.now (whole_of message.now) result
+            (whole_body message.now.body) }
+    {
+        match &message.body {
+            Body::Offer(_) | Body::Tell(_) => None,
+            Body::Yes | Body::No(_) => {
+                let (from, ballot) = (message.from, message.ballot);
+                self.proposer.verdict(from, ballot, message.refusal())
+            }
+        }
+    }
+
+    // In instance 0, the set that may become the view by a message with this verdict.
+    pub fn candidate<'a>(
+        &'a self,
+        verdict: Option<Verdict>,
+        message: &'a Message,
+    ) -> Option<&'a UpdateSet>
+        ensures { option_copied result ≡ candidate self.now verdict (whole_of message.now) }
+    {
+        if message.instance != 0 {
+            return None;
+        }
+        match &message.body {
+            Body::Offer(_) => None,
+            Body::Yes | Body::No(_) => match verdict {
+                Some(Verdict::Learns) => Some(self.proposer.updates()),
+                _ => None,
+            },
+            Body::Tell(told) => Some(told),
+        }
+    }
+
+    // Prepares what a message to this instance asks for, which is admitted with this verdict, and
+    // by which the view is taken or not.
+    pub fn prepare(
+        &self,
         alloc: Global,
         sender: &Sender,
         message: &Message,
-        view: &mut UpdateSet,
-        fits: bool,
-    ) -> Result<Out, AllocError>
-        requires known { message.now.from < length self.old.proposer.votes }
+        verdict: Option<Verdict>,
+        taken: bool,
+    ) -> Result<(Out, Change), AllocError>
+        requires known { message.now.from < length self.now.proposer.votes }
         requires instance { sender.now.instance ≡ message.now.instance }
-        requires fits { FitsMessage self.old (whole_of message.now) }
-        requires spares { SparesMessage self.old (whole_of message.now) }
-        requires view { fits ≡ true
-            → FitsViewMessage self.old view.old (whole_of message.now) }
-        ensures step { IfOk result (λ out.
-            receives sender.now self.old view.old (whole_of message.now)
-            ≡ step_of (whole_out out) self.new view.new) }
-        ensures free { IsFreeMessage self.old view.old (whole_of message.now) → IsOk result }
-        ensures err { OnErr result (self.new ≡ self.old) }
-        ensures err_view { OnErr result (view.new ≡ view.old) }
+        requires verdict { IsVerdictOn self.now (whole_of message.now) verdict
+            (whole_body message.now.body) }
+        requires fits { FitsMessage self.now (whole_of message.now) }
+        requires spares { SparesMessage self.now (whole_of message.now) }
+        ensures step { IfOk result (λ prepared. (view : Histories)
+            → taken ≡ is_taken view (candidate self.now verdict (whole_of message.now))
+            → receives sender.now self.now view (whole_of message.now)
+            ≡ step_by self.now view (whole_out prepared.0) prepared.1) }
+        ensures from { IfOk result (λ prepared.
+            IsProposerFrom self.now.proposer prepared.1.proposer) }
+        ensures instance { IfOk result (λ prepared.
+            prepared.1.instance ≡ message.now.instance) }
+        ensures free { (view : Histories)
+            → taken ≡ is_taken view (candidate self.now verdict (whole_of message.now))
+            → IsFreeMessage self.now view (whole_of message.now) → IsOk result }
     {
         match &message.body {
-            Body::Offer(offered) => self.answer(alloc, message, offered),
-            Body::Yes | Body::No(_) => self.hear(alloc, sender, message, view, fits),
-            Body::Tell(told) => hear_tell(alloc, sender, view, told, fits),
-        }
-    }
-
-    // The set that a message to this instance would lead to learning.
-    pub fn would_learn(&self, message: &Message) -> Option<&UpdateSet>
-        ensures { (sender : Sender) (view : Histories) → option_copied result
-            ≡ learnt_in (receives sender self.now view (whole_of message.now)).said }
-    {
-        match &message.body {
+            Body::Offer(offered) => self.prepare_answer(alloc, message, offered),
             Body::Yes | Body::No(_) => {
-                let (from, ballot) = (message.from, message.ballot);
-                match self.proposer.verdict(from, ballot, message.refusal()) {
-                    Some(Verdict::Learns) => Some(self.proposer.updates()),
-                    _ => None,
-                }
+                self.prepare_hearing(alloc, sender, message, verdict, taken)
             }
-            Body::Offer(_) | Body::Tell(_) => None,
+            Body::Tell(told) => prepare_tell(alloc, sender, told, taken),
         }
     }
 
-    // Answers an offer.
-    fn answer(
-        &mut self,
+    // Prepares the answer to an offer.
+    fn prepare_answer(
+        &self,
         alloc: Global,
         message: &Message,
         offered: &UpdateSet,
-    ) -> Result<Out, AllocError>
-        requires { IsCompatible self.old.acceptor offered.now }
-        ensures step { IfOk result (λ out. (view : Histories)
-            → answers self.old view (whole_of message.now) offered.now
-            ≡ step_of (whole_out out) self.new view) }
-        ensures free { offered.now ≡ self.old.acceptor → IsOk result }
-        ensures err { OnErr result (self.new ≡ self.old) }
+    ) -> Result<(Out, Change), AllocError>
+        requires { IsCompatible self.now.acceptor offered.now }
+        ensures step { IfOk result (λ prepared. (view : Histories)
+            → answers self.now view (whole_of message.now) offered.now
+            ≡ step_by self.now view (whole_out prepared.0) prepared.1) }
+        ensures from { IfOk result (λ prepared. prepared.1.proposer ≡ None) }
+        ensures instance { IfOk result (λ prepared.
+            prepared.1.instance ≡ message.now.instance) }
+        ensures free { offered.now ≡ self.now.acceptor → IsOk result }
     {
-        // Where the offer lies in what is accepted, that stays, and is not copied.
-        if self.acceptor.accepted().contains_compatible(offered) {
-            let reply = self.acceptor.take_offer(offered)?;
-            return answered(alloc, message, reply);
-        }
-        let mut acceptor = self.acceptor.copy()?;
-        let reply = acceptor.take_offer(offered)?;
+        let (reply, accepted) = self.acceptor.prepare_offer(offered)?;
         let out = answered(alloc, message, reply)?;
-        self.acceptor = acceptor;
-        Ok(out)
+        Ok((out, accepting(message.instance, accepted)))
     }
 
-    // Hears a reply. One that does not count, or leaves the ballot open, sends nothing.
-    fn hear(
-        &mut self,
+    // Prepares to hear a reply. One that does not count, or leaves the ballot open, sends nothing.
+    fn prepare_hearing(
+        &self,
         alloc: Global,
         sender: &Sender,
         message: &Message,
-        view: &mut UpdateSet,
-        fits: bool,
-    ) -> Result<Out, AllocError>
-        requires known { message.now.from < length self.old.proposer.votes }
-        requires fits { HearingFits self.old.proposer (whole_of message.now) }
-        requires spares { HearingSpares self.old.proposer (whole_of message.now) }
-        requires view { fits ≡ true → sender.now.instance ≡ 0
-            → IsCompatible view.old self.old.proposer.updates }
-        ensures step { IfOk result (λ out.
-            hears sender.now self.old view.old (whole_of message.now)
-            (reply_of (whole_of message.now)) ≡ step_of (whole_out out) self.new view.new) }
-        ensures free { IsFreeReply self.old.proposer (whole_of message.now)
+        verdict: Option<Verdict>,
+        taken: bool,
+    ) -> Result<(Out, Change), AllocError>
+        requires known { message.now.from < length self.now.proposer.votes }
+        requires verdict { IsVerdictOf self.now.proposer message.now.from
+            message.now.ballot (reply_of (whole_of message.now)) verdict }
+        requires fits { HearingFits self.now.proposer (whole_of message.now) }
+        requires spares { HearingSpares self.now.proposer (whole_of message.now) }
+        ensures step { IfOk result (λ prepared. (view : Histories)
+            → taken ≡ is_taken view (learnt_in_view sender.now.instance self.now.proposer verdict)
+            → hears sender.now self.now view (whole_of message.now)
+            (reply_of (whole_of message.now))
+            ≡ step_by self.now view (whole_out prepared.0) prepared.1) }
+        ensures from { IfOk result (λ prepared.
+            IsProposerFrom self.now.proposer prepared.1.proposer) }
+        ensures instance { IfOk result (λ prepared. prepared.1.instance ≡ sender.now.instance) }
+        ensures free { (view : Histories)
+            → taken ≡ is_taken view (learnt_in_view sender.now.instance self.now.proposer verdict)
+            → IsFreeReply self.now.proposer (whole_of message.now)
             (reply_of (whole_of message.now)) → IsOk result }
-        ensures err { OnErr result (self.new ≡ self.old) }
-        ensures err_view { OnErr result (view.new ≡ view.old) }
     {
+        if verdict.is_none() {
+            let silent = Out::silent(alloc, Said::Ignored);
+            return Ok((silent, Change::nothing(sender.instance)));
+        }
+        let reply = message.reply()?;
         let (from, ballot) = (message.from, message.ballot);
-        match self.proposer.verdict(from, ballot, message.refusal()) {
-            None => Ok(Out::silent(alloc, Said::Ignored)),
-            Some(Verdict::Waits) => {
-                self.proposer.take_reply(from, ballot, message.reply()?)?;
-                Ok(Out::silent(alloc, Said::Counted))
-            }
-            Some(_) => self.end_ballot(alloc, sender, message, view, fits),
-        }
-    }
-
-    // Hears a reply that ends the ballot, in a copy of the proposer.
-    fn end_ballot(
-        &mut self,
-        alloc: Global,
-        sender: &Sender,
-        message: &Message,
-        view: &mut UpdateSet,
-        fits: bool,
-    ) -> Result<Out, AllocError>
-        requires known { message.now.from < length self.old.proposer.votes }
-        requires fits { HearingFits self.old.proposer (whole_of message.now) }
-        requires spares { HearingSpares self.old.proposer (whole_of message.now) }
-        requires view { fits ≡ true → sender.now.instance ≡ 0
-            → IsCompatible view.old self.old.proposer.updates }
-        ensures step { IfOk result (λ out.
-            hears sender.now self.old view.old (whole_of message.now)
-            (reply_of (whole_of message.now)) ≡ step_of (whole_out out) self.new view.new) }
-        ensures err { OnErr result (self.new ≡ self.old) }
-        ensures err_view { OnErr result (view.new ≡ view.old) }
-    {
-        let mut proposer = self.proposer.copy()?;
-        let heard = proposer.take_reply(message.from, message.ballot, message.reply()?)?;
-        let mail = sender.mail(alloc, message.ballot, &heard)?;
-        self.keep_learnt(sender.instance, &heard, view, fits)?;
-        self.proposer = proposer;
+        let (heard, change) = self.proposer.prepare_reply(verdict, from, ballot, reply)?;
+        let mail = sender.mail(alloc, ballot, &heard)?;
+        let learnt = learnt_copy(&heard)?;
+        let view = set_if(taken, self.proposer.updates())?;
         let said = Said::from(heard);
-        Ok(Out { said, mail })
+        Ok((
+            Out { said, mail },
+            hearing(sender.instance, change, learnt, view),
+        ))
     }
 
-    // Keeps what is learnt, if something is: as the last learnt set, and where it is strictly
-    // larger than the view as the view.
-    fn keep_learnt(
+    // Does what was prepared from this very instance. It can't be refused, and takes no memory.
+    pub fn commit(
         &mut self,
-        instance: u8,
-        heard: &Heard,
-        view: &mut UpdateSet,
-        fits: bool,
-    ) -> Result<(), AllocError>
-        requires { fits ≡ true → instance ≡ 0 → FitsViewHeard view.old heard.now }
-        ensures ok { OnOk result
-            (self.new ≡ record self.old { learnt = last_learnt_after self.old.learnt heard.now }) }
-        ensures view { OnOk result (view.new ≡ view_after_hearing instance view.old heard.now) }
-        ensures err { OnErr result (self.new ≡ self.old) }
-        ensures err_view { OnErr result (view.new ≡ view.old) }
+        accepted: Option<UpdateSet>,
+        proposer: Option<la_proposer::Change>,
+        learnt: Option<UpdateSet>,
+    )
+        requires { IsProposerFrom self.old.proposer proposer }
+        ensures { self.new ≡ record {
+          acceptor = accepted_next self.old.acceptor accepted;
+          proposer = proposer_after self.old.proposer proposer;
+          learnt = learnt_next self.old.learnt learnt;
+        } }
     {
-        let Heard::Learnt(learnt, _) = heard else {
-            return Ok(());
-        };
-        let last = learnt.copy()?;
-        if instance == 0 {
-            take_larger(view, learnt, fits)?;
+        self.acceptor.commit(accepted);
+        if let Some(change) = proposer {
+            self.proposer.commit(change);
         }
-        self.learnt = Some(last);
-        Ok(())
+        if let Some(learnt) = learnt {
+            self.learnt = Some(learnt);
+        }
+    }
+}
+
+// What is to change where a proposer alone does.
+fn proposing(instance: u8, change: la_proposer::Change) -> Change
+    ensures { result ≡ record {
+      instance = instance;
+      accepted = None;
+      proposer = Some change;
+      learnt = None;
+      view = None;
+    } }
+{
+    Change {
+        instance,
+        accepted: None,
+        proposer: Some(change),
+        learnt: None,
+        view: None,
+    }
+}
+
+// What is to change where an offer is answered.
+fn accepting(instance: u8, accepted: Option<UpdateSet>) -> Change
+    ensures { result ≡ record {
+      instance = instance;
+      accepted = accepted;
+      proposer = None;
+      learnt = None;
+      view = None;
+    } }
+{
+    Change {
+        instance,
+        accepted,
+        proposer: None,
+        learnt: None,
+        view: None,
+    }
+}
+
+// What is to change where a reply is heard.
+fn hearing(
+    instance: u8,
+    change: la_proposer::Change,
+    learnt: Option<UpdateSet>,
+    view: Option<UpdateSet>,
+) -> Change
+    ensures { result ≡ record {
+      instance = instance;
+      accepted = None;
+      proposer = Some change;
+      learnt = learnt;
+      view = view;
+    } }
+{
+    Change {
+        instance,
+        accepted: None,
+        proposer: Some(change),
+        learnt,
+        view,
+    }
+}
+
+// A copy of what was learnt, if something was.
+fn learnt_copy(heard: &Heard) -> Result<Option<UpdateSet>, AllocError>
+    ensures ok { IfOk result (λ learnt. learnt ≡ learnt_in (said_of heard.now)) }
+    ensures free { heard.now ≡ Heard.Counted → IsOk result }
+{
+    match heard {
+        Heard::Learnt(learnt, _) => Ok(Some(learnt.copy()?)),
+        Heard::Counted | Heard::Ignored | Heard::Refined(_) => Ok(None),
+    }
+}
+
+// A copy of a set, where this says so.
+fn set_if(taken: bool, set: &UpdateSet) -> Result<Option<UpdateSet>, AllocError>
+    ensures ok { IfOk result (λ copy. copy ≡ (if taken then Some set.now else None)) }
+    ensures free { taken ≡ false → IsOk result }
+{
+    if taken {
+        Ok(Some(set.copy()?))
+    } else {
+        Ok(None)
     }
 }
 
@@ -310,30 +384,49 @@ fn answered(alloc: Global, message: &Message, reply: Reply) -> Result<Out, Alloc
     })
 }
 
-// Takes a told set as the view where it is strictly larger.
-fn hear_tell(
+// Prepares to take a told set as the view, or not.
+fn prepare_tell(
     alloc: Global,
     sender: &Sender,
-    view: &mut UpdateSet,
     told: &UpdateSet,
-    fits: bool,
-) -> Result<Out, AllocError>
-    requires { fits ≡ true → sender.now.instance ≡ 0 → IsCompatible view.old told.now }
-    ensures said { IfOk result (λ out.
-        out.said ≡ said_of_told sender.now.instance view.old told.now) }
-    ensures mail { IfOk result (λ out. out.mail ≡ []) }
-    ensures ok { OnOk result
-        (view.new ≡ view_after_learning sender.now.instance view.old told.now) }
-    ensures free { IsFreeTell sender.now.instance view.old told.now → IsOk result }
-    ensures err { OnErr result (view.new ≡ view.old) }
+    taken: bool,
+) -> Result<(Out, Change), AllocError>
+    ensures step { IfOk result (λ prepared. (x : InstanceOf) (view : Histories)
+        → taken ≡ is_taken view (told_in_view sender.now.instance told.now)
+        → is_told sender.now x view told.now
+        ≡ step_by x view (whole_out prepared.0) prepared.1) }
+    ensures from { IfOk result (λ prepared. prepared.1.proposer ≡ None) }
+    ensures instance { IfOk result (λ prepared. prepared.1.instance ≡ sender.now.instance) }
+    ensures free { taken ≡ false → IsOk result }
 {
-    if sender.instance != 0 {
-        return Ok(Out::silent(alloc, Said::Ignored));
+    if !taken {
+        let said = if sender.instance == 0 {
+            Said::Kept
+        } else {
+            Said::Ignored
+        };
+        return Ok((Out::silent(alloc, said), Change::nothing(sender.instance)));
     }
-    if !is_larger(view, told, fits) {
-        return Ok(Out::silent(alloc, Said::Kept));
+    let said = Said::Took(told.copy()?);
+    let view = told.copy()?;
+    Ok((Out::silent(alloc, said), seeing(sender.instance, view)))
+}
+
+// What is to change where a told set is taken.
+fn seeing(instance: u8, view: UpdateSet) -> Change
+    ensures { result ≡ record {
+      instance = instance;
+      accepted = None;
+      proposer = None;
+      learnt = None;
+      view = Some view;
+    } }
+{
+    Change {
+        instance,
+        accepted: None,
+        proposer: None,
+        learnt: None,
+        view: Some(view),
     }
-    let taken = told.copy()?;
-    *view = told.copy()?;
-    Ok(Out::silent(alloc, Said::Took(taken)))
 }

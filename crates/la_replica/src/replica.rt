@@ -1,25 +1,26 @@
-ghost use Rattle.std.specs.Prelude.{◌≡◌, ◌≢◌, ◌+◌, ◌*◌, ◌<◌, ◌≤◌, length, slice_get, slice_set};
+ghost use Rattle.std.specs.Prelude.{◌≡◌, ◌≢◌, ◌+◌, ◌*◌, ◌<◌, ◌≤◌, length, slice_get, ℕ};
 ghost use Rattle.std.specs.Prelude.{true, Some, None, IsOk, IfOk, IfErr, OnOk, OnErr};
 ghost use Rattle.std.specs.Option.{option_copied};
+ghost use Rattle.la_set.specs.Inclusion.{IsSubset};
 ghost use Rattle.la_proposer.specs.declared.proposer.TheConstants.{MAX_CAP};
 ghost use Rattle.la_proposer.specs.Majority.{votes_of};
 ghost use Rattle.la_proposer.specs.ProposerState.{op_on};
-ghost use Rattle.la_replica.specs.Whole.{whole_of, whole_out, whole_both};
-ghost use Rattle.la_replica.specs.Whole as whole;
+ghost use Rattle.la_replica.specs.Whole.{whole_of, whole_out, whole_body};
 ghost use Rattle.la_replica.specs.ReplicaState.{ReplicaState, start, submits, receives, sender_of};
-ghost use Rattle.la_replica.specs.ReplicaState.{last_learnt, submitted_in, receives_and_submits};
-ghost use Rattle.la_replica.specs.ReplicaState.{with_instance, SubmitsThere};
-ghost use Rattle.la_replica.specs.Invariant.{IsReplicaState, IsOf};
-ghost use Rattle.la_replica.specs.Steps.{learnt_in};
+ghost use Rattle.la_replica.specs.ReplicaState.{last_learnt, submitted_in, InInstance};
+ghost use Rattle.la_replica.specs.Invariant.{IsReplicaState};
 ghost use Rattle.la_replica.specs.Refusals.{IsSubmitRefusal, IsReceiveRefusal, IsReceivable};
 ghost use Rattle.la_replica.specs.Refusals.{HasRoom, SubmittingSpares, ReceivingSpares};
-ghost use Rattle.la_replica.specs.Fitting.{FitsView, FitsReceiver};
+ghost use Rattle.la_replica.specs.Fitting.{FitsReceiver};
 ghost use Rattle.la_replica.specs.Memory.{IsFree};
+ghost use Rattle.la_replica.specs.Changes.{IsPreparedFrom, after_commit, led, AreSameIn, LeadsThere};
+ghost use Rattle.la_replica.specs.Changes.{IsVerdictOn, candidate, is_taken};
 
 use crate::instance::Instance;
 use crate::sender::Sender;
-use crate::{Both, Message, Out, ReplicaError};
-use la_proposer::Votes;
+use crate::view::{is_taken, is_taken_fitting};
+use crate::{Change, Message, Out, ReplicaError};
+use la_proposer::{Verdict, Votes};
 use la_set::{Op, UpdateSet};
 use std::alloc::{AllocError, Global};
 use std::marker::Model;
@@ -82,18 +83,6 @@ impl Replica {
         })
     }
 
-    /// A copy, at the cost of copying every set that it holds.
-    pub fn copy(&self) -> Result<Replica, AllocError>
-        ensures { IfOk result (λ copy. copy ≡ self.now) }
-    {
-        Ok(Replica {
-            votes: self.votes,
-            own: self.own,
-            instances: copy_instances(&self.instances)?,
-            view: self.view.copy()?,
-        })
-    }
-
     /// Which replica of its group it is. The group has at most 8, and the proposers of all its
     /// instances are this replica of that group.
     pub fn own(&self) -> u8
@@ -132,8 +121,10 @@ impl Replica {
     ///
     /// In this order: `NoSuchInstance`; `Full` where the replica has submitted the instance's cap;
     /// `BallotsSpent` where a ballot would open with a number over 8,000,000; `Memory`. After each
-    /// the replica is as before. It is [`Replica::admit_submission`] and then
-    /// [`Replica::take_submission`].
+    /// the replica is as before. It is [`Replica::prepare_submission`] and then [`Replica::commit`].
+    ///
+    /// The cost is that of the proposer's step, and of a copy of the ballot's set for each replica,
+    /// which share it.
     pub fn submit(&mut self, instance: u8, object: u16, op: Op) -> Result<Out, ReplicaError>
         ensures step { IfOk result (λ out.
             submits self.old instance (op_on object op) ≡ Some (whole_out out, self.new)) }
@@ -142,47 +133,40 @@ impl Replica {
         ensures error { IfErr result (IsSubmitRefusal self.old instance) }
         ensures err { OnErr result (self.new ≡ self.old) }
     {
-        self.admit_submission(instance)?;
-        Ok(self.take_submission(instance, object, op)?)
+        let (out, change) = self.prepare_submission(instance, object, op)?;
+        self.commit(change);
+        Ok(out)
     }
 
-    /// Whether a submission would be taken, memory apart: with the errors of [`Replica::submit`],
-    /// in its order. It takes no memory, and `Memory` never comes. The cost is constant.
-    pub fn admit_submission(&self, instance: u8) -> Result<(), ReplicaError>
-        ensures room { OnOk result (HasRoom self.now instance) }
-        ensures spares { OnOk result (SubmittingSpares self.now instance) }
+    /// Prepares a submission, with the errors of [`Replica::submit`] in its order: what is said and
+    /// sent, and the change. It may be committed for as long as nothing else changes in its instance,
+    /// and is the same step then.
+    pub fn prepare_submission(
+        &self,
+        instance: u8,
+        object: u16,
+        op: Op,
+    ) -> Result<(Out, Change), ReplicaError>
+        ensures leads { IfOk result (λ prepared. LeadsThere self.now instance
+            (op_on object op) (whole_out prepared.0) prepared.1) }
+        ensures instance { IfOk result (λ prepared. prepared.1.instance ≡ instance) }
+        ensures room { IfOk result (λ _. HasRoom self.now instance) }
+        ensures spares { IfOk result (λ _. SubmittingSpares self.now instance) }
         ensures error { IfErr result (IsSubmitRefusal self.now instance) }
-        ensures memory { result ≢ Err ReplicaError.Memory }
-    {
-        match self.instances.get(instance as usize) {
-            Some(at) => at.admit_submission(),
-            None => Err(ReplicaError::NoSuchInstance),
-        }
-    }
-
-    /// Submits an update that is admitted, as [`Replica::submit`] does. It is refused for want of
-    /// memory alone; then the replica is as before. The cost is that of the proposer's step, and of
-    /// a copy of the ballot's set for each replica, which share it.
-    pub fn take_submission(&mut self, instance: u8, object: u16, op: Op) -> Result<Out, AllocError>
-        requires room { HasRoom self.old instance }
-        requires spares { SubmittingSpares self.old instance }
-        ensures step { IfOk result (λ out.
-            submits self.old instance (op_on object op) ≡ Some (whole_out out, self.new)) }
-        ensures err { OnErr result (self.new ≡ self.old) }
     {
         let alloc = *self.instances.allocator();
         let sender = self.sender(instance);
-        match self.instances.get_mut(instance as usize) {
-            Some(at) => at.take_submission(alloc, &sender, object, op),
-            // By `HasRoom` there is such an instance.
-            None => unreachable!(),
+        match self.instances.get(instance as usize) {
+            Some(at) => at.prepare_submission(alloc, &sender, object, op),
+            None => Err(ReplicaError::NoSuchInstance),
         }
     }
 
     /// Receives a message, honest or not. An offer is answered, and the reply goes back. A reply is
     /// heard by the proposer: a ballot that is refined or learnt is followed by tells of what was
     /// learnt, in instance 0 alone, and then by the offers of the ballot that opens. A told set of
-    /// instance 0 is taken as the view where it is strictly larger; so is a newly learnt one.
+    /// instance 0 is taken as the view where it is strictly larger; so is a newly learnt one. The
+    /// view only grows.
     ///
     /// In this order: `NoSuchReplica` where the message is from out of the group, or to another
     /// replica; `NoSuchInstance`; `Clash` for an offer that clashes with the accepted set, and for
@@ -190,12 +174,10 @@ impl Replica {
     /// `BallotsSpent` where a reply would open a ballot with a number over 8,000,000; `Memory`.
     /// After each the replica is as before. A reply that does not count is answered `Ignored`
     /// before its set is looked at. No memory is taken by an offer of exactly what is accepted, by
-    /// a reply that does not count, by an acknowledgement that only counts, while fewer than
-    /// [`la_proposer::INLINE_TALLY`] have, and by a told set that is not taken as the view: these
-    /// succeed.
+    /// a reply that does not count, by an acknowledgement that only counts, and by a told set that
+    /// is not taken as the view: these succeed.
     ///
-    /// It is [`Replica::admit_message`] and then the step of [`Replica::take_message`], which here
-    /// compares the updates of a set that may become the view: the cost is that of comparing the
+    /// It is [`Replica::prepare`] and then [`Replica::commit`]. The cost is that of comparing the
     /// sets at hand.
     pub fn receive(&mut self, message: &Message) -> Result<Out, ReplicaError>
         ensures step { IfOk result (λ out.
@@ -205,18 +187,84 @@ impl Replica {
         ensures free { IsFree self.old (whole_of message.now) → IsOk result }
         ensures error { IfErr result (IsReceiveRefusal self.old (whole_of message.now)) }
         ensures err { OnErr result (self.new ≡ self.old) }
+        ensures grows { IsSubset self.old.view self.new.view }
     {
-        self.admit_message(message)?;
-        Ok(self.take_as(message, false)?)
+        let (out, change) = self.prepare(message)?;
+        self.commit(change);
+        Ok(out)
+    }
+
+    /// Prepares to receive a message, with the errors of [`Replica::receive`] in its order: what is
+    /// said and sent, and the change. A caller reads what is said, and may prepare a submission in
+    /// another instance beside it, before either is committed.
+    pub fn prepare(&self, message: &Message) -> Result<(Out, Change), ReplicaError>
+        ensures step { IfOk result (λ prepared. receives self.now (whole_of message.now)
+            ≡ led self.now (whole_out prepared.0) prepared.1) }
+        ensures from { IfOk result (λ prepared. IsPreparedFrom self.now prepared.1) }
+        ensures instance { IfOk result (λ prepared.
+            prepared.1.instance ≡ message.now.instance) }
+        ensures fits { IfOk result (λ _. IsReceivable self.now (whole_of message.now)) }
+        ensures spares { IfOk result (λ _. ReceivingSpares self.now (whole_of message.now)) }
+        ensures free { IsFree self.now (whole_of message.now) → IsOk result }
+        ensures error { IfErr result (IsReceiveRefusal self.now (whole_of message.now)) }
+    {
+        let verdict = self.admit_message(message)?;
+        let taken = is_taken(&self.view, self.candidate(verdict, message));
+        Ok(self.prepare_as(message, verdict, taken)?)
+    }
+
+    /// Prepares to receive a message that fits all that the replica knows. It is refused for want of
+    /// memory alone. The same messages as for [`Replica::receive`] take none.
+    ///
+    /// No updates are compared: the counts of sets that fit tell which contains which. The cost is
+    /// that of the acceptor's or the proposer's step, and of a copy of each set that is said, sent
+    /// or kept, which share it.
+    pub fn prepare_fitting(&self, message: &Message) -> Result<(Out, Change), AllocError>
+        requires { FitsReceiver self.now (whole_of message.now) }
+        ensures step { IfOk result (λ prepared. receives self.now (whole_of message.now)
+            ≡ led self.now (whole_out prepared.0) prepared.1) }
+        ensures from { IfOk result (λ prepared. IsPreparedFrom self.now prepared.1) }
+        ensures instance { IfOk result (λ prepared.
+            prepared.1.instance ≡ message.now.instance) }
+        ensures free { IsFree self.now (whole_of message.now) → IsOk result }
+    {
+        let verdict = self.verdict(message);
+        let taken = is_taken_fitting(&self.view, self.candidate(verdict, message));
+        self.prepare_as(message, verdict, taken)
+    }
+
+    /// Does what was prepared from this very replica, at constant cost. It takes no memory. What was
+    /// prepared in another instance stays prepared. A change that is dropped is a step that did not
+    /// happen.
+    pub fn commit(&mut self, change: Change)
+        requires { IsPreparedFrom self.old change }
+        ensures done { after_commit self.old change ≡ Some self.new }
+        ensures beside { (i : ℕ) → i ≢ change.instance → AreSameIn i self.old self.new }
+    {
+        let Change {
+            instance,
+            accepted,
+            proposer,
+            learnt,
+            view,
+        } = change;
+        let at = &mut self.instances[instance as usize];
+        at.commit(accepted, proposer, learnt);
+        if let Some(view) = view {
+            self.view = view;
+        }
     }
 
     /// Whether a message would be received, memory apart: with the errors of [`Replica::receive`],
-    /// in its order. It takes no memory, and `Memory` never comes. The cost is that of comparing an
-    /// offered set with what is accepted, or a refused one that counts with what the proposer
-    /// knows.
-    pub fn admit_message(&self, message: &Message) -> Result<(), ReplicaError>
-        ensures receivable { OnOk result (IsReceivable self.now (whole_of message.now)) }
-        ensures spares { OnOk result (ReceivingSpares self.now (whole_of message.now)) }
+    /// in its order; and the verdict on it, where it is a reply. It takes no memory, and `Memory`
+    /// never comes. The cost is that of comparing an offered set with what is accepted, or a refused
+    /// one that counts with what the proposer knows.
+    pub fn admit_message(&self, message: &Message) -> Result<Option<Verdict>, ReplicaError>
+        ensures verdict { IfOk result (λ verdict. InInstance self.now message.now.instance
+            (λ x. IsVerdictOn x (whole_of message.now) verdict (whole_body message.now.body))) }
+        ensures receivable { IfOk result (λ _.
+            IsReceivable self.now (whole_of message.now)) }
+        ensures spares { IfOk result (λ _. ReceivingSpares self.now (whole_of message.now)) }
         ensures error { IfErr result (IsReceiveRefusal self.now (whole_of message.now)) }
         ensures memory { result ≢ Err ReplicaError.Memory }
     {
@@ -229,149 +277,53 @@ impl Replica {
         }
     }
 
-    /// Receives a message that fits all that the replica knows, as [`Replica::receive`] does. It is
-    /// refused for want of memory alone; then the replica is as before. The same messages as there
-    /// take no memory.
-    ///
-    /// No updates are compared: the counts of sets that fit tell which contains which. The cost is
-    /// that of the acceptor's or the proposer's step, and of a copy of each set that is said, sent
-    /// or kept, which share it.
-    pub fn take_message(&mut self, message: &Message) -> Result<Out, AllocError>
-        requires { FitsReceiver self.old (whole_of message.now) }
-        ensures step { IfOk result (λ out.
-            receives self.old (whole_of message.now) ≡ Some (whole_out out, self.new)) }
-        ensures free { IsFree self.old (whole_of message.now) → IsOk result }
-        ensures err { OnErr result (self.new ≡ self.old) }
+    // The verdict on a message, where it is a reply.
+    fn verdict(&self, message: &Message) -> Option<Verdict>
+        requires { message.now.instance < length self.now.instances }
+        ensures { InInstance self.now message.now.instance
+            (λ x. IsVerdictOn x (whole_of message.now) result (whole_body message.now.body)) }
     {
-        self.take_as(message, true)
+        self.instances[message.instance as usize].verdict(message)
     }
 
-    /// Receives a message that fits, as [`Replica::take_message`] does, and submits an update in
-    /// another instance in the same step, as [`Replica::take_submission`] does: both, or neither.
-    /// It is refused for want of memory alone; then the replica is as before. The cost is that of
-    /// the two, and of a copy of the two instances and of the view, which share their updates.
-    pub fn take_message_and_submit(
-        &mut self,
-        message: &Message,
-        instance: u8,
-        object: u16,
-        op: Op,
-    ) -> Result<Both, AllocError>
-        requires fits { FitsReceiver self.old (whole_of message.now) }
-        requires other { instance ≢ message.now.instance }
-        requires room { HasRoom self.old instance }
-        requires spares { SubmittingSpares self.old instance }
-        ensures step { IfOk result (λ both.
-            receives_and_submits self.old (whole_of message.now) instance (op_on object op)
-            ≡ Some (whole_both both, self.new)) }
-        ensures err { OnErr result (self.new ≡ self.old) }
+    // In instance 0, the set that may become the view by a message with this verdict.
+    fn candidate<'a>(
+        &'a self,
+        verdict: Option<Verdict>,
+        message: &'a Message,
+    ) -> Option<&'a UpdateSet>
+        requires { message.now.instance < length self.now.instances }
+        ensures { InInstance self.now message.now.instance (λ x.
+            option_copied result ≡ candidate x verdict (whole_of message.now)) }
     {
-        let (at, view, received) = self.received_apart(message)?;
-        let (other, submitted) = self.submitted_apart(instance, object, op)?;
-        let both = Both::new(received, submitted)?;
-        self.put(message.instance, at);
-        self.put(instance, other);
-        self.see(view);
-        Ok(both)
+        self.instances[message.instance as usize].candidate(verdict, message)
     }
 
-    /// The set that a message would lead this replica to learn, if it were received: the open
-    /// ballot's, where the message is an acknowledgement or a refusal with which a majority has
-    /// acknowledged it; else `None`, also where there is no such instance. It takes no memory, and
-    /// the cost is constant.
-    pub fn would_learn(&self, message: &Message) -> Option<&UpdateSet>
-        ensures learnt { (out : whole.Out) (after : ReplicaState)
-            → receives self.now (whole_of message.now) ≡ Some (out, after)
-            → option_copied result ≡ learnt_in out.said }
-        ensures none { length self.now.instances ≤ message.now.instance → result ≡ None }
-    {
-        self.instances
-            .get(message.instance as usize)?
-            .would_learn(message)
-    }
-
-    // Does what an admitted message asks for. Where a set that may become the view is known to fit
-    // it, no updates are compared.
-    fn take_as(&mut self, message: &Message, fits: bool) -> Result<Out, AllocError>
-        requires receivable { IsReceivable self.old (whole_of message.now) }
-        requires spares { ReceivingSpares self.old (whole_of message.now) }
-        requires view { fits ≡ true → FitsView self.old (whole_of message.now) }
-        ensures step { IfOk result (λ out.
-            receives self.old (whole_of message.now) ≡ Some (whole_out out, self.new)) }
-        ensures free { IsFree self.old (whole_of message.now) → IsOk result }
-        ensures err { OnErr result (self.new ≡ self.old) }
-    {
-        let alloc = *self.instances.allocator();
-        let sender = self.sender(message.instance);
-        match self.instances.get_mut(message.instance as usize) {
-            Some(at) => at.take_message(alloc, &sender, message, &mut self.view, fits),
-            // By `IsReceivable` there is such an instance.
-            None => unreachable!(),
-        }
-    }
-
-    // What a message that fits comes to, in copies of its instance and of the view: what stands
-    // there afterwards, and what is answered.
-    fn received_apart(&self, message: &Message) -> Result<(Instance, UpdateSet, Out), AllocError>
-        requires { FitsReceiver self.now (whole_of message.now) }
-        ensures step { IfOk result (λ after. receives self.now (whole_of message.now) ≡ Some (
-          whole_out after.2,
-          with_instance self.now message.now.instance after.0 after.1,
-        )) }
-        ensures alike { IfOk result (λ after. IsOf self.now.votes self.now.own after.0) }
-    {
-        let alloc = *self.instances.allocator();
-        let sender = self.sender(message.instance);
-        let mut at = self.copy_at(message.instance)?;
-        let mut view = self.view().copy()?;
-        let out = at.take_message(alloc, &sender, message, &mut view, true)?;
-        Ok((at, view, out))
-    }
-
-    // What a submission that is admitted comes to, in a copy of its instance: what stands there
-    // afterwards, and what is answered. It is the same whatever the view is.
-    fn submitted_apart(
+    // Prepares what an admitted message asks for, with this verdict, and by which the view is taken
+    // or not.
+    fn prepare_as(
         &self,
-        instance: u8,
-        object: u16,
-        op: Op,
-    ) -> Result<(Instance, Out), AllocError>
-        requires room { HasRoom self.now instance }
-        requires spares { SubmittingSpares self.now instance }
-        ensures step { IfOk result (λ after.
-            SubmitsThere self.now instance (op_on object op) (whole_out after.1) after.0) }
-        ensures alike { IfOk result (λ after. IsOf self.now.votes self.now.own after.0) }
+        message: &Message,
+        verdict: Option<Verdict>,
+        taken: bool,
+    ) -> Result<(Out, Change), AllocError>
+        requires receivable { IsReceivable self.now (whole_of message.now) }
+        requires spares { ReceivingSpares self.now (whole_of message.now) }
+        requires verdict { InInstance self.now message.now.instance
+            (λ x. IsVerdictOn x (whole_of message.now) verdict (whole_body message.now.body)) }
+        requires taken { InInstance self.now message.now.instance
+            (λ x. taken ≡ is_taken self.now.view (candidate x verdict (whole_of message.now))) }
+        ensures step { IfOk result (λ prepared. receives self.now (whole_of message.now)
+            ≡ led self.now (whole_out prepared.0) prepared.1) }
+        ensures from { IfOk result (λ prepared. IsPreparedFrom self.now prepared.1) }
+        ensures instance { IfOk result (λ prepared.
+            prepared.1.instance ≡ message.now.instance) }
+        ensures free { IsFree self.now (whole_of message.now) → IsOk result }
     {
         let alloc = *self.instances.allocator();
-        let sender = self.sender(instance);
-        let mut at = self.copy_at(instance)?;
-        let out = at.take_submission(alloc, &sender, object, op)?;
-        Ok((at, out))
-    }
-
-    // A copy of what it keeps of an instance.
-    fn copy_at(&self, instance: u8) -> Result<Instance, AllocError>
-        requires { instance < length self.now.instances }
-        ensures { IfOk result (λ copy. slice_get self.now.instances instance ≡ Some copy) }
-    {
-        self.instances[instance as usize].copy()
-    }
-
-    // Puts this in an instance's place.
-    fn put(&mut self, instance: u8, at: Instance)
-        requires there { instance < length self.old.instances }
-        requires alike { IsOf self.old.votes self.old.own at }
-        ensures { self.new
-            ≡ record self.old { instances = slice_set self.old.instances instance at } }
-    {
-        self.instances[instance as usize] = at;
-    }
-
-    // Puts this in the view's place.
-    fn see(&mut self, view: UpdateSet)
-        ensures { self.new ≡ record self.old { view = view } }
-    {
-        self.view = view;
+        let sender = self.sender(message.instance);
+        let at = &self.instances[message.instance as usize];
+        at.prepare(alloc, &sender, message, verdict, taken)
     }
 
     // Where the replica's messages of an instance come from.
@@ -384,15 +336,4 @@ impl Replica {
             instance,
         }
     }
-}
-
-// A copy of a list of instances.
-fn copy_instances(instances: &Vec<Instance>) -> Result<Vec<Instance>, AllocError>
-    ensures { IfOk result (λ copy. copy.items ≡ instances.now.items) }
-{
-    let mut copy = Vec::with_capacity(*instances.allocator(), instances.len())?;
-    for instance in instances {
-        copy.push(instance.copy()?)?;
-    }
-    Ok(copy)
 }

@@ -4,15 +4,13 @@ use Rattle.std.proofs.Common.{◌≡◌, ℕ, ◌+◌, ◌<◌, ◌≤◌, ◌^�
 use Rattle.std.specs.Prelude.{option_and_then}
 use Rattle.la_set.specs.Histories.{Histories}
 use Rattle.la_commit.specs.declared.outcome.Outcome.{Outcome}
-use Rattle.la_commit.specs.declared.vote.Vote.{Vote}
 use Rattle.la_replica.specs.declared.message.Message as code
-use Rattle.la_replica.specs.declared.out.Out as code_out
 use Rattle.la_replica.specs.ReplicaState.{ReplicaState}
+use Rattle.la_world.specs.declared.done.Done.{Done}
 use Rattle.la_world.specs.declared.journal.Journal.{Journal}
 use Rattle.la_world.specs.declared.speaker.Speaker.{Speaker}
 use Rattle.la_world.specs.declared.step.Step.{Step}
 use Rattle.la_world.specs.Events.{Event}
-use Rattle.la_world.specs.Votes.{vote_in, instance_after}
 use Rattle.la_world.specs.Outcomes.{outcome_in}
 use Rattle.la_world.specs.Printable.{named_by, IsPrintable}
 use Rattle.la_world.specs.Shown.{shown_by, learnings_by, step_by}
@@ -20,14 +18,6 @@ use Rattle.la_world.specs.StandsFor.{World, world_of}
 use Rattle.la_world.specs.Calls.{HoldsInvariant, Plays}
 use Rattle.la_world.proofs.WorldSteps.{receiver_speaks, submitter_speaks}
 use Rattle.la_world.proofs.Worlds.{set_same, world_with, step_with, IsDelivery}
-
--- the speaker of a delivery
-speaker_is : (w : World) (m : code.Message) (copy : Option Histories) {returns : Option Outcome} {vote : Option Vote} {opens : ℕ}
-    → returns ≡ option_and_then (outcome_in m.instance m.to) copy → vote ≡ option_and_then (vote_in m.instance m.to) copy → opens ≡ instance_after m.instance vote
-    → ◌≡◌ {A = Speaker} (record { replicas = w.config.replicas; replica = m.to; instance = m.instance; ballot = m.ballot; outcome = returns; opens_in = opens }) (receiver_speaks w m copy)
-speaker_is w m copy a b d =
-    let opens_there = d ∙ ap (instance_after m.instance) b in
-    λ j. record { replicas = w.config.replicas; replica = m.to; instance = m.instance; ballot = m.ballot; outcome = a j; opens_in = opens_there j }
 
 -- room was made, and nothing was noted
 module _ {w : World} (invariant : HoldsInvariant w) (journal : Journal) (a : journal.messages.items ≡ w.messages) (b : journal.learnt.items ≡ w.learnt) (d : journal.count ≡ w.count) where
@@ -40,57 +30,56 @@ module _ {w : World} (invariant : HoldsInvariant w) (journal : Journal) (a : jou
       subst (λ replica_states. HoldsInvariant (world_of w.config replica_states w.shelves journal)) (sym (ap (slice_set w.replica_states r) same ∙ set_same w.replica_states r at found)) holds_reserved
 
 -- room was made, and then it was noted what replica s did
-pub record IsNoted (w : World) (s : Speaker) (out : code_out.Out) (copy : Option Histories) (room after : Journal) (made : Step) : Type 0 where
+pub record IsNoted (w : World) (s : Speaker) (done : Done) (copy : Option Histories) (room after : Journal) (made : Step) : Type 0 where
   pub messages : room.messages.items ≡ w.messages
   pub learnt : room.learnt.items ≡ w.learnt
   pub count : room.count ≡ w.count
-  pub step : made ≡ step_by s room out
-  pub messages_after : after.messages.items ≡ room.messages.items ++ out.mail
+  pub step : made ≡ step_by s room done
+  pub messages_after : after.messages.items ≡ room.messages.items ++ done.mail
   pub learnt_after : after.learnt.items ≡ room.learnt.items ++ learnings_by s room.count copy
   pub count_after : after.count ≡ room.count + 1
-  pub numbers : length room.messages.items + length out.mail < 2 ^ 64
+  pub numbers : length room.messages.items + length done.mail < 2 ^ 64
 
 -- of a submission
-pub submission_noted : {w : World} (i r : ℕ) (room after : Journal) (out : code_out.Out) {made : Step} → HoldsInvariant w → room.messages.items ≡ w.messages → room.learnt.items ≡ w.learnt → room.count ≡ w.count
-    → made ≡ step_by (submitter_speaks w i r) room out → after.messages.items ≡ room.messages.items ++ out.mail → after.learnt.items ≡ room.learnt.items ++ learnings_by (submitter_speaks w i r) room.count None → after.count ≡ room.count + 1
-    → length room.messages.items + length out.mail < 2 ^ 64 → IsNoted w (submitter_speaks w i r) out None room after made
-submission_noted i r room after out invariant messages learnt count step messages_after learnt_after count_after numbers =
+pub submission_noted : {w : World} (i r : ℕ) (room after : Journal) (done : Done) {made : Step} → HoldsInvariant w → room.messages.items ≡ w.messages → room.learnt.items ≡ w.learnt → room.count ≡ w.count
+    → made ≡ step_by (submitter_speaks w i r) room done → after.messages.items ≡ room.messages.items ++ done.mail → after.learnt.items ≡ room.learnt.items ++ learnings_by (submitter_speaks w i r) room.count None → after.count ≡ room.count + 1
+    → length room.messages.items + length done.mail < 2 ^ 64 → IsNoted w (submitter_speaks w i r) done None room after made
+submission_noted i r room after done invariant messages learnt count step messages_after learnt_after count_after numbers =
     record { messages = messages; learnt = learnt; count = count; step = step; messages_after = messages_after; learnt_after = learnt_after; count_after = count_after; numbers = numbers }
 
--- of a delivery, where it was computed what the receiver returns and votes by what it learns
-module _ {w : World} {k : ℕ} {m : code.Message} {at : ReplicaState} (d : IsDelivery w k m at) (copy : Option Histories) {returns : Option Outcome} {vote : Option Vote} {opens : ℕ}
-    (a : returns ≡ option_and_then (outcome_in m.instance m.to) copy) (b : vote ≡ option_and_then (vote_in m.instance m.to) copy) (o : opens ≡ instance_after m.instance vote) where
+-- of a delivery, where it was computed what the receiver returns by what it learns
+module _ {w : World} {k : ℕ} {m : code.Message} {at : ReplicaState} (d : IsDelivery w k m at) (copy : Option Histories) {returns : Option Outcome} (a : returns ≡ option_and_then (outcome_in m.instance m.to) copy) where
   abbrev speaks : Speaker
-  speaks = record { replicas = w.config.replicas; replica = m.to; instance = m.instance; ballot = m.ballot; outcome = returns; opens_in = opens }
+  speaks = record { replicas = w.config.replicas; replica = m.to; instance = m.instance; ballot = m.ballot; outcome = returns }
 
-  pub delivery_noted : (room after : Journal) (out : code_out.Out) {made : Step} → room.messages.items ≡ w.messages → room.learnt.items ≡ w.learnt → room.count ≡ w.count
-      → made ≡ step_by speaks room out → after.messages.items ≡ room.messages.items ++ out.mail → after.learnt.items ≡ room.learnt.items ++ learnings_by speaks room.count copy → after.count ≡ room.count + 1
-      → length room.messages.items + length out.mail < 2 ^ 64 → IsNoted w (receiver_speaks w m copy) out copy room after made
-  delivery_noted room after out {made = made} messages learnt count step messages_after learnt_after count_after numbers =
-      subst (λ s. IsNoted w s out copy room after made) (speaker_is w m copy a b o)
+  pub delivery_noted : (room after : Journal) (done : Done) {made : Step} → room.messages.items ≡ w.messages → room.learnt.items ≡ w.learnt → room.count ≡ w.count
+      → made ≡ step_by speaks room done → after.messages.items ≡ room.messages.items ++ done.mail → after.learnt.items ≡ room.learnt.items ++ learnings_by speaks room.count copy → after.count ≡ room.count + 1
+      → length room.messages.items + length done.mail < 2 ^ 64 → IsNoted w (receiver_speaks w m copy) done copy room after made
+  delivery_noted room after done {made = made} messages learnt count step messages_after learnt_after count_after numbers =
+      subst (λ o. IsNoted w (record { replicas = w.config.replicas; replica = m.to; instance = m.instance; ballot = m.ballot; outcome = o }) done copy room after made) a
       record { messages = messages; learnt = learnt; count = count; step = step; messages_after = messages_after; learnt_after = learnt_after; count_after = count_after; numbers = numbers }
 
-module _ {w : World} {s : Speaker} {out : code_out.Out} {copy : Option Histories} {room after : Journal} {made : Step} (n : IsNoted w s out copy room after made) where
+module _ {w : World} {s : Speaker} {done : Done} {copy : Option Histories} {room after : Journal} {made : Step} (n : IsNoted w s done copy room after made) where
   module _ (r : ℕ) (m : ReplicaState) where
     abbrev noted : World
     noted = world_of w.config (slice_set w.replica_states r m) w.shelves after
 
-    noted_as : noted ≡ world_with w r m s out copy
+    noted_as : noted ≡ world_with w r m s done copy
     noted_as =
-        let messages : after.messages.items ≡ w.messages ++ out.mail = n.messages_after ∙ ap (λ ms. ms ++ out.mail) n.messages in
+        let messages : after.messages.items ≡ w.messages ++ done.mail = n.messages_after ∙ ap (λ ms. ms ++ done.mail) n.messages in
         let learnt : after.learnt.items ≡ w.learnt ++ learnings_by s w.count copy = n.learnt_after ∙ ap₂ (λ ls k. ls ++ learnings_by s k copy) n.learnt n.count in
         let count : after.count ≡ w.count + 1 = n.count_after ∙ ap (λ k. k + 1) n.count in
         λ j. record { config = w.config; replica_states = slice_set w.replica_states r m; shelves = w.shelves; messages = messages j; learnt = learnt j; count = count j }
 
-    pub noted_holds : HoldsInvariant (world_with w r m s out copy) → HoldsInvariant noted
+    pub noted_holds : HoldsInvariant (world_with w r m s done copy) → HoldsInvariant noted
     noted_holds h = subst HoldsInvariant (sym noted_as) h
 
-    step_as : made ≡ step_with w s out
-    step_as = n.step ∙ ap₂ (λ k (ms : List code.Message). record { did = shown_by s k out.said; first = length ms; sent = length out.mail }) n.count n.messages
+    step_as : made ≡ step_with w s done
+    step_as = n.step ∙ ap₂ (λ k (ms : List code.Message). record { did = shown_by s k done.said done.voted; first = length ms; sent = length done.mail }) n.count n.messages
 
-    pub noted_plays : {old : World} → w ≡ old → (events : List Event) (e : Event) → Plays w events e (step_with w s out) (world_with w r m s out copy) → Plays old events e made noted
+    pub noted_plays : {old : World} → w ≡ old → (events : List Event) (e : Event) → Plays w events e (step_with w s done) (world_with w r m s done copy) → Plays old events e made noted
     noted_plays same events e played =
         subst (λ v. Plays v events e made noted) same (subst₂ (λ t v. Plays w events e t v) (sym step_as) (sym noted_as) played)
 
-  pub noted_prints : named_by (shown_by s w.count out.said) ≤ length out.mail → IsPrintable made
-  noted_prints named = subst IsPrintable (sym n.step) record { numbers = n.numbers; messages = subst (λ k. named_by (shown_by s k out.said) ≤ length out.mail) (sym n.count) named }
+  pub noted_prints : named_by (shown_by s w.count done.said done.voted) ≤ length done.mail → IsPrintable made
+  noted_prints named = subst IsPrintable (sym n.step) record { numbers = n.numbers; messages = subst (λ k. named_by (shown_by s k done.said done.voted) ≤ length done.mail) (sym n.count) named }

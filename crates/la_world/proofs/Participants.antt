@@ -1,22 +1,22 @@
--- What a replica makes of a message, where it votes by it and where it does not.
-use Rattle.std.proofs.Common.{◌≡◌, ℕ, ◌+◌, ◌/◌, ◌%◌, Bool, true, false, cond, Option, Some, None, IsSomeAnd, slice_get, option_map, option_and_then, Result, Ok, Err, IfOk, refl, ap, sym, ◌∙◌, arith, eqb-true}
+-- What a replica makes of a message, where it votes by it and where it does not, from what it prepared.
+use Rattle.std.proofs.Common.{◌≡◌, ℕ, ◌+◌, ◌/◌, ◌%◌, Bool, true, false, cond, Option, Some, None, IsSomeAnd, slice_get, option_map, option_and_then, refl, ap, sym, ◌∙◌, subst, arith, eqb-true}
 use Rattle.std.proofs.Math.Nat.{div-add-mod}
-use Rattle.std.proofs.lemmas.Option.{same_Some, none-some}
+use Rattle.std.proofs.lemmas.Option.{none-some}
 use Rattle.la_set.specs.Histories.{Histories}
 use Rattle.la_commit.specs.declared.vote.Vote.{Vote}
 use Rattle.la_commit.specs.Votes.{proposed, second_vote_for}
+use Rattle.la_replica.specs.declared.change.Change.{Change}
 use Rattle.la_replica.specs.declared.out.Said.{Said}
-use Rattle.la_replica.specs.Whole.{Message, Out, Both, both_of}
+use Rattle.la_replica.specs.Whole.{Message, Out}
+use Rattle.la_replica.specs.Changes.{IsProposerFrom, view_next, at_after, IsPreparedFrom, after_commit, led}
 use Rattle.la_replica.specs.declared.instance.Instance.{Instance}
-use Rattle.la_replica.specs.Steps as steps
 use Rattle.la_replica.specs.Steps.{learnt_in}
-use Rattle.la_replica.specs.Refusals.{FitsMessage}
-use Rattle.la_replica.specs.Fitting.{FitsReceiver}
+use Rattle.la_replica.specs.Refusals.{HasRoom, SubmittingSpares}
 use Rattle.la_replica.specs.ReplicaState as acting
-use Rattle.la_replica.specs.ReplicaState.{ReplicaState}
+use Rattle.la_replica.specs.ReplicaState.{ReplicaState, with_instance}
 use Rattle.la_world.specs.Groups.{is_first_instance, commit_of, second_instance}
 use Rattle.la_world.specs.Votes.{Submission, casts, vote_in, second_vote_of, second_vote_in}
-use Rattle.la_world.specs.Following.{vote_due, learnt_with, and_submission, submits_with, takes}
+use Rattle.la_world.specs.Following.{vote_due, without_vote, with_vote, then_votes, takes, VoteFits}
 
 -- a vote as it is submitted in the second instance
 abbrev pub submission_of : (i r : ℕ) → Vote → Submission
@@ -47,9 +47,17 @@ next_instance : (i r : ℕ) (o : Option Histories) (v : Vote) → option_and_the
 next_instance i r None v e = absurd (none-some v e)
 next_instance i r (Some s) v e = let odd = eqb-true (i % 2) 1 (votes_in_first i r s v e) in omega (arith, div-add-mod i 2, odd)
 
-pub IfOk-more : {A E : Type 0} (P Q : A → Type 0) (r : Result A E) → ((x : A) → P x → Q x) → IfOk r P → IfOk r Q
-IfOk-more P Q (Ok x) f h = f x h
-IfOk-more P Q (Err e) f h = h
+-- what was prepared leads there, once it is committed
+pub led_is : (r after : ReplicaState) (out : Out) (c : Change) (o : Option (Out × ReplicaState)) → o ≡ led r out c → after_commit r c ≡ Some after → o ≡ Some (out, after)
+led_is r after out c o step done = step ∙ ap (option_map (λ (s : ReplicaState). (out, s))) done
+
+leads_on : (r : ReplicaState) (out : Out) (c : Change) → IsPreparedFrom r c → (after : ReplicaState) × (led r out c ≡ Some (out, after))
+leads_on r out c from = go (slice_get r.instances c.instance) from
+  where
+    go : (o : Option Instance) → IsSomeAnd o (λ x. IsProposerFrom x.proposer c.proposer)
+        → (after : ReplicaState) × (option_map {U = Out × ReplicaState} (λ (s : ReplicaState). (out, s)) (option_map (λ x. with_instance r c.instance (at_after x c) (view_next r.view c.view)) o) ≡ Some (out, after))
+    go None h = absurd h
+    go (Some x) h = (with_instance r c.instance (at_after x c) (view_next r.view c.view), refl)
 
 module _ (at : ReplicaState) (m : Message) where
   abbrev vote_by : Said → Option Vote
@@ -58,43 +66,27 @@ module _ (at : ReplicaState) (m : Message) where
   due : (x : Said) → vote_due m.instance at.own x ≡ option_map (submission_of m.instance at.own) (vote_by x)
   due x = all_due m.instance at.own (learnt_in x)
 
-  -- a message that fits is received
-  pub received : FitsReceiver at m → (made : Out × ReplicaState) × (acting.receives at m ≡ Some made)
-  received fits = go (slice_get at.instances m.instance) fits.receivable.1
-    where
-      step : Instance → Out × ReplicaState
-      step x = acting.after_step at m.instance (steps.receives (acting.sender_of at m.instance) x at.view m)
-
-      go : (o : Option Instance) → IsSomeAnd o (λ x. FitsMessage x m) → (made : Out × ReplicaState) × (option_map step o ≡ Some made)
-      go None h = absurd h
-      go (Some x) h = (step x, refl)
-
-  -- and where this vote is due, it is submitted in the next instance
+  -- where this vote is due, it is submitted in the next instance
   pub due_next : (v : Vote) (x : Said) → vote_by x ≡ Some v → (vote_due m.instance at.own x ≡ Some (submission_of m.instance at.own v)) × (second_instance (commit_of m.instance) ≡ m.instance + 1)
   due_next v x is = (due x ∙ ap (option_map (submission_of m.instance at.own)) is, next_instance m.instance at.own (learnt_in x) v is)
 
-  -- no vote is due
-  pub takes_plainly : (out : Out) (after : ReplicaState) → acting.receives at m ≡ Some (out, after) → None ≡ vote_by out.said → takes at m ≡ Some (out, after)
-  takes_plainly out after is none =
-      ap (option_and_then (λ (made : Out × ReplicaState). submits_with made (vote_due m.instance at.own made.0.said))) is
-      ∙ ap (submits_with (out, after)) (due out.said ∙ ap (option_map (submission_of m.instance at.own)) (sym none))
+  -- and may be submitted there
+  pub may_vote : VoteFits at m → (out : Out) (c : Change) → acting.receives at m ≡ led at out c → IsPreparedFrom at c → (v : Vote) → Some v ≡ vote_by out.said → HasRoom at (m.instance + 1) × SubmittingSpares at (m.instance + 1)
+  may_vote fits out c step from v wanted =
+      let on = leads_on at out c from in let next = due_next v out.said (sym wanted) in
+      subst (λ i. HasRoom at i × SubmittingSpares at i) next.1 (fits (out, on.0) (submission_of m.instance at.own v) (step ∙ on.1) next.0)
 
-  -- this vote is due, and is cast
-  pub takes_with_vote : (v : Vote) → ((out : Out) (after : ReplicaState) → acting.receives at m ≡ Some (out, after) → Some v ≡ vote_by out.said) → (both : Both) (after : ReplicaState)
-      → acting.receives_and_submits at m (m.instance + 1) (casts (m.instance / 2) v) ≡ Some (both, after) → takes at m ≡ Some (record { said = learnt_with both.received both.submitted; mail = both.mail }, after)
-  takes_with_vote v wanted both after is = go (acting.receives at m) refl is
-    where
-      go : (o : Option (Out × ReplicaState)) → acting.receives at m ≡ o → option_and_then (acting.then_submits (m.instance + 1) (casts (m.instance / 2) v)) o ≡ Some (both, after)
-          → option_and_then (λ (made : Out × ReplicaState). submits_with made (vote_due m.instance at.own made.0.said)) o ≡ Some (record { said = learnt_with both.received both.submitted; mail = both.mail }, after)
-      go None e k = absurd (none-some (both, after) k)
-      go (Some made) e k =
-          let wanted_here = wanted made.0 made.1 e in
-          let next = next_instance m.instance at.own (learnt_in made.0.said) v (sym wanted_here) in
-          ap (submits_with made) (due made.0.said ∙ ap (option_map (submission_of m.instance at.own)) (sym wanted_here))
-          ∙ ap (λ i. option_map (and_submission made.0) (acting.submits made.1 i (casts (m.instance / 2) v))) next
-          ∙ both_done made.0 (acting.submits made.1 (m.instance + 1) (casts (m.instance / 2) v)) k
-        where
-          both_done : (received : Out) (o : Option (Out × ReplicaState)) → option_map {U = Both × ReplicaState} (λ (submitted : Out × ReplicaState). (both_of received submitted.0, submitted.1)) o ≡ Some (both, after)
-              → option_map (and_submission received) o ≡ Some (record { said = learnt_with both.received both.submitted; mail = both.mail }, after)
-          both_done received None k = absurd (none-some (both, after) k)
-          both_done received (Some submitted) k = ap (λ (p : Both × ReplicaState). Some (record { said = learnt_with p.0.received p.0.submitted; mail = p.0.mail }, p.1)) (same_Some _ (both, after) k)
+  -- no vote is due
+  pub takes_plainly : (out : Out) (after : ReplicaState) → acting.receives at m ≡ Some (out, after) → None ≡ vote_by out.said → takes at m ≡ Some (without_vote out, after)
+  takes_plainly out after is none =
+      ap (option_and_then (λ (made : Out × ReplicaState). then_votes made (vote_due m.instance at.own made.0.said))) is
+      ∙ ap (then_votes (out, after)) (due out.said ∙ ap (option_map (submission_of m.instance at.own)) (sym none))
+
+  -- this vote is due, and is cast in what stands then
+  pub takes_voting : (v : Vote) (out cast : Out) (then after : ReplicaState) → acting.receives at m ≡ Some (out, then) → Some v ≡ vote_by out.said → acting.submits then (m.instance + 1) (casts (commit_of m.instance) v) ≡ Some (cast, after) → takes at m ≡ Some (with_vote out (m.instance + 1) cast, after)
+  takes_voting v out cast then after received wanted submitted =
+      let next = due_next v out.said (sym wanted) in
+      ap (option_and_then (λ (made : Out × ReplicaState). then_votes made (vote_due m.instance at.own made.0.said))) received
+      ∙ ap (then_votes (out, then)) next.0
+      ∙ ap (λ j. option_map (λ (c : Out × ReplicaState). (with_vote out j c.0, c.1)) (acting.submits then j (casts (commit_of m.instance) v))) next.1
+      ∙ ap (option_map (λ (c : Out × ReplicaState). (with_vote out (m.instance + 1) c.0, c.1))) submitted

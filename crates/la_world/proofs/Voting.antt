@@ -31,7 +31,7 @@ use Rattle.la_world.specs.Submissions.{object_op_in, submitted}
 use Rattle.la_world.specs.Views.{view}
 use Rattle.la_world.specs.Playing.{after_vote, after_learning, receives}
 use Rattle.la_world.specs.ReplicaStates.{proposer_state, instance_of, replica_state}
-use Rattle.la_world.specs.Following.{vote_due, and_submission, submits_with, takes, out_at, StepsAs}
+use Rattle.la_world.specs.Following.{opened_there, voted_with, with_vote, vote_due, then_votes, takes, taken_at, StepsAs}
 use Rattle.la_world.proofs.Lists.{IsIn}
 use Rattle.la_world.proofs.Openings.{IsOf, not_both, IsAway, round_is, round-same, is_open-learnt, only_of}
 use Rattle.la_world.proofs.Unaffected.{Leaves, proposer_state_is, submitted-none, accepted-none, last_learnt-none, last_learnt-some}
@@ -194,21 +194,22 @@ module _ (g : Group) (t : Trace) (k : ℕ) (m : Message) (there : m.instance < i
   vote_is : second_vote_in i r last.updates ≡ Some (vote_at j r object_op)
   vote_is = ap₂ (λ a q. second_vote_in a q last.updates) (sym last_is.instance) (sym last_is.replica) ∙ l.vote
 
-  takes_so : takes (replica_state g t r) m ≡ Some (out_at (replicas g) x, replica_state g (x ∷ t) r)
+  takes_so : takes (replica_state g t r) m ≡ Some (taken_at (replicas g) x, replica_state g (x ∷ t) r)
   unfolding replica_state
   takes_so =
-      ap (option_and_then (λ (made : Out × ReplicaState). submits_with made (vote_due i r made.0.said))) receives_so
-      ∙ ap (submits_with (learning, middle)) vote_is
-      ∙ ap (option_map (and_submission learning)) submits_so
-      ∙ ap (λ z. Some (record { said = said.Learnt last.updates (Some (ballot_of next)); mail = z ++ offers_for (replicas g) next }, replica_state g (x ∷ t) r)) (append-nil (tells_for (replicas g) last))
+      ap (option_and_then (λ (made : Out × ReplicaState). then_votes made (vote_due i r made.0.said))) receives_so
+      ∙ ap (then_votes (learning, middle)) vote_is
+      ∙ ap (option_map (λ (cast : Out × ReplicaState). (with_vote learning j cast.0, cast.1))) submits_so
+      ∙ ap (λ z. Some (with_vote (record { said = said.Learnt last.updates None; mail = z }) j casting, replica_state g (x ∷ t) r)) (append-nil (tells_for (replicas g) last))
+      ∙ ap (λ v. Some (record { said = said.Learnt last.updates (opened_there (Some next) v); voted = voted_with (Some next) v; mail = tells_for (replicas g) last ++ offers_for (replicas g) next }, replica_state g (x ∷ t) r)) (sym l.vote)
 
   -- what the replica says of the message makes the vote due
   pub says_due : (made : Out × ReplicaState) → acting.receives (replica_state g t r) m ≡ Some made → vote_due i r made.0.said ≡ Some (vote_at j r object_op)
   says_due made e = ap (λ (z : Out × ReplicaState). vote_due i r z.0.said) (same_Some made (learning, middle) (sym e ∙ receives_so)) ∙ vote_is
 
   -- the step is what the trace says
-  pub votes_as : StepsAs g t (entry_of (Deliver k) (Some m) (receives g t (Some m))) r (takes (replica_state g t r) m)
-  votes_as = subst (λ y. StepsAs g t (entry_of (Deliver k) (Some m) y) r (takes (replica_state g t r) m)) (sym did_is) record {
+  pub votes_as : let y = entry_of (Deliver k) (Some m) (receives g t (Some m)) in StepsAs g t y r (taken_at (replicas g) y) (takes (replica_state g t r) m)
+  votes_as = subst (λ d. let y = entry_of (Deliver k) (Some m) d in StepsAs g t y r (taken_at (replicas g) y) (takes (replica_state g t r) m)) (sym did_is) record {
     step = takes_so;
     others = λ q ne. replica_state-left g x t q (λ p. leaves_else p q (λ e f. ne (sym f)) (λ e f. ne (sym f)));
   }

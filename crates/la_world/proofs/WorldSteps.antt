@@ -1,6 +1,5 @@
 -- A world that stands for a list of events, and the world after one event more.
 use Rattle.std.proofs.Common.{◌≡◌, ◌≢◌, ℕ, ◌+◌, ◌*◌, ◌%◌, ◌<◌, ◌≤◌, Bool, true, false, cond, List, [], ◌∷◌, ◌++◌, length, map, slice_get, slice_set, All, Option, Some, None, option_map, option_and_then, refl, ap, ap₂, sym, ◌∙◌, subst, arith, eqb-true}
-use Rattle.std.proofs.Math.Nat.{div-add-mod}
 use Rattle.std.proofs.lemmas.Option.{none-some, slice_get_within, get_or_from_slice_get}
 use Rattle.la_set.specs.ObjectOps.{ObjectOp}
 use Rattle.la_set.specs.Histories.{Histories, empty}
@@ -8,7 +7,6 @@ use Rattle.la_set.specs.Inclusion.{IsSubset}
 use Rattle.la_set.proofs.Inclusions.{subset-trans}
 use Rattle.la_object.specs.declared.kind.Kind.{Kind}
 use Rattle.la_object.specs.Shelves.{ShelfState}
-use Rattle.la_commit.specs.Votes.{proposed, second_vote_for}
 use Rattle.la_replica.specs.declared.message.Message as code
 use Rattle.la_replica.specs.Whole.{Out, whole_of, CarryAll}
 use Rattle.la_replica.specs.declared.replica.TheConstants.{MAX_COMMITS}
@@ -19,14 +17,14 @@ use Rattle.la_replica.specs.ReplicaState.{ReplicaState, start}
 use Rattle.la_world.specs.declared.config.Config.{Config}
 use Rattle.la_world.specs.declared.speaker.Speaker.{Speaker}
 use Rattle.la_world.specs.declared.step.Opening.{Opening}
-use Rattle.la_world.specs.Groups.{Group, group_of, replicas, is_first_instance, commit_of, IsConfig}
+use Rattle.la_world.specs.Groups.{Group, group_of, replicas, IsConfig}
 use Rattle.la_world.specs.Events.{Event, Deliver}
 use Rattle.la_world.specs.Trace as did
 use Rattle.la_world.specs.Trace.{Did, Entry, Trace}
 use Rattle.la_world.specs.Sent.{sent_at, sent}
 use Rattle.la_world.specs.Ballots.{opened_by, learnt_by, round, is_open}
 use Rattle.la_world.specs.Submissions.{submitted, second_vote_after}
-use Rattle.la_world.specs.Votes.{Submission, vote_in, instance_after, second_vote_of, second_vote_in, second_vote}
+use Rattle.la_world.specs.Votes.{Submission}
 use Rattle.la_world.specs.Outcomes.{outcome_in, outcome_by}
 use Rattle.la_world.specs.Shown.{shown_by}
 use Rattle.la_world.specs.Playing.{next_ballot, opens_or_waits, submits, receives, entry, trace}
@@ -39,7 +37,7 @@ use Rattle.la_world.specs.Calls.{IsGroup, replica_states_at_start, IsSubmission}
 use Rattle.la_world.proofs.GrowingViews.{view_more}
 use Rattle.la_world.proofs.LargestViews.{empty_least}
 use Rattle.la_world.proofs.OneReplicaSteps.{get_made, replica_state-else, replica_states-set}
-use Rattle.la_world.specs.Following.{said_by, vote_due, takes}
+use Rattle.la_world.specs.Following.{said_by, voted_with, voted_by, Taken, without_vote, vote_due, takes, taken_at}
 use Rattle.la_replica.specs.Refusals.{HasRoom, SubmittingSpares}
 use Rattle.la_replica.specs.Fitting.{FitsReceiver}
 use Rattle.la_world.proofs.EventCases.{entry_of}
@@ -49,7 +47,7 @@ use Rattle.la_world.proofs.Legal.{legal_submits, legal_between, entry_delivers, 
 use Rattle.la_world.proofs.RefusedForMemory.{delivery_fits, vote_has_room}
 use Rattle.la_world.proofs.Starting.{replica_state_at_start}
 use Rattle.la_world.proofs.StoredMessages.{messages_more, message_at}
-use Rattle.la_world.proofs.Shown.{opens_by, SpeaksOf, shown_is, learnt_number, length_trace}
+use Rattle.la_world.proofs.Shown.{SpeaksOf, shown_is, learnt_number, length_trace}
 
 pub few_of : (c : Config) (kinds : List (List (ℕ × Kind))) → IsConfig c → replicas (group_of c kinds) ≤ 8
 few_of c kinds is = let a = is.replicas in let b = is.few in omega arith
@@ -88,7 +86,7 @@ world_after w r m mail did = record { config = w.config; replica_states = slice_
 
 -- a replica of this world that submits in i
 abbrev pub submitter_speaks : World → (i r : ℕ) → Speaker
-submitter_speaks w i r = record { replicas = w.config.replicas; replica = r; instance = i; ballot = 0; outcome = None; opens_in = i }
+submitter_speaks w i r = record { replicas = w.config.replicas; replica = r; instance = i; ballot = 0; outcome = None }
 
 -- and one that receives this message, and learns this by it
 abbrev pub receiver_speaks : World → code.Message → (copy : Option Histories) → Speaker
@@ -98,8 +96,11 @@ receiver_speaks w m copy = record {
   instance = m.instance;
   ballot = m.ballot;
   outcome = option_and_then (outcome_in m.instance m.to) copy;
-  opens_in = instance_after m.instance (option_and_then (vote_in m.instance m.to) copy);
 }
+
+-- a submission, which casts no second vote
+abbrev pub submitting : Option (Out × ReplicaState) → Option (Taken × ReplicaState)
+submitting made = option_map (λ (p : Out × ReplicaState). (without_vote p.0, p.1)) made
 
 module _ (w : World) (events : List Event) (stands : StandsFor w events) where
   abbrev g : Group
@@ -138,14 +139,14 @@ module _ (w : World) (events : List Event) (stands : StandsFor w events) where
   few = few_of w.config (kinds_of w.shelves) stands.config
 
   -- what one event comes to, where this is what its replica makes of it and tells
-  pub record PlaysTo (e : Event) (by : Speaker) (made : Option (Out × ReplicaState)) : Type 0 where
+  pub record PlaysTo (e : Event) (by : Speaker) (made : Option (Taken × ReplicaState)) : Type 0 where
     pub in_group : by.replica < replicas g
-    pub step : made ≡ Some (record { said = said_by (entry g t e).did; mail = sent_at (replicas g) (entry g t e) }, replica_state g (entry g t e ∷ t) by.replica)
-    pub shown : shown_by by w.count (said_by (entry g t e).did) ≡ shown_as (replicas g) (length t) (entry g t e).did
+    pub step : made ≡ Some (taken_at (replicas g) (entry g t e), replica_state g (entry g t e ∷ t) by.replica)
+    pub shown : shown_by by w.count (said_by (entry g t e).did) (voted_by (entry g t e).did) ≡ shown_as (replicas g) (length t) (entry g t e).did
     pub after : (mail : List code.Message) → CarryAll mail (sent_at (replicas g) (entry g t e)) → StandsFor (world_after w by.replica (replica_state g (entry g t e ∷ t) by.replica) mail (entry g t e).did) (e ∷ events)
 
   -- a speaker of this world that speaks of an event
-  shown_so : (by : Speaker) (d : Did) → by.replicas ≡ w.config.replicas → SpeaksOf by d → shown_by by w.count (said_by d) ≡ shown_as (replicas g) (length t) d
+  shown_so : (by : Speaker) (d : Did) → by.replicas ≡ w.config.replicas → SpeaksOf by d → shown_by by w.count (said_by d) (voted_by d) ≡ shown_as (replicas g) (length t) d
   shown_so by d n h = shown_is by w.count d h ∙ ap₂ (λ k place. shown_as k place d) (n ∙ stands.config.replicas) count_is
 
   submits_learns : (i r : ℕ) (object_op : ObjectOp) → learnt_by (submits t i r object_op) ≡ None
@@ -164,7 +165,7 @@ module _ (w : World) (events : List Event) (stands : StandsFor w events) where
       go None = refl
       go (Some b) = refl
 
-  pub submission_plays : (e : Event) (i r : ℕ) (object_op : ObjectOp) → IsSubmission e i r object_op → refused g t e ≡ None → PlaysTo e (submitter_speaks w i r) (acting.submits (replica_state g t r) i object_op)
+  pub submission_plays : (e : Event) (i r : ℕ) (object_op : ObjectOp) → IsSubmission e i r object_op → refused g t e ≡ None → PlaysTo e (submitter_speaks w i r) (submitting (acting.submits (replica_state g t r) i object_op))
   submission_plays e i r object_op by allowed =
       let lt = submission_replica g t i r object_op e by allowed in
       let h = legal_submits g events stands.legal few e i r object_op by (submission_instance g t i r object_op e by allowed) lt in
@@ -173,12 +174,15 @@ module _ (w : World) (events : List Event) (stands : StandsFor w events) where
       let same : entry g t e ≡ x = submission_entry g t i r object_op e by in
       let others : (q : ℕ) → q ≢ r → replica_state g (entry g t e ∷ t) q ≡ replica_state g t q = subst (λ (y : Entry). (q : ℕ) → q ≢ r → replica_state g (y ∷ t) q ≡ replica_state g t q) (sym same) (λ q ne. replica_state-else g x t i r q h.concerns ne) in
       let none = submits_learns i r object_op in
+      let voted : voted_by d ≡ None = ap (λ o. voted_with (opened_by d) (second_vote_after o)) none in
       record {
         in_group = lt;
-        step = subst (λ (y : Entry). acting.submits (replica_state g t r) i object_op ≡ Some (record { said = said_by y.did; mail = sent_at (replicas g) y }, replica_state g (y ∷ t) r)) (sym same) h.step;
-        shown = subst (λ (y : Entry). shown_by (submitter_speaks w i r) w.count (said_by y.did) ≡ shown_as (replicas g) (length t) y.did) (sym same)
+        step = subst (λ (y : Entry). submitting (acting.submits (replica_state g t r) i object_op) ≡ Some (taken_at (replicas g) y, replica_state g (y ∷ t) r)) (sym same)
+            (ap submitting h.step ∙ ap (λ v. Some (record { said = said_by d; voted = v; mail = sent_at (replicas g) x }, replica_state g (x ∷ t) r)) (sym voted));
+        shown = subst (λ (y : Entry). shown_by (submitter_speaks w i r) w.count (said_by y.did) (voted_by y.did) ≡ shown_as (replicas g) (length t) y.did) (sym same)
             (shown_so (submitter_speaks w i r) d refl (record {
-              opened = λ b f. subst (λ o. IsOf (opens_by (submitter_speaks w i r) o) r b) (sym none) (h.concerns.opened b f);
+              opened = λ b f. (h.concerns.opened b f).replica;
+              here = λ b f unvoted. (h.concerns.opened b f).instance;
               learnt = λ b f. absurd (none-some b (sym none ∙ f));
               number = λ b f. absurd (none-some b (sym none ∙ f));
               outcome = λ b f. absurd (none-some b (sym none ∙ f));
@@ -202,20 +206,11 @@ module _ (w : World) (events : List Event) (stands : StandsFor w events) where
   learnt_said did.Kept = refl
   learnt_said (did.Replied answer) = refl
 
-  -- what opens, opens in the instance of the vote that it casts
-  vote_opens : (i r : ℕ) (b : Opening) → IsOf i r b → opens_in i (second_vote b) ≡ instance_after i (vote_in i r b.updates)
-  vote_opens i r b of = ap₂ (λ j q. opens_in i (second_vote_in j q b.updates)) of.instance of.replica ∙ go (is_first_instance i) refl (proposed b.updates r)
-    where
-      go : (v : Bool) → is_first_instance i ≡ v → (o : Option ℕ) → opens_in i (cond v (second_vote_of (commit_of i) r b.updates o) None) ≡ instance_after i (cond v (option_map (second_vote_for b.updates) o) None)
-      go true e None = refl
-      go true e (Some value) = let odd = eqb-true (i % 2) 1 e in omega (arith, div-add-mod i 2, odd)
-      go false e o = refl
-
   -- a kept message is to a replica of the group
   pub receiver_in_group : (k : ℕ) (m : code.Message) → slice_get w.messages k ≡ Some m → m.to < replicas g
   receiver_in_group k m stored = (legal_between g events stands.legal k (whole_of m) (get_message k m stored)).to
 
-  pub delivery_step : (k : ℕ) (m : code.Message) → slice_get w.messages k ≡ Some m → refused g t (Deliver k) ≡ None → takes (replica_state g t m.to) (whole_of m) ≡ Some (record { said = said_by (entry g t (Deliver k)).did; mail = sent_at (replicas g) (entry g t (Deliver k)) }, replica_state g (entry g t (Deliver k) ∷ t) m.to)
+  pub delivery_step : (k : ℕ) (m : code.Message) → slice_get w.messages k ≡ Some m → refused g t (Deliver k) ≡ None → takes (replica_state g t m.to) (whole_of m) ≡ Some (taken_at (replicas g) (entry g t (Deliver k)), replica_state g (entry g t (Deliver k) ∷ t) m.to)
   delivery_step k m stored allowed = (delivery_steps g events k (whole_of m) few stands.legal (get_message k m stored)).step
 
   -- of the kept message with this number, where its receiver learns this by it
@@ -233,9 +228,10 @@ module _ (w : World) (events : List Event) (stands : StandsFor w events) where
       record {
         in_group = lt;
         step = h.step;
-        shown = subst (λ y. shown_by by w.count (said_by y) ≡ shown_as (replicas g) (length t) y) (sym same)
+        shown = subst (λ y. shown_by by w.count (said_by y) (voted_by y) ≡ shown_as (replicas g) (length t) y) (sym same)
             (shown_so by d refl (record {
-              opened = λ b f. opened_so m copy d placed learnt_copy b f;
+              opened = λ b f. (placed.opened b f).replica;
+              here = λ b f unvoted. (placed.opened b f).instance ∙ ap (opens_in m.instance) unvoted;
               learnt = placed.learnt;
               number = λ b f. learnt_number g t v b f;
               outcome = λ b f. outcome_so m copy d placed learnt_copy b f;
@@ -244,16 +240,6 @@ module _ (w : World) (events : List Event) (stands : StandsFor w events) where
         after = stands_after (Deliver k) m.to allowed h.others lt;
       }
     where
-      opened_so : (m : code.Message) (copy : Option Histories) (d : Did) → IsPlaced m.instance m.to d → copy ≡ option_map (λ (b : Opening). b.updates) (learnt_by d) → (b : Opening) → opened_by d ≡ Some b → IsOf (opens_by (receiver_speaks w m copy) (learnt_by d)) m.to b
-      opened_so m copy d placed c b f = go (learnt_by d) refl
-        where
-          go : (o : Option Opening) → learnt_by d ≡ o → IsOf (opens_by (receiver_speaks w m copy) o) m.to b
-          go None e = subst (λ o. IsOf (opens_in m.instance (second_vote_after o)) m.to b) e (placed.opened b f)
-          go (Some l) e =
-              let in_place : opens_in m.instance (second_vote l) ≡ instance_after m.instance (option_and_then (vote_in m.instance m.to) copy) =
-              vote_opens m.instance m.to l (placed.learnt l e) ∙ ap (λ o. instance_after m.instance (option_and_then (vote_in m.instance m.to) o)) (sym (c ∙ ap (option_map (λ (b : Opening). b.updates)) e)) in
-              subst (λ j. IsOf j m.to b) in_place (subst (λ o. IsOf (opens_in m.instance (second_vote_after o)) m.to b) e (placed.opened b f))
-
       outcome_so : (m : code.Message) (copy : Option Histories) (d : Did) → IsPlaced m.instance m.to d → copy ≡ option_map (λ (b : Opening). b.updates) (learnt_by d) → (b : Opening) → learnt_by d ≡ Some b → option_and_then (outcome_in m.instance m.to) copy ≡ outcome_by b
       outcome_so m copy d placed c b f =
           let of = placed.learnt b f in

@@ -1,21 +1,23 @@
 // What a replica does as a participant of an adopt-commit object, by the sets that it learns. No
 // state is kept of it: its own vote in a set tells how far it is.
-ghost use Rattle.std.specs.Prelude.{◌≡◌, ◌*◌, ◌<◌, ◌≤◌, ◌+◌, Some, IsSome, option_and_then, IfOk, OnErr};
+ghost use Rattle.std.specs.Prelude.{◌≡◌, ◌*◌, ◌<◌, ◌≤◌, ◌+◌, List, ◌++◌, Some, option_and_then};
+ghost use Rattle.std.specs.Prelude.{IfOk, OnErr};
+ghost use Rattle.std.specs.Option.{option_copied};
 ghost use Rattle.la_replica.specs.declared.replica.TheConstants.{MAX_COMMITS};
-ghost use Rattle.la_replica.specs.Whole.{Out as OutOf, whole_of, whole_out};
+ghost use Rattle.la_replica.specs.Whole.{Message as MessageOf, whole_of, whole_mail};
 ghost use Rattle.la_replica.specs.Steps.{learnt_in};
-ghost use Rattle.la_replica.specs.ReplicaState.{ReplicaState, receives};
+ghost use Rattle.la_replica.specs.Changes.{LeadsThere};
 ghost use Rattle.la_replica.specs.Refusals.{HasRoom, SubmittingSpares};
 ghost use Rattle.la_replica.specs.Fitting.{FitsReceiver};
-ghost use Rattle.la_world.specs.Groups.{is_first_instance, is_second_instance};
-ghost use Rattle.la_world.specs.Votes.{vote_in, instance_after};
+ghost use Rattle.la_world.specs.Groups.{is_first_instance, is_second_instance, commit_of};
+ghost use Rattle.la_world.specs.Votes.{casts, vote_in};
 ghost use Rattle.la_world.specs.Outcomes.{outcome_of, outcome_in};
 ghost use Rattle.la_world.specs.Calls.{returned_by};
-ghost use Rattle.la_world.specs.Following.{opened_in, learnt_with, takes};
+ghost use Rattle.la_world.specs.Following.{VoteFits, takes, whole_done};
 
+use crate::done::{Done, Voted};
 use la_commit::{First, Outcome, Second, Vote, own_vote};
-use la_proposer::Ballot;
-use la_replica::{Message, Out, Replica, Said};
+use la_replica::{Change, Mail, Message, Out, Replica, ReplicaError, Said};
 use la_set::{Op, UpdateSet};
 use std::alloc::AllocError;
 
@@ -35,10 +37,10 @@ pub fn is_second(instance: u8) -> bool
 
 // The vote that a replica gives in an object's second instance, where it learns this set in the
 // first one.
-pub fn second_vote(instance: u8, own: u8, learnt: &Option<UpdateSet>) -> Option<Vote>
-    ensures { result ≡ option_and_then (vote_in instance own) learnt.now }
+fn second_vote(instance: u8, own: u8, learnt: Option<&UpdateSet>) -> Option<Vote>
+    ensures { result ≡ option_and_then (vote_in instance own) (option_copied learnt.entry) }
 {
-    let learnt = learnt.as_ref()?;
+    let learnt = learnt?;
     if !is_first(instance) {
         return None;
     }
@@ -60,10 +62,10 @@ pub fn outcome_of_set(own: u8, second: &UpdateSet) -> Option<Outcome>
 }
 
 // The same, where it learns this set in this instance.
-pub fn outcome_by(instance: u8, own: u8, learnt: &Option<UpdateSet>) -> Option<Outcome>
-    ensures { result ≡ option_and_then (outcome_in instance own) learnt.now }
+pub fn outcome_by(instance: u8, own: u8, learnt: Option<&UpdateSet>) -> Option<Outcome>
+    ensures { result ≡ option_and_then (outcome_in instance own) (option_copied learnt.entry) }
 {
-    let learnt = learnt.as_ref()?;
+    let learnt = learnt?;
     if !is_second(instance) {
         return None;
     }
@@ -80,62 +82,87 @@ pub fn returned(replica: &Replica, commit: u8) -> Option<Outcome>
 }
 
 // Does what a message asks for, which fits its receiver; and where the replica learns a set by it
-// that leads to this vote, it casts the vote in the same step. It is refused for want of memory
-// alone.
+// that leads to a second vote, it casts this in the same step: both are prepared from what stands,
+// and then both are committed. A copy of what is learnt is answered too. It is refused for want of
+// memory alone.
 pub fn take(
     receiver: &mut Replica,
     message: &Message,
-    vote: Option<Vote>,
-) -> Result<Out, AllocError>
+) -> Result<(Done, Option<UpdateSet>), AllocError>
     requires fits { FitsReceiver receiver.old (whole_of message.now) }
     requires few { message.now.instance ≤ 2 * MAX_COMMITS }
-    requires vote { (out : OutOf) (after : ReplicaState) →
-        receives receiver.old (whole_of message.now) ≡ Some (out, after) → vote
-        ≡ option_and_then (vote_in message.now.instance receiver.old.own) (learnt_in out.said) }
-    requires room { IsSome vote → HasRoom receiver.old (message.now.instance + 1) }
-    requires spares { IsSome vote → SubmittingSpares receiver.old (message.now.instance + 1) }
-    ensures step { IfOk result (λ out.
-        takes receiver.old (whole_of message.now) ≡ Some (whole_out out, receiver.new)) }
+    requires vote { VoteFits receiver.old (whole_of message.now) }
+    ensures step { IfOk result (λ taken.
+        takes receiver.old (whole_of message.now) ≡ Some (whole_done taken.0, receiver.new)) }
+    ensures learnt { IfOk result (λ taken. taken.1 ≡ learnt_in taken.0.said) }
     ensures err { OnErr result (receiver.new ≡ receiver.old) }
 {
-    let Some(vote) = vote else {
-        return receiver.take_message(message);
+    let (Out { said, mail }, change) = receiver.prepare_fitting(message)?;
+    let learnt = learnt_copy(&said)?;
+    let Some(vote) = second_vote(message.instance, receiver.own(), learnt.as_ref()) else {
+        receiver.commit(change);
+        let done = Done {
+            said,
+            voted: None,
+            mail,
+        };
+        return Ok((done, learnt));
     };
-    let (second, commit) = (message.instance + 1, (message.instance / 2) as u16);
-    let both = receiver.take_message_and_submit(message, second, commit, Op::from(vote))?;
-    Ok(Out {
-        said: learnt_and_voted(both.received, both.submitted),
-        mail: both.mail,
-    })
+    let (voted, mail, cast) = prepare_vote(receiver, message.instance, vote, mail)?;
+    receiver.commit(change);
+    receiver.commit(cast);
+    let done = Done {
+        said,
+        voted: Some(voted),
+        mail,
+    };
+    Ok((done, learnt))
 }
 
-// A learning, with the ballot that opens by a submission in the same step.
-fn learnt_and_voted(received: Said, submitted: Said) -> Said
-    ensures { result ≡ learnt_with received submitted }
+// A copy of the set that is learnt, if one is.
+fn learnt_copy(said: &Said) -> Result<Option<UpdateSet>, AllocError>
+    ensures { IfOk result (λ learnt. learnt ≡ learnt_in said.now) }
 {
-    match received {
-        Said::Learnt(updates, _) => Said::Learnt(updates, opened(submitted)),
-        other => other,
+    match said.learnt() {
+        Some(learnt) => Ok(Some(learnt.copy()?)),
+        None => Ok(None),
     }
 }
 
-// The ballot that a submission opened, if it did.
-fn opened(submitted: Said) -> Option<Ballot>
-    ensures { result ≡ opened_in submitted }
+// Prepares the second vote to which a learning in this instance leads, and puts its mail last.
+fn prepare_vote(
+    replica: &Replica,
+    instance: u8,
+    vote: Vote,
+    mail: Mail,
+) -> Result<(Voted, Mail, Change), AllocError>
+    requires few { instance ≤ 2 * MAX_COMMITS }
+    requires room { HasRoom replica.now (instance + 1) }
+    requires spares { SubmittingSpares replica.now (instance + 1) }
+    ensures leads { IfOk result (λ prepared. (sent : List MessageOf)
+        × (whole_mail prepared.1 ≡ whole_mail mail ++ sent)
+        × LeadsThere replica.now (instance + 1) (casts (commit_of instance) vote)
+        (record { said = prepared.0.said; mail = sent }) prepared.2) }
+    ensures instance { IfOk result (λ prepared. prepared.0.instance ≡ instance + 1) }
+    ensures change { IfOk result (λ prepared. prepared.2.instance ≡ instance + 1) }
 {
-    match submitted {
-        Said::Opened(ballot) => Some(ballot),
-        _ => None,
-    }
+    let (second, commit) = (instance + 1, (instance / 2) as u16);
+    let (cast, change) = match replica.prepare_submission(second, commit, Op::from(vote)) {
+        Ok(prepared) => prepared,
+        Err(refused) => return Err(for_memory(refused)),
+    };
+    let mut sent = mail;
+    sent.append(cast.mail)?;
+    let voted = Voted {
+        instance: second,
+        said: cast.said,
+    };
+    Ok((voted, sent, change))
 }
 
-// The instance of the ballot that opens with a learning in this one.
-pub fn opening_instance(instance: u8, vote: Option<Vote>) -> u8
-    requires { instance ≤ 2 * MAX_COMMITS }
-    ensures { result ≡ instance_after instance vote }
+// A refusal for want of memory.
+fn for_memory(_refused: ReplicaError) -> AllocError
+    requires { _refused ≡ ReplicaError.Memory }
 {
-    match vote {
-        Some(_) => instance + 1,
-        None => instance,
-    }
+    AllocError
 }

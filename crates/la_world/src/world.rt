@@ -106,8 +106,8 @@ impl<B: Replicated> World<B> {
     /// The cost is that of the replica's step, in which no updates are compared: what was sent fits
     /// all that its receiver knows. Sets that are sent, said, learnt and kept share their updates,
     /// so that an event takes memory for what it adds: one update for a submission or a vote, its
-    /// mail, and a learning's entry. A second vote also costs a copy of two instances. A question
-    /// costs what the view has gained since the last one to this replica, and the answer.
+    /// mail, and a learning's entry. A question costs what the view has gained since the last one to
+    /// this replica, and the answer.
     pub fn play(&mut self, event: &Event) -> Result<Step, WorldError>
         requires { self.old.count + 1 < 2 ^ 64 }
         ensures step { (events : Past) → StandsFor self.old events →

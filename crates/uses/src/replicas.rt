@@ -3,8 +3,8 @@ ghost use Rattle.la_replica.specs.ReplicaState.{start};
 ghost use Rattle.la_set.specs.Inclusion.{IsSubset};
 
 use la_proposer::Votes;
-use la_replica::{Mail, Message, Replica, ReplicaError, Said};
-use la_set::{Op, laws};
+use la_replica::{Mail, Message, Out, Replica, ReplicaError, Said};
+use la_set::Op;
 use std::alloc::{AllocError, Global};
 use std::collections::VecDeque;
 
@@ -37,7 +37,6 @@ pub fn take_in(
 ) -> Result<Said, ReplicaError>
     ensures { IsSubset replica.old.view replica.new.view }
 {
-    laws::tests_decide();
     let out = replica.receive(message)?;
     send(&out.mail, network)?;
     Ok(out.said)
@@ -109,22 +108,22 @@ pub fn three_replicas(alloc: Global) -> Result<bool, ReplicaError> {
 // ---- two steps at once
 ghost use Rattle.std.specs.Prelude.{OnErr};
 
-use la_replica::Both;
-
 /// Takes in a message of an instance above 0, and votes in the next one in the same step: both, or
 /// neither. Whatever refuses it, the replica is as before.
 pub fn take_in_and_vote(
     replica: &mut Replica,
     message: &Message,
     value: u64,
-) -> Result<Both, ReplicaError>
+) -> Result<(Out, Out), ReplicaError>
     requires above { 0 < message.now.instance }
     requires next { message.now.instance < 32 }
     ensures { OnErr result (replica.new ≡ replica.old) }
 {
     let next = message.instance + 1;
-    replica.admit_message(message)?;
-    replica.admit_submission(next)?;
+    let (received, change) = replica.prepare(message)?;
     let vote = Op::Vote { value, sole: true };
-    Ok(replica.take_message_and_submit(message, next, 0, vote)?)
+    let (voted, cast) = replica.prepare_submission(next, 0, vote)?;
+    replica.commit(change);
+    replica.commit(cast);
+    Ok((received, voted))
 }

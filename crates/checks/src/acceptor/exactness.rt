@@ -1,13 +1,16 @@
 // Callers that know nothing but the contracts: each makes a call twice, or on two equal values, and
 // promises equal answers. Where memory may run out for one call and not for the other, it promises
 // them where both succeed; and where both are refused, one refusal.
-ghost use Rattle.std.specs.Prelude.{◌≡◌, ◌↔◌, [], ◌∷◌, IsTrue, IfOk, IfErr, OnOk, OnErr};
+ghost use Rattle.std.specs.Prelude.{◌≡◌, ◌↔◌, [], ◌∷◌, IsTrue, IsOk, IfOk, IfErr, OnOk, OnErr};
 ghost use Rattle.la_set.specs.Join.{IsCompatible};
+ghost use Rattle.la_acceptor.specs.Answer.{accepted_next};
 ghost use Rattle.la_acceptor.specs.Offers.{AreAnsweredAfter};
 
 use la_acceptor::{Acceptor, AcceptorError, Reply};
 use la_set::UpdateSet;
 use std::alloc::{AllocError, Global};
+
+type Prepared = Result<(Reply, Option<UpdateSet>), AllocError>;
 
 fn new_is_exact(alloc: Global) -> (Acceptor, Acceptor)
     ensures { result.0 ≡ result.1 }
@@ -51,44 +54,39 @@ fn admit_offer_is_exact(
     (acceptor.admit_offer(offered), acceptor.admit_offer(offered))
 }
 
-fn take_offer_is_exact(
-    one: &mut Acceptor,
-    other: &mut Acceptor,
-    offered: &UpdateSet,
-) -> (Result<Reply, AllocError>, Result<Reply, AllocError>)
-    requires same { one.old ≡ other.old }
-    requires admitted { IsCompatible one.old offered.now }
-    ensures reply { IfOk result.0 (λ a. IfOk result.1 (λ b. a ≡ b)) }
-    ensures accepted { OnOk result.0 (OnOk result.1 (one.new ≡ other.new)) }
-    ensures unchanged { OnErr result.0 (OnErr result.1 (one.new ≡ other.new)) }
+// What is prepared is one reply, and once it is committed one set is accepted.
+fn prepare_offer_is_exact(acceptor: &Acceptor, offered: &UpdateSet) -> (Prepared, Prepared)
+    requires { IsCompatible acceptor.now offered.now }
+    ensures reply { IfOk result.0 (λ a. IfOk result.1 (λ b. a.0 ≡ b.0)) }
+    ensures accepted { IfOk result.0 (λ a. IfOk result.1 (λ b.
+        accepted_next acceptor.now a.1 ≡ accepted_next acceptor.now b.1)) }
 {
-    (one.take_offer(offered), other.take_offer(offered))
+    (
+        acceptor.prepare_offer(offered),
+        acceptor.prepare_offer(offered),
+    )
 }
 
-// What is admitted is answered as an offer is.
-fn a_taken_offer_is_answered_alike(
+fn commit_is_exact(
     one: &mut Acceptor,
     other: &mut Acceptor,
-    offered: &UpdateSet,
-) -> (Result<Reply, AllocError>, Result<Reply, AcceptorError>)
+    accepted: (Option<UpdateSet>, Option<UpdateSet>),
+)
     requires same { one.old ≡ other.old }
-    requires admitted { IsCompatible one.old offered.now }
-    ensures reply { IfOk result.0 (λ a. IfOk result.1 (λ b. a ≡ b)) }
-    ensures accepted { OnOk result.0 (OnOk result.1 (one.new ≡ other.new)) }
+    requires accepted { accepted.0 ≡ accepted.1 }
+    ensures { one.new ≡ other.new }
 {
-    (one.take_offer(offered), other.offer(offered))
+    one.commit(accepted.0);
+    other.commit(accepted.1);
 }
 
-// An offer of exactly what is accepted is taken without memory.
-fn the_same_is_taken_again(
-    acceptor: &mut Acceptor,
-    offered: &UpdateSet,
-) -> Result<Reply, AllocError>
-    requires admitted { IsCompatible acceptor.old offered.now }
-    requires again { offered.now ≡ acceptor.old }
-    ensures { result ≡ Ok Reply.Yes }
+// An offer of exactly what is accepted is prepared without memory.
+fn the_same_again_takes_no_memory(acceptor: &Acceptor, offered: &UpdateSet) -> Prepared
+    requires admitted { IsCompatible acceptor.now offered.now }
+    requires again { offered.now ≡ acceptor.now }
+    ensures { IsOk result }
 {
-    acceptor.take_offer(offered)
+    acceptor.prepare_offer(offered)
 }
 
 fn reply_copies_are_one(reply: &Reply) -> Result<(Reply, Reply), AllocError>

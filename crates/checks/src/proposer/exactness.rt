@@ -2,13 +2,13 @@
 ghost use Rattle.std.specs.Prelude.{◌≡◌, ◌≢◌, ◌↔◌, ◌<◌, ◌≤◌};
 ghost use Rattle.std.specs.Prelude.{true, length, IsTrue, IsOk, IfOk, IfErr, OnOk, OnErr};
 ghost use Rattle.la_proposer.specs.Majority.{votes_of};
-ghost use Rattle.la_proposer.specs.ProposerState.{submitted, counts};
-ghost use Rattle.la_proposer.specs.Clashes.{Fits};
-ghost use Rattle.la_proposer.specs.Refusals.{SubmissionSpends, ReplySpares};
+ghost use Rattle.la_proposer.specs.Clashes.{ReplyFits};
+ghost use Rattle.la_proposer.specs.Refusals.{ReplySpares, IsVerdictOf};
+ghost use Rattle.la_proposer.specs.Changes.{after_commit, IsPreparedFrom};
 
 use la_acceptor::Reply;
 use la_proposer::{
-    BadConfig, Ballot, Heard, MAX_CAP, Proposer, ProposerError, Status, Verdict, Votes,
+    BadConfig, Ballot, Change, Heard, MAX_CAP, Proposer, ProposerError, Status, Verdict, Votes,
 };
 use la_set::{Op, UpdateSet};
 use std::alloc::{AllocError, Global};
@@ -75,12 +75,6 @@ fn new_is_exact(alloc: Global, own: u8, cap: u32, votes: Votes) -> (Proposer, Pr
     )
 }
 
-fn copies_are_one(proposer: &Proposer) -> Result<(Proposer, Proposer), AllocError>
-    ensures { IfOk result (λ both. both.0 ≡ both.1) }
-{
-    Ok((proposer.copy()?, proposer.copy()?))
-}
-
 fn status_is_exact(proposer: &Proposer) -> (Status, Status)
     ensures { result.0 ≡ result.1 }
 {
@@ -119,6 +113,12 @@ type Hears = Result<Heard, ProposerError>;
 
 type Admits = Result<(), ProposerError>;
 
+type Prepares = Result<(Option<Ballot>, Change), ProposerError>;
+
+type Hearing = Result<(Heard, Change), AllocError>;
+
+type AdmitsReply = Result<Option<Verdict>, ProposerError>;
+
 fn submit_is_exact(one: &mut Proposer, other: &mut Proposer, object: u16, by: u32) -> (Opens, Opens)
     requires { one.old ≡ other.old }
     ensures answers { IfOk result.0 (λ a. IfOk result.1 (λ b. a ≡ b)) }
@@ -141,26 +141,28 @@ fn admit_submission_is_exact(proposer: &Proposer) -> (Admits, Admits)
     (proposer.admit_submission(), proposer.admit_submission())
 }
 
-fn take_submission_is_exact(
-    one: &mut Proposer,
-    other: &mut Proposer,
-    object: u16,
-    by: u32,
-) -> (
-    Result<Option<Ballot>, AllocError>,
-    Result<Option<Ballot>, AllocError>,
-)
-    requires same { one.old ≡ other.old }
-    requires room { submitted one.old < one.old.cap }
-    requires spares { ¬ SubmissionSpends one.old }
-    ensures answers { IfOk result.0 (λ a. IfOk result.1 (λ b. a ≡ b)) }
-    ensures steps { OnOk result.0 (OnOk result.1 (one.new ≡ other.new)) }
-    ensures stays { OnErr result.0 (one.new ≡ one.old) }
+// What is prepared opens one ballot, and comes to one proposer once it is committed.
+fn prepare_submission_is_exact(proposer: &Proposer, object: u16, by: u32) -> (Prepares, Prepares)
+    ensures opened { IfOk result.0 (λ a. IfOk result.1 (λ b. a.0 ≡ b.0)) }
+    ensures change { IfOk result.0 (λ a. IfOk result.1 (λ b.
+        after_commit proposer.now a.1 ≡ after_commit proposer.now b.1)) }
+    ensures refusals { IfErr result.0 (λ e. IfErr result.1 (λ f.
+        e ≢ ProposerError.Memory → f ≢ ProposerError.Memory → e ≡ f)) }
 {
     (
-        one.take_submission(object, Op::Inc(by)),
-        other.take_submission(object, Op::Inc(by)),
+        proposer.prepare_submission(object, Op::Inc(by)),
+        proposer.prepare_submission(object, Op::Inc(by)),
     )
+}
+
+fn commit_is_exact(one: &mut Proposer, other: &mut Proposer, changes: (Change, Change))
+    requires same { one.old ≡ other.old }
+    requires changes { changes.0 ≡ changes.1 }
+    requires prepared { IsPreparedFrom one.old changes.0 }
+    ensures { one.new ≡ other.new }
+{
+    one.commit(changes.0);
+    other.commit(changes.1);
 }
 
 fn reply_is_exact(
@@ -191,7 +193,7 @@ fn admit_reply_is_exact(
     from: u8,
     ballot: u32,
     refusal: Option<&UpdateSet>,
-) -> (Admits, Admits)
+) -> (AdmitsReply, AdmitsReply)
     ensures { result.0 ≡ result.1 }
 {
     (
@@ -200,25 +202,25 @@ fn admit_reply_is_exact(
     )
 }
 
-fn take_reply_is_exact(
-    one: &mut Proposer,
-    other: &mut Proposer,
+fn prepare_reply_is_exact(
+    proposer: &Proposer,
+    verdict: Option<Verdict>,
     from: u8,
     ballot: u32,
     replies: (Reply, Reply),
-) -> (Result<Heard, AllocError>, Result<Heard, AllocError>)
-    requires same { one.old ≡ other.old }
+) -> (Hearing, Hearing)
     requires replies { replies.0 ≡ replies.1 }
-    requires in_group { from < length one.old.votes }
-    requires fits { counts one.old from ballot ≡ true → Fits one.old replies.0 }
-    requires spares { ReplySpares one.old from ballot replies.0 }
-    ensures answers { IfOk result.0 (λ a. IfOk result.1 (λ b. a ≡ b)) }
-    ensures steps { OnOk result.0 (OnOk result.1 (one.new ≡ other.new)) }
-    ensures stays { OnErr result.0 (one.new ≡ one.old) }
+    requires verdict { IsVerdictOf proposer.now from ballot replies.0 verdict }
+    requires in_group { from < length proposer.now.votes }
+    requires fits { ReplyFits proposer.now from ballot replies.0 }
+    requires spares { ReplySpares proposer.now from ballot replies.0 }
+    ensures heard { IfOk result.0 (λ a. IfOk result.1 (λ b. a.0 ≡ b.0)) }
+    ensures change { IfOk result.0 (λ a. IfOk result.1 (λ b.
+        after_commit proposer.now a.1 ≡ after_commit proposer.now b.1)) }
 {
     (
-        one.take_reply(from, ballot, replies.0),
-        other.take_reply(from, ballot, replies.1),
+        proposer.prepare_reply(verdict, from, ballot, replies.0),
+        proposer.prepare_reply(verdict, from, ballot, replies.1),
     )
 }
 

@@ -13,7 +13,7 @@ ghost use Rattle.la_proposer.specs.Inputs.{Input, after_inputs};
 ghost use Rattle.la_proposer.specs.Firsts.{CountsFirsts};
 ghost use Rattle.la_proposer.specs.ProposerState.{ProposerState, start, submitted};
 ghost use Rattle.la_proposer.specs.ProposerState.{after_submission, counts, with_reply};
-ghost use Rattle.la_proposer.specs.Refusals.{CountsInPlace};
+ghost use Rattle.la_proposer.specs.Refusals.{OnlyCounts};
 
 use la_acceptor::Reply;
 use la_proposer::{
@@ -42,7 +42,7 @@ fn limits_as_numbers() -> (u16, u32, u32, usize)
     ensures votes { result.0 ≡ 1000 }
     ensures ballots { result.1 ≡ 8000000 }
     ensures cap { result.2 ≡ 1000000 }
-    ensures inline { result.3 ≡ 4 }
+    ensures inline { result.3 ≡ 8 }
 {
     laws::limits();
     (MAX_VOTES, MAX_BALLOTS, MAX_CAP, INLINE_TALLY)
@@ -120,28 +120,17 @@ fn what_waits_is_admitted_without_memory(proposer: &Proposer) -> Result<(), Prop
     proposer.admit_submission()
 }
 
-fn a_late_reply_is_taken_without_memory(
+fn a_late_reply_is_heard_without_memory(
     proposer: &mut Proposer,
     from: u8,
     ballot: u32,
-) -> Result<Heard, AllocError>
+) -> Result<Heard, ProposerError>
     requires late { ballot < proposer.old.number }
     requires in_group { from < length proposer.old.votes }
     ensures answer { result ≡ Ok Heard.Ignored }
     ensures stays { proposer.new ≡ proposer.old }
 {
-    proposer.take_reply(from, ballot, Reply::Yes)
-}
-
-fn an_admitted_acknowledgement_counts_without_memory(
-    proposer: &mut Proposer,
-    from: u8,
-    ballot: u32,
-) -> Result<Heard, AllocError>
-    requires { CountsInPlace proposer.old from ballot Reply.Yes }
-    ensures { result ≡ Ok Heard.Counted }
-{
-    proposer.take_reply(from, ballot, Reply::Yes)
+    proposer.reply(from, ballot, Reply::Yes)
 }
 
 fn an_acknowledgement_counts_without_memory(
@@ -149,7 +138,7 @@ fn an_acknowledgement_counts_without_memory(
     from: u8,
     ballot: u32,
 ) -> Result<Heard, ProposerError>
-    requires { CountsInPlace proposer.old from ballot Reply.Yes }
+    requires { OnlyCounts proposer.old from ballot Reply.Yes }
     ensures { result ≡ Ok Heard.Counted }
 {
     proposer.reply(from, ballot, Reply::Yes)

@@ -82,10 +82,9 @@ fn tells(rt: &impl Abort, alloc: Global, proposer: &Proposer, step: &Step) -> bo
         Input::Replies(from, ballot, refused) => {
             let reply = reply_of(rt, alloc, *refused);
             let verdict = proposer.verdict(*from, *ballot, refusal_of(&reply));
-            admits_as(
-                proposer.admit_reply(*from, *ballot, refusal_of(&reply)),
-                step.1,
-            ) && is_verdict(&verdict, step.1)
+            let admitted = proposer.admit_reply(*from, *ballot, refusal_of(&reply));
+            admits_as(admitted.map(|_| ()), step.1)
+                && is_verdict(&verdict, step.1)
                 && proposer.counts(*from, *ballot) == verdict.is_some()
         }
     }
@@ -143,23 +142,14 @@ fn reply_of(rt: &impl Abort, alloc: Global, refused: Option<&[Given]>) -> Reply 
     }
 }
 
-// Whether this is what stands after a step, at the proposer and at a copy of it.
+// Whether this is what stands after a step.
 fn stands(rt: &impl Abort, alloc: Global, proposer: &Proposer, step: &Step) -> bool {
     let set = set_of(rt, alloc, step.2);
-    is_at(proposer, step, &set)
-        && (copy_is_at(proposer, step, &set) || copy_is_at(proposer, step, &set))
-}
-
-fn is_at(proposer: &Proposer, step: &Step, set: &UpdateSet) -> bool {
     let status = match step.3 {
         None => Status::Idle,
         Some(number) => Status::Asking(number),
     };
-    proposer.status() == status && proposer.buffered() == step.4 && proposer.updates().same(set)
-}
-
-fn copy_is_at(proposer: &Proposer, step: &Step, set: &UpdateSet) -> bool {
-    matches!(&proposer.copy(), Ok(copy) if is_at(copy, step, set))
+    proposer.status() == status && proposer.buffered() == step.4 && proposer.updates().same(&set)
 }
 
 fn opened(answer: &Result<Option<Ballot>, ProposerError>) -> Outcome {

@@ -2,13 +2,15 @@
 ghost use Rattle.std.specs.Prelude.{◌≡◌, ◌≢◌, ◌↔◌, ◌≤◌, ◌<◌};
 ghost use Rattle.std.specs.Prelude.{length, IsTrue, IfOk, OnOk, OnErr, option_copied};
 ghost use Rattle.la_proposer.specs.Majority.{votes_of};
-ghost use Rattle.la_replica.specs.Whole.{whole_of};
-ghost use Rattle.la_replica.specs.Refusals.{HasRoom, SubmittingSpares};
+ghost use Rattle.la_replica.specs.Whole.{whole_of, whole_out};
+ghost use Rattle.la_replica.specs.Changes.{IsPreparedFrom, led};
 ghost use Rattle.la_replica.specs.Fitting.{FitsReceiver};
 
 use la_acceptor::{AcceptorError, Reply};
-use la_proposer::{Heard, MAX_CAP, ProposerError, Votes};
-use la_replica::{Body, Both, MAX_COMMITS, Mail, Message, Out, Replica, ReplicaError, Said, laws};
+use la_proposer::{Heard, MAX_CAP, ProposerError, Verdict, Votes};
+use la_replica::{
+    Body, Change, MAX_COMMITS, Mail, Message, Out, Replica, ReplicaError, Said, laws,
+};
 use la_set::{Op, UpdateSet};
 use smallvec::SmallVec;
 use std::alloc::{AllocError, Global};
@@ -171,12 +173,6 @@ fn new_is_exact(
     ))
 }
 
-fn copies_are_one(replica: &Replica) -> Result<(Replica, Replica), AllocError>
-    ensures { IfOk result (λ both. both.0 ≡ both.1) }
-{
-    Ok((replica.copy()?, replica.copy()?))
-}
-
 // A replica is one of a group of at most 8.
 fn own_is_exact(replica: &Replica) -> (u8, u8)
     ensures alike { result.0 ≡ result.1 }
@@ -247,38 +243,48 @@ fn receive_is_exact(one: &mut Replica, other: &mut Replica, message: &Message) -
     (one.receive(message), other.receive(message))
 }
 
-// ## In two calls: a step that is admitted takes nothing but memory
+// ## In two calls: what is prepared comes to one step
 
-type Admits = Result<(), ReplicaError>;
+type Prepares = Result<(Out, Change), ReplicaError>;
 
-type Takes = Result<Out, AllocError>;
+type PreparesFitting = Result<(Out, Change), AllocError>;
 
-fn admit_submission_is_exact(replica: &Replica, instance: u8) -> (Admits, Admits)
-    ensures { result.0 ≡ result.1 }
+type Admits = Result<Option<Verdict>, ReplicaError>;
+
+fn prepare_submission_is_exact(replica: &Replica, instance: u8, by: u32) -> (Prepares, Prepares)
+    ensures { IfOk result.0 (λ a. IfOk result.1 (λ b.
+        led replica.now (whole_out a.0) a.1 ≡ led replica.now (whole_out b.0) b.1)) }
 {
     (
-        replica.admit_submission(instance),
-        replica.admit_submission(instance),
+        replica.prepare_submission(instance, 1, Op::Inc(by)),
+        replica.prepare_submission(instance, 1, Op::Inc(by)),
     )
 }
 
-fn take_submission_is_exact(
-    one: &mut Replica,
-    other: &mut Replica,
-    instance: u8,
-    by: u32,
-) -> (Takes, Takes)
-    requires same { one.old ≡ other.old }
-    requires room { HasRoom one.old instance }
-    requires spares { SubmittingSpares one.old instance }
-    ensures answers { IfOk result.0 (λ a. IfOk result.1 (λ b. a ≡ b)) }
-    ensures steps { OnOk result.0 (OnOk result.1 (one.new ≡ other.new)) }
-    ensures stays { OnErr result.0 (one.new ≡ one.old) }
+fn prepare_is_exact(replica: &Replica, message: &Message) -> (Prepares, Prepares)
+    ensures { IfOk result.0 (λ a. IfOk result.1 (λ b.
+        led replica.now (whole_out a.0) a.1 ≡ led replica.now (whole_out b.0) b.1)) }
 {
-    (
-        one.take_submission(instance, 1, Op::Inc(by)),
-        other.take_submission(instance, 1, Op::Inc(by)),
-    )
+    (replica.prepare(message), replica.prepare(message))
+}
+
+// A message that fits comes to what receiving it comes to.
+fn prepare_fitting_is_exact(replica: &Replica, message: &Message) -> (PreparesFitting, Prepares)
+    requires { FitsReceiver replica.now (whole_of message.now) }
+    ensures { IfOk result.0 (λ a. IfOk result.1 (λ b.
+        led replica.now (whole_out a.0) a.1 ≡ led replica.now (whole_out b.0) b.1)) }
+{
+    (replica.prepare_fitting(message), replica.prepare(message))
+}
+
+fn commit_is_exact(one: &mut Replica, other: &mut Replica, changes: (Change, Change))
+    requires same { one.old ≡ other.old }
+    requires changes { changes.0 ≡ changes.1 }
+    requires prepared { IsPreparedFrom one.old changes.0 }
+    ensures { one.new ≡ other.new }
+{
+    one.commit(changes.0);
+    other.commit(changes.1);
 }
 
 fn admit_message_is_exact(replica: &Replica, message: &Message) -> (Admits, Admits)
@@ -290,65 +296,8 @@ fn admit_message_is_exact(replica: &Replica, message: &Message) -> (Admits, Admi
     )
 }
 
-fn take_message_is_exact(
-    one: &mut Replica,
-    other: &mut Replica,
-    message: &Message,
-) -> (Takes, Takes)
-    requires same { one.old ≡ other.old }
-    requires fits { FitsReceiver one.old (whole_of message.now) }
-    ensures answers { IfOk result.0 (λ a. IfOk result.1 (λ b. a ≡ b)) }
-    ensures steps { OnOk result.0 (OnOk result.1 (one.new ≡ other.new)) }
-    ensures stays { OnErr result.0 (one.new ≡ one.old) }
-{
-    (one.take_message(message), other.take_message(message))
-}
-
-type TakesBoth = Result<Both, AllocError>;
-
-fn take_message_and_submit_is_exact(
-    one: &mut Replica,
-    other: &mut Replica,
-    message: &Message,
-    instance: u8,
-    by: u32,
-) -> (TakesBoth, TakesBoth)
-    requires same { one.old ≡ other.old }
-    requires fits { FitsReceiver one.old (whole_of message.now) }
-    requires elsewhere { instance ≢ message.now.instance }
-    requires room { HasRoom one.old instance }
-    requires spares { SubmittingSpares one.old instance }
-    ensures answers { IfOk result.0 (λ a. IfOk result.1 (λ b. a ≡ b)) }
-    ensures steps { OnOk result.0 (OnOk result.1 (one.new ≡ other.new)) }
-    ensures stays { OnErr result.0 (one.new ≡ one.old) }
-{
-    (
-        one.take_message_and_submit(message, instance, 1, Op::Inc(by)),
-        other.take_message_and_submit(message, instance, 1, Op::Inc(by)),
-    )
-}
-
-// A message that fits comes to what receiving it comes to.
-fn a_taken_message_is_received_alike(
-    one: &mut Replica,
-    other: &mut Replica,
-    message: &Message,
-) -> (Takes, Answer)
-    requires same { one.old ≡ other.old }
-    requires fits { FitsReceiver one.old (whole_of message.now) }
-    ensures answers { IfOk result.0 (λ a. IfOk result.1 (λ b. a ≡ b)) }
-    ensures steps { OnOk result.0 (OnOk result.1 (one.new ≡ other.new)) }
-{
-    (one.take_message(message), other.receive(message))
-}
-
-// Of a message in an instance that there is.
-fn would_learn_is_exact<'a>(
-    replica: &'a Replica,
-    message: &Message,
-) -> (Option<&'a UpdateSet>, Option<&'a UpdateSet>)
-    requires { message.now.instance < length replica.now.instances }
+fn learnt_is_exact(said: &Said) -> (Option<&UpdateSet>, Option<&UpdateSet>)
     ensures { option_copied result.0 ≡ option_copied result.1 }
 {
-    (replica.would_learn(message), replica.would_learn(message))
+    (said.learnt(), said.learnt())
 }

@@ -69,27 +69,10 @@ pub fn plays(rt: &impl Abort, alloc: Global, play: &Play) {
     }
 }
 
-/// Plays a table with a copy of the replica in its place before each step.
-pub fn plays_copied(rt: &impl Abort, alloc: Global, play: &Play) {
-    let mut replica = fresh(rt, alloc);
-    for (place, step) in play.steps.iter().enumerate() {
-        replica = copy_of(rt, &replica);
-        let came = comes_to(rt, alloc, &mut replica, step);
-        assert!(rt; came, "{}: outcome {place}", play.name);
-    }
-}
-
 fn fresh(rt: &impl Abort, alloc: Global) -> Replica {
     match Replica::new(alloc, 3, 0, 3, 1, Votes::one_each(3)) {
         Ok(replica) => replica,
         Err(_) => Replica::new(alloc, 3, 0, 3, 1, Votes::one_each(3)).expect(rt, "memory again"),
-    }
-}
-
-fn copy_of(rt: &impl Abort, replica: &Replica) -> Replica {
-    match replica.copy() {
-        Ok(copy) => copy,
-        Err(_) => replica.copy().expect(rt, "memory is there again"),
     }
 }
 
@@ -177,38 +160,14 @@ fn submit(rt: &impl Abort, replica: &mut Replica, instance: u8) -> Result<Out, R
     }
 }
 
-// Receives a message, and looks that what it leads to learning was told before.
 fn receive(rt: &impl Abort, replica: &mut Replica, message: &Message) -> Result<Out, ReplicaError> {
     let before = standing(replica, 0);
-    let foretold = learns(replica, message);
-    let answer = match replica.receive(message) {
+    match replica.receive(message) {
         Err(ReplicaError::Memory) => {
             assert!(rt; standing(replica, 0) == before);
             replica.receive(message)
         }
         answer => answer,
-    };
-    assert!(rt; answer.is_err() || foretold == learnt_of(&answer));
-    answer
-}
-
-// How many updates the set has that a message would lead the replica to learn.
-fn learns(replica: &Replica, message: &Message) -> Option<usize> {
-    match replica.would_learn(message) {
-        Some(learnt) => Some(learnt.len()),
-        None => None,
-    }
-}
-
-fn learnt_of(answer: &Result<Out, ReplicaError>) -> Option<usize> {
-    match answer {
-        Ok(
-            Out {
-                said: Said::Learnt(learnt, _),
-                ..
-            },
-        ) => Some(learnt.len()),
-        _ => None,
     }
 }
 

@@ -1,5 +1,5 @@
 // Runs of one replica, as tables.
-use super::plays::{Input, Outcome, Play, Step, plays, plays_copied};
+use super::plays::{Input, Outcome, Play, Step, plays};
 use crate::given::Given;
 use la_replica::{ReplicaError, laws};
 use la_set::UpdateId;
@@ -299,15 +299,9 @@ fn a_replica_does_what_its_tables_say(rt: HostRuntime) {
 }
 
 #[test]
-fn a_copy_goes_on_alike(rt: HostRuntime) {
-    for play in &PLAYS {
-        plays_copied(&rt, rt.alloc(), play);
-    }
-}
-
-#[test]
 fn laws_hold() {
     laws::limits();
     laws::caps_at_first();
     laws::caps_stay();
+    laws::views_grow();
 }

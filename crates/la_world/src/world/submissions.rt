@@ -10,6 +10,7 @@ ghost use Rattle.la_world.specs.StandsFor.{StandsFor, refused_in};
 ghost use Rattle.la_world.specs.Calls.{Plays, IsAllowed, Refuses, submitted_at, IsSubmission};
 
 use super::World;
+use crate::done::Done;
 use crate::speaker::Speaker;
 use crate::{Step, WorldError};
 use la_commit::Fresh;
@@ -121,9 +122,13 @@ impl<B: Replicated> World<B> {
             instance,
             ballot: 0,
             outcome: None,
-            opens_in: instance,
         };
-        Ok(self.journal.note(&speaker, out, None))
+        let done = Done {
+            said: out.said,
+            voted: None,
+            mail: out.mail,
+        };
+        Ok(self.journal.note(&speaker, done, None))
     }
 }
 

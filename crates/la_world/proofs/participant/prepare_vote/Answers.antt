@@ -1,0 +1,13 @@
+use Rattle.std.proofs.Common.{◌+◌, ◌/◌, ap, subst, ◌∙◌}
+use Rattle.std.proofs.lemmas.List.{map-append}
+use Rattle.la_replica.specs.Whole.{whole_of, whole_mail, whole_out}
+use Rattle.la_replica.specs.Changes.{LeadsThere}
+use Rattle.la_world.proofs.participant.prepare_vote.Goals as goal
+
+pub returns-clause-leads : goal.returns-clause-leads
+returns-clause-leads c =
+    let cast = c.in-Ok.prepared.0 in (
+      whole_mail cast.mail,
+      ap whole_mail c.in_ok-append.ensures.ok ∙ map-append whole_of c.args.mail cast.mail,
+      subst (λ op. LeadsThere c.args.replica.now (c.args.instance + 1) (record { object = c.args.instance / 2; op = op }) (whole_out cast) c.in-Ok.prepared.1) c.from.ensures c.in-Ok.ensures.leads,
+    )
