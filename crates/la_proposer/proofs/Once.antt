@@ -1,5 +1,5 @@
 -- Each acceptor counts once, so no more replies count than the group has acceptors.
-use Rattle.std.proofs.Common.{◌≡◌, ℕ, zero, suc, ◌+◌, ◌<◌, ◌≤◌, ◌==◌, ◌||◌, Bool, true, false, cond, List, [], ◌∷◌, ◌++◌, length, refl, ap, sym, ◌∙◌, subst, arith, inl, inr}
+use Rattle.std.proofs.Common.{◌≡◌, ℕ, zero, suc, ◌+◌, ◌<◌, ◌≤◌, ◌==◌, ◌||◌, Bool, true, false, cond, List, [], ◌∷◌, ◌++◌, length, refl, ap, sym, ◌∙◌, arith, inl, inr}
 use Rattle.std.proofs.lemmas.Bool.{true≢false, cases_lt, eq-eqb}
 use Rattle.std.proofs.lemmas.List.{length-append}
 use Rattle.std.proofs.lemmas.List.Folds.{list_any-append}
@@ -51,8 +51,12 @@ module _ (p q : ℕ → Bool) (more : (r : ℕ) → p r ≡ true → q r ≡ tru
 -- one reply more, of an acceptor that has not counted
 pub counts_once : (tally : List Counted) (from n : ℕ) (reply : Reply) → from < n → has_counted tally from ≡ false → length tally ≤ how_many n (has_counted tally) → length (tally_with tally from reply) ≤ how_many n (has_counted (tally_with tally from reply))
 counts_once tally from n reply lt new le =
-    omega (arith, length-append tally (record { from = from; reply = reply } ∷ []), le,
-    one_more (has_counted tally) (has_counted (tally_with tally from reply)) (λ r e. split r ∙ ap (λ v. v || has_counted here r) e) from new (split from ∙ ap (λ v. v || has_counted here from) new ∙ itself) n lt)
+    omega (
+      arith,
+      length-append tally (record { from = from; reply = reply } ∷ []),
+      le,
+      one_more (has_counted tally) (has_counted (tally_with tally from reply)) (λ r e. split r ∙ ap (λ v. v || has_counted here r) e) from new (split from ∙ ap (λ v. v || has_counted here from) new ∙ itself) n lt,
+    )
   where
     here : List Counted
     here = record { from = from; reply = reply } ∷ []

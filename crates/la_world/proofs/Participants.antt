@@ -1,5 +1,5 @@
 -- What a replica makes of a message, where it votes by it and where it does not, from what it prepared.
-use Rattle.std.proofs.Common.{◌≡◌, ℕ, ◌+◌, ◌/◌, ◌%◌, Bool, true, false, cond, Option, Some, None, IsSomeAnd, slice_get, option_map, option_and_then, refl, ap, sym, ◌∙◌, subst, arith, eqb-true}
+use Rattle.std.proofs.Common.{◌≡◌, ℕ, ◌+◌, ◌%◌, Bool, true, false, cond, Option, Some, None, IsSomeAnd, slice_get, option_map, option_and_then, refl, ap, sym, ◌∙◌, subst, arith, eqb-true}
 use Rattle.std.proofs.Math.Nat.{div-add-mod}
 use Rattle.std.proofs.lemmas.Option.{none-some}
 use Rattle.la_set.specs.Histories.{Histories}

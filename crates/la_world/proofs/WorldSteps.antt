@@ -1,5 +1,5 @@
 -- A world that stands for a list of events, and the world after one event more.
-use Rattle.std.proofs.Common.{◌≡◌, ◌≢◌, ℕ, ◌+◌, ◌*◌, ◌%◌, ◌<◌, ◌≤◌, Bool, true, false, cond, List, [], ◌∷◌, ◌++◌, length, map, slice_get, slice_set, All, Option, Some, None, option_map, option_and_then, refl, ap, ap₂, sym, ◌∙◌, subst, arith, eqb-true}
+use Rattle.std.proofs.Common.{◌≡◌, ◌≢◌, ℕ, ◌+◌, ◌*◌, ◌<◌, ◌≤◌, false, cond, List, [], ◌∷◌, ◌++◌, length, map, slice_get, slice_set, All, Option, Some, None, option_map, option_and_then, refl, ap, ap₂, sym, ◌∙◌, subst, arith}
 use Rattle.std.proofs.lemmas.Option.{none-some, slice_get_within, get_or_from_slice_get}
 use Rattle.la_set.specs.ObjectOps.{ObjectOp}
 use Rattle.la_set.specs.Histories.{Histories, empty}
@@ -41,7 +41,6 @@ use Rattle.la_world.specs.Following.{said_by, voted_with, voted_by, Taken, witho
 use Rattle.la_replica.specs.Refusals.{HasRoom, SubmittingSpares}
 use Rattle.la_replica.specs.Fitting.{FitsReceiver}
 use Rattle.la_world.proofs.EventCases.{entry_of}
-use Rattle.la_world.proofs.Openings.{IsOf}
 use Rattle.la_world.proofs.SubmissionEvents.{submission_entry, submission_replica, submission_instance}
 use Rattle.la_world.proofs.Legal.{legal_submits, legal_between, entry_delivers, opens_in, is_answer, IsPlaced, delivery_steps, delivery_placed}
 use Rattle.la_world.proofs.RefusedForMemory.{delivery_fits, vote_has_room}

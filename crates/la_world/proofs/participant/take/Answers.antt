@@ -1,4 +1,4 @@
-use Rattle.std.proofs.Common.{◌≡◌, ◌≢◌, ◌+◌, Some, option_and_then, sym, ◌∙◌, arith}
+use Rattle.std.proofs.Common.{◌≢◌, ◌+◌, Some, option_and_then, sym, ◌∙◌, arith}
 use Rattle.la_replica.specs.Whole.{Out, whole_of, whole_out}
 use Rattle.la_replica.specs.ReplicaState.{receives, submits}
 use Rattle.la_world.specs.Groups.{commit_of}
