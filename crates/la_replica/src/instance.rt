@@ -83,7 +83,12 @@ impl Instance {
                 number: self.proposer.submitted() + 1,
             }),
         };
-        Ok((Out { said, mail }, proposing(sender.instance, change)))
+        let nothing = Change::nothing(sender.instance);
+        let change = Change {
+            proposer: Some(change),
+            ..nothing
+        };
+        Ok((Out { said, mail }, change))
     }
 
     // Whether what a message to this instance asks for would be done, memory apart; and where it is
@@ -215,7 +220,14 @@ impl Instance {
     {
         let (reply, accepted) = self.acceptor.prepare_offer(offered)?;
         let out = answered(alloc, message, reply)?;
-        Ok((out, accepting(message.instance, accepted)))
+        let nothing = Change::nothing(message.instance);
+        Ok((
+            out,
+            Change {
+                accepted,
+                ..nothing
+            },
+        ))
     }
 
     // Prepares to hear a reply. One that does not count, or leaves the ballot open, sends nothing.
@@ -256,10 +268,13 @@ impl Instance {
         let learnt = learnt_copy(&heard)?;
         let view = set_if(taken, self.proposer.updates())?;
         let said = Said::from(heard);
-        Ok((
-            Out { said, mail },
-            hearing(sender.instance, change, learnt, view),
-        ))
+        let change = Change {
+            proposer: Some(change),
+            learnt,
+            view,
+            ..Change::nothing(sender.instance)
+        };
+        Ok((Out { said, mail }, change))
     }
 
     // Does what was prepared from this very instance. It can't be refused, and takes no memory.
@@ -283,68 +298,6 @@ impl Instance {
         if let Some(learnt) = learnt {
             self.learnt = Some(learnt);
         }
-    }
-}
-
-// What is to change where a proposer alone does.
-fn proposing(instance: u8, change: la_proposer::Change) -> Change
-    ensures { result ≡ record {
-      instance = instance;
-      accepted = None;
-      proposer = Some change;
-      learnt = None;
-      view = None;
-    } }
-{
-    Change {
-        instance,
-        accepted: None,
-        proposer: Some(change),
-        learnt: None,
-        view: None,
-    }
-}
-
-// What is to change where an offer is answered.
-fn accepting(instance: u8, accepted: Option<UpdateSet>) -> Change
-    ensures { result ≡ record {
-      instance = instance;
-      accepted = accepted;
-      proposer = None;
-      learnt = None;
-      view = None;
-    } }
-{
-    Change {
-        instance,
-        accepted,
-        proposer: None,
-        learnt: None,
-        view: None,
-    }
-}
-
-// What is to change where a reply is heard.
-fn hearing(
-    instance: u8,
-    change: la_proposer::Change,
-    learnt: Option<UpdateSet>,
-    view: Option<UpdateSet>,
-) -> Change
-    ensures { result ≡ record {
-      instance = instance;
-      accepted = None;
-      proposer = Some change;
-      learnt = learnt;
-      view = view;
-    } }
-{
-    Change {
-        instance,
-        accepted: None,
-        proposer: Some(change),
-        learnt,
-        view,
     }
 }
 
@@ -408,25 +361,7 @@ fn prepare_tell(
         return Ok((Out::silent(alloc, said), Change::nothing(sender.instance)));
     }
     let said = Said::Took(told.copy()?);
-    let view = told.copy()?;
-    Ok((Out::silent(alloc, said), seeing(sender.instance, view)))
-}
-
-// What is to change where a told set is taken.
-fn seeing(instance: u8, view: UpdateSet) -> Change
-    ensures { result ≡ record {
-      instance = instance;
-      accepted = None;
-      proposer = None;
-      learnt = None;
-      view = Some view;
-    } }
-{
-    Change {
-        instance,
-        accepted: None,
-        proposer: None,
-        learnt: None,
-        view: Some(view),
-    }
+    let view = Some(told.copy()?);
+    let nothing = Change::nothing(sender.instance);
+    Ok((Out::silent(alloc, said), Change { view, ..nothing }))
 }
