@@ -2,8 +2,8 @@
 /// turn. With it a test can lose offers, or stop in a turn.
 pub trait Gate: Sync {
     /// Whether replica `from` may make its offer of this instance and ballot to acceptor `to`. An
-    /// offer that is not let through is lost. [`SharedAcceptor::offer`](crate::SharedAcceptor::offer)
-    /// does not ask it: whoever goes through several acceptors does.
+    /// offer that is not let through is lost. A single offer does not ask it: whoever goes through
+    /// several acceptors does.
     fn lets(&self, from: u8, to: u8, instance: u8, ballot: u32) -> bool;
 
     /// What runs in each turn of acceptor `to`, once what it has accepted was taken. Until it

@@ -8,7 +8,7 @@ ghost use Rattle.la_acceptor.specs.Answer.{answer};
 ghost use Rattle.la_acceptor.specs.Offers.{AreAnswered, accepted_after};
 ghost use Rattle.la_shared.specs.declared.entry.Entry.{Entry};
 ghost use Rattle.la_shared.specs.History.{accepted_by, offers, IsLegal, HasEntry, HasYes};
-ghost use Rattle.la_shared.specs.Passes.{Known, IsPass};
+ghost use Rattle.la_shared.specs.Passes.{Known, Extends, IsPass};
 
 use la_acceptor::Reply;
 
@@ -41,9 +41,17 @@ pub fn acknowledged_sets_are_comparable()
     la_acceptor::laws::replies_tell_what_is_accepted();
 }
 
-/// What a pass knows it never loses: an entry of a history stands in every longer one, and one of
-/// its own entries in what it has seen. Of two beginnings of one history, one begins with the other.
+/// What a pass knows it never loses. After an answered offer it has seen what it had seen and this
+/// offer with its reply, which is one of its own entries. An entry of a history stands in each
+/// longer one, and an own entry in what was seen. Of two beginnings of one history, one begins with
+/// the other.
 pub fn what_was_seen_stays()
+    ensures grows { (old new : Known) (set : Histories) (reply : Reply)
+        → Extends set reply old new
+        → IsPrefix old.seen new.seen × IsPrefix old.mine new.mine }
+    ensures answered { (old new : Known) (set : Histories) (reply : Reply)
+        → Extends set reply old new
+        → HasEntry new.seen set reply × HasEntry new.mine set reply }
     ensures entries { (history longer : List Entry) (set : Histories) (reply : Reply)
         → IsPrefix history longer → HasEntry history set reply → HasEntry longer set reply }
     ensures own { (pass : Known) (set : Histories) (reply : Reply)

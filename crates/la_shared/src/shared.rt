@@ -57,8 +57,8 @@ impl SharedAcceptor {
     }
 
     /// Offers a set in turn: it draws a ticket, waits until that ticket is served, takes what is
-    /// accepted, calls [`Gate::inside`], answers as [`Acceptor::offer`](la_acceptor::Acceptor::offer)
-    /// does, records the entry, puts back what is accepted now, and serves the next ticket.
+    /// accepted, calls [`Gate::inside`], answers by the acceptor's rule, records the entry, puts back
+    /// what is accepted now, and serves the next ticket.
     ///
     /// `Clash` comes where an id has two different updates, in the offer and in what was accepted,
     /// and names the least such id; `Memory` where a growth was refused. After either nothing is
