@@ -6,6 +6,7 @@ pub mod acceptors;
 pub mod commits;
 pub mod objects;
 pub mod orsets;
+pub mod passes;
 pub mod proposers;
 pub mod replicas;
 pub mod scripts;

@@ -1,0 +1,5 @@
+use Rattle.std.proofs.Common.{rules, ap}
+use Rattle.la_shared.proofs.shared.SharedAcceptor.offer.Goals as goal
+
+pub record-requires-clause-seat : goal.record-requires-clause-seat
+record-requires-clause-seat g c = (search rules, (_, ap (λ m. m.0.number) c.take-acceptor.ensures.seat.1.1))

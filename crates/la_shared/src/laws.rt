@@ -1,0 +1,61 @@
+// What the definitions mean: laws over every history, which no code runs.
+ghost use Rattle.std.specs.Prelude.{◌≡◌, ◌⊎◌, List, ◌∷◌, ◌++◌};
+ghost use mathlib.Core.List.{IsPrefix};
+ghost use Rattle.la_set.specs.Histories.{Histories};
+ghost use Rattle.la_set.specs.Inclusion.{IsSubset};
+ghost use Rattle.la_set.specs.Join.{IsCompatible};
+ghost use Rattle.la_acceptor.specs.Answer.{answer};
+ghost use Rattle.la_acceptor.specs.Offers.{AreAnswered, accepted_after};
+ghost use Rattle.la_shared.specs.declared.entry.Entry.{Entry};
+ghost use Rattle.la_shared.specs.History.{accepted_by, offers, IsLegal, HasEntry, HasYes};
+ghost use Rattle.la_shared.specs.Passes.{Known, Extends, IsPass};
+
+use la_acceptor::Reply;
+
+/// A legal history is one that an acceptor by itself would give: each offer is one that it answers,
+/// each reply is the acceptor rule's from what was accepted before it, and that is what the
+/// acceptor accepts by the offers before it.
+pub fn legal_histories_are_an_acceptors()
+    ensures replies { (before after : List Entry) (e : Entry)
+        → IsLegal (before ++ e ∷ after) → e.reply ≡ answer (accepted_by before) e.set }
+    ensures compatible { (before after : List Entry) (e : Entry)
+        → IsLegal (before ++ e ∷ after) → IsCompatible (accepted_by before) e.set }
+    ensures accepted { (history : List Entry)
+        → accepted_by history ≡ accepted_after (offers history) }
+    ensures answered { (history : List Entry) → IsLegal history → AreAnswered (offers history) }
+    ensures beginnings { (history longer : List Entry)
+        → IsPrefix history longer → IsLegal longer → IsLegal history }
+{}
+
+/// Of two acknowledged sets of one legal history one contains the other; and one that is
+/// acknowledged later contains each that was offered before.
+pub fn acknowledged_sets_are_comparable()
+    ensures any_two { (history : List Entry) (one other : Histories)
+        → IsLegal history → HasYes history one → HasYes history other
+        → IsSubset one other ⊎ IsSubset other one }
+    ensures later { (earlier later : List Entry) (one other : Histories) (reply : Reply)
+        → IsLegal (earlier ++ later) → HasEntry earlier one reply → HasYes later other
+        → IsSubset one other }
+{
+    la_set::laws::union_has_both();
+    la_acceptor::laws::replies_tell_what_is_accepted();
+}
+
+/// What a pass knows it never loses. After an answered offer it has seen what it had seen and this
+/// offer with its reply, which is one of its own entries. An entry of a history stands in each
+/// longer one, and an own entry in what was seen. Of two beginnings of one history, one begins with
+/// the other.
+pub fn what_was_seen_stays()
+    ensures grows { (old new : Known) (set : Histories) (reply : Reply)
+        → Extends set reply old new
+        → IsPrefix old.seen new.seen × IsPrefix old.mine new.mine }
+    ensures answered { (old new : Known) (set : Histories) (reply : Reply)
+        → Extends set reply old new
+        → HasEntry new.seen set reply × HasEntry new.mine set reply }
+    ensures entries { (history longer : List Entry) (set : Histories) (reply : Reply)
+        → IsPrefix history longer → HasEntry history set reply → HasEntry longer set reply }
+    ensures own { (pass : Known) (set : Histories) (reply : Reply)
+        → IsPass pass → HasEntry pass.mine set reply → HasEntry pass.seen set reply }
+    ensures beginnings { (one other history : List Entry)
+        → IsPrefix one history → IsPrefix other history → IsPrefix one other ⊎ IsPrefix other one }
+{}

@@ -1,0 +1,128 @@
+ghost use Rattle.std.specs.Prelude.{◌≡◌, [], None, IfOk, OnErr};
+ghost use mathlib.Core.List.{IsPrefix};
+ghost use Rattle.la_shared.specs.Passes.{Extends, HasNumber, IsNewcomer, IsPass};
+
+use crate::table::Core;
+use crate::{Gate, Note, Pass};
+use la_acceptor::{AcceptorError, Reply};
+use la_set::UpdateSet;
+use std::alloc::{AllocError, Global};
+use std::marker::{Brand, Model};
+use std::sync::Wait;
+
+/// An acceptor that threads share, by reference. A contract sees which acceptor it is; what is
+/// known of its history the passes know.
+///
+/// Whoever calls keeps that passes and notes are of this acceptor: each call requires it.
+#[derive(Drop)]
+pub struct SharedAcceptor {
+    number: u8,
+    core: Core,
+}
+
+impl Model for SharedAcceptor {
+    ghost use Rattle.la_shared.specs.Passes.{AcceptorName};
+
+    ghost Value = { AcceptorName };
+
+    ghost view = { λ acceptor. acceptor.core.table.shared.table_id };
+}
+
+impl SharedAcceptor {
+    /// An acceptor that has accepted nothing, and a first pass, which has seen nothing. The number
+    /// is what [`Gate::inside`] is told.
+    pub fn new(alloc: Global, number: u8) -> Result<(SharedAcceptor, Pass), AllocError>
+        ensures { IfOk result (λ new. IsNewcomer new.0 [] new.1) }
+    {
+        let (core, seat) = Core::new(alloc)?;
+        let pass = Pass {
+            seat,
+            acceptor: number,
+        };
+        Ok((SharedAcceptor { number, core }, pass))
+    }
+
+    /// A pass that has seen as much, and has made no offer. It takes no memory and waits for
+    /// nothing.
+    pub fn another(&self, pass: &mut Pass) -> Pass
+        requires { pass.old.acceptor ≡ self.now }
+        ensures same { pass.new ≡ pass.old }
+        ensures new { IsNewcomer self.now pass.old.seen result }
+        ensures pass { IsPass result }
+    {
+        Pass {
+            seat: self.core.split(&mut pass.seat),
+            acceptor: self.number,
+        }
+    }
+
+    /// Offers a set in turn: it draws a ticket, waits until that ticket is served, takes what is
+    /// accepted, calls [`Gate::inside`], answers by the acceptor's rule, records the entry, puts back
+    /// what is accepted now, and serves the next ticket.
+    ///
+    /// `Clash` comes where an id has two different updates, in the offer and in what was accepted,
+    /// and names the least such id; `Memory` where a growth was refused. After either nothing is
+    /// recorded, what was accepted is as it was, and the turn has passed on.
+    ///
+    /// The cost is that of the acceptor's step, and of the wait for the turn, in which the
+    /// thread yields the processor after each look. Turns come in the order of tickets. No clause
+    /// says that a turn ever comes: it does not where a caller in its turn never ends, and an
+    /// offer that finds 2^62 tickets drawn waits for ever.
+    pub fn offer<R: Wait, G: Gate>(
+        &self,
+        rt: &R,
+        pass: &mut Pass,
+        set: &UpdateSet,
+        gate: &G,
+    ) -> Result<Reply, AcceptorError>
+        requires { pass.old.acceptor ≡ self.now }
+        ensures acceptor { pass.new.acceptor ≡ self.now }
+        ensures number { HasNumber pass.old.number pass.new.number }
+        ensures ok { IfOk result (λ reply. Extends set.now reply pass.old pass.new) }
+        ensures err { OnErr result (
+            (pass.new.seen ≡ pass.old.seen) × (pass.new.mine ≡ pass.old.mine)) }
+        ensures pass { IsPass pass.new }
+    {
+        let mut acceptor = self.core.take(rt, &mut pass.seat);
+        gate.inside(self.number);
+        match acceptor.offer(set) {
+            Ok(reply) => {
+                self.core.record::<Brand>(&mut pass.seat, set, &reply);
+                self.core.put_back(&mut pass.seat, acceptor);
+                Ok(reply)
+            }
+            Err(error) => {
+                self.core.put_back(&mut pass.seat, acceptor);
+                Err(error)
+            }
+        }
+    }
+
+    /// What a pass has seen, for another thread's pass. It takes no memory and waits for nothing.
+    pub fn note(&self, pass: &mut Pass) -> Note
+        requires { pass.old.acceptor ≡ self.now }
+        ensures same { pass.new ≡ pass.old }
+        ensures note { (result.acceptor ≡ self.now) × (result.seen ≡ pass.old.seen) }
+    {
+        Note {
+            seat: self.core.split(&mut pass.seat),
+            acceptor: self.number,
+        }
+    }
+
+    /// The pass has then seen what the note's giver had seen, and perhaps more. It takes no memory
+    /// and waits for nothing.
+    pub fn meet(&self, pass: &mut Pass, note: Note)
+        requires pass { pass.old.acceptor ≡ self.now }
+        requires note { note.acceptor ≡ self.now }
+        ensures acceptor { pass.new.acceptor ≡ self.now }
+        ensures number { pass.new.number ≡ pass.old.number }
+        ensures mine { pass.new.mine ≡ pass.old.mine }
+        ensures before { IsPrefix pass.old.seen pass.new.seen }
+        ensures told { IsPrefix note.seen pass.new.seen }
+        ensures pass { IsPass pass.new }
+    {
+        let Note { seat, acceptor: _ } = note;
+        self.core.meet(&mut pass.seat, seat);
+    }
+}
