@@ -19,3 +19,5 @@ mod proposer;
 mod replica;
 #[cfg(test)]
 mod set;
+#[cfg(test)]
+mod shared;
