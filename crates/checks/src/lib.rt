@@ -18,3 +18,5 @@ mod proposer;
 mod replica;
 #[cfg(test)]
 mod set;
+#[cfg(test)]
+mod shared;

@@ -12,6 +12,7 @@ pub trait Gate: Sync {
 }
 
 /// The gate that lets every offer through, and does nothing in a turn.
+#[derive(Drop)]
 pub struct FreeGate;
 
 impl Gate for FreeGate {

@@ -1,0 +1,4 @@
+// Acceptors that threads share.
+mod helpers;
+mod runs;
+mod threads;

@@ -1,0 +1,61 @@
+// Offers to shared acceptors. What memory was refused for is called again: so the tests pass with
+// every single allocation failing too.
+ghost use Rattle.std.specs.Prelude.{◌≡◌};
+
+use la_acceptor::{AcceptorError, Reply};
+use la_set::{Op, Update, UpdateId, UpdateSet};
+use la_shared::{Gate, Pass, SharedAcceptor};
+use std::alloc::Global;
+use std::process::Abort;
+use std::sync::Wait;
+
+pub fn shared_acceptor(rt: &impl Abort, alloc: Global, number: u8) -> (SharedAcceptor, Pass)
+    ensures { result.1.acceptor ≡ result.0 }
+{
+    match SharedAcceptor::new(alloc, number) {
+        Ok(new) => new,
+        Err(_) => SharedAcceptor::new(alloc, number).expect(rt, "memory is there again"),
+    }
+}
+
+/// Offers, and once more where memory was refused: the turn has passed on then.
+pub fn offer<R: Wait, G: Gate>(
+    rt: &R,
+    shared: &SharedAcceptor,
+    pass: &mut Pass,
+    set: &UpdateSet,
+    gate: &G,
+) -> Result<Reply, AcceptorError>
+    requires { pass.old.acceptor ≡ shared.now }
+    ensures { pass.new.acceptor ≡ shared.now }
+{
+    match shared.offer(rt, pass, set, gate) {
+        Err(AcceptorError::Memory) => shared.offer(rt, pass, set, gate),
+        first => first,
+    }
+}
+
+fn update(replica: u8, number: u32) -> Update {
+    Update {
+        id: UpdateId { replica, number },
+        object: 1,
+        op: Op::Inc(1),
+    }
+}
+
+/// Puts an update under the replica's next number, which this is, into the set.
+pub fn grow(set: &mut UpdateSet, replica: u8, number: u32) -> bool {
+    set.push(update(replica, number)).is_ok() || set.push(update(replica, number)).is_ok()
+}
+
+pub fn is_yes(reply: &Result<Reply, AcceptorError>) -> bool {
+    matches!(reply, Ok(Reply::Yes))
+}
+
+/// The set of a reply that refuses.
+pub fn refused(reply: &Result<Reply, AcceptorError>) -> Option<&UpdateSet> {
+    match reply {
+        Ok(Reply::No(all)) => Some(all),
+        _ => None,
+    }
+}

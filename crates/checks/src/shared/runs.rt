@@ -1,0 +1,47 @@
+// One thread, and one or two passes.
+use super::helpers::{is_yes, offer, refused, shared_acceptor};
+use crate::given::set_of;
+use la_acceptor::AcceptorError;
+use la_set::UpdateId;
+use la_shared::{FreeGate, Gate, laws};
+
+#[test]
+fn a_pass_that_met_a_note_offers(rt: HostRuntime) {
+    let alloc = rt.alloc();
+    let (shared, mut first) = shared_acceptor(&rt, alloc, 0);
+    let mut second = shared.another(&mut first);
+    let one = set_of(&rt, alloc, &[(0, 1, 1)]);
+    assert!(rt; is_yes(&offer(&rt, &shared, &mut first, &one, &FreeGate)));
+    let note = shared.note(&mut first);
+    shared.meet(&mut second, note);
+    let other = set_of(&rt, alloc, &[(1, 1, 1)]);
+    let reply = offer(&rt, &shared, &mut second, &other, &FreeGate);
+    let both = set_of(&rt, alloc, &[(0, 1, 1), (1, 1, 1)]);
+    assert!(rt; refused(&reply).is_some_and(|all| all.same(&both)));
+}
+
+// The turn passes on after a clash.
+#[test]
+fn a_clash_is_refused(rt: HostRuntime) {
+    let alloc = rt.alloc();
+    let (shared, mut pass) = shared_acceptor(&rt, alloc, 0);
+    let five = set_of(&rt, alloc, &[(0, 1, 5)]);
+    let six = set_of(&rt, alloc, &[(0, 1, 6)]);
+    assert!(rt; is_yes(&offer(&rt, &shared, &mut pass, &five, &FreeGate)));
+    let clash = AcceptorError::Clash(UpdateId {
+        replica: 0,
+        number: 1,
+    });
+    let second = offer(&rt, &shared, &mut pass, &six, &FreeGate);
+    assert!(rt; second.is_err_and(|error| error == clash));
+    assert!(rt; is_yes(&offer(&rt, &shared, &mut pass, &five, &FreeGate)));
+}
+
+#[test]
+fn the_free_gate_lets_all_through(rt: HostRuntime) {
+    assert!(rt; FreeGate.lets(0, 7, 3, 1));
+    FreeGate.inside(0);
+    laws::legal_histories_are_an_acceptors();
+    laws::acknowledged_sets_are_comparable();
+    laws::what_was_seen_stays();
+}
