@@ -50,8 +50,9 @@ impl SharedAcceptor {
         ensures new { IsNewcomer self.now pass.old.seen result }
         ensures pass { IsPass result }
     {
+        let other = self.core.split(&mut pass.seat);
         Pass {
-            seat: self.core.split(&mut pass.seat),
+            seat: other,
             acceptor: self.number,
         }
     }
