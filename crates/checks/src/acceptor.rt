@@ -1,3 +1,2 @@
-// la_acceptor: runs as tables, and callers that know nothing but its clauses.
-mod exactness;
+// la_acceptor: runs as tables.
 mod runs;

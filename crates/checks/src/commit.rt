@@ -1,3 +1,2 @@
-// la_commit: participants' steps as tables, and callers that know nothing but its clauses.
-mod exactness;
+// la_commit: participants' steps as tables.
 mod steps;

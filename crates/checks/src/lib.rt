@@ -1,6 +1,5 @@
-//! Checks of the layers below worlds, and nothing else: tests of what no contract says, and callers
-//! that promise what only exact contracts let them. They stand here, above those layers, so that
-//! each is proved once; `checks_world` has the others.
+//! Tests of the layers below worlds: of what no contract says. They stand here, above those layers,
+//! so that each is proved once; `checks_world` has the others.
 #![tactic(auto)]
 
 #[cfg(test)]

@@ -1,8 +1,6 @@
-// la_object: shelves as tables, a test's own objects, and callers that know nothing but its clauses.
+// la_object: shelves as tables, and a test's own objects.
 mod edges;
-pub mod exactness;
 pub mod helpers;
 mod ids;
-mod laws;
 pub mod plays;
 mod refusals;

@@ -1,6 +1,5 @@
-// la_orset: sets and chains as tables, and callers that know nothing but its clauses.
+// la_orset: sets and chains as tables.
 mod chains;
-mod exactness;
 mod plays;
 mod shelves;
 mod tags;

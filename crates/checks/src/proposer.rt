@@ -1,6 +1,4 @@
-// la_proposer: runs as tables, and callers that know nothing but its clauses.
-mod exactness;
-mod laws;
+// la_proposer: runs as tables.
 mod plays;
 mod runs;
 mod spent;

@@ -1,6 +1,4 @@
-// la_replica: runs as tables, messages and mail, and callers that know nothing but its
-// clauses.
-mod exactness;
+// la_replica: runs as tables, messages and mail.
 mod lists;
 mod plays;
 mod runs;

@@ -1,5 +1,4 @@
-// la_set: runs as tables, and callers that know nothing but its clauses.
-mod exactness;
+// la_set: runs as tables.
 pub mod helpers;
 mod histories;
 mod runs;

@@ -188,23 +188,38 @@ fn replicas(alloc: Global) -> Option<bool> {
 }
 
 #[test]
-fn callers_do_what_they_are_for(rt: HostRuntime) {
+fn callers_of_sets_do_what_they_are_for(rt: HostRuntime) {
     let alloc = rt.alloc();
     assert!(rt; sets(alloc).or_else(|| sets(alloc)) == Some(true));
     assert!(rt; removals(alloc).or_else(|| removals(alloc)) == Some(true));
+}
+
+#[test]
+fn callers_of_observed_remove_sets_do_what_they_are_for(rt: HostRuntime) {
+    let alloc = rt.alloc();
+    assert!(rt; adds_win(alloc).or_else(|| adds_win(alloc)) == Some(true));
+    assert!(rt; followers(alloc).or_else(|| followers(alloc)) == Some(true));
+}
+
+#[test]
+fn callers_of_acceptors_and_participants_do_what_they_are_for(rt: HostRuntime) {
+    let alloc = rt.alloc();
     assert!(rt; acknowledgements(alloc).or_else(|| acknowledgements(alloc)) == Some(true));
     assert!(rt; commits(alloc).or_else(|| commits(alloc)) == Some(true));
+}
+
+#[test]
+fn callers_of_proposers_and_replicas_do_what_they_are_for(rt: HostRuntime) {
+    let alloc = rt.alloc();
     assert!(rt; learning(alloc).or_else(|| learning(alloc)) == Some(true));
-    assert!(rt; worlds(alloc).or_else(|| worlds(alloc)) == Some(true));
-    assert!(rt; scripts(alloc).or_else(|| scripts(alloc)) == Some(true));
     assert!(rt; second_vote(alloc).or_else(|| second_vote(alloc)) == Some(true));
     assert!(rt; replicas(alloc).or_else(|| replicas(alloc)) == Some(true));
 }
 
 #[test]
-fn callers_of_sets_do_what_they_are_for(rt: HostRuntime) {
+fn callers_of_worlds_and_scripts_do_what_they_are_for(rt: HostRuntime) {
     let alloc = rt.alloc();
-    assert!(rt; adds_win(alloc).or_else(|| adds_win(alloc)) == Some(true));
-    assert!(rt; followers(alloc).or_else(|| followers(alloc)) == Some(true));
+    assert!(rt; worlds(alloc).or_else(|| worlds(alloc)) == Some(true));
     assert!(rt; questions(alloc).or_else(|| questions(alloc)) == Some(true));
+    assert!(rt; scripts(alloc).or_else(|| scripts(alloc)) == Some(true));
 }

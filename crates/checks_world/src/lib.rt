@@ -1,6 +1,5 @@
-//! Checks of worlds and of what stands on them, and nothing else: tests of what no contract says,
-//! and callers that promise what only exact contracts let them. `checks` has those of the layers
-//! below, and a lemma that both need.
+//! Tests of worlds and of what stands on them: of what no contract says. `checks` has those of the
+//! layers below.
 #![tactic(auto)]
 
 #[cfg(test)]

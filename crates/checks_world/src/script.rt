@@ -1,5 +1,4 @@
 // Checks of la_script. The tests pass with every single allocation failing too: they call again.
 mod answers;
-mod exactness;
 mod lines;
 mod random;

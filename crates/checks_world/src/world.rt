@@ -1,10 +1,7 @@
-// la_world: runs that no row of the program can say, questions, want of memory, groups and shelves
-// that are out of their ranges, and callers that know nothing but its clauses.
+// la_world: runs that no row of the program can say, questions, want of memory, and groups and
+// shelves that are out of their ranges.
 mod configs;
 mod events;
-mod exactness;
-mod following;
-mod laws;
 mod making;
 mod million;
 mod plays;

@@ -6,7 +6,7 @@ use Rattle.std.proofs.Math.Bridge.{le_prop}
 use Rattle.std.proofs.Math.Logic.{∥∥₁_elim, ∥∥₁_map}
 use Rattle.std.proofs.Math.Nat.{ℕ_set}
 use Rattle.std.proofs.Math.Seq.{map-set_same}
-use Rattle.std.proofs.lemmas.Bool.{cond-true, cond-false, cases_lt, le-leb, lt-leb, lt-ltb}
+use Rattle.std.proofs.lemmas.Bool.{cond-true, cond-false, cases_lt, lt-leb, lt-ltb}
 use Rattle.std.proofs.lemmas.List.{length-set}
 use Rattle.std.proofs.lemmas.Option.{same_Some, none-some, slice_get-map, slice_get_within, get_or_from_slice_get}
 use Rattle.la_set.specs.declared.update.UpdateId.{UpdateId}
@@ -25,7 +25,7 @@ use Rattle.la_object.specs.Shelves.{ShelfState, kind_at, answer_at, tags_at}
 use Rattle.la_replica.specs.declared.message.Message as code
 use Rattle.la_replica.specs.Whole.{CarryAll}
 use Rattle.la_replica.specs.ReplicaState.{ReplicaState}
-use Rattle.la_world.specs.declared.error.Refusal.TheVariants.{NoSuchReplica, NoSuchObject}
+use Rattle.la_world.specs.declared.error.Refusal.TheVariants.{NoSuchReplica}
 use Rattle.la_world.specs.declared.report.Line.TheVariants.{Done}
 use Rattle.la_world.specs.declared.step.Did.TheVariants as shown
 use Rattle.la_world.specs.declared.step.Learnt.{Learnt}
@@ -49,9 +49,6 @@ use Rattle.la_world.proofs.LargestViews.{empty_least}
 use Rattle.la_world.proofs.Worlds.{view_is, sent_is, replicas_are, found_at}
 
 -- ## What a world keeps
-
-pub keeps-refl : (w : World) → Keeps w w
-keeps-refl w = record { config = refl; kinds = refl; count = refl; stands = λ events stands. stands }
 
 pub kept_group : (w after : World) → Keeps w after → group_in after ≡ group_in w
 kept_group w after k = ap₂ group_of k.config k.kinds
@@ -128,23 +125,6 @@ module _ (w : World) (events : List Event) (stands : StandsFor w events) where
           ∙ ap (λ (z : ShelfState). tags_at z object element) shelf_is
 
   -- ### Refusals
-
-  pub no_replica_refused : (r object : ℕ) (query : Query) → length w.shelves ≤ r → refused g t (Ask r object query) ≡ Some NoSuchReplica
-  no_replica_refused r object query le = cond-true (nat_le (replicas g) r) (Some NoSuchReplica) (refused_object (kind_at (kinds_on g r) object)) (le-leb (replicas g) r (no_replica r le))
-
-  pub no_object_refused : (r object : ℕ) (query : Query) → IsSomeAnd (slice_get w.shelves r) (λ (s : ShelfState). kind_at s.objects object ≡ None) → refused g t (Ask r object query) ≡ Some NoSuchObject
-  no_object_refused r object query none = go (slice_get w.shelves r) refl none
-    where
-      go : (o : Option ShelfState) → slice_get w.shelves r ≡ o → IsSomeAnd o (λ (s : ShelfState). kind_at s.objects object ≡ None) → refused g t (Ask r object query) ≡ Some NoSuchObject
-      go None found k = absurd k
-      go (Some s) found k = known_replica r s found object query ∙ ap refused_object k
-
-  pub no_object_there : (r object : ℕ) → IsSomeAnd (slice_get w.shelves r) (λ (s : ShelfState). kind_at s.objects object ≡ None) → (r < replicas g) × (kind_at (kinds_on g r) object ≡ None)
-  no_object_there r object none = go (slice_get w.shelves r) refl none
-    where
-      go : (o : Option ShelfState) → slice_get w.shelves r ≡ o → IsSomeAnd o (λ (s : ShelfState). kind_at s.objects object ≡ None) → (r < replicas g) × (kind_at (kinds_on g r) object ≡ None)
-      go None found k = absurd k
-      go (Some s) found k = (is_replica r s found, ap (λ o. kind_at o object) (sym (shelf_kinds r s found)) ∙ k)
 
   some_object : (o : Option Kind) → IsSome o → refused_object o ≡ None
   some_object None h = cc

@@ -1,6 +1,0 @@
-pub mod Twice
-pub mod SetAnswers
-pub mod OfferAnswers
-pub mod ProposerAnswers
-pub mod Carried
-pub mod ReplicaAnswers

@@ -1,0 +1,2 @@
+pub mod exactness;
+mod laws;

@@ -1,0 +1,2 @@
+mod exactness;
+mod laws;

@@ -1,0 +1,3 @@
+mod exactness;
+mod following;
+mod laws;

@@ -1,2 +1,0 @@
-pub mod SameWorlds
-pub mod WorldLaws
