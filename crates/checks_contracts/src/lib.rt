@@ -11,4 +11,5 @@ mod proposer;
 mod replica;
 mod script;
 mod set;
+mod shared;
 mod world;
