@@ -21,11 +21,11 @@ pub struct SharedAcceptor {
 }
 
 impl Model for SharedAcceptor {
-    ghost use Rattle.la_shared.specs.Passes.{AcceptorName};
+    ghost use Rattle.la_shared.specs.Passes.{AcceptorName, named};
 
     ghost Value = { AcceptorName };
 
-    ghost view = { λ acceptor. acceptor.core.table.shared.table_id };
+    ghost view = { λ acceptor. named acceptor.core.table.shared.table_id };
 }
 
 impl SharedAcceptor {
