@@ -1,5 +1,5 @@
 //! Tests of the layers below worlds: of what no contract says. They stand here, above those layers,
-//! so that each is proved once; `checks_world` has the others.
+//! so that each is proved once; `checks_threads` and `checks_world` have the others.
 #![tactic(auto)]
 
 #[cfg(test)]
@@ -18,5 +18,3 @@ mod proposer;
 mod replica;
 #[cfg(test)]
 mod set;
-#[cfg(test)]
-mod shared;

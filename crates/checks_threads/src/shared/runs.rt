@@ -1,6 +1,5 @@
 // One thread, and one or two passes.
-use super::helpers::{is_yes, offer, refused, shared_acceptor};
-use crate::given::set_of;
+use super::helpers::{is_yes, offer, refused, set_of, shared_acceptor};
 use la_acceptor::AcceptorError;
 use la_set::UpdateId;
 use la_shared::{FreeGate, Gate, laws};

@@ -35,17 +35,28 @@ pub fn offer<R: Wait, G: Gate>(
     }
 }
 
-fn update(replica: u8, number: u32) -> Update {
+fn update(replica: u8, number: u32, by: u32) -> Update {
     Update {
         id: UpdateId { replica, number },
         object: 1,
-        op: Op::Inc(1),
+        op: Op::Inc(by),
     }
+}
+
+/// The set of these increments: the replica, the number, and by how much.
+pub fn set_of(rt: &impl Abort, alloc: Global, updates: &[(u8, u32, u32)]) -> UpdateSet {
+    let mut set = UpdateSet::new(alloc);
+    for &(replica, number, by) in updates {
+        let pushed = set.push(update(replica, number, by)).is_ok()
+            || set.push(update(replica, number, by)).is_ok();
+        assert!(rt; pushed);
+    }
+    set
 }
 
 /// Puts an update under the replica's next number, which this is, into the set.
 pub fn grow(set: &mut UpdateSet, replica: u8, number: u32) -> bool {
-    set.push(update(replica, number)).is_ok() || set.push(update(replica, number)).is_ok()
+    set.push(update(replica, number, 1)).is_ok() || set.push(update(replica, number, 1)).is_ok()
 }
 
 pub fn is_yes(reply: &Result<Reply, AcceptorError>) -> bool {

@@ -1,8 +1,7 @@
 // Several threads. Each test ends by itself, whatever the schedule is.
 ghost use Rattle.std.specs.Prelude.{◌≡◌, ◌≤◌, IfSome};
 
-use super::helpers::{grow, offer, refused, shared_acceptor};
-use crate::given::set_of;
+use super::helpers::{grow, offer, refused, set_of, shared_acceptor};
 use la_acceptor::{AcceptorError, Reply};
 use la_set::{UpdateId, UpdateSet};
 use la_shared::{FreeGate, Gate, Pass, SharedAcceptor};
