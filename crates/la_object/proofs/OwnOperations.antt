@@ -13,10 +13,10 @@ use Rattle.la_set.specs.declared.update.Update.{Update}
 use Rattle.la_object.specs.declared.kind.Kind.{Kind}
 use Rattle.la_object.specs.declared.kind.Kind.TheVariants.{Counter as CounterKind, MaxRegister, OrSet}
 use Rattle.la_object.specs.declared.query.Query.{Query}
-use Rattle.la_object.specs.declared.query.Query.TheVariants.{Total, Largest, Has, Size, Items}
-use Rattle.la_object.specs.declared.query.Answer.TheVariants.{Total as TotalIs, Largest as LargestIs, Has as HasIs, Size as SizeIs, Items as ItemsAre}
+use Rattle.la_object.specs.declared.query.Query.TheVariants.{Total, AtLeast, Largest, Has, Size, Items}
+use Rattle.la_object.specs.declared.query.Answer.TheVariants.{Total as TotalIs, Reached, Largest as LargestIs, Has as HasIs, Size as SizeIs, Items as ItemsAre}
 use Rattle.la_object.specs.IdOrder.{id_cmp}
-use Rattle.la_object.specs.Counter.{counts, increment, decrement}
+use Rattle.la_object.specs.Counter.{counts, increment, decrement, total, reaches}
 use Rattle.la_object.specs.MaxRegister.{raises, raised}
 use Rattle.la_object.specs.OrSet.{puts_or_removes, element, named, is_removed, live, present, element_set, is_element, live_tags}
 use Rattle.la_object.specs.Objects.{value, tags_by, is_of_kind, is_of_some_kind}
@@ -131,16 +131,19 @@ LeavesOutOthers kind keeps = (u : Update) → keeps u ≡ false → is_of_kind k
 
 pub value-kept : (kind : Kind) (keeps : Update → Bool) → LeavesOutOthers kind keeps → (us : List Update) (query : Query) → value kind (filter keeps us) query ≡ value kind us query
 value-kept CounterKind keeps others us Total = λ i. TotalIs (pos (sum-kept keeps (λ u. increment u.op) (λ u not. no_increment u.op (others u not)) us i) -ℤ pos (sum-kept keeps (λ u. decrement u.op) (λ u not. no_decrement u.op (others u not)) us i))
+value-kept CounterKind keeps others us (AtLeast bound) = λ i. Reached (reaches (total (sum-kept keeps (λ u. increment u.op) (λ u not. no_increment u.op (others u not)) us i) (sum-kept keeps (λ u. decrement u.op) (λ u not. no_decrement u.op (others u not)) us i)) bound)
 value-kept CounterKind keeps others us Largest = refl
 value-kept CounterKind keeps others us (Has x) = refl
 value-kept CounterKind keeps others us Size = refl
 value-kept CounterKind keeps others us Items = refl
 value-kept MaxRegister keeps others us Total = refl
+value-kept MaxRegister keeps others us (AtLeast bound) = refl
 value-kept MaxRegister keeps others us Largest = ap LargestIs (largest-kept keeps (λ u not. no_raise u.op (others u not)) 0 us)
 value-kept MaxRegister keeps others us (Has x) = refl
 value-kept MaxRegister keeps others us Size = refl
 value-kept MaxRegister keeps others us Items = refl
 value-kept OrSet keeps others us Total = refl
+value-kept OrSet keeps others us (AtLeast bound) = refl
 value-kept OrSet keeps others us Largest = refl
 value-kept OrSet keeps others us (Has x) = ap (λ s. HasIs (map.contains_key s x)) (present-kept keeps (λ u not. no_element u.op (others u not)) (λ u not. no_names u.op (others u not)) us)
 value-kept OrSet keeps others us Size = ap (λ s. SizeIs (map.len s)) (present-kept keeps (λ u not. no_element u.op (others u not)) (λ u not. no_names u.op (others u not)) us)

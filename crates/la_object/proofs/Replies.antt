@@ -8,11 +8,11 @@ use Rattle.la_set.specs.declared.update.Update.{Update}
 use Rattle.la_object.specs.declared.kind.Kind.{Kind}
 use Rattle.la_object.specs.declared.kind.Kind.TheVariants.{Counter as CounterKind, MaxRegister, OrSet}
 use Rattle.la_object.specs.declared.query.Query.{Query}
-use Rattle.la_object.specs.declared.query.Query.TheVariants.{Total, Largest, Has, Size, Items}
-use Rattle.la_object.specs.declared.query.Answer.TheVariants.{Total as TotalIs, Has as HasIs, Size as SizeIs, Items as ItemsAre}
+use Rattle.la_object.specs.declared.query.Query.TheVariants.{Total, AtLeast, Largest, Has, Size, Items}
+use Rattle.la_object.specs.declared.query.Answer.TheVariants.{Total as TotalIs, Reached, Has as HasIs, Size as SizeIs, Items as ItemsAre}
 use Rattle.la_object.specs.declared.state.State.{State}
 use Rattle.la_object.specs.declared.state.State.TheVariants.{Counter, Max, Set}
-use Rattle.la_object.specs.Counter.{increment, decrement, ups, downs}
+use Rattle.la_object.specs.Counter.{increment, decrement, ups, downs, total, reaches}
 use Rattle.la_object.specs.MaxRegister.{raised}
 use Rattle.la_object.specs.Objects.{after, steps, start, reply, value, tags_of, tags_by, kind_of, HasRoom}
 use Rattle.std.specs.FinMap as map
@@ -80,16 +80,25 @@ reply-steps CounterKind us Total distinct = ap (λ s. reply s Total) (steps-Coun
 
     down : 0 + downs us ≡ downs us
     down = omega arith
+reply-steps CounterKind us (AtLeast bound) distinct = ap (λ s. reply s (AtLeast bound)) (steps-Counter 0 0 us) ∙ (λ i. Reached (reaches (total (up i) (down i)) bound))
+  where
+    up : 0 + ups us ≡ ups us
+    up = omega arith
+
+    down : 0 + downs us ≡ downs us
+    down = omega arith
 reply-steps CounterKind us Largest distinct = ap (λ s. reply s Largest) (steps-Counter 0 0 us)
 reply-steps CounterKind us (Has x) distinct = ap (λ s. reply s (Has x)) (steps-Counter 0 0 us)
 reply-steps CounterKind us Size distinct = ap (λ s. reply s Size) (steps-Counter 0 0 us)
 reply-steps CounterKind us Items distinct = ap (λ s. reply s Items) (steps-Counter 0 0 us)
 reply-steps MaxRegister us Total distinct = ap (λ s. reply s Total) (steps-Max 0 us)
+reply-steps MaxRegister us (AtLeast bound) distinct = ap (λ s. reply s (AtLeast bound)) (steps-Max 0 us)
 reply-steps MaxRegister us Largest distinct = ap (λ s. reply s Largest) (steps-Max 0 us)
 reply-steps MaxRegister us (Has x) distinct = ap (λ s. reply s (Has x)) (steps-Max 0 us)
 reply-steps MaxRegister us Size distinct = ap (λ s. reply s Size) (steps-Max 0 us)
 reply-steps MaxRegister us Items distinct = ap (λ s. reply s Items) (steps-Max 0 us)
 reply-steps OrSet us Total distinct = ap (λ s. reply s Total) (steps-Set map.empty set.empty us)
+reply-steps OrSet us (AtLeast bound) distinct = ap (λ s. reply s (AtLeast bound)) (steps-Set map.empty set.empty us)
 reply-steps OrSet us Largest distinct = ap (λ s. reply s Largest) (steps-Set map.empty set.empty us)
 reply-steps OrSet us (Has x) distinct = ap (λ s. reply s (Has x)) (steps-Set map.empty set.empty us) ∙ ap (λ s. HasIs (map.contains_key s x)) (held-present us distinct)
 reply-steps OrSet us Size distinct = ap (λ s. reply s Size) (steps-Set map.empty set.empty us) ∙ ap (λ s. SizeIs (map.len s)) (held-present us distinct)

@@ -1,14 +1,14 @@
 -- A counter: what it takes from an operation, what it answers by its updates, and its state, the
 -- sum of its increments and that of its decrements.
-use Rattle.std.specs.Prelude.{ℕ, ◌+◌, ◌≤◌, Bool, true, false, List, sum_by, pos, ◌-ℤ◌}
+use Rattle.std.specs.Prelude.{ℕ, ◌+◌, ◌≤◌, Bool, true, false, List, sum_by, ℤ, pos, ◌-ℤ◌, int_le}
 use Rattle.la_set.specs.declared.update.Op.{Op}
 use Rattle.la_set.specs.declared.update.Op.TheVariants.{Inc, Dec}
 use Rattle.la_set.specs.declared.update.Update.{Update}
 use Rattle.la_object.specs.declared.counter.TheConstants.{MAX_SUM}
 use Rattle.la_object.specs.declared.query.Query.{Query}
-use Rattle.la_object.specs.declared.query.Query.TheVariants.{Total}
+use Rattle.la_object.specs.declared.query.Query.TheVariants.{Total, AtLeast}
 use Rattle.la_object.specs.declared.query.Answer.{Answer}
-use Rattle.la_object.specs.declared.query.Answer.TheVariants.{Total as TotalIs, Foreign}
+use Rattle.la_object.specs.declared.query.Answer.TheVariants.{Total as TotalIs, Reached, Foreign}
 use Rattle.la_object.specs.declared.state.State.{State}
 use Rattle.la_object.specs.declared.state.State.TheVariants.{Counter}
 
@@ -34,9 +34,18 @@ ups us = sum_by (λ u. increment u.op) us
 abbrev pub downs : List Update → ℕ
 downs us = sum_by (λ u. decrement u.op) us
 
+-- the increments less the decrements
+abbrev pub total : (up down : ℕ) → ℤ
+total up down = pos up -ℤ pos down
+
+-- whether a total is at least a number, which one below zero is not
+abbrev pub reaches : (total : ℤ) → (bound : ℕ) → Bool
+reaches total bound = int_le (pos bound) total
+
 -- what a counter with these updates answers
 abbrev pub counter_value : List Update → Query → Answer
-counter_value us Total = TotalIs (pos (ups us) -ℤ pos (downs us))
+counter_value us Total = TotalIs (total (ups us) (downs us))
+counter_value us (AtLeast bound) = Reached (reaches (total (ups us) (downs us)) bound)
 counter_value us _ = Foreign
 
 -- one step of a counter's two sums
@@ -45,7 +54,8 @@ counter_after up down u = Counter (up + increment u.op) (down + decrement u.op)
 
 -- what a counter with these two sums answers
 abbrev pub counter_reply : ℕ → ℕ → Query → Answer
-counter_reply up down Total = TotalIs (pos up -ℤ pos down)
+counter_reply up down Total = TotalIs (total up down)
+counter_reply up down (AtLeast bound) = Reached (reaches (total up down) bound)
 counter_reply up down _ = Foreign
 
 -- the two sums leave room for one more step

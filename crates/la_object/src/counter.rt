@@ -1,6 +1,7 @@
 ghost use Rattle.std.specs.Prelude.{◌≡◌, ◌<◌, ◌+◌, ◌^◌, [], Ok, IsOk, OnOk};
 ghost use Rattle.la_object.specs.declared.kind.Kind.TheVariants.{Counter as CounterKind};
 ghost use Rattle.la_object.specs.declared.state.State.TheVariants.{Counter as CounterIs};
+ghost use Rattle.la_object.specs.Counter.{reaches};
 ghost use Rattle.la_object.specs.Objects.{start, after, reply, HasRoom};
 
 use crate::{Answer, Kind, ObserveError, Query, Replicated, State};
@@ -32,6 +33,13 @@ impl Counter {
             down: 0,
         }
     }
+}
+
+// Whether a total is at least a number, which one below zero is not.
+fn reaches(total: i64, bound: u64) -> bool
+    ensures { result ≡ reaches total bound }
+{
+    total >= 0 && total as u64 >= bound
 }
 
 impl Replicated for Counter {
@@ -70,6 +78,9 @@ impl Replicated for Counter {
     {
         Ok(match query {
             Query::Total => Answer::Total(self.up as i64 - self.down as i64),
+            Query::AtLeast(bound) => {
+                Answer::Reached(reaches(self.up as i64 - self.down as i64, *bound))
+            }
             _ => Answer::Foreign,
         })
     }

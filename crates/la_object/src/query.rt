@@ -5,6 +5,8 @@ use la_set::Sequence;
 pub enum Query {
     /// A counter's increments less its decrements.
     Total,
+    /// Whether a counter's total is at least this number. A total below zero reaches none.
+    AtLeast(u64),
     /// The largest value that a max register was raised to; 0 where there is none.
     Largest,
     /// Whether an observed-remove set has this element.
@@ -23,6 +25,8 @@ pub type Items = Sequence<u64>;
 pub enum Answer {
     /// To [`Query::Total`].
     Total(i64),
+    /// To [`Query::AtLeast`].
+    Reached(bool),
     /// To [`Query::Largest`].
     Largest(u64),
     /// To [`Query::Has`].
