@@ -1,6 +1,6 @@
 // What objects answered.
 ghost use Rattle.std.specs.Prelude.{◌≡◌, OnOk};
-ghost use Rattle.la_script.specs.Text.{items_text, has_text, answer_text};
+ghost use Rattle.la_script.specs.Text.{items_text, yes_text, answer_text};
 ghost use Rattle.la_script.specs.Pieces.{Adds};
 
 use crate::Pieces;
@@ -22,14 +22,10 @@ fn put_items(out: &mut Pieces, items: &[u64]) -> Result<(), AllocError>
     Ok(())
 }
 
-fn put_has(out: &mut Pieces, has: bool) -> Result<(), AllocError>
-    ensures { OnOk result (Adds out.old out.new (has_text has)) }
+fn put_yes(out: &mut Pieces, is: bool) -> Result<(), AllocError>
+    ensures { OnOk result (Adds out.old out.new (yes_text is)) }
 {
-    if has {
-        out.push_str("has yes")
-    } else {
-        out.push_str("has no")
-    }
+    out.push_str(if is { "yes" } else { "no" })
 }
 
 /// Writes what an object answered.
@@ -41,11 +37,18 @@ pub fn put_answer(out: &mut Pieces, answer: &Answer) -> Result<(), AllocError>
             out.push_str("total ")?;
             out.push_signed(*total)
         }
+        Answer::Reached(reached) => {
+            out.push_str("reached ")?;
+            put_yes(out, *reached)
+        }
         Answer::Largest(value) => {
             out.push_str("largest ")?;
             out.push_number(*value)
         }
-        Answer::Has(has) => put_has(out, *has),
+        Answer::Has(has) => {
+            out.push_str("has ")?;
+            put_yes(out, *has)
+        }
         Answer::Size(size) => {
             out.push_str("size ")?;
             out.push_number(*size)
