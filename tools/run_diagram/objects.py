@@ -24,9 +24,13 @@ def values_of(name: str, updates: list[Update]) -> list[int]:
 
 def counter_answer(updates: list[Update], question: Words) -> str:
     """What a counter with these updates answers."""
-    if question != ("total",):
-        return FOREIGN
-    return f"total {sum(values_of('inc', updates)) - sum(values_of('dec', updates))}"
+    total = sum(values_of("inc", updates)) - sum(values_of("dec", updates))
+    match question:
+        case ["total"]:
+            return f"total {total}"
+        case ["atleast", bound]:
+            return "reached yes" if total >= int(bound) else "reached no"
+    return FOREIGN
 
 
 def register_answer(updates: list[Update], question: Words) -> str:

@@ -111,6 +111,9 @@ class Picture:
             y = self.layout.rows[replica]
             parts.append(svg.text(12, y + 4, f"replica {replica}", "name", "start"))
             parts.append(svg.line(82, y, right, y, "time"))
+            if len(set(self.run.group.votes)) > 1:
+                votes = f"votes {self.run.group.votes[replica]}"
+                parts.append(svg.text(12, y + 4 + LEADING, votes, "plain", "start"))
             top = y + 4 - LEADING * (len(view) - 1) / 2
             for place, (text, style) in enumerate(view):
                 parts.append(svg.text(right + 8, top + LEADING * place, text, style, "start"))

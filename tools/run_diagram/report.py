@@ -6,7 +6,6 @@ from collections.abc import Callable
 from dataclasses import dataclass
 
 from .lines import Line, Lines
-from .script import VERSION, Group
 
 UpdateId = tuple[int, int]
 UpdateSet = frozenset[UpdateId]
@@ -242,7 +241,7 @@ MAIL = f"(m{DIGITS}(?:-m{DIGITS})?)"
 BALLOT = f"r({DIGITS}) i({DIGITS}) b({DIGITS}) {SET}"
 DECISION = f"((?:commit|adopt) {DIGITS})"
 ITEMS = rf"items \[(?:{DIGITS}(?: {DIGITS})*)?\]"
-ANSWER = f"(total -?{DIGITS}|largest {DIGITS}|has yes|has no|size {DIGITS}|{ITEMS}|foreign)"
+ANSWER = f"(total -?{DIGITS}|reached yes|reached no|largest {DIGITS}|has yes|has no|size {DIGITS}|{ITEMS}|foreign)"
 NAMES = "NoSuchReplica|Full|NoSuchMessage|NoSuchCommit|AlreadyProposed|NoSuchObject"
 FORMS: tuple[tuple[str, Callable[..., Outcome]], ...] = (
     (f"opened {BALLOT} {MAIL}", opened_of),
@@ -260,10 +259,10 @@ FORMS: tuple[tuple[str, Callable[..., Outcome]], ...] = (
 )
 
 
-def take_header(lines: Lines, group: Group) -> None:
+def take_header(lines: Lines, header: list[str]) -> None:
     """Takes the header, which must be that of the script."""
-    lines.expect(VERSION)
-    lines.expect(str(group))
+    for text in header:
+        lines.expect(text)
 
 
 def take_outcome(lines: Lines, event: int) -> tuple[Line, Outcome]:

@@ -101,9 +101,9 @@ class Place:
         noes = (reply.updates for reply in self.tally.values() if reply.kind is Kind.NO)
         return EMPTY.union(*noes)
 
-    def acknowledgements(self) -> int:
-        """How many acceptors said Yes to the open ballot."""
-        return sum(reply.kind is Kind.YES for reply in self.tally.values())
+    def acknowledgers(self) -> list[int]:
+        """The acceptors that said Yes to the open ballot."""
+        return [acceptor for acceptor, reply in self.tally.items() if reply.kind is Kind.YES]
 
     def next_ballot(self, more: UpdateSet) -> Ballot:
         """The ballot after the last one, with these updates added to its set."""
@@ -139,10 +139,6 @@ class Follower:
     def require_outcome(self, outcome: Outcome, expected: Outcome, why: str) -> None:
         """Refuses the line, unless it says this."""
         self.require(outcome == expected, f"`{expected}` ({why})")
-
-    def is_majority(self, count: int) -> bool:
-        """Whether so many replicas are more than half of all."""
-        return 2 * count > self.group.replicas
 
     def show(self, replica: int, updates: UpdateSet) -> bool:
         """Whether this set is strictly larger than the replica's view, which it then becomes."""
@@ -235,8 +231,8 @@ class Follower:
         if not place.counts(reply):
             return self.require_outcome(outcome, Ignored(), why)
         place.tally[reply.source] = reply
-        acknowledged = self.is_majority(place.acknowledgements())
-        refused = not acknowledged and self.is_majority(len(place.tally))
+        acknowledged = self.group.is_majority(place.acknowledgers())
+        refused = not acknowledged and self.group.is_majority(place.tally)
         match outcome:
             case Learnt():
                 self.require(acknowledged, f"no `learnt` ({why}: no majority acknowledges)")
@@ -342,7 +338,7 @@ class Follower:
 
 def follow_run(script: Script, report: Lines) -> Run:
     """The run that a report tells of a script; refuses the first line that cannot be there."""
-    take_header(report, script.group)
+    take_header(report, script.header())
     follower = Follower(script.group)
     moments = []
     for number, event in enumerate(script.events, start=1):
