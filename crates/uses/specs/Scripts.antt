@@ -6,9 +6,10 @@ use Rattle.la_script.specs.declared.script.Script.{Script}
 use Rattle.la_script.specs.Scripts.{script_of, said_by}
 use Rattle.la_script.specs.Text.{text_of}
 
--- the bytes are a script, and the text is that of its report, in a group without objects
+-- the bytes are a script, and the text is that of its report in the script's version, in a group
+-- without objects
 pub record IsReportOf (bytes text : List ℕ) : Type 0 where
   pub script : Script
   pub said : script_of bytes ≡ Ok (said_by script)
-  pub is_text : text ≡ text_of
+  pub is_text : text ≡ text_of script.version
       (report script.config (replicate script.config.replicas []) (map event_of script.events))

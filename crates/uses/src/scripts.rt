@@ -7,8 +7,8 @@ use la_script::{ReadError, Text, print, read};
 use la_world::{empty_shelves, run};
 use std::alloc::Global;
 
-/// Plays a script in a group without objects, and answers its report as text: each question is
-/// refused there. `Fault` names the first line that is wrong.
+/// Plays a script in a group without objects, and answers its report as text, in the script's
+/// version: each question is refused there. `Fault` names the first line that is wrong.
 pub fn report_of(alloc: Global, bytes: &[u8]) -> Result<Text, ReadError>
     requires { length bytes.now < 2 ^ 32 }
     ensures text { IfOk result (λ text. IsReportOf bytes.now text) }
@@ -22,6 +22,6 @@ pub fn report_of(alloc: Global, bytes: &[u8]) -> Result<Text, ReadError>
         // shelves, so by the clause `error` of `run` only memory is wanting.
         Err(_) => return Err(ReadError::Memory),
     };
-    let text = print(alloc, &report)?;
+    let text = print(alloc, script.version, &report)?;
     Ok(text)
 }

@@ -1,13 +1,14 @@
 // Callers that promise what only exact contracts let them: each calls a function twice, knows
 // nothing but its contract, and has one answer.
 ghost use Rattle.std.specs.Prelude.{◌≡◌, ◌<◌, ◌≤◌, ◌^◌, length, IfOk, IfSome, IsTrue};
+ghost use Rattle.la_proposer.specs.Majority.{votes_of};
 ghost use Rattle.la_script.specs.Scripts.{said_by};
 ghost use Rattle.la_script.specs.Pieces.{joined};
 ghost use Rattle.la_world.specs.Printable.{IsPrintableReport};
 
 use la_script::{
-    Events, Pieces, ReadError, Script, ScriptFault, Stretch, Text, pieces_of, print, random_events,
-    read,
+    Events, Pieces, ReadError, Script, ScriptFault, Stretch, Text, Version, pieces_of, print,
+    random_events, read,
 };
 use la_world::{Event, Report};
 use std::alloc::{AllocError, AllocFailed, Global};
@@ -40,18 +41,60 @@ fn read_or_refused(alloc: Global, bytes: &[u8]) -> bool
     }
 }
 
-fn texts_are_one(alloc: Global, report: &Report) -> Result<(Text, Text), AllocError>
+// What is read says of which version it is, and which votes there are.
+fn versions_and_votes_are_one(alloc: Global, bytes: &[u8]) -> Result<(Script, Script), ReadError>
+    requires { length bytes.now < 2 ^ 32 }
+    ensures versions { IfOk result (λ both. both.0.version ≡ both.1.version) }
+    ensures votes { IfOk result (λ both.
+        votes_of both.0.config.votes ≡ votes_of both.1.config.votes) }
+{
+    scripts_are_one(alloc, bytes)
+}
+
+fn texts_are_one(
+    alloc: Global,
+    version: Version,
+    report: &Report,
+) -> Result<(Text, Text), AllocError>
     requires { IsPrintableReport report.now }
     ensures { IfOk result (λ both. both.0 ≡ both.1) }
 {
-    Ok((print(alloc, report)?, print(alloc, report)?))
+    Ok((
+        print(alloc, version, report)?,
+        print(alloc, version, report)?,
+    ))
 }
 
-fn pieces_are_one(alloc: Global, report: &Report) -> Result<(Pieces, Pieces), AllocError>
+fn pieces_are_one(
+    alloc: Global,
+    version: Version,
+    report: &Report,
+) -> Result<(Pieces, Pieces), AllocError>
     requires { IsPrintableReport report.now }
     ensures { IfOk result (λ both. joined both.0 ≡ joined both.1) }
 {
-    Ok((pieces_of(alloc, report)?, pieces_of(alloc, report)?))
+    Ok((
+        pieces_of(alloc, version, report)?,
+        pieces_of(alloc, version, report)?,
+    ))
+}
+
+// Version 1 shows no votes: reports that differ in the votes alone have one text in it.
+fn votes_are_not_shown_in_version_one(
+    alloc: Global,
+    one: &Report,
+    other: &Report,
+) -> Result<(Text, Text), AllocError>
+    requires printable { IsPrintableReport one.now }
+    requires same { other.now ≡ record one.now {
+      config = record one.now.config { votes = other.now.config.votes };
+    } }
+    ensures { IfOk result (λ both. both.0 ≡ both.1) }
+{
+    Ok((
+        print(alloc, Version::One, one)?,
+        print(alloc, Version::One, other)?,
+    ))
 }
 
 fn len_of_pieces_is_exact(pieces: &Pieces) -> (usize, usize)
