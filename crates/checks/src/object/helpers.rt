@@ -138,6 +138,7 @@ pub fn absorb<B: Replicated>(
 #[derive(Clone, Copy)]
 pub enum Wanted {
     Total(i64),
+    Reached(bool),
     Largest(u64),
     Has(bool),
     Size(u64),
@@ -149,6 +150,7 @@ pub enum Wanted {
 pub fn is_wanted(answer: &Answer, wanted: &Wanted) -> bool {
     match (answer, wanted) {
         (Answer::Total(total), Wanted::Total(due)) => *total == *due,
+        (Answer::Reached(reached), Wanted::Reached(due)) => *reached == *due,
         (Answer::Largest(largest), Wanted::Largest(due)) => *largest == *due,
         (Answer::Has(there), Wanted::Has(due)) => *there == *due,
         (Answer::Size(size), Wanted::Size(due)) => *size == *due,

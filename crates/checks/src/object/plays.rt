@@ -96,10 +96,12 @@ const FIVE: &[Row] = &[(1, 0, 1, Does::Inc(5))];
 
 const FIVE_LESS_TWO: &[Row] = &[(1, 0, 1, Does::Inc(5)), (1, 1, 1, Does::Dec(2))];
 
-const A_COUNTER: [Act; 20] = [
+const A_COUNTER: [Act; 22] = [
     Act::Adds(1, Made::Counter, Ok(())),
     Act::Absorbs(FIVE, Ok(1)),
     Act::Answers(1, Query::Total, Wanted::Total(5)),
+    Act::Answers(1, Query::AtLeast(5), Wanted::Reached(true)),
+    Act::Answers(1, Query::AtLeast(6), Wanted::Reached(false)),
     Act::Absorbs(FIVE_LESS_TWO, Ok(1)),
     Act::Answers(1, Query::Total, Wanted::Total(3)),
     Act::Absorbs(FIVE_LESS_TWO, Ok(0)),
@@ -144,7 +146,7 @@ const OF_FOUR: &[Row] = &[
 ];
 
 // The counter comes after its updates. The register 3 is retired, and the places close up.
-const FOUR_OBJECTS: [Act; 13] = [
+const FOUR_OBJECTS: [Act; 14] = [
     Act::Adds(7, Made::Register, Ok(())),
     Act::Adds(3, Made::Register, Ok(())),
     Act::Adds(5, Made::Register, Ok(())),
@@ -158,6 +160,7 @@ const FOUR_OBJECTS: [Act; 13] = [
         Wanted::Largest(18_446_744_073_709_551_615),
     ),
     Act::Answers(4, Query::Total, Wanted::Total(-4_294_967_294)),
+    Act::Answers(4, Query::AtLeast(0), Wanted::Reached(false)),
     Act::Answers(6, Query::Largest, Wanted::NoSuchObject),
     Act::Lists(&[7, 3, 5, 4]),
     Act::Retires(3, Was::Register(5)),
@@ -171,7 +174,7 @@ fn objects_are_told_apart_by_number(rt: HostRuntime) {
 
 // ## Queries of other kinds
 
-const FOREIGN: [Act; 13] = [
+const FOREIGN: [Act; 14] = [
     Act::Adds(0, Made::Counter, Ok(())),
     Act::Adds(65_535, Made::Register, Ok(())),
     Act::Answers(0, Query::Largest, Wanted::Foreign),
@@ -179,6 +182,7 @@ const FOREIGN: [Act; 13] = [
     Act::Answers(0, Query::Size, Wanted::Foreign),
     Act::Answers(0, Query::Items, Wanted::Foreign),
     Act::Answers(65_535, Query::Total, Wanted::Foreign),
+    Act::Answers(65_535, Query::AtLeast(0), Wanted::Foreign),
     Act::Answers(65_535, Query::Has(0), Wanted::Foreign),
     Act::Answers(65_535, Query::Size, Wanted::Foreign),
     Act::Answers(65_535, Query::Items, Wanted::Foreign),

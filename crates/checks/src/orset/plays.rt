@@ -122,7 +122,7 @@ fn an_element_stays_while_one_put_is_live(rt: HostRuntime) {
 
 // Removes of an id that no Put has, of their own id, and of none; operations of other kinds; and a
 // Put whose id is there.
-const NOTHING: [Act; 15] = [
+const NOTHING: [Act; 16] = [
     Act::Absorbs((0, 1, Does::Put(9))),
     Act::Absorbs((1, 1, Does::RemoveTags(&[(7, 9)]))),
     Act::Absorbs((1, 2, Does::RemoveTags(&[(1, 2)]))),
@@ -137,6 +137,7 @@ const NOTHING: [Act; 15] = [
     Act::Answers(Query::Items, Wanted::Items(&[9])),
     Act::Tags(9, &[(0, 1)]),
     Act::Answers(Query::Total, Wanted::Foreign),
+    Act::Answers(Query::AtLeast(0), Wanted::Foreign),
     Act::Answers(Query::Largest, Wanted::Foreign),
 ];
 

@@ -1,10 +1,10 @@
-// A report with each thing that an object can answer, and its text, written by hand.
+// A report with each thing that an object can answer, and its texts, written by hand.
 ghost use Rattle.std.specs.Prelude.{All, IfOk};
 ghost use Rattle.la_world.specs.Printable.{IsPrintableLine, IsPrintableReport};
 
 use la_object::{Answer, Items};
 use la_proposer::Votes;
-use la_script::{Events, Text, print};
+use la_script::{Events, Text, Version, print};
 use la_world::{
     Config, Decisions, Did, Event, Learnings, Line, Refusal, Report, Step, Steps, Views,
 };
@@ -13,6 +13,7 @@ use std::alloc::{AllocError, Global};
 // What is answered.
 enum What {
     Total(i64),
+    Reached(bool),
     Largest(u64),
     Has(bool),
     Size(u64),
@@ -20,7 +21,7 @@ enum What {
     Foreign,
 }
 
-const ANSWERS: [What; 15] = [
+const ANSWERS: [What; 17] = [
     What::Total(0),
     What::Total(5),
     What::Total(-5),
@@ -36,11 +37,21 @@ const ANSWERS: [What; 15] = [
     What::Items(&[0]),
     What::Items(&[1, 7, 18446744073709551615]),
     What::Foreign,
+    What::Reached(true),
+    What::Reached(false),
 ];
 
-const TEXT: &[u8] = b"lattice 1
-replicas 1 commits 0 cap 1
-1 total 0
+// The lines before those of the steps in each version, of a group with unequal votes.
+const HEADER_1: &[u8] = b"lattice 1
+replicas 3 commits 0 cap 1
+";
+
+const HEADER_2: &[u8] = b"lattice 2
+replicas 3 commits 0 cap 1
+votes 3 1 1000
+";
+
+const STEPS: &[u8] = b"1 total 0
 2 total 5
 3 total -5
 4 total 9223372036854775807
@@ -55,7 +66,9 @@ replicas 1 commits 0 cap 1
 13 items [0]
 14 items [1 7 18446744073709551615]
 15 foreign
-16 refused NoSuchObject
+16 reached yes
+17 reached no
+18 refused NoSuchObject
 ";
 
 fn items_of(alloc: Global, want: &[u64]) -> Result<Items, AllocError> {
@@ -69,6 +82,7 @@ fn items_of(alloc: Global, want: &[u64]) -> Result<Items, AllocError> {
 fn answer_of(alloc: Global, what: &What) -> Result<Answer, AllocError> {
     Ok(match what {
         What::Total(total) => Answer::Total(*total),
+        What::Reached(reached) => Answer::Reached(*reached),
         What::Largest(value) => Answer::Largest(*value),
         What::Has(has) => Answer::Has(*has),
         What::Size(size) => Answer::Size(*size),
@@ -102,12 +116,15 @@ fn steps(alloc: Global) -> Result<Steps, AllocError>
 fn report(alloc: Global) -> Result<Report, AllocError>
     ensures { IfOk result IsPrintableReport }
 {
+    let Ok(votes) = Votes::new(&[3, 1, 1000]) else {
+        return Err(AllocError);
+    };
     Ok(Report {
         config: Config {
-            replicas: 1,
+            replicas: 3,
             commits: 0,
             cap: 1,
-            votes: Votes::one_each(1),
+            votes,
         },
         steps: steps(alloc)?,
         learnt: Learnings::new(alloc),
@@ -116,24 +133,31 @@ fn report(alloc: Global) -> Result<Report, AllocError>
     })
 }
 
-fn printed(alloc: Global) -> Result<Text, AllocError> {
+fn printed(alloc: Global, version: Version) -> Result<Text, AllocError> {
     let report = report(alloc)?;
-    print(alloc, &report)
+    print(alloc, version, &report)
+}
+
+// Whether the text of the report in a version is this header and the steps.
+fn prints(alloc: Global, version: Version, header: &[u8]) -> bool {
+    let text = match printed(alloc, version) {
+        Ok(text) => Ok(text),
+        Err(_) => printed(alloc, version),
+    };
+    text.is_ok_and(|text| is_text(text, header))
 }
 
 #[test]
 fn answers_are_printed(rt: HostRuntime) {
-    let text = match printed(rt.alloc()) {
-        Ok(text) => Ok(text),
-        Err(_) => printed(rt.alloc()),
-    };
-    assert!(rt; text.is_ok_and(is_text));
+    assert!(rt; prints(rt.alloc(), Version::One, HEADER_1));
+    assert!(rt; prints(rt.alloc(), Version::Two, HEADER_2));
 }
 
 // The text goes into a string and back.
-fn is_text(text: Text) -> bool {
+fn is_text(text: Text, header: &[u8]) -> bool {
     let text = Text::from(String::from(text));
-    text.bytes() == TEXT
+    let bytes = text.bytes();
+    bytes.starts_with(header) && &bytes[header.len()..] == STEPS
 }
 
 // Events go into a list and back.

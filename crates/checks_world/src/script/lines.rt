@@ -1,6 +1,7 @@
 // Each form at both ends of each of its ranges, against values written by hand.
 use la_object::Query;
-use la_script::{Events, ReadError, Script, read};
+use la_proposer::Votes;
+use la_script::{Events, ReadError, Script, Version, read};
 use la_set::{Op, Tags, UpdateId};
 use la_world::Event;
 use std::alloc::Global;
@@ -93,6 +94,23 @@ const EVENTS: [Want; 29] = [
     Ask(255, 65535, Query::Items),
 ];
 
+const SCRIPT_2: &[u8] = b"lattice 2
+replicas 8 commits 16 cap 1
+votes 1 1000 2 3 4 5 6 7
+
+ask 0 0 atleast 0
+ask 255 65535 atleast 18446744073709551615
+ask 1 2 total
+";
+
+const EVENTS_2: [Want; 3] = [
+    Ask(0, 0, Query::AtLeast(0)),
+    Ask(255, 65535, Query::AtLeast(18446744073709551615)),
+    Ask(1, 2, Query::Total),
+];
+
+const VOTES_2: [u16; 8] = [1, 1000, 2, 3, 4, 5, 6, 7];
+
 // The script, read again where memory was refused. The bytes are few.
 fn read_again(alloc: Global, bytes: &[u8]) -> Result<Script, ReadError> {
     if bytes.len() > 1_000_000 {
@@ -171,11 +189,30 @@ pub fn are_events(events: &Events, want: &[Want]) -> bool {
     events.len() == want.len()
 }
 
+// Whether the group's votes are these.
+fn are_votes(votes: Votes, want: &[u16]) -> bool {
+    for (replica, want) in want.iter().enumerate() {
+        if votes.of(replica as u8) != Some(*want) {
+            return false;
+        }
+    }
+    votes.len() == want.len()
+}
+
+// Whether the bytes are a script of this version with these votes and events.
+fn says(alloc: Global, bytes: &[u8], version: Version, votes: &[u16], want: &[Want]) -> bool {
+    match read_again(alloc, bytes) {
+        Ok(script) => {
+            script.version == version
+                && are_votes(script.config.votes, votes)
+                && are_events(&script.events, want)
+        }
+        Err(_) => false,
+    }
+}
+
 #[test]
 fn each_form_is_read_at_both_ends_of_its_ranges(rt: HostRuntime) {
-    let is = match read_again(rt.alloc(), SCRIPT) {
-        Ok(script) => are_events(&script.events, &EVENTS),
-        Err(_) => false,
-    };
-    assert!(rt; is);
+    assert!(rt; says(rt.alloc(), SCRIPT, Version::One, &[1; 8], &EVENTS));
+    assert!(rt; says(rt.alloc(), SCRIPT_2, Version::Two, &VOTES_2, &EVENTS_2));
 }
