@@ -12,7 +12,8 @@ use Rattle.la_script.specs.declared.error.ScriptFault.{ScriptFault}
 use Rattle.la_script.specs.declared.script.Script.{Script}
 use Rattle.la_script.specs.Scripts.{Said, said_by}
 use Rattle.la_script.specs.Values.{HeaderGroup}
-use Rattle.la_script.specs.Text.{lines_text, views_text, decisions_text}
+use Rattle.la_script.specs.Headers.{version_line}
+use Rattle.la_script.specs.Text.{votes_text, lines_text, views_text, decisions_text}
 use Rattle.la_program.specs.Play.{answer, Says, Answers}
 
 -- the group of a script's header, with these kinds of objects
@@ -23,7 +24,7 @@ group_with h kinds = record { votes = h.votes; commits = h.commits; cap = h.cap;
 abbrev text_for : List ShelfState → ℕ → Said → List ℕ
 text_for shelves n said =
     let g = group_with said.group (kinds_of (take n shelves)) in
-    codes "lattice 1\n" ++ (codes "replicas " ++ decimal n ++ codes " commits " ++ decimal said.group.commits ++ codes " cap " ++ decimal said.group.cap ++ codes "\n")
+    (version_line said.version ++ codes "\n" ++ (codes "replicas " ++ decimal n ++ codes " commits " ++ decimal said.group.commits ++ codes " cap " ++ decimal said.group.cap ++ codes "\n") ++ votes_text said.version said.group.votes)
     ++ lines_text 1 (lines g (map event_of said.events)) ++ views_text 0 (views g (trace_of g (map event_of said.events)))
     ++ decisions_text (decisions g (trace_of g (map event_of said.events)))
 

@@ -8,6 +8,8 @@ use Rattle.la_world.specs.declared.report.Report.{Report}
 use Rattle.la_world.specs.Events.{event_of}
 use Rattle.la_world.specs.Report.{report}
 use Rattle.la_world.specs.StandsFor.{kinds_of}
+use Rattle.la_script.specs.declared.script.Version.{Version}
+use Rattle.la_script.specs.declared.script.Version.TheVariants.{One}
 use Rattle.la_script.specs.RandomEvents.{random_events}
 use Rattle.la_script.specs.Text.{text_of}
 use Rattle.la_program.specs.Faults.{of_input}
@@ -20,15 +22,15 @@ use Rattle.la_program.specs.declared.streams.InputFault.TheVariants as input
 use Rattle.la_program.specs.declared.streams.TheConstants.{LIMIT}
 
 -- the text of the report of a run with the shelves of its group
-pub text_of_run : (c : Config) (events : List Event) (shelves used : List ShelfState) (made : Report) (text : List ℕ) → used ≡ shelves_of c shelves
-    → made ≡ report c (kinds_of used) (map event_of events) → text ≡ text_of made → text ≡ text_by c events shelves
-text_of_run c events shelves used made text u m t = t ∙ ap text_of (m ∙ ap (λ (s : List ShelfState). report c (kinds_of s) (map event_of events)) u)
+pub text_of_run : (version : Version) (c : Config) (events : List Event) (shelves used : List ShelfState) (made : Report) (text : List ℕ) → used ≡ shelves_of c shelves
+    → made ≡ report c (kinds_of used) (map event_of events) → text ≡ text_of version made → text ≡ text_by version c events shelves
+text_of_run version c events shelves used made text u m t = t ∙ ap (text_of version) (m ∙ ap (λ (s : List ShelfState). report c (kinds_of s) (map event_of events)) u)
 
 -- the same of events that were drawn
 pub draw_is_answered : (shelves : List ShelfState) (seed replicas count : ℕ) (c : Config) (events : List Event) (text : List ℕ) → IsRandomGroup replicas c
-    → events ≡ random_events seed replicas count → text ≡ text_by c events shelves → AnswersDraw shelves seed replicas count text
+    → events ≡ random_events seed replicas count → text ≡ text_by One c events shelves → AnswersDraw shelves seed replicas count text
 draw_is_answered shelves seed replicas count c events text group drawn is =
-    record { config = c; group = group; is_text = is ∙ ap (λ (es : List Event). text_by c es shelves) drawn }
+    record { config = c; group = group; is_text = is ∙ ap (λ (es : List Event). text_by One c es shelves) drawn }
 
 -- ## Refusals
 

@@ -12,6 +12,8 @@ use Rattle.la_world.specs.Report.{report}
 use Rattle.la_world.specs.StandsFor.{kinds_of}
 use Rattle.la_script.specs.declared.error.ScriptFault.{ScriptFault}
 use Rattle.la_script.specs.declared.script.Script.{Script}
+use Rattle.la_script.specs.declared.script.Version.{Version}
+use Rattle.la_script.specs.declared.script.Version.TheVariants.{One}
 use Rattle.la_script.specs.RandomEvents.{random_events}
 use Rattle.la_script.specs.Scripts.{script_of, said_by}
 use Rattle.la_script.specs.Text.{text_of}
@@ -31,16 +33,16 @@ pub record FitAnyGroup (shelves : List ShelfState) : Type 0 where
 abbrev pub shelves_of : Config → List ShelfState → List ShelfState
 shelves_of c shelves = take c.replicas shelves
 
--- the text of the report of events in a group with these shelves
-abbrev pub text_by : Config → List Event → List ShelfState → List ℕ
-text_by c events shelves =
-    text_of (report c (kinds_of (shelves_of c shelves)) (map event_of events))
+-- the text that the report of events in a group with these shelves has in a version
+abbrev pub text_by : Version → Config → List Event → List ShelfState → List ℕ
+text_by version c events shelves =
+    text_of version (report c (kinds_of (shelves_of c shelves)) (map event_of events))
 
 -- ## A script
 
--- the text of the report of a script
+-- the text of the report of a script, in its version
 abbrev pub answer : Script → List ShelfState → List ℕ
-answer s shelves = text_by s.config s.events shelves
+answer s shelves = text_by s.version s.config s.events shelves
 
 -- the bytes are a script, which is this
 pub record Says (input : List ℕ) (s : Script) : Type 0 where
@@ -72,12 +74,12 @@ pub record IsRandomGroup (n : ℕ) (c : Config) : Type 0 where
   pub commits : c.commits ≡ 1
   pub cap : c.cap ≡ 1000000
 
--- the text is that of the report of the events that a seed draws
+-- the text is that of the report, in version 1, of the events that a seed draws
 pub record AnswersDraw
     (shelves : List ShelfState) (seed replicas events : ℕ) (text : List ℕ) : Type 0 where
   pub config : Config
   pub group : IsRandomGroup replicas config
-  pub is_text : text ≡ text_by config (random_events seed replicas events) shelves
+  pub is_text : text ≡ text_by One config (random_events seed replicas events) shelves
 
 -- ## From a reader to a writer, by the bytes that were left and that were written, before and after
 

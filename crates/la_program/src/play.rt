@@ -12,7 +12,7 @@ use crate::PlayFault;
 use crate::streams::{LIMIT, read_all, write_pieces};
 use la_object::{Replicated, Shelf};
 use la_proposer::{MAX_CAP, Votes};
-use la_script::{Pieces, pieces_of, random_events, read};
+use la_script::{Pieces, Version, pieces_of, random_events, read};
 use la_set::REPLICAS;
 use la_world::{Config, Event, WorldError, are_unused, run};
 use std::alloc::{AllocError, Global};
@@ -26,22 +26,23 @@ pub fn fit_any_group<B: Replicated>(shelves: &[Shelf<B>]) -> bool
     shelves.len() == REPLICAS as usize && are_unused(shelves)
 }
 
-// The text of the report of these events, played with as many of the shelves as the group has
-// replicas. The other shelves are dropped.
+// The text that the report of these events has in a version, played with as many of the shelves as
+// the group has replicas. The other shelves are dropped.
 fn text_of<B: Replicated>(
     alloc: Global,
+    version: Version,
     config: Config,
     events: &[Event],
     shelves: Vec<Shelf<B>>,
 ) -> Result<Pieces, AllocError>
     requires config { IsConfig config }
     requires shelves { FitAnyGroup shelves.items }
-    ensures { IfOk result (λ pieces. joined pieces ≡ text_by config events.now shelves.items) }
+    ensures { IfOk result (λ pieces. joined pieces ≡ text_by version config events.now shelves.items) }
 {
     let mut used = shelves;
     used.truncate(config.replicas as usize);
     match run(alloc, config, used, events) {
-        Ok(report) => pieces_of(alloc, &report),
+        Ok(report) => pieces_of(alloc, version, &report),
         Err(WorldError::Memory) => Err(AllocError),
         // The group can be played, and its shelves fit: then only memory is refused, by the clause
         // `error` of `run`.
@@ -49,8 +50,8 @@ fn text_of<B: Replicated>(
     }
 }
 
-/// The text of the report of the script that the bytes are, in pieces, played with the first of
-/// these shelves: there are to be eight, none of which has absorbed anything.
+/// The text of the report of the script that the bytes are, in its version and in pieces, played
+/// with the first of these shelves: there are to be eight, none of which has absorbed anything.
 ///
 /// `Script` comes exactly where they are no script, and names the first fault; `Memory` may come at
 /// any bytes; no other refusal comes. The cost is that of reading the bytes, of playing the events,
@@ -68,7 +69,8 @@ pub fn answer_to<B: Replicated>(
     ensures error { IfErr result (IsAnswerRefusal input.now) }
 {
     let script = read(alloc, input)?;
-    let pieces = text_of(alloc, script.config, script.events.all(), shelves)?;
+    let events = script.events.all();
+    let pieces = text_of(alloc, script.version, script.config, events, shelves)?;
     Ok(pieces)
 }
 
@@ -85,7 +87,7 @@ fn write_out<W: Write>(writer: &mut W, text: &Pieces) -> Result<(), PlayFault>
 }
 
 /// Reads a script, plays it with the first of these shelves, one for each replica, and writes the
-/// text of its report.
+/// text of its report in its version.
 ///
 /// All that the reader has left is read, at most [`LIMIT`] bytes, then the pieces of the report's
 /// text are made, with all memory that it takes, and only then anything is written. The faults come
@@ -133,7 +135,7 @@ fn random_group(replicas: u8) -> Config
 
 /// Draws so many events from a seed, plays them in a group of so many replicas, from 1 to 8, with
 /// one adopt-commit object, a cap of 1,000,000 and the first of these shelves, and writes the text
-/// of the report.
+/// of the report in version 1.
 ///
 /// `BadConfig` comes exactly where there are not eight shelves or one of them has absorbed
 /// something; `WriteFault` while the text is written, and then its first bytes were written;
@@ -157,6 +159,12 @@ pub fn play_random<W: Write, B: Replicated>(
         return Err(PlayFault::BadConfig);
     }
     let events = random_events(alloc, u64::from(seed), replicas, count)?;
-    let text = text_of(alloc, random_group(replicas), events.all(), shelves)?;
+    let text = text_of(
+        alloc,
+        Version::One,
+        random_group(replicas),
+        events.all(),
+        shelves,
+    )?;
     write_out(writer, &text)
 }

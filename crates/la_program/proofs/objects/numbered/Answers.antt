@@ -1,4 +1,4 @@
-use Rattle.std.proofs.Common.{rules, ◌≡◌, [], ◌∷◌, ◌++◌, ◌∙◌, ap}
+use Rattle.std.proofs.Common.{rules, ◌≡◌, [], ◌∷◌, ◌∙◌, ap}
 use Rattle.la_program.specs.Shelves.{states_of}
 use Rattle.la_program.proofs.objects.numbered.Goals as goal
 

@@ -1,4 +1,4 @@
-use Rattle.std.proofs.Common.{◌≡◌, map, string_bytes, List, inr, refl, subst}
+use Rattle.std.proofs.Common.{map, string_bytes, List, inr, refl, subst}
 use Rattle.la_object.specs.Shelves.{ShelfState}
 use Rattle.la_program.specs.Program.{Ends, standard}
 use Rattle.la_program.proofs.objects.run_with.Goals as goal

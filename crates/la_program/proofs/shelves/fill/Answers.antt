@@ -1,6 +1,5 @@
-use Rattle.std.proofs.Common.{rules, ◌≡◌, ◌⊎◌, length, map, All, sym, ap, ◌∙◌, subst, arith, inl, inr}
-use Rattle.la_object.specs.declared.error.ShelfError.TheVariants.{Memory}
-use Rattle.la_program.specs.Shelves.{all_states_of, shelf_of, CanStand, HasUnfit, IsFillRefusal}
+use Rattle.std.proofs.Common.{rules, length, map, All, sym, ap, ◌∙◌, subst, arith, inl, inr}
+use Rattle.la_program.specs.Shelves.{all_states_of, shelf_of, CanStand, IsFillRefusal}
 use Rattle.la_program.proofs.Standing.{none_shelved, one_shelved, all_shelved, has_unfit, is_fill_refusal}
 use Rattle.la_program.proofs.shelves.fill.Goals as goal
 

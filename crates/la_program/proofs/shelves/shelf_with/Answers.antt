@@ -1,4 +1,4 @@
-use Rattle.std.proofs.Common.{rules, ◌≡◌, ◌⊎◌, length, refl, sym, ap, ◌∙◌, subst, arith, inr}
+use Rattle.std.proofs.Common.{rules, ◌≡◌, ◌⊎◌, length, sym, ap, ◌∙◌, subst, arith, inr}
 use Rattle.la_object.specs.declared.error.ShelfError.TheVariants.{Memory}
 use Rattle.la_program.specs.Shelves.{states_of, shelf_of, CanStand, IsUnfit}
 use Rattle.la_program.proofs.Standing.{nothing_put, one_put, all_put, is_unfit}
