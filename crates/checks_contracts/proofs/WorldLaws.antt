@@ -3,7 +3,7 @@ use Rattle.std.proofs.Common.{◌≡◌, ℕ, ◌+◌, ◌<◌, ◌≤◌, List,
 use Rattle.std.specs.Prelude.{reverse, Result, Ok, Err, IfOk, OnOk}
 use Rattle.std.proofs.lemmas.Option.{same_Some}
 use Rattle.la_set.specs.Histories.{Histories, history}
-use Rattle.la_set.specs.Inclusion.{IsSubset}
+use Rattle.la_set.specs.Inclusion.{IsSubset, AreComparable}
 use Rattle.la_object.specs.declared.kind.Kind.{Kind}
 use Rattle.la_object.specs.declared.query.Query.{Query}
 use Rattle.la_object.specs.declared.query.Answer.{Answer}
@@ -25,7 +25,7 @@ use Rattle.la_world.specs.Submissions.{submitted, taken}
 use Rattle.la_world.specs.Playing.{trace}
 use Rattle.la_world.specs.Report.{report, refused, runs, lines, trace_of}
 use Rattle.la_world.specs.Promises.{KeepsPromises, AreAllComparable, IsLearntAt, PlacesCountAccepted}
-use Rattle.la_world.specs.Laws.{AreComparable, LearntAreComparable, AcknowledgementsHavePlaces, LearntHoldWhatWasTaken, NumbersNameBallots, BallotsGrow, LearntGrow, SecondProposalsAreRefused, ProposalsAreTestedInOrder, LimitsAre, ReportedAnswersAreValues, IsAnswered, view_at_place}
+use Rattle.la_world.specs.Laws.{LearntAreComparable, AcknowledgementsHavePlaces, LearntHoldWhatWasTaken, NumbersNameBallots, BallotsGrow, LearntGrow, SecondProposalsAreRefused, ProposalsAreTestedInOrder, LimitsAre, ReportedAnswersAreValues, IsAnswered, view_at_place}
 
 -- ## Of a run
 

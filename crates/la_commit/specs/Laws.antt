@@ -2,15 +2,11 @@
 -- in one agreement are comparable. src/laws.rt has a law for each of these statements.
 use Rattle.std.specs.Prelude.{◌≡◌, ℕ, ◌⊎◌, ◌<◌, true, length, All, Any, Contains, IsTrue}
 use Rattle.la_set.specs.Histories.{Histories}
-use Rattle.la_set.specs.Inclusion.{IsSubset}
+use Rattle.la_set.specs.Inclusion.{IsSubset, AreComparable}
 use Rattle.la_commit.specs.declared.vote.Vote.{Vote}
 use Rattle.la_commit.specs.declared.outcome.Outcome.TheVariants.{Commit}
 use Rattle.la_commit.specs.Votes.{votes, sole_votes, is_sole, HoldsVote}
 use Rattle.la_commit.specs.Outcomes.{outcome, value_of}
-
--- one of the two contains the other
-abbrev pub AreComparable : Histories → Histories → Type 0
-AreComparable a b = IsSubset a b ⊎ IsSubset b a
 
 -- a vote of the set has this value
 abbrev pub HasVoteFor : Histories → (value : ℕ) → Type 0

@@ -32,7 +32,7 @@ abbrev text_of_said : List ShelfState → Said → List ℕ
 text_of_said shelves said = text_for shelves (length said.group.votes) said
 
 of_said : (shelves : List ShelfState) (s : Script) → IsConfig s.config → answer s shelves ≡ text_of_said shelves (said_by s)
-of_said shelves s is = ap (λ n. text_for shelves n (said_by s)) is.replicas
+of_said shelves s is = ap (λ n. text_for shelves n (said_by s)) is.group.replicas
 
 abbrev ok_or : Said → Result Said ScriptFault → Said
 ok_or otherwise (Ok said) = said

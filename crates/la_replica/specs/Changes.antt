@@ -3,6 +3,7 @@
 use Rattle.std.specs.Prelude.{◌≡◌, ℕ, ◌==◌, Bool, false, slice_get, Option, Some, None, option_map, if◌then◌else◌}
 use Rattle.la_set.specs.ObjectOps.{ObjectOp}
 use Rattle.la_set.specs.Histories.{Histories}
+use Rattle.la_set.specs.Inclusion.{is_larger}
 use Rattle.la_acceptor.specs.Answer.{accepted_next}
 use Rattle.la_acceptor.specs.declared.reply.Reply.TheVariants as replied
 use Rattle.la_proposer.specs.declared.change.Change as proposer_change
@@ -14,7 +15,6 @@ use Rattle.la_proposer.specs.Refusals.{IsVerdictOf}
 use Rattle.la_replica.specs.declared.change.Change.{Change}
 use Rattle.la_replica.specs.declared.instance.Instance.{Instance}
 use Rattle.la_replica.specs.Whole.{Message, Body, Offer, Yes, No, Tell, Out}
-use Rattle.la_replica.specs.Views.{is_larger}
 use Rattle.la_replica.specs.Steps.{Step, step_of}
 use Rattle.la_replica.specs.ReplicaState.{ReplicaState, InInstance, with_instance, submits}
 

@@ -20,13 +20,11 @@ use crate::instance::Instance;
 use crate::sender::Sender;
 use crate::view::{is_taken, is_taken_fitting};
 use crate::{Change, Message, Out, ReplicaError};
+use la_commit::MAX_COMMITS;
 use la_proposer::{Verdict, Votes};
 use la_set::{Op, UpdateSet};
 use std::alloc::{AllocError, Global};
 use std::marker::Model;
-
-/// The most adopt-commit objects that a group may have, with two instances each.
-pub const MAX_COMMITS: u8 = 16;
 
 /// One replica of a group: in each instance an acceptor, a proposer and what it learnt last; and
 /// the view. Instance 0 carries the objects' updates, and adopt-commit object k, from 0, uses the

@@ -1,11 +1,11 @@
 -- Comparable sets, and the larger of two.
-use Rattle.std.proofs.Common.{◌≡◌, Bool, true, false, not, ◌&&◌, cond, ap, sym, ◌∙◌, inl, inr}
+use Rattle.std.proofs.Common.{◌≡◌, Bool, true, false, not, ◌&&◌, cond, refl, ap, subst, sym, ◌∙◌, inl, inr}
 use Rattle.std.specs.Bool.{Decides}
 use Rattle.std.proofs.lemmas.Bool.{both_ways, and_parts, and_from, not_from_false, not-true, false_from_ne_true}
 use Rattle.la_set.specs.Histories.{Histories}
 use Rattle.la_set.specs.Inclusion.{IsSubset, is_subset, AreComparable, is_larger, larger_of}
 use Rattle.la_set.specs.Join.{HasNoMore, IsCompatible}
-use Rattle.la_set.proofs.Inclusions.{subset-count, subset-counts, compatible-subset, compatible-superset}
+use Rattle.la_set.proofs.Inclusions.{subset-refl, subset-count, subset-counts, compatible-subset, compatible-superset}
 use Rattle.la_set.proofs.Decisions.{is_subset-Decides, is_subset-from}
 
 module _ (a b : Histories) where
@@ -45,3 +45,18 @@ module _ (a b : Histories) where
 
   pub larger-second : AreComparable a b → is_subset b a ≡ false → b ≡ larger_of a b
   larger-second comparable less = sym (ap (λ t. cond t b a) (is_larger-Decides.1 (second_grows comparable less, λ back. both_ways _ less ((is_subset-Decides b a).1 back))))
+
+  -- it contains the first, and of comparable sets both
+  pub larger_grows : IsSubset a (larger_of a b)
+  larger_grows = go (is_larger a b) refl
+    where
+      go : (t : Bool) → is_larger a b ≡ t → IsSubset a (cond t b a)
+      go true e = (is_larger-Decides.0 e).0
+      go false e = subset-refl a
+
+  pub larger_has : AreComparable a b → IsSubset b (larger_of a b)
+  larger_has comparable = go (is_subset b a) refl
+    where
+      go : (t : Bool) → is_subset b a ≡ t → IsSubset b (larger_of a b)
+      go true has = subst (IsSubset b) (larger-first has) ((is_subset-Decides b a).0 has)
+      go false less = subst (IsSubset b) (larger-second comparable less) (subset-refl b)

@@ -13,8 +13,9 @@ use Rattle.la_commit.specs.Outcomes.{are_all_sole, outcome_by, outcome, value_of
 use Rattle.la_commit.specs.Laws.{HasVoteFor}
 use Rattle.la_commit.proofs.Casting.{own_vote-votes, sole_votes-vote}
 use Rattle.la_commit.proofs.Agreeing.{sole_values-agree, outcomes-agree, unanimous-commit}
+use Rattle.la_commit.specs.Instances.{first_instance, second_instance}
 use Rattle.la_world.specs.declared.step.Learnt.{Learnt}
-use Rattle.la_world.specs.Groups.{Group, replicas, first_instance, second_instance}
+use Rattle.la_world.specs.Groups.{Group, replicas}
 use Rattle.la_world.specs.Events.{Event, Decide}
 use Rattle.la_world.specs.Learnings.{learnt}
 use Rattle.la_world.specs.Playing.{trace}

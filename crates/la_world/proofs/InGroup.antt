@@ -11,8 +11,9 @@ use Rattle.la_set.specs.Inclusion.{IsSubset}
 use Rattle.la_replica.specs.Whole.{Message}
 use Rattle.la_replica.specs.Messages.{group, offer_to}
 use Rattle.la_commit.specs.Votes.{proposed}
+use Rattle.la_commit.specs.Instances.{first_instance, second_instance, is_first_instance, commit_of}
 use Rattle.la_world.specs.declared.step.Opening.{Opening}
-use Rattle.la_world.specs.Groups.{Group, replicas, instances, first_instance, second_instance, is_first_instance, commit_of}
+use Rattle.la_world.specs.Groups.{Group, replicas, instances}
 use Rattle.la_world.specs.Events.{Event, Submit, Deliver, Decide, Ask}
 use Rattle.la_world.specs.Trace.{Did, Entry, Trace}
 use Rattle.la_world.specs.Sent.{sender_for, ballot_of, offers_for, offers_for_next, tells_for, sent_by, sent}

@@ -10,15 +10,15 @@ use Rattle.la_set.specs.Inclusion.{IsSubset}
 use Rattle.la_set.proofs.SetHistories.{history_past}
 use Rattle.la_set.proofs.Inclusions.{object_op-contains}
 use Rattle.la_commit.specs.declared.vote.Vote.{Vote}
-use Rattle.la_commit.specs.Votes.{vote_of, votes, first_vote_for, second_vote_for}
+use Rattle.la_commit.specs.Votes.{vote_of, votes, first_vote_for, second_vote_for, casts}
 use Rattle.la_commit.proofs.Casting.{votes-cast}
+use Rattle.la_commit.specs.Instances.{first_instance, second_instance}
 use Rattle.la_world.specs.declared.step.Opening.{Opening}
 use Rattle.la_world.specs.declared.step.Learnt.{Learnt}
-use Rattle.la_world.specs.Groups.{Group, replicas, first_instance, second_instance}
+use Rattle.la_world.specs.Groups.{Group, replicas}
 use Rattle.la_world.specs.Events.{Event, Decide}
 use Rattle.la_world.specs.Trace.{Trace}
 use Rattle.la_world.specs.Ballots.{ballots}
-use Rattle.la_world.specs.Votes.{casts}
 use Rattle.la_world.specs.Submissions.{submitted, whole}
 use Rattle.la_world.specs.Learnings.{learnt}
 use Rattle.la_world.specs.Playing.{trace}

@@ -13,8 +13,9 @@ use Rattle.la_set.specs.Inclusion.{IsSubset}
 use Rattle.la_set.proofs.Prefixes.{IsPrefix, IsPrefix-antisym}
 use Rattle.la_proposer.proofs.LeastIds.{some-get}
 use Rattle.la_commit.specs.Votes.{vote_of, proposal}
+use Rattle.la_commit.specs.Instances.{first_instance, second_instance, is_first_instance, commit_of}
 use Rattle.la_world.specs.declared.step.Opening.{Opening}
-use Rattle.la_world.specs.Groups.{Group, first_instance, second_instance, is_first_instance, commit_of, cap_of}
+use Rattle.la_world.specs.Groups.{Group, cap_of}
 use Rattle.la_world.specs.Events.{Event, Submit, Deliver, Decide, Ask}
 use Rattle.la_world.specs.Trace.{Did, Opened, Held, Answered, Counted, Ignored, Refined, Learnt, Took, Kept, Replied, Entry, Trace}
 use Rattle.la_world.specs.Ballots.{opened_by, learnt_by, only, round, is_open}

@@ -4,7 +4,8 @@ use Rattle.std.proofs.Math.Nat.{div-add-mod}
 use Rattle.std.proofs.lemmas.Option.{none-some}
 use Rattle.la_set.specs.Histories.{Histories}
 use Rattle.la_commit.specs.declared.vote.Vote.{Vote}
-use Rattle.la_commit.specs.Votes.{proposed, second_vote_for}
+use Rattle.la_commit.specs.Votes.{proposed, second_vote_for, casts}
+use Rattle.la_commit.specs.Instances.{is_first_instance, commit_of, second_instance}
 use Rattle.la_replica.specs.declared.change.Change.{Change}
 use Rattle.la_replica.specs.declared.out.Said.{Said}
 use Rattle.la_replica.specs.Whole.{Message, Out}
@@ -14,8 +15,7 @@ use Rattle.la_replica.specs.Steps.{learnt_in}
 use Rattle.la_replica.specs.Refusals.{HasRoom, SubmittingSpares}
 use Rattle.la_replica.specs.ReplicaState as acting
 use Rattle.la_replica.specs.ReplicaState.{ReplicaState, with_instance}
-use Rattle.la_world.specs.Groups.{is_first_instance, commit_of, second_instance}
-use Rattle.la_world.specs.Votes.{Submission, casts, vote_in, second_vote_of, second_vote_in}
+use Rattle.la_world.specs.Votes.{Submission, vote_in, second_vote_of, second_vote_in}
 use Rattle.la_world.specs.Following.{vote_due, with_vote, then_votes, takes, VoteFits}
 
 -- a vote as it is submitted in the second instance

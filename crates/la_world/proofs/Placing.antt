@@ -3,7 +3,7 @@ use Rattle.std.proofs.Common.{◌≡◌, ℕ, ◌==◌, Bool, true, false, cond,
 use Rattle.std.proofs.lemmas.Option.{same_Some, none-some}
 use Rattle.la_set.specs.ObjectOps.{ObjectOp}
 use Rattle.la_set.specs.Histories.{Histories}
-use Rattle.la_set.specs.Inclusion.{is_subset}
+use Rattle.la_set.specs.Inclusion.{is_subset, is_larger}
 use Rattle.la_set.specs.Join.{join}
 use Rattle.la_acceptor.specs.declared.reply.Reply.{Reply}
 use Rattle.la_acceptor.specs.declared.reply.Reply.TheVariants as replied
@@ -12,7 +12,6 @@ use Rattle.la_proposer.specs.declared.tally.Verdict.{Verdict}
 use Rattle.la_proposer.specs.declared.tally.Verdict.TheVariants.{Waits, Refines, Learns}
 use Rattle.la_proposer.specs.Tally.{verdict}
 use Rattle.la_replica.specs.Whole.{Message, Body, Offer, Yes, No, Tell}
-use Rattle.la_replica.specs.Views.{is_larger}
 use Rattle.la_world.specs.declared.step.Opening.{Opening}
 use Rattle.la_world.specs.Groups.{Group}
 use Rattle.la_world.specs.Trace.{Did, Ignored, Took, Kept, Replied, Trace}

@@ -5,7 +5,7 @@ use Rattle.std.proofs.lemmas.List.{reverse-reverse}
 use Rattle.std.specs.Prelude.{nat_lt}
 use Rattle.la_set.specs.declared.update.Op.TheVariants.{Remove}
 use Rattle.la_set.specs.Histories.{get}
-use Rattle.la_set.specs.Inclusion.{IsSubset}
+use Rattle.la_set.specs.Inclusion.{IsSubset, AreComparable}
 use Rattle.la_world.specs.declared.step.Step.{Step}
 use Rattle.la_replica.specs.Messages.{group}
 use Rattle.la_world.specs.Groups.{Group, group_of, replicas}
@@ -16,7 +16,7 @@ use Rattle.la_world.specs.Learnings.{learnt}
 use Rattle.la_world.specs.Report.{lines, trace_of, views, accepted_among}
 use Rattle.la_world.specs.StandsFor.{World, group_in, StandsFor}
 use Rattle.la_world.specs.Calls.{Plays, views_of, view_of}
-use Rattle.la_world.specs.Laws.{IsLargest, AreComparable, next_id}
+use Rattle.la_world.specs.Laws.{IsLargest, next_id}
 use Rattle.la_world.specs.Promises.{KeepsPromises, accepted_in, NoViewShrinks}
 use Rattle.la_world.proofs.Chains.{learnt_comparable}
 use Rattle.la_world.proofs.Validity.{learnt_valid}

@@ -4,12 +4,14 @@ use Rattle.std.specs.Prelude.{nat_le}
 use Rattle.std.proofs.lemmas.Bool.{cond-true, cond-false, le-leb, lt-leb}
 use Rattle.std.proofs.lemmas.List.{length_push}
 use Rattle.la_set.proofs.Prefixes.{IsPrefix-length}
+use Rattle.la_commit.specs.Instances.{first_instance}
+use Rattle.la_commit.specs.Votes.{first_vote}
 use Rattle.la_world.specs.declared.error.Refusal.{Refusal}
 use Rattle.la_world.specs.declared.error.Refusal.TheVariants.{NoSuchReplica, NoSuchCommit, AlreadyProposed}
-use Rattle.la_world.specs.Groups.{Group, replicas, first_instance}
+use Rattle.la_world.specs.Groups.{Group, replicas}
 use Rattle.la_world.specs.Events.{Event, Decide}
 use Rattle.la_world.specs.Trace.{Trace}
-use Rattle.la_world.specs.Votes.{Submission, first_vote}
+use Rattle.la_world.specs.Votes.{Submission}
 use Rattle.la_world.specs.Submissions.{submitted}
 use Rattle.la_world.specs.Playing.{entry, trace}
 use Rattle.la_world.specs.Report.{refused}
@@ -79,6 +81,6 @@ second_refused g events more r k value other e =
 
 pub limits_are : LimitsAre
 limits_are c = (
-  λ h. record { replicas = h.replicas; some = h.some; few = h.few; commits = h.commits; cap_some = h.cap_some; cap_most = h.cap_most },
-  λ h. record { replicas = h.replicas; some = h.some; few = h.few; commits = h.commits; cap_some = h.cap_some; cap_most = h.cap_most },
+  λ h. record { replicas = h.group.replicas; some = h.group.some; few = h.group.few; commits = h.commits; cap_some = h.group.cap_some; cap_most = h.group.cap_most },
+  λ h. record { group = record { replicas = h.replicas; some = h.some; few = h.few; cap_some = h.cap_some; cap_most = h.cap_most }; commits = h.commits },
 )

@@ -96,11 +96,11 @@ module _ (w : World) (events : List Event) (stands : StandsFor w events) where
   t = trace g events
 
   pub no_replica : (r : ℕ) → length w.shelves ≤ r → replicas g ≤ r
-  no_replica r le = let a = stands.shelves in let b = stands.config.replicas in omega arith
+  no_replica r le = let a = stands.shelves in let b = stands.config.group.replicas in omega arith
 
   module _ (r : ℕ) (s : ShelfState) (found : slice_get w.shelves r ≡ Some s) where
     pub is_replica : r < replicas g
-    is_replica = let lt = slice_get_within w.shelves r s found in let a = stands.shelves in let b = stands.config.replicas in omega arith
+    is_replica = let lt = slice_get_within w.shelves r s found in let a = stands.shelves in let b = stands.config.group.replicas in omega arith
 
     pub shelf_kinds : s.objects ≡ kinds_on g r
     shelf_kinds = sym (ap (λ (o : Option (List (ℕ × Kind))). unwrap_or o []) (slice_get-map (λ (z : ShelfState). z.objects) w.shelves r ∙ ap (option_map (λ (z : ShelfState). z.objects)) found))
@@ -174,7 +174,7 @@ pub replica_known : (w : World) → HoldsInvariant w → (r : ℕ) → r < lengt
 replica_known w h r lt = ∥∥₁_elim h.reached (hlevel (ℕ_set, le_prop)) (λ p.
     let same = replicas_are w p.0 p.1 in
     let a = p.1.shelves in
-    let b = p.1.config.replicas in
+    let b = p.1.config.group.replicas in
     omega arith)
 
 -- the replica r is this one, and this is its shelf

@@ -4,13 +4,15 @@ use Rattle.std.specs.Prelude.{filter_map, flat_map}
 use Rattle.std.specs.List.{range_with_len, cons_option}
 use Rattle.std.proofs.lemmas.Bool.{ltb-true, cond-true, cond-false}
 use Rattle.la_commit.specs.declared.outcome.Outcome.{Outcome}
+use Rattle.la_commit.specs.Instances.{second_instance}
+use Rattle.la_commit.specs.Outcomes.{outcome_of}
 use Rattle.la_replica.specs.Messages.{group}
 use Rattle.la_replica.specs.ReplicaState.{ReplicaState, learnt_of}
 use Rattle.la_world.specs.declared.report.Decision.{Decision}
-use Rattle.la_world.specs.Groups.{Group, replicas, second_instance}
+use Rattle.la_world.specs.Groups.{Group, replicas}
 use Rattle.la_world.specs.Events.{Event}
 use Rattle.la_world.specs.Trace.{Trace}
-use Rattle.la_world.specs.Outcomes.{outcome_of, decision_of, returned, decisions_on, decisions}
+use Rattle.la_world.specs.Outcomes.{decision_of, returned, decisions_on, decisions}
 use Rattle.la_world.specs.Playing.{trace}
 use Rattle.la_world.specs.ReplicaStates.{instance_of, replica_state}
 use Rattle.la_world.specs.StandsFor.{World, group_in, StandsFor}

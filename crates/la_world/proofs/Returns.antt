@@ -6,17 +6,18 @@ use Rattle.la_set.specs.Histories.{Histories}
 use Rattle.la_commit.specs.declared.outcome.Outcome.{Outcome}
 use Rattle.la_commit.specs.declared.vote.Vote.{Vote}
 use Rattle.la_commit.specs.Votes.{own_vote, HoldsVote}
-use Rattle.la_commit.specs.Outcomes.{outcome}
+use Rattle.la_commit.specs.Outcomes.{outcome, outcome_of}
 use Rattle.la_commit.proofs.Listed.{filter_map-contains}
+use Rattle.la_commit.specs.Instances.{second_instance}
 use Rattle.la_replica.specs.Messages.{group}
 use Rattle.la_world.specs.declared.report.Decision.{Decision}
 use Rattle.la_world.specs.declared.step.Learnt.{Learnt}
 use Rattle.la_world.specs.declared.step.Opening.{Opening}
-use Rattle.la_world.specs.Groups.{Group, replicas, second_instance}
+use Rattle.la_world.specs.Groups.{Group, replicas}
 use Rattle.la_world.specs.Trace.{Trace}
 use Rattle.la_world.specs.Ballots.{only, learnt_by}
 use Rattle.la_world.specs.Learnings.{learning, learnt, newest_set, last_learnt}
-use Rattle.la_world.specs.Outcomes.{outcome_of, returned, decision_of, decisions_on, decisions}
+use Rattle.la_world.specs.Outcomes.{returned, decision_of, decisions_on, decisions}
 use Rattle.std.specs.List.{range_with_len}
 use Rattle.la_world.proofs.Lists.{IsIn, IsIn_contains, contains_IsIn}
 use Rattle.la_world.proofs.Openings.{only_is}

@@ -7,18 +7,18 @@ use Rattle.std.proofs.lemmas.Option.{none-some}
 use Rattle.std.specs.List.{cons_option}
 use Rattle.la_set.specs.ObjectOps.{ObjectOp}
 use Rattle.la_set.specs.Histories.{Histories, count}
-use Rattle.la_set.specs.Inclusion.{IsSubset}
+use Rattle.la_set.specs.Inclusion.{IsSubset, is_larger}
 use Rattle.la_acceptor.specs.declared.reply.Reply.{Reply}
 use Rattle.la_acceptor.specs.declared.reply.Reply.TheVariants as replied
 use Rattle.la_proposer.specs.declared.tally.Counted.{Counted}
 use Rattle.la_proposer.specs.declared.tally.Verdict.{Verdict}
 use Rattle.la_proposer.specs.declared.tally.Verdict.TheVariants.{Waits, Refines, Learns}
 use Rattle.la_proposer.specs.Tally.{verdict}
+use Rattle.la_commit.specs.Instances.{first_instance, second_instance, is_first_instance, commit_of}
 use Rattle.la_replica.specs.Whole.{Message, Body, Offer, Yes, No, Tell}
 use Rattle.la_replica.specs.Messages.{body_of}
-use Rattle.la_replica.specs.Views.{is_larger}
 use Rattle.la_world.specs.declared.step.Opening.{Opening}
-use Rattle.la_world.specs.Groups.{Group, instances, first_instance, second_instance, is_first_instance, commit_of}
+use Rattle.la_world.specs.Groups.{Group, instances}
 use Rattle.la_world.specs.Events.{Event}
 use Rattle.la_world.specs.Trace.{Did, Ignored, Took, Kept, Learnt, Entry, Trace}
 use Rattle.la_world.specs.Ballots.{opened_by, learnt_by, only, ballots, round, is_open}

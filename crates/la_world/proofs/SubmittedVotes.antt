@@ -8,14 +8,15 @@ use Rattle.la_set.specs.ObjectOps.{ObjectOp}
 use Rattle.la_set.specs.Histories.{Histories}
 use Rattle.la_set.proofs.Filters.{Contains-first, Contains-later}
 use Rattle.la_commit.specs.declared.vote.Vote.{Vote}
-use Rattle.la_commit.specs.Votes.{HoldsVote, own_vote, proposal, proposed, first_vote_for, second_vote_for}
+use Rattle.la_commit.specs.Votes.{HoldsVote, own_vote, proposal, proposed, first_vote_for, second_vote_for, casts, first_vote}
+use Rattle.la_commit.specs.Instances.{first_instance, second_instance, is_first_instance, commit_of}
 use Rattle.la_world.specs.declared.step.Learnt.{Learnt}
 use Rattle.la_world.specs.declared.step.Opening.{Opening}
-use Rattle.la_world.specs.Groups.{Group, first_instance, second_instance, is_first_instance, commit_of}
+use Rattle.la_world.specs.Groups.{Group}
 use Rattle.la_world.specs.Events.{Event, Submit, Deliver, Decide, Ask}
 use Rattle.la_world.specs.Trace.{Entry, Trace}
 use Rattle.la_world.specs.Ballots.{learnt_by}
-use Rattle.la_world.specs.Votes.{Submission, casts, first_vote, second_vote_of, second_vote}
+use Rattle.la_world.specs.Votes.{Submission, second_vote_of, second_vote}
 use Rattle.la_world.specs.Submissions.{submitted}
 use Rattle.la_world.specs.Learnings.{learning, learning_of, learnt}
 use Rattle.la_world.specs.Playing.{entry, trace}

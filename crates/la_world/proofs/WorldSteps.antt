@@ -7,9 +7,9 @@ use Rattle.la_set.specs.Inclusion.{IsSubset}
 use Rattle.la_set.proofs.Inclusions.{subset-trans}
 use Rattle.la_object.specs.declared.kind.Kind.{Kind}
 use Rattle.la_object.specs.Shelves.{ShelfState}
+use Rattle.la_commit.specs.declared.instance.TheConstants.{MAX_COMMITS}
 use Rattle.la_replica.specs.declared.message.Message as code
 use Rattle.la_replica.specs.Whole.{Out, whole_of, CarryAll}
-use Rattle.la_replica.specs.declared.replica.TheConstants.{MAX_COMMITS}
 use Rattle.la_replica.specs.Messages.{group}
 use Rattle.la_replica.specs.Steps.{learnt_in}
 use Rattle.la_replica.specs.ReplicaState as acting
@@ -49,7 +49,7 @@ use Rattle.la_world.proofs.StoredMessages.{messages_more, message_at}
 use Rattle.la_world.proofs.Shown.{SpeaksOf, shown_is, learnt_number, length_trace}
 
 pub few_of : (c : Config) (kinds : List (List (ℕ × Kind))) → IsConfig c → replicas (group_of c kinds) ≤ 8
-few_of c kinds is = let a = is.replicas in let b = is.few in omega arith
+few_of c kinds is = let a = is.group.replicas in let b = is.group.few in omega arith
 
 -- ## The start
 
@@ -146,7 +146,7 @@ module _ (w : World) (events : List Event) (stands : StandsFor w events) where
 
   -- a speaker of this world that speaks of an event
   shown_so : (by : Speaker) (d : Did) → by.replicas ≡ w.config.replicas → SpeaksOf by d → shown_by by w.count (said_by d) (voted_by d) ≡ shown_as (replicas g) (length t) d
-  shown_so by d n h = shown_is by w.count d h ∙ ap₂ (λ k place. shown_as k place d) (n ∙ stands.config.replicas) count_is
+  shown_so by d n h = shown_is by w.count d h ∙ ap₂ (λ k place. shown_as k place d) (n ∙ stands.config.group.replicas) count_is
 
   submits_learns : (i r : ℕ) (object_op : ObjectOp) → learnt_by (submits t i r object_op) ≡ None
   unfolding submits
@@ -247,7 +247,7 @@ module _ (w : World) (events : List Event) (stands : StandsFor w events) where
 
   -- a kept message fits its receiver
   pub message_fits : (k : ℕ) (m : code.Message) → slice_get w.messages k ≡ Some m → FitsReceiver (replica_state g t m.to) (whole_of m)
-  message_fits k m stored = (delivery_fits g events k (whole_of m) few stands.config.cap_most stands.legal (get_message k m stored)).0
+  message_fits k m stored = (delivery_fits g events k (whole_of m) few stands.config.group.cap_most stands.legal (get_message k m stored)).0
 
   -- and is of an instance of the group
   pub message_instance : (k : ℕ) (m : code.Message) → slice_get w.messages k ≡ Some m → m.instance ≤ 2 * MAX_COMMITS
@@ -258,4 +258,4 @@ module _ (w : World) (events : List Event) (stands : StandsFor w events) where
 
   -- where its receiver votes by it, it has not voted yet
   pub vote_room : (k : ℕ) (m : code.Message) → slice_get w.messages k ≡ Some m → (s : Submission) (made : Out × ReplicaState) → acting.receives (replica_state g t m.to) (whole_of m) ≡ Some made → vote_due m.instance m.to made.0.said ≡ Some s → HasRoom (replica_state g t m.to) s.instance × SubmittingSpares (replica_state g t m.to) s.instance
-  vote_room k m stored s made is due = vote_has_room g events k (whole_of m) s made few stands.config.cap_most stands.legal (get_message k m stored) is due
+  vote_room k m stored s made is due = vote_has_room g events k (whole_of m) s made few stands.config.group.cap_most stands.legal (get_message k m stored) is due

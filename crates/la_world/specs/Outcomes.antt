@@ -4,19 +4,14 @@ use Rattle.std.specs.Prelude.{ℕ, List, filter_map, flat_map, Option, None, opt
 use Rattle.std.specs.List.{range_with_len}
 use Rattle.la_set.specs.Histories.{Histories}
 use Rattle.la_commit.specs.declared.outcome.Outcome.{Outcome}
-use Rattle.la_commit.specs.declared.vote.Vote.{Vote}
-use Rattle.la_commit.specs.Votes.{own_vote}
-use Rattle.la_commit.specs.Outcomes.{outcome}
+use Rattle.la_commit.specs.Outcomes.{outcome_of}
+use Rattle.la_commit.specs.Instances.{second_instance, is_second_instance}
 use Rattle.la_replica.specs.Messages.{group}
 use Rattle.la_world.specs.declared.report.Decision.{Decision}
 use Rattle.la_world.specs.declared.step.Opening.{Opening}
-use Rattle.la_world.specs.Groups.{Group, replicas, second_instance, is_second_instance}
+use Rattle.la_world.specs.Groups.{Group, replicas}
 use Rattle.la_world.specs.Trace.{Trace}
 use Rattle.la_world.specs.Learnings.{last_learnt}
-
--- the outcome of r by a set of a second instance, with the value of its own vote there
-abbrev pub outcome_of : Histories → (replica : ℕ) → Option Outcome
-outcome_of second r = option_map (λ (v : Vote). outcome second v.value) (own_vote second r)
 
 -- the outcome by a set that r learnt in i: where this is a second instance
 abbrev pub outcome_in : (i r : ℕ) → Histories → Option Outcome

@@ -4,8 +4,7 @@ use Rattle.std.specs.Prelude.{◌≡◌, ℕ, ◌+◌, ◌<◌, List, ◌∷◌,
 use Rattle.la_set.specs.declared.update.UpdateId.{UpdateId}
 use Rattle.la_set.specs.declared.update.Op.TheVariants.{Remove}
 use Rattle.la_set.specs.Histories.{Histories, get}
-use Rattle.la_set.specs.Inclusion.{IsSubset}
-use Rattle.la_commit.specs.Laws.{AreComparable}
+use Rattle.la_set.specs.Inclusion.{IsSubset, AreComparable}
 use Rattle.la_world.specs.declared.report.Line.{Line}
 use Rattle.la_world.specs.declared.report.Line.TheVariants.{Done}
 use Rattle.la_world.specs.declared.step.Did.{Did}

@@ -3,73 +3,50 @@
 ghost use Rattle.std.specs.Prelude.{◌≡◌, ◌*◌, ◌<◌, ◌≤◌, ◌+◌, List, ◌++◌, Some, option_and_then};
 ghost use Rattle.std.specs.Prelude.{IfOk, OnErr};
 ghost use Rattle.std.specs.Option.{option_copied};
-ghost use Rattle.la_replica.specs.declared.replica.TheConstants.{MAX_COMMITS};
+ghost use Rattle.la_commit.specs.declared.instance.TheConstants.{MAX_COMMITS};
+ghost use Rattle.la_commit.specs.Instances.{is_first_instance, is_second_instance, commit_of};
+ghost use Rattle.la_commit.specs.Votes.{casts};
+ghost use Rattle.la_commit.specs.Outcomes.{outcome_of};
 ghost use Rattle.la_replica.specs.Whole.{Message as MessageOf, whole_of, whole_mail};
 ghost use Rattle.la_replica.specs.Steps.{learnt_in};
 ghost use Rattle.la_replica.specs.Changes.{LeadsThere};
 ghost use Rattle.la_replica.specs.Refusals.{HasRoom, SubmittingSpares};
 ghost use Rattle.la_replica.specs.Fitting.{FitsReceiver};
-ghost use Rattle.la_world.specs.Groups.{is_first_instance, is_second_instance, commit_of};
-ghost use Rattle.la_world.specs.Votes.{casts, vote_in};
-ghost use Rattle.la_world.specs.Outcomes.{outcome_of, outcome_in};
+ghost use Rattle.la_world.specs.Votes.{vote_in};
+ghost use Rattle.la_world.specs.Outcomes.{outcome_in};
 ghost use Rattle.la_world.specs.Calls.{returned_by};
 ghost use Rattle.la_world.specs.Following.{VoteFits, takes, whole_done};
 
 use crate::done::{Done, Voted};
-use la_commit::{First, Outcome, Second, Vote, own_vote};
+use la_commit::{
+    Outcome, Vote, commit_of, is_first_instance, is_second_instance, outcome_of, second_instance,
+    second_vote,
+};
 use la_replica::{Change, Mail, Message, Out, Replica, ReplicaError, Said};
 use la_set::{Op, UpdateSet};
 use std::alloc::AllocError;
 
-// Whether an instance is the first one of an adopt-commit object.
-pub fn is_first(instance: u8) -> bool
-    ensures { result ≡ is_first_instance instance }
-{
-    instance % 2 == 1
-}
-
-// Whether it is the second one.
-pub fn is_second(instance: u8) -> bool
-    ensures { result ≡ is_second_instance instance }
-{
-    instance % 2 == 0 && instance != 0
-}
-
 // The vote that a replica gives in an object's second instance, where it learns this set in the
 // first one.
-fn second_vote(instance: u8, own: u8, learnt: Option<&UpdateSet>) -> Option<Vote>
+fn vote_in(instance: u8, own: u8, learnt: Option<&UpdateSet>) -> Option<Vote>
     ensures { result ≡ option_and_then (vote_in instance own) (option_copied learnt.entry) }
 {
     let learnt = learnt?;
-    if !is_first(instance) {
+    if !is_first_instance(instance) {
         return None;
     }
-    let vote = own_vote(learnt, own)?;
-    if vote.sole {
-        return None;
-    }
-    let (_, second) = First::resume(own, vote.value).first(learnt).ok()?;
-    Some(second)
+    second_vote(own, learnt)
 }
 
-// What a replica returns by a set that it learnt in an object's second instance.
-pub fn outcome_of_set(own: u8, second: &UpdateSet) -> Option<Outcome>
-    ensures { result ≡ outcome_of second.now own }
-{
-    let vote = own_vote(second, own)?;
-    let (_, outcome) = Second::resume(own, vote).second(second).ok()?;
-    Some(outcome)
-}
-
-// The same, where it learns this set in this instance.
+// What a replica returns, where it learns this set in this instance, if that is a second one.
 pub fn outcome_by(instance: u8, own: u8, learnt: Option<&UpdateSet>) -> Option<Outcome>
     ensures { result ≡ option_and_then (outcome_in instance own) (option_copied learnt.entry) }
 {
     let learnt = learnt?;
-    if !is_second(instance) {
+    if !is_second_instance(instance) {
         return None;
     }
-    outcome_of_set(own, learnt)
+    outcome_of(own, learnt)
 }
 
 // What a replica returned from an object, if it has.
@@ -77,8 +54,8 @@ pub fn returned(replica: &Replica, commit: u8) -> Option<Outcome>
     requires { commit < MAX_COMMITS }
     ensures { result ≡ returned_by commit replica.now }
 {
-    let second = replica.last_learnt(2 * commit + 2)?;
-    outcome_of_set(replica.own(), second)
+    let second = replica.last_learnt(second_instance(commit))?;
+    outcome_of(replica.own(), second)
 }
 
 // Does what a message asks for, which fits its receiver; and where the replica learns a set by it
@@ -99,7 +76,7 @@ pub fn take(
 {
     let (Out { said, mail }, change) = receiver.prepare_fitting(message)?;
     let learnt = learnt_copy(&said)?;
-    let Some(vote) = second_vote(message.instance, receiver.own(), learnt.as_ref()) else {
+    let Some(vote) = vote_in(message.instance, receiver.own(), learnt.as_ref()) else {
         receiver.commit(change);
         let done = Done {
             said,
@@ -146,7 +123,7 @@ fn prepare_vote(
     ensures instance { IfOk result (λ prepared. prepared.0.instance ≡ instance + 1) }
     ensures change { IfOk result (λ prepared. prepared.2.instance ≡ instance + 1) }
 {
-    let (second, commit) = (instance + 1, (instance / 2) as u16);
+    let (second, commit) = (instance + 1, commit_of(instance) as u16);
     let (cast, change) = match replica.prepare_submission(second, commit, Op::from(vote)) {
         Ok(prepared) => prepared,
         Err(refused) => return Err(for_memory(refused)),

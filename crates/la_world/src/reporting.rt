@@ -1,6 +1,6 @@
 // What a report tells of a world's replicas and of what they learnt.
 ghost use Rattle.std.specs.Prelude.{◌≡◌, ◌<◌, ◌++◌, IfOk, OnOk};
-ghost use Rattle.la_replica.specs.declared.replica.TheConstants.{MAX_COMMITS};
+ghost use Rattle.la_commit.specs.declared.instance.TheConstants.{MAX_COMMITS};
 ghost use Rattle.la_world.specs.Calls.{views_of, decisions_at};
 
 use crate::participant::returned;

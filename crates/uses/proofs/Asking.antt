@@ -30,7 +30,7 @@ stands_at (s ∷ ss) (suc r) lt =
 one_kind : (c : Config) (shelves : List ShelfState) → IsGroup c shelves → HaveOneKind shelves → (r q number : ℕ) → r < replicas (group_of c (kinds_of shelves)) → q < replicas (group_of c (kinds_of shelves))
     → kind_at (kinds_on (group_of c (kinds_of shelves)) r) number ≡ kind_at (kinds_on (group_of c (kinds_of shelves)) q) number
 one_kind c shelves h one r q number lr lq =
-    let few = h.config.replicas in
+    let few = h.config.group.replicas in
     let each = h.one_each in
     let a = stands_at shelves r (omega arith) in
     let b = stands_at shelves q (omega arith) in

@@ -5,12 +5,13 @@ use Rattle.std.proofs.lemmas.List.Elements.{All-contains, All-contains_itself}
 use Rattle.std.specs.Prelude.{if◌then◌else◌}
 use Rattle.la_set.specs.Histories.{Histories}
 use Rattle.la_set.proofs.Filters.{filter-contains}
+use Rattle.la_set.specs.Inclusion.{AreComparable}
 use Rattle.la_commit.specs.declared.vote.Vote.{Vote}
 use Rattle.la_commit.specs.declared.outcome.Outcome.{Outcome}
 use Rattle.la_commit.specs.declared.outcome.Outcome.TheVariants.{Commit, Adopt}
 use Rattle.la_commit.specs.Votes.{votes, sole_votes, HoldsVote, first_vote_for, second_vote_for}
 use Rattle.la_commit.specs.Outcomes.{outcome, is_commit, value_of}
-use Rattle.la_commit.specs.Laws.{AreComparable, HasVoteFor, OwnVotesAreVotes, SoleValuesAgree, OutcomesAgree}
+use Rattle.la_commit.specs.Laws.{HasVoteFor, OwnVotesAreVotes, SoleValuesAgree, OutcomesAgree}
 use Rattle.uses.specs.Commits.{AreVotesOf, Follows}
 
 -- of two votes: where both are sole they have one value

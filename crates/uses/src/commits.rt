@@ -29,7 +29,7 @@ pub fn finish(
 }
 
 // ---- more callers
-ghost use Rattle.la_commit.specs.Laws.{AreComparable};
+ghost use Rattle.la_set.specs.Inclusion.{AreComparable};
 ghost use Rattle.uses.specs.Commits.{AreVotesOf, Follows};
 
 use la_commit::laws;

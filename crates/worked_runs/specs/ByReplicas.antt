@@ -4,6 +4,8 @@
 use Rattle.std.specs.Prelude.{◌≡◌, ℕ, List, [], ◌∷◌, ◌++◌, map, reverse, fold, take, slice_get, slice_set, Option, Some, None}
 use Rattle.la_set.specs.ObjectOps.{ObjectOp}
 use Rattle.la_set.specs.Histories.{Histories}
+use Rattle.la_commit.specs.Instances.{first_instance}
+use Rattle.la_commit.specs.Votes.{first_vote}
 use Rattle.la_replica.specs.Whole.{Message, Out}
 use Rattle.la_replica.specs.declared.out.Said.{Said}
 use Rattle.la_replica.specs.declared.out.Said.TheVariants.{Learnt}
@@ -11,10 +13,10 @@ use Rattle.la_replica.specs.ReplicaState.{ReplicaState, start}
 use Rattle.la_replica.specs.ReplicaState as replica
 use Rattle.la_replica.specs.Messages.{group}
 use Rattle.la_world.specs.declared.step.Opening.{Opening}
-use Rattle.la_world.specs.Groups.{Group, replicas, first_instance}
+use Rattle.la_world.specs.Groups.{Group, replicas}
 use Rattle.la_world.specs.Events.{Event, Submit, Deliver, Decide, Ask}
 use Rattle.la_world.specs.Sent.{sent}
-use Rattle.la_world.specs.Votes.{Submission, first_vote, second_vote}
+use Rattle.la_world.specs.Votes.{Submission, second_vote}
 use Rattle.la_world.specs.Playing.{trace}
 use Rattle.la_world.specs.ReplicaStates.{replica_states}
 use Rattle.worked_runs.specs.Words.{no_objects}

@@ -300,7 +300,6 @@ fn a_replica_does_what_its_tables_say(rt: HostRuntime) {
 
 #[test]
 fn laws_hold() {
-    laws::limits();
     laws::caps_at_first();
     laws::caps_stay();
     laws::views_grow();

@@ -7,10 +7,9 @@ ghost use Rattle.la_replica.specs.Changes.{IsPreparedFrom, led};
 ghost use Rattle.la_replica.specs.Fitting.{FitsReceiver};
 
 use la_acceptor::{AcceptorError, Reply};
+use la_commit::{MAX_COMMITS, laws};
 use la_proposer::{Heard, MAX_CAP, ProposerError, Verdict, Votes};
-use la_replica::{
-    Body, Change, MAX_COMMITS, Mail, Message, Out, Replica, ReplicaError, Said, laws,
-};
+use la_replica::{Body, Change, Mail, Message, Out, Replica, ReplicaError, Said};
 use la_set::{Op, UpdateSet};
 use smallvec::SmallVec;
 use std::alloc::{AllocError, Global};

@@ -2,6 +2,7 @@
 ghost use Rattle.std.specs.Prelude.{◌≡◌, ◌≢◌, ℕ, ◌≤◌, ◌<◌, ◌∷◌, slice_get, Some, None};
 ghost use Rattle.la_set.specs.declared.update.UpdateId.{UpdateId};
 ghost use Rattle.la_set.specs.ObjectOps.{ObjectOp};
+ghost use Rattle.la_set.specs.Inclusion.{AreComparable};
 ghost use Rattle.la_proposer.specs.declared.proposer.TheConstants.{MAX_CAP};
 ghost use Rattle.la_replica.specs.Whole.{Message};
 ghost use Rattle.la_replica.specs.declared.error.ReplicaError.TheVariants.{BallotsSpent, Clash};
@@ -15,7 +16,7 @@ ghost use Rattle.la_world.specs.Outcomes.{decisions};
 ghost use Rattle.la_world.specs.Report.{refused};
 ghost use Rattle.la_world.specs.ReplicaStates.{replica_state};
 ghost use Rattle.la_world.specs.StandsFor.{IsLegal};
-ghost use Rattle.la_world.specs.Laws.{AreComparable, ReturnsAreProposed};
+ghost use Rattle.la_world.specs.Laws.{ReturnsAreProposed};
 
 use la_world::laws;
 

@@ -3,7 +3,7 @@
 ghost use Rattle.std.specs.Prelude.{◌≡◌, ◌+◌, ◌<◌, ◌≤◌, ◌^◌, [], ◌∷◌, ◌++◌, OnOk};
 ghost use Rattle.std.specs.Prelude.{ℕ, List, drop, map, slice_get, Some, Contains, IfOk};
 ghost use Rattle.la_set.specs.Histories.{Histories, history};
-ghost use Rattle.la_set.specs.Inclusion.{IsSubset};
+ghost use Rattle.la_set.specs.Inclusion.{IsSubset, AreComparable};
 ghost use Rattle.la_replica.specs.Whole.{Message, Yes};
 ghost use Rattle.la_world.specs.declared.config.Config.{Config};
 ghost use Rattle.la_world.specs.declared.error.Refusal.TheVariants.{AlreadyProposed};
@@ -24,7 +24,7 @@ ghost use Rattle.la_world.specs.Views.{seen, view};
 ghost use Rattle.la_world.specs.Playing.{trace};
 ghost use Rattle.la_world.specs.Report.{refused, trace_of};
 ghost use Rattle.la_world.specs.Report.{lines};
-ghost use Rattle.la_world.specs.Laws.{AreComparable, IsAnswered, view_at_place};
+ghost use Rattle.la_world.specs.Laws.{IsAnswered, view_at_place};
 
 use la_object::{Replicated, Shelf};
 use la_world::{Config, Event, Report, Step, World, WorldError, laws, run};

@@ -3,7 +3,7 @@ ghost use Rattle.std.specs.Prelude.{◌≡◌, ℕ, ◌+◌, ◌<◌, ◌^◌, l
 ghost use Rattle.std.specs.Prelude.{OnErr};
 ghost use Rattle.la_set.specs.ObjectOps.{ObjectOp};
 ghost use Rattle.la_proposer.specs.ProposerState.{op_on};
-ghost use Rattle.la_replica.specs.declared.replica.TheConstants.{MAX_COMMITS};
+ghost use Rattle.la_commit.specs.declared.instance.TheConstants.{MAX_COMMITS};
 ghost use Rattle.la_world.specs.Events.{Event as EventOf, Past, Submit, Decide, submission_of};
 ghost use Rattle.la_world.specs.Printable.{IsPrintable};
 ghost use Rattle.la_world.specs.StandsFor.{StandsFor, refused_in};
@@ -13,7 +13,7 @@ use super::World;
 use crate::done::Done;
 use crate::speaker::Speaker;
 use crate::{Step, WorldError};
-use la_commit::Fresh;
+use la_commit::{Fresh, first_instance};
 use la_object::Replicated;
 use la_replica::Replica;
 use la_set::Op;
@@ -63,7 +63,7 @@ impl<B: Replicated> World<B> {
     {
         self.admit_proposal(replica, commit)?;
         let (_, vote) = Fresh::new(replica).propose(value);
-        let first = 2 * commit + 1;
+        let first = first_instance(commit);
         Ok(self.take_submission(first, replica, commit as u16, Op::from(vote))?)
     }
 
@@ -85,7 +85,7 @@ impl<B: Replicated> World<B> {
         if commit >= self.config.commits {
             return Err(WorldError::NoSuchCommit);
         }
-        if submitted_among(&self.replicas, 2 * commit + 1, replica) != Some(0) {
+        if submitted_among(&self.replicas, first_instance(commit), replica) != Some(0) {
             return Err(WorldError::AlreadyProposed);
         }
         Ok(())

@@ -1,4 +1,4 @@
-use Rattle.std.proofs.Common.{◌+◌, ◌/◌, ap, subst, ◌∙◌}
+use Rattle.std.proofs.Common.{◌+◌, ap, subst₂, ◌∙◌}
 use Rattle.std.proofs.lemmas.List.{map-append}
 use Rattle.la_replica.specs.Whole.{whole_of, whole_mail, whole_out}
 use Rattle.la_replica.specs.Changes.{LeadsThere}
@@ -9,5 +9,5 @@ returns-clause-leads c =
     let cast = c.in-Ok.prepared.0 in (
       whole_mail cast.mail,
       ap whole_mail c.in_ok-append.ensures.ok ∙ map-append whole_of c.args.mail cast.mail,
-      subst (λ op. LeadsThere c.args.replica.now (c.args.instance + 1) (record { object = c.args.instance / 2; op = op }) (whole_out cast) c.in-Ok.prepared.1) c.from.ensures c.in-Ok.ensures.leads,
+      subst₂ (λ k op. LeadsThere c.args.replica.now (c.args.instance + 1) (record { object = k; op = op }) (whole_out cast) c.in-Ok.prepared.1) c.commit_of.ensures c.from.ensures c.in-Ok.ensures.leads,
     )
