@@ -6,3 +6,4 @@ pub mod Carried
 pub mod ReplicaAnswers
 pub mod SameWorlds
 pub mod WorldLaws
+pub mod ProgramAnswers

@@ -7,6 +7,7 @@ mod acceptor;
 mod commit;
 mod object;
 mod orset;
+mod program;
 mod proposer;
 mod replica;
 mod script;

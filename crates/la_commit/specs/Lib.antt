@@ -1,4 +1,5 @@
 pub mod Votes
 pub mod Outcomes
 pub mod Stages
+pub mod Instances
 pub mod Laws

@@ -2,11 +2,12 @@
 -- it has learnt a set there, it votes in a second one, and says whether all votes of that set have
 -- its value. In each agreement its vote is its first update; updates that are no votes are passed
 -- over.
-use Rattle.std.specs.Prelude.{◌≡◌, ℕ, ◌==◌, Bool, false, List, filter, filter_map, Option, Some, None, option_and_then, if◌then◌else◌}
+use Rattle.std.specs.Prelude.{◌≡◌, ℕ, ◌==◌, Bool, false, List, filter, filter_map, Option, Some, None, option_map, option_and_then, if◌then◌else◌}
 use Rattle.std.specs.List.{list_all}
 use Rattle.la_set.specs.declared.update.Op.{Op}
 use Rattle.la_set.specs.declared.update.Op.TheVariants as op
 use Rattle.la_set.specs.declared.update.Update.{Update}
+use Rattle.la_set.specs.ObjectOps.{ObjectOp}
 use Rattle.la_set.specs.Histories.{Histories, get, updates}
 use Rattle.la_commit.specs.declared.vote.Vote.{Vote}
 
@@ -59,3 +60,18 @@ first_vote_for value = record { value = value; sole = false }
 -- and in the second one, where this set was learnt in the first
 abbrev pub second_vote_for : (first : Histories) → (value : ℕ) → Vote
 second_vote_for first value = record { value = value; sole = is_sole first value }
+
+-- the second vote of a participant that learnt this set in the first agreement, by its own vote
+-- there
+abbrev pub second_vote : (first : Histories) → (participant : ℕ) → Option Vote
+second_vote first p = option_map (second_vote_for first) (proposed first p)
+
+-- ## As updates
+
+-- what casts a vote on an adopt-commit object: under this object's number
+abbrev pub casts : (commit : ℕ) → Vote → ObjectOp
+casts k v = record { object = k; op = op_of v }
+
+-- the vote of a proposal
+abbrev pub first_vote : (commit value : ℕ) → ObjectOp
+first_vote k value = casts k (first_vote_for value)

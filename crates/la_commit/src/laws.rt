@@ -1,8 +1,16 @@
 // What holds of votes and outcomes where any two sets that are learnt in one agreement are
 // comparable: laws over the definitions, which no code runs.
+ghost use Rattle.std.specs.Prelude.{◌≡◌};
 ghost use Rattle.la_commit.specs.Laws.{OwnVotesAreVotes, VotesStay};
 ghost use Rattle.la_commit.specs.Laws.{SoleValuesAgree, OutcomesAgree};
 ghost use Rattle.la_commit.specs.Laws.{UnanimousCommit, OutcomesAreVoted};
+
+use crate::MAX_COMMITS;
+
+/// The limit as a number.
+pub fn limits()
+    ensures { MAX_COMMITS ≡ 16 }
+{}
 
 /// The vote that a participant's first update casts is one of the set's votes.
 pub fn own_votes_are_votes()

@@ -8,6 +8,7 @@
 #![tactic(auto)]
 
 mod error;
+mod instance;
 pub mod laws;
 mod learnt;
 mod outcome;
@@ -15,7 +16,10 @@ mod participant;
 mod vote;
 
 pub use error::NotMine;
+pub use instance::{
+    MAX_COMMITS, commit_of, first_instance, is_first_instance, is_second_instance, second_instance,
+};
 pub use learnt::own_vote;
 pub use outcome::Outcome;
-pub use participant::{Done, First, Fresh, Second};
+pub use participant::{Done, First, Fresh, Second, outcome_of, second_vote};
 pub use vote::Vote;

@@ -1,6 +1,6 @@
 ghost use Rattle.std.specs.Prelude.{◌≡◌, ◌↔◌, IsOk, IfOk, IfErr};
-ghost use Rattle.la_commit.specs.Votes.{first_vote_for, second_vote_for, HoldsVote};
-ghost use Rattle.la_commit.specs.Outcomes.{outcome};
+ghost use Rattle.la_commit.specs.Votes.{first_vote_for, second_vote_for, second_vote, HoldsVote};
+ghost use Rattle.la_commit.specs.Outcomes.{outcome, outcome_of};
 
 use crate::learnt::{all_have, all_sole, first_sole, own_vote};
 use crate::{NotMine, Outcome, Vote};
@@ -172,4 +172,28 @@ impl Done {
     {
         self.reached
     }
+}
+
+/// The vote to which a set of the first agreement leads, without a state that was kept: the
+/// participant's own vote there tells its value. `None` where the set lacks that vote, or where it
+/// is a sole one, which nobody casts there. The cost is linear in the set's length.
+pub fn second_vote(participant: u8, learnt: &UpdateSet) -> Option<Vote>
+    ensures { result ≡ second_vote learnt.now participant }
+{
+    let vote = own_vote(learnt, participant)?;
+    if vote.sole {
+        return None;
+    }
+    let (_, second) = First::resume(participant, vote.value).first(learnt).ok()?;
+    Some(second)
+}
+
+/// The outcome to which a set of the second agreement leads, in the same way. `None` where the set
+/// lacks the participant's vote. The cost is linear in the set's length.
+pub fn outcome_of(participant: u8, learnt: &UpdateSet) -> Option<Outcome>
+    ensures { result ≡ outcome_of learnt.now participant }
+{
+    let vote = own_vote(learnt, participant)?;
+    let (_, outcome) = Second::resume(participant, vote).second(learnt).ok()?;
+    Some(outcome)
 }

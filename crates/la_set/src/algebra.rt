@@ -4,6 +4,7 @@ ghost use Rattle.std.specs.Prelude.{ℕ, length, List, take, reverse, slice_get,
 ghost use Rattle.std.specs.Prelude.{IfOk, IfErr, OnOk, OnErr, MatchOption};
 ghost use Rattle.la_set.specs.Histories.{updates};
 ghost use Rattle.la_set.specs.Inclusion.{IsSubset, is_subset, IsOrderOf};
+ghost use Rattle.la_set.specs.Inclusion.{AreComparable, is_larger, larger_of};
 ghost use Rattle.la_set.specs.Join.{HasNoMore, IsCompatible, IsLeastClash, join, joined};
 ghost use Rattle.la_set.specs.Difference.{beyond, unmatched};
 ghost use Rattle.la_set.specs.declared.set.TheConstants.{MAX_NUMBER};
@@ -61,6 +62,36 @@ impl UpdateSet {
         ensures { result ≡ is_subset other.now self.now }
     {
         other.has_no_more(self)
+    }
+
+    /// Whether this set contains the other and has more, at the cost of
+    /// [`UpdateSet::contains_all`].
+    pub fn is_larger(&self, other: &UpdateSet) -> bool
+        ensures { result ≡ is_larger other.now self.now }
+    {
+        self.contains_all(other) && !self.has_no_more(other)
+    }
+
+    /// The same where no id has two updates in the two: by the counts alone, at constant cost.
+    pub fn is_larger_compatible(&self, other: &UpdateSet) -> bool
+        requires { IsCompatible self.now other.now }
+        ensures { result ≡ is_larger other.now self.now }
+    {
+        other.has_no_more(self) && !self.has_no_more(other)
+    }
+
+    /// Becomes the other set where that is larger, and else stays; of two of which one contains the
+    /// other it then is the larger. It goes by the counts alone, takes no memory, and the set that
+    /// is not kept is dropped: the cost is constant but for that.
+    pub fn take_larger(&mut self, other: UpdateSet)
+        requires { AreComparable self.old other }
+        ensures larger { self.new ≡ larger_of self.old other }
+        ensures grows { IsSubset self.old self.new }
+        ensures has { IsSubset other self.new }
+    {
+        if !self.contains_compatible(&other) {
+            *self = other;
+        }
     }
 
     /// Adds what the other set has. `Clash` comes exactly where an id has two different updates,

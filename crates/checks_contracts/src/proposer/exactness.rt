@@ -48,6 +48,15 @@ fn total_is_exact(votes: &Votes) -> (u32, u32)
     (votes.total(), votes.total())
 }
 
+fn is_group_of_is_exact(votes: &Votes, replicas: u8, cap: u32) -> (bool, bool)
+    ensures { IsTrue result.0 ↔ IsTrue result.1 }
+{
+    (
+        votes.is_group_of(replicas, cap),
+        votes.is_group_of(replicas, cap),
+    )
+}
+
 fn ballot_copies_are_one(ballot: &Ballot) -> Result<(Ballot, Ballot), AllocError>
     ensures { IfOk result (λ both. both.0 ≡ both.1) }
 {

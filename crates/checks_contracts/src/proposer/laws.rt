@@ -1,18 +1,20 @@
 // The laws and the clauses on memory and limits, each by what follows from it. To call a law is a
 // hint to the prover, and no work: its contract is what it hands on.
-ghost use Rattle.std.specs.Prelude.{◌≡◌, ◌<◌, ◌≤◌, []};
-ghost use Rattle.std.specs.Prelude.{ℕ, Bool, true, false, List, length, replicate, IsTrue, IsOk};
+ghost use Rattle.std.specs.Prelude.{◌≡◌, ◌<◌, ◌≤◌, [], ◌∷◌, ◌++◌};
+ghost use Rattle.std.specs.Prelude.{ℕ, Bool, true, false, List, Option, length, replicate, IsTrue, IsOk};
 ghost use Rattle.std.specs.Prelude.{IfOk, OnOk};
 ghost use Rattle.la_set.specs.ObjectOps.{ObjectOp};
 ghost use Rattle.la_set.specs.Inclusion.{IsSubset};
 ghost use Rattle.la_proposer.specs.declared.tally.Verdict.TheVariants.{Refines};
-ghost use Rattle.la_proposer.specs.Majority.{is_majority, how_many};
-ghost use Rattle.la_proposer.specs.Tally.{verdict};
-ghost use Rattle.la_set.specs.Histories.{empty};
-ghost use Rattle.la_proposer.specs.Inputs.{Input, after_inputs};
+ghost use Rattle.la_proposer.specs.declared.ballot.Ballot.{Ballot};
+ghost use Rattle.la_proposer.specs.declared.heard.Heard.TheVariants.{Learnt};
+ghost use Rattle.la_proposer.specs.Majority.{is_majority, how_many, votes_of};
+ghost use Rattle.la_proposer.specs.Tally.{verdict, said_yes, tally_with};
+ghost use Rattle.la_set.specs.Histories.{Histories, empty};
+ghost use Rattle.la_proposer.specs.Inputs.{Input, after_inputs, all_submitted};
 ghost use Rattle.la_proposer.specs.Firsts.{CountsFirsts};
 ghost use Rattle.la_proposer.specs.ProposerState.{ProposerState, start, submitted};
-ghost use Rattle.la_proposer.specs.ProposerState.{after_submission, counts, with_reply};
+ghost use Rattle.la_proposer.specs.ProposerState.{after_submission, counts, with_reply, op_on};
 ghost use Rattle.la_proposer.specs.Refusals.{OnlyCounts};
 
 use la_acceptor::Reply;
@@ -84,6 +86,64 @@ fn a_submission_keeps_the_set()
         → p.own < 8 → IsSubset p.updates (after_submission p object_op).updates }
 {
     laws::ballots_grow();
+}
+
+fn a_reply_submits_nothing(
+    proposer: &mut Proposer,
+    from: u8,
+    ballot: u32,
+    reply: Reply,
+) -> Result<Heard, ProposerError>
+    ensures { all_submitted proposer.new ≡ all_submitted proposer.old }
+{
+    laws::replies_submit_nothing();
+    // a hint to the prover: looking at the proposer tells what its state always keeps to
+    let _kept = proposer.status();
+    proposer.reply(from, ballot, reply)
+}
+
+fn a_submission_is_the_last_one(
+    proposer: &mut Proposer,
+    object: u16,
+    op: Op,
+) -> Result<Option<Ballot>, ProposerError>
+    ensures { OnOk result (all_submitted proposer.new
+        ≡ all_submitted proposer.old ++ op_on object op ∷ []) }
+{
+    laws::replies_submit_nothing();
+    laws::limits();
+    // a hint to the prover: looking at the proposer tells what its state always keeps to
+    let _kept = proposer.status();
+    proposer.submit(object, op)
+}
+
+// What is learnt was acknowledged by acceptors with most of the votes, in the ballot that is
+// learnt.
+fn what_is_learnt_was_acknowledged(
+    proposer: &mut Proposer,
+    from: u8,
+    ballot: u32,
+    reply: Reply,
+) -> Result<Heard, ProposerError>
+    ensures open { (learnt : Histories) (next : Option Ballot) → result ≡ Ok (Learnt learnt next)
+        → proposer.old.number ≡ ballot }
+    ensures set { (learnt : Histories) (next : Option Ballot) → result ≡ Ok (Learnt learnt next)
+        → learnt ≡ proposer.old.updates }
+    ensures majority { (learnt : Histories) (next : Option Ballot)
+        → result ≡ Ok (Learnt learnt next)
+        → IsTrue (is_majority proposer.old.votes
+        (said_yes (tally_with proposer.old.tally from reply))) }
+{
+    laws::a_majority_acknowledged_what_is_learnt();
+    proposer.reply(from, ballot, reply)
+}
+
+// A group has as many votes as it is said to have replicas, 8 at most.
+fn a_group_has_its_size(votes: &Votes, replicas: u8, cap: u32) -> bool
+    ensures size { IsTrue result → length (votes_of votes.now) ≡ replicas }
+    ensures most { IsTrue result → (replicas ≤ 8) × (cap ≤ MAX_CAP) }
+{
+    votes.is_group_of(replicas, cap)
 }
 
 fn a_late_reply_changes_nothing(

@@ -2,9 +2,10 @@
 // promises equal answers. Where memory may run out for one call and not for the other, it promises
 // them where both succeed; and where both are refused, one refusal.
 ghost use Rattle.std.specs.Prelude.{◌≡◌, ◌↔◌, IsTrue, IfOk, IfErr, OnOk, OnErr, option_copied};
+ghost use Rattle.la_set.specs.Inclusion.{IsSubset, AreComparable};
 ghost use Rattle.la_set.specs.Join.{IsCompatible};
 
-use la_set::{Op, Sequence, SetError, Tags, Update, UpdateId, UpdateSet, Updates};
+use la_set::{Op, Sequence, SetError, Tags, Update, UpdateId, UpdateSet, Updates, laws};
 use std::alloc::{AllocError, Global};
 use std::cmp::Ordering;
 
@@ -236,6 +237,62 @@ fn counts_tell_inclusion(set: &UpdateSet, other: &UpdateSet) -> (bool, bool)
     ensures { result.0 ≡ result.1 }
 {
     (set.contains_compatible(other), set.contains_all(other))
+}
+
+fn is_larger_is_exact(set: &UpdateSet, other: &UpdateSet) -> (bool, bool)
+    ensures { result.0 ≡ result.1 }
+{
+    (set.is_larger(other), set.is_larger(other))
+}
+
+fn is_larger_compatible_is_exact(set: &UpdateSet, other: &UpdateSet) -> (bool, bool)
+    requires { IsCompatible set.now other.now }
+    ensures { result.0 ≡ result.1 }
+{
+    (
+        set.is_larger_compatible(other),
+        set.is_larger_compatible(other),
+    )
+}
+
+// By the counts alone it is answered what comparing answers.
+fn counts_tell_the_larger(set: &UpdateSet, other: &UpdateSet) -> (bool, bool)
+    requires { IsCompatible set.now other.now }
+    ensures { result.0 ≡ result.1 }
+{
+    (set.is_larger_compatible(other), set.is_larger(other))
+}
+
+// A larger set has what the other has, and something else.
+fn a_larger_set_has_more(set: &UpdateSet, other: &UpdateSet) -> bool
+    ensures { IsTrue result → IsSubset other.now set.now × ¬ IsSubset set.now other.now }
+{
+    laws::tests_decide();
+    set.is_larger(other)
+}
+
+fn take_larger_is_exact(
+    one: &mut UpdateSet,
+    other: &mut UpdateSet,
+    set: UpdateSet,
+    again: UpdateSet,
+)
+    requires views { one.old ≡ other.old }
+    requires sets { set ≡ again }
+    requires comparable { AreComparable one.old set }
+    ensures { one.new ≡ other.new }
+{
+    one.take_larger(set);
+    other.take_larger(again);
+}
+
+// Of two sets of which one contains the other the counts tell which is the larger.
+fn comparable_counts_tell(set: &UpdateSet, other: &UpdateSet) -> (bool, bool)
+    requires { AreComparable set.now other.now }
+    ensures { result.0 ≡ result.1 }
+{
+    laws::comparable_sets_are_compatible();
+    (set.is_larger_compatible(other), set.is_larger(other))
 }
 
 fn same_is_exact(set: &UpdateSet, other: &UpdateSet) -> (bool, bool)

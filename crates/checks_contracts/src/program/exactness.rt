@@ -1,0 +1,63 @@
+// Callers that know the contracts alone, and by them that two calls come to the same.
+ghost use Rattle.std.specs.Prelude.{◌≡◌, ◌<◌, ◌^◌, ◌↔◌, IsTrue, length, IfSome};
+ghost use Rattle.clap.specs.Words.{kind_of};
+ghost use Rattle.clap.specs.declared.error.kind.ErrorKind.TheVariants.{OutOfMemory};
+ghost use Rattle.la_script.specs.Pieces.{joined};
+ghost use Rattle.la_program.specs.Play.{FitAnyGroup};
+
+use clap::Error;
+use la_object::{Replicated, Shelf};
+use la_program::laws::words_call_for_one_task;
+use la_program::{PlayFault, Task, answer_to, command, fit_any_group, status_of};
+use la_script::Pieces;
+use std::alloc::Global;
+
+fn status_of_is_exact(fault: PlayFault) -> (u8, u8)
+    ensures { result.0 ≡ result.1 }
+{
+    (status_of(fault), status_of(fault))
+}
+
+fn fit_any_group_is_exact<B: Replicated>(shelves: &[Shelf<B>]) -> (bool, bool)
+    ensures { IsTrue result.0 ↔ IsTrue result.1 }
+{
+    (fit_any_group(shelves), fit_any_group(shelves))
+}
+
+// Both answers, where memory was not refused and the bytes are a script: with shelves of the same
+// kinds of objects the text is one.
+#[tactic(auto, using(crate::proofs::ProgramAnswers::one_answer))]
+fn answer_to_is_exact<B: Replicated>(
+    alloc: Global,
+    input: &[u8],
+    shelves: Vec<Shelf<B>>,
+    others: Vec<Shelf<B>>,
+) -> Option<(Pieces, Pieces)>
+    requires short { length input.now < 2 ^ 32 }
+    requires shelves { FitAnyGroup shelves.items }
+    requires others { others.items ≡ shelves.items }
+    ensures { IfSome result (λ texts. joined texts.0 ≡ joined texts.1) }
+{
+    let first = answer_to(alloc, input, shelves).ok()?;
+    let second = answer_to(alloc, input, others).ok()?;
+    Some((first, second))
+}
+
+// Both tasks, where both calls find one.
+fn command_is_exact(alloc: Global, words: &[String]) -> Option<(Task, Task)>
+    ensures { IfSome result (λ tasks. tasks.0 ≡ tasks.1) }
+{
+    let first = command(alloc, words).ok()?;
+    let second = command(alloc, words).ok()?;
+    words_call_for_one_task();
+    Some((first, second))
+}
+
+// The error of a call where another call finds a task: it is want of memory.
+#[tactic(auto, using(crate::proofs::ProgramAnswers::faultless_errors))]
+fn command_fails_by_memory(alloc: Global, words: &[String]) -> Option<Error>
+    ensures { IfSome result (λ error. kind_of error ≡ OutOfMemory) }
+{
+    let _task = command(alloc, words).ok()?;
+    command(alloc, words).err()
+}

@@ -1,0 +1,233 @@
+-- What the matches of a command line say of its task.
+use Rattle.std.proofs.Common.{◌≡◌, ◌∙◌, ℕ, List, Option, Some, None, Result, Ok, sym, subst, true, true≢false, ap, ap₂, refl, unwrap_or, option_map, codes, [], ◌∷◌, ◌⊎◌, Bool, cond, is_some, inl, inr, drop, false, ◌≤◌, ◌<◌, ◌^◌, length, arith}
+use Rattle.std.specs.Str.Parse.{ParsesUnsigned, digits_value, without_leading_plus}
+use Rattle.std.specs.Box.{box_value}
+use Rattle.std.specs.Prelude.{Box}
+use Rattle.clap.specs.declared.parser.matches.ArgMatches.{ArgMatches}
+use Rattle.clap.specs.declared.parser.matches.ArgMatches.TheViews.{out-ArgMatches, out-SubCommand}
+use Rattle.clap.specs.declared.parser.matches.SubCommand.{SubCommand}
+use Rattle.clap.specs.declared.parser.matches.Found.{Found}
+use Rattle.clap.specs.Matches.{ReadsOne}
+use Rattle.clap.specs.Words.{Text, Row, one_text, rows_of, is_simple, is_simple_and_free, subcommand_name_of, subcommand_of, subcommand_rows, subcommand_rows_of, fault_of}
+use Rattle.clap.proofs.OnLiterals.{clap_on_literals}
+use Rattle.clap.proofs.WalkLemmas.{one_text-rows}
+use Rattle.std.specs.Option.{IsSome, option_map_or}
+use Rattle.clap.specs.Lexer.{without_minus}
+use Rattle.clap.proofs.CallerReads.{signed_reads}
+use Rattle.std.specs.List.{slice_index_or}
+use Rattle.clap.specs.Walk.{Rule, nothing_held, rows_after, settled, walk, answers_to, finished, stop_after, walk_from}
+use Rattle.clap.specs.Simple.{App, Shape, built, filled, new_shape, argument_words, new_app, entered, label_of, names_of, rows_at}
+use Rattle.clap.specs.Faults.{check_fault, defaults_fault, entered_fault, level_fault, settle_fault, walk_fault}
+use Rattle.la_program.proofs.Faultless.{AllOne, defaults_there, first_none, level_reads, next_none, some_kinds}
+use Rattle.la_program.specs.Calls.{AreGiven, Calls, IsGiven, IsDraw, AreTaken, IsNamed, IsTaken, Names, lattice, option}
+use Rattle.la_program.specs.declared.call.Task.{Task}
+use Rattle.la_program.specs.declared.call.Task.TheVariants.{Play, Random}
+
+some≢none : {X : Type 0} (x : X) → Some x ≡ None → ⊥
+some≢none x e = true≢false (ap (λ o. Rattle.std.specs.Option.is_some o) e)
+
+some_is : {X : Type 0} (x y : X) → Some x ≡ Some y → x ≡ y
+some_is x y e = ap (λ o. unwrap_or o x) e
+
+-- a number that was read from the text of an option was given by it
+pub read_is_given : (k : ℕ) {E : Type 0} (G : List ℕ → Result ℕ E → Type 0) (f : Found) (name : Text) (r : Option ℕ) (n : ℕ) → r ≡ Some n
+    → (one_text f name ≡ None → r ≡ None) → ((t : List ℕ) → one_text f name ≡ Some t → ReadsOne G t r)
+    → ((u : List ℕ) (x : Result ℕ E) → G u x → ParsesUnsigned {E = E} k 10 u x) → IsGiven (rows_of f) name n
+read_is_given k {E} G f name r n is none value parses = go (one_text f name) refl
+  where
+    go : (o : Option Text) → one_text f name ≡ o → IsGiven (rows_of f) name n
+    go None e = absurd (some≢none n (sym is ∙ none e))
+    go (Some t) e =
+        let read : ReadsOne G t (Some n) = subst (λ (o : Option ℕ). ReadsOne {T = ℕ} {E = E} G t o) is (value t e) in
+        let parsed : ParsesUnsigned {E = E} k 10 t (Ok n) = parses t (Ok n) read in
+        record {
+          text = t;
+          given = sym (one_text-rows f name) ∙ e;
+          numeral = parsed.0.0;
+          value = parsed.1;
+        }
+
+-- where a text stands for a number, the number is read, and is in its range
+number_read : (k : ℕ) {E : Type 0} (G : List ℕ → Result ℕ E → Type 0) (f : Found) (name : Text) (least most : ℕ) (r : Option ℕ)
+    → IsTaken (rows_of f) name least most → most < 2 ^ k → ((t : List ℕ) → one_text f name ≡ Some t → ReadsOne G t r)
+    → ((u : List ℕ) (x : Result ℕ E) → G u x → ParsesUnsigned {E = E} k 10 u x) → (n : ℕ) × (r ≡ Some n) × (least ≤ n) × (n ≤ most)
+number_read k {E} G f name least most r taken fits value parses =
+    signed_reads E G k least most taken.text r (value (without_minus taken.text) (one_text-rows f name ∙ taken.given)) parses fits taken.passed
+
+pub some_number : (k : ℕ) {E : Type 0} (G : List ℕ → Result ℕ E → Type 0) (f : Found) (name : Text) (least most : ℕ) (r : Option ℕ)
+    → IsTaken (rows_of f) name least most → most < 2 ^ k → ((t : List ℕ) → one_text f name ≡ Some t → ReadsOne G t r)
+    → ((u : List ℕ) (x : Result ℕ E) → G u x → ParsesUnsigned {E = E} k 10 u x) → IsSome r
+some_number k {E} G f name least most r taken fits value parses =
+    let read = number_read k {E = E} G f name least most r taken fits value parses in
+    subst (λ (o : Option ℕ). IsSome o) (sym read.1) refl
+
+pub taken_is_given : (k : ℕ) {E : Type 0} (G : List ℕ → Result ℕ E → Type 0) (f : Found) (name : Text) (least most : ℕ) (r : Option ℕ) (n : ℕ)
+    → IsTaken (rows_of f) name least most → most < 2 ^ k → r ≡ Some n
+    → (one_text f name ≡ None → r ≡ None) → ((t : List ℕ) → one_text f name ≡ Some t → ReadsOne G t r)
+    → ((u : List ℕ) (x : Result ℕ E) → G u x → ParsesUnsigned {E = E} k 10 u x) → IsGiven (rows_of f) name n × (least ≤ n) × (n ≤ most)
+taken_is_given k {E} G f name least most r n taken fits is none value parses =
+    let read = number_read k {E = E} G f name least most r taken fits value parses in
+    let same : read.0 ≡ n = some_is _ _ (sym read.1 ∙ is) in
+    (read_is_given k {E = E} G f name r n is none value parses, subst (λ m. least ≤ m) same read.2, subst (λ m. m ≤ most) same read.3)
+
+-- the command with a version, of which a subcommand is wanted, and no subcommand `help` is there
+abbrev pub requires_one : App → App
+requires_one a = record a {
+  top = record a.top {
+    has_version = true;
+    subcommand_required = true;
+    disable_help_subcommand = true;
+  };
+}
+
+-- the program's command before it has subcommands
+abbrev pub lattice_alone : App
+lattice_alone = requires_one (new_app (codes "lattice"))
+
+pub lattice_is_simple : is_simple lattice ≡ true
+unfolding clap_on_literals
+lattice_is_simple = refl
+
+pub lattice_is_free : is_simple_and_free lattice ≡ true
+unfolding clap_on_literals
+lattice_is_free = refl
+
+-- the name and the rows of a subcommand, together
+paired : {Z : Type 0} (o : Option (Box SubCommand Z)) (name : Text) (rows : List Row)
+    → option_map (λ b. (out-SubCommand (box_value b)).name.now) o ≡ Some name → option_map (λ p. p.1) (subcommand_rows o) ≡ Some rows
+    → subcommand_rows o ≡ Some (name, rows)
+paired None name rows e f = absurd (some≢none name (sym e))
+paired (Some b) name rows e f = ap₂ (λ (n : Text) (r : List Row). Some (n, r)) (some_is _ _ e) (some_is _ _ f)
+
+-- what a parse of the words that names a subcommand says of them
+pub names_of_parse : (words : List Text) (m : ArgMatches) (name : Text) (rows : List Row) → subcommand_name_of m ≡ Some name
+    → option_map (λ p. p.1) (subcommand_rows_of m) ≡ Some rows → subcommand_rows_of m ≡ subcommand_of lattice words → Names words name rows
+names_of_parse words m name rows e f is = sym is ∙ paired (out-ArgMatches m).subcommand name rows e f
+
+pub draw_is_named : (words : List Text) (rows : List Row) (task : Task) → Names words (codes "random") rows → IsDraw rows task → IsNamed words task
+draw_is_named words rows Play named draw = absurd draw
+draw_is_named words rows (Random seed replicas events) named draw = (rows, named, draw)
+
+-- ---- each faultless command line names a task
+
+abbrev whole : App
+whole = built lattice
+
+abbrev shape_at : ℕ → Shape
+shape_at i = slice_index_or whole.subs i (new_shape [])
+
+-- an option of a draw, as `clap` completes it
+abbrev filled_option : (name : Text) (least most : ℕ) (otherwise : Text) → Rule
+filled_option name least most otherwise = filled (option name least most otherwise)
+
+abbrev seed_rule : Rule
+seed_rule = filled_option (codes "seed") 0 4294967295 (codes "1")
+
+abbrev replicas_rule : Rule
+replicas_rule = filled_option (codes "replicas") 1 8 (codes "3")
+
+abbrev events_rule : Rule
+events_rule = filled_option (codes "events") 1 10000 (codes "100")
+
+no : {X : Type 0} → false ≡ true → X
+no e = absurd (true≢false (sym e))
+
+seed_alone : AllOne seed_rule (shape_at 1).rules
+unfolding clap_on_literals
+seed_alone = (inr (refl, refl, refl, λ e. refl), (inr (refl, refl, refl, λ e. no e), (inr (refl, refl, refl, λ e. no e), (inl refl, tt))))
+
+replicas_alone : AllOne replicas_rule (shape_at 1).rules
+unfolding clap_on_literals
+replicas_alone = (inr (refl, refl, refl, λ e. no e), (inr (refl, refl, refl, λ e. refl), (inr (refl, refl, refl, λ e. no e), (inl refl, tt))))
+
+events_alone : AllOne events_rule (shape_at 1).rules
+unfolding clap_on_literals
+events_alone = (inr (refl, refl, refl, λ e. no e), (inr (refl, refl, refl, λ e. no e), (inr (refl, refl, refl, λ e. refl), (inl refl, tt))))
+
+module _ (words : List Text) (faultless : level_fault (shape_at 1) [] nothing_held words false [] ≡ []) where
+  settled_at_end : List Row
+  settled_at_end = (settled (shape_at 1).rules (walk (shape_at 1).rules [] nothing_held words).held).rows
+
+  all_taken : AreTaken (rows_after (shape_at 1).rules [] words)
+  unfolding clap_on_literals settled_at_end
+  all_taken =
+      let seed = level_reads seed_rule (shape_at 1) [] words false [] seed_alone
+      (defaults_there seed_rule (codes "1") [] [] (drop 1 (shape_at 1).rules) settled_at_end refl refl) faultless in
+      let replicas = level_reads replicas_rule (shape_at 1) [] words false [] replicas_alone
+      (defaults_there replicas_rule (codes "3") [] (seed_rule ∷ []) (drop 2 (shape_at 1).rules) settled_at_end refl refl) faultless in
+      let events = level_reads events_rule (shape_at 1) [] words false [] events_alone
+      (defaults_there events_rule (codes "100") [] (seed_rule ∷ replicas_rule ∷ []) (drop 3 (shape_at 1).rules) settled_at_end refl refl) faultless in
+      record {
+        seed = record { text = seed.0; given = seed.1; passed = seed.2 };
+        replicas = record { text = replicas.0; given = replicas.1; passed = replicas.2 };
+        events = record { text = events.0; given = events.1; passed = events.2 };
+      }
+
+-- what is named is one of the two, a draw with each of its numbers
+abbrev pub NamesTask : Option (Text × List Row) → Type 0
+NamesTask o = ((rows : List Row) × (o ≡ Some (codes "play", rows))) ⊎ ((rows : List Row) × (o ≡ Some (codes "random", rows)) × AreTaken rows)
+
+named_at : (stop : Option (Text × List Text)) → entered_fault whole stop ≡ [] → is_some (entered whole stop) ≡ true → NamesTask (entered whole stop)
+unfolding clap_on_literals
+named_at None e there = no there
+named_at (Some p) e there = go (answers_to p.0 (label_of (shape_at 0))) (answers_to p.0 (label_of (shape_at 1))) e there
+  where
+    go : (t u : Bool)
+        → option_map_or (λ s. level_fault s [] nothing_held p.1 false []) (cond t (Some (shape_at 0)) (cond u (Some (shape_at 1)) None)) [] ≡ []
+        → is_some (option_map (λ s. rows_at s p.1) (cond t (Some (shape_at 0)) (cond u (Some (shape_at 1)) None))) ≡ true
+        → NamesTask (option_map (λ s. rows_at s p.1) (cond t (Some (shape_at 0)) (cond u (Some (shape_at 1)) None)))
+    go true u f some = inl (_, refl)
+    go false true f some = inr (_, refl, all_taken p.1 f)
+    go false false f some = no some
+
+-- words in which nothing is wrong name a task
+pub faultless_names : (words : List Text) → fault_of lattice words ≡ [] → NamesTask (subcommand_of lattice words)
+unfolding clap_on_literals
+faultless_names words e =
+    let rest = argument_words lattice words in
+    let stop = stop_after whole.top.rules (names_of whole) rest in
+    let below = next_none (walk_fault whole.top (names_of whole) (walk_from nothing_held) rest) _ e in
+    let after = next_none (entered_fault whole stop) _ below in
+    let defaults = next_none (settle_fault whole.top.rules whole.top.args_override_self (walk whole.top.rules (names_of whole) nothing_held rest).held) _ after in
+    let check = next_none (defaults_fault (settled whole.top.rules (walk whole.top.rules (names_of whole) nothing_held rest).held).rows whole.top.rules) _ defaults in
+    named_at stop (first_none _ _ below) (wanted (finished whole.top.rules (walk whole.top.rules (names_of whole) nothing_held rest).held) (is_some (entered whole stop)) check)
+  where
+    wanted : (rows : List Row) (has : Bool) → check_fault whole.top rows has ≡ [] → has ≡ true
+    wanted rows true f = refl
+    wanted rows false f = absurd (some_kinds _ _ f)
+
+-- ---- the words call for one task
+
+given_once : (rows : List Row) (name : Text) (n m : ℕ) → IsGiven rows name n → IsGiven rows name m → n ≡ m
+given_once rows name n m g h = g.value ∙ ap (λ t. digits_value 10 (without_leading_plus t)) (some_is _ _ (sym g.given ∙ h.given)) ∙ sym h.value
+
+play_is_no_draw : (words : List Text) (a b : List Row) → Names words (codes "play") a → Names words (codes "random") b → ⊥
+play_is_no_draw words a b plays draws =
+    let names : codes "play" ≡ codes "random" = ap (λ o. unwrap_or (option_map (λ p. p.0) o) []) (sym plays ∙ draws) in
+    let lengths : length (codes "play") ≡ length (codes "random") = ap length names in
+    absurd (omega arith)
+
+same_rows : (words : List Text) (name : Text) (a b : List Row) → Names words name a → Names words name b → a ≡ b
+same_rows words name a b x y = ap (λ o. unwrap_or (option_map (λ p. p.1) o) []) (sym x ∙ y)
+
+-- what a faultless draw was given has each of its numbers
+pub draw_is_taken : (words : List Text) (rows : List Row) → fault_of lattice words ≡ [] → Names words (codes "random") rows → AreTaken rows
+draw_is_taken words rows faultless named = elim (faultless_names words faultless) [
+  | inl plays ↦ absurd (play_is_no_draw words plays.0 rows plays.1 named)
+  | inr draws ↦ subst AreTaken (same_rows words (codes "random") draws.0 rows draws.1 named) draws.2
+]
+
+same_draw : (rows : List Row) (s r e t q f : ℕ) → AreGiven rows s r e → AreGiven rows t q f → Random s r e ≡ Random t q f
+same_draw rows s r e t q f x y =
+    let seed = given_once rows (codes "seed") s t x.seed_given y.seed_given in
+    let replicas = given_once rows (codes "replicas") r q x.replicas_given y.replicas_given in
+    let events = given_once rows (codes "events") e f x.events_given y.events_given in
+    λ i. Random (seed i) (replicas i) (events i)
+
+-- two tasks that the same words call for are one
+pub one_task : (words : List Text) (a b : Task) → Calls words a → Calls words b → a ≡ b
+one_task words Play Play x y = refl
+one_task words Play (Random t q f) x y = absurd (play_is_no_draw words _ _ x.named.1 y.named.1)
+one_task words (Random s r e) Play x y = absurd (play_is_no_draw words _ _ y.named.1 x.named.1)
+one_task words (Random s r e) (Random t q f) x y =
+    same_draw y.named.0 s r e t q f (subst (λ rows. AreGiven rows s r e) (same_rows words (codes "random") x.named.0 y.named.0 x.named.1 y.named.1) x.named.2) y.named.2

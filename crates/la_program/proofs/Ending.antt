@@ -1,0 +1,50 @@
+-- How the program ends, by what was done before.
+use Rattle.std.proofs.Common.{◌≡◌, ◌≢◌, ◌∙◌, ℕ, List, Option, inl, inr, ⊎_elim, sym}
+use Rattle.clap.specs.Words.{HasKind, IsAmong, fault_of, kind_of}
+use Rattle.clap.specs.declared.error.Error.{Error}
+use Rattle.clap.specs.declared.error.kind.ErrorKind.TheVariants.{OutOfMemory, DisplayHelp, DisplayVersion}
+use Rattle.la_object.specs.Shelves.{ShelfState}
+use Rattle.la_program.specs.Calls.{lattice, IsText, IsMistaken, AsksForText}
+use Rattle.la_program.specs.Faults.{status_of}
+use Rattle.la_program.specs.Program.{Standard, Tells, TellsFault, EndsWithoutTask, EndsWell}
+use Rattle.la_program.specs.declared.error.PlayFault.{PlayFault}
+use Rattle.la_program.specs.declared.error.PlayFault.TheVariants.{Script, ReadFault, TooLong, BadConfig, WriteFault, Memory}
+use Rattle.la_program.specs.declared.program.Ended.{Ended}
+
+-- no fault has the status 0
+pub faults_have_a_status : (f : PlayFault) → status_of f ≢ 0
+faults_have_a_status (Script f) e = cc
+faults_have_a_status TooLong e = cc
+faults_have_a_status Memory e = cc
+faults_have_a_status ReadFault e = cc
+faults_have_a_status BadConfig e = cc
+faults_have_a_status WriteFault e = cc
+
+-- where something is told with a status that is not 0, the status is not 0
+told_status : (told after line : _) (n : ℕ) (ended : Ended) → Tells told after line n ended → n ≢ 0 → ended.status ≢ 0
+told_status told after line n ended tells some zero = some (sym tells.status ∙ zero)
+
+pub a_told_fault_is_no_good_end : (told after : Option (List ℕ)) (f : PlayFault) (ended : Ended) → TellsFault told after f ended → ended.status ≢ 0
+a_told_fault_is_no_good_end told after f ended tells = told_status told after _ _ ended tells (faults_have_a_status f)
+
+-- without a task, the status 0 is that of a text that was asked for and written
+pub without_task_well : (words : List (List ℕ)) (shelves : List ShelfState) (old new : Standard) (ended : Ended)
+    → EndsWithoutTask words old new ended → ended.status ≡ 0 → EndsWell words shelves old new ended
+without_task_well words shelves old new ended (inl shown) zero = inr shown
+without_task_well words shelves old new ended (inr (inl it)) zero = absurd (a_told_fault_is_no_good_end _ _ WriteFault ended it.tells zero)
+without_task_well words shelves old new ended (inr (inr (inl it))) zero = absurd (told_status _ _ it.text 2 ended it.tells (λ e. cc) zero)
+without_task_well words shelves old new ended (inr (inr (inr it))) zero = absurd (a_told_fault_is_no_good_end _ _ Memory ended it.tells zero)
+
+-- ## Words that call for no task
+
+-- the error's kind is one of those of the words, unless memory was refused
+among : (words : List (List ℕ)) (e : Error) → HasKind (fault_of lattice words) e → kind_of e ≢ OutOfMemory → IsAmong (kind_of e) (fault_of lattice words)
+among words e (inl memory) other = absurd (other memory)
+among words e (inr is) other = is
+
+pub words_are_mistaken : (words : List (List ℕ)) (e : Error) → HasKind (fault_of lattice words) e → kind_of e ≢ OutOfMemory
+    → kind_of e ≢ DisplayHelp → kind_of e ≢ DisplayVersion → IsMistaken words
+words_are_mistaken words e has other help version = (kind_of e, among words e has other, ⊎_elim help version)
+
+pub words_ask_for_text : (words : List (List ℕ)) (e : Error) → HasKind (fault_of lattice words) e → kind_of e ≢ OutOfMemory → IsText (kind_of e) → AsksForText words
+words_ask_for_text words e has other text = (kind_of e, among words e has other, text)

@@ -1,0 +1,50 @@
+-- What is written for what was played, and what stands after a play that was refused before that.
+use Rattle.std.proofs.Common.{◌≡◌, ◌∙◌, ◌+◌, ℕ, List, Option, map, refl, ap}
+use Rattle.std.proofs.KnownBytes.{Keeps-refl}
+use Rattle.la_object.specs.Shelves.{ShelfState}
+use Rattle.la_world.specs.declared.config.Config.{Config}
+use Rattle.la_world.specs.declared.event.Event.{Event}
+use Rattle.la_world.specs.declared.report.Report.{Report}
+use Rattle.la_world.specs.Events.{event_of}
+use Rattle.la_world.specs.Report.{report}
+use Rattle.la_world.specs.StandsFor.{kinds_of}
+use Rattle.la_script.specs.RandomEvents.{random_events}
+use Rattle.la_script.specs.Text.{text_of}
+use Rattle.la_program.specs.Faults.{of_input}
+use Rattle.la_program.specs.Play.{shelves_of, text_by, IsRandomGroup, AnswersDraw, ReadsInput, IsAnswerRefusal, IsPlayRefusal}
+use Rattle.la_program.specs.Streams.{Takes}
+use Rattle.la_program.specs.declared.error.PlayFault.{PlayFault}
+use Rattle.la_program.specs.declared.error.PlayFault.TheVariants as fault
+use Rattle.la_program.specs.declared.streams.InputFault.{InputFault}
+use Rattle.la_program.specs.declared.streams.InputFault.TheVariants as input
+use Rattle.la_program.specs.declared.streams.TheConstants.{LIMIT}
+
+-- the text of the report of a run with the shelves of its group
+pub text_of_run : (c : Config) (events : List Event) (shelves used : List ShelfState) (made : Report) (text : List ℕ) → used ≡ shelves_of c shelves
+    → made ≡ report c (kinds_of used) (map event_of events) → text ≡ text_of made → text ≡ text_by c events shelves
+text_of_run c events shelves used made text u m t = t ∙ ap text_of (m ∙ ap (λ (s : List ShelfState). report c (kinds_of s) (map event_of events)) u)
+
+-- the same of events that were drawn
+pub draw_is_answered : (shelves : List ShelfState) (seed replicas count : ℕ) (c : Config) (events : List Event) (text : List ℕ) → IsRandomGroup replicas c
+    → events ≡ random_events seed replicas count → text ≡ text_by c events shelves → AnswersDraw shelves seed replicas count text
+draw_is_answered shelves seed replicas count c events text group drawn is =
+    record { config = c; group = group; is_text = is ∙ ap (λ (es : List Event). text_by c es shelves) drawn }
+
+-- ## Refusals
+
+-- not all was read
+pub input_is_refused : (shelves : List ShelfState) (left left_after written : Option (List ℕ)) (f : InputFault) → (f ≡ input.TooLong → Takes (LIMIT + 1) left left_after)
+    → IsPlayRefusal shelves left left_after written written (of_input f)
+input_is_refused shelves left left_after written input.ReadFault long = Keeps-refl written
+input_is_refused shelves left left_after written input.TooLong long = (long refl, Keeps-refl written)
+input_is_refused shelves left left_after written input.Memory long = Keeps-refl written
+
+-- there is no text for what was read
+pub answer_is_refused : (shelves : List ShelfState) (left left_after written : Option (List ℕ)) (bytes : List ℕ) (f : PlayFault) → ReadsInput left left_after bytes → IsAnswerRefusal bytes f
+    → IsPlayRefusal shelves left left_after written written f
+answer_is_refused shelves left left_after written bytes (fault.Script f) read is = (record { input = bytes; read = read; fault = is }, Keeps-refl written)
+answer_is_refused shelves left left_after written bytes fault.Memory read is = Keeps-refl written
+answer_is_refused shelves left left_after written bytes fault.BadConfig read is = absurd is
+answer_is_refused shelves left left_after written bytes fault.ReadFault read is = absurd is
+answer_is_refused shelves left left_after written bytes fault.TooLong read is = absurd is
+answer_is_refused shelves left left_after written bytes fault.WriteFault read is = absurd is

@@ -1,0 +1,166 @@
+-- What is written for what is read, or for what is drawn.
+use Rattle.std.specs.Prelude.{◌≡◌, ℕ, ◌+◌, ◌≤◌, List, length, map, take, replicate, All, Option, Ok, Err}
+use Rattle.std.specs.Io.KnownBytes.{Appends, Keeps}
+use Rattle.la_set.specs.Histories.{empty}
+use Rattle.la_object.specs.Shelves.{ShelfState}
+use Rattle.la_proposer.specs.Majority.{votes_of}
+use Rattle.la_world.specs.declared.config.Config.{Config}
+use Rattle.la_world.specs.declared.event.Event.{Event}
+use Rattle.la_world.specs.Groups.{IsConfig}
+use Rattle.la_world.specs.Events.{event_of}
+use Rattle.la_world.specs.Report.{report}
+use Rattle.la_world.specs.StandsFor.{kinds_of}
+use Rattle.la_script.specs.declared.error.ScriptFault.{ScriptFault}
+use Rattle.la_script.specs.declared.script.Script.{Script}
+use Rattle.la_script.specs.RandomEvents.{random_events}
+use Rattle.la_script.specs.Scripts.{script_of, said_by}
+use Rattle.la_script.specs.Text.{text_of}
+use Rattle.la_program.specs.declared.error.PlayFault.{PlayFault}
+use Rattle.la_program.specs.declared.error.PlayFault.TheVariants as fault
+use Rattle.la_program.specs.declared.streams.TheConstants.{LIMIT}
+use Rattle.la_program.specs.Streams.{ReadsAll, Takes, AppendsPrefix}
+
+-- ## Shelves
+
+-- a shelf for each replica that a group may have, none of which has absorbed anything
+pub record FitAnyGroup (shelves : List ShelfState) : Type 0 where
+  pub eight : length shelves ≡ 8
+  pub unused : All (λ (s : ShelfState). s.view ≡ empty) shelves
+
+-- those of a group: as many of the first as it has replicas
+abbrev pub shelves_of : Config → List ShelfState → List ShelfState
+shelves_of c shelves = take c.replicas shelves
+
+-- the text of the report of events in a group with these shelves
+abbrev pub text_by : Config → List Event → List ShelfState → List ℕ
+text_by c events shelves =
+    text_of (report c (kinds_of (shelves_of c shelves)) (map event_of events))
+
+-- ## A script
+
+-- the text of the report of a script
+abbrev pub answer : Script → List ShelfState → List ℕ
+answer s shelves = text_by s.config s.events shelves
+
+-- the bytes are a script, which is this
+pub record Says (input : List ℕ) (s : Script) : Type 0 where
+  pub said : script_of input ≡ Ok (said_by s)
+  pub config : IsConfig s.config
+
+-- the bytes are a script, and the text is its report's: there is one text for the bytes
+pub record Answers (shelves : List ShelfState) (input text : List ℕ) : Type 0 where
+  pub script : Script
+  pub says : Says input script
+  pub is_text : text ≡ answer script shelves
+  pub only : (other : Script) → Says input other → text ≡ answer other shelves
+
+-- why there is no text for the bytes: their fault, or else memory may run out
+abbrev pub IsAnswerRefusal : List ℕ → PlayFault → Type 0
+IsAnswerRefusal input (fault.Script f) = script_of input ≡ Err f
+IsAnswerRefusal input fault.Memory = Unit {0}
+IsAnswerRefusal input fault.BadConfig = ⊥
+IsAnswerRefusal input fault.ReadFault = ⊥
+IsAnswerRefusal input fault.TooLong = ⊥
+IsAnswerRefusal input fault.WriteFault = ⊥
+
+-- ## A draw
+
+-- a group of so many replicas with a vote each, one adopt-commit object and the largest cap
+pub record IsRandomGroup (n : ℕ) (c : Config) : Type 0 where
+  pub replicas : c.replicas ≡ n
+  pub votes : votes_of c.votes ≡ replicate n 1
+  pub commits : c.commits ≡ 1
+  pub cap : c.cap ≡ 1000000
+
+-- the text is that of the report of the events that a seed draws
+pub record AnswersDraw
+    (shelves : List ShelfState) (seed replicas events : ℕ) (text : List ℕ) : Type 0 where
+  pub config : Config
+  pub group : IsRandomGroup replicas config
+  pub is_text : text ≡ text_by config (random_events seed replicas events) shelves
+
+-- ## From a reader to a writer, by the bytes that were left and that were written, before and after
+
+-- all was read, and it is within the limit
+pub record ReadsInput (left left_after : Option (List ℕ)) (input : List ℕ) : Type 0 where
+  pub all : ReadsAll left left_after input
+  pub short : length input ≤ LIMIT
+
+-- all was read, and it is a script; the text of its report was written
+pub record Plays
+    (shelves : List ShelfState) (left left_after written written_after : Option (List ℕ))
+    : Type 0 where
+  pub fit : FitAnyGroup shelves
+  pub input : List ℕ
+  pub text : List ℕ
+  pub read : ReadsInput left left_after input
+  pub answers : Answers shelves input text
+  pub wrote : Appends written written_after text
+
+-- the same, where only the first bytes of the text were written, some, all or none
+pub record PlaysPrefix
+    (shelves : List ShelfState) (left left_after written written_after : Option (List ℕ))
+    : Type 0 where
+  pub fit : FitAnyGroup shelves
+  pub input : List ℕ
+  pub text : List ℕ
+  pub read : ReadsInput left left_after input
+  pub answers : Answers shelves input text
+  pub wrote : AppendsPrefix written written_after text
+
+-- all was read, and it is no script
+pub record IsFaulty (left left_after : Option (List ℕ)) (f : ScriptFault) : Type 0 where
+  pub input : List ℕ
+  pub read : ReadsInput left left_after input
+  pub fault : script_of input ≡ Err f
+
+-- what stands after a refusal: but for a writer that failed, nothing was written
+abbrev pub IsPlayRefusal :
+    (shelves : List ShelfState) → (left left_after written written_after : Option (List ℕ)) →
+    PlayFault → Type 0
+IsPlayRefusal shelves left left_after written written_after (fault.Script f) =
+    IsFaulty left left_after f × Keeps written written_after
+IsPlayRefusal shelves left left_after written written_after fault.TooLong =
+    Takes (LIMIT + 1) left left_after × Keeps written written_after
+IsPlayRefusal shelves left left_after written written_after fault.ReadFault =
+    Keeps written written_after
+IsPlayRefusal shelves left left_after written written_after fault.Memory =
+    Keeps written written_after
+IsPlayRefusal shelves left left_after written written_after fault.BadConfig =
+    (¬ FitAnyGroup shelves) × Keeps left left_after × Keeps written written_after
+IsPlayRefusal shelves left left_after written written_after fault.WriteFault =
+    PlaysPrefix shelves left left_after written written_after
+
+-- ## From a seed to a writer
+
+-- the text of the report of the events that the seed draws was written
+pub record PlaysDraw
+    (shelves : List ShelfState) (seed replicas events : ℕ)
+    (written written_after : Option (List ℕ)) : Type 0 where
+  pub fit : FitAnyGroup shelves
+  pub text : List ℕ
+  pub answers : AnswersDraw shelves seed replicas events text
+  pub wrote : Appends written written_after text
+
+-- the same, where only the first bytes of the text were written, some, all or none
+pub record PlaysDrawPrefix
+    (shelves : List ShelfState) (seed replicas events : ℕ)
+    (written written_after : Option (List ℕ)) : Type 0 where
+  pub fit : FitAnyGroup shelves
+  pub text : List ℕ
+  pub answers : AnswersDraw shelves seed replicas events text
+  pub wrote : AppendsPrefix written written_after text
+
+-- what stands after a refusal: there is nothing to read, and no script
+abbrev pub IsDrawRefusal :
+    (shelves : List ShelfState) → (seed replicas events : ℕ) →
+    (written written_after : Option (List ℕ)) → PlayFault → Type 0
+IsDrawRefusal shelves seed replicas events written written_after fault.Memory =
+    Keeps written written_after
+IsDrawRefusal shelves seed replicas events written written_after fault.BadConfig =
+    (¬ FitAnyGroup shelves) × Keeps written written_after
+IsDrawRefusal shelves seed replicas events written written_after fault.WriteFault =
+    PlaysDrawPrefix shelves seed replicas events written written_after
+IsDrawRefusal shelves seed replicas events written written_after (fault.Script f) = ⊥
+IsDrawRefusal shelves seed replicas events written written_after fault.TooLong = ⊥
+IsDrawRefusal shelves seed replicas events written written_after fault.ReadFault = ⊥

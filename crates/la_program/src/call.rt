@@ -1,0 +1,124 @@
+// What the program is called for.
+ghost use Rattle.std.specs.Prelude.{◌≡◌, false, map, string_bytes, IfOk, IfErr, Some, pos};
+ghost use Rattle.clap.specs.Words.{app_of, found_of, rows_of, rule_of, HasKind, fault_of};
+ghost use Rattle.clap.specs.declared.builder.command.Command.TheViews.{out-Command as fields_of};
+ghost use Rattle.clap.specs.declared.builder.value_parser.ValueParser.TheVariants.{Signed};
+ghost use Rattle.la_program.specs.Calls.{option, play, random, lattice};
+ghost use Rattle.la_program.specs.Calls.{AreTaken, Calls, IsDraw, IsInRange};
+
+use clap::builder::ValueParser;
+use clap::{Arg, ArgMatches, Command, Error, value_parser};
+use std::alloc::{AllocError, Global};
+
+/// What a command line can call for.
+#[derive(Clone, Copy, PartialEq, Eq)]
+pub enum Task {
+    /// A script is read on standard input and played, and its report is printed.
+    Play,
+    /// Events are drawn and played, and their report is printed.
+    Random {
+        /// What the draws begin with.
+        seed: u32,
+        /// How many replicas the group has: 1 to 8.
+        replicas: u8,
+        /// How many events are drawn: 1 to 10,000.
+        events: u32,
+    },
+}
+
+const ABOUT: &str = "Plays scripts of a group of replicas that agree without consensus";
+
+// An option with a number.
+fn number<'a>(
+    alloc: Global,
+    name: &'a str,
+    parser: ValueParser<'a>,
+    otherwise: &'a str,
+    help: &'a str,
+) -> Arg<'a>
+    ensures rule { (least most : _) → parser.entry ≡ Signed (pos least) (pos most)
+        → rule_of result ≡ option name.entry.now least most otherwise.entry.now }
+    ensures local { result.global ≡ false }
+{
+    Arg::new(alloc, name)
+        .long(name)
+        .value_name("N")
+        .value_parser(parser)
+        .default_value(otherwise)
+        .help(help)
+}
+
+fn play_command<'a>(alloc: Global) -> Command<'a>
+    ensures app { app_of result ≡ play }
+    ensures local { (fields_of result).has_globals ≡ false }
+{
+    Command::new(alloc, "play").about("Plays the script on standard input: lattice play <script")
+}
+
+fn random_command<'a>(alloc: Global) -> Result<Command<'a>, AllocError>
+    ensures app { IfOk result (λ made. app_of made ≡ random) }
+    ensures local { IfOk result (λ made. (fields_of made).has_globals ≡ false) }
+{
+    let seeds = value_parser!(u32);
+    let sizes = value_parser!(u8).range(1..=8);
+    let counts = value_parser!(u32).range(1..=10_000);
+    let seed = number(alloc, "seed", seeds, "1", "What the draws begin with");
+    let replicas = number(alloc, "replicas", sizes, "3", "How many replicas, 1 to 8");
+    let events = number(
+        alloc,
+        "events",
+        counts,
+        "100",
+        "How many events, 1 to 10000",
+    );
+    Command::new(alloc, "random")
+        .about("Draws events from a seed and plays them: lattice random --seed 7 --replicas 5")
+        .arg(seed)?
+        .arg(replicas)?
+        .arg(events)
+}
+
+fn program<'a>(alloc: Global) -> Result<Command<'a>, AllocError>
+    ensures app { IfOk result (λ made. app_of made ≡ lattice) }
+{
+    let random = random_command(alloc)?;
+    Command::new(alloc, "lattice")
+        .version("1")
+        .about(ABOUT)
+        .subcommand_required(true)
+        .disable_help_subcommand(true)
+        .subcommand(play_command(alloc))?
+        .subcommand(random)
+}
+
+// The numbers of a draw, each of which is there and in its range.
+fn drawn(given: &ArgMatches<'_>) -> Task
+    requires { AreTaken (rows_of (found_of given.now)) }
+    ensures { IsDraw (rows_of (found_of given.now)) result }
+{
+    Task::Random {
+        seed: given.get_one::<u32>("seed").unwrap(),
+        replicas: given.get_one::<u8>("replicas").unwrap(),
+        events: given.get_one::<u32>("events").unwrap(),
+    }
+}
+
+/// What the words of a command line call for, the program's name first.
+///
+/// Words in which nothing is wrong call for a task; a draw's numbers are those of its options, or
+/// their defaults. An error has a kind that `clap` finds in the words: they ask for help or for the
+/// version, or they are mistaken. Or its kind is `OutOfMemory`, which comes of memory alone.
+pub fn command(alloc: Global, words: &[String]) -> Result<Task, Error>
+    ensures ok { IfOk result (Calls (map string_bytes words.now)) }
+    ensures range { IfOk result IsInRange }
+    ensures error { IfErr result (HasKind (fault_of lattice (map string_bytes words.now))) }
+{
+    let matches = program(alloc)?.try_get_matches_from(words)?;
+    match matches.subcommand() {
+        Some((name, _)) if name == "play" => Ok(Task::Play),
+        Some((name, given)) if name == "random" => Ok(drawn(given)),
+        // `crate::proofs::CommandLines::faultless_names`: a subcommand is required, and there are
+        // these two.
+        _ => unreachable!(),
+    }
+}

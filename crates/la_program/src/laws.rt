@@ -1,0 +1,29 @@
+//! What holds of the numbers that the program is made with, of its shelves, and of the words that it
+//! is called by.
+ghost use Rattle.std.specs.Prelude.{◌≡◌, List};
+ghost use Rattle.clap.specs.Words.{Text};
+ghost use Rattle.la_program.specs.Calls.{Calls};
+ghost use Rattle.la_program.specs.Play.{FitAnyGroup};
+ghost use Rattle.la_program.specs.Shelves.{standard_shelves};
+ghost use Rattle.la_program.specs.declared.call.Task.{Task};
+
+use crate::LIMIT;
+
+/// An input may have 16,777,216 bytes.
+pub fn the_limit_is_a_number()
+    ensures { LIMIT ≡ 16777216 }
+{}
+
+/// The words of a command line call for one task at most.
+#[tactic(auto, using(crate::proofs::CommandLines::one_task))]
+pub fn words_call_for_one_task()
+    ensures { (words : List Text) (a b : Task) → Calls words a → Calls words b → a ≡ b }
+{}
+
+/// The program's own shelves fit any group: there are eight, and none has absorbed anything. So the
+/// fault `BadConfig`, which comes only of shelves that do not, never comes of [`run_boxed`].
+///
+/// [`run_boxed`]: crate::run_boxed
+pub fn the_shelves_fit_any_group()
+    ensures { FitAnyGroup standard_shelves }
+{}

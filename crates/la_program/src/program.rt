@@ -1,0 +1,180 @@
+// The whole program but for the real streams.
+ghost use Rattle.std.specs.Prelude.{◌≡◌, ◌≢◌, map, string_bytes, IfErr, OnOk, Result};
+ghost use Rattle.clap.specs.Words.{HasKind, fault_of};
+ghost use Rattle.la_program.specs.declared.error.PlayFault.TheVariants.{Memory};
+ghost use Rattle.la_program.specs.Calls.{lattice, IsInRange};
+ghost use Rattle.la_program.specs.Faults.{status_of};
+ghost use Rattle.la_program.specs.Program.{Ends, EndsWell, EndsWithoutTask, IsDone, IsTaskRefusal};
+ghost use Rattle.la_program.specs.Program.{TellsFault, TellsNoText, standard};
+
+use crate::call::{Task, command};
+use crate::streams::{WriteFailed, write_all};
+use crate::telling::{tell, tell_no_text};
+use crate::{PlayFault, play_random, play_stream};
+use clap::Error;
+use la_object::{Replicated, Shelf};
+use std::alloc::Global;
+use std::io::{ErrorKind, Read, Write};
+
+/// How the program ended.
+#[derive(Clone, Copy)]
+pub struct Ended {
+    /// The exit status.
+    pub status: u8,
+    /// Whether standard error took all that was to be told.
+    pub told: Result<(), WriteFailed>,
+}
+
+/// The exit status of the program after a fault.
+pub fn status_of(fault: PlayFault) -> u8
+    ensures { result ≡ status_of fault }
+{
+    match fault {
+        PlayFault::Script(_) | PlayFault::TooLong => 1,
+        PlayFault::Memory => 3,
+        PlayFault::ReadFault | PlayFault::BadConfig | PlayFault::WriteFault => 4,
+    }
+}
+
+// The end after a fault, which is told. Where it can't be written, the status alone tells it.
+fn end_with<E: Write>(fault: PlayFault, errors: &mut E) -> Ended
+    ensures { TellsFault (E.contents errors.old) (E.contents errors.new) fault result }
+{
+    Ended {
+        status: status_of(fault),
+        told: tell(errors, fault),
+    }
+}
+
+// Does what was called for.
+fn perform<R: Read, W: Write, B: Replicated>(
+    alloc: Global,
+    task: Task,
+    input: &mut R,
+    output: &mut W,
+    shelves: Vec<Shelf<B>>,
+) -> Result<(), PlayFault>
+    requires { IsInRange task }
+    ensures ok { OnOk result (IsDone task shelves.items
+        (R.remaining input.old) (R.remaining input.new)
+        (W.contents output.old) (W.contents output.new)) }
+    ensures error { IfErr result (IsTaskRefusal task shelves.items
+        (R.remaining input.old) (R.remaining input.new)
+        (W.contents output.old) (W.contents output.new)) }
+{
+    match task {
+        Task::Play => play_stream(alloc, input, output, shelves),
+        Task::Random {
+            seed,
+            replicas,
+            events,
+        } => play_random(alloc, seed, replicas, events, output, shelves),
+    }
+}
+
+// The end of words that call for no task: help and the version are written, and a mistake is told.
+fn end_without_task<W: Write, E: Write>(
+    alloc: Global,
+    error: &Error,
+    words: &[String],
+    output: &mut W,
+    errors: &mut E,
+) -> Ended
+    requires { HasKind (fault_of lattice (map string_bytes words.now)) error.now }
+    ensures { (left : _) → EndsWithoutTask (map string_bytes words.now)
+        (standard left (W.contents output.old) (E.contents errors.old))
+        (standard left (W.contents output.new) (E.contents errors.new)) result }
+{
+    if error.kind() == clap::error::ErrorKind::OutOfMemory {
+        return end_with(PlayFault::Memory, errors);
+    }
+    let Ok(text) = format!(in alloc; "{error}") else {
+        return end_with(PlayFault::Memory, errors);
+    };
+    if error.use_stderr() {
+        return Ended {
+            status: 2,
+            told: write_all(errors, text.as_bytes()),
+        };
+    }
+    match write_all(output, text.as_bytes()) {
+        Ok(()) => Ended {
+            status: 0,
+            told: Ok(()),
+        },
+        Err(_) => end_with(PlayFault::WriteFault, errors),
+    }
+}
+
+/// How the program ends over any streams, called by these words, its name first, with shelves for
+/// the replicas.
+///
+/// What it does and tells, and the status, are those of the crate's documentation. Where `errors`
+/// does not take what is told, a front of it was written, and the status is the same.
+pub fn carry_out<R: Read, W: Write, E: Write, B: Replicated>(
+    alloc: Global,
+    words: &[String],
+    input: &mut R,
+    output: &mut W,
+    errors: &mut E,
+    shelves: Vec<Shelf<B>>,
+) -> Ended
+    ensures ends { Ends (map string_bytes words.now) shelves.items
+        (standard (R.remaining input.old) (W.contents output.old) (E.contents errors.old))
+        (standard (R.remaining input.new) (W.contents output.new) (E.contents errors.new)) result }
+    ensures done { result.status ≡ 0 → EndsWell (map string_bytes words.now) shelves.items
+        (standard (R.remaining input.old) (W.contents output.old) (E.contents errors.old))
+        (standard (R.remaining input.new) (W.contents output.new) (E.contents errors.new)) result }
+{
+    match command(alloc, words) {
+        Ok(task) => match perform(alloc, task, input, output, shelves) {
+            Ok(()) => Ended {
+                status: 0,
+                told: Ok(()),
+            },
+            Err(fault) => end_with(fault, errors),
+        },
+        Err(error) => end_without_task(alloc, &error, words, output, errors),
+    }
+}
+
+/// The program over any streams, called by these words, its name first: its exit status.
+///
+/// Where `errors` does not take what is told, a front of it was written, and the status is the same.
+pub fn run_words<R: Read, W: Write, E: Write, B: Replicated>(
+    alloc: Global,
+    words: &[String],
+    input: &mut R,
+    output: &mut W,
+    errors: &mut E,
+    shelves: Vec<Shelf<B>>,
+) -> u8
+    ensures ends { (told : _) × Ends (map string_bytes words.now) shelves.items
+        (standard (R.remaining input.old) (W.contents output.old) (E.contents errors.old))
+        (standard (R.remaining input.new) (W.contents output.new) (E.contents errors.new))
+        (record { status = result; told = told }) }
+    ensures done { result ≡ 0 → (told : _) × EndsWell (map string_bytes words.now) shelves.items
+        (standard (R.remaining input.old) (W.contents output.old) (E.contents errors.old))
+        (standard (R.remaining input.new) (W.contents output.new) (E.contents errors.new))
+        (record { status = result; told = told }) }
+{
+    carry_out(alloc, words, input, output, errors, shelves).status
+}
+
+/// The end of a program whose words were not gathered, for an error of this kind.
+///
+/// Want of memory is told as any other, with its status; words that are no text are a wrong call.
+pub fn end_without_words<E: Write>(kind: ErrorKind, errors: &mut E) -> Ended
+    ensures memory { kind ≡ ErrorKind.OutOfMemory
+        → TellsFault (E.contents errors.old) (E.contents errors.new) Memory result }
+    ensures other { kind ≢ ErrorKind.OutOfMemory
+        → TellsNoText (E.contents errors.old) (E.contents errors.new) result }
+{
+    match kind {
+        ErrorKind::OutOfMemory => end_with(PlayFault::Memory, errors),
+        _ => Ended {
+            status: 2,
+            told: tell_no_text(errors),
+        },
+    }
+}

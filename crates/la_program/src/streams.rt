@@ -1,0 +1,184 @@
+// All of a reader's bytes, up to a limit, and all of a text, whole or in pieces, to a writer.
+ghost use Rattle.std.specs.Prelude.{
+  ◌≡◌,
+  ℕ,
+  ◌+◌,
+  ◌<◌,
+  ◌≤◌,
+  ◌++◌,
+  length,
+  IfOk,
+  IfErr,
+  OnOk,
+  OnErr,
+  IsErrOf,
+};
+ghost use Rattle.std.specs.Io.KnownBytes.{Consumes, IsAtEnd, Keeps};
+ghost use Rattle.la_script.specs.Pieces.{joined};
+ghost use Rattle.la_program.specs.declared.streams.InputFault.TheVariants.{Memory};
+ghost use Rattle.la_program.specs.Streams.{ReadsAll, Takes, TakesAtMost, Writes, WritesPrefix};
+
+use la_script::{Pieces, Stretch};
+use std::alloc::{AllocError, Global};
+use std::io::{Read, Write};
+use thiserror::Error;
+
+/// The most bytes that an input may have.
+pub const LIMIT: usize = 16_777_216;
+
+// The most bytes that a read asks for.
+const CHUNK: usize = 8192;
+
+/// Why not all of an input was read.
+#[derive(Clone, Copy, Debug, PartialEq, Eq, Error)]
+pub enum InputFault {
+    /// A read failed.
+    #[error("ReadFault")]
+    ReadFault,
+
+    /// There are more than [`LIMIT`] bytes.
+    #[error("TooLong")]
+    TooLong,
+
+    /// A growth was refused.
+    #[error("Memory")]
+    Memory,
+}
+
+impl From<AllocError> for InputFault {
+    ghost from_gives = { λ _ fault. fault ≡ Memory };
+
+    fn from(_refused: AllocError) -> InputFault {
+        InputFault::Memory
+    }
+}
+
+/// The writer failed, or took no byte.
+#[derive(Clone, Copy, Debug, PartialEq, Eq, Error)]
+#[error("WriteFault")]
+pub struct WriteFailed;
+
+// One read, of so many bytes at most. None are given only at the end.
+fn read_some<'a, R: Read>(
+    reader: &mut R,
+    chunk: &'a mut [u8],
+    most: usize,
+) -> Result<&'a [u8], InputFault>
+    requires some { 0 < most }
+    requires room { most ≤ length chunk.old }
+    ensures read { IfOk result
+        (λ bytes. Consumes (R.remaining reader.old) (R.remaining reader.new) bytes.now) }
+    ensures end { IfOk result (λ bytes. length bytes.now ≡ 0 → IsAtEnd (R.remaining reader.new)) }
+    ensures most { IfOk result (λ bytes. length bytes.now ≤ most) }
+    ensures err { IfErr result (λ fault. (fault ≡ InputFault.ReadFault)
+        × Keeps (R.remaining reader.old) (R.remaining reader.new)) }
+{
+    let part = &mut chunk[..most];
+    match reader.read(part) {
+        Ok(count) => Ok(&part[..count]),
+        Err(_) => Err(InputFault::ReadFault),
+    }
+}
+
+/// Reads all that the reader has left, at most [`LIMIT`] bytes, until a read finds the end.
+///
+/// No read asks for more than the bytes that are still allowed and one more, so that the answer is
+/// the same however the reader parts its bytes, and at most one byte past the limit is taken. There
+/// are at most `LIMIT + 1` reads, of at most 8,192 bytes each. The cost is linear in the bytes.
+///
+/// `ReadFault` comes at the first read that fails, also at one that was interrupted; `TooLong` once
+/// one byte more than the limit was read; `Memory` where the bytes so far find no room. What was
+/// read until then is lost, and the reader stands behind it.
+#[tactic(auto, using(crate::proofs::Taken::reads))]
+pub fn read_all<R: Read>(alloc: Global, reader: &mut R) -> Result<Vec<u8>, InputFault>
+    ensures all { IfOk result
+        (λ input. ReadsAll (R.remaining reader.old) (R.remaining reader.new) input.items) }
+    ensures short { IfOk result (λ input. length input.items ≤ LIMIT) }
+    ensures long { IsErrOf result InputFault.TooLong
+        → Takes (LIMIT + 1) (R.remaining reader.old) (R.remaining reader.new) }
+    ensures taken { TakesAtMost (LIMIT + 1) (R.remaining reader.old) (R.remaining reader.new) }
+{
+    let mut input = Vec::new(alloc);
+    let mut chunk = [0u8; CHUNK];
+    for _ in 0..LIMIT + 1 {
+        let room = CHUNK.min(LIMIT + 1 - input.len());
+        let bytes = read_some(reader, &mut chunk, room)?;
+        if bytes.is_empty() {
+            return Ok(input);
+        }
+        input.extend_from_slice(bytes)?;
+        if input.len() > LIMIT {
+            return Err(InputFault::TooLong);
+        }
+    }
+    unreachable!()
+}
+
+// Writes all of the bytes, in as many writes as it takes. Where one fails or takes no byte, the
+// writer has taken a front of them.
+fn put_bytes<W: Write>(writer: &mut W, bytes: &[u8]) -> Result<(), WriteFailed>
+    ensures ok { OnOk result (Writes W.contents writer.old writer.new bytes.now) }
+    ensures err { OnErr result (WritesPrefix W.contents writer.old writer.new bytes.now) }
+{
+    let mut done = 0;
+    while done < bytes.len() {
+        match writer.write(&bytes[done..]) {
+            Ok(0) | Err(_) => return Err(WriteFailed),
+            Ok(count) => done += count,
+        }
+    }
+    Ok(())
+}
+
+fn flush<W: Write>(writer: &mut W) -> Result<(), WriteFailed>
+    ensures { Keeps (W.contents writer.old) (W.contents writer.new) }
+{
+    match writer.flush() {
+        Ok(()) => Ok(()),
+        Err(_) => Err(WriteFailed),
+    }
+}
+
+/// Writes all of the bytes, in as many writes as it takes, and then flushes the writer.
+///
+/// It is refused at the first write that fails or takes no byte, and where the flush fails. Then
+/// the writer has taken a front of the bytes, all of them where it was the flush. The cost is that
+/// of the writes, each of which takes a byte at least.
+#[tactic(auto, using(crate::proofs::Written::kept_all, crate::proofs::Written::prefix_all))]
+pub fn write_all<W: Write>(writer: &mut W, bytes: &[u8]) -> Result<(), WriteFailed>
+    ensures ok { OnOk result (Writes W.contents writer.old writer.new bytes.now) }
+    ensures err { OnErr result (WritesPrefix W.contents writer.old writer.new bytes.now) }
+{
+    put_bytes(writer, bytes)?;
+    flush(writer)
+}
+
+// Writes the words of a stretch, and then its ids.
+fn put_stretch<W: Write>(writer: &mut W, stretch: &Stretch<'_>) -> Result<(), WriteFailed>
+    ensures ok { OnOk result (Writes W.contents writer.old writer.new
+        (stretch.now.words.now ++ stretch.now.ids.now)) }
+    ensures err { OnErr result (WritesPrefix W.contents writer.old writer.new
+        (stretch.now.words.now ++ stretch.now.ids.now)) }
+{
+    put_bytes(writer, stretch.words)?;
+    put_bytes(writer, stretch.ids)
+}
+
+/// Writes the pieces of a text one after another, each from where it lies, and then flushes the
+/// writer. It takes no memory.
+///
+/// It is refused where [`write_all`] would be, and then the writer has taken a front of the text.
+/// The cost is that of the writes: one for each piece, where a write takes all that it is given.
+pub fn write_pieces<W: Write>(writer: &mut W, pieces: &Pieces) -> Result<(), WriteFailed>
+    ensures ok { OnOk result (Writes W.contents writer.old writer.new (joined pieces.now)) }
+    ensures err { OnErr result (WritesPrefix W.contents writer.old writer.new (joined pieces.now)) }
+{
+    for place in 0..pieces.len() {
+        let Some(stretch) = pieces.at(place) else {
+            unreachable!()
+        };
+        put_stretch(writer, &stretch)?;
+    }
+    put_bytes(writer, pieces.rest())?;
+    flush(writer)
+}

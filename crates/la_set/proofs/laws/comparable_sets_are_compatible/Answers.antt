@@ -1,0 +1,5 @@
+use Rattle.la_set.proofs.Comparable.{comparable-compatible}
+use Rattle.la_set.proofs.laws.comparable_sets_are_compatible.Goals as goal
+
+pub returns : goal.returns
+returns c = comparable-compatible
