@@ -1,18 +1,17 @@
 -- What one offer to one acceptor leaves of a member.
-use Rattle.std.proofs.Common.{◌≡◌, ◌⊎◌, inl, inr, ℕ, zero, suc, ◌<◌, Bool, true, false, List, [], ◌∷◌, length, map, Option, Some, None, refl, ap, sym, ◌∙◌, subst, ◌&&◌, ◌==◌, not}
+use Rattle.std.proofs.Common.{◌≡◌, inl, inr, ℕ, zero, suc, ◌<◌, Bool, true, false, List, [], ◌∷◌, length, map, Some, refl, ap, sym, ◌∙◌, subst, ◌&&◌, ◌==◌, not}
 use Rattle.std.specs.Prelude.{Result, Ok, Err, OnOk, OnErr, IfOk}
 use Rattle.std.specs.List.{slice_get, slice_set, slice_index_or}
 use Rattle.std.proofs.lemmas.Option.{slice_get-get_or}
 use Rattle.std.proofs.lemmas.Bool.{and_parts}
-use Rattle.la_acceptor.specs.declared.reply.Reply.{Reply}
 use Rattle.la_proposer.specs.declared.heard.Heard.{Heard}
 use Rattle.la_proposer.specs.Tally.{has_counted}
 use Rattle.la_proposer.specs.ProposerState.{ProposerState, counts}
 use Rattle.la_proposer.specs.Invariant.{IsProposerState}
-use Rattle.la_shared.specs.Passes.{Known, IsPass, Extends, AcceptorName}
-use Rattle.la_runner.specs.Asking.{IsSamePass, Asks, AsksInVain}
+use Rattle.la_shared.specs.Passes.{Known, IsPass, AcceptorName}
+use Rattle.la_runner.specs.Asking.{Asks, AsksInVain}
 use Rattle.la_runner.specs.Sound.{IsSound}
-use Rattle.la_runner.specs.Following.{GoOn, Follows, SubmitsNothing, Goes, IsLearnt, IfLearnt, StaysOpen}
+use Rattle.la_runner.specs.Following.{Goes, IsLearnt, IfLearnt, StaysOpen}
 use Rattle.la_runner.proofs.Passing.{Grown, grown_same, grown_more, has_new, beyond_new, on_refl}
 use Rattle.la_runner.proofs.Going.{sound_grown, follows_refl, follows_trans}
 use Rattle.la_runner.proofs.Hearing.{hears}

@@ -1,23 +1,21 @@
 -- How a member goes on in one instance: reflexive, one after another, and what a passing of passes keeps.
-use Rattle.std.proofs.Common.{◌≡◌, ◌≢◌, ◌⊎◌, inl, inr, ℕ, ◌+◌, ◌<◌, ◌≤◌, Bool, true, false, IsTrue, List, [], ◌∷◌, ◌++◌, length, map, Option, Some, None, refl, ap, sym, ◌∙◌, subst, arith, append_assoc}
+use Rattle.std.proofs.Common.{◌≡◌, ◌⊎◌, inl, inr, ℕ, ◌≤◌, List, ◌++◌, refl, ap, sym, ◌∙◌, subst, arith, append_assoc}
 use mathlib.Core.List.{IsPrefix}
 use Rattle.la_set.specs.declared.update.Update.{Update}
-use Rattle.la_set.specs.Histories.{Histories, history, count, ContainsUpdate}
+use Rattle.la_set.specs.Histories.{Histories, history, count}
 use Rattle.la_set.specs.Inclusion.{IsSubset}
 use Rattle.la_set.proofs.Theorems.{subset-refl, subset-trans}
-use Rattle.la_acceptor.specs.declared.reply.Reply.{Reply}
 use Rattle.la_acceptor.specs.declared.reply.Reply.TheVariants.{Yes, No}
 use Rattle.la_proposer.specs.ProposerState.{ProposerState}
 use Rattle.la_proposer.specs.Inputs.{all_submitted}
-use Rattle.la_shared.specs.declared.entry.Entry.{Entry}
-use Rattle.la_shared.specs.History.{HasEntry, HasYes}
+use Rattle.la_shared.specs.History.{HasYes}
 use Rattle.la_shared.specs.Passes.{Known}
 use Rattle.la_shared.proofs.Theorems.{has-prefix, has-left, has-right}
-use Rattle.la_runner.specs.Certificates.{seen_at, mine_at, OfMajority, HasCertificate}
+use Rattle.la_runner.specs.Certificates.{seen_at, mine_at, OfMajority}
 use Rattle.la_runner.specs.Sound.{IsSound, HasReply, WasTold, IsView}
-use Rattle.la_runner.specs.Following.{GoOn, Beyond, Follows, SubmitsNothing, IsLearnt}
-use Rattle.la_runner.proofs.Certified.{of_majority, certificate_stays, contains_earlier}
-use Rattle.la_runner.proofs.Passing.{prefix_trans, on_refl, on_trans, Grown}
+use Rattle.la_runner.specs.Following.{GoOn, Beyond, Follows, IsLearnt}
+use Rattle.la_runner.proofs.Certified.{of_majority, certificate_stays}
+use Rattle.la_runner.proofs.Passing.{prefix_trans, on_trans, Grown}
 
 -- what comes after what was seen, in passes that go on at either end
 pub beyond_later : (ps qs rs : List Known) (a : ℕ) (s : Histories) → IsPrefix (seen_at qs a) (seen_at rs a) → Beyond ps qs a s → Beyond ps rs a s

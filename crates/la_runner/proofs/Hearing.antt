@@ -1,13 +1,9 @@
 -- A reply that counts, and a submission: what they leave.
-use Rattle.std.proofs.Common.{◌≡◌, ◌≢◌, ◌⊎◌, inl, inr, ℕ, ◌+◌, ◌<◌, ◌≤◌, Bool, true, false, true≢false, cond, IsTrue, List, [], ◌∷◌, ◌++◌, length, Option, Some, None, refl, ap, ap₂, sym, ◌∙◌, subst, arith, append_assoc, append-nil, ◌||◌, ◌&&◌, ◌==◌, not, eq-eqb}
-use mathlib.Core.List.{IsPrefix}
-use Rattle.std.specs.List.{list_any}
+use Rattle.std.proofs.Common.{◌≡◌, ◌≢◌, ◌⊎◌, inl, inr, ℕ, ◌+◌, ◌<◌, ◌≤◌, Bool, true, false, true≢false, cond, IsTrue, List, [], ◌∷◌, ◌++◌, length, Some, refl, ap, ap₂, sym, ◌∙◌, subst, arith, append_assoc, append-nil, length-append, ◌&&◌, ◌==◌, not, eq-eqb}
 use Rattle.std.proofs.lemmas.Bool.{cond_both, or_cases, and_parts, eqb-true, cases_Bool}
 use Rattle.la_set.specs.declared.update.Update.{Update}
 use Rattle.la_set.specs.ObjectOps.{ObjectOp, object_op_of}
 use Rattle.la_set.specs.Histories.{Histories, history, count, object_op_number, ContainsUpdate, has_update}
-use Rattle.la_set.specs.Inclusion.{IsSubset}
-use Rattle.la_set.specs.Join.{join}
 use Rattle.la_set.proofs.Theorems.{history-with_same, history-with_other}
 use Rattle.la_set.proofs.Theorems.{object_op-contains, contains-object_op, subset-refl, subset-trans}
 use Rattle.la_set.proofs.Theorems.{contains-join_cases}
@@ -21,19 +17,18 @@ use Rattle.la_proposer.specs.declared.tally.Verdict.{Verdict}
 use Rattle.la_proposer.specs.declared.tally.Verdict.TheVariants.{Waits, Refines, Learns}
 use Rattle.la_proposer.specs.Majority.{is_majority}
 use Rattle.la_proposer.specs.Tally.{tally_with, said_yes, is_yes, has_refusal, has_counted, verdict, with_refusal, joined_with_refusals}
-use Rattle.la_proposer.specs.ProposerState.{ProposerState, with_more, with_waiting, with_reply, counts, is_nothing, closed, after_opening, after_learning, after_refinement, after_verdict, after_counting, after_reply, after_submission, verdict_of, heard_by, heard_counting, heard_of}
+use Rattle.la_proposer.specs.ProposerState.{ProposerState, with_more, with_waiting, with_reply, counts, is_nothing, closed, after_opening, after_verdict, after_counting, after_reply, after_submission, verdict_of, heard_by, heard_counting, heard_of}
 use Rattle.la_proposer.specs.Inputs.{all_submitted}
 use Rattle.la_proposer.specs.Clashes.{Fits}
 use Rattle.la_proposer.specs.Invariant.{IsProposerState}
 use Rattle.la_proposer.proofs.Theorems.{joined-contains}
 use Rattle.la_proposer.proofs.Theorems.{history-joined, counting_keeps, more_contains}
-use Rattle.la_shared.specs.declared.entry.Entry.{Entry}
-use Rattle.la_shared.specs.History.{HasEntry, HasYes}
+use Rattle.la_shared.specs.History.{HasEntry}
 use Rattle.la_shared.specs.Passes.{Known}
-use Rattle.la_runner.specs.Certificates.{seen_at, mine_at, OfMajority}
+use Rattle.la_runner.specs.Certificates.{mine_at}
 use Rattle.la_runner.specs.Sound.{IsSound, HasReply, WasTold}
 use Rattle.la_runner.specs.Following.{GoOn, Beyond, Follows, SubmitsNothing, Goes, IsLearnt, IfLearnt, StaysOpen}
-use Rattle.la_runner.proofs.Passing.{prefix_trans, on_refl, on_trans, Grown}
+use Rattle.la_runner.proofs.Passing.{on_refl}
 
 -- ## Counted replies
 
@@ -85,6 +80,9 @@ learns_majority votes cs e = verdict_learns (is_majority votes (said_yes cs)) (h
 
 -- ## A reply that counts
 
+more_count : (s : Histories) (own : ℕ) (ds : List ObjectOp) → own < 8 → count (with_more s own ds) own ≡ count s own + length ds
+more_count s own ds small = ap length (history-with_same s own (history s own ++ ds) own small refl) ∙ length-append (history s own) ds
+
 module _ (p : ProposerState) (ps qs : List Known) (a : ℕ) (r : Reply) (is : IsSound p qs) (go : GoOn ps qs) (entry : HasEntry (mine_at qs a) p.updates r) (fresh : r ≡ Yes → Beyond ps qs a p.updates) (fits : Fits p r) (asking : p.is_asking ≡ true) (new : has_counted p.tally a ≡ false) (in_group : a < length p.votes) where
   small : p.own < 8
   small = let known = is.proposer.known in let few = is.proposer.few in omega arith
@@ -110,11 +108,15 @@ module _ (p : ProposerState) (ps qs : List Known) (a : ℕ) (r : Reply) (is : Is
     ]
   ]
 
+  joined_same : history (joined_with_refusals p.updates (tally_with p.tally a r)) p.own ≡ history p.updates p.own
+  joined_same = history-joined p.updates p.own (tally_with p.tally a r) (counting_keeps p a r is.proposer asking in_group new fits).own_known
+
   sound_by : (v : Verdict) → IsProposerState (after_verdict (with_reply p a r) v) → IsSound (after_verdict (with_reply p a r) v) qs
-  sound_by Waits now = record { proposer = now; rests = is.rests; sizes = is.sizes; are = is.are; within = is.within; counted = counted_now; told = is.told }
+  sound_by Waits now = record { proposer = now; rests = is.rests; asks_own = is.asks_own; sizes = is.sizes; are = is.are; within = is.within; counted = counted_now; told = is.told }
   sound_by Refines now = record {
     proposer = now;
     rests = is.rests;
+    asks_own = λ _. subst (λ k. 1 ≤ k) (sym (ap length joined_same)) (is.asks_own asking);
     sizes = is.sizes;
     are = is.are;
     within = λ b s t e. subset-trans s p.updates (joined_with_refusals p.updates (tally_with p.tally a r)) (is.within b s t e) (joined-contains p.updates (tally_with p.tally a r));
@@ -125,6 +127,7 @@ module _ (p : ProposerState) (ps qs : List Known) (a : ℕ) (r : Reply) (is : Is
       (λ e state. record {
         proposer = state;
         rests = λ _. nothing_is p.waiting e;
+        asks_own = λ asked. absurd (true≢false (sym asked));
         sizes = is.sizes;
         are = is.are;
         within = is.within;
@@ -134,6 +137,7 @@ module _ (p : ProposerState) (ps qs : List Known) (a : ℕ) (r : Reply) (is : Is
       (λ e state. record {
         proposer = state;
         rests = λ idle. absurd (true≢false idle);
+        asks_own = λ _. let more = more_count p.updates p.own p.waiting small in let had = is.asks_own asking in omega arith;
         sizes = is.sizes;
         are = is.are;
         within = λ b s t x. subset-trans s p.updates (with_more p.updates p.own p.waiting) (is.within b s t x) (more_contains p.updates p.own p.waiting small);
@@ -253,6 +257,7 @@ module _ (p : ProposerState) (ps : List Known) (d : ObjectOp) (is : IsSound p ps
       (λ e state. record {
         proposer = state;
         rests = λ idle. absurd (true≢false (sym e ∙ idle));
+        asks_own = is.asks_own;
         sizes = is.sizes;
         are = is.are;
         within = is.within;
@@ -262,6 +267,7 @@ module _ (p : ProposerState) (ps : List Known) (d : ObjectOp) (is : IsSound p ps
       (λ e state. record {
         proposer = state;
         rests = λ idle. absurd (true≢false idle);
+        asks_own = λ _. let more = more_count p.updates p.own (p.waiting ++ d ∷ []) small_own in let long = length-append p.waiting (d ∷ []) in omega arith;
         sizes = is.sizes;
         are = is.are;
         within = λ b s t x. subset-trans s p.updates (with_more p.updates p.own (p.waiting ++ d ∷ [])) (is.within b s t x) (more_contains p.updates p.own (p.waiting ++ d ∷ []) small_own);

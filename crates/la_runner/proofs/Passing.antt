@@ -1,23 +1,22 @@
 -- One pass goes on, and the others stay.
-use Rattle.std.proofs.Common.{◌≡◌, ◌≢◌, ◌⊎◌, inl, inr, ℕ, zero, suc, ◌<◌, List, [], ◌∷◌, ◌++◌, length, map, Option, Some, None, refl, ap, sym, ◌∙◌, subst, arith, append_assoc, append-nil}
+use Rattle.std.proofs.Common.{◌≡◌, ◌≢◌, ◌⊎◌, inl, inr, ℕ, zero, suc, ◌<◌, List, [], ◌∷◌, ◌++◌, length, map, Option, Some, refl, ap, sym, ◌∙◌, subst, arith, append_assoc}
 use mathlib.Core.List.{IsPrefix}
-use Rattle.std.specs.List.{slice_get, slice_set, slice_index_or}
+use Rattle.std.specs.List.{slice_get, slice_set}
 use Rattle.std.proofs.lemmas.Bool.{cases_eq}
-use Rattle.std.proofs.lemmas.Option.{slice_get-get_or, slice_get_within}
+use Rattle.std.proofs.lemmas.Option.{slice_get_within}
 use Rattle.std.proofs.lemmas.List.{length-set}
 use Rattle.la_set.specs.Histories.{Histories}
 use Rattle.la_acceptor.specs.declared.reply.Reply.{Reply}
 use Rattle.la_acceptor.specs.declared.reply.Reply.TheVariants.{Yes}
-use Rattle.la_shared.specs.declared.entry.Entry.{Entry}
 use Rattle.la_shared.specs.History.{entry}
-use Rattle.la_shared.specs.History.{HasEntry, HasYes}
+use Rattle.la_shared.specs.History.{HasEntry}
 use Rattle.la_shared.specs.Passes.{Known, IsPass, Extends}
-use Rattle.la_shared.proofs.Theorems.{has-cases, entry_stands, has-right, has-left}
+use Rattle.la_shared.proofs.Theorems.{has-cases, entry_stands, has-right}
 use Rattle.la_shared.proofs.Theorems.{prefix_self}
 use Rattle.la_runner.specs.Certificates.{seen_of, mine_of, seen_at, mine_at}
 use Rattle.la_runner.specs.Asking.{IsSamePass}
 use Rattle.la_runner.specs.Sound.{IsPassAt}
-use Rattle.la_runner.specs.Following.{acceptors, GoOn, Beyond}
+use Rattle.la_runner.specs.Following.{GoOn, Beyond}
 
 pub prefix_trans : {A : Type 0} (xs ys zs : List A) → IsPrefix xs ys → IsPrefix ys zs → IsPrefix xs zs
 prefix_trans xs ys zs p q = (p.0 ++ q.0, sym (append_assoc xs p.0 q.0) ∙ ap (λ w. w ++ q.0) p.1 ∙ q.1)

@@ -1,20 +1,17 @@
 -- A round, offer by offer.
-use Rattle.std.proofs.Common.{◌≡◌, ◌⊎◌, inl, inr, ℕ, Bool, true, false, cond, List, [], ◌++◌, refl, ap, sym, ◌∙◌, subst}
+use Rattle.std.proofs.Common.{◌≡◌, ◌⊎◌, inl, inr, ℕ, Bool, true, false, cond, List, refl, sym, ◌∙◌, subst}
 use mathlib.Core.List.{IsPrefix}
 use Rattle.la_set.specs.Histories.{Histories}
-use Rattle.la_set.specs.ObjectOps.{ObjectOp}
 use Rattle.la_proposer.specs.declared.heard.Heard.{Heard}
 use Rattle.la_proposer.specs.declared.heard.Heard.TheVariants as said
 use Rattle.la_proposer.specs.declared.ballot.Ballot.{Ballot}
-use Rattle.la_proposer.specs.declared.heard.Status.{Status}
 use Rattle.la_proposer.specs.declared.heard.Status.TheVariants.{Idle, Asking}
 use Rattle.la_proposer.specs.ProposerState.{ProposerState}
 use Rattle.la_proposer.specs.Inputs.{all_submitted}
 use Rattle.la_shared.specs.Passes.{Known}
 use Rattle.la_shared.proofs.Theorems.{prefix_self}
-use Rattle.la_runner.specs.Following.{GoOn, Follows, SubmitsNothing, Goes, IsLearnt, IfLearnt, StaysOpen}
+use Rattle.la_runner.specs.Following.{Goes, IsLearnt, IfLearnt, StaysOpen}
 use Rattle.la_runner.proofs.Going.{learnt_later}
-use Rattle.la_runner.proofs.Asked.{goes_trans}
 use Rattle.std.proofs.Common.{Option}
 
 pub status_is : (b : Bool) (n m : ℕ) → Asking n ≡ (cond b (Asking m) Idle) → (b ≡ true) × (n ≡ m)

@@ -1,35 +1,37 @@
 -- Views.
-use Rattle.std.proofs.Common.{⊎_elim, ◌≡◌, ◌⊎◌, inl, inr, ℕ, Bool, true, false, true≢false, refl, sym, ◌∙◌, subst, List, Option, Some, None}
+use Rattle.std.proofs.Common.{⊎_elim, ◌≡◌, ◌⊎◌, inl, inr, ℕ, Bool, true, false, cond, sym, ◌∙◌, subst, List, Option, Some}
 use Rattle.std.specs.List.{slice_get}
 use Rattle.std.specs.Prelude.{IfSome}
 use Rattle.la_set.specs.Histories.{Histories, empty}
-use Rattle.la_set.specs.Inclusion.{IsSubset, is_subset}
-use Rattle.la_set.specs.Join.{IsCompatible}
-use Rattle.la_set.proofs.Theorems.{subset-refl, subset-trans, subset-antisym, compatible-subset, compatible-superset}
-use Rattle.la_set.proofs.Theorems.{is_subset-Decides}
+use Rattle.la_set.specs.Inclusion.{IsSubset, AreComparable, is_larger, larger_of}
+use Rattle.la_set.proofs.Theorems.{subset-trans, subset-antisym}
 use Rattle.la_acceptor.proofs.Theorems.{contains-empty}
 use Rattle.la_shared.specs.Passes.{Known}
 use Rattle.la_acceptor.specs.declared.reply.Reply.TheVariants.{Yes}
 use Rattle.la_proposer.proofs.Theorems.{majorities_meet}
 use Rattle.la_proposer.specs.ProposerState.{ProposerState}
-use Rattle.la_runner.specs.Certificates.{AreComparable, HasCertificate}
-use Rattle.la_runner.specs.Sound.{IsSound, IsView, IsPassAt}
-use Rattle.la_runner.specs.Following.{GoOn, Goes, IsLearnt}
+use Rattle.la_runner.specs.Certificates.{HasCertificate}
+use Rattle.la_runner.specs.Sound.{IsView, IsPassAt}
+use Rattle.la_runner.specs.Following.{Goes, IsLearnt}
+use Rattle.la_runner.specs.declared.instance.Learning.{Learning}
 use Rattle.la_runner.specs.declared.learned.Learned.{Learned}
-use Rattle.la_runner.specs.Rounds.{IsLarger, IsViewOf}
+use Rattle.la_runner.specs.Rounds.{IsLarger, IsViewOf, IsLastAfter, IsLastLearned}
 use Rattle.la_runner.proofs.Certified.{own_certificate, certificates_compare}
 use Rattle.la_runner.proofs.Going.{view_stays}
 
-pub comparable_compatible : (s t : Histories) → AreComparable s t → IsCompatible s t
-comparable_compatible s t (inl e) = compatible-subset s t e
-comparable_compatible s t (inr e) = compatible-superset s t e
+-- the larger of two is one of them
+pub larger_one : (v s w : Histories) → w ≡ larger_of v s → (w ≡ v) ⊎ (w ≡ s)
+larger_one v s w e = go (is_larger v s) e
+  where
+    go : (b : Bool) → w ≡ cond b s v → (w ≡ v) ⊎ (w ≡ s)
+    go true x = inr x
+    go false x = inl x
 
-pub not_contained : (v s : Histories) → AreComparable v s → is_subset s v ≡ false → IsSubset v s
-not_contained v s (inl e) none = e
-not_contained v s (inr e) none = absurd (true≢false (sym ((is_subset-Decides s v).1 e) ∙ none))
+pub is_larger_set : (v s w : Histories) → w ≡ larger_of v s → IsSubset v w → IsSubset s w → IsLarger s v w
+is_larger_set v s w e grows has = record { one = larger_one v s w e; grows = grows; has = has }
 
-pub contained : (v s : Histories) → is_subset s v ≡ true → IsSubset s v
-contained v s e = (is_subset-Decides s v).0 e
+pub larger_from : (v v' s s' w : Histories) → v' ≡ v → s' ≡ s → w ≡ larger_of v' s' → IsSubset v' w → IsSubset s' w → IsLarger s v w
+larger_from v v' s s' w one other e grows has = subst (λ (z : Histories × Histories). IsLarger z.1 z.0 w) (λ i. (one i, other i)) (is_larger_set v' s' w e grows has)
 
 pub empty_within : (s : Histories) → IsSubset empty s
 empty_within s u e = absurd (contains-empty u e)
@@ -67,14 +69,25 @@ view_rounds u v w p q grows (inl d) (inl e) = inl (e ∙ d)
 view_rounds u v w p q grows (inr d) (inl e) = inr (subst (λ z. IsSubset z q.updates) (sym e) (subset-trans v p.updates q.updates d grows))
 view_rounds u v w p q grows before (inr e) = inr e
 
+-- over several rounds, the view is the larger of the first one and what is learnt last
+pub larger_later : (u v w s b : Histories) → (v ≡ u) ⊎ IsSubset v b → IsSubset b s → IsSubset u v → IsLarger s v w → IsLarger s u w
+larger_later u v w s b (inl e) grown first larger = subst (λ z. IsLarger s z w) e larger
+larger_later u v w s b (inr e) grown first larger =
+    let whole : w ≡ s = ⊎_elim (λ (o : w ≡ v). subset-antisym w s (subst (λ z. IsSubset z s) (sym o) (subset-trans v b s e grown)) larger.has) (λ (o : w ≡ s). o) larger.one in
+    record { one = inr whole; grows = subset-trans u v w first larger.grows; has = larger.has }
+
 -- and becomes a learnt set that contains the first one
-pub view_becomes : (u v w s b : Histories) → (v ≡ u) ⊎ IsSubset v b → IsSubset b s → IsLarger s v w → IsSubset u s → w ≡ s
-view_becomes u v w s b before grown larger first =
-    let old : IsSubset v s = ⊎_elim (λ (e : v ≡ u). subst (λ z. IsSubset z s) (sym e) first) (λ (e : IsSubset v b). subset-trans v b s e grown) before in
-    ⊎_elim (λ (e : w ≡ v). subset-antisym w s (subst (λ z. IsSubset z s) (sym e) old) larger.has) (λ (e : w ≡ s). e) larger.one
+pub becomes_larger : (u w s : Histories) → IsLarger s u w → IsSubset u s → w ≡ s
+becomes_larger u w s larger first = ⊎_elim (λ (e : w ≡ u). subset-antisym w s (subst (λ z. IsSubset z s) (sym e) first) larger.has) (λ (e : w ≡ s). e) larger.one
 
 pub if_some : {A : Type 0} (o : Option A) (x : A) (P : A → Type 0) → o ≡ Some x → IfSome o P → P x
 if_some o x P e h = subst (λ z. IfSome z P) e h
 
-pub larger_of : (end : Option Learned) (l : Learned) (v w : Histories) → end ≡ Some l → IsViewOf end v w → IsLarger l.updates v w
-larger_of end l v w e h = subst (λ z. IsViewOf z v w) e h
+pub larger_then : (end : Option Learned) (l : Learned) (v w : Histories) → end ≡ Some l → IsViewOf end v w → IsLarger l.updates v w
+larger_then end l v w e h = subst (λ z. IsViewOf z v w) e h
+
+pub last_then : (end : Option Learning) (l : Learning) (old new : Option Histories) → end ≡ Some l → IsLastAfter end old new → new ≡ Some l.updates
+last_then end l old new e h = subst (λ z. IsLastAfter z old new) e h
+
+pub last_learnt_then : (end : Option Learned) (l : Learned) (old new : Option Histories) → end ≡ Some l → IsLastLearned end old new → new ≡ Some l.updates
+last_learnt_then end l old new e h = subst (λ z. IsLastLearned z old new) e h

@@ -1,8 +1,7 @@
 -- Certificates: a majority of acceptors acknowledged a set.
-use Rattle.std.specs.Prelude.{◌≡◌, ◌⊎◌, ℕ, Bool, true, IsTrue, List, [], ◌∷◌, ◌++◌, Option, Some, None}
+use Rattle.std.specs.Prelude.{◌≡◌, ℕ, Bool, true, IsTrue, List, [], Option, Some, None}
 use Rattle.std.specs.List.{slice_get}
 use Rattle.la_set.specs.Histories.{Histories}
-use Rattle.la_set.specs.Inclusion.{IsSubset}
 use Rattle.la_proposer.specs.Majority.{is_majority}
 use Rattle.la_shared.specs.declared.entry.Entry.{Entry}
 use Rattle.la_shared.specs.History.{HasYes}
@@ -35,6 +34,3 @@ HasCertificate votes passes s = OfMajority votes (λ a. HasYes (seen_at passes a
 -- to these passes' own offers
 abbrev pub HasOwnCertificate : (votes : List ℕ) → List Known → Histories → Type 0
 HasOwnCertificate votes passes s = OfMajority votes (λ a. HasYes (mine_at passes a) s)
-
-abbrev pub AreComparable : Histories → Histories → Type 0
-AreComparable s t = IsSubset s t ⊎ IsSubset t s

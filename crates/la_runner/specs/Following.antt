@@ -1,7 +1,6 @@
 -- How a member goes on in one instance.
-use Rattle.std.specs.Prelude.{◌≡◌, ◌⊎◌, ℕ, ◌<◌, ◌≤◌, List, [], ◌∷◌, ◌++◌, map, Option, Some, None}
+use Rattle.std.specs.Prelude.{◌≡◌, ◌⊎◌, ℕ, ◌≤◌, List, ◌++◌, map}
 use mathlib.Core.List.{IsPrefix}
-use Rattle.la_set.specs.ObjectOps.{ObjectOp}
 use Rattle.la_set.specs.Histories.{Histories, history, count}
 use Rattle.la_set.specs.Inclusion.{IsSubset}
 use Rattle.la_acceptor.specs.declared.reply.Reply.TheVariants.{Yes}
@@ -10,9 +9,9 @@ use Rattle.la_proposer.specs.declared.heard.Heard.TheVariants as said
 use Rattle.la_proposer.specs.ProposerState.{ProposerState}
 use Rattle.la_proposer.specs.Inputs.{all_submitted}
 use Rattle.la_shared.specs.declared.entry.Entry.{Entry}
-use Rattle.la_shared.specs.History.{HasEntry, HasYes}
+use Rattle.la_shared.specs.History.{HasYes}
 use Rattle.la_shared.specs.Passes.{Known, AcceptorName}
-use Rattle.la_runner.specs.Certificates.{seen_at, mine_at, OfMajority, HasCertificate, HasOwnCertificate}
+use Rattle.la_runner.specs.Certificates.{seen_at, mine_at, OfMajority, HasOwnCertificate}
 use Rattle.la_runner.specs.Sound.{HasReply, IsSound}
 
 -- of which acceptors the passes are

@@ -1,5 +1,5 @@
 -- What holds of a member in one instance, and how it goes on there.
-use Rattle.std.specs.Prelude.{◌≡◌, ◌⊎◌, ℕ, ◌≤◌, IfSome, List}
+use Rattle.std.specs.Prelude.{◌≡◌, ◌≤◌, IfSome, List}
 use mathlib.Core.List.{IsPrefix}
 use Rattle.la_set.specs.Histories.{Histories, history, count}
 use Rattle.la_set.specs.Inclusion.{IsSubset}

@@ -6,14 +6,14 @@ use Rattle.la_set.specs.ObjectOps.{ObjectOp, object_op_of}
 use Rattle.la_set.specs.Histories.{Histories, ContainsUpdate, object_op_number, count, empty}
 use Rattle.la_set.specs.Inclusion.{IsSubset}
 use Rattle.la_acceptor.specs.declared.reply.Reply.{Reply}
-use Rattle.la_acceptor.specs.declared.reply.Reply.TheVariants.{Yes, No}
+use Rattle.la_acceptor.specs.declared.reply.Reply.TheVariants.{No}
 use Rattle.la_proposer.specs.declared.tally.Counted.{Counted}
 use Rattle.la_proposer.specs.ProposerState.{ProposerState, WaitsOnlyAsking}
 use Rattle.la_proposer.specs.Inputs.{all_submitted}
 use Rattle.la_proposer.specs.Invariant.{IsProposerState}
 use Rattle.la_shared.specs.History.{HasEntry}
 use Rattle.la_shared.specs.Passes.{Known, IsPass}
-use Rattle.la_runner.specs.Certificates.{seen_at, mine_at, HasCertificate, HasOwnCertificate}
+use Rattle.la_runner.specs.Certificates.{mine_at, HasCertificate}
 
 -- this acceptor's reply has counted
 abbrev pub HasReply : List Counted → (a : ℕ) → Reply → Type 0

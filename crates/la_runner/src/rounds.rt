@@ -11,10 +11,9 @@ ghost use Rattle.la_runner.specs.Refusals.{IsOfferRefusal, IsRoundsRefusal, IsUp
 ghost use Rattle.la_runner.specs.Rounds.{IsLarger, IsViewAfter, IsLastAnswer};
 
 use crate::instance::Instance;
-use crate::view::take_larger;
 use crate::{Learned, RunnerError};
 use la_proposer::Status;
-use la_set::{Op, UpdateSet};
+use la_set::Op;
 use la_shared::{Gate, SharedAcceptor};
 use std::sync::Wait;
 
@@ -43,7 +42,7 @@ impl Instance {
         match self.round(rt, acceptors, own, instance, gate)? {
             None => Ok(None),
             Some(learning) => {
-                take_larger(&mut self.view, learning.again);
+                self.view.take_larger(learning.again);
                 Ok(Some(Learned {
                     ballot: learning.ballot,
                     updates: learning.updates,

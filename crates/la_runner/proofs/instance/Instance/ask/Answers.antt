@@ -1,6 +1,5 @@
-use Rattle.std.proofs.Common.{rules, sym, ◌∙◌, ap, length, subst, slice_index_or, ◌<◌}
-use Rattle.la_runner.specs.Following.{acceptors}
-use Rattle.la_runner.proofs.Asked.{goes_of, learnt_of, stays_of, at_place, acceptor_of}
+use Rattle.std.proofs.Common.{sym, subst, ◌<◌}
+use Rattle.la_runner.proofs.Asked.{goes_of, learnt_of, stays_of, at_place}
 use Rattle.la_runner.proofs.instance.Instance.ask.Goals as goal
 
 pub returns-clause-goes : goal.returns-clause-goes
