@@ -21,19 +21,19 @@ use Rattle.la_runner.specs.Following.{GoOn, Beyond}
 pub prefix_trans : {A : Type 0} (xs ys zs : List A) → IsPrefix xs ys → IsPrefix ys zs → IsPrefix xs zs
 prefix_trans xs ys zs p q = (p.0 ++ q.0, sym (append_assoc xs p.0 q.0) ∙ ap (λ w. w ++ q.0) p.1 ∙ q.1)
 
-get-set_same : {A : Type 0} (xs : List A) (i : ℕ) (x : A) → i < length xs → slice_get (slice_set xs i x) i ≡ Some x
+pub get-set_same : {A : Type 0} (xs : List A) (i : ℕ) (x : A) → i < length xs → slice_get (slice_set xs i x) i ≡ Some x
 get-set_same [] i x lt = absurd (omega arith)
 get-set_same (y ∷ ys) zero x lt = refl
 get-set_same (y ∷ ys) (suc i) x lt = get-set_same ys i x (omega arith)
 
-get-set_other : {A : Type 0} (xs : List A) (i j : ℕ) (x : A) → j ≢ i → slice_get (slice_set xs i x) j ≡ slice_get xs j
+pub get-set_other : {A : Type 0} (xs : List A) (i j : ℕ) (x : A) → j ≢ i → slice_get (slice_set xs i x) j ≡ slice_get xs j
 get-set_other [] i j x ne = refl
 get-set_other (y ∷ ys) zero zero x ne = absurd (ne refl)
 get-set_other (y ∷ ys) zero (suc j) x ne = refl
 get-set_other (y ∷ ys) (suc i) zero x ne = refl
 get-set_other (y ∷ ys) (suc i) (suc j) x ne = get-set_other ys i j x (λ e. ne (ap suc e))
 
-map-set_other : {A B : Type 0} (f : A → B) (xs : List A) (i : ℕ) (k w : A) → slice_get xs i ≡ Some k → f w ≡ f k → map f (slice_set xs i w) ≡ map f xs
+pub map-set_other : {A B : Type 0} (f : A → B) (xs : List A) (i : ℕ) (k w : A) → slice_get xs i ≡ Some k → f w ≡ f k → map f (slice_set xs i w) ≡ map f xs
 map-set_other f [] i k w at e = refl
 map-set_other f (x ∷ xs) zero k w at e = let same : x ≡ k = cc in ap (λ y. y ∷ map f xs) (e ∙ ap f (sym same))
 map-set_other f (x ∷ xs) (suc i) k w at e = ap (λ ys. f x ∷ ys) (map-set_other f xs i k w at e)

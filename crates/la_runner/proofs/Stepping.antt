@@ -56,12 +56,13 @@ learnt_now p ps q qs n s g l = record {
 }
 
 pub steps_refl : (x : Instance) → IsInstance x → Steps x x
-steps_refl x is = record { is = is; follows = follows_refl x.proposer x.passes.items x.passes.items (on_refl x.passes.items); grows = subset-refl x.view }
+steps_refl x is = record { is = is; follows = follows_refl x.proposer x.passes.items x.passes.items (on_refl x.passes.items); submitted = prefix_self (all_submitted x.proposer); grows = subset-refl x.view }
 
 pub steps_trans : (x y z : Instance) → Steps x y → Steps y z → Steps x z
 steps_trans x y z f g = record {
   is = g.is;
   follows = follows_trans x.proposer y.proposer z.proposer x.passes.items y.passes.items z.passes.items f.follows g.follows;
+  submitted = prefix_trans (all_submitted x.proposer) (all_submitted y.proposer) (all_submitted z.proposer) f.submitted g.submitted;
   grows = subset-trans x.view y.view z.view f.grows g.grows;
 }
 
@@ -77,6 +78,7 @@ steps_on x y is g same view = record {
     learnt = subst (λ o. IfSome o (IsLearntSet y.proposer y.passes.items)) (sym same) (learnt_goes x.proposer x.passes.items y.proposer y.passes.items x.learnt g is.learnt);
   };
   follows = g.follows;
+  submitted = prefix_is (all_submitted x.proposer) (all_submitted y.proposer) g.nothing;
   grows = subst (IsSubset x.view) (sym view) (subset-refl x.view);
 }
 
@@ -89,6 +91,7 @@ steps_learnt x y n s is g l now larger = record {
     learnt = subst (λ o. IfSome o (IsLearntSet y.proposer y.passes.items)) (sym now) (learnt_now x.proposer x.passes.items y.proposer y.passes.items n s g l);
   };
   follows = g.follows;
+  submitted = prefix_is (all_submitted x.proposer) (all_submitted y.proposer) g.nothing;
   grows = larger.grows;
 }
 
@@ -133,7 +136,7 @@ module _ (x : Instance) (q : ProposerState) (d : ObjectOp) (is : IsInstance x) (
   }
 
   pub submitted_steps : Steps x submitted_instance
-  submitted_steps = record { is = submitted_is_instance; follows = submitted_follows; grows = subset-refl x.view }
+  submitted_steps = record { is = submitted_is_instance; follows = submitted_follows; submitted = (d ∷ [], sym submitted_adds); grows = subset-refl x.view }
 
   module _ (y : Instance) (n : ℕ) (s : Histories) (steps : Steps submitted_instance y) (nothing : SubmitsNothing q y.proposer) (l : IsLearnt q x.passes.items y.passes.items n s) (c : IsComplete submitted_instance y s) where
     enough : submitted q ≤ count s x.proposer.own

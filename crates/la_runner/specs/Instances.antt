@@ -26,6 +26,7 @@ pub record IsInstance (x : Instance) : Type 0 where
 pub record Steps (old new : Instance) : Type 0 where
   pub is : IsInstance new
   pub follows : Follows old.proposer new.proposer old.passes.items new.passes.items
+  pub submitted : IsPrefix (all_submitted old.proposer) (all_submitted new.proposer)
   pub grows : IsSubset old.view new.view
 
 -- a learnt set, by what was known before and is known now: certified by own offers, it has all that

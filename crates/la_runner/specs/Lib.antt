@@ -5,3 +5,5 @@ pub mod Following
 pub mod Instances
 pub mod Refusals
 pub mod Rounds
+pub mod Members
+pub mod Fields
