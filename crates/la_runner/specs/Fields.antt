@@ -1,5 +1,4 @@
 -- What the fields of a member and a group stand for, and what holds of them.
-use Rattle.std.specs.Prelude.{map, reverse, List}
 use Rattle.la_proposer.specs.Majority.{votes_of}
 use Rattle.la_runner.specs.declared.member.Member.TheInside.{Inside}
 use Rattle.la_runner.specs.Members.{MemberState, IsMember}

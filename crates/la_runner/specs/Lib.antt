@@ -7,3 +7,4 @@ pub mod Refusals
 pub mod Rounds
 pub mod Members
 pub mod Fields
+pub mod Starting

@@ -1,12 +1,18 @@
-ghost use Rattle.std.specs.Prelude.{◌≡◌, ◌<◌, ◌≤◌, ◌∷◌, [], ◌++◌, true, false, Some, None, Ok, Err, IfOk, OnOk, IfErr, IfSome, IsSome};
+ghost use Rattle.std.specs.Prelude.{◌≡◌, ◌<◌, ◌≤◌, ◌∷◌, [], ◌++◌, true, false, Some, None, Ok, Err, length, IfOk, OnOk, IfErr, IfSome, IsSome};
+ghost use Rattle.std.specs.Option.{option_to_list};
+ghost use Rattle.la_proposer.specs.Majority.{votes_of};
 ghost use Rattle.la_proposer.specs.ProposerState.{op_on};
 ghost use Rattle.la_runner.specs.Members.{IsOf, GoesOn, IsOnlyIn, IsLearntIn, IsUpdateOf, submitted_in, is_asking_in, view};
 ghost use Rattle.la_runner.specs.Refusals.{IsRoundsRefusal};
 ghost use Rattle.la_runner.specs.Rounds.{IsLarger};
+ghost use Rattle.la_runner.specs.Starting.{IsConfig, IsGroup, AreMembersFrom, IsNewRefusal};
 
-use crate::{Learned, Member, RunnerError};
+use crate::{Learned, Member, RunnerError, starting};
+use la_commit::MAX_COMMITS;
+use la_proposer::Votes;
 use la_set::Op;
 use la_shared::{Gate, SharedAcceptor};
+use std::alloc::Global;
 use std::marker::Model;
 use std::sync::Wait;
 
@@ -35,6 +41,38 @@ impl Model for Group {
 }
 
 impl Group {
+    /// A group of so many replicas with these votes, and so many adopt-commit objects, in which
+    /// nothing has happened: one shared acceptor for each replica in each instance, and the members.
+    /// Each may submit as many updates as the cap in instance 0, and one in each other instance.
+    ///
+    /// `BadConfig` comes exactly where a value is out of its range (1 to 8 replicas, 0 to 16
+    /// adopt-commit objects, a cap from 1 to 1,000,000) or the votes are not those of so many
+    /// replicas; `Memory` where a growth was refused.
+    ///
+    /// The cost is that of replicas times replicas times instances passes.
+    pub fn new(
+        alloc: Global,
+        replicas: u8,
+        commits: u8,
+        cap: u32,
+        votes: Votes,
+    ) -> Result<(Group, Members), RunnerError>
+        ensures config { IfOk result (λ _. IsConfig replicas commits cap (votes_of votes)) }
+        ensures group { IfOk result (λ made. IsGroup replicas commits made.0) }
+        ensures count { IfOk result (λ made. length made.1 ≡ replicas) }
+        ensures members { IfOk result (λ made.
+            AreMembersFrom made.0 (votes_of votes) cap 0 made.1) }
+        ensures error { IfErr result (IsNewRefusal replicas commits cap (votes_of votes)) }
+    {
+        if commits > MAX_COMMITS || !votes.is_group_of(replicas, cap) {
+            return Err(RunnerError::BadConfig);
+        }
+        let instances = 2 * commits as usize + 1;
+        let (rows, mut firsts) = starting::rows(alloc, replicas, instances)?;
+        let members = starting::members(alloc, &rows, &mut firsts, replicas, cap, votes)?;
+        Ok((Group { rows }, Members { members }))
+    }
+
     /// Submits an update for an object, and runs at most so many rounds until a set that holds it is
     /// learnt, which is the view then.
     pub fn update<R: Wait, G: Gate>(
@@ -87,5 +125,30 @@ impl Group {
         let at = &mut member.instances[0];
         let end = at.resume(rt, &self.rows[0].acceptors, own, 0, rounds, gate)?;
         Ok(end)
+    }
+}
+
+/// The members of a new group, in order of replica.
+#[derive(Drop)]
+pub struct Members {
+    // the last one first
+    members: Vec<Member>,
+}
+
+impl Model for Members {
+    ghost use Rattle.std.specs.Prelude.{List, reverse};
+    ghost use Rattle.la_runner.specs.Members.{MemberState};
+
+    ghost Value = { List MemberState };
+
+    ghost view = { λ members. reverse members.members.items };
+}
+
+impl Members {
+    /// Takes the next member out; `None` once all are taken.
+    pub fn take(&mut self) -> Option<Member>
+        ensures { self.old ≡ option_to_list result ++ self.new }
+    {
+        self.members.pop()
     }
 }

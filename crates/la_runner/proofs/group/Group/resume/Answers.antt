@@ -1,7 +1,7 @@
 use Rattle.std.proofs.Common.{subst, sym}
 use Rattle.la_runner.specs.Fields.{stands_for}
 use Rattle.la_runner.specs.Members.{GoesOn}
-use Rattle.la_runner.proofs.Members.{instance_at, with_instance, stays_member, goes_on, resumed_of}
+use Rattle.la_runner.proofs.Keeping.{instance_at, with_instance, stays_member, goes_on, resumed_of}
 use Rattle.la_runner.proofs.group.Group.resume.Goals as goal
 
 pub resume-requires-clause-is : goal.resume-requires-clause-is

@@ -1,24 +1,22 @@
 -- What a step in one instance leaves of a member.
-use Rattle.std.proofs.Common.{◌≡◌, ◌≢◌, inl, inr, ℕ, ◌≤◌, ◌<◌, List, length, map, Option, Some, None, refl, ap, sym, ◌∙◌, subst}
+use Rattle.std.proofs.Common.{◌≡◌, inl, inr, ℕ, ◌≤◌, ◌<◌, List, length, Option, Some, None, refl, ap, sym, ◌∙◌, subst}
 use Rattle.std.specs.Prelude.{IfSome}
 use Rattle.std.specs.List.{slice_get, slice_set, slice_index_or}
 use Rattle.std.proofs.lemmas.Bool.{cases_eq}
 use Rattle.std.proofs.lemmas.Option.{slice_get_within, slice_get-get_or}
 use Rattle.std.proofs.lemmas.List.{length-set}
 use mathlib.Core.List.{IsPrefix}
-use Rattle.la_set.specs.ObjectOps.{ObjectOp}
 use Rattle.la_set.specs.Histories.{Histories, history}
 use Rattle.la_set.specs.Inclusion.{IsSubset}
 use Rattle.la_set.proofs.Theorems.{subset-refl}
-use Rattle.la_proposer.specs.Inputs.{all_submitted}
 use Rattle.la_shared.specs.Passes.{Known}
 use Rattle.la_shared.proofs.Theorems.{prefix_self}
 use Rattle.la_runner.specs.declared.instance.Instance.{Instance}
 use Rattle.la_runner.specs.declared.learned.Learned.{Learned}
 use Rattle.la_runner.specs.Certificates.{seen_at, mine_at, HasCertificate, HasOwnCertificate}
 use Rattle.la_runner.specs.Following.{acceptors_of}
-use Rattle.la_runner.specs.Instances.{IsInstance, Steps, IsComplete, IsUpdated}
-use Rattle.la_runner.specs.Members.{MemberState, passes_of, passes_in, submitted_of, submitted_in, learnt_of, last_learnt, view_of, view, acceptors_in, IsIn, IsMember, GoesOn, IsOnlyIn, IsLearntIn, IsUpdateOf}
+use Rattle.la_runner.specs.Instances.{Steps, IsComplete, IsUpdated}
+use Rattle.la_runner.specs.Members.{MemberState, passes_of, passes_in, submitted_of, learnt_of, view_of, IsIn, IsMember, GoesOn, IsOnlyIn, IsLearntIn, IsUpdateOf}
 use Rattle.la_runner.proofs.Passing.{get-set_same, get-set_other, map-set_other}
 
 -- the instance at a place
