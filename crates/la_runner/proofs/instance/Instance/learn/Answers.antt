@@ -1,0 +1,36 @@
+use Rattle.std.proofs.Common.{rules, ◌∙◌, arith}
+use Rattle.la_runner.proofs.Rounding.{rounds_learnt}
+use Rattle.la_runner.proofs.Viewing.{if_some, larger_then, larger_later, view_rounds}
+use Rattle.la_runner.proofs.Stepping.{steps_trans, goes_of_steps, complete, enough_of}
+use Rattle.la_runner.proofs.instance.Instance.learn.Goals as goal
+
+pub returns-in_err-learned-clause-steps : goal.returns-in_err-learned-clause-steps
+returns-in_err-learned-clause-steps g c = steps_trans c.args.self.now c.loop-round.self c.round_and_view.new.self c.loop-round.invariant.0 c.round_and_view.ensures.steps
+
+pub returns-then-count_of-mine-clause-steps : goal.returns-then-count_of-mine-clause-steps
+returns-then-count_of-mine-clause-steps g c = steps_trans c.args.self.now c.loop-round.self c.round_and_view.new.self c.loop-round.invariant.0 c.round_and_view.ensures.steps
+
+pub returns-then-count_of-mine-clause-learnt : goal.returns-then-count_of-mine-clause-learnt
+returns-then-count_of-mine-clause-learnt g c =
+    rounds_learnt _ _ _ _ _ _ _ _ (goes_of_steps c.args.self.now c.loop-round.self c.loop-round.invariant.0 c.loop-round.invariant.1)
+      (goes_of_steps c.loop-round.self c.round_and_view.new.self c.round_and_view.ensures.steps c.round_and_view.ensures.nothing)
+      (if_some _ _ _ c.in-Some.is c.in_ok-learned.ensures.learnt)
+
+pub returns-then-count_of-mine-clause-complete : goal.returns-then-count_of-mine-clause-complete
+returns-then-count_of-mine-clause-complete g c =
+    complete c.args.self.now c.round_and_view.new.self _ _ c.requires.is (c.round_and_view.ensures.nothing ∙ c.loop-round.invariant.1)
+      (returns-then-count_of-mine-clause-learnt g c)
+      (enough_of c.args.self.now.proposer c.in-Some.learned.updates c.args.own c.submitted-mine.result c.requires.own c.submitted-mine.ensures (search rules))
+
+pub returns-then-count_of-mine-clause-larger : goal.returns-then-count_of-mine-clause-larger
+returns-then-count_of-mine-clause-larger g c =
+    let learnt = if_some _ _ _ c.in-Some.is c.in_ok-learned.ensures.learnt in
+    larger_later c.args.self.now.view c.loop-round.self.view c.round_and_view.new.self.view c.in-Some.learned.updates c.loop-round.self.proposer.updates c.loop-round.invariant.2 learnt.grown c.loop-round.invariant.0.grows (larger_then _ _ _ _ c.in-Some.is c.in_ok-learned.ensures.after)
+
+pub loop-round-preserved : goal.loop-round-preserved
+loop-round-preserved g c = (
+  steps_trans c.args.self.now c.loop-round.self c.round_and_view.new.self c.loop-round.invariant.0 c.round_and_view.ensures.steps,
+  c.round_and_view.ensures.nothing ∙ c.loop-round.invariant.1,
+  view_rounds c.args.self.now.view c.loop-round.self.view c.round_and_view.new.self.view c.loop-round.self.proposer c.round_and_view.new.self.proposer c.round_and_view.ensures.steps.follows.grows c.loop-round.invariant.2 c.round_and_view.ensures.step,
+  λ _. omega (arith, c.loop-round-test.true),
+)

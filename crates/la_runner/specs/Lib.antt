@@ -1,0 +1,10 @@
+pub mod Certificates
+pub mod Asking
+pub mod Sound
+pub mod Following
+pub mod Instances
+pub mod Refusals
+pub mod Rounds
+pub mod Members
+pub mod Fields
+pub mod Starting

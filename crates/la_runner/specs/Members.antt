@@ -1,0 +1,122 @@
+-- What a contract sees of a group and of its members.
+use Rattle.std.specs.Prelude.{◌≡◌, ◌≢◌, ℕ, ◌≤◌, Bool, false, List, [], map, length, slice_get, Option, Some, None}
+use mathlib.Core.List.{IsPrefix}
+use Rattle.la_set.specs.ObjectOps.{ObjectOp}
+use Rattle.la_set.specs.Histories.{Histories, history, empty}
+use Rattle.la_set.specs.Inclusion.{IsSubset}
+use Rattle.la_proposer.specs.Inputs.{all_submitted}
+use Rattle.la_shared.specs.Passes.{Known, AcceptorName}
+use Rattle.la_runner.specs.declared.instance.Instance.{Instance}
+use Rattle.la_runner.specs.Certificates.{seen_at, mine_at, HasCertificate, HasOwnCertificate}
+use Rattle.la_runner.specs.Following.{acceptors_of}
+use Rattle.la_runner.specs.Instances.{IsInstance}
+
+pub record MemberState : Type 0 where
+  -- the votes of its group, and which replica it is
+  pub votes : List ℕ
+  pub replica : ℕ
+  -- of each instance, from 0 on: the proposer, the passes, the last learnt set, and the view
+  pub instances : List Instance
+
+-- ## What there is in an instance; nothing, where there is no such instance
+
+abbrev pub passes_of : Option Instance → List Known
+passes_of None = []
+passes_of (Some x) = x.passes.items
+
+abbrev pub passes_in : MemberState → (instance : ℕ) → List Known
+passes_in m i = passes_of (slice_get m.instances i)
+
+abbrev pub submitted_of : Option Instance → List ObjectOp
+submitted_of None = []
+submitted_of (Some x) = all_submitted x.proposer
+
+-- what the member has submitted there, in order
+abbrev pub submitted_in : MemberState → (instance : ℕ) → List ObjectOp
+submitted_in m i = submitted_of (slice_get m.instances i)
+
+abbrev pub is_asking_of : Option Instance → Bool
+is_asking_of None = false
+is_asking_of (Some x) = x.proposer.is_asking
+
+-- whether a ballot is open there
+abbrev pub is_asking_in : MemberState → (instance : ℕ) → Bool
+is_asking_in m i = is_asking_of (slice_get m.instances i)
+
+abbrev pub learnt_of : Option Instance → Option Histories
+learnt_of None = None
+learnt_of (Some x) = x.learnt
+
+-- the last set that it learnt there
+abbrev pub last_learnt : MemberState → (instance : ℕ) → Option Histories
+last_learnt m i = learnt_of (slice_get m.instances i)
+
+abbrev pub view_of : Option Instance → Histories
+view_of None = empty
+view_of (Some x) = x.view
+
+-- what it answers questions from
+abbrev pub view : MemberState → Histories
+view m = view_of (slice_get m.instances 0)
+
+-- a majority of the acceptors of an instance, by votes, acknowledged the set: as far as the member's
+-- passes have seen, or by its own entries
+abbrev pub IsCertified : MemberState → (instance : ℕ) → Histories → Type 0
+IsCertified m i s = HasCertificate m.votes (passes_in m i) s
+
+abbrev pub IsOwnCertified : MemberState → (instance : ℕ) → Histories → Type 0
+IsOwnCertified m i s = HasOwnCertificate m.votes (passes_in m i) s
+
+-- ## Groups
+
+-- a group's acceptors, by instance
+abbrev pub GroupState : Type 0
+GroupState = List (List AcceptorName)
+
+abbrev pub acceptors_in : MemberState → GroupState
+acceptors_in m = map (λ x. acceptors_of x.passes.items) m.instances
+
+-- the member's passes are of the group's acceptors
+abbrev pub IsOf : GroupState → MemberState → Type 0
+IsOf group m = acceptors_in m ≡ group
+
+-- ## What is true of every member, and how it goes on
+
+abbrev pub IsIn : MemberState → Instance → Type 0
+IsIn m x = IsInstance x × (x.proposer.votes ≡ m.votes) × (x.proposer.own ≡ m.replica)
+
+pub record IsMember (m : MemberState) : Type 0 where
+  pub some : 1 ≤ length m.instances
+  pub few : m.replica ≤ 255
+  pub each : (i : ℕ) (x : Instance) → slice_get m.instances i ≡ Some x → IsIn m x
+
+-- whatever a call answers: the passes have seen, and made, what they had, and perhaps more; what was
+-- submitted stays, and the view only grows
+pub record GoesOn (old new : MemberState) : Type 0 where
+  pub votes : new.votes ≡ old.votes
+  pub replica : new.replica ≡ old.replica
+  pub acceptors : acceptors_in new ≡ acceptors_in old
+  pub seen : (i a : ℕ) → IsPrefix (seen_at (passes_in old i) a) (seen_at (passes_in new i) a)
+  pub mine : (i a : ℕ) → IsPrefix (mine_at (passes_in old i) a) (mine_at (passes_in new i) a)
+  pub submitted : (i : ℕ) → IsPrefix (submitted_in old i) (submitted_in new i)
+  pub grows : IsSubset (view old) (view new)
+
+-- in every instance but this one nothing changes
+abbrev pub IsOnlyIn : (instance : ℕ) → MemberState → MemberState → Type 0
+IsOnlyIn i old new = (j : ℕ) → j ≢ i → slice_get new.instances j ≡ slice_get old.instances j
+
+-- ## Learnt sets
+
+-- a set that was learnt in an instance: certified by own offers, it has all that the member has
+-- submitted there, and contains each set that had an own certificate at the call
+pub record IsLearntIn (instance : ℕ) (old new : MemberState) (s : Histories) : Type 0 where
+  pub own : IsOwnCertified new instance s
+  pub holds : history s new.replica ≡ submitted_in new instance
+  pub contains_own : (t : Histories) → IsOwnCertified old instance t → IsSubset t s
+  pub last : last_learnt new instance ≡ Some s
+
+-- of an update: it contains each set that had a certificate at the call
+pub record IsUpdateOf (old new : MemberState) (s : Histories) : Type 0 where
+  pub learnt : IsLearntIn 0 old new s
+  pub contains : (t : Histories) → IsCertified old 0 t → IsSubset t s
+  pub view : view new ≡ s

@@ -1,0 +1,154 @@
+ghost use Rattle.std.specs.Prelude.{◌≡◌, ◌<◌, ◌≤◌, ◌∷◌, [], ◌++◌, true, false, Some, None, Ok, Err, length, IfOk, OnOk, IfErr, IfSome, IsSome};
+ghost use Rattle.std.specs.Option.{option_to_list};
+ghost use Rattle.la_proposer.specs.Majority.{votes_of};
+ghost use Rattle.la_proposer.specs.ProposerState.{op_on};
+ghost use Rattle.la_runner.specs.Members.{IsOf, GoesOn, IsOnlyIn, IsLearntIn, IsUpdateOf, submitted_in, is_asking_in, view};
+ghost use Rattle.la_runner.specs.Refusals.{IsRoundsRefusal};
+ghost use Rattle.la_runner.specs.Rounds.{IsLarger};
+ghost use Rattle.la_runner.specs.Starting.{IsConfig, IsGroup, AreMembersFrom, IsNewRefusal};
+
+use crate::{Learned, Member, RunnerError, starting};
+use la_commit::MAX_COMMITS;
+use la_proposer::Votes;
+use la_set::Op;
+use la_shared::{Gate, SharedAcceptor};
+use std::alloc::Global;
+use std::marker::Model;
+use std::sync::Wait;
+
+/// The acceptors of one instance, one for each replica.
+#[derive(Drop)]
+pub(crate) struct Row {
+    pub acceptors: Vec<SharedAcceptor>,
+}
+
+/// The acceptors of a group, which its members share: threads do so by reference. A contract sees
+/// which acceptors they are, by instance.
+///
+/// Whoever calls keeps that members and notes are of this group: each call requires it.
+#[derive(Drop)]
+pub struct Group {
+    rows: Vec<Row>,
+}
+
+impl Model for Group {
+    ghost use Rattle.std.specs.Prelude.{map};
+    ghost use Rattle.la_runner.specs.Members.{GroupState};
+
+    ghost Value = { GroupState };
+
+    ghost view = { λ group. map (λ row. row.acceptors.items) group.rows.items };
+}
+
+impl Group {
+    /// A group of so many replicas with these votes, and so many adopt-commit objects, in which
+    /// nothing has happened: one shared acceptor for each replica in each instance, and the members.
+    /// Each may submit as many updates as the cap in instance 0, and one in each other instance.
+    ///
+    /// `BadConfig` comes exactly where a value is out of its range (1 to 8 replicas, 0 to 16
+    /// adopt-commit objects, a cap from 1 to 1,000,000) or the votes are not those of so many
+    /// replicas; `Memory` where a growth was refused.
+    ///
+    /// The cost is that of replicas times replicas times instances passes.
+    pub fn new(
+        alloc: Global,
+        replicas: u8,
+        commits: u8,
+        cap: u32,
+        votes: Votes,
+    ) -> Result<(Group, Members), RunnerError>
+        ensures config { IfOk result (λ _. IsConfig replicas commits cap (votes_of votes)) }
+        ensures group { IfOk result (λ made. IsGroup replicas commits made.0) }
+        ensures count { IfOk result (λ made. length made.1 ≡ replicas) }
+        ensures members { IfOk result (λ made.
+            AreMembersFrom made.0 (votes_of votes) cap 0 made.1) }
+        ensures error { IfErr result (IsNewRefusal replicas commits cap (votes_of votes)) }
+    {
+        if commits > MAX_COMMITS || !votes.is_group_of(replicas, cap) {
+            return Err(RunnerError::BadConfig);
+        }
+        let instances = 2 * commits as usize + 1;
+        let (rows, mut firsts) = starting::rows(alloc, replicas, instances)?;
+        let members = starting::members(alloc, &rows, &mut firsts, replicas, cap, votes)?;
+        Ok((Group { rows }, Members { members }))
+    }
+
+    /// Submits an update for an object, and runs at most so many rounds until a set that holds it is
+    /// learnt, which is the view then.
+    pub fn update<R: Wait, G: Gate>(
+        &self,
+        rt: &R,
+        member: &mut Member,
+        object: u16,
+        op: Op,
+        rounds: u32,
+        gate: &G,
+    ) -> Result<Learned, RunnerError>
+        requires { IsOf self.now member.old }
+        ensures of { IsOf self.now member.new }
+        ensures goes_on { GoesOn member.old member.new }
+        ensures only { IsOnlyIn 0 member.old member.new }
+        ensures submitted { OnOk result
+            (submitted_in member.new 0 ≡ submitted_in member.old 0 ++ op_on object op ∷ []) }
+        ensures updated { IfOk result (λ l. IsUpdateOf member.old member.new l.updates) }
+    {
+        let own = member.replica;
+        let at = &mut member.instances[0];
+        let (learned, _) =
+            at.update(rt, &self.rows[0].acceptors, own, 0, object, op, rounds, gate)?;
+        Ok(learned)
+    }
+
+    /// Goes on with what is under way in instance 0: runs at most so many rounds until a learning
+    /// leaves nothing to offer, and gives that learning; `None` where nothing was under way.
+    pub fn resume<R: Wait, G: Gate>(
+        &self,
+        rt: &R,
+        member: &mut Member,
+        rounds: u32,
+        gate: &G,
+    ) -> Result<Option<Learned>, RunnerError>
+        requires { IsOf self.now member.old }
+        ensures of { IsOf self.now member.new }
+        ensures goes_on { GoesOn member.old member.new }
+        ensures only { IsOnlyIn 0 member.old member.new }
+        ensures submitted { submitted_in member.new 0 ≡ submitted_in member.old 0 }
+        ensures idle { is_asking_in member.old 0 ≡ false → result ≡ Ok None }
+        ensures asking { is_asking_in member.old 0 ≡ true → IfOk result IsSome }
+        ensures learnt { IfOk result (λ end. IfSome end (λ l.
+            IsLearntIn 0 member.old member.new l.updates)) }
+        ensures view { IfOk result (λ end. IfSome end (λ l.
+            IsLarger l.updates (view member.old) (view member.new))) }
+        ensures error { IfErr result (IsRoundsRefusal rounds) }
+    {
+        let own = member.replica;
+        let at = &mut member.instances[0];
+        let end = at.resume(rt, &self.rows[0].acceptors, own, 0, rounds, gate)?;
+        Ok(end)
+    }
+}
+
+/// The members of a new group, in order of replica.
+#[derive(Drop)]
+pub struct Members {
+    // the last one first
+    members: Vec<Member>,
+}
+
+impl Model for Members {
+    ghost use Rattle.std.specs.Prelude.{List, reverse};
+    ghost use Rattle.la_runner.specs.Members.{MemberState};
+
+    ghost Value = { List MemberState };
+
+    ghost view = { λ members. reverse members.members.items };
+}
+
+impl Members {
+    /// Takes the next member out; `None` once all are taken.
+    pub fn take(&mut self) -> Option<Member>
+        ensures { self.old ≡ option_to_list result ++ self.new }
+    {
+        self.members.pop()
+    }
+}
