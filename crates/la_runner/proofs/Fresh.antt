@@ -4,6 +4,7 @@ use Rattle.std.proofs.lemmas.List.{reverse-append}
 use Rattle.std.proofs.lemmas.List.Elements.{All-head, All-tail}
 use Rattle.std.proofs.lemmas.Option.{slice_get_within, slice_get-get_or}
 use Rattle.std.specs.Prelude.{IfSome}
+use Rattle.std.specs.Option.{option_to_list}
 use Rattle.std.specs.List.{slice_get, slice_index_or}
 use Rattle.la_set.specs.Histories.{empty}
 use Rattle.la_acceptor.proofs.Theorems.{contains-empty}
@@ -160,6 +161,15 @@ cons_rest e = cc
 -- the item at a place
 pub item_there : {A : Type 0} (xs : List A) (i : ℕ) (x : A) → i < length xs → x ≡ slice_index_or xs i x → slice_get xs i ≡ Some x
 item_there xs i x lt e = slice_get-get_or xs i x lt ∙ ap Some (sym e)
+
+pub popped : (o : Option MemberState) (xs ys : List MemberState) → xs ≡ ys ++ option_to_list o → reverse xs ≡ option_to_list o ++ reverse ys
+popped None xs ys e = ap reverse e ∙ reverse-append ys []
+popped (Some m) xs ys e = ap reverse e ∙ reverse-append ys (m ∷ [])
+
+-- the member that is taken out, and those that are left
+pub taken : (group : GroupState) (votes : List ℕ) (cap r : ℕ) (o : Option MemberState) (old new : List MemberState) → old ≡ option_to_list o ++ new → AreMembersFrom group votes cap r old → IfSome o (λ m. IsNewMember group votes cap r m × AreMembersFrom group votes cap (r + 1) new)
+taken group votes cap r None old new e are = tt
+taken group votes cap r (Some m) old new e are = subst (AreMembersFrom group votes cap r) e are
 
 -- ## First passes, by the row that they are of
 

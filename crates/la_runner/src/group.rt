@@ -1,11 +1,11 @@
-ghost use Rattle.std.specs.Prelude.{◌≡◌, ◌<◌, ◌≤◌, ◌∷◌, [], ◌++◌, true, false, Some, None, Ok, Err, length, IfOk, OnOk, IfErr, IfSome, IsSome};
+ghost use Rattle.std.specs.Prelude.{◌≡◌, ◌<◌, ◌≤◌, ◌∷◌, [], ◌++◌, true, false, Some, None, Ok, Err, ℕ, ◌+◌, List, length, IfOk, OnOk, IfErr, IfSome, IsSome};
 ghost use Rattle.std.specs.Option.{option_to_list};
 ghost use Rattle.la_proposer.specs.Majority.{votes_of};
 ghost use Rattle.la_proposer.specs.ProposerState.{op_on};
-ghost use Rattle.la_runner.specs.Members.{IsOf, GoesOn, IsOnlyIn, IsLearntIn, IsUpdateOf, submitted_in, is_asking_in, view};
+ghost use Rattle.la_runner.specs.Members.{GroupState, IsOf, GoesOn, IsOnlyIn, IsLearntIn, IsUpdateOf, submitted_in, is_asking_in, view};
 ghost use Rattle.la_runner.specs.Refusals.{IsRoundsRefusal};
 ghost use Rattle.la_runner.specs.Rounds.{IsLarger};
-ghost use Rattle.la_runner.specs.Starting.{IsConfig, IsGroup, AreMembersFrom, IsNewRefusal};
+ghost use Rattle.la_runner.specs.Starting.{IsConfig, IsGroup, IsNewMember, AreMembersFrom, IsNewRefusal};
 
 use crate::{Learned, Member, RunnerError, starting};
 use la_commit::MAX_COMMITS;
@@ -147,7 +147,11 @@ impl Model for Members {
 impl Members {
     /// Takes the next member out; `None` once all are taken.
     pub fn take(&mut self) -> Option<Member>
-        ensures { self.old ≡ option_to_list result ++ self.new }
+        ensures next { self.old ≡ option_to_list result ++ self.new }
+        ensures member { (group : GroupState) (votes : List ℕ) (cap replica : ℕ)
+            → AreMembersFrom group votes cap replica self.old
+            → IfSome result (λ member. IsNewMember group votes cap replica member
+            × AreMembersFrom group votes cap (replica + 1) self.new) }
     {
         self.members.pop()
     }
