@@ -1,0 +1,3 @@
+// Members of a group, in one thread.
+mod helpers;
+mod runs;
