@@ -36,7 +36,9 @@ enum Told {
 }
 
 // What is offered, how it is answered, and what is accepted then.
-const OFFERS: [(&[Row], Told, &[Row]); 7] = [
+type Offer = (&'static [Row], Told, &'static [Row]);
+
+const OFFERS: [Offer; 7] = [
     (&[], Told::Yes, &[]),
     (FIRST, Told::Yes, FIRST),
     (FIRST, Told::Yes, FIRST),
@@ -70,39 +72,54 @@ fn is_told(reply: &Result<Reply, AcceptorError>, told: Told, accepted: &UpdateSe
     }
 }
 
+// Whether an offer is answered so, and this is accepted then.
+fn goes_so(
+    rt: &impl Abort,
+    acceptor: &mut Acceptor,
+    offered: &UpdateSet,
+    told: Told,
+    accepted: &UpdateSet,
+) -> bool {
+    let reply = offer(rt, acceptor, offered);
+    is_told(&reply, told, accepted) && acceptor.accepted().same(accepted)
+}
+
+fn go_so(rt: &impl Abort, alloc: Global, offers: &[Offer]) -> bool {
+    let mut acceptor = Acceptor::new(alloc);
+    for (offered, told, accepted) in offers {
+        let offered = set_of(rt, alloc, offered);
+        let accepted = set_of(rt, alloc, accepted);
+        if !goes_so(rt, &mut acceptor, &offered, *told, &accepted) {
+            return false;
+        }
+    }
+    true
+}
+
 #[test]
 fn offers_are_answered(rt: HostRuntime) {
-    let alloc = rt.alloc();
-    let mut acceptor = Acceptor::new(alloc);
-    for (place, (offered, told, accepted)) in OFFERS.iter().enumerate() {
-        let reply = offer(&rt, &mut acceptor, &set_of(&rt, alloc, offered));
-        let accepted = set_of(&rt, alloc, accepted);
-        assert!(rt; is_told(&reply, *told, &accepted), "at {place}");
-        assert!(rt; acceptor.accepted().same(&accepted), "at {place}");
-    }
+    assert!(rt; go_so(&rt, rt.alloc(), &OFFERS));
 }
 
-fn copy_of(rt: &impl Abort, acceptor: &Acceptor) -> Acceptor {
-    match acceptor.copy() {
-        Ok(copy) => copy,
-        Err(_) => acceptor.copy().expect(rt, "memory is there again"),
-    }
+// Whether an offer is answered, once more where memory was refused.
+fn answers(acceptor: &mut Acceptor, offered: &UpdateSet) -> bool {
+    acceptor.offer(offered).is_ok() || acceptor.offer(offered).is_ok()
 }
 
-fn copy_of_reply(rt: &impl Abort, reply: &Reply) -> Reply {
-    match reply.copy() {
-        Ok(copy) => copy,
-        Err(_) => reply.copy().expect(rt, "memory is there again"),
-    }
+fn is_copied(acceptor: &Acceptor, accepted: &UpdateSet) -> bool {
+    matches!(&acceptor.copy(), Ok(copy) if copy.accepted().same(accepted))
 }
 
 #[test]
 fn an_acceptor_is_copied(rt: HostRuntime) {
     let mut acceptor = Acceptor::new(rt.alloc());
     let first = set_of(&rt, rt.alloc(), FIRST);
-    assert!(rt; offer(&rt, &mut acceptor, &first).is_ok());
-    let copy = copy_of(&rt, &acceptor);
-    assert!(rt; copy.accepted().same(&first));
+    assert!(rt; answers(&mut acceptor, &first));
+    assert!(rt; is_copied(&acceptor, &first) || is_copied(&acceptor, &first));
+}
+
+fn acknowledges(acceptor: &mut Acceptor, offered: &UpdateSet) -> bool {
+    matches!(&acceptor.offer(offered), Ok(reply) if reply.same(&Reply::Yes))
 }
 
 // An offer of what is accepted is answered at once, whatever allocation is refused.
@@ -110,19 +127,18 @@ fn an_acceptor_is_copied(rt: HostRuntime) {
 fn an_offer_again_takes_no_memory(rt: HostRuntime) {
     let mut acceptor = Acceptor::new(rt.alloc());
     let first = set_of(&rt, rt.alloc(), FIRST);
-    assert!(rt; offer(&rt, &mut acceptor, &first).is_ok());
-    let again = acceptor.offer(&first);
-    assert!(rt; again.is_ok_and(|reply| reply.same(&Reply::Yes)));
+    assert!(rt; answers(&mut acceptor, &first));
+    assert!(rt; acknowledges(&mut acceptor, &first));
+}
+
+fn is_copied_alike(reply: &Reply) -> bool {
+    matches!(&reply.copy(), Ok(copy) if copy.same(reply) && !copy.same(&Reply::Yes))
 }
 
 #[test]
 fn a_reply_is_copied(rt: HostRuntime) {
-    let mut acceptor = Acceptor::new(rt.alloc());
-    assert!(rt; offer(&rt, &mut acceptor, &set_of(&rt, rt.alloc(), FIRST)).is_ok());
-    let second = set_of(&rt, rt.alloc(), SECOND);
-    let reply = offer(&rt, &mut acceptor, &second).expect(&rt, "no clash");
-    let copy = copy_of_reply(&rt, &reply);
-    assert!(rt; reply.same(&copy) && !reply.same(&Reply::Yes));
+    let reply = Reply::No(set_of(&rt, rt.alloc(), SECOND));
+    assert!(rt; is_copied_alike(&reply) || is_copied_alike(&reply));
 }
 
 #[test]

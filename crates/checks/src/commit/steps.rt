@@ -3,10 +3,14 @@
 use crate::set::helpers::{Does, Row, set_of};
 use la_commit::{Fresh, NotMine, Outcome, Second, Vote, laws, own_vote};
 use la_set::UpdateSet;
+use std::alloc::Global;
+use std::process::Abort;
 
 // Participant 1 has proposed 9. A set of the first agreement, and whether the vote by it is sole;
 // `None` where the set is not taken.
-const FIRSTS: [(&[Row], Option<bool>); 8] = [
+type First = (&'static [Row], Option<bool>);
+
+const FIRSTS: [First; 8] = [
     (&[(0, 1, Does::Vote(7, false))], None),
     (
         &[(0, 1, Does::Vote(7, false)), (1, 1, Does::Vote(9, false))],
@@ -43,7 +47,9 @@ const MINE_SOLE: Vote = Vote {
 
 // Participant 1 has voted so. A set of the second agreement, and the outcome; `None` where the set
 // is not taken.
-const SECONDS: [(Vote, &[Row], Option<Outcome>); 9] = [
+type AfterVote = (Vote, &'static [Row], Option<Outcome>);
+
+const SECONDS: [AfterVote; 9] = [
     (
         MINE,
         &[(0, 1, Does::Vote(7, true)), (1, 1, Does::Vote(9, false))],
@@ -107,6 +113,26 @@ fn answers_second(vote: Vote, set: &UpdateSet, outcome: Option<Outcome>) -> bool
     }
 }
 
+fn answer_firsts(rt: &impl Abort, alloc: Global, sets: &[First]) -> bool {
+    for (rows, sole) in sets {
+        let set = set_of(rt, alloc, rows);
+        if !answers_first(&set, *sole) {
+            return false;
+        }
+    }
+    true
+}
+
+fn answer_seconds(rt: &impl Abort, alloc: Global, sets: &[AfterVote]) -> bool {
+    for (vote, rows, outcome) in sets {
+        let set = set_of(rt, alloc, rows);
+        if !answers_second(*vote, &set, *outcome) {
+            return false;
+        }
+    }
+    true
+}
+
 #[test]
 fn a_proposal_is_not_sole(rt: HostRuntime) {
     let (_proposed, vote) = Fresh::new(1).propose(9);
@@ -116,20 +142,14 @@ fn a_proposal_is_not_sole(rt: HostRuntime) {
 #[test]
 fn the_first_sets_are_answered(rt: HostRuntime) {
     laws::own_votes_are_votes();
-    for (rows, sole) in &FIRSTS {
-        let set = set_of(&rt, rt.alloc(), rows);
-        assert!(rt; answers_first(&set, *sole));
-    }
+    assert!(rt; answer_firsts(&rt, rt.alloc(), &FIRSTS));
 }
 
 #[test]
 fn the_second_sets_are_answered(rt: HostRuntime) {
     laws::unanimous_commit();
     laws::outcome_is_voted();
-    for (vote, rows, outcome) in &SECONDS {
-        let set = set_of(&rt, rt.alloc(), rows);
-        assert!(rt; answers_second(*vote, &set, *outcome));
-    }
+    assert!(rt; answer_seconds(&rt, rt.alloc(), &SECONDS));
 }
 
 // A set holds updates of replicas 0 to 7.

@@ -1,14 +1,17 @@
 // A counter at the edge of its sums, which no shelf reaches: a set has fewer updates.
-use super::helpers::update_of;
-use crate::set::helpers::Does;
+use crate::set::helpers::id;
 use la_object::{Answer, Counter, Query, Replicated};
-use la_set::Update;
-use std::process::Abort;
+use la_set::{Op, Update};
 
-// Absorbs an update so many times, as long as there is room.
-fn absorbs(counter: &mut Counter, update: &Update, times: u32) -> bool {
+// Absorbs a decrement so many times, as long as there is room.
+fn absorbs(counter: &mut Counter, by: u32, times: u32) -> bool {
+    let update = Update {
+        id: id(0, 1),
+        object: 1,
+        op: Op::Dec(by),
+    };
     for _ in 0..times {
-        if !counter.has_room() || counter.absorb(update).is_err() {
+        if !counter.has_room() || counter.absorb(&update).is_err() {
             return false;
         }
     }
@@ -22,16 +25,18 @@ fn totals(counter: &Counter, total: i64) -> bool {
     }
 }
 
+const FILLED: i64 = -4_611_686_018_427_387_904;
+
+fn is_full(counter: &Counter) -> bool {
+    !counter.has_room() && totals(counter, FILLED - 1)
+}
+
 // 2^30 of the largest decrements are 2^62 less 2^30. With 2^30 more there is room, with 1 more there
 // is none.
 #[test]
 fn a_counter_has_room_up_to_its_edge(rt: HostRuntime) {
     let mut counter = Counter::new(rt.alloc());
-    let most = update_of(&rt, rt.alloc(), &(1, 0, 1, Does::Dec(4_294_967_295)));
-    let rest = update_of(&rt, rt.alloc(), &(1, 0, 2, Does::Dec(1_073_741_824)));
-    let last = update_of(&rt, rt.alloc(), &(1, 0, 3, Does::Dec(1)));
-    let filled = absorbs(&mut counter, &most, 1_073_741_824) && absorbs(&mut counter, &rest, 1);
-    assert!(rt; filled && totals(&counter, -4_611_686_018_427_387_904));
-    assert!(rt; absorbs(&mut counter, &last, 1) && !counter.has_room());
-    assert!(rt; totals(&counter, -4_611_686_018_427_387_905));
+    assert!(rt; absorbs(&mut counter, 4_294_967_295, 1_073_741_824));
+    assert!(rt; absorbs(&mut counter, 1_073_741_824, 1) && totals(&counter, FILLED));
+    assert!(rt; absorbs(&mut counter, 1, 1) && is_full(&counter));
 }

@@ -65,14 +65,26 @@ pub trait ByName: Replicated {
     fn make(alloc: Global, made: Made) -> Result<Self, AllocError>;
 }
 
+fn boxed_counter(alloc: Global, counter: Counter) -> Result<Object, AllocError> {
+    Ok(Box::new(alloc, counter)?)
+}
+
+fn boxed_register(alloc: Global) -> Result<Object, AllocError> {
+    Ok(Box::new(alloc, MaxRegister::new(alloc))?)
+}
+
+fn boxed_set(alloc: Global) -> Result<Object, AllocError> {
+    Ok(Box::new(alloc, OrSet::new(alloc))?)
+}
+
 impl ByName for Box<dyn Replicated + Send> {
     fn make(alloc: Global, made: Made) -> Result<Box<dyn Replicated + Send>, AllocError> {
-        Ok(match made {
-            Made::Counter => Box::new(alloc, Counter::new(alloc))?,
-            Made::UsedCounter => Box::new(alloc, used_counter(alloc)?)?,
-            Made::Register => Box::new(alloc, MaxRegister::new(alloc))?,
-            Made::Set => Box::new(alloc, OrSet::new(alloc))?,
-        })
+        match made {
+            Made::Counter => boxed_counter(alloc, Counter::new(alloc)),
+            Made::UsedCounter => boxed_counter(alloc, used_counter(alloc)?),
+            Made::Register => boxed_register(alloc),
+            Made::Set => boxed_set(alloc),
+        }
     }
 }
 

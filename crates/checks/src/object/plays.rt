@@ -72,10 +72,31 @@ fn lists<B: Replicated>(shelf: &Shelf<B>, numbers: &[u16]) -> bool {
     shelf.at(numbers.len()).is_none()
 }
 
+fn adds<B: ByName>(
+    rt: &impl Abort,
+    alloc: Global,
+    shelf: &mut Shelf<B>,
+    number: u16,
+    made: Made,
+    wanted: &Result<(), ShelfError>,
+) -> bool {
+    add(rt, alloc, shelf, number, made) == *wanted
+}
+
+fn absorbs<B: ByName>(
+    rt: &impl Abort,
+    alloc: Global,
+    shelf: &mut Shelf<B>,
+    rows: &[Row],
+    wanted: &Result<u64, AbsorbError>,
+) -> bool {
+    absorb(rt, shelf, &set_of(rt, alloc, rows)) == *wanted
+}
+
 fn comes_true<B: ByName>(rt: &impl Abort, alloc: Global, shelf: &mut Shelf<B>, act: &Act) -> bool {
     match act {
-        Act::Adds(number, made, wanted) => add(rt, alloc, shelf, *number, *made) == *wanted,
-        Act::Absorbs(rows, wanted) => absorb(rt, shelf, &set_of(rt, alloc, rows)) == *wanted,
+        Act::Adds(number, made, wanted) => adds(rt, alloc, shelf, *number, *made, wanted),
+        Act::Absorbs(rows, wanted) => absorbs(rt, alloc, shelf, rows, wanted),
         Act::Answers(number, query, wanted) => answers(shelf, *number, query, wanted),
         Act::Observes(number, wanted) => observes(shelf, *number, wanted),
         Act::Retires(number, was) => retires(shelf, *number, was),
@@ -83,11 +104,25 @@ fn comes_true<B: ByName>(rt: &impl Abort, alloc: Global, shelf: &mut Shelf<B>, a
     }
 }
 
+// How many acts come true, before one does not.
+fn come_true<B: ByName>(
+    rt: &impl Abort,
+    alloc: Global,
+    shelf: &mut Shelf<B>,
+    acts: &[Act],
+) -> usize {
+    for (place, act) in acts.iter().enumerate() {
+        if !comes_true(rt, alloc, shelf, act) {
+            return place;
+        }
+    }
+    acts.len()
+}
+
 pub fn play<R: Abort, B: ByName>(rt: &R, alloc: Global, acts: &[Act]) {
     let mut shelf: Shelf<B> = Shelf::new(alloc);
-    for (place, act) in acts.iter().enumerate() {
-        assert!(rt; comes_true(rt, alloc, &mut shelf, act), "act {place}");
-    }
+    let true_acts = come_true(rt, alloc, &mut shelf, acts);
+    assert!(rt; true_acts == acts.len(), "act {true_acts}");
 }
 
 // ## A counter

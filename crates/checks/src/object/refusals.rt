@@ -90,9 +90,11 @@ const FOUR: &[Row] = &[
     (1, 5, 1, Does::Dec(1000)),
 ];
 
-// How large the view is where the counter refuses its first, second and third update, and the total
-// then.
-const REFUSED_AT: [(usize, i64); 3] = [(0, 0), (2, 1), (3, 101)];
+// After how many updates the counter refuses one, how large the view is and the total then, and how
+// many updates come after it.
+type RefusedAt = (u32, usize, i64, u64);
+
+const REFUSED_AT: [RefusedAt; 3] = [(0, 0, 0, 4), (1, 2, 1, 2), (2, 3, 101, 1)];
 
 // A shelf with a counter that refuses after so many updates.
 fn shelf_of(rt: &impl Abort, alloc: Global, left: u32, all: &Arc<()>) -> Counters {
@@ -110,23 +112,40 @@ fn stops_at(shelf: &mut Counters, set: &UpdateSet, length: usize) -> bool {
     first && second && shelf.view().len() == length
 }
 
+// Whether it stops as this row says, and then absorbs the rest.
+fn goes_on(rt: &impl Abort, shelf: &mut Counters, set: &UpdateSet, row: &RefusedAt) -> bool {
+    let (_, length, total, more) = *row;
+    stops_at(shelf, set, length)
+        && totals(shelf, 1, total)
+        && absorb(rt, shelf, set) == Ok(more)
+        && totals(shelf, 1, -899)
+        && shelf.view().same(set)
+}
+
+fn is_absorbed_later(rt: &impl Abort, alloc: Global, set: &UpdateSet, row: &RefusedAt) -> bool {
+    let all = alive(rt, alloc);
+    let mut shelf = shelf_of(rt, alloc, row.0, &all);
+    goes_on(rt, &mut shelf, set, row)
+}
+
 #[test]
 fn a_refused_update_is_absorbed_later(rt: HostRuntime) {
-    let all = alive(&rt, rt.alloc());
     let set = set_of(&rt, rt.alloc(), FOUR);
-    for (left, (length, total)) in REFUSED_AT.iter().enumerate() {
-        let mut shelf = shelf_of(&rt, rt.alloc(), left as u32, &all);
-        let stopped = stops_at(&mut shelf, &set, *length) && totals(&shelf, 1, *total);
-        let more = 4 - *length as u64;
-        assert!(rt;
-            stopped && absorb(&rt, &mut shelf, &set) == Ok(more),
-            "{left}"
-        );
-        assert!(rt;
-            totals(&shelf, 1, -899) && shelf.view().same(&set),
-            "{left}"
-        );
+    for row in &REFUSED_AT {
+        assert!(rt; is_absorbed_later(&rt, rt.alloc(), &set, row), "{}", row.0);
     }
+}
+
+fn absorbs_four(rt: &impl Abort, alloc: Global, shelf: &mut Counters) -> bool {
+    let set = set_of(rt, alloc, FOUR);
+    absorb(rt, shelf, &set) == Ok(4)
+}
+
+// Whether a counter that refuses after so many updates is not added, and dropped.
+fn refuses(rt: &impl Abort, alloc: Global, shelf: &mut Counters, left: u32, all: &Arc<()>) -> bool {
+    shelf.add(1, counter(rt, alloc, left, all)) == Err(ShelfError::Memory)
+        && !shelf.has(1)
+        && Arc::strong_count(all) == 1
 }
 
 // A counter that comes later and refuses one of its updates is not added.
@@ -134,13 +153,9 @@ fn a_refused_update_is_absorbed_later(rt: HostRuntime) {
 fn a_refused_addition_is_made_later(rt: HostRuntime) {
     let all = alive(&rt, rt.alloc());
     let mut shelf: Counters = Shelf::new(rt.alloc());
-    assert!(rt; absorb(&rt, &mut shelf, &set_of(&rt, rt.alloc(), FOUR)) == Ok(4));
+    assert!(rt; absorbs_four(&rt, rt.alloc(), &mut shelf));
     for left in 0..3u32 {
-        let refused = shelf.add(1, counter(&rt, rt.alloc(), left, &all)) == Err(ShelfError::Memory);
-        assert!(rt;
-            refused && !shelf.has(1) && Arc::strong_count(&all) == 1,
-            "{left}"
-        );
+        assert!(rt; refuses(&rt, rt.alloc(), &mut shelf, left, &all), "{left}");
     }
     add(&rt, rt.alloc(), &mut shelf, 1, &all);
     assert!(rt; totals(&shelf, 1, -899));
@@ -148,16 +163,21 @@ fn a_refused_addition_is_made_later(rt: HostRuntime) {
 
 // ## Dropped once
 
+fn is_taken(rt: &impl Abort, alloc: Global, shelf: &mut Counters, all: &Arc<()>) -> bool {
+    shelf.add(1, counter(rt, alloc, 0, all)) == Err(ShelfError::Taken)
+        && Arc::strong_count(all) == 4
+}
+
+fn drops_with_all(rt: &impl Abort, alloc: Global, all: &Arc<()>) -> bool {
+    let mut shelf: Counters = Shelf::new(alloc);
+    for number in 1..=3u16 {
+        add(rt, alloc, &mut shelf, number, all);
+    }
+    is_taken(rt, alloc, &mut shelf, all) && shelf.retire(2).is_ok() && Arc::strong_count(all) == 3
+}
+
 #[test]
 fn objects_are_dropped_once(rt: HostRuntime) {
     let all = alive(&rt, rt.alloc());
-    let mut shelf: Counters = Shelf::new(rt.alloc());
-    add(&rt, rt.alloc(), &mut shelf, 1, &all);
-    add(&rt, rt.alloc(), &mut shelf, 2, &all);
-    add(&rt, rt.alloc(), &mut shelf, 3, &all);
-    let taken = shelf.add(1, counter(&rt, rt.alloc(), 0, &all)) == Err(ShelfError::Taken);
-    assert!(rt; taken && Arc::strong_count(&all) == 4);
-    assert!(rt; shelf.retire(2).is_ok() && Arc::strong_count(&all) == 3);
-    drop(shelf);
-    assert!(rt; Arc::strong_count(&all) == 1);
+    assert!(rt; drops_with_all(&rt, rt.alloc(), &all) && Arc::strong_count(&all) == 1);
 }

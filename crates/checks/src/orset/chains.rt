@@ -22,13 +22,25 @@ fn chain_to(rt: &impl Abort, alloc: Global, last: u32) -> Chain<u32> {
     chain
 }
 
+fn has_values(chain: &Chain<u32>, values: &[u32]) -> bool {
+    for (place, value) in values.iter().enumerate() {
+        if chain.nth(place) != Some(value) {
+            return false;
+        }
+    }
+    chain.len() == values.len() && chain.nth(values.len()).is_none()
+}
+
 #[test]
 fn the_newest_comes_first(rt: HostRuntime) {
-    let none = Chain::<u32>::new();
-    assert!(rt; none.len() == 0 && none.first().is_none() && none.nth(0).is_none());
     let three = chain_to(&rt, rt.alloc(), 3);
-    let ends = three.first() == Some(&3) && three.nth(0) == Some(&3) && three.nth(2) == Some(&1);
-    assert!(rt; ends && three.nth(1) == Some(&2) && three.nth(3).is_none() && three.len() == 3);
+    assert!(rt; three.first() == Some(&3) && has_values(&three, &[3, 2, 1]));
+}
+
+#[test]
+fn a_new_chain_is_empty(rt: HostRuntime) {
+    let none = Chain::<u32>::new();
+    assert!(rt; none.first().is_none() && has_values(&none, &[]));
 }
 
 #[test]

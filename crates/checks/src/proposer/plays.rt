@@ -54,15 +54,19 @@ pub fn plays(rt: &impl Abort, alloc: Global, play: &Play) {
     let votes = Votes::new(play.votes).expect(rt, "votes of a group");
     let mut proposer = proposer_of(rt, alloc, play, votes);
     for (place, step) in play.steps.iter().enumerate() {
-        let told = tells(rt, alloc, &proposer, step);
-        let came = hears(rt, alloc, &mut proposer, &step.0);
-        assert!(rt; told && came == step.1, "{}: outcome {place}", play.name);
         assert!(rt;
-            stands(rt, alloc, &proposer, step),
-            "{}: after {place}",
+            goes_so(rt, alloc, &mut proposer, step),
+            "{}: {place}",
             play.name
         );
     }
+}
+
+// Whether a step is told before it is heard, comes to its outcome, and leaves what it says.
+fn goes_so(rt: &impl Abort, alloc: Global, proposer: &mut Proposer, step: &Step) -> bool {
+    tells(rt, alloc, proposer, step)
+        && hears(rt, alloc, proposer, &step.0) == step.1
+        && stands(rt, alloc, proposer, step)
 }
 
 fn proposer_of(rt: &impl Abort, alloc: Global, play: &Play, votes: Votes) -> Proposer {

@@ -40,12 +40,19 @@ fn is_from(mail: &Mail, place: usize, sender: u8) -> bool {
     matches!(mail.at(place), Some(message) if message.from == sender)
 }
 
+fn is_from_both(mail: &Mail) -> bool {
+    mail.len() == 2 && is_from(mail, 0, 4) && is_from(mail, 1, 5) && mail.at(2).is_none()
+}
+
 #[test]
 fn mail_is_a_list(rt: HostRuntime) {
     let mut mail = Mail::one(rt.alloc(), from(4, Body::Yes));
     push(&rt, &mut mail, 5);
     let mail = Mail::from(SmallVec::from(mail));
-    assert!(rt; mail.len() == 2 && is_from(&mail, 0, 4) && is_from(&mail, 1, 5));
-    assert!(rt; mail.at(2).is_none() && mail.all().len() == 2);
+    assert!(rt; is_from_both(&mail) && mail.all().len() == 2);
+}
+
+#[test]
+fn new_mail_is_empty(rt: HostRuntime) {
     assert!(rt; Mail::new(rt.alloc()).len() == 0);
 }

@@ -59,13 +59,8 @@ pub struct Play {
 pub fn plays(rt: &impl Abort, alloc: Global, play: &Play) {
     let mut replica = fresh(rt, alloc);
     for (place, step) in play.steps.iter().enumerate() {
-        let came = comes_to(rt, alloc, &mut replica, step);
-        assert!(rt; came, "{}: outcome {place}", play.name);
-        assert!(rt;
-            stands(rt, alloc, &replica, step),
-            "{}: after {place}",
-            play.name
-        );
+        let goes_so = comes_to(rt, alloc, &mut replica, step) && stands(rt, alloc, &replica, step);
+        assert!(rt; goes_so, "{}: {place}", play.name);
     }
 }
 

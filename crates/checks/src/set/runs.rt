@@ -16,14 +16,24 @@ const PUSHES: [(Row, Result<(), SetError>); 8] = [
     ((3, 1_000_001, Does::Mark), Err(SetError::Gap)),
 ];
 
+fn answers(
+    rt: &impl Abort,
+    alloc: Global,
+    set: &mut UpdateSet,
+    pushes: &[(Row, Result<(), SetError>)],
+) -> bool {
+    for (row, answer) in pushes {
+        if push(rt, alloc, set, row) != *answer {
+            return false;
+        }
+    }
+    set.len() == 3 && set.count_of(0) == 2 && set.count_of(8) == 0
+}
+
 #[test]
 fn pushes_are_answered(rt: HostRuntime) {
     let mut set = UpdateSet::new(rt.alloc());
-    for (row, answer) in &PUSHES {
-        let pushed = push(&rt, rt.alloc(), &mut set, row);
-        assert!(rt; pushed == *answer, "{} {}", row.0, row.1);
-    }
-    assert!(rt; set.len() == 3 && set.count_of(0) == 2 && set.count_of(8) == 0);
+    assert!(rt; answers(&rt, rt.alloc(), &mut set, &PUSHES));
 }
 
 const MINE: &[Row] = &[(0, 1, Does::Mark), (7, 1, Does::Put(4))];
@@ -54,22 +64,31 @@ fn stands_at(set: &UpdateSet, place: usize, id: UpdateId) -> bool {
     }
 }
 
+fn stand_in_order(set: &UpdateSet, ids: &[(u8, u32)]) -> bool {
+    for (place, (replica, number)) in ids.iter().enumerate() {
+        if !stands_at(set, place, id(*replica, *number)) {
+            return false;
+        }
+    }
+    set.len() == ids.len() && set.at(ids.len()).is_none()
+}
+
 #[test]
 fn a_union_has_both_in_order(rt: HostRuntime) {
     let set = both(&rt, rt.alloc());
-    for (place, (replica, number)) in BOTH.iter().enumerate() {
-        assert!(rt; stands_at(&set, place, id(*replica, *number)), "at {place}");
-    }
-    assert!(rt; set.len() == 7 && set.at(7).is_none());
+    assert!(rt; stand_in_order(&set, BOTH));
     assert!(rt; set.get(id(1, 1)).is_none() && set.get(id(0, 0)).is_none());
+}
+
+fn pops(rt: &impl Abort, set: &mut UpdateSet, replica: u8, id: UpdateId) -> bool {
+    matches!(&pop(rt, set, replica), Some(update) if update.id == id)
 }
 
 #[test]
 fn a_pop_takes_the_last(rt: HostRuntime) {
     let mut set = both(&rt, rt.alloc());
-    let last = pop(&rt, &mut set, 3).is_some_and(|update| update.id == id(3, 2));
-    let none = pop(&rt, &mut set, 1).is_none() && pop(&rt, &mut set, 8).is_none();
-    assert!(rt; last && none && set.len() == 6);
+    assert!(rt; pops(&rt, &mut set, 3, id(3, 2)) && pop(&rt, &mut set, 1).is_none());
+    assert!(rt; pop(&rt, &mut set, 8).is_none() && set.len() == 6);
 }
 
 // What takes no memory succeeds at once, whatever allocation is refused.
@@ -101,7 +120,9 @@ const LEFT: &[Row] = &[(0, 1, Does::Inc(5)), (1, 1, Does::Mark)];
 
 const RIGHT: &[Row] = &[(0, 1, Does::Inc(5)), (0, 2, Does::Mark)];
 
-const ORDERS: [(&[Row], &[Row], Option<Ordering>); 8] = [
+type Order = (&'static [Row], &'static [Row], Option<Ordering>);
+
+const ORDERS: [Order; 8] = [
     (FIVE, SIX, None),
     (LEFT, RIGHT, None),
     (LEFT, LEFT, Some(Ordering::Equal)),
@@ -118,13 +139,20 @@ fn stands_so(set: &UpdateSet, other: &UpdateSet, order: Option<Ordering>) -> boo
     set.order(other) == order && set.contains_all(other) == contains && set.same(other) == same
 }
 
+fn stand_so(rt: &impl Abort, alloc: Global, orders: &[Order]) -> bool {
+    for (mine, theirs, order) in orders {
+        let set = set_of(rt, alloc, mine);
+        let other = set_of(rt, alloc, theirs);
+        if !stands_so(&set, &other, *order) {
+            return false;
+        }
+    }
+    true
+}
+
 #[test]
 fn inclusion_compares_updates(rt: HostRuntime) {
-    for (place, (mine, theirs, order)) in ORDERS.iter().enumerate() {
-        let set = set_of(&rt, rt.alloc(), mine);
-        let other = set_of(&rt, rt.alloc(), theirs);
-        assert!(rt; stands_so(&set, &other, *order), "at {place}");
-    }
+    assert!(rt; stand_so(&rt, rt.alloc(), &ORDERS));
 }
 
 fn beyond(rt: &impl Abort, set: &UpdateSet, other: &UpdateSet) -> Updates {
@@ -134,24 +162,41 @@ fn beyond(rt: &impl Abort, set: &UpdateSet, other: &UpdateSet) -> Updates {
     }
 }
 
+fn has_at(updates: &Updates, place: usize, id: UpdateId) -> bool {
+    matches!(updates.at(place), Some(update) if update.id == id)
+}
+
+fn are_in_order(updates: &Updates, ids: &[(u8, u32)]) -> bool {
+    for (place, (replica, number)) in ids.iter().enumerate() {
+        if !has_at(updates, place, id(*replica, *number)) {
+            return false;
+        }
+    }
+    updates.len() == ids.len()
+}
+
+// What both have, and the first of them has not.
+fn more(rt: &impl Abort, alloc: Global) -> Updates {
+    let set = both(rt, alloc);
+    let mine = set_of(rt, alloc, MINE);
+    beyond(rt, &set, &mine)
+}
+
 #[test]
 fn beyond_is_in_order(rt: HostRuntime) {
-    let set = both(&rt, rt.alloc());
-    let mine = set_of(&rt, rt.alloc(), MINE);
-    let more = beyond(&rt, &set, &mine);
-    for (place, (replica, number)) in BOTH[1..6].iter().enumerate() {
-        let there = more
-            .at(place)
-            .is_some_and(|update| update.id == id(*replica, *number));
-        assert!(rt; there, "at {place}");
-    }
-    assert!(rt; more.len() == 5);
+    let more = more(&rt, rt.alloc());
+    assert!(rt; are_in_order(&more, &BOTH[1..6]));
 }
 
 fn push_to_list(rt: &impl Abort, list: &mut Updates, update: &Update) {
     if list.push(copy_of_update(rt, update)).is_err() {
         assert!(rt; list.push(copy_of_update(rt, update)).is_ok());
     }
+}
+
+fn is_one(list: &Updates, update: &Update) -> bool {
+    let first = matches!(list.at(0), Some(it) if it.same(update));
+    first && list.len() == 1 && list.at(1).is_none()
 }
 
 #[test]
@@ -161,8 +206,7 @@ fn updates_are_a_list(rt: HostRuntime) {
     push_to_list(&rt, &mut list, &mark);
     let items: Vec<Update> = list.into();
     let list = Updates::from(items);
-    let first = list.at(0).is_some_and(|it| it.same(&mark));
-    assert!(rt; first && list.len() == 1 && list.all().len() == 1 && list.at(1).is_none());
+    assert!(rt; is_one(&list, &mark) && list.all().len() == 1);
 }
 
 // ## Some thousands of updates: nothing gives up early
@@ -186,7 +230,7 @@ fn is_the_same(set: &UpdateSet, other: &UpdateSet) -> bool {
     set.len() == 3000
         && set.same(other)
         && set.order(other) == Some(Ordering::Equal)
-        && set.at(2999).is_some_and(|last| last.id == id(7, 1000))
+        && matches!(set.at(2999), Some(last) if last.id == id(7, 1000))
 }
 
 #[test]
