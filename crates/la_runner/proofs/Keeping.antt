@@ -1,11 +1,12 @@
 -- What a step in one instance leaves of a member.
-use Rattle.std.proofs.Common.{◌≡◌, inl, inr, ℕ, ◌≤◌, ◌<◌, List, length, Option, Some, None, refl, ap, sym, ◌∙◌, subst}
-use Rattle.std.specs.Prelude.{IfSome}
+use Rattle.std.proofs.Common.{◌≡◌, inl, inr, ℕ, zero, suc, ◌≤◌, ◌<◌, List, [], ◌∷◌, ◌++◌, length, Option, Some, None, refl, ap, sym, ◌∙◌, subst}
+use Rattle.std.specs.Prelude.{Result, Ok, IfOk, IfSome, IsSomeAnd}
 use Rattle.std.specs.List.{slice_get, slice_set, slice_index_or}
 use Rattle.std.proofs.lemmas.Bool.{cases_eq}
 use Rattle.std.proofs.lemmas.Option.{slice_get_within, slice_get-get_or}
 use Rattle.std.proofs.lemmas.List.{length-set}
 use mathlib.Core.List.{IsPrefix}
+use Rattle.la_set.specs.ObjectOps.{ObjectOp}
 use Rattle.la_set.specs.Histories.{Histories, history}
 use Rattle.la_set.specs.Inclusion.{IsSubset}
 use Rattle.la_set.proofs.Theorems.{subset-refl}
@@ -17,6 +18,8 @@ use Rattle.la_runner.specs.Certificates.{seen_at, mine_at, HasCertificate, HasOw
 use Rattle.la_runner.specs.Following.{acceptors_of}
 use Rattle.la_runner.specs.Instances.{Steps, IsComplete, IsUpdated}
 use Rattle.la_runner.specs.Members.{MemberState, passes_of, passes_in, submitted_of, learnt_of, view_of, IsIn, IsMember, GoesOn, IsOnlyIn, IsLearntIn, IsUpdateOf}
+use Rattle.la_runner.specs.declared.error.RunnerError.{RunnerError}
+use Rattle.la_runner.specs.Refusals.{IsSubmissionRefusal, IsUpdateRefusal, IsRefusedUpdate}
 use Rattle.la_runner.proofs.Passing.{get-set_same, get-set_other, map-set_other}
 
 -- the instance at a place
@@ -88,3 +91,20 @@ module _ (m : MemberState) (x y : Instance) (at : slice_get m.instances 0 ≡ So
 pub resumed_of : (m n : MemberState) (i : ℕ) (x y : Instance) → slice_get m.instances i ≡ Some x → m ≡ n → x.proposer.votes ≡ m.votes → x.proposer.own ≡ m.replica → (end : Option Learned) → IfSome end (λ l. IsComplete x y l.updates) → IfSome end (λ l. y.learnt ≡ Some l.updates) → IfSome end (λ l. IsLearntIn i n (with_instance m i y) l.updates)
 resumed_of m n i x y at same votes own None complete last = tt
 resumed_of m n i x y at same votes own (Some l) complete last = subst (λ z. IsLearntIn i z (with_instance m i y) l.updates) same (learnt_in m i x y at votes own l.updates complete last)
+
+-- an update that was refused
+module _ (m : MemberState) (x y : Instance) (at : slice_get m.instances 0 ≡ Some x) (rounds : ℕ) (d : ObjectOp) (e : RunnerError) where
+  unchanged : y ≡ x → with_instance m 0 y ≡ m
+  unchanged same = λ i. record m { instances = (ap (λ z. slice_set m.instances 0 z) same ∙ set_back m.instances 0 x at) i }
+    where
+      set_back : (xs : List Instance) (i : ℕ) (z : Instance) → slice_get xs i ≡ Some z → slice_set xs i z ≡ xs
+      set_back [] i z h = refl
+      set_back (w ∷ ws) zero z h = let one : w ≡ z = cc in ap (λ v. v ∷ ws) (sym one)
+      set_back (w ∷ ws) (suc i) z h = ap (λ vs. w ∷ vs) (set_back ws i z h)
+
+  pub refused_update : IsUpdateRefusal rounds d x y e → IsRefusedUpdate rounds d m (with_instance m 0 y) e
+  refused_update (inl none) = inl (subst (λ o. IsSomeAnd o (λ z. IsSubmissionRefusal z.proposer e)) (sym at) none.0, unchanged none.1)
+  refused_update (inr some) = inr (some.0, ap submitted_of (get-set_same m.instances 0 y (slice_get_within m.instances 0 x at)) ∙ some.1 ∙ ap (λ o. submitted_of o ++ d ∷ []) (sym at))
+
+pub if_ok : {T E : Type 0} (r : Result T E) (t : T) (P : T → Type 0) → r ≡ Ok t → IfOk r P → P t
+if_ok r t P e h = subst (λ z. IfOk z P) e h

@@ -3,8 +3,9 @@ pub mod Asking
 pub mod Sound
 pub mod Following
 pub mod Instances
-pub mod Refusals
 pub mod Rounds
 pub mod Members
+pub mod Refusals
+pub mod Notes
 pub mod Fields
 pub mod Starting

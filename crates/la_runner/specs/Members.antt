@@ -1,5 +1,5 @@
 -- What a contract sees of a group and of its members.
-use Rattle.std.specs.Prelude.{◌≡◌, ◌≢◌, ℕ, ◌≤◌, Bool, false, List, [], map, length, slice_get, Option, Some, None}
+use Rattle.std.specs.Prelude.{◌≡◌, ◌≢◌, ℕ, ◌≤◌, Bool, false, List, [], map, length, slice_get, Option, Some, None, IsSomeAnd}
 use mathlib.Core.List.{IsPrefix}
 use Rattle.la_set.specs.ObjectOps.{ObjectOp}
 use Rattle.la_set.specs.Histories.{Histories, history, empty}
@@ -17,6 +17,10 @@ pub record MemberState : Type 0 where
   pub replica : ℕ
   -- of each instance, from 0 on: the proposer, the passes, the last learnt set, and the view
   pub instances : List Instance
+
+-- there is an instance with this number, and a fact holds of it
+abbrev pub InInstance : MemberState → (instance : ℕ) → (Instance → Type 0) → Type 0
+InInstance m i P = IsSomeAnd (slice_get m.instances i) P
 
 -- ## What there is in an instance; nothing, where there is no such instance
 

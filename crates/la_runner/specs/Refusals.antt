@@ -11,6 +11,7 @@ use Rattle.la_set.specs.ObjectOps.{ObjectOp}
 use Rattle.la_runner.specs.declared.error.RunnerError.{RunnerError}
 use Rattle.la_runner.specs.declared.error.RunnerError.TheVariants.{BadConfig, NoSuchCommit, AlreadyProposed, Clash, Full, BallotsSpent, NoMajority, TryAgain, Memory}
 use Rattle.la_runner.specs.declared.instance.Instance.{Instance}
+use Rattle.la_runner.specs.Members.{MemberState, InInstance, submitted_in}
 
 -- ## The refusals of lower crates, as members name them
 
@@ -61,3 +62,9 @@ IsUpdateRefusal rounds update old new e =
     (IsSubmissionRefusal old.proposer e × (new ≡ old))
     ⊎ (IsRoundsRefusal rounds e
       × (all_submitted new.proposer ≡ all_submitted old.proposer ++ update ∷ []))
+
+-- the same of a member, in instance 0
+abbrev pub IsRefusedUpdate : (rounds : ℕ) → ObjectOp → MemberState → MemberState → RunnerError → Type 0
+IsRefusedUpdate rounds update old new e =
+    (InInstance old 0 (λ x. IsSubmissionRefusal x.proposer e) × (new ≡ old))
+    ⊎ (IsRoundsRefusal rounds e × (submitted_in new 0 ≡ submitted_in old 0 ++ update ∷ []))

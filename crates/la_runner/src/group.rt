@@ -3,7 +3,7 @@ ghost use Rattle.std.specs.Option.{option_to_list};
 ghost use Rattle.la_proposer.specs.Majority.{votes_of};
 ghost use Rattle.la_proposer.specs.ProposerState.{op_on};
 ghost use Rattle.la_runner.specs.Members.{GroupState, IsOf, GoesOn, IsOnlyIn, IsLearntIn, IsUpdateOf, submitted_in, is_asking_in, view};
-ghost use Rattle.la_runner.specs.Refusals.{IsRoundsRefusal};
+ghost use Rattle.la_runner.specs.Refusals.{IsRoundsRefusal, IsRefusedUpdate};
 ghost use Rattle.la_runner.specs.Rounds.{IsLarger};
 ghost use Rattle.la_runner.specs.Starting.{IsConfig, IsGroup, IsNewMember, AreMembersFrom, IsNewRefusal};
 
@@ -74,7 +74,23 @@ impl Group {
     }
 
     /// Submits an update for an object, and runs at most so many rounds until a set that holds it is
-    /// learnt, which is the view then.
+    /// learnt. That set has all that the member submitted in instance 0, and contains each set that
+    /// had a certificate in its passes at the call; a majority of acceptors, by votes, acknowledged
+    /// it to the member itself; and it is the view then.
+    ///
+    /// A round goes through the acceptors from 0 on, passes over those that have counted in the open
+    /// ballot and those that the gate refuses, and offers the ballot's set to each other one, whose
+    /// reply the proposer hears. It ends with the last acceptor, or when the ballot ends; a ballot
+    /// that opens then waits for the next round.
+    ///
+    /// In this order, and with nothing submitted: `Full` where the member has submitted the cap;
+    /// `BallotsSpent` where a ballot would open with a number over 8,000,000; `Memory`. After these
+    /// the update stays submitted, what has counted stays counted and the ballot stays open, so that
+    /// [`Group::resume`] goes on with it: `Clash` where an id has two different updates;
+    /// `BallotsSpent`; `Memory`; and once the rounds are used up `NoMajority` where the last one left
+    /// its ballot open, else `TryAgain`, as without rounds.
+    ///
+    /// The cost is that of the offers, each with the wait for its turn.
     pub fn update<R: Wait, G: Gate>(
         &self,
         rt: &R,
@@ -91,16 +107,26 @@ impl Group {
         ensures submitted { OnOk result
             (submitted_in member.new 0 ≡ submitted_in member.old 0 ++ op_on object op ∷ []) }
         ensures updated { IfOk result (λ l. IsUpdateOf member.old member.new l.updates) }
+        ensures error { IfErr result
+            (IsRefusedUpdate rounds (op_on object op) member.old member.new) }
     {
         let own = member.replica;
         let at = &mut member.instances[0];
-        let (learned, _) =
-            at.update(rt, &self.rows[0].acceptors, own, 0, object, op, rounds, gate)?;
-        Ok(learned)
+        let acceptors = &self.rows[0].acceptors;
+        match at.update(rt, acceptors, own, 0, object, op, rounds, gate) {
+            Ok((learned, _)) => return Ok(learned),
+            Err(refused) => return Err(refused),
+        }
     }
 
-    /// Goes on with what is under way in instance 0: runs at most so many rounds until a learning
-    /// leaves nothing to offer, and gives that learning; `None` where nothing was under way.
+    /// Goes on with what is under way in instance 0: runs at most so many rounds, as
+    /// [`Group::update`] does, until a learning leaves nothing to offer, and gives that learning;
+    /// `None` where nothing was under way. The set has all that the member submitted there, and
+    /// contains each set that had an own certificate at the call: it need not contain one that was
+    /// met while its ballot was open. The view is then the larger of the old view and that set.
+    ///
+    /// `Clash`, `BallotsSpent`, `Memory`, `NoMajority` and `TryAgain` come as in the rounds of an
+    /// update, and leave what is under way.
     pub fn resume<R: Wait, G: Gate>(
         &self,
         rt: &R,
