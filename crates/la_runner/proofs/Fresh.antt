@@ -1,5 +1,5 @@
 -- A group and its members in which nothing has happened.
-use Rattle.std.proofs.Common.{◌≡◌, inl, inr, ℕ, zero, suc, ◌+◌, ◌-◌, ◌<◌, ◌≤◌, Bool, true, false, cond, ◌==◌, true≢false, arith, List, [], ◌∷◌, ◌++◌, All, length, map, take, reverse, Option, Some, None, refl, ap, sym, ◌∙◌, subst, ◌⊎◌, length-append}
+use Rattle.std.proofs.Common.{◌≡◌, inl, inr, ℕ, zero, suc, ◌+◌, ◌<◌, ◌≤◌, Bool, true, false, cond, ◌==◌, true≢false, arith, List, [], ◌∷◌, ◌++◌, All, length, map, take, reverse, Option, Some, None, refl, ap, sym, ◌∙◌, subst, ◌⊎◌, length-append}
 use Rattle.std.proofs.lemmas.List.{reverse-append}
 use Rattle.std.proofs.lemmas.List.Elements.{All-head, All-tail}
 use Rattle.std.proofs.lemmas.Option.{slice_get_within, slice_get-get_or}
@@ -10,7 +10,6 @@ use Rattle.la_set.specs.Histories.{empty}
 use Rattle.la_acceptor.proofs.Theorems.{contains-empty}
 use Rattle.la_proposer.specs.ProposerState.{ProposerState, start}
 use Rattle.la_proposer.proofs.Theorems.{start_is}
-use Rattle.la_shared.specs.declared.entry.Entry.{Entry}
 use Rattle.la_shared.specs.History.{HasEntry}
 use Rattle.la_shared.specs.Passes.{Known, AcceptorName}
 use Rattle.la_runner.specs.declared.instance.Instance.{Instance}
@@ -18,7 +17,7 @@ use Rattle.la_runner.specs.Certificates.{mine_of, mine_at}
 use Rattle.la_runner.specs.Sound.{IsPassAt, IsSound}
 use Rattle.la_runner.specs.Following.{acceptors_of}
 use Rattle.la_runner.specs.Instances.{IsInstance, IsLearntSet}
-use Rattle.la_runner.specs.Members.{MemberState, GroupState, IsOf, IsIn, IsMember}
+use Rattle.la_runner.specs.Members.{MemberState, GroupState, IsIn, IsMember}
 use Rattle.la_runner.specs.Starting.{newcomer, IsNewInstance, cap_in, IsNewMember, AreMembersFrom}
 
 -- ## One instance
@@ -71,7 +70,7 @@ get_push : {A : Type 0} (xs : List A) (x : A) (i : ℕ) (z : A) → slice_get (x
 get_push [] x zero z e = inr (refl, cc)
 get_push [] x (suc i) z e = absurd (cc)
 get_push (y ∷ ys) x zero z e = inl e
-get_push (y ∷ ys) x (suc i) z e = elim (get_push ys x i z e) [ | inl old ↦ inl old | inr new ↦ inr (ap suc new.0, new.1) ]
+get_push (y ∷ ys) x (suc i) z e = elim (get_push ys x i z e) [ inl old ↦ inl old | inr new ↦ inr (ap suc new.0, new.1) ]
 
 map_push : {A B : Type 0} (f : A → B) (xs : List A) (x : A) → map f (xs ++ x ∷ []) ≡ map f xs ++ f x ∷ []
 map_push f [] x = refl
@@ -131,8 +130,7 @@ module _ (group : GroupState) (votes : List ℕ) (own cap : ℕ) (known : own < 
   each_in : (i : ℕ) (x : Instance) → slice_get m.instances i ≡ Some x → IsIn m x
   each_in i x e =
       let there = row_at group i (subst (λ n. i < n) are.count (slice_get_within m.instances i x e)) sizes in
-      let new = are.each i there.0 x there.1 e in
-      (
+      let new = are.each i there.0 x there.1 e in (
         fresh_instance votes own (cap_in cap i) there.0 known few (cap_most i) there.2 x new,
         ap (λ (p : ProposerState). p.votes) new.proposer ∙ sym votes_is,
         ap (λ (p : ProposerState). p.own) new.proposer ∙ sym own_is,

@@ -96,7 +96,7 @@ sound_grown p ps qs is g = record {
   asks_own = is.asks_own;
   sizes = g.sizes ∙ is.sizes;
   are = g.are;
-  within = λ a s r e. elim (g.offered a s r e) [ | inl old ↦ is.within a s r old | inr new ↦ subst (λ z. IsSubset z p.updates) new (subset-refl p.updates) ];
+  within = λ a s r e. elim (g.offered a s r e) [ inl old ↦ is.within a s r old | inr new ↦ subst (λ z. IsSubset z p.updates) new (subset-refl p.updates) ];
   counted = λ a r y. has-prefix (mine_at ps a) (mine_at qs a) p.updates r (g.on.mine a) (is.counted a r y);
   told = λ u here other. told_stays ps qs u g.on.mine (is.told u here other);
 }

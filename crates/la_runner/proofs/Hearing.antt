@@ -36,7 +36,7 @@ pub reply_push : (cs : List Counted) (c : Counted) (a : ℕ) (r : Reply) → Has
 reply_push [] c a r (inl e) = inr e
 reply_push [] c a r (inr e) = absurd e
 reply_push (d ∷ cs) c a r (inl e) = inl (inl e)
-reply_push (d ∷ cs) c a r (inr e) = elim (reply_push cs c a r e) [ | inl old ↦ inl (inr old) | inr new ↦ inr new ]
+reply_push (d ∷ cs) c a r (inr e) = elim (reply_push cs c a r e) [ inl old ↦ inl (inr old) | inr new ↦ inr new ]
 
 yes_is : (r : Reply) → is_yes r ≡ true → r ≡ Yes
 yes_is Yes e = refl
@@ -51,13 +51,13 @@ said_yes_has (c ∷ cs) a e = elim (or_cases ((c.from == a) && is_yes c.reply) (
 
 refused_cases : (s : Histories) (r : Reply) (u : Update) → ContainsUpdate (with_refusal s r) u → ContainsUpdate s u ⊎ ((w : Histories) × (r ≡ No w) × ContainsUpdate w u)
 refused_cases s Yes u e = inl e
-refused_cases s (No w) u e = elim (contains-join_cases s w u e) [ | inl old ↦ inl old | inr new ↦ inr (w, refl, new) ]
+refused_cases s (No w) u e = elim (contains-join_cases s w u e) [ inl old ↦ inl old | inr new ↦ inr (w, refl, new) ]
 
 -- what a refinement adds, some counted refusal has
 joined_cases : (s : Histories) (cs : List Counted) (u : Update) → ContainsUpdate (joined_with_refusals s cs) u → ContainsUpdate s u ⊎ ((b : ℕ) × (w : Histories) × HasReply cs b (No w) × ContainsUpdate w u)
 joined_cases s [] u e = inl e
 joined_cases s (c ∷ cs) u e = elim (joined_cases (with_refusal s c.reply) cs u e) [
-  | inl first ↦ elim (refused_cases s c.reply u first) [ | inl old ↦ inl old | inr new ↦ inr (c.from, new.0, inl (refl, new.1), new.2) ]
+  | inl first ↦ elim (refused_cases s c.reply u first) [ inl old ↦ inl old | inr new ↦ inr (c.from, new.0, inl (refl, new.1), new.2) ]
   | inr later ↦ inr (later.0, later.1, inr later.2, later.3)
 ]
 
@@ -155,7 +155,7 @@ module _ (p : ProposerState) (ps qs : List Known) (a : ℕ) (r : Reply) (is : Is
     number = omega arith;
     grows = subset-refl p.updates;
     same = λ _. refl;
-    fresh = λ b y. elim (fresh_now b y) [ | inl old ↦ inl (refl, old) | inr new ↦ inr new ];
+    fresh = λ b y. elim (fresh_now b y) [ inl old ↦ inl (refl, old) | inr new ↦ inr new ];
   }
   follows_by Refines = record {
     votes = refl;
@@ -206,7 +206,7 @@ module _ (p : ProposerState) (ps qs : List Known) (a : ℕ) (r : Reply) (is : Is
         number = omega arith;
         grown = subset-refl p.updates;
         same = λ _. refl;
-        since = (said_yes now, most, λ b y. elim (fresh_now b (said_yes_has now b y)) [ | inl old ↦ inl (refl, old) | inr new ↦ inr new ]);
+        since = (said_yes now, most, λ b y. elim (fresh_now b (said_yes_has now b y)) [ inl old ↦ inl (refl, old) | inr new ↦ inr new ]);
         taken = (p.waiting, refl);
         some = is.asks_own asking;
       }
@@ -303,5 +303,5 @@ module _ (p : ProposerState) (ps : List Known) (d : ObjectOp) (is : IsSound p ps
   submission_adds = cond_both p.is_asking (with_waiting p d) (after_opening (with_waiting p d)) (λ q. all_submitted q ≡ all_submitted p ++ d ∷ [])
       (λ e. sym (append_assoc (history p.updates p.own) p.waiting (d ∷ [])))
       (λ e. append-nil (history (with_more p.updates p.own (p.waiting ++ d ∷ [])) p.own)
-        ∙ history-with_same p.updates p.own (history p.updates p.own ++ (p.waiting ++ d ∷ [])) p.own small_own refl
-        ∙ sym (append_assoc (history p.updates p.own) p.waiting (d ∷ [])))
+      ∙ history-with_same p.updates p.own (history p.updates p.own ++ (p.waiting ++ d ∷ [])) p.own small_own refl
+      ∙ sym (append_assoc (history p.updates p.own) p.waiting (d ∷ [])))

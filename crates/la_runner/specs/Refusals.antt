@@ -61,7 +61,7 @@ abbrev pub IsUpdateRefusal : (rounds : ℕ) → ObjectOp → Instance → Instan
 IsUpdateRefusal rounds update old new e =
     (IsSubmissionRefusal old.proposer e × (new ≡ old))
     ⊎ (IsRoundsRefusal rounds e
-      × (all_submitted new.proposer ≡ all_submitted old.proposer ++ update ∷ []))
+    × (all_submitted new.proposer ≡ all_submitted old.proposer ++ update ∷ []))
 
 -- the same of a member, in instance 0
 abbrev pub IsRefusedUpdate : (rounds : ℕ) → ObjectOp → MemberState → MemberState → RunnerError → Type 0

@@ -7,4 +7,4 @@ invariant-loop l =
     (length l.made.items ≡ l.counter)
     × All (λ r. length r.acceptors.items ≡ l.replicas) l.made.items
     × (map (λ f. f.passes.items) l.firsts.items
-      ≡ map (λ r. map newcomer r.acceptors.items) l.made.items)
+    ≡ map (λ r. map newcomer r.acceptors.items) l.made.items)

@@ -27,5 +27,4 @@ returns-in-Ok-clause-updated g c =
     let at = instance_at c.member.inside.instances.items 0 c.index_mut-at.result.now c.member.invariant.some c.index_mut-at.ensures.value in
     let of = c.member.invariant.each 0 c.index_mut-at.result.now at in
     subst (λ m. IsUpdateOf m (with_instance (stands_for c.member.inside) 0 c.update.new.self) c.in-Ok.learned.updates) c.member.view_is
-      (update_of (stands_for c.member.inside) c.index_mut-at.result.now c.update.new.self at of.1 of.2 c.in-Ok.learned.updates (if_ok _ _ _ c.in-Ok.is c.update.ensures.updated) (if_ok _ _ _ c.in-Ok.is c.update.ensures.last) (if_ok _ _ _ c.in-Ok.is c.update.ensures.view))
-
+    (update_of (stands_for c.member.inside) c.index_mut-at.result.now c.update.new.self at of.1 of.2 c.in-Ok.learned.updates (if_ok _ _ _ c.in-Ok.is c.update.ensures.updated) (if_ok _ _ _ c.in-Ok.is c.update.ensures.last) (if_ok _ _ _ c.in-Ok.is c.update.ensures.view))

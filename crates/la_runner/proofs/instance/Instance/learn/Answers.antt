@@ -13,14 +13,14 @@ returns-then-count_of-mine-clause-steps g c = steps_trans c.args.self.now c.loop
 pub returns-then-count_of-mine-clause-learnt : goal.returns-then-count_of-mine-clause-learnt
 returns-then-count_of-mine-clause-learnt g c =
     rounds_learnt _ _ _ _ _ _ _ _ (goes_of_steps c.args.self.now c.loop-round.self c.loop-round.invariant.0 c.loop-round.invariant.1)
-      (goes_of_steps c.loop-round.self c.round_and_view.new.self c.round_and_view.ensures.steps c.round_and_view.ensures.nothing)
-      (if_some _ _ _ c.in-Some.is c.in_ok-learned.ensures.learnt)
+    (goes_of_steps c.loop-round.self c.round_and_view.new.self c.round_and_view.ensures.steps c.round_and_view.ensures.nothing)
+    (if_some _ _ _ c.in-Some.is c.in_ok-learned.ensures.learnt)
 
 pub returns-then-count_of-mine-clause-complete : goal.returns-then-count_of-mine-clause-complete
 returns-then-count_of-mine-clause-complete g c =
     complete c.args.self.now c.round_and_view.new.self _ _ c.requires.is (c.round_and_view.ensures.nothing ∙ c.loop-round.invariant.1)
-      (returns-then-count_of-mine-clause-learnt g c)
-      (enough_of c.args.self.now.proposer c.in-Some.learned.updates c.args.own c.submitted-mine.result c.requires.own c.submitted-mine.ensures (search rules))
+    (returns-then-count_of-mine-clause-learnt g c)
+    (enough_of c.args.self.now.proposer c.in-Some.learned.updates c.args.own c.submitted-mine.result c.requires.own c.submitted-mine.ensures (search rules))
 
 pub returns-then-count_of-mine-clause-larger : goal.returns-then-count_of-mine-clause-larger
 returns-then-count_of-mine-clause-larger g c =

@@ -28,14 +28,14 @@ returns-in-Some-clause-steps g c =
     let learnt = if_some _ _ _ c.in-Some.is c.in_ok-round.ensures.learnt in
     let again = if_some _ _ _ c.in-Some.is c.in_ok-round.ensures.again in
     steps_learnt c.args.self.now _ _ _ c.requires.is c.round.ensures.goes learnt (last_then _ _ _ _ c.in-Some.is c.in_ok-round.ensures.last)
-      (larger_from _ _ _ _ _ c.round.ensures.view again c.take_larger.ensures.larger c.take_larger.ensures.grows c.take_larger.ensures.has)
+    (larger_from _ _ _ _ _ c.round.ensures.view again c.take_larger.ensures.larger c.take_larger.ensures.grows c.take_larger.ensures.has)
 
 pub returns-in-Some-clause-step : goal.returns-in-Some-clause-step
 returns-in-Some-clause-step g c =
     let learnt = if_some _ _ _ c.in-Some.is c.in_ok-round.ensures.learnt in
     let again = if_some _ _ _ c.in-Some.is c.in_ok-round.ensures.again in
     view_step _ _ _ _ _ c.args.self.now.view _ c.round.ensures.goes learnt c.take_larger.new.self
-      (larger_from _ _ _ _ _ c.round.ensures.view again c.take_larger.ensures.larger c.take_larger.ensures.grows c.take_larger.ensures.has).one
+    (larger_from _ _ _ _ _ c.round.ensures.view again c.take_larger.ensures.larger c.take_larger.ensures.grows c.take_larger.ensures.has).one
 
 pub returns-in-Some-clause-after : goal.returns-in-Some-clause-after
 returns-in-Some-clause-after g c =
