@@ -92,19 +92,6 @@ pub resumed_of : (m n : MemberState) (i : ℕ) (x y : Instance) → slice_get m.
 resumed_of m n i x y at same votes own None complete last = tt
 resumed_of m n i x y at same votes own (Some l) complete last = subst (λ z. IsLearntIn i z (with_instance m i y) l.updates) same (learnt_in m i x y at votes own l.updates complete last)
 
--- an update that was refused
-module _ (m : MemberState) (x y : Instance) (at : slice_get m.instances 0 ≡ Some x) (rounds : ℕ) (d : ObjectOp) (e : RunnerError) where
-  unchanged : y ≡ x → with_instance m 0 y ≡ m
-  unchanged same = λ i. record m { instances = (ap (λ z. slice_set m.instances 0 z) same ∙ set_back m.instances 0 x at) i }
-    where
-      set_back : (xs : List Instance) (i : ℕ) (z : Instance) → slice_get xs i ≡ Some z → slice_set xs i z ≡ xs
-      set_back [] i z h = refl
-      set_back (w ∷ ws) zero z h = let one : w ≡ z = cc in ap (λ v. v ∷ ws) (sym one)
-      set_back (w ∷ ws) (suc i) z h = ap (λ vs. w ∷ vs) (set_back ws i z h)
-
-  pub refused_update : IsUpdateRefusal rounds d x y e → IsRefusedUpdate rounds d m (with_instance m 0 y) e
-  refused_update (inl none) = inl (subst (λ o. IsSomeAnd o (λ z. IsSubmissionRefusal z.proposer e)) (sym at) none.0, unchanged none.1)
-  refused_update (inr some) = inr (some.0, ap submitted_of (get-set_same m.instances 0 y (slice_get_within m.instances 0 x at)) ∙ some.1 ∙ ap (λ o. submitted_of o ++ d ∷ []) (sym at))
-
+-- what an answer that is there keeps
 pub if_ok : {T E : Type 0} (r : Result T E) (t : T) (P : T → Type 0) → r ≡ Ok t → IfOk r P → P t
 if_ok r t P e h = subst (λ z. IfOk z P) e h

@@ -55,9 +55,6 @@ learnt_now p ps q qs n s g l = record {
   some = subst (λ o. 1 ≤ count s o) (sym g.follows.own) l.some;
 }
 
-pub steps_refl : (x : Instance) → IsInstance x → Steps x x
-steps_refl x is = record { is = is; follows = follows_refl x.proposer x.passes.items x.passes.items (on_refl x.passes.items); submitted = prefix_self (all_submitted x.proposer); grows = subset-refl x.view }
-
 pub steps_trans : (x y z : Instance) → Steps x y → Steps y z → Steps x z
 steps_trans x y z f g = record {
   is = g.is;

@@ -4,6 +4,7 @@
 
 pub mod acceptors;
 pub mod commits;
+pub mod members;
 pub mod objects;
 pub mod orsets;
 pub mod passes;
