@@ -191,8 +191,8 @@ pub fn are_events(events: &Events, want: &[Want]) -> bool {
 
 // Whether the group's votes are these.
 fn are_votes(votes: Votes, want: &[u16]) -> bool {
-    for (replica, want) in want.iter().enumerate() {
-        if votes.of(replica as u8) != Some(*want) {
+    for replica in 0..8 {
+        if votes.of(replica) != want.get(replica as usize).copied() {
             return false;
         }
     }
