@@ -64,6 +64,10 @@ module _ (p : ProposerState) (ps : List Known) (a : ℕ) (k w : Known) (is : IsS
   stays_of q known open_is (Ok heard) state asks = (asked heard q state known open_is asks).2
   stays_of q known open_is (Err e) state asks = tt
 
+pub vain_of : {E : Type 0} (p q : ProposerState) (k w : Known) (result : Result Heard E) → OnErr result (AsksInVain p k q w) → OnErr result (q ≡ p)
+vain_of p q k w (Ok heard) vain = tt
+vain_of p q k w (Err e) vain = vain.0
+
 -- the pass at a place
 pub at_place : (ps : List Known) (a : ℕ) (k : Known) → a < length ps → k ≡ slice_index_or ps a k → slice_get ps a ≡ Some k
 at_place ps a k lt e = slice_get-get_or ps a k lt ∙ ap Some (sym e)

@@ -27,7 +27,7 @@ use Rattle.la_shared.specs.History.{HasEntry}
 use Rattle.la_shared.specs.Passes.{Known}
 use Rattle.la_runner.specs.Certificates.{mine_at}
 use Rattle.la_runner.specs.Sound.{IsSound, HasReply, WasTold}
-use Rattle.la_runner.specs.Following.{GoOn, Beyond, Follows, SubmitsNothing, Goes, IsLearnt, IfLearnt, StaysOpen}
+use Rattle.la_runner.specs.Following.{GoOn, Beyond, Follows, SubmitsNothing, Goes, IsLearnt, IfLearnt, StaysOpen, IsOpenOrWhole}
 use Rattle.la_runner.proofs.Passing.{on_refl}
 
 -- ## Counted replies
@@ -212,9 +212,11 @@ module _ (p : ProposerState) (ps qs : List Known) (a : ℕ) (r : Reply) (is : Is
       }
 
   stays_by : (v : Verdict) → StaysOpen (heard_by (with_reply p a r) v) p (after_verdict (with_reply p a r) v)
-  stays_by Waits = (refl, refl)
-  stays_by Refines = tt
-  stays_by Learns = tt
+  stays_by Waits = (asking, refl)
+  stays_by Refines = (asking, omega arith)
+  stays_by Learns = cond_both (is_nothing p.waiting) (closed (with_reply p a r)) (after_opening (with_reply p a r)) (λ q. IsOpenOrWhole q p.updates)
+      (λ e. inr (let none = ap length (nothing_is p.waiting e) in omega arith))
+      (λ e. inl refl)
 
   module _ (heard : Heard) (q : ProposerState) (state : IsProposerState q) (counted : counts p a p.number ≡ true) (said_is : heard ≡ heard_of p a p.number r) (is_after : q ≡ after_reply p a p.number r) where
     after_is : after_counting (with_reply p a r) ≡ q
@@ -247,6 +249,16 @@ pub counts_open : (p : ProposerState) (a : ℕ) → p.is_asking ≡ true → has
 counts_open p a asking none = ap₂ (λ b d. b && ((p.number == p.number) && not d)) asking none ∙ ap (λ b. b && true) (eq-eqb p.number p.number refl)
 
 -- ## A submission
+
+pub submission_asks : (p : ProposerState) (d : ObjectOp) → (after_submission p d).is_asking ≡ true
+submission_asks p d = cond_both p.is_asking (with_waiting p d) (after_opening (with_waiting p d)) (λ q. q.is_asking ≡ true) (λ e. e) (λ e. refl)
+
+pub submission_number : (p : ProposerState) (d : ObjectOp) → (after_submission p d).number ≡ cond p.is_asking p.number (p.number + 1)
+submission_number p d = go p.is_asking
+  where
+    go : (b : Bool) → (cond b (with_waiting p d) (after_opening (with_waiting p d))).number ≡ cond b p.number (p.number + 1)
+    go true = refl
+    go false = refl
 
 module _ (p : ProposerState) (ps : List Known) (d : ObjectOp) (is : IsSound p ps) where
   small_own : p.own < 8

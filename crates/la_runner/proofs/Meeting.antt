@@ -11,6 +11,8 @@ use Rattle.la_shared.proofs.Theorems.{prefix_self}
 use Rattle.la_runner.specs.Certificates.{seen_of, mine_of, seen_at, mine_at}
 use Rattle.la_runner.specs.Sound.{IsPassAt}
 use Rattle.la_runner.specs.Following.{acceptors_of}
+use Rattle.la_runner.specs.declared.instance.Instance.{Instance}
+use Rattle.la_runner.specs.Instances.{state_of}
 use Rattle.la_runner.specs.Notes.{told_seen, told_at, told_names}
 use Rattle.la_runner.proofs.Fresh.{item_there}
 use Rattle.la_runner.proofs.Passing.{prefix_trans, on_refl, on_trans, get-set_same, get-set_other, Grown, grown}
@@ -117,3 +119,6 @@ meeting_next s told ps items notes n qs k w names i a met items_are i_is ours th
     same_one : w.acceptor ≡ k.acceptor
     same_one = acceptor_there qs (length notes) k w.acceptor at
         (of ∙ subst (λ j. a ≡ slice_index_or names j a) i_is a_is ∙ ap (λ d. slice_index_or names (length notes) d) (sym of) ∙ ap (λ l. slice_index_or l (length notes) w.acceptor) (sym (m.on.on.acceptors ∙ ours)))
+
+pub same_state : (x y : Instance) → x.passes.items ≡ y.passes.items → x.proposer ≡ y.proposer → x.learnt ≡ y.learnt → x.view ≡ y.view → state_of x ≡ state_of y
+same_state x y passes proposer learnt view i = record { proposer = proposer i; passes = passes i; learnt = learnt i; view = view i }

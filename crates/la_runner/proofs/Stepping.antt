@@ -1,5 +1,5 @@
 -- Steps of a member in one instance: one after another, and what each leaves.
-use Rattle.std.proofs.Common.{◌≡◌, inl, inr, ℕ, ◌≤◌, List, [], ◌∷◌, ◌++◌, length, Option, Some, None, ap, sym, ◌∙◌, subst, arith}
+use Rattle.std.proofs.Common.{◌≡◌, inl, inr, ℕ, ◌≤◌, true, List, [], ◌∷◌, ◌++◌, length, Option, Some, None, ap, sym, ◌∙◌, subst, arith}
 use Rattle.std.specs.Prelude.{Result, Ok, Err, IfSome, IfOk, IfErr}
 use mathlib.Core.List.{IsPrefix}
 use Rattle.la_set.specs.ObjectOps.{ObjectOp}
@@ -13,13 +13,12 @@ use Rattle.la_proposer.specs.Invariant.{IsProposerState}
 use Rattle.la_proposer.proofs.Theorems.{majorities_meet}
 use Rattle.la_shared.specs.Passes.{Known}
 use Rattle.la_shared.proofs.Theorems.{prefix_self}
-use Rattle.la_runner.specs.declared.instance.Instance.{Instance}
 use Rattle.la_runner.specs.Certificates.{mine_at, HasCertificate, HasOwnCertificate}
 use Rattle.la_runner.specs.Sound.{IsSound, IsView}
 use Rattle.la_runner.specs.Following.{Follows, Goes, SubmitsNothing, IsLearnt}
-use Rattle.la_runner.specs.Instances.{IsLearntSet, IsInstance, Steps, IsComplete, IsUpdated}
+use Rattle.la_runner.specs.Instances.{InstanceState, IsLearntSet, IsInstance, Steps, IsComplete, IsUpdated}
 use Rattle.la_runner.specs.Rounds.{IsLarger}
-use Rattle.la_runner.specs.Refusals.{IsOfferRefusal, IsRoundsRefusal, IsUpdateRefusal}
+use Rattle.la_runner.specs.Refusals.{IsOfferRefusal, IsRoundsRefusal, IsInstanceRefusal, IsUpdateRefusal}
 use Rattle.la_runner.specs.declared.error.RunnerError.{RunnerError}
 use Rattle.la_runner.specs.declared.error.RunnerError.TheVariants as errors
 use Rattle.la_runner.specs.declared.learned.Learned.{Learned}
@@ -27,7 +26,7 @@ use Rattle.la_runner.proofs.Certified.{own_certificate_stays}
 use Rattle.la_runner.proofs.Passing.{prefix_trans, on_refl}
 use Rattle.la_runner.proofs.Going.{follows_refl, follows_trans}
 use Rattle.la_runner.proofs.Viewing.{larger_view, view_on, becomes_larger, empty_within}
-use Rattle.la_runner.proofs.Hearing.{submission_sound, submission_follows, submission_adds}
+use Rattle.la_runner.proofs.Hearing.{submission_sound, submission_follows, submission_adds, submission_asks}
 use Rattle.la_runner.proofs.Updating.{whole, submitted_is, contains_met}
 
 if_some_on : {A : Type 0} (P Q : A → Type 0) (o : Option A) → ((x : A) → P x → Q x) → IfSome o P → IfSome o Q
@@ -55,24 +54,29 @@ learnt_now p ps q qs n s g l = record {
   some = subst (λ o. 1 ≤ count s o) (sym g.follows.own) l.some;
 }
 
-pub steps_trans : (x y z : Instance) → Steps x y → Steps y z → Steps x z
+pub steps_trans : (x y z : InstanceState) → Steps x y → Steps y z → Steps x z
 steps_trans x y z f g = record {
   is = g.is;
-  follows = follows_trans x.proposer y.proposer z.proposer x.passes.items y.passes.items z.passes.items f.follows g.follows;
+  follows = follows_trans x.proposer y.proposer z.proposer x.passes y.passes z.passes f.follows g.follows;
   submitted = prefix_trans (all_submitted x.proposer) (all_submitted y.proposer) (all_submitted z.proposer) f.submitted g.submitted;
   grows = subset-trans x.view y.view z.view f.grows g.grows;
 }
 
-pub goes_of_steps : (x y : Instance) → Steps x y → SubmitsNothing x.proposer y.proposer → Goes x.proposer x.passes.items y.proposer y.passes.items
+pub goes_of_steps : (x y : InstanceState) → Steps x y → SubmitsNothing x.proposer y.proposer → Goes x.proposer x.passes y.proposer y.passes
 goes_of_steps x y s n = record { sound = s.is.sound; follows = s.follows; nothing = n }
 
+some_none : {A : Type 0} {a : A} → Some a ≡ None → ⊥
+some_none e = cc
+
 -- nothing was learnt
-pub steps_on : (x y : Instance) → IsInstance x → Goes x.proposer x.passes.items y.proposer y.passes.items → y.learnt ≡ x.learnt → y.view ≡ x.view → Steps x y
-steps_on x y is g same view = record {
+pub steps_on : (x y : InstanceState) → IsInstance x → Goes x.proposer x.passes y.proposer y.passes → (x.proposer.is_asking ≡ true → y.proposer.is_asking ≡ true) → y.learnt ≡ x.learnt → y.view ≡ x.view → Steps x y
+steps_on x y is g asks same view = record {
   is = record {
     sound = g.sound;
-    view = subst (IsView y.proposer.votes y.passes.items) (sym view) (view_on x.proposer x.passes.items y.proposer y.passes.items x.view g is.view);
-    learnt = subst (λ o. IfSome o (IsLearntSet y.proposer y.passes.items)) (sym same) (learnt_goes x.proposer x.passes.items y.proposer y.passes.items x.learnt g is.learnt);
+    view = subst (IsView y.proposer.votes y.passes) (sym view) (view_on x.proposer x.passes y.proposer y.passes x.view g is.view);
+    learnt = subst (λ o. IfSome o (IsLearntSet y.proposer y.passes)) (sym same) (learnt_goes x.proposer x.passes y.proposer y.passes x.learnt g is.learnt);
+    cap = subst (λ c. 1 ≤ c) (sym g.follows.cap) is.cap;
+    under_way = λ none some. asks (is.under_way (sym same ∙ none) (subst (λ l. 1 ≤ length l) g.nothing some));
   };
   follows = g.follows;
   submitted = prefix_is (all_submitted x.proposer) (all_submitted y.proposer) g.nothing;
@@ -80,12 +84,14 @@ steps_on x y is g same view = record {
 }
 
 -- a set was
-pub steps_learnt : (x y : Instance) (n : ℕ) (s : Histories) → IsInstance x → Goes x.proposer x.passes.items y.proposer y.passes.items → IsLearnt x.proposer x.passes.items y.passes.items n s → y.learnt ≡ Some s → IsLarger s x.view y.view → Steps x y
+pub steps_learnt : (x y : InstanceState) (n : ℕ) (s : Histories) → IsInstance x → Goes x.proposer x.passes y.proposer y.passes → IsLearnt x.proposer x.passes y.passes n s → y.learnt ≡ Some s → IsLarger s x.view y.view → Steps x y
 steps_learnt x y n s is g l now larger = record {
   is = record {
     sound = g.sound;
-    view = larger_view x.proposer x.passes.items y.proposer y.passes.items n x.view s g l y.view is.view larger.one;
-    learnt = subst (λ o. IfSome o (IsLearntSet y.proposer y.passes.items)) (sym now) (learnt_now x.proposer x.passes.items y.proposer y.passes.items n s g l);
+    view = larger_view x.proposer x.passes y.proposer y.passes n x.view s g l y.view is.view larger.one;
+    learnt = subst (λ o. IfSome o (IsLearntSet y.proposer y.passes)) (sym now) (learnt_now x.proposer x.passes y.proposer y.passes n s g l);
+    cap = subst (λ c. 1 ≤ c) (sym g.follows.cap) is.cap;
+    under_way = λ none some. absurd (some_none (sym now ∙ none));
   };
   follows = g.follows;
   submitted = prefix_is (all_submitted x.proposer) (all_submitted y.proposer) g.nothing;
@@ -97,8 +103,8 @@ steps_learnt x y n s is g l now larger = record {
 pub enough_of : (p : ProposerState) (s : Histories) (own mine : ℕ) → own ≡ p.own → mine ≡ submitted p → mine ≤ count s own → submitted p ≤ count s p.own
 enough_of p s own mine own_is mine_is h = subst (λ (z : ℕ × ℕ). z.0 ≤ count s z.1) (λ i. (mine_is i, own_is i)) h
 
-module _ (x y : Instance) (n : ℕ) (s : Histories) (is : IsInstance x) (nothing : SubmitsNothing x.proposer y.proposer) (l : IsLearnt x.proposer x.passes.items y.passes.items n s) where
-  contains_own : (t : Histories) → HasOwnCertificate x.proposer.votes x.passes.items t → IsSubset t s
+module _ (x y : InstanceState) (n : ℕ) (s : Histories) (is : IsInstance x) (nothing : SubmitsNothing x.proposer y.proposer) (l : IsLearnt x.proposer x.passes y.passes n s) where
+  contains_own : (t : Histories) → HasOwnCertificate x.proposer.votes x.passes t → IsSubset t s
   contains_own t c = let there = majorities_meet x.proposer.votes c.0 c.0 c.1 c.1 in
       subset-trans t x.proposer.updates s (is.sound.within there.0 t Yes (c.2 there.0 there.3)) l.grown
 
@@ -111,43 +117,49 @@ module _ (x y : Instance) (n : ℕ) (s : Histories) (is : IsInstance x) (nothing
 
 -- ## A submission, and then rounds
 
-module _ (x : Instance) (q : ProposerState) (d : ObjectOp) (is : IsInstance x) (after : q ≡ after_submission x.proposer d) (state : IsProposerState q) where
-  submitted_follows : Follows x.proposer q x.passes.items x.passes.items
-  submitted_follows = subst (λ z. Follows x.proposer z x.passes.items x.passes.items) (sym after) (submission_follows x.proposer x.passes.items d is.sound)
+module _ (x : InstanceState) (q : ProposerState) (d : ObjectOp) (is : IsInstance x) (after : q ≡ after_submission x.proposer d) (state : IsProposerState q) where
+  submitted_follows : Follows x.proposer q x.passes x.passes
+  submitted_follows = subst (λ z. Follows x.proposer z x.passes x.passes) (sym after) (submission_follows x.proposer x.passes d is.sound)
 
   pub submitted_adds : all_submitted q ≡ all_submitted x.proposer ++ d ∷ []
-  submitted_adds = ap all_submitted after ∙ submission_adds x.proposer x.passes.items d is.sound
+  submitted_adds = ap all_submitted after ∙ submission_adds x.proposer x.passes d is.sound
 
-  submitted_sound : IsSound q x.passes.items
-  submitted_sound = subst (λ z. IsSound z x.passes.items) (sym after) (submission_sound x.proposer x.passes.items d is.sound (subst IsProposerState after state))
+  submitted_sound : IsSound q x.passes
+  submitted_sound = subst (λ z. IsSound z x.passes) (sym after) (submission_sound x.proposer x.passes d is.sound (subst IsProposerState after state))
+
+  -- a ballot is open
+  pub submitted_asks : q.is_asking ≡ true
+  submitted_asks = ap (λ (p : ProposerState). p.is_asking) after ∙ submission_asks x.proposer d
 
   -- with the update submitted
-  abbrev pub submitted_instance : Instance
+  abbrev pub submitted_instance : InstanceState
   submitted_instance = record x { proposer = q }
 
   pub submitted_is_instance : IsInstance submitted_instance
   submitted_is_instance = record {
     sound = submitted_sound;
-    view = subst (λ vs. IsView vs x.passes.items x.view) (sym submitted_follows.votes) is.view;
-    learnt = if_some_on (IsLearntSet x.proposer x.passes.items) (IsLearntSet q x.passes.items) x.learnt (λ s. learnt_on x.proposer q x.passes.items x.passes.items s submitted_follows.votes submitted_follows.own (d ∷ [], sym submitted_adds) (on_refl x.passes.items).mine) is.learnt;
+    view = subst (λ vs. IsView vs x.passes x.view) (sym submitted_follows.votes) is.view;
+    learnt = if_some_on (IsLearntSet x.proposer x.passes) (IsLearntSet q x.passes) x.learnt (λ s. learnt_on x.proposer q x.passes x.passes s submitted_follows.votes submitted_follows.own (d ∷ [], sym submitted_adds) (on_refl x.passes).mine) is.learnt;
+    cap = subst (λ c. 1 ≤ c) (sym submitted_follows.cap) is.cap;
+    under_way = λ none some. submitted_asks;
   }
 
   pub submitted_steps : Steps x submitted_instance
   submitted_steps = record { is = submitted_is_instance; follows = submitted_follows; submitted = (d ∷ [], sym submitted_adds); grows = subset-refl x.view }
 
-  module _ (y : Instance) (n : ℕ) (s : Histories) (steps : Steps submitted_instance y) (nothing : SubmitsNothing q y.proposer) (l : IsLearnt q x.passes.items y.passes.items n s) (c : IsComplete submitted_instance y s) where
+  module _ (y : InstanceState) (n : ℕ) (s : Histories) (steps : Steps submitted_instance y) (nothing : SubmitsNothing q y.proposer) (l : IsLearnt q x.passes y.passes n s) (c : IsComplete submitted_instance y s) where
     enough : submitted q ≤ count s x.proposer.own
     enough = let e = ap length (subst (λ o. history s o ≡ all_submitted q) submitted_follows.own (c.holds ∙ nothing)) in let b = submitted_is q in omega arith
 
-    contains : (t : Histories) → HasCertificate x.proposer.votes x.passes.items t → IsSubset t s
-    contains = contains_met x.proposer q y.proposer x.passes.items y.passes.items d n s submitted_follows submitted_adds (goes_of_steps submitted_instance y steps nothing) l enough
+    contains : (t : Histories) → HasCertificate x.proposer.votes x.passes t → IsSubset t s
+    contains = contains_met x.proposer q y.proposer x.passes y.passes d n s submitted_follows submitted_adds (goes_of_steps submitted_instance y steps nothing) l enough
 
     pub updated : IsUpdated x y s
     updated = record {
       complete = record {
-        own = subst (λ vs. HasOwnCertificate vs y.passes.items s) submitted_follows.votes c.own;
+        own = subst (λ vs. HasOwnCertificate vs y.passes s) submitted_follows.votes c.own;
         holds = subst (λ o. history s o ≡ all_submitted y.proposer) submitted_follows.own c.holds;
-        contains_own = λ t h. c.contains_own t (subst (λ vs. HasOwnCertificate vs x.passes.items t) (sym submitted_follows.votes) h);
+        contains_own = λ t h. c.contains_own t (subst (λ vs. HasOwnCertificate vs x.passes t) (sym submitted_follows.votes) h);
       };
       contains = contains;
     }
@@ -155,40 +167,40 @@ module _ (x : Instance) (q : ProposerState) (d : ObjectOp) (is : IsInstance x) (
     pub updated_view : IsLarger s x.view y.view → y.view ≡ s
     updated_view larger = becomes_larger x.view y.view s larger (view_within is.view)
       where
-        view_within : IsView x.proposer.votes x.passes.items x.view → IsSubset x.view s
+        view_within : IsView x.proposer.votes x.passes x.view → IsSubset x.view s
         view_within (inl e) = subst (λ z. IsSubset z s) (sym e) (empty_within s)
         view_within (inr c) = contains x.view c
 
-  module _ (y : Instance) (rounds : ℕ) (result : Result (Learned × ℕ) RunnerError) (steps : Steps submitted_instance y) (nothing : SubmitsNothing q y.proposer) where
-    pub updated_of : IfOk result (λ end. IsLearnt q x.passes.items y.passes.items end.0.ballot end.0.updates) → IfOk result (λ end. IsComplete submitted_instance y end.0.updates) → IfOk result (λ end. IsUpdated x y end.0.updates)
+  module _ (y : InstanceState) (rounds : ℕ) (result : Result (Learned × ℕ) RunnerError) (steps : Steps submitted_instance y) (nothing : SubmitsNothing q y.proposer) where
+    pub updated_of : IfOk result (λ end. IsLearnt q x.passes y.passes end.0.ballot end.0.updates) → IfOk result (λ end. IsComplete submitted_instance y end.0.updates) → IfOk result (λ end. IsUpdated x y end.0.updates)
     updated_of learnt complete = go result learnt complete
       where
-        go : (r : Result (Learned × ℕ) RunnerError) → IfOk r (λ end. IsLearnt q x.passes.items y.passes.items end.0.ballot end.0.updates) → IfOk r (λ end. IsComplete submitted_instance y end.0.updates) → IfOk r (λ end. IsUpdated x y end.0.updates)
+        go : (r : Result (Learned × ℕ) RunnerError) → IfOk r (λ end. IsLearnt q x.passes y.passes end.0.ballot end.0.updates) → IfOk r (λ end. IsComplete submitted_instance y end.0.updates) → IfOk r (λ end. IsUpdated x y end.0.updates)
         go (Ok end) l c = updated y end.0.ballot end.0.updates steps nothing l c
         go (Err e) l c = tt
 
-    pub view_of : IfOk result (λ end. IsLearnt q x.passes.items y.passes.items end.0.ballot end.0.updates) → IfOk result (λ end. IsComplete submitted_instance y end.0.updates) → IfOk result (λ end. IsLarger end.0.updates x.view y.view) → IfOk result (λ end. y.view ≡ end.0.updates)
+    pub view_of : IfOk result (λ end. IsLearnt q x.passes y.passes end.0.ballot end.0.updates) → IfOk result (λ end. IsComplete submitted_instance y end.0.updates) → IfOk result (λ end. IsLarger end.0.updates x.view y.view) → IfOk result (λ end. y.view ≡ end.0.updates)
     view_of learnt complete larger = go result learnt complete larger
       where
-        go : (r : Result (Learned × ℕ) RunnerError) → IfOk r (λ end. IsLearnt q x.passes.items y.passes.items end.0.ballot end.0.updates) → IfOk r (λ end. IsComplete submitted_instance y end.0.updates) → IfOk r (λ end. IsLarger end.0.updates x.view y.view) → IfOk r (λ end. y.view ≡ end.0.updates)
+        go : (r : Result (Learned × ℕ) RunnerError) → IfOk r (λ end. IsLearnt q x.passes y.passes end.0.ballot end.0.updates) → IfOk r (λ end. IsComplete submitted_instance y end.0.updates) → IfOk r (λ end. IsLarger end.0.updates x.view y.view) → IfOk r (λ end. y.view ≡ end.0.updates)
         go (Ok end) l c g = updated_view y end.0.ballot end.0.updates steps nothing l c g
         go (Err e) l c g = tt
 
-    pub refused_of : IfErr result (IsRoundsRefusal rounds) → IfErr result (IsUpdateRefusal rounds d x y)
+    pub refused_of : IfErr result (IsInstanceRefusal rounds q.number y) → IfErr result (IsUpdateRefusal rounds d x y)
     refused_of refused = go result refused
       where
-        go : (r : Result (Learned × ℕ) RunnerError) → IfErr r (IsRoundsRefusal rounds) → IfErr r (IsUpdateRefusal rounds d x y)
+        go : (r : Result (Learned × ℕ) RunnerError) → IfErr r (IsInstanceRefusal rounds q.number y) → IfErr r (IsUpdateRefusal rounds d x y)
         go (Ok end) h = tt
-        go (Err e) h = inr (h, nothing ∙ submitted_adds)
+        go (Err e) h = inr (nothing ∙ submitted_adds, subst (λ (p : ProposerState). IsInstanceRefusal rounds p.number y e) after h)
 
 -- a refused offer, in some round
-pub in_rounds : (rounds : ℕ) (e : RunnerError) → 1 ≤ rounds → IsOfferRefusal e → IsRoundsRefusal rounds e
-in_rounds rounds (errors.Clash id) some h = some
-in_rounds rounds errors.BallotsSpent some h = some
-in_rounds rounds errors.Memory some h = some
-in_rounds rounds errors.BadConfig some h = absurd h
-in_rounds rounds errors.NoSuchCommit some h = absurd h
-in_rounds rounds errors.AlreadyProposed some h = absurd h
-in_rounds rounds errors.Full some h = absurd h
-in_rounds rounds errors.NoMajority some h = absurd h
-in_rounds rounds errors.TryAgain some h = absurd h
+pub in_rounds : (rounds first last : ℕ) (e : RunnerError) → 1 ≤ rounds → IsOfferRefusal e → IsRoundsRefusal rounds first last e
+in_rounds rounds first last (errors.Clash id) some h = some
+in_rounds rounds first last errors.BallotsSpent some h = some
+in_rounds rounds first last errors.Memory some h = some
+in_rounds rounds first last errors.BadConfig some h = absurd h
+in_rounds rounds first last errors.NoSuchCommit some h = absurd h
+in_rounds rounds first last errors.AlreadyProposed some h = absurd h
+in_rounds rounds first last errors.Full some h = absurd h
+in_rounds rounds first last errors.NoMajority some h = absurd h
+in_rounds rounds first last errors.TryAgain some h = absurd h

@@ -1,7 +1,7 @@
 -- Views.
-use Rattle.std.proofs.Common.{⊎_elim, ◌≡◌, ◌⊎◌, inl, inr, ℕ, Bool, true, false, cond, sym, ◌∙◌, subst, List, Option, Some}
+use Rattle.std.proofs.Common.{⊎_elim, ◌≡◌, ◌⊎◌, inl, inr, ℕ, Bool, true, false, cond, sym, ◌∙◌, subst, List, Option, Some, None}
 use Rattle.std.specs.List.{slice_get}
-use Rattle.std.specs.Prelude.{IfSome}
+use Rattle.std.specs.Prelude.{Ok, IfSome}
 use Rattle.la_set.specs.Histories.{Histories, empty}
 use Rattle.la_set.specs.Inclusion.{IsSubset, AreComparable, is_larger, larger_of}
 use Rattle.la_set.proofs.Theorems.{subset-trans, subset-antisym}
@@ -15,7 +15,7 @@ use Rattle.la_runner.specs.Sound.{IsView, IsPassAt}
 use Rattle.la_runner.specs.Following.{Goes, IsLearnt}
 use Rattle.la_runner.specs.declared.instance.Learning.{Learning}
 use Rattle.la_runner.specs.declared.learned.Learned.{Learned}
-use Rattle.la_runner.specs.Rounds.{IsLarger, IsViewOf, IsLastAfter, IsLastLearned}
+use Rattle.la_runner.specs.Rounds.{IsLarger, IsOpenAfter, IsViewOf, IsLastAfter, IsLastLearned}
 use Rattle.la_runner.proofs.Certified.{own_certificate, certificates_compare}
 use Rattle.la_runner.proofs.Going.{view_stays}
 
@@ -82,6 +82,10 @@ becomes_larger u w s larger first = ⊎_elim (λ (e : w ≡ u). subset-antisym w
 
 pub if_some : {A : Type 0} (o : Option A) (x : A) (P : A → Type 0) → o ≡ Some x → IfSome o P → P x
 if_some o x P e h = subst (λ z. IfSome z P) e h
+
+-- a round that learnt nothing left the ballot open
+pub none_open : (end : Option Learning) (A : Type 0) (q : ProposerState) → end ≡ None → (A → IsOpenAfter (Ok end) q) → A → q.is_asking ≡ true
+none_open end A q e h a = subst (λ z. IsOpenAfter (Ok z) q) e (h a)
 
 pub larger_then : (end : Option Learned) (l : Learned) (v w : Histories) → end ≡ Some l → IsViewOf end v w → IsLarger l.updates v w
 larger_then end l v w e h = subst (λ z. IsViewOf z v w) e h

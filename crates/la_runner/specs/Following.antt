@@ -1,12 +1,12 @@
 -- How a member goes on in one instance.
-use Rattle.std.specs.Prelude.{◌≡◌, ◌⊎◌, ℕ, ◌≤◌, List, ◌++◌, map}
+use Rattle.std.specs.Prelude.{◌≡◌, ◌⊎◌, ℕ, ◌≤◌, ◌<◌, true, List, ◌++◌, map}
 use mathlib.Core.List.{IsPrefix}
 use Rattle.la_set.specs.Histories.{Histories, history, count}
 use Rattle.la_set.specs.Inclusion.{IsSubset}
 use Rattle.la_acceptor.specs.declared.reply.Reply.TheVariants.{Yes}
 use Rattle.la_proposer.specs.declared.heard.Heard.{Heard}
 use Rattle.la_proposer.specs.declared.heard.Heard.TheVariants as said
-use Rattle.la_proposer.specs.ProposerState.{ProposerState}
+use Rattle.la_proposer.specs.ProposerState.{ProposerState, submitted}
 use Rattle.la_proposer.specs.Inputs.{all_submitted}
 use Rattle.la_shared.specs.declared.entry.Entry.{Entry}
 use Rattle.la_shared.specs.History.{HasYes}
@@ -72,9 +72,14 @@ pub record Goes (p : ProposerState) (ps : List Known) (q : ProposerState) (qs : 
   pub follows : Follows p q ps qs
   pub nothing : SubmitsNothing p q
 
--- a ballot whose reply only counts, or is ignored, stays open
+-- a ballot is open, or the set has all that was submitted
+abbrev pub IsOpenOrWhole : ProposerState → Histories → Type 0
+IsOpenOrWhole q s = (q.is_asking ≡ true) ⊎ (submitted q ≤ count s q.own)
+
+-- what a reply to an open ballot leaves open: that ballot, where it only counts or is ignored; the
+-- next one
 abbrev pub StaysOpen : Heard → ProposerState → ProposerState → Type 0
-StaysOpen (said.Counted) p q = (q.is_asking ≡ p.is_asking) × (q.number ≡ p.number)
-StaysOpen (said.Ignored) p q = (q.is_asking ≡ p.is_asking) × (q.number ≡ p.number)
-StaysOpen (said.Refined b) p q = Unit {0}
-StaysOpen (said.Learnt s next) p q = Unit {0}
+StaysOpen (said.Counted) p q = (q.is_asking ≡ true) × (q.number ≡ p.number)
+StaysOpen (said.Ignored) p q = (q.is_asking ≡ true) × (q.number ≡ p.number)
+StaysOpen (said.Refined b) p q = (q.is_asking ≡ true) × (p.number < q.number)
+StaysOpen (said.Learnt s next) p q = IsOpenOrWhole q s

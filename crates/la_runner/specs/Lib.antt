@@ -5,7 +5,10 @@ pub mod Following
 pub mod Instances
 pub mod Rounds
 pub mod Members
+pub mod Participants
+pub mod Invariant
 pub mod Refusals
 pub mod Notes
 pub mod Fields
 pub mod Starting
+pub mod Laws

@@ -1,37 +1,36 @@
 -- What a contract sees of a group and of its members.
-use Rattle.std.specs.Prelude.{◌≡◌, ◌≢◌, ℕ, ◌≤◌, Bool, false, List, [], map, length, slice_get, Option, Some, None, IsSomeAnd}
+use Rattle.std.specs.Prelude.{◌≡◌, ◌≢◌, ℕ, Bool, false, List, [], map, slice_get, Option, Some, None, IsSomeAnd}
 use mathlib.Core.List.{IsPrefix}
 use Rattle.la_set.specs.ObjectOps.{ObjectOp}
 use Rattle.la_set.specs.Histories.{Histories, history, empty}
 use Rattle.la_set.specs.Inclusion.{IsSubset}
 use Rattle.la_proposer.specs.Inputs.{all_submitted}
 use Rattle.la_shared.specs.Passes.{Known, AcceptorName}
-use Rattle.la_runner.specs.declared.instance.Instance.{Instance}
 use Rattle.la_runner.specs.Certificates.{seen_at, mine_at, HasCertificate, HasOwnCertificate}
 use Rattle.la_runner.specs.Following.{acceptors_of}
-use Rattle.la_runner.specs.Instances.{IsInstance}
+use Rattle.la_runner.specs.Instances.{InstanceState, asking_number}
 
 pub record MemberState : Type 0 where
   -- the votes of its group, and which replica it is
   pub votes : List ℕ
   pub replica : ℕ
-  -- of each instance, from 0 on: the proposer, the passes, the last learnt set, and the view
-  pub instances : List Instance
+  -- of each instance, from 0 on
+  pub instances : List InstanceState
 
 -- there is an instance with this number, and a fact holds of it
-abbrev pub InInstance : MemberState → (instance : ℕ) → (Instance → Type 0) → Type 0
+abbrev pub InInstance : MemberState → (instance : ℕ) → (InstanceState → Type 0) → Type 0
 InInstance m i P = IsSomeAnd (slice_get m.instances i) P
 
 -- ## What there is in an instance; nothing, where there is no such instance
 
-abbrev pub passes_of : Option Instance → List Known
+abbrev pub passes_of : Option InstanceState → List Known
 passes_of None = []
-passes_of (Some x) = x.passes.items
+passes_of (Some x) = x.passes
 
 abbrev pub passes_in : MemberState → (instance : ℕ) → List Known
 passes_in m i = passes_of (slice_get m.instances i)
 
-abbrev pub submitted_of : Option Instance → List ObjectOp
+abbrev pub submitted_of : Option InstanceState → List ObjectOp
 submitted_of None = []
 submitted_of (Some x) = all_submitted x.proposer
 
@@ -39,7 +38,7 @@ submitted_of (Some x) = all_submitted x.proposer
 abbrev pub submitted_in : MemberState → (instance : ℕ) → List ObjectOp
 submitted_in m i = submitted_of (slice_get m.instances i)
 
-abbrev pub is_asking_of : Option Instance → Bool
+abbrev pub is_asking_of : Option InstanceState → Bool
 is_asking_of None = false
 is_asking_of (Some x) = x.proposer.is_asking
 
@@ -47,7 +46,23 @@ is_asking_of (Some x) = x.proposer.is_asking
 abbrev pub is_asking_in : MemberState → (instance : ℕ) → Bool
 is_asking_in m i = is_asking_of (slice_get m.instances i)
 
-abbrev pub learnt_of : Option Instance → Option Histories
+abbrev pub number_of : Option InstanceState → ℕ
+number_of None = 0
+number_of (Some x) = x.proposer.number
+
+-- the last ballot's number
+abbrev pub number_in : MemberState → (instance : ℕ) → ℕ
+number_in m i = number_of (slice_get m.instances i)
+
+abbrev pub number_asking_of : Option InstanceState → ℕ
+number_asking_of None = 0
+number_asking_of (Some x) = asking_number x
+
+-- the number of the ballot that is open once an update is submitted
+abbrev pub number_asking : MemberState → (instance : ℕ) → ℕ
+number_asking m i = number_asking_of (slice_get m.instances i)
+
+abbrev pub learnt_of : Option InstanceState → Option Histories
 learnt_of None = None
 learnt_of (Some x) = x.learnt
 
@@ -55,7 +70,7 @@ learnt_of (Some x) = x.learnt
 abbrev pub last_learnt : MemberState → (instance : ℕ) → Option Histories
 last_learnt m i = learnt_of (slice_get m.instances i)
 
-abbrev pub view_of : Option Instance → Histories
+abbrev pub view_of : Option InstanceState → Histories
 view_of None = empty
 view_of (Some x) = x.view
 
@@ -73,26 +88,20 @@ IsOwnCertified m i s = HasOwnCertificate m.votes (passes_in m i) s
 
 -- ## Groups
 
--- a group's acceptors, by instance
-abbrev pub GroupState : Type 0
-GroupState = List (List AcceptorName)
+pub record GroupState : Type 0 where
+  pub votes : List ℕ
+  -- the acceptors, by instance
+  pub acceptors : List (List AcceptorName)
 
-abbrev pub acceptors_in : MemberState → GroupState
-acceptors_in m = map (λ x. acceptors_of x.passes.items) m.instances
+abbrev pub acceptors_in : MemberState → List (List AcceptorName)
+acceptors_in m = map (λ x. acceptors_of x.passes) m.instances
 
--- the member's passes are of the group's acceptors
-abbrev pub IsOf : GroupState → MemberState → Type 0
-IsOf group m = acceptors_in m ≡ group
+-- the member has the group's votes, and its passes are of the group's acceptors
+pub record IsOf (group : GroupState) (m : MemberState) : Type 0 where
+  pub votes : m.votes ≡ group.votes
+  pub acceptors : acceptors_in m ≡ group.acceptors
 
--- ## What is true of every member, and how it goes on
-
-abbrev pub IsIn : MemberState → Instance → Type 0
-IsIn m x = IsInstance x × (x.proposer.votes ≡ m.votes) × (x.proposer.own ≡ m.replica)
-
-pub record IsMember (m : MemberState) : Type 0 where
-  pub some : 1 ≤ length m.instances
-  pub few : m.replica ≤ 255
-  pub each : (i : ℕ) (x : Instance) → slice_get m.instances i ≡ Some x → IsIn m x
+-- ## How a member goes on
 
 -- whatever a call answers: the passes have seen, and made, what they had, and perhaps more; what was
 -- submitted stays, and the view only grows

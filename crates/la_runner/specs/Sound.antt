@@ -50,13 +50,6 @@ pub record IsSound (p : ProposerState) (passes : List Known) : Type 0 where
   -- what another replica submitted is there since a refusal told it
   pub told : (u : Update) → ContainsUpdate p.updates u → u.id.replica ≢ p.own → WasTold passes u
 
--- no invention: each update of an own offer is the member's own, or a refusal of an offer that
--- lacks it told it
-abbrev pub InventsNothing : ProposerState → List Known → Type 0
-InventsNothing p passes =
-    (a : ℕ) (s : Histories) (r : Reply) → HasEntry (mine_at passes a) s r → (u : Update)
-    → ContainsUpdate s u → IsSubmission p.own (all_submitted p) u ⊎ WasTold passes u
-
 -- a view is empty, or has a certificate
 abbrev pub IsView : (votes : List ℕ) → List Known → Histories → Type 0
 IsView votes passes v = (v ≡ empty) ⊎ HasCertificate votes passes v

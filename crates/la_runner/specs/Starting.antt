@@ -7,7 +7,7 @@ use Rattle.la_proposer.specs.ProposerState.{start}
 use Rattle.la_shared.specs.Passes.{Known, AcceptorName}
 use Rattle.la_runner.specs.declared.error.RunnerError.{RunnerError}
 use Rattle.la_runner.specs.declared.error.RunnerError.TheVariants.{BadConfig, NoSuchCommit, AlreadyProposed, Clash, Full, BallotsSpent, NoMajority, TryAgain, Memory}
-use Rattle.la_runner.specs.declared.instance.Instance.{Instance}
+use Rattle.la_runner.specs.Instances.{InstanceState}
 use Rattle.la_runner.specs.Members.{MemberState, GroupState, IsOf}
 
 -- a pass that has seen nothing, and made no offer
@@ -15,9 +15,9 @@ abbrev pub newcomer : AcceptorName → Known
 newcomer acceptor = record { acceptor = acceptor; number = None; seen = []; mine = [] }
 
 -- a member in an instance with these acceptors, in which it may submit so many updates
-pub record IsNewInstance (votes : List ℕ) (own cap : ℕ) (row : List AcceptorName) (x : Instance) : Type 0 where
+pub record IsNewInstance (votes : List ℕ) (own cap : ℕ) (row : List AcceptorName) (x : InstanceState) : Type 0 where
   pub proposer : x.proposer ≡ start votes own cap empty
-  pub passes : x.passes.items ≡ map newcomer row
+  pub passes : x.passes ≡ map newcomer row
   pub learnt : x.learnt ≡ None
   pub view : x.view ≡ empty
 
@@ -26,28 +26,28 @@ abbrev pub cap_in : (cap instance : ℕ) → ℕ
 cap_in cap i = if i == 0 then cap else 1
 
 -- a member that has done nothing
-pub record IsNewMember (group : GroupState) (of_all : List ℕ) (cap number : ℕ) (m : MemberState) : Type 0 where
-  pub votes : m.votes ≡ of_all
+pub record IsNewMember (group : GroupState) (cap number : ℕ) (m : MemberState) : Type 0 where
   pub replica : m.replica ≡ number
   pub of : IsOf group m
   pub each :
-      (i : ℕ) (row : List AcceptorName) (x : Instance) → slice_get group i ≡ Some row
-      → slice_get m.instances i ≡ Some x → IsNewInstance of_all number (cap_in cap i) row x
+      (i : ℕ) (row : List AcceptorName) (x : InstanceState) → slice_get group.acceptors i ≡ Some row
+      → slice_get m.instances i ≡ Some x → IsNewInstance group.votes number (cap_in cap i) row x
 
 -- the members from this replica on, in order
-abbrev pub AreMembersFrom : GroupState → (votes : List ℕ) → (cap replica : ℕ) → List MemberState → Type 0
-AreMembersFrom group votes cap r [] = Unit {0}
-AreMembersFrom group votes cap r (m ∷ ms) =
-    IsNewMember group votes cap r m × AreMembersFrom group votes cap (r + 1) ms
+abbrev pub AreMembersFrom : GroupState → (cap replica : ℕ) → List MemberState → Type 0
+AreMembersFrom group cap r [] = Unit {0}
+AreMembersFrom group cap r (m ∷ ms) =
+    IsNewMember group cap r m × AreMembersFrom group cap (r + 1) ms
 
 -- the values of a group are in their ranges
 abbrev pub IsConfig : (replicas commits cap : ℕ) → (votes : List ℕ) → Type 0
 IsConfig n commits cap votes = IsGroupOf n cap votes × (commits ≤ MAX_COMMITS)
 
 -- one acceptor a replica in each instance, of which an adopt-commit object has two
-pub record IsGroup (replicas commits : ℕ) (group : GroupState) : Type 0 where
-  pub instances : length group ≡ 2 * commits + 1
-  pub acceptors : All (λ row. length row ≡ replicas) group
+pub record IsGroup (replicas commits : ℕ) (of_all : List ℕ) (group : GroupState) : Type 0 where
+  pub votes : group.votes ≡ of_all
+  pub instances : length group.acceptors ≡ 2 * commits + 1
+  pub acceptors : All (λ row. length row ≡ replicas) group.acceptors
 
 abbrev pub IsNewRefusal : (replicas commits cap : ℕ) → (votes : List ℕ) → RunnerError → Type 0
 IsNewRefusal n commits cap votes BadConfig = ¬ IsConfig n commits cap votes

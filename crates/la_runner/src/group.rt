@@ -2,8 +2,8 @@ ghost use Rattle.std.specs.Prelude.{◌≡◌, ◌<◌, ◌≤◌, ◌∷◌, []
 ghost use Rattle.std.specs.Option.{option_to_list};
 ghost use Rattle.la_proposer.specs.Majority.{votes_of};
 ghost use Rattle.la_proposer.specs.ProposerState.{op_on};
-ghost use Rattle.la_runner.specs.Members.{GroupState, IsOf, GoesOn, IsOnlyIn, IsLearntIn, IsUpdateOf, submitted_in, is_asking_in, view};
-ghost use Rattle.la_runner.specs.Refusals.{IsRoundsRefusal, IsRefusedUpdate};
+ghost use Rattle.la_runner.specs.Members.{GroupState, IsOf, GoesOn, IsOnlyIn, IsLearntIn, IsUpdateOf, submitted_in, is_asking_in, number_in, view};
+ghost use Rattle.la_runner.specs.Refusals.{IsRefusedRounds, IsRefusedUpdate};
 ghost use Rattle.la_runner.specs.Rounds.{IsLarger};
 ghost use Rattle.la_runner.specs.Starting.{IsConfig, IsGroup, IsNewMember, AreMembersFrom, IsNewRefusal};
 
@@ -23,21 +23,26 @@ pub(crate) struct Row {
 }
 
 /// The acceptors of a group, which its members share: threads do so by reference. A contract sees
-/// which acceptors they are, by instance.
+/// the group's votes, and which acceptors they are, by instance.
 ///
 /// Whoever calls keeps that members and notes are of this group: each call requires it.
 #[derive(Drop)]
 pub struct Group {
-    rows: Vec<Row>,
+    pub(crate) votes: Votes,
+    pub(crate) rows: Vec<Row>,
 }
 
 impl Model for Group {
     ghost use Rattle.std.specs.Prelude.{map};
+    ghost use Rattle.la_proposer.specs.Majority.{votes_of};
     ghost use Rattle.la_runner.specs.Members.{GroupState};
 
     ghost Value = { GroupState };
 
-    ghost view = { λ group. map (λ row. row.acceptors.items) group.rows.items };
+    ghost view = { λ group. record {
+      votes = votes_of group.votes;
+      acceptors = map (λ row. row.acceptors.items) group.rows.items;
+    } };
 }
 
 impl Group {
@@ -58,10 +63,9 @@ impl Group {
         votes: Votes,
     ) -> Result<(Group, Members), RunnerError>
         ensures config { IfOk result (λ _. IsConfig replicas commits cap (votes_of votes)) }
-        ensures group { IfOk result (λ made. IsGroup replicas commits made.0) }
+        ensures group { IfOk result (λ made. IsGroup replicas commits (votes_of votes) made.0) }
         ensures count { IfOk result (λ made. length made.1 ≡ replicas) }
-        ensures members { IfOk result (λ made.
-            AreMembersFrom made.0 (votes_of votes) cap 0 made.1) }
+        ensures members { IfOk result (λ made. AreMembersFrom made.0 cap 0 made.1) }
         ensures error { IfErr result (IsNewRefusal replicas commits cap (votes_of votes)) }
     {
         if commits > MAX_COMMITS || !votes.is_group_of(replicas, cap) {
@@ -70,7 +74,7 @@ impl Group {
         let instances = 2 * commits as usize + 1;
         let (rows, mut firsts) = starting::rows(alloc, replicas, instances)?;
         let members = starting::members(alloc, &rows, &mut firsts, replicas, cap, votes)?;
-        Ok((Group { rows }, Members { members }))
+        Ok((Group { votes, rows }, Members { members }))
     }
 
     /// Submits an update for an object, and runs at most so many rounds until a set that holds it is
@@ -145,7 +149,8 @@ impl Group {
             IsLearntIn 0 member.old member.new l.updates)) }
         ensures view { IfOk result (λ end. IfSome end (λ l.
             IsLarger l.updates (view member.old) (view member.new))) }
-        ensures error { IfErr result (IsRoundsRefusal rounds) }
+        ensures error { IfErr result
+            (IsRefusedRounds rounds (number_in member.old 0) 0 member.new) }
     {
         let own = member.replica;
         let at = &mut member.instances[0];
@@ -174,10 +179,10 @@ impl Members {
     /// Takes the next member out; `None` once all are taken.
     pub fn take(&mut self) -> Option<Member>
         ensures next { self.old ≡ option_to_list result ++ self.new }
-        ensures member { (group : GroupState) (votes : List ℕ) (cap replica : ℕ)
-            → AreMembersFrom group votes cap replica self.old
-            → IfSome result (λ member. IsNewMember group votes cap replica member
-            × AreMembersFrom group votes cap (replica + 1) self.new) }
+        ensures member { (group : GroupState) (cap replica : ℕ)
+            → AreMembersFrom group cap replica self.old
+            → IfSome result (λ member. IsNewMember group cap replica member
+            × AreMembersFrom group cap (replica + 1) self.new) }
     {
         self.members.pop()
     }

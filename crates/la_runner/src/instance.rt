@@ -5,7 +5,7 @@ ghost use Rattle.la_runner.specs.Refusals.{IsOfferRefusal};
 ghost use Rattle.la_runner.specs.Asking.{Asks, AsksInVain};
 ghost use Rattle.la_runner.specs.Sound.{IsSound};
 ghost use Rattle.la_runner.specs.Following.{acceptors_of, Goes, IsLearnt, IfLearnt, StaysOpen};
-ghost use Rattle.la_runner.specs.Rounds.{IsLast};
+ghost use Rattle.la_runner.specs.Rounds.{IsLast, IsOpenAfter};
 ghost use Rattle.la_shared.specs.Passes.{IsPass};
 
 use crate::RunnerError;
@@ -44,6 +44,7 @@ impl Instance {
             (IsLearnt self.old.proposer self.old.passes.items self.new.passes.items self.old.proposer.number)) }
         ensures stays { IfOk result (λ heard. StaysOpen heard self.old.proposer self.new.proposer) }
         ensures error { IfErr result IsOfferRefusal }
+        ensures vain { OnErr result (self.new.proposer ≡ self.old.proposer) }
         ensures kept { self.new.learnt ≡ self.old.learnt }
         ensures view { self.new.view ≡ self.old.view }
     {
@@ -74,6 +75,8 @@ impl Instance {
             IsLearnt self.old.proposer self.old.passes.items self.new.passes.items l.ballot l.updates)) }
         ensures again { IfOk result (λ end. IfSome end (λ l. l.again ≡ l.updates)) }
         ensures last { IsLast result self.old.learnt self.new.learnt }
+        ensures open { self.old.proposer.is_asking ≡ true
+            → IsOpenAfter result self.new.proposer }
         ensures view { self.new.view ≡ self.old.view }
         ensures error { IfErr result IsOfferRefusal }
     {

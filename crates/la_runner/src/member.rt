@@ -1,15 +1,18 @@
-ghost use Rattle.std.specs.Prelude.{◌≡◌, Some, IfSome};
+ghost use Rattle.std.specs.Prelude.{◌≡◌, ◌<◌, Some, length};
 ghost use Rattle.std.specs.Option.{option_copied};
-ghost use Rattle.la_runner.specs.Members.{IsMember, view, last_learnt, submitted_in};
+ghost use Rattle.la_runner.specs.Invariant.{IsMember};
+ghost use Rattle.la_runner.specs.Members.{view, last_learnt, submitted_in};
+ghost use Rattle.la_runner.specs.Participants.{outcome_in};
 
 use crate::instance::Instance;
+use la_commit::{MAX_COMMITS, Outcome, outcome_of, second_instance};
 use la_proposer::Votes;
 use la_set::UpdateSet;
 use std::marker::Model;
 
 /// One replica of a group: in each instance its proposer, what its passes know, and the set that it
 /// learnt last; and the view that it answers questions from. It may go to another thread. Its calls
-/// are [`crate::Group`]'s.
+/// are [`crate::Group`]'s; [`crate::laws`] say what is true of every member.
 #[derive(Drop)]
 pub struct Member {
     pub(crate) votes: Votes,
@@ -45,11 +48,31 @@ impl Member {
         &self.instances[0].view
     }
 
+    /// How many updates it has submitted in instance 0.
+    pub fn submitted(&self) -> u32
+        ensures { result ≡ length (submitted_in self.now 0) }
+    {
+        self.instances[0].proposer.submitted()
+    }
+
     /// The set that it learnt last in an instance; `None` where it learnt none there, or there is no
     /// such instance.
     pub fn last_learnt(&self, instance: u8) -> Option<&UpdateSet>
         ensures { option_copied result ≡ last_learnt self.now instance }
     {
         self.instances.get(instance as usize)?.learnt.as_ref()
+    }
+
+    /// What it has come to at an adopt-commit object; `None` before it has, and where the group has
+    /// no such object. The cost is linear in the set's length, of one vote a replica.
+    pub fn outcome(&self, commit: u8) -> Option<Outcome>
+        ensures { result ≡ outcome_in self.now commit }
+    {
+        let own = self.replica;
+        if commit >= MAX_COMMITS {
+            return None;
+        }
+        let learnt = self.last_learnt(second_instance(commit))?;
+        outcome_of(own, learnt)
     }
 }

@@ -6,9 +6,9 @@ ghost use Rattle.la_set.specs.Inclusion.{IsSubset};
 ghost use Rattle.la_proposer.specs.ProposerState.{op_on};
 ghost use Rattle.la_proposer.specs.Inputs.{all_submitted};
 ghost use Rattle.la_runner.specs.Following.{acceptors_of, IsLearnt, SubmitsNothing};
-ghost use Rattle.la_runner.specs.Instances.{IsInstance, Steps, IsComplete, IsUpdated};
-ghost use Rattle.la_runner.specs.Refusals.{IsOfferRefusal, IsRoundsRefusal, IsUpdateRefusal};
-ghost use Rattle.la_runner.specs.Rounds.{IsLarger, IsViewAfter, IsLastAnswer};
+ghost use Rattle.la_runner.specs.Instances.{state_of, IsInstance, Steps, IsComplete, IsUpdated};
+ghost use Rattle.la_runner.specs.Refusals.{IsOfferRefusal, IsInstanceRefusal, IsUpdateRefusal};
+ghost use Rattle.la_runner.specs.Rounds.{IsLarger, IsViewAfter, IsLastAnswer, IsOpenAnswer};
 
 use crate::instance::Instance;
 use crate::{Learned, RunnerError};
@@ -27,9 +27,9 @@ impl Instance {
         instance: u8,
         gate: &G,
     ) -> Result<Option<Learned>, RunnerError>
-        requires is { IsInstance self.old }
+        requires is { IsInstance (state_of self.old) }
         requires acceptors { acceptors_of self.old.passes.items ≡ acceptors.now }
-        ensures steps { Steps self.old self.new }
+        ensures steps { Steps (state_of self.old) (state_of self.new) }
         ensures nothing { SubmitsNothing self.old.proposer self.new.proposer }
         ensures learnt { IfOk result (λ end. IfSome end (λ l. IsLearnt self.old.proposer
             self.old.passes.items self.new.passes.items l.ballot l.updates)) }
@@ -37,6 +37,8 @@ impl Instance {
             ⊎ IsSubset self.new.view self.new.proposer.updates }
         ensures after { IsViewAfter result self.old.view self.new.view }
         ensures last { IsLastAnswer result self.old.learnt self.new.learnt }
+        ensures open { self.old.proposer.is_asking ≡ true
+            → IsOpenAnswer result self.new.proposer }
         ensures error { IfErr result IsOfferRefusal }
     {
         match self.round(rt, acceptors, own, instance, gate)? {
@@ -53,7 +55,7 @@ impl Instance {
 
     // At most so many rounds, until a set with all that was submitted is learnt, and how many are
     // left then.
-    fn learn<R: Wait, G: Gate>(
+    pub fn learn<R: Wait, G: Gate>(
         &mut self,
         rt: &R,
         acceptors: &[SharedAcceptor],
@@ -62,19 +64,21 @@ impl Instance {
         rounds: u32,
         gate: &G,
     ) -> Result<(Learned, u32), RunnerError>
-        requires is { IsInstance self.old }
+        requires is { IsInstance (state_of self.old) }
         requires acceptors { acceptors_of self.old.passes.items ≡ acceptors.now }
         requires own { own ≡ self.old.proposer.own }
-        ensures steps { Steps self.old self.new }
+        requires asks { self.old.proposer.is_asking ≡ true }
+        ensures steps { Steps (state_of self.old) (state_of self.new) }
         ensures nothing { SubmitsNothing self.old.proposer self.new.proposer }
         ensures learnt { IfOk result (λ end. IsLearnt self.old.proposer
             self.old.passes.items self.new.passes.items end.0.ballot end.0.updates) }
-        ensures complete { IfOk result (λ end. IsComplete self.old self.new end.0.updates) }
+        ensures complete { IfOk result (λ end. IsComplete (state_of self.old) (state_of self.new) end.0.updates) }
         ensures larger { IfOk result (λ end.
             IsLarger end.0.updates self.old.view self.new.view) }
         ensures last { IfOk result (λ end. self.new.learnt ≡ Some end.0.updates) }
         ensures left { IfOk result (λ end. end.1 < rounds) }
-        ensures error { IfErr result (IsRoundsRefusal rounds) }
+        ensures error { IfErr result
+            (IsInstanceRefusal rounds self.old.proposer.number (state_of self.new)) }
     {
         let mine = self.proposer.submitted();
         let mut is_unended = false;
@@ -106,18 +110,18 @@ impl Instance {
         rounds: u32,
         gate: &G,
     ) -> Result<(Learned, u32), RunnerError>
-        requires is { IsInstance self.old }
+        requires is { IsInstance (state_of self.old) }
         requires acceptors { acceptors_of self.old.passes.items ≡ acceptors.now }
         requires own { own ≡ self.old.proposer.own }
-        ensures steps { Steps self.old self.new }
+        ensures steps { Steps (state_of self.old) (state_of self.new) }
         ensures submitted { OnOk result (all_submitted self.new.proposer
             ≡ all_submitted self.old.proposer ++ op_on object op ∷ []) }
-        ensures updated { IfOk result (λ end. IsUpdated self.old self.new end.0.updates) }
+        ensures updated { IfOk result (λ end. IsUpdated (state_of self.old) (state_of self.new) end.0.updates) }
         ensures view { IfOk result (λ end. self.new.view ≡ end.0.updates) }
         ensures last { IfOk result (λ end. self.new.learnt ≡ Some end.0.updates) }
         ensures left { IfOk result (λ end. end.1 < rounds) }
         ensures error { IfErr result
-            (IsUpdateRefusal rounds (op_on object op) self.old self.new) }
+            (IsUpdateRefusal rounds (op_on object op) (state_of self.old) (state_of self.new)) }
     {
         self.proposer.submit(object, op)?;
         // a hint to the prover: its contract tells what holds of every proposer
@@ -135,20 +139,21 @@ impl Instance {
         rounds: u32,
         gate: &G,
     ) -> Result<Option<Learned>, RunnerError>
-        requires is { IsInstance self.old }
+        requires is { IsInstance (state_of self.old) }
         requires acceptors { acceptors_of self.old.passes.items ≡ acceptors.now }
         requires own { own ≡ self.old.proposer.own }
-        ensures steps { Steps self.old self.new }
+        ensures steps { Steps (state_of self.old) (state_of self.new) }
         ensures nothing { SubmitsNothing self.old.proposer self.new.proposer }
         ensures idle { self.old.proposer.is_asking ≡ false
-            → (result ≡ Ok None) × (self.new ≡ self.old) }
+            → (result ≡ Ok None) × (state_of self.new ≡ state_of self.old) }
         ensures asking { self.old.proposer.is_asking ≡ true → IfOk result IsSome }
         ensures complete { IfOk result (λ end. IfSome end (λ l.
-            IsComplete self.old self.new l.updates)) }
+            IsComplete (state_of self.old) (state_of self.new) l.updates)) }
         ensures larger { IfOk result (λ end. IfSome end (λ l.
             IsLarger l.updates self.old.view self.new.view)) }
         ensures last { IfOk result (λ end. IfSome end (λ l. self.new.learnt ≡ Some l.updates)) }
-        ensures error { IfErr result (IsRoundsRefusal rounds) }
+        ensures error { IfErr result
+            (IsInstanceRefusal rounds self.old.proposer.number (state_of self.new)) }
     {
         if self.proposer.status() == Status::Idle {
             return Ok(None);

@@ -1,8 +1,10 @@
 // How a group and its members are made.
-ghost use Rattle.std.specs.Prelude.{◌≡◌, ◌<◌, ◌≤◌, List, All, map, length, reverse, IfOk};
+ghost use Rattle.std.specs.Prelude.{◌≡◌, ◌<◌, ◌≤◌, ◌+◌, ◌*◌, List, All, map, length, reverse, IfOk};
 ghost use Rattle.la_shared.specs.Passes.{AcceptorName};
 ghost use Rattle.la_proposer.specs.declared.proposer.TheConstants.{MAX_CAP};
 ghost use Rattle.la_proposer.specs.Majority.{votes_of};
+ghost use Rattle.la_commit.specs.declared.instance.TheConstants.{MAX_COMMITS};
+ghost use Rattle.la_runner.specs.Instances.{state_of};
 ghost use Rattle.la_runner.specs.Starting.{newcomer, cap_in, IsNewInstance, IsNewMember, AreMembersFrom};
 
 use crate::Member;
@@ -62,7 +64,7 @@ impl Instance {
         requires some { 1 ≤ cap }
         requires most { cap ≤ MAX_CAP }
         ensures { (row : List AcceptorName) → passes.items ≡ map newcomer row
-            → IsNewInstance (votes_of votes) own cap row result }
+            → IsNewInstance (votes_of votes) own cap row (state_of result) }
     {
         Instance {
             proposer: Proposer::new(alloc, votes.len() as u8, own, cap, votes),
@@ -116,13 +118,16 @@ fn member(
     requires some { 1 ≤ cap }
     requires most { cap ≤ MAX_CAP }
     requires one { 1 ≤ length rows.now }
+    requires instances { length rows.now ≤ 2 * MAX_COMMITS + 1 }
     requires sizes { All (λ r. length r.acceptors.items ≡ length (votes_of votes)) rows.now }
     requires firsts { map (λ f. f.passes.items) firsts.old.items
         ≡ map (λ r. map newcomer r.acceptors.items) rows.now }
     ensures firsts { map (λ f. f.passes.items) firsts.new.items
         ≡ map (λ r. map newcomer r.acceptors.items) rows.now }
-    ensures new { IfOk result (IsNewMember (map (λ r. r.acceptors.items) rows.now)
-        (votes_of votes) cap own) }
+    ensures new { IfOk result (IsNewMember (record {
+      votes = votes_of votes;
+      acceptors = map (λ r. r.acceptors.items) rows.now;
+    }) cap own) }
 {
     let mut instances = Vec::with_capacity(alloc, rows.len())?;
     for at in 0..rows.len() {
@@ -152,12 +157,15 @@ pub fn members(
     requires some { 1 ≤ cap }
     requires most { cap ≤ MAX_CAP }
     requires one { 1 ≤ length rows.now }
+    requires instances { length rows.now ≤ 2 * MAX_COMMITS + 1 }
     requires sizes { All (λ r. length r.acceptors.items ≡ length (votes_of votes)) rows.now }
     requires firsts { map (λ f. f.passes.items) firsts.old.items
         ≡ map (λ r. map newcomer r.acceptors.items) rows.now }
     ensures count { IfOk result (λ made. length made.items ≡ replicas) }
-    ensures new { IfOk result (λ made. AreMembersFrom (map (λ r. r.acceptors.items) rows.now)
-        (votes_of votes) cap 0 (reverse made.items)) }
+    ensures new { IfOk result (λ made. AreMembersFrom (record {
+      votes = votes_of votes;
+      acceptors = map (λ r. r.acceptors.items) rows.now;
+    }) cap 0 (reverse made.items)) }
 {
     let mut made = Vec::with_capacity(alloc, replicas as usize)?;
     for before in 0..replicas {

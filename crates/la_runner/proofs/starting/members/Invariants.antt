@@ -6,5 +6,5 @@ use Rattle.la_runner.proofs.starting.members.Given as goal
 abbrev pub invariant-loop-before : goal.invariant-loop-before
 invariant-loop-before l =
     (length l.made.items ≡ l.before)
-    × AreMembersFrom (map (λ r. r.acceptors.items) l.rows) (votes_of l.votes) l.cap (l.replicas - l.before) (reverse l.made.items)
+    × AreMembersFrom (record { votes = votes_of l.votes; acceptors = map (λ r. r.acceptors.items) l.rows }) l.cap (l.replicas - l.before) (reverse l.made.items)
     × (map (λ f. f.passes.items) l.firsts.items ≡ map (λ r. map newcomer r.acceptors.items) l.rows)

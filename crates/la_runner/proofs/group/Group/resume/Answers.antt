@@ -1,29 +1,33 @@
 use Rattle.std.proofs.Common.{subst, sym}
-use Rattle.la_runner.specs.Fields.{stands_for}
-use Rattle.la_runner.specs.Members.{GoesOn}
-use Rattle.la_runner.proofs.Keeping.{instance_at, with_instance, stays_member, goes_on, resumed_of}
+use Rattle.la_runner.proofs.Keeping.{first_at, is_in, member_after_first, goes_on_after, only_after, resumed_of, refused_resume}
 use Rattle.la_runner.proofs.group.Group.resume.Goals as goal
 
 pub resume-requires-clause-is : goal.resume-requires-clause-is
-resume-requires-clause-is g c κs within = (c.member.invariant.each 0 c.index_mut-at.result.now (instance_at c.member.inside.instances.items 0 c.index_mut-at.result.now c.member.invariant.some c.index_mut-at.ensures.value)).0
+resume-requires-clause-is g c κs within = (is_in c.member.inside 0 c.index_mut-at.result.now c.index_mut-at.result.now (first_at c.member.inside c.index_mut-at.result.now c.member.invariant c.index_mut-at.ensures.value) c.member.invariant).0
 
 pub resume-requires-clause-own : goal.resume-requires-clause-own
-resume-requires-clause-own g c κs within = sym (c.member.invariant.each 0 c.index_mut-at.result.now (instance_at c.member.inside.instances.items 0 c.index_mut-at.result.now c.member.invariant.some c.index_mut-at.ensures.value)).2
+resume-requires-clause-own g c κs within = sym (is_in c.member.inside 0 c.index_mut-at.result.now c.index_mut-at.result.now (first_at c.member.inside c.index_mut-at.result.now c.member.invariant c.index_mut-at.ensures.value) c.member.invariant).2
 
 pub invariant_of-member : goal.invariant_of-member
-invariant_of-member g c = stays_member (stands_for c.member.inside) 0 c.index_mut-at.result.now c.resume.new.self (instance_at c.member.inside.instances.items 0 c.index_mut-at.result.now c.member.invariant.some c.index_mut-at.ensures.value) c.resume.ensures.steps c.member.invariant
+invariant_of-member g c = member_after_first c.member.inside c.index_mut-at.result.now c.resume.new.self (first_at c.member.inside c.index_mut-at.result.now c.member.invariant c.index_mut-at.ensures.value) c.resume.ensures.steps c.member.invariant
 
 pub invariant_of-member-2 : goal.invariant_of-member-2
-invariant_of-member-2 g c = stays_member (stands_for c.member.inside) 0 c.index_mut-at.result.now c.resume.new.self (instance_at c.member.inside.instances.items 0 c.index_mut-at.result.now c.member.invariant.some c.index_mut-at.ensures.value) c.resume.ensures.steps c.member.invariant
+invariant_of-member-2 g c = member_after_first c.member.inside c.index_mut-at.result.now c.resume.new.self (first_at c.member.inside c.index_mut-at.result.now c.member.invariant c.index_mut-at.ensures.value) c.resume.ensures.steps c.member.invariant
 
 pub returns-in_err-end-clause-goes_on : goal.returns-in_err-end-clause-goes_on
-returns-in_err-end-clause-goes_on g c = subst (λ m. GoesOn m (with_instance (stands_for c.member.inside) 0 c.resume.new.self)) c.member.view_is (goes_on (stands_for c.member.inside) 0 c.index_mut-at.result.now c.resume.new.self (instance_at c.member.inside.instances.items 0 c.index_mut-at.result.now c.member.invariant.some c.index_mut-at.ensures.value) c.resume.ensures.steps)
+returns-in_err-end-clause-goes_on g c = goes_on_after c.member.inside 0 c.index_mut-at.result.now c.resume.new.self (first_at c.member.inside c.index_mut-at.result.now c.member.invariant c.index_mut-at.ensures.value) c.resume.ensures.steps c.args.member.now c.member.view_is
 
 pub returns-clause-goes_on : goal.returns-clause-goes_on
-returns-clause-goes_on g c = subst (λ m. GoesOn m (with_instance (stands_for c.member.inside) 0 c.resume.new.self)) c.member.view_is (goes_on (stands_for c.member.inside) 0 c.index_mut-at.result.now c.resume.new.self (instance_at c.member.inside.instances.items 0 c.index_mut-at.result.now c.member.invariant.some c.index_mut-at.ensures.value) c.resume.ensures.steps)
+returns-clause-goes_on g c = goes_on_after c.member.inside 0 c.index_mut-at.result.now c.resume.new.self (first_at c.member.inside c.index_mut-at.result.now c.member.invariant c.index_mut-at.ensures.value) c.resume.ensures.steps c.args.member.now c.member.view_is
+
+pub returns-in_err-end-clause-only : goal.returns-in_err-end-clause-only
+returns-in_err-end-clause-only g c = only_after c.member.inside 0 c.index_mut-at.result.now c.resume.new.self (first_at c.member.inside c.index_mut-at.result.now c.member.invariant c.index_mut-at.ensures.value) c.args.member.now c.member.view_is
+
+pub returns-clause-only : goal.returns-clause-only
+returns-clause-only g c = only_after c.member.inside 0 c.index_mut-at.result.now c.resume.new.self (first_at c.member.inside c.index_mut-at.result.now c.member.invariant c.index_mut-at.ensures.value) c.args.member.now c.member.view_is
 
 pub returns-clause-learnt : goal.returns-clause-learnt
-returns-clause-learnt g c =
-    let at = instance_at c.member.inside.instances.items 0 c.index_mut-at.result.now c.member.invariant.some c.index_mut-at.ensures.value in
-    let of = c.member.invariant.each 0 c.index_mut-at.result.now at in
-    resumed_of (stands_for c.member.inside) c.args.member.now 0 c.index_mut-at.result.now c.resume.new.self at c.member.view_is of.1 of.2 c.in_ok-end.end c.in_ok-end.ensures.complete c.in_ok-end.ensures.last
+returns-clause-learnt g c = resumed_of c.member.inside c.index_mut-at.result.now c.resume.new.self (first_at c.member.inside c.index_mut-at.result.now c.member.invariant c.index_mut-at.ensures.value) c.args.member.now c.member.view_is c.member.invariant c.in_ok-end.end c.in_ok-end.ensures.complete c.in_ok-end.ensures.last
+
+pub returns-in_err-end-clause-error : goal.returns-in_err-end-clause-error
+returns-in_err-end-clause-error g c = refused_resume c.member.inside c.index_mut-at.result.now c.resume.new.self (first_at c.member.inside c.index_mut-at.result.now c.member.invariant c.index_mut-at.ensures.value) c.args.rounds c.args.member.now c.member.view_is c.in_err-end.field-0 c.in_err-end.ensures.error

@@ -1,5 +1,5 @@
 use Rattle.std.proofs.Common.{sym, subst, ◌<◌}
-use Rattle.la_runner.proofs.Asked.{goes_of, learnt_of, stays_of, at_place}
+use Rattle.la_runner.proofs.Asked.{goes_of, learnt_of, stays_of, vain_of, at_place}
 use Rattle.la_runner.proofs.instance.Instance.ask.Goals as goal
 
 pub returns-clause-goes : goal.returns-clause-goes
@@ -22,3 +22,6 @@ returns-clause-stays g c =
     let within = subst (λ n. c.args.from < n) (sym c.requires.sound.sizes) c.requires.known in
     let at = at_place ps c.args.from c.index_mut.result.now within c.index_mut.ensures.value in
     stays_of c.args.self.now.proposer ps c.args.from c.index_mut.result.now c.ask_one.new.pass c.requires.sound at c.ask_one.ensures.pass c.ask_one.ensures.acceptor c.ask_one.new.proposer c.requires.known c.requires.open c.ask_one.result c.ask_one.ensures.state c.ask_one.ensures.ok
+
+pub returns-clause-vain : goal.returns-clause-vain
+returns-clause-vain g c = vain_of c.args.self.now.proposer c.ask_one.new.proposer c.index_mut.result.now c.ask_one.new.pass c.ask_one.result c.ask_one.ensures.err

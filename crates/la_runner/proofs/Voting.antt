@@ -1,0 +1,239 @@
+-- A member's votes: what it has submitted in an instance of an adopt-commit object, and learnt there.
+use Rattle.std.proofs.Common.{◌≡◌, ◌≢◌, ◌⊎◌, inl, inr, ℕ, zero, suc, ◌+◌, ◌*◌, ◌<◌, ◌≤◌, arith, Bool, true, false, true≢false, cond, List, [], ◌∷◌, ◌++◌, length, map, Option, Some, None, option_map, refl, ap, sym, ◌∙◌, subst, append-nil}
+use Rattle.std.specs.Prelude.{IfSome, IsSome, IsSomeAnd, option_and_then, Result, Ok, Err, IfOk, IfErr}
+use Rattle.std.specs.List.{slice_get, slice_set}
+use Rattle.std.proofs.lemmas.Bool.{cases_eq}
+use Rattle.la_set.specs.declared.update.Update.{Update}
+use Rattle.la_set.specs.ObjectOps.{ObjectOp, update_of}
+use Rattle.la_set.specs.Histories.{Histories, history, count}
+use Rattle.la_commit.specs.declared.vote.Vote.{Vote}
+use Rattle.la_commit.specs.Instances.{first_instance, second_instance}
+use Rattle.la_commit.specs.Votes.{vote_of, own_vote, HoldsVote, casts, first_vote, first_vote_for, second_vote}
+use Rattle.la_proposer.specs.ProposerState.{ProposerState, submitted, after_submission}
+use Rattle.la_proposer.specs.Inputs.{all_submitted}
+use Rattle.la_proposer.specs.declared.error.ProposerError.{ProposerError}
+use Rattle.la_proposer.specs.declared.error.ProposerError.TheVariants as proposer
+use Rattle.la_proposer.specs.Refusals.{IsSubmitRefusal}
+use Rattle.la_shared.specs.Passes.{Known}
+use Rattle.la_runner.specs.declared.error.RunnerError.{RunnerError}
+use Rattle.la_runner.specs.declared.error.RunnerError.TheVariants as errors
+use Rattle.la_runner.specs.declared.learned.Learned.{Learned}
+use Rattle.la_runner.specs.Certificates.{HasOwnCertificate}
+use Rattle.la_runner.specs.Sound.{IsSound}
+use Rattle.la_runner.specs.Instances.{InstanceState, asking_number, IsLearntSet, IsInstance, Steps, MayCast, HasCast}
+use Rattle.la_runner.specs.Invariant.{IsIn, IsMember}
+use Rattle.la_runner.specs.Members.{MemberState, submitted_of, submitted_in, learnt_of, last_learnt, number_asking}
+use Rattle.la_runner.specs.Participants.{IsParticipant, HasVoted, HasVotedSet, MayVote}
+use Rattle.la_runner.specs.Refusals.{of_proposer, IsRoundsRefusal, IsInstanceRefusal, IsSubmissionRefusal, IsUpdateRefusal, IsVoteRefusal, IsVoteError, IsRefusedVote}
+use Rattle.la_runner.proofs.Keeping.{with_instance, there, own_certified, refused_rounds, asking_there, asking_after, participant_stays}
+use Rattle.la_runner.proofs.Passing.{get-set_other}
+use Rattle.la_runner.proofs.Updating.{submitted_is}
+
+-- ## The one update of an instance
+
+pub vote_there : (s : Histories) (r k : ℕ) (v : Vote) → history s r ≡ casts k v ∷ [] → HoldsVote s r v
+vote_there s r k v e = ap (λ h. option_and_then (λ (u : Update). vote_of u.op) (option_map (update_of r 1) (slice_get h 0))) e
+
+pub no_vote : (s : Histories) (r : ℕ) → history s r ≡ [] → own_vote s r ≡ None
+no_vote s r e = ap (λ h. option_and_then (λ (u : Update). vote_of u.op) (option_map (update_of r 1) (slice_get h 0))) e
+
+single : (h w : List ObjectOp) (d : ObjectOp) → 1 ≤ length h → h ++ w ≡ d ∷ [] → h ≡ d ∷ []
+single [] w d some e = absurd (omega arith)
+single (x ∷ []) w d some e = let same : x ≡ d = cc in ap (λ z. z ∷ []) same
+single (x ∷ y ∷ h) w d some e = absurd (let long = ap length e in omega (arith, long))
+
+nothing : (h w : List ObjectOp) → h ++ w ≡ [] → h ≡ []
+nothing [] w e = refl
+nothing (x ∷ h) w e = absurd (let long = ap length e in omega (arith, long))
+
+nothing_after : (h w : List ObjectOp) → h ++ w ≡ [] → 1 ≤ length h → ⊥
+nothing_after h w e some = let none = ap length (nothing h w e) in omega (arith, none, some)
+
+-- the last ballot's set has taken it
+pub taken_in : (p : ProposerState) (ps : List Known) (d : ObjectOp) → IsSound p ps → all_submitted p ≡ d ∷ [] → history p.updates p.own ≡ d ∷ []
+taken_in p ps d is e = go p.is_asking refl
+  where
+    go : (b : Bool) → p.is_asking ≡ b → history p.updates p.own ≡ d ∷ []
+    go true asks = single (history p.updates p.own) p.waiting d (is.asks_own asks) e
+    go false rests = sym (append-nil (history p.updates p.own)) ∙ ap (λ w. history p.updates p.own ++ w) (sym (is.rests rests)) ∙ e
+
+pub none_taken : (p : ProposerState) → all_submitted p ≡ [] → history p.updates p.own ≡ []
+none_taken p e = nothing (history p.updates p.own) p.waiting e
+
+-- a learnt set has it
+pub learnt_one : (p : ProposerState) (ps : List Known) (s : Histories) (d : ObjectOp) → IsLearntSet p ps s → all_submitted p ≡ d ∷ [] → history s p.own ≡ d ∷ []
+learnt_one p ps s d l e = single (history s p.own) l.taken.0 d l.some (l.taken.1 ∙ e)
+
+pub learnt_none : (p : ProposerState) (ps : List Known) (s : Histories) → IsLearntSet p ps s → all_submitted p ≡ [] → ⊥
+learnt_none p ps s l e = nothing_after (history s p.own) l.taken.0 (l.taken.1 ∙ e) l.some
+
+-- ## A vote in an instance
+
+-- where a set was learnt, the vote is cast
+pub cast_before : (k : ℕ) (v : Vote) (x : InstanceState) → IsInstance x → MayCast k v x → IsSome x.learnt → HasCast k v x
+cast_before k v x is (inl none) learnt = absurd (go x.learnt refl learnt)
+  where
+    go : (o : Option Histories) → x.learnt ≡ o → IsSome o → ⊥
+    go None e h = true≢false (sym h)
+    go (Some s) e h = learnt_none x.proposer x.passes s (subst (λ z. IfSome z (IsLearntSet x.proposer x.passes)) e is.learnt) none
+cast_before k v x is (inr one) learnt = record { submitted = one; learnt = learnt }
+
+pub some_is : {A : Type 0} (o : Option A) (a : A) → o ≡ Some a → IsSome o
+some_is o a e = subst IsSome (sym e) refl
+
+-- nothing was submitted, and the update is the vote
+pub cast_now : (k : ℕ) (v : Vote) (x y : InstanceState) (d : ObjectOp) → MayCast k v x → submitted x.proposer ≡ 0 → d ≡ casts k v → all_submitted y.proposer ≡ all_submitted x.proposer ++ d ∷ [] → all_submitted y.proposer ≡ casts k v ∷ []
+cast_now k v x y d (inl none) zero_is same e = e ∙ ap (λ l. l ++ d ∷ []) none ∙ ap (λ z. z ∷ []) same
+cast_now k v x y d (inr one) zero_is same e = absurd (let long = ap length one in let is = submitted_is x.proposer in omega (arith, long, is, zero_is))
+
+-- it was submitted before
+pub cast_then : (k : ℕ) (v : Vote) (x : InstanceState) → MayCast k v x → submitted x.proposer ≢ 0 → all_submitted x.proposer ≡ casts k v ∷ []
+cast_then k v x (inl none) some = absurd (some (sym (submitted_is x.proposer) ∙ ap length none))
+cast_then k v x (inr one) some = one
+
+pub asks_still : (x : InstanceState) → IsInstance x → x.learnt ≡ None → submitted x.proposer ≢ 0 → x.proposer.is_asking ≡ true
+asks_still x is none some = is.under_way none (let s = submitted_is x.proposer in omega (arith, s, some))
+
+pub asking_is : (x : InstanceState) → x.proposer.is_asking ≡ true → asking_number x ≡ x.proposer.number
+asking_is x e = ap (λ b. cond b x.proposer.number (x.proposer.number + 1)) e
+
+-- how an update's refusal is a vote's
+pub vote_refused : (rounds k : ℕ) (v : Vote) (x y : InstanceState) (d : ObjectOp) (e : RunnerError) → MayCast k v x → submitted x.proposer ≡ 0 → d ≡ casts k v → IsUpdateRefusal rounds d x y e → IsVoteRefusal rounds k v x y e
+vote_refused rounds k v x y d e may zero_is same (inl h) = inl (ap (λ (z : InstanceState). all_submitted z.proposer) h.1 ∙ none may, subst (λ (z : InstanceState). IsSubmissionRefusal z.proposer e) (sym h.1) h.0)
+  where
+    none : MayCast k v x → all_submitted x.proposer ≡ []
+    none (inl e) = e
+    none (inr e) = absurd (let long = ap length e in let is = submitted_is x.proposer in omega (arith, long, is, zero_is))
+vote_refused rounds k v x y d e may zero_is same (inr h) = inr (cast_now k v x y d may zero_is same h.0, subst (λ n. IsInstanceRefusal rounds n y e) (sym (asking_after x d)) h.1)
+
+-- and the rounds' of a vote that was cast
+pub rounds_refused : (rounds k : ℕ) (v : Vote) (x y : InstanceState) (e : RunnerError) → all_submitted x.proposer ≡ casts k v ∷ [] → all_submitted y.proposer ≡ all_submitted x.proposer → x.proposer.is_asking ≡ true → IsInstanceRefusal rounds x.proposer.number y e → IsVoteRefusal rounds k v x y e
+rounds_refused rounds k v x y e one same asks h = inr (same ∙ one, subst (λ n. IsInstanceRefusal rounds n y e) (sym (asking_is x asks)) h)
+
+-- whatever is answered, the vote is cast or nothing is
+pub may_still : (rounds k : ℕ) (v : Vote) (x y : InstanceState) (r : Result ℕ RunnerError) → IfOk r (λ left. HasCast k v y) → IfErr r (IsVoteRefusal rounds k v x y) → MayCast k v y
+may_still rounds k v x y (Ok left) ok err = inr ok.submitted
+may_still rounds k v x y (Err e) ok (inl h) = inl h.0
+may_still rounds k v x y (Err e) ok (inr h) = inr h.0
+
+-- which errors a vote may be refused with
+rounds_error : (rounds first last : ℕ) (e : RunnerError) → IsRoundsRefusal rounds first last e → IsVoteError e
+rounds_error rounds first last (errors.Clash id) h = tt
+rounds_error rounds first last errors.BallotsSpent h = tt
+rounds_error rounds first last errors.Memory h = tt
+rounds_error rounds first last errors.NoMajority h = tt
+rounds_error rounds first last errors.TryAgain h = tt
+rounds_error rounds first last errors.BadConfig h = absurd h
+rounds_error rounds first last errors.NoSuchCommit h = absurd h
+rounds_error rounds first last errors.AlreadyProposed h = absurd h
+rounds_error rounds first last errors.Full h = absurd h
+
+submission_error : (p : ProposerState) (e : RunnerError) (refused : ProposerError) → 1 ≤ p.cap → submitted p ≡ 0 → e ≡ of_proposer refused → IsSubmitRefusal p refused → IsVoteError e
+submission_error p e proposer.Full cap none same h = absurd (omega (arith, h, none, cap))
+submission_error p e proposer.BallotsSpent cap none same h = subst IsVoteError (sym same) tt
+submission_error p e proposer.Memory cap none same h = subst IsVoteError (sym same) tt
+submission_error p e proposer.NoSuchReplica cap none same h = absurd h
+submission_error p e (proposer.Clash id) cap none same h = absurd h
+
+pub vote_error : (rounds k : ℕ) (v : Vote) (x y : InstanceState) (e : RunnerError) → IsInstance y → IsVoteRefusal rounds k v x y e → IsVoteError e
+vote_error rounds k v x y e is (inl h) = submission_error y.proposer e h.1.0 is.cap (sym (submitted_is y.proposer) ∙ ap length h.0) h.1.1 h.1.2
+vote_error rounds k v x y e is (inr h) = rounds_error rounds (asking_number x) y.proposer.number e h.1.refusal
+
+pub vote_errors : (rounds k : ℕ) (v : Vote) (x y : InstanceState) (r : Result ℕ RunnerError) → IsInstance y → IfErr r (IsVoteRefusal rounds k v x y) → IfErr r IsVoteError
+vote_errors rounds k v x y (Ok left) is h = tt
+vote_errors rounds k v x y (Err e) is h = vote_error rounds k v x y e is h
+
+-- ## A member's vote
+
+module _ (m : MemberState) (k : ℕ) (v : Vote) (i : ℕ) (x y : InstanceState) (at : slice_get m.instances i ≡ Some x) where
+  here : slice_get (slice_set m.instances i y) i ≡ Some y
+  here = there m i x y at
+
+  beside : (j : ℕ) → j ≢ i → slice_get (slice_set m.instances i y) j ≡ slice_get m.instances j
+  beside j ne = get-set_other m.instances i j y ne
+
+  in_first : i ≡ first_instance k → v ≡ first_vote_for v.value → (IsSome x.learnt → y ≡ x) → MayCast k v y → IsParticipant m k → IsParticipant (with_instance m i y) k
+  in_first e form stays may p = record {
+    first = elim may [
+      | inl none ↦ inl (ap submitted_of mine ∙ none)
+      | inr one ↦ inr (v.value, ap submitted_of mine ∙ one ∙ ap (λ w. casts k w ∷ []) form)
+    ];
+    second = elim p.second [
+      | inl none ↦ inl (ap submitted_of other ∙ none)
+      | inr h ↦
+          let learnt : x.learnt ≡ Some h.first = ap learnt_of (sym (subst (λ z. slice_get m.instances z ≡ Some x) e at)) ∙ h.learnt in
+          inr (record {
+            first = h.first;
+            vote = h.vote;
+            learnt = ap learnt_of mine ∙ ap (λ (z : InstanceState). z.learnt) (stays (some_is x.learnt h.first learnt)) ∙ learnt;
+            leads = h.leads;
+            cast = ap submitted_of other ∙ h.cast;
+          })
+    ];
+  }
+    where
+      mine : slice_get (slice_set m.instances i y) (first_instance k) ≡ Some y
+      mine = subst (λ z. slice_get (slice_set m.instances i y) z ≡ Some y) e here
+
+      other : slice_get (slice_set m.instances i y) (second_instance k) ≡ slice_get m.instances (second_instance k)
+      other = beside (second_instance k) (λ s. omega (arith, s, e))
+
+  in_second : i ≡ second_instance k → (s : Histories) → last_learnt m (first_instance k) ≡ Some s → second_vote s m.replica ≡ Some v → MayCast k v y → IsParticipant m k → IsParticipant (with_instance m i y) k
+  in_second e s learnt leads may p = record {
+    first = elim p.first [
+      | inl none ↦ inl (ap submitted_of other ∙ none)
+      | inr w ↦ inr (w.0, ap submitted_of other ∙ w.1)
+    ];
+    second = elim may [
+      | inl none ↦ inl (ap submitted_of mine ∙ none)
+      | inr one ↦ inr (record { first = s; vote = v; learnt = ap learnt_of other ∙ learnt; leads = leads; cast = ap submitted_of mine ∙ one })
+    ];
+  }
+    where
+      mine : slice_get (slice_set m.instances i y) (second_instance k) ≡ Some y
+      mine = subst (λ z. slice_get (slice_set m.instances i y) z ≡ Some y) e here
+
+      other : slice_get (slice_set m.instances i y) (first_instance k) ≡ slice_get m.instances (first_instance k)
+      other = beside (first_instance k) (λ s. omega (arith, s, e))
+
+  place : MayVote k v i m → (i ≡ first_instance k) ⊎ (i ≡ second_instance k)
+  place may = elim may.leads [ inl h ↦ inl h.0 | inr h ↦ inr h.0 ]
+
+  other_commit : (j : ℕ) → j ≢ k → (i ≡ first_instance k) ⊎ (i ≡ second_instance k) → IsParticipant m j → IsParticipant (with_instance m i y) j
+  other_commit j ne (inl e) p = participant_stays m (with_instance m i y) j refl (beside (first_instance j) (λ s. ne (omega (arith, s, e)))) (beside (second_instance j) (λ s. absurd (omega (arith, s, e)))) p
+  other_commit j ne (inr e) p = participant_stays m (with_instance m i y) j refl (beside (first_instance j) (λ s. absurd (omega (arith, s, e)))) (beside (second_instance j) (λ s. ne (omega (arith, s, e)))) p
+
+  pub participants_after : ((j : ℕ) → IsParticipant m j) → MayVote k v i m → (IsSome x.learnt → y ≡ x) → MayCast k v y → (j : ℕ) → IsParticipant (with_instance m i y) j
+  participants_after are may stays cast j = elim (cases_eq j k) [
+    | inl e ↦ subst (IsParticipant (with_instance m i y)) (sym e) (elim may.leads [
+      | inl h ↦ in_first h.0 h.1 stays cast (are k)
+      | inr h ↦ in_second h.0 h.1 h.2 h.3 cast (are k)
+    ])
+    | inr ne ↦ other_commit j ne (place may) (are j)
+  ]
+
+  pub may_cast : MayVote k v i m → MayCast k v x
+  may_cast may = elim may.once [
+    | inl e ↦ inl (sym (ap submitted_of at) ∙ e)
+    | inr e ↦ inr (sym (ap submitted_of at) ∙ e)
+  ]
+
+  module _ (votes : x.proposer.votes ≡ m.votes) (own : x.proposer.own ≡ m.replica) (steps : Steps x y) where
+    pub voted : HasCast k v y → HasVotedSet (with_instance m i y) i v
+    voted cast = go y.learnt refl cast.learnt
+      where
+        go : (o : Option Histories) → y.learnt ≡ o → IsSome o → HasVotedSet (with_instance m i y) i v
+        go None e h = absurd (true≢false (sym h))
+        go (Some s) e h =
+            let l = subst (λ z. IfSome z (IsLearntSet y.proposer y.passes)) e steps.is.learnt in (
+              s,
+              record {
+                learnt = ap learnt_of here ∙ e;
+                own = own_certified m i x y at s votes (subst (λ vs. HasOwnCertificate vs y.passes s) steps.follows.votes l.own);
+                holds = vote_there s m.replica k v (subst (λ o. history s o ≡ casts k v ∷ []) (steps.follows.own ∙ own) (learnt_one y.proposer y.passes s (casts k v) l cast.submitted));
+              },
+            )
+
+  pub refused : (rounds : ℕ) (e : RunnerError) → IsVoteRefusal rounds k v x y e → IsRefusedVote rounds k v i m (with_instance m i y) e
+  refused rounds e (inl h) = inl (ap submitted_of here ∙ h.0, subst (λ o. IsSomeAnd o (λ z. IsSubmissionRefusal z.proposer e)) (sym here) h.1)
+  refused rounds e (inr h) = inr (ap submitted_of here ∙ h.0, refused_rounds m i x y at rounds (asking_number x) (number_asking m i) e (asking_there m i x y at) h.1)
