@@ -25,7 +25,7 @@ use Rattle.la_runner.specs.Fields.{stands_for}
 use Rattle.la_runner.specs.Following.{acceptors_of}
 use Rattle.la_runner.specs.Instances.{InstanceState, state_of, asking_number, Steps, IsComplete, IsUpdated}
 use Rattle.la_runner.specs.Invariant.{IsIn, IsMember}
-use Rattle.la_runner.specs.Members.{MemberState, InInstance, passes_of, passes_in, submitted_of, submitted_in, is_asking_of, number_of, number_in, number_asking_of, number_asking, learnt_of, view_of, GoesOn, IsOnlyIn, IsLearntIn, IsUpdateOf}
+use Rattle.la_runner.specs.Members.{MemberState, InInstance, passes_of, passes_in, submitted_of, submitted_in, is_asking_of, number_of, number_in, number_asking_of, number_asking, learnt_of, last_learnt, view_of, GoesOn, IsOnlyIn, IsLearntIn, IsUpdateOf}
 use Rattle.la_runner.specs.Participants.{HasVoted, IsParticipant}
 use Rattle.la_runner.specs.declared.error.RunnerError.{RunnerError}
 use Rattle.la_runner.specs.Refusals.{IsRoundsRefusal, IsInstanceRefusal, IsSubmissionRefusal, IsUpdateRefusal, IsRefusedRounds, IsRefusedUpdate}
@@ -56,10 +56,33 @@ set_same [] i x e = refl
 set_same (y ∷ xs) zero x e = let same : y ≡ x = cc in ap (λ z. z ∷ xs) (sym same)
 set_same (y ∷ xs) (suc i) x e = ap (λ ys. y ∷ ys) (set_same xs i x e)
 
+pub within_map : {A B : Type 0} (f : A → B) (xs ys : List A) (names : List B) (i : ℕ) → map f xs ≡ names → ys ≡ xs → i < length names → i < length ys
+within_map f xs ys names i e same lt = let a = long_map f xs in let b = ap length e in let c = ap length same in omega (arith, a, b, c, lt)
+
+-- an item that went back as it was
+pub put_back : {A : Type 0} (xs : List A) (i : ℕ) (x y : A) → i < length xs → x ≡ slice_index_or xs i x → y ≡ x → slice_set xs i y ≡ xs
+put_back xs i x y lt e same = ap (slice_set xs i) same ∙ set_same xs i x (item_at xs i x lt e)
+
 abbrev pub with_instance : MemberState → ℕ → InstanceState → MemberState
 with_instance m i y = record m { instances = slice_set m.instances i y }
 
 -- ## A participant, where its two instances stay
+
+-- and already where what it has submitted and learnt there does
+pub participant_same : (m n : MemberState) (k : ℕ) → n.replica ≡ m.replica → ((i : ℕ) → submitted_in n i ≡ submitted_in m i) → ((i : ℕ) → last_learnt n i ≡ last_learnt m i) → IsParticipant m k → IsParticipant n k
+participant_same m n k own submits learns p = record {
+  first = elim p.first [ inl e ↦ inl (submits (first_instance k) ∙ e) | inr v ↦ inr (v.0, submits (first_instance k) ∙ v.1) ];
+  second = elim p.second [
+    | inl e ↦ inl (submits (second_instance k) ∙ e)
+    | inr v ↦ inr (record {
+      first = v.first;
+      vote = v.vote;
+      learnt = learns (first_instance k) ∙ v.learnt;
+      leads = subst (λ r. second_vote v.first r ≡ Some v.vote) (sym own) v.leads;
+      cast = submits (second_instance k) ∙ v.cast;
+    })
+  ];
+}
 
 pub participant_stays : (m n : MemberState) (k : ℕ) → n.replica ≡ m.replica → slice_get n.instances (first_instance k) ≡ slice_get m.instances (first_instance k) → slice_get n.instances (second_instance k) ≡ slice_get m.instances (second_instance k) → IsParticipant m k → IsParticipant n k
 participant_stays m n k own one two p = record {
@@ -87,7 +110,7 @@ module _ (m : MemberState) (i : ℕ) (x y : InstanceState) (at : slice_get m.ins
   there = get-set_same m.instances i y (slice_get_within m.instances i x at)
 
   -- a fact of one instance and what it becomes
-  each_instance : (R : Option InstanceState → Option InstanceState → Type 0) → R (Some x) (Some y) → ((o : Option InstanceState) → R o o) → (j : ℕ) → R (slice_get m.instances j) (slice_get (slice_set m.instances i y) j)
+  pub each_instance : (R : Option InstanceState → Option InstanceState → Type 0) → R (Some x) (Some y) → ((o : Option InstanceState) → R o o) → (j : ℕ) → R (slice_get m.instances j) (slice_get (slice_set m.instances i y) j)
   each_instance R here same j = elim (cases_eq j i) [
     | inl e ↦ subst (λ c. R (slice_get m.instances c) (slice_get (slice_set m.instances i y) c)) (sym e)
         (subst (λ o. R o (slice_get (slice_set m.instances i y) i)) (sym at) (subst (R (Some x)) (sym there) here))

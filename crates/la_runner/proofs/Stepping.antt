@@ -29,7 +29,7 @@ use Rattle.la_runner.proofs.Viewing.{larger_view, view_on, becomes_larger, empty
 use Rattle.la_runner.proofs.Hearing.{submission_sound, submission_follows, submission_adds, submission_asks}
 use Rattle.la_runner.proofs.Updating.{whole, submitted_is, contains_met}
 
-if_some_on : {A : Type 0} (P Q : A → Type 0) (o : Option A) → ((x : A) → P x → Q x) → IfSome o P → IfSome o Q
+pub if_some_on : {A : Type 0} (P Q : A → Type 0) (o : Option A) → ((x : A) → P x → Q x) → IfSome o P → IfSome o Q
 if_some_on P Q None f h = tt
 if_some_on P Q (Some x) f h = f x h
 

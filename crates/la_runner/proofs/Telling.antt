@@ -1,5 +1,5 @@
 -- What a member tells of all instances, and what it takes in.
-use Rattle.std.proofs.Common.{◌≡◌, ◌≢◌, ◌⊎◌, inl, inr, ℕ, zero, suc, ◌+◌, ◌<◌, ◌≤◌, arith, List, [], ◌∷◌, ◌++◌, length, map, take, Option, Some, None, refl, ap, sym, ◌∙◌, subst, length-append, append_assoc}
+use Rattle.std.proofs.Common.{◌≡◌, ◌≢◌, ◌⊎◌, inl, inr, ℕ, zero, suc, ◌+◌, ◌<◌, ◌≤◌, arith, List, [], ◌∷◌, ◌++◌, length, map, take, Option, Some, None, refl, ap, ap₂, sym, ◌∙◌, subst, length-append, append_assoc}
 use Rattle.std.specs.List.{slice_get, slice_set, slice_index_or}
 use Rattle.std.proofs.lemmas.Bool.{cases_eq}
 use Rattle.std.proofs.lemmas.Option.{slice_get_within}
@@ -17,12 +17,17 @@ use Rattle.la_shared.proofs.Theorems.{has-prefix, prefix_self}
 use Rattle.la_runner.specs.declared.group.Row.{Row}
 use Rattle.la_runner.specs.declared.instance.Instance.{Instance}
 use Rattle.la_runner.specs.declared.note.InstanceNote.{InstanceNote}
-use Rattle.la_runner.specs.Certificates.{seen_at, mine_at, HasCertificate, OfMajority}
+use Rattle.la_proposer.specs.Majority.{votes_of}
+use Rattle.la_runner.specs.declared.member.Member.TheInside.{Inside}
+use Rattle.la_runner.specs.declared.note.MemberNote.TheInside as notes
+use Rattle.la_runner.specs.Certificates.{seen_of, seen_at, OfMajority}
+use Rattle.la_runner.specs.Fields.{stands_for, note_stands_for}
 use Rattle.la_runner.specs.Following.{acceptors_of, GoOn}
 use Rattle.la_runner.specs.Instances.{InstanceState, state_of, IsInstance, IsLearntSet, Steps}
 use Rattle.la_runner.specs.Invariant.{IsIn, IsMember}
-use Rattle.la_runner.specs.Members.{MemberState, GroupState, passes_of, submitted_of, view_of, learnt_of, IsOf, GoesOn}
-use Rattle.la_runner.specs.Notes.{told_by, told_names, told_seen, told_at, told_of, Meets, AllMeet, NoteState, IsNote, IsNoteOf, doings, HasMet}
+use Rattle.la_runner.specs.Members.{MemberState, GroupState, passes_of, passes_in, view, acceptors_in, IsOf}
+use Rattle.la_runner.specs.Notes.{told_by, told_names, told_seen, told_at, told_of, told_in, Meets, AllMeet, NoteState, IsNote, IsNoteOf, Tells}
+use Rattle.la_runner.proofs.Standing.{view_is}
 use Rattle.la_runner.specs.Participants.{IsParticipant}
 use Rattle.la_runner.specs.Rounds.{IsLarger}
 use Rattle.la_runner.specs.Sound.{IsSound, IsView, IsPassAt}
@@ -102,6 +107,50 @@ module _ (init : List Instance) (rows : List Row) (at : ℕ) (xs : List Instance
 pub told_whole : (init xs : List Instance) (rows : List Row) (at : ℕ) (notes : List InstanceNote) → map (λ x. acceptors_of x.passes.items) init ≡ map (λ r. r.acceptors.items) rows → at ≡ length rows → Telling (map state_of init) at xs notes → map (λ n. n.notes.items) notes ≡ map (λ x. map told_by x.passes.items) init
 told_whole init xs rows at notes names end t = t.told ∙ take_whole (map tell (map state_of init)) at (long_map tell (map state_of init) ∙ as_many_rows (map state_of init) rows (names_known init rows names) ∙ sym end) ∙ sym (tells_of init)
 
+names_told : (ps : List Known) → told_names (map told_by ps) ≡ acceptors_of ps
+names_told [] = refl
+names_told (k ∷ ps) = ap (λ l. k.acceptor ∷ l) (names_told ps)
+
+names_all_told : (xs : List InstanceState) → map told_names (map tell xs) ≡ map (λ x. acceptors_of x.passes) xs
+names_all_told [] = refl
+names_all_told (x ∷ xs) = ap₂ (λ n l. n ∷ l) (names_told x.passes) (names_all_told xs)
+
+told_seen_of : (ps : List Known) (a : ℕ) → told_seen (slice_get (map told_by ps) a) ≡ seen_of (slice_get ps a)
+told_seen_of [] a = refl
+told_seen_of (k ∷ ps) zero = refl
+told_seen_of (k ∷ ps) (suc a) = told_seen_of ps a
+
+pub told_is_seen : (ps : List Known) (a : ℕ) → told_at (map told_by ps) a ≡ seen_at ps a
+unfolding told_at seen_at
+told_is_seen ps a = told_seen_of ps a
+
+told_of_instance : (xs : List InstanceState) (i : ℕ) → told_of (slice_get (map tell xs) i) ≡ map told_by (passes_of (slice_get xs i))
+told_of_instance [] i = refl
+told_of_instance (x ∷ xs) zero = refl
+told_of_instance (x ∷ xs) (suc i) = told_of_instance xs i
+
+-- what is told of an instance's acceptor is what was seen
+pub tells_seen : (m : MemberState) (n : NoteState) → Tells m n → (i a : ℕ) → told_at (told_in n i) a ≡ seen_at (passes_in m i) a
+tells_seen m n t i a = ap (λ l. told_at (told_of (slice_get l i)) a) t.told ∙ ap (λ l. told_at l a) (told_of_instance m.instances i) ∙ told_is_seen (passes_in m i) a
+
+-- a note of a member is one
+pub note_is : (m : MemberState) (n : NoteState) → IsMember m → Tells m n → IsNote n
+note_is m n is t = elim (view_is m is) [
+  | inl e ↦ inl (t.view ∙ e)
+  | inr c ↦ inr (subst (λ (z : List ℕ × Histories). OfMajority z.0 (λ a. HasYes (told_at (told_in n 0) a) z.1)) (λ k. (sym t.votes k, sym t.view k))
+      (of_majority m.votes (λ a. HasYes (seen_at (passes_in m 0) a) (view m)) (λ a. HasYes (told_at (told_in n 0) a) (view m)) (λ a y. subst (λ l. HasYes l (view m)) (sym (tells_seen m n t 0 a)) y) c))
+]
+
+pub note_of : (group : GroupState) (m : MemberState) (n : NoteState) → IsOf group m → Tells m n → IsNoteOf group n
+note_of group m n of t = record { votes = t.votes ∙ of.votes; acceptors = ap (map told_names) t.told ∙ names_all_told m.instances ∙ of.acceptors }
+
+-- by what the code knows
+pub names_given : (m : Inside) (n : MemberState) (group : GroupState) (rows : List Row) → stands_for m ≡ n → IsOf group n → map (λ r. r.acceptors.items) rows ≡ group.acceptors → map (λ x. acceptors_of x.passes.items) m.instances.items ≡ map (λ r. r.acceptors.items) rows
+names_given m n group rows same of rows_are = names_of m.instances.items ∙ ap acceptors_in same ∙ of.acceptors ∙ sym rows_are
+
+pub tells_now : (m : Inside) (note : notes.Inside) → note.votes ≡ m.votes → note.giver ≡ m.replica → map (λ n. n.notes.items) note.told.items ≡ map (λ x. map told_by x.passes.items) m.instances.items → note.view ≡ view (stands_for m) → Tells (stands_for m) (note_stands_for note)
+tells_now m note votes giver told view = record { votes = ap votes_of votes; giver = giver; told = told ∙ tells_of m.instances.items; view = view }
+
 -- ## What is met
 
 -- these notes are still to be met
@@ -160,7 +209,7 @@ told_items notes = map (λ n. n.notes.items) notes
 abbrev pub told_all : List InstanceNote → List (List AcceptorName)
 told_all notes = map (λ n. told_names n.notes.items) notes
 
-map_map : {A B C : Type 0} (f : A → B) (g : B → C) (xs : List A) → map g (map f xs) ≡ map (λ x. g (f x)) xs
+pub map_map : {A B C : Type 0} (f : A → B) (g : B → C) (xs : List A) → map g (map f xs) ≡ map (λ x. g (f x)) xs
 map_map f g [] = refl
 map_map f g (x ∷ xs) = ap (λ l. g (f x) ∷ l) (map_map f g xs)
 
