@@ -128,12 +128,12 @@ module _ (m : MemberState) (is : IsMember m) (n : NoteState) (note : IsNote n) (
     most = subst (λ k. k ≤ 33) (sym all.sizes) is.most;
     few = is.few;
     each = λ i y e.
-      let at = met_at i y e in
-      let was = is.each i at.x at.was in (
-        meets_instance at.t at.x y was.0 at.meets,
-        ap (λ (p : ProposerState). p.votes) at.meets.proposer ∙ was.1,
-        ap (λ (p : ProposerState). p.own) at.meets.proposer ∙ was.2,
-      );
+        let at = met_at i y e in
+        let was = is.each i at.x at.was in (
+          meets_instance at.t at.x y was.0 at.meets,
+          ap (λ (p : ProposerState). p.votes) at.meets.proposer ∙ was.1,
+          ap (λ (p : ProposerState). p.own) at.meets.proposer ∙ was.2,
+        );
     participant = λ k. participant_same m mid k refl same_submitted same_learnt (is.participant k);
   }
 

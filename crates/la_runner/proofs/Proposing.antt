@@ -168,7 +168,10 @@ module _ (old mid new : MemberState) (k value : ℕ) (go : GoesOn old mid) (on :
 
   pub refused_second : (rounds left : ℕ) (e : RunnerError) (s : Histories) (v : Vote) → left ≤ rounds → IsVotedSet mid (first_instance k) (first_vote_for value) s → v ≡ second_vote_for s value → IsRefusedVote left k v (second_instance k) mid new e → IsRefusedInEither rounds k value old new e
   refused_second rounds left e s v le one v_is h = inr (
-    s, left, le, voted_stays mid new (first_instance k) (first_vote_for value) s on first_stays one,
+    s,
+    left,
+    le,
+    voted_stays mid new (first_instance k) (first_vote_for value) s on first_stays one,
     subst (λ w. IsRefusedVote left k w (second_instance k) old new e) v_is (of_old h),
   )
     where

@@ -13,7 +13,9 @@ ghost use Rattle.la_runner.specs.Refusals.{IsVoteRefusal, IsVoteError, IsRefused
 
 use crate::instance::Instance;
 use crate::{Group, Member, RunnerError};
-use la_commit::{MAX_COMMITS, Outcome, Vote, first_instance, own_vote, second_instance, second_vote};
+use la_commit::{
+    MAX_COMMITS, Outcome, Vote, first_instance, own_vote, second_instance, second_vote,
+};
 use la_set::Op;
 use la_shared::{Gate, SharedAcceptor};
 use std::sync::Wait;
@@ -71,7 +73,10 @@ impl Member {
         if commit >= MAX_COMMITS || second_instance(commit) as usize >= self.instances.len() {
             return Err(RunnerError::NoSuchCommit);
         }
-        if self.instances[second_instance(commit) as usize].learnt.is_some() {
+        if self.instances[second_instance(commit) as usize]
+            .learnt
+            .is_some()
+        {
             return Err(RunnerError::AlreadyProposed);
         }
         let first = &self.instances[first_instance(commit) as usize];
@@ -160,9 +165,25 @@ impl Group {
     {
         member.may_propose(commit, value)?;
         let first = Vote { value, sole: false };
-        let left = self.vote(rt, member, commit, first_instance(commit), first, rounds, gate)?;
+        let left = self.vote(
+            rt,
+            member,
+            commit,
+            first_instance(commit),
+            first,
+            rounds,
+            gate,
+        )?;
         let second = member.second_vote(commit).unwrap();
-        self.vote(rt, member, commit, second_instance(commit), second, left, gate)?;
+        self.vote(
+            rt,
+            member,
+            commit,
+            second_instance(commit),
+            second,
+            left,
+            gate,
+        )?;
         Ok(member.outcome(commit).unwrap())
     }
 }

@@ -26,8 +26,8 @@ returns-in_err-vote-clause-error g c =
     let first = subst (λ i. IsOnlyIn i c.args.member.now c.vote.new.member) c.first_instance.ensures c.vote.ensures.only in
     let then = subst (λ i. IsOnlyIn i c.vote.new.member c.vote-2.new.member) c.second_instance.ensures c.vote-2.ensures.only in
     let h : IfErr c.vote-2.result (IsRefusedDecision c.args.rounds c.args.commit c.args.value c.args.member.now c.vote-2.new.member) =
-        refused_decision c.args.rounds c.args.commit c.args.value c.args.member.now c.vote-2.new.member c.vote-2.result c.in_ok-may_propose.ensures.there c.in_ok-may_propose.ensures.may
-        (if_err_on c.vote-2.result (IsRefusedVote c.in_ok-left.left c.args.commit c.unwrap-second.result (second_instance c.args.commit) c.vote.new.member c.vote-2.new.member) (IsRefusedInEither c.args.rounds c.args.commit c.args.value c.args.member.now c.vote-2.new.member)
-        (λ e. refused_second c.args.member.now c.vote.new.member c.vote-2.new.member c.args.commit c.args.value c.vote.ensures.goes_on c.vote-2.ensures.goes_on first then c.args.rounds c.in_ok-left.left e voted.0 c.unwrap-second.result c.in_ok-left.ensures.left voted.1 is)
-        (subst (λ i. IfErr c.vote-2.result (IsRefusedVote c.in_ok-left.left c.args.commit c.unwrap-second.result i c.vote.new.member c.vote-2.new.member)) c.second_instance.ensures c.vote-2.ensures.error)) c.vote-2.ensures.kind in
+    refused_decision c.args.rounds c.args.commit c.args.value c.args.member.now c.vote-2.new.member c.vote-2.result c.in_ok-may_propose.ensures.there c.in_ok-may_propose.ensures.may
+    (if_err_on c.vote-2.result (IsRefusedVote c.in_ok-left.left c.args.commit c.unwrap-second.result (second_instance c.args.commit) c.vote.new.member c.vote-2.new.member) (IsRefusedInEither c.args.rounds c.args.commit c.args.value c.args.member.now c.vote-2.new.member)
+    (λ e. refused_second c.args.member.now c.vote.new.member c.vote-2.new.member c.args.commit c.args.value c.vote.ensures.goes_on c.vote-2.ensures.goes_on first then c.args.rounds c.in_ok-left.left e voted.0 c.unwrap-second.result c.in_ok-left.ensures.left voted.1 is)
+    (subst (λ i. IfErr c.vote-2.result (IsRefusedVote c.in_ok-left.left c.args.commit c.unwrap-second.result i c.vote.new.member c.vote-2.new.member)) c.second_instance.ensures c.vote-2.ensures.error)) c.vote-2.ensures.kind in
     search rules

@@ -47,6 +47,6 @@ loop-round-preserved g c =
       asks,
       λ _. omega (arith, c.loop-round-test.true),
       λ ended.
-        let other : c.status.result ≢ c.status-asked.result = search rules in
-        inr (number_grows c.args.self.now.proposer.number c.loop-round.self.proposer c.round_and_view.new.self.proposer c.status-asked.result c.status.result c.loop-round.invariant.3 asks c.status-asked.ensures.status c.status.ensures.status other c.loop-round.invariant.0.follows.number c.round_and_view.ensures.steps.follows.number),
+          let other : c.status.result ≢ c.status-asked.result = search rules in
+          inr (number_grows c.args.self.now.proposer.number c.loop-round.self.proposer c.round_and_view.new.self.proposer c.status-asked.result c.status.result c.loop-round.invariant.3 asks c.status-asked.ensures.status c.status.ensures.status other c.loop-round.invariant.0.follows.number c.round_and_view.ensures.steps.follows.number),
     )
