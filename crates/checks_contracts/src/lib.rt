@@ -10,6 +10,7 @@ mod orset;
 mod program;
 mod proposer;
 mod replica;
+mod runner;
 mod script;
 mod set;
 mod shared;

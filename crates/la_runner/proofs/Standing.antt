@@ -14,9 +14,11 @@ use Rattle.la_shared.specs.Passes.{Known}
 use Rattle.la_runner.specs.Certificates.{mine_at, HasCertificate, HasOwnCertificate}
 use Rattle.la_runner.specs.Instances.{InstanceState, IsLearntSet}
 use Rattle.la_runner.specs.Invariant.{IsIn, IsMember}
-use Rattle.la_runner.specs.Laws.{CertifiedCompare, OwnAreCertified, CertificatesStay, ViewsAreCertified, LearntAreOwnCertified, NothingIsInvented}
-use Rattle.la_runner.specs.Members.{MemberState, passes_of, passes_in, submitted_of, learnt_of, view_of}
+use Rattle.la_runner.specs.Laws.{CertifiedCompare, OwnAreCertified, CertificatesStay, ViewsAreCertified, ViewsCompare, LearntAreOwnCertified, NothingIsInvented}
+use Rattle.la_runner.specs.Members.{MemberState, passes_of, passes_in, submitted_of, learnt_of, view_of, view}
 use Rattle.la_runner.specs.Sound.{IsPassAt, IsView, IsSubmission, WasTold}
+use Rattle.la_set.specs.Inclusion.{IsSubset}
+use Rattle.la_runner.proofs.Viewing.{empty_within}
 use Rattle.la_runner.proofs.Certified.{mine_at_is, own_certificate, certificate_stays, own_certificate_stays, certificates_compare}
 
 are_in : (m : MemberState) (is : IsMember m) (i : ℕ) (o : Option InstanceState) → slice_get m.instances i ≡ o → (a : ℕ) → IsPassAt (slice_get (passes_of o) a)
@@ -44,6 +46,12 @@ view_is m is = go (slice_get m.instances 0) refl
     go : (o : Option InstanceState) → slice_get m.instances 0 ≡ o → IsView m.votes (passes_of o) (view_of o)
     go None e = inl refl
     go (Some x) e = let in_m = is.each 0 x e in subst (λ vs. IsView vs x.passes x.view) in_m.1 in_m.0.view
+
+pub view_compares : ViewsCompare
+view_compares m is s c = elim (view_is m is) [
+  | inl e ↦ inr (subst (λ z. IsSubset z s) (sym e) (empty_within s))
+  | inr d ↦ certified_compare m is 0 s (view m) c d
+]
 
 pub learnt_is : LearntAreOwnCertified
 learnt_is m is i s = go (slice_get m.instances i) refl

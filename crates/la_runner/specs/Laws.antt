@@ -25,6 +25,10 @@ CertificatesStay = (old new : MemberState) → GoesOn old new → (i : ℕ) (s :
 abbrev pub ViewsAreCertified : Type 0
 ViewsAreCertified = (m : MemberState) → IsMember m → (view m ≡ empty) ⊎ IsCertified m 0 (view m)
 
+abbrev pub ViewsCompare : Type 0
+ViewsCompare = (m : MemberState) → IsMember m → (s : Histories) →
+    IsCertified m 0 s → AreComparable s (view m)
+
 abbrev pub LearntAreOwnCertified : Type 0
 LearntAreOwnCertified = (m : MemberState) → IsMember m → (i : ℕ) (s : Histories) →
     last_learnt m i ≡ Some s → IsOwnCertified m i s

@@ -1,7 +1,7 @@
 //! What is true of every member, as laws over the definitions: they run nothing. That a member is one
 //! [`crate::Member::replica`] tells.
 ghost use Rattle.la_runner.specs.Laws.{CertifiedCompare, OwnAreCertified, ViewsAreCertified};
-ghost use Rattle.la_runner.specs.Laws.{LearntAreOwnCertified, NothingIsInvented, CertificatesStay};
+ghost use Rattle.la_runner.specs.Laws.{LearntAreOwnCertified, NothingIsInvented, CertificatesStay, ViewsCompare};
 
 /// Any two sets with certificates in one member's passes of one instance are comparable.
 pub fn certified_sets_are_comparable()
@@ -21,6 +21,11 @@ pub fn certificates_stay()
 /// A member's view is empty, or has a certificate in its passes.
 pub fn views_are_certified()
     ensures { ViewsAreCertified }
+{}
+
+/// A member's view is comparable with each set that has a certificate in its passes of instance 0.
+pub fn views_are_comparable_with_certified_sets()
+    ensures { ViewsCompare }
 {}
 
 /// The set that a member learnt last in an instance has an own certificate there.

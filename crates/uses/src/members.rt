@@ -1,18 +1,22 @@
-ghost use Rattle.std.specs.Prelude.{IfOk};
-ghost use Rattle.la_set.specs.Inclusion.{IsSubset};
-ghost use Rattle.la_runner.specs.Members.{IsOf};
+ghost use Rattle.std.specs.Prelude.{◌≡◌, Some, IfOk, OnOk, IfSome};
+ghost use Rattle.la_set.specs.Histories.{Histories};
+ghost use Rattle.la_set.specs.Inclusion.{IsSubset, AreComparable};
+ghost use Rattle.la_commit.specs.Instances.{first_instance};
+ghost use Rattle.la_commit.specs.Votes.{HoldsVote, first_vote_for};
+ghost use Rattle.la_runner.specs.Members.{IsOf, view, last_learnt};
 
+use la_commit::Outcome;
 use la_proposer::Votes;
-use la_runner::{Group, Learned, Member, Members, RunnerError};
+use la_runner::{Group, Learned, Member, Members, RunnerError, laws};
 use la_set::Op;
 use la_shared::FreeGate;
 use std::alloc::Global;
 use std::sync::Wait;
 
-/// A group of three replicas with one vote each, without adopt-commit objects, in which each may
-/// submit a thousand updates.
+/// A group of three replicas with one vote each and one adopt-commit object, in which each may submit
+/// a thousand updates.
 pub fn group_of_three(alloc: Global) -> Result<(Group, Members), RunnerError> {
-    Group::new(alloc, 3, 0, 1000, Votes::one_each(3))
+    Group::new(alloc, 3, 1, 1000, Votes::one_each(3))
 }
 
 /// Adds to a counter twice, in at most a hundred rounds each. The second learnt set contains the
@@ -29,4 +33,48 @@ pub fn add_twice<R: Wait>(
     let first = group.update(rt, member, 1, Op::Inc(by), 100, &FreeGate)?;
     let second = group.update(rt, member, 1, Op::Inc(by), 100, &FreeGate)?;
     Ok((first, second))
+}
+
+/// Tells another member what one has seen. The other one's view then contains both.
+pub fn tell(
+    alloc: Global,
+    group: &Group,
+    from: &mut Member,
+    to: &mut Member,
+) -> Result<(), RunnerError>
+    requires from { IsOf group.now from.old }
+    requires to { IsOf group.now to.old }
+    ensures from { from.new ≡ from.old }
+    ensures told { OnOk result (IsSubset (view from.old) (view to.new)) }
+    ensures kept { OnOk result (IsSubset (view to.old) (view to.new)) }
+{
+    let note = group.note(alloc, from)?;
+    group.meet(to, note);
+    Ok(())
+}
+
+/// What a member learnt last and what it shows are comparable, whatever it met.
+pub fn compare_learnt_and_shown(member: &Member)
+    ensures { (learnt : Histories) → last_learnt member.now 0 ≡ Some learnt
+        → AreComparable learnt (view member.now) }
+{
+    member.replica();
+    laws::last_learnt_sets_are_certified();
+    laws::own_certificates_are_certificates();
+    laws::views_are_comparable_with_certified_sets();
+}
+
+/// Proposes a value at object 0, in at most a hundred rounds. The member has voted for it in the set
+/// that it learnt in the first instance.
+pub fn propose<R: Wait>(
+    rt: &R,
+    group: &Group,
+    member: &mut Member,
+    value: u64,
+) -> Result<Outcome, RunnerError>
+    requires { IsOf group.now member.old }
+    ensures { IfOk result (λ reached. IfSome (last_learnt member.new (first_instance 0)) (λ learnt.
+        HoldsVote learnt member.new.replica (first_vote_for value))) }
+{
+    group.decide(rt, member, 0, value, 100, &FreeGate)
 }

@@ -1,13 +1,17 @@
+// Members' calls. What memory was refused for goes on: so the tests pass with every single allocation
+// failing too.
 ghost use Rattle.std.specs.Prelude.{◌≡◌, ◌+◌, ℕ, List};
 ghost use Rattle.la_runner.specs.Members.{IsOf, GroupState};
 ghost use Rattle.la_runner.specs.Starting.{AreMembersFrom, IsNewMember};
 
+use la_commit::Outcome;
 use la_proposer::Votes;
 use la_runner::{Group, Learned, Member, Members, RunnerError};
-use la_set::UpdateSet;
+use la_set::{Op, UpdateSet};
 use la_shared::Gate;
 use std::alloc::Global;
 use std::process::Abort;
+use std::sync::Wait;
 
 /// Lets offers to acceptor 0 through, and no others.
 pub struct OnlyZero;
@@ -20,11 +24,22 @@ impl Gate for OnlyZero {
     fn inside(&self, _to: u8) {}
 }
 
+/// Lets nothing through.
+pub struct Closed;
+
+impl Gate for Closed {
+    fn lets(&self, _from: u8, _to: u8, _instance: u8, _ballot: u32) -> bool {
+        false
+    }
+
+    fn inside(&self, _to: u8) {}
+}
+
 fn next(rt: &impl Abort, members: &mut Members) -> Member
-    ensures { (group : GroupState) (votes : List ℕ) (cap replica : ℕ)
-        → AreMembersFrom group votes cap replica members.old
-        → IsNewMember group votes cap replica result
-        × AreMembersFrom group votes cap (replica + 1) members.new }
+    ensures { (group : GroupState) (cap replica : ℕ)
+        → AreMembersFrom group cap replica members.old
+        → IsNewMember group cap replica result
+        × AreMembersFrom group cap (replica + 1) members.new }
 {
     members.take().expect(rt, "there is another member")
 }
@@ -36,11 +51,91 @@ pub fn three(rt: &impl Abort, alloc: Global, votes: &[u16]) -> (Group, Member, M
     ensures two { IsOf result.0 result.3 }
 {
     let votes = Votes::new(votes).expect(rt, "they are votes");
-    let (group, mut members) = Group::new(alloc, 3, 1, 10, votes).expect(rt, "it is a group");
+    let (group, mut members) = match Group::new(alloc, 3, 1, 10, votes) {
+        Ok(new) => new,
+        Err(_) => Group::new(alloc, 3, 1, 10, votes).expect(rt, "memory is there again"),
+    };
     let zero = next(rt, &mut members);
     let one = next(rt, &mut members);
     let two = next(rt, &mut members);
     (group, zero, one, two)
+}
+
+/// Adds to object 1. Where memory was refused before the update was submitted it is submitted again,
+/// and else the call is gone on with.
+pub fn add<R: Wait, G: Gate>(
+    rt: &R,
+    group: &Group,
+    member: &mut Member,
+    by: u32,
+    rounds: u32,
+    gate: &G,
+) -> Result<Learned, RunnerError>
+    requires { IsOf group.now member.old }
+    ensures { IsOf group.now member.new }
+{
+    let before = member.submitted();
+    match group.update(rt, member, 1, Op::Inc(by), rounds, gate) {
+        Err(RunnerError::Memory) => {}
+        end => return end,
+    }
+    if member.submitted() == before {
+        return group.update(rt, member, 1, Op::Inc(by), rounds, gate);
+    }
+    match group.resume(rt, member, rounds, gate) {
+        Ok(Some(learned)) => Ok(learned),
+        Ok(None) => Err(RunnerError::Memory),
+        Err(refused) => Err(refused),
+    }
+}
+
+/// Goes on in instance 0, and once more where memory was refused.
+pub fn resume<R: Wait, G: Gate>(
+    rt: &R,
+    group: &Group,
+    member: &mut Member,
+    rounds: u32,
+    gate: &G,
+) -> Result<Option<Learned>, RunnerError>
+    requires { IsOf group.now member.old }
+    ensures { IsOf group.now member.new }
+{
+    match group.resume(rt, member, rounds, gate) {
+        Err(RunnerError::Memory) => group.resume(rt, member, rounds, gate),
+        end => end,
+    }
+}
+
+/// Proposes at object 0, and once more where memory was refused.
+pub fn decide<R: Wait, G: Gate>(
+    rt: &R,
+    group: &Group,
+    member: &mut Member,
+    value: u64,
+    rounds: u32,
+    gate: &G,
+) -> Result<Outcome, RunnerError>
+    requires { IsOf group.now member.old }
+    ensures { IsOf group.now member.new }
+{
+    match group.decide(rt, member, 0, value, rounds, gate) {
+        Err(RunnerError::Memory) => group.decide(rt, member, 0, value, rounds, gate),
+        end => end,
+    }
+}
+
+/// One member tells another one what it has seen.
+pub fn tell(rt: &impl Abort, alloc: Global, group: &Group, from: &mut Member, to: &mut Member)
+    requires from { IsOf group.now from.old }
+    requires to { IsOf group.now to.old }
+    ensures from { IsOf group.now from.new }
+    ensures to { IsOf group.now to.new }
+{
+    let note = match group.note(alloc, from) {
+        Ok(note) => note,
+        Err(_) => group.note(alloc, from).expect(rt, "memory is there again"),
+    };
+    group.meet(to, note);
 }
 
 /// Whether a set has so many updates of each replica.
