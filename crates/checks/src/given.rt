@@ -1,4 +1,5 @@
 // Updates as tables give them.
+use crate::holds::holds;
 use la_set::{Op, Update, UpdateId, UpdateSet};
 use std::alloc::Global;
 use std::process::Abort;
@@ -17,11 +18,15 @@ fn update(given: &Given) -> Update {
     }
 }
 
+fn pushes(set: &mut UpdateSet, given: &Given) -> bool {
+    set.push(update(given)).is_ok() || set.push(update(given)).is_ok()
+}
+
 /// The set of these updates. Where memory is refused a push is tried again.
 pub fn set_of(rt: &impl Abort, alloc: Global, updates: &[Given]) -> UpdateSet {
     let mut set = UpdateSet::new(alloc);
     for given in updates {
-        assert!(rt; set.push(update(given)).is_ok() || set.push(update(given)).is_ok());
+        holds(rt, "a push", pushes(&mut set, given));
     }
     set
 }

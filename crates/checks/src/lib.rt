@@ -9,6 +9,8 @@ mod commit;
 #[cfg(test)]
 mod given;
 #[cfg(test)]
+mod holds;
+#[cfg(test)]
 mod object;
 #[cfg(test)]
 mod orset;

@@ -1,5 +1,5 @@
 // la_orset: sets and chains as tables.
 mod chains;
 mod plays;
-mod shelves;
+pub mod shelves;
 mod tags;

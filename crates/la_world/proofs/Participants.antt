@@ -16,7 +16,7 @@ use Rattle.la_replica.specs.Refusals.{HasRoom, SubmittingSpares}
 use Rattle.la_replica.specs.ReplicaState as acting
 use Rattle.la_replica.specs.ReplicaState.{ReplicaState, with_instance}
 use Rattle.la_world.specs.Votes.{Submission, vote_in, second_vote_of, second_vote_in}
-use Rattle.la_world.specs.Following.{vote_due, with_vote, then_votes, takes, VoteFits}
+use Rattle.la_world.specs.Following.{vote_due, with_vote, without_vote, then_votes, takes, VoteFits}
 
 -- a vote as it is submitted in the second instance
 abbrev pub submission_of : (i r : ℕ) → Vote → Submission
@@ -75,6 +75,12 @@ module _ (at : ReplicaState) (m : Message) where
   may_vote fits out c step from v wanted =
       let on = leads_on at out c from in let next = due_next v out.said (sym wanted) in
       subst (λ i. HasRoom at i × SubmittingSpares at i) next.1 (fits (out, on.0) (submission_of m.instance at.own v) (step ∙ on.1) next.0)
+
+  -- no vote is due
+  pub takes_plainly : (out : Out) (then : ReplicaState) → acting.receives at m ≡ Some (out, then) → None ≡ vote_by out.said → takes at m ≡ Some (without_vote out, then)
+  takes_plainly out then received none =
+      ap (option_and_then (λ (made : Out × ReplicaState). then_votes made (vote_due m.instance at.own made.0.said))) received
+      ∙ ap (then_votes (out, then)) (due out.said ∙ ap (option_map (submission_of m.instance at.own)) (sym none))
 
   -- this vote is due, and is cast in what stands then
   pub takes_voting : (v : Vote) (out cast : Out) (then after : ReplicaState) → acting.receives at m ≡ Some (out, then) → Some v ≡ vote_by out.said → acting.submits then (m.instance + 1) (casts (commit_of m.instance) v) ≡ Some (cast, after) → takes at m ≡ Some (with_vote out (m.instance + 1) cast, after)

@@ -1,4 +1,6 @@
-use la_replica::{Mail, Said};
+ghost use Rattle.std.specs.Prelude.{◌≡◌, None};
+
+use la_replica::{Mail, Out, Said};
 
 // What a replica did in one step, and what it sends.
 #[derive(Drop)]
@@ -9,6 +11,19 @@ pub struct Done {
     pub voted: Option<Voted>,
     // All that is sent, in order.
     pub mail: Mail,
+}
+
+impl Done {
+    // What a replica did that cast no second vote.
+    pub fn without_vote(out: Out) -> Done
+        ensures { result ≡ record { said = out.said; voted = None; mail = out.mail } }
+    {
+        Done {
+            said: out.said,
+            voted: None,
+            mail: out.mail,
+        }
+    }
 }
 
 // A vote that was cast in an object's second instance.

@@ -7,15 +7,17 @@ ghost use Rattle.la_commit.specs.declared.instance.TheConstants.{MAX_COMMITS};
 ghost use Rattle.la_commit.specs.Instances.{is_first_instance, is_second_instance, commit_of};
 ghost use Rattle.la_commit.specs.Votes.{casts};
 ghost use Rattle.la_commit.specs.Outcomes.{outcome_of};
-ghost use Rattle.la_replica.specs.Whole.{Message as MessageOf, whole_of, whole_mail};
+ghost use Rattle.la_replica.specs.Whole.{Message as MessageOf, Out as OutOf};
+ghost use Rattle.la_replica.specs.Whole.{whole_of, whole_mail, whole_out};
+ghost use Rattle.la_replica.specs.ReplicaState.{ReplicaState, submits};
 ghost use Rattle.la_replica.specs.Steps.{learnt_in};
-ghost use Rattle.la_replica.specs.Changes.{LeadsThere};
+ghost use Rattle.la_replica.specs.Changes.{IsPreparedFrom, after_commit, LeadsThere};
 ghost use Rattle.la_replica.specs.Refusals.{HasRoom, SubmittingSpares};
 ghost use Rattle.la_replica.specs.Fitting.{FitsReceiver};
 ghost use Rattle.la_world.specs.Votes.{vote_in};
 ghost use Rattle.la_world.specs.Outcomes.{outcome_in};
 ghost use Rattle.la_world.specs.Calls.{returned_by};
-ghost use Rattle.la_world.specs.Following.{VoteFits, takes, whole_done};
+ghost use Rattle.la_world.specs.Following.{VoteFits, takes, with_vote, whole_done};
 
 use crate::done::{Done, Voted};
 use la_commit::{
@@ -31,22 +33,20 @@ use std::alloc::AllocError;
 fn vote_in(instance: u8, own: u8, learnt: Option<&UpdateSet>) -> Option<Vote>
     ensures { result ≡ option_and_then (vote_in instance own) (option_copied learnt.entry) }
 {
-    let learnt = learnt?;
-    if !is_first_instance(instance) {
-        return None;
+    match learnt {
+        Some(learnt) if is_first_instance(instance) => second_vote(own, learnt),
+        _ => None,
     }
-    second_vote(own, learnt)
 }
 
 // What a replica returns, where it learns this set in this instance, if that is a second one.
 pub fn outcome_by(instance: u8, own: u8, learnt: Option<&UpdateSet>) -> Option<Outcome>
     ensures { result ≡ option_and_then (outcome_in instance own) (option_copied learnt.entry) }
 {
-    let learnt = learnt?;
-    if !is_second_instance(instance) {
-        return None;
+    match learnt {
+        Some(learnt) if is_second_instance(instance) => outcome_of(own, learnt),
+        _ => None,
     }
-    outcome_of(own, learnt)
 }
 
 // What a replica returned from an object, if it has.
@@ -74,26 +74,50 @@ pub fn take(
     ensures learnt { IfOk result (λ taken. taken.1 ≡ learnt_in taken.0.said) }
     ensures err { OnErr result (receiver.new ≡ receiver.old) }
 {
-    let (Out { said, mail }, change) = receiver.prepare_fitting(message)?;
-    let learnt = learnt_copy(&said)?;
-    let Some(vote) = vote_in(message.instance, receiver.own(), learnt.as_ref()) else {
-        receiver.commit(change);
-        let done = Done {
-            said,
-            voted: None,
-            mail,
-        };
-        return Ok((done, learnt));
-    };
-    let (voted, mail, cast) = prepare_vote(receiver, message.instance, vote, mail)?;
+    let (out, change) = receiver.prepare_fitting(message)?;
+    let learnt = learnt_copy(&out.said)?;
+    match vote_in(message.instance, receiver.own(), learnt.as_ref()) {
+        None => {
+            receiver.commit(change);
+            Ok((Done::without_vote(out), learnt))
+        }
+        Some(vote) => {
+            let done = commit_both(receiver, message.instance, vote, out, change)?;
+            Ok((done, learnt))
+        }
+    }
+}
+
+// Commits what a message in this instance led to, and the second vote to which that leads.
+fn commit_both(
+    receiver: &mut Replica,
+    instance: u8,
+    vote: Vote,
+    out: Out,
+    change: Change,
+) -> Result<Done, AllocError>
+    requires few { instance ≤ 2 * MAX_COMMITS }
+    requires here { change.instance ≡ instance }
+    requires prepared { IsPreparedFrom receiver.old change }
+    requires room { HasRoom receiver.old (instance + 1) }
+    requires spares { SubmittingSpares receiver.old (instance + 1) }
+    ensures both { IfOk result (λ done. (then : ReplicaState) × (cast : OutOf)
+        × (after_commit receiver.old change ≡ Some then)
+        × (submits then (instance + 1) (casts (commit_of instance) vote)
+        ≡ Some (cast, receiver.new))
+        × (whole_done done ≡ with_vote (whole_out out) (instance + 1) cast)) }
+    ensures said { IfOk result (λ done. done.said ≡ out.said) }
+    ensures err { OnErr result (receiver.new ≡ receiver.old) }
+{
+    let Out { said, mail } = out;
+    let (voted, mail, cast) = prepare_vote(receiver, instance, vote, mail)?;
     receiver.commit(change);
     receiver.commit(cast);
-    let done = Done {
+    Ok(Done {
         said,
         voted: Some(voted),
         mail,
-    };
-    Ok((done, learnt))
+    })
 }
 
 // A copy of the set that is learnt, if one is.
@@ -123,18 +147,38 @@ fn prepare_vote(
     ensures instance { IfOk result (λ prepared. prepared.0.instance ≡ instance + 1) }
     ensures change { IfOk result (λ prepared. prepared.2.instance ≡ instance + 1) }
 {
-    let (second, commit) = (instance + 1, commit_of(instance) as u16);
-    let (cast, change) = match replica.prepare_submission(second, commit, Op::from(vote)) {
-        Ok(prepared) => prepared,
-        Err(refused) => return Err(for_memory(refused)),
-    };
-    let mut sent = mail;
-    sent.append(cast.mail)?;
-    let voted = Voted {
-        instance: second,
-        said: cast.said,
-    };
+    let (cast, change) = prepare_cast(replica, instance, vote)?;
+    let (voted, sent) = put_last(instance + 1, mail, cast)?;
     Ok((voted, sent, change))
+}
+
+// Prepares the vote alone.
+fn prepare_cast(replica: &Replica, instance: u8, vote: Vote) -> Result<(Out, Change), AllocError>
+    requires few { instance ≤ 2 * MAX_COMMITS }
+    requires room { HasRoom replica.now (instance + 1) }
+    requires spares { SubmittingSpares replica.now (instance + 1) }
+    ensures leads { IfOk result (λ prepared. LeadsThere replica.now (instance + 1)
+        (casts (commit_of instance) vote) (whole_out prepared.0) prepared.1) }
+    ensures change { IfOk result (λ prepared. prepared.1.instance ≡ instance + 1) }
+{
+    let (second, commit) = (instance + 1, commit_of(instance) as u16);
+    match replica.prepare_submission(second, commit, Op::from(vote)) {
+        Ok(prepared) => Ok(prepared),
+        Err(refused) => Err(for_memory(refused)),
+    }
+}
+
+// What was said of a vote in this instance, and its mail behind what is sent before.
+fn put_last(instance: u8, before: Mail, cast: Out) -> Result<(Voted, Mail), AllocError>
+    ensures mail { IfOk result (λ put.
+        whole_mail put.1 ≡ whole_mail before ++ whole_mail cast.mail) }
+    ensures voted { IfOk result (λ put.
+        put.0 ≡ record { instance = instance; said = cast.said }) }
+{
+    let Out { said, mail } = cast;
+    let mut sent = before;
+    sent.append(mail)?;
+    Ok((Voted { instance, said }, sent))
 }
 
 // A refusal for want of memory.

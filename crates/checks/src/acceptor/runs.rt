@@ -1,4 +1,5 @@
 // Acceptors: what each of a list of offers is answered, and what is accepted then.
+use crate::holds::holds;
 use crate::set::helpers::{Does, Row, id, set_of};
 use la_acceptor::{Acceptor, AcceptorError, Reply, laws};
 use la_set::UpdateSet;
@@ -56,7 +57,11 @@ fn offer(
     let before = acceptor.accepted().len();
     match acceptor.offer(offered) {
         Err(AcceptorError::Memory) => {
-            assert!(rt; acceptor.accepted().len() == before);
+            holds(
+                rt,
+                "a refusal changes nothing",
+                acceptor.accepted().len() == before,
+            );
             acceptor.offer(offered)
         }
         first => first,
@@ -84,21 +89,14 @@ fn goes_so(
     is_told(&reply, told, accepted) && acceptor.accepted().same(accepted)
 }
 
-fn go_so(rt: &impl Abort, alloc: Global, offers: &[Offer]) -> bool {
+fn offers_are_answered(rt: &impl Abort, alloc: Global) {
     let mut acceptor = Acceptor::new(alloc);
-    for (offered, told, accepted) in offers {
+    for (offered, told, accepted) in &OFFERS {
         let offered = set_of(rt, alloc, offered);
         let accepted = set_of(rt, alloc, accepted);
-        if !goes_so(rt, &mut acceptor, &offered, *told, &accepted) {
-            return false;
-        }
+        let goes_so = goes_so(rt, &mut acceptor, &offered, *told, &accepted);
+        holds(rt, "an offer", goes_so);
     }
-    true
-}
-
-#[test]
-fn offers_are_answered(rt: HostRuntime) {
-    assert!(rt; go_so(&rt, rt.alloc(), &OFFERS));
 }
 
 // Whether an offer is answered, once more where memory was refused.
@@ -107,42 +105,27 @@ fn answers(acceptor: &mut Acceptor, offered: &UpdateSet) -> bool {
 }
 
 fn is_copied(acceptor: &Acceptor, accepted: &UpdateSet) -> bool {
-    matches!(&acceptor.copy(), Ok(copy) if copy.accepted().same(accepted))
+    match acceptor.copy() {
+        Ok(copy) => copy.accepted().same(accepted),
+        Err(_) => false,
+    }
+}
+
+fn is_copied_again(acceptor: &Acceptor, accepted: &UpdateSet) -> bool {
+    is_copied(acceptor, accepted) || is_copied(acceptor, accepted)
+}
+
+fn an_acceptor_is_copied(rt: &impl Abort, alloc: Global) {
+    let mut acceptor = Acceptor::new(alloc);
+    let first = set_of(rt, alloc, FIRST);
+    holds(rt, "an answer", answers(&mut acceptor, &first));
+    holds(rt, "a copy", is_copied_again(&acceptor, &first));
 }
 
 #[test]
-fn an_acceptor_is_copied(rt: HostRuntime) {
-    let mut acceptor = Acceptor::new(rt.alloc());
-    let first = set_of(&rt, rt.alloc(), FIRST);
-    assert!(rt; answers(&mut acceptor, &first));
-    assert!(rt; is_copied(&acceptor, &first) || is_copied(&acceptor, &first));
-}
-
-fn acknowledges(acceptor: &mut Acceptor, offered: &UpdateSet) -> bool {
-    matches!(&acceptor.offer(offered), Ok(reply) if reply.same(&Reply::Yes))
-}
-
-// An offer of what is accepted is answered at once, whatever allocation is refused.
-#[test]
-fn an_offer_again_takes_no_memory(rt: HostRuntime) {
-    let mut acceptor = Acceptor::new(rt.alloc());
-    let first = set_of(&rt, rt.alloc(), FIRST);
-    assert!(rt; answers(&mut acceptor, &first));
-    assert!(rt; acknowledges(&mut acceptor, &first));
-}
-
-fn is_copied_alike(reply: &Reply) -> bool {
-    matches!(&reply.copy(), Ok(copy) if copy.same(reply) && !copy.same(&Reply::Yes))
-}
-
-#[test]
-fn a_reply_is_copied(rt: HostRuntime) {
-    let reply = Reply::No(set_of(&rt, rt.alloc(), SECOND));
-    assert!(rt; is_copied_alike(&reply) || is_copied_alike(&reply));
-}
-
-#[test]
-fn laws_have_no_work(_rt: HostRuntime) {
+fn acceptors(rt: HostRuntime) {
+    offers_are_answered(&rt, rt.alloc());
+    an_acceptor_is_copied(&rt, rt.alloc());
     laws::replies_tell_what_is_accepted();
     laws::accepted_grows();
     laws::accepted_is_the_union_of_all_offers();

@@ -1,5 +1,6 @@
 // Participants: what each step answers of a learnt set. No call takes memory, so that only the sets
 // need it.
+use crate::holds::holds;
 use crate::set::helpers::{Does, Row, set_of};
 use la_commit::{Fresh, NotMine, Outcome, Second, Vote, laws, own_vote};
 use la_set::UpdateSet;
@@ -113,50 +114,45 @@ fn answers_second(vote: Vote, set: &UpdateSet, outcome: Option<Outcome>) -> bool
     }
 }
 
-fn answer_firsts(rt: &impl Abort, alloc: Global, sets: &[First]) -> bool {
-    for (rows, sole) in sets {
+fn answer_firsts(rt: &impl Abort, alloc: Global) {
+    for (rows, sole) in &FIRSTS {
         let set = set_of(rt, alloc, rows);
-        if !answers_first(&set, *sole) {
-            return false;
-        }
+        holds(rt, "a first set", answers_first(&set, *sole));
     }
-    true
 }
 
-fn answer_seconds(rt: &impl Abort, alloc: Global, sets: &[AfterVote]) -> bool {
-    for (vote, rows, outcome) in sets {
+fn answer_seconds(rt: &impl Abort, alloc: Global) {
+    for (vote, rows, outcome) in &SECONDS {
         let set = set_of(rt, alloc, rows);
-        if !answers_second(*vote, &set, *outcome) {
-            return false;
-        }
+        holds(rt, "a second set", answers_second(*vote, &set, *outcome));
     }
-    true
 }
 
-#[test]
-fn a_proposal_is_not_sole(rt: HostRuntime) {
+fn a_proposal_is_not_sole() -> bool {
     let (_proposed, vote) = Fresh::new(1).propose(9);
-    assert!(rt; vote == MINE);
-}
-
-#[test]
-fn the_first_sets_are_answered(rt: HostRuntime) {
-    laws::own_votes_are_votes();
-    assert!(rt; answer_firsts(&rt, rt.alloc(), &FIRSTS));
-}
-
-#[test]
-fn the_second_sets_are_answered(rt: HostRuntime) {
-    laws::unanimous_commit();
-    laws::outcome_is_voted();
-    assert!(rt; answer_seconds(&rt, rt.alloc(), &SECONDS));
+    vote == MINE
 }
 
 // A set holds updates of replicas 0 to 7.
-#[test]
-fn no_set_has_a_vote_of_participant_8(rt: HostRuntime) {
-    let set = set_of(&rt, rt.alloc(), &[(7, 1, Does::Vote(9, false))]);
+fn no_set_has_a_vote_of_participant_8(rt: &impl Abort, alloc: Global) {
+    let set = set_of(rt, alloc, &[(7, 1, Does::Vote(9, false))]);
+    holds(rt, "the vote of 7", own_vote(&set, 7) == Some(MINE));
+    holds(rt, "none of 8", own_vote(&set, 8) == None);
+    holds(rt, "not taken by 8", is_not_taken(&set));
+}
+
+fn is_not_taken(set: &UpdateSet) -> bool {
     let (proposed, _vote) = Fresh::new(8).propose(9);
-    assert!(rt; own_vote(&set, 7) == Some(MINE) && own_vote(&set, 8) == None);
-    assert!(rt; proposed.first(&set).is_err());
+    proposed.first(set).is_err()
+}
+
+#[test]
+fn participants(rt: HostRuntime) {
+    laws::own_votes_are_votes();
+    laws::unanimous_commit();
+    laws::outcome_is_voted();
+    holds(&rt, "a proposal is not sole", a_proposal_is_not_sole());
+    answer_firsts(&rt, rt.alloc());
+    answer_seconds(&rt, rt.alloc());
+    no_set_has_a_vote_of_participant_8(&rt, rt.alloc());
 }

@@ -1,4 +1,5 @@
 // A counter at the edge of its sums, which no shelf reaches: a set has fewer updates.
+use crate::holds::holds;
 use crate::set::helpers::id;
 use la_object::{Answer, Counter, Query, Replicated};
 use la_set::{Op, Update};
@@ -36,7 +37,10 @@ fn is_full(counter: &Counter) -> bool {
 #[test]
 fn a_counter_has_room_up_to_its_edge(rt: HostRuntime) {
     let mut counter = Counter::new(rt.alloc());
-    assert!(rt; absorbs(&mut counter, 4_294_967_295, 1_073_741_824));
-    assert!(rt; absorbs(&mut counter, 1_073_741_824, 1) && totals(&counter, FILLED));
-    assert!(rt; absorbs(&mut counter, 1, 1) && is_full(&counter));
+    let many = absorbs(&mut counter, 4_294_967_295, 1_073_741_824);
+    holds(&rt, "the largest", many);
+    holds(&rt, "2^30 more", absorbs(&mut counter, 1_073_741_824, 1));
+    holds(&rt, "the total", totals(&counter, FILLED));
+    holds(&rt, "1 more", absorbs(&mut counter, 1, 1));
+    holds(&rt, "no room", is_full(&counter));
 }

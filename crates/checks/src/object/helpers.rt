@@ -1,6 +1,7 @@
 // Updates of several objects from tables, boxed objects, and what a shelf answers. A call that was
 // refused for want of memory is made again, after a look at what stands: so the tests pass with
 // every single allocation failing too.
+use crate::holds::holds;
 use crate::set::helpers::{Does, update_of as update_of_1};
 use la_object::{AbsorbError, Answer, Counter, MaxRegister, Query, Replicated, Shelf, ShelfError};
 use la_orset::OrSet;
@@ -17,11 +18,18 @@ pub fn update_of(rt: &impl Abort, alloc: Global, row: &Row) -> Update {
     Update { id, object, op }
 }
 
+fn pushes(rt: &impl Abort, alloc: Global, set: &mut UpdateSet, row: &Row) -> bool {
+    set.push(update_of(rt, alloc, row)).is_ok()
+}
+
+fn pushes_in_two(rt: &impl Abort, alloc: Global, set: &mut UpdateSet, row: &Row) -> bool {
+    pushes(rt, alloc, set, row) || pushes(rt, alloc, set, row)
+}
+
 pub fn set_of(rt: &impl Abort, alloc: Global, rows: &[Row]) -> UpdateSet {
     let mut set = UpdateSet::new(alloc);
     for row in rows {
-        let first = set.push(update_of(rt, alloc, row)).is_ok();
-        assert!(rt; first || set.push(update_of(rt, alloc, row)).is_ok());
+        holds(rt, "a push", pushes_in_two(rt, alloc, &mut set, row));
     }
     set
 }
@@ -103,12 +111,13 @@ pub fn add<B: ByName>(
     number: u16,
     made: Made,
 ) -> Result<(), ShelfError> {
-    let first = shelf.add(number, object_of(rt, alloc, made));
-    if first != Err(ShelfError::Memory) {
-        return first;
+    match shelf.add(number, object_of(rt, alloc, made)) {
+        Err(ShelfError::Memory) => {
+            holds(rt, "a refusal leaves the number free", !shelf.has(number));
+            shelf.add(number, object_of(rt, alloc, made))
+        }
+        first => first,
     }
-    assert!(rt; !shelf.has(number));
-    shelf.add(number, object_of(rt, alloc, made))
 }
 
 // ## What a shelf does and answers
@@ -136,7 +145,11 @@ pub fn absorb<B: Replicated>(
     let before = shelf.view().len();
     match shelf.absorb(set) {
         Err(AbsorbError::Memory { done }) => {
-            assert!(rt; has_grown(shelf, before, done));
+            holds(
+                rt,
+                "a refusal says how far it came",
+                has_grown(shelf, before, done),
+            );
             match shelf.absorb(set) {
                 Ok(more) => Ok(done.saturating_add(more)),
                 refused => refused,
@@ -172,6 +185,20 @@ pub fn is_wanted(answer: &Answer, wanted: &Wanted) -> bool {
     }
 }
 
+fn answers_once<B: Replicated>(
+    shelf: &Shelf<B>,
+    number: u16,
+    query: &Query,
+    wanted: &Wanted,
+) -> bool {
+    match shelf.ask(number, query) {
+        Ok(answer) => is_wanted(&answer, wanted),
+        Err(refusal) => {
+            matches!(wanted, Wanted::NoSuchObject) && refusal == ShelfError::NoSuchObject
+        }
+    }
+}
+
 // Only a set's elements take memory.
 pub fn answers<B: Replicated>(
     shelf: &Shelf<B>,
@@ -179,15 +206,8 @@ pub fn answers<B: Replicated>(
     query: &Query,
     wanted: &Wanted,
 ) -> bool {
-    let mut first = shelf.ask(number, query);
-    if *query == Query::Items && first.is_err() {
-        first = shelf.ask(number, query);
-    }
-    match (first, wanted) {
-        (Ok(answer), wanted) => is_wanted(&answer, wanted),
-        (Err(refusal), Wanted::NoSuchObject) => refusal == ShelfError::NoSuchObject,
-        _ => false,
-    }
+    answers_once(shelf, number, query, wanted)
+        || (*query == Query::Items && answers_once(shelf, number, query, wanted))
 }
 
 pub fn totals<B: Replicated>(shelf: &Shelf<B>, number: u16, total: i64) -> bool {

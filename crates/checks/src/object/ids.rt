@@ -2,6 +2,7 @@
 // out.
 ghost use Rattle.std.specs.Prelude.{◌≡◌, IfOk, OnOk, OnErr, option_copied};
 
+use crate::holds::holds;
 use crate::set::helpers::{id, tags_down};
 use la_object::{Adds, Ids};
 use la_set::{Tags, UpdateId};
@@ -153,13 +154,16 @@ fn is_new(ids: &mut Ids, id: UpdateId) -> bool {
     ids.is_empty() && insert(ids, id) == Ok(true)
 }
 
-#[test]
-fn an_id_is_new_once(rt: HostRuntime) {
-    let mut ids = Ids::new(rt.alloc());
-    assert!(rt; is_new(&mut ids, id(0, 1)));
-    assert!(rt; insert(&mut ids, id(0, 1)) == Ok(false) && ids.has(id(0, 1)));
+fn is_old(ids: &mut Ids, id: UpdateId) -> bool {
+    insert(ids, id) == Ok(false) && ids.has(id)
+}
+
+fn an_id_is_new_once(rt: &impl Abort, alloc: Global) {
+    let mut ids = Ids::new(alloc);
+    holds(rt, "it is new", is_new(&mut ids, id(0, 1)));
+    holds(rt, "it is old", is_old(&mut ids, id(0, 1)));
     ids.remove(id(0, 1));
-    assert!(rt; is_new(&mut ids, id(0, 1)));
+    holds(rt, "it is new again", is_new(&mut ids, id(0, 1)));
 }
 
 // Whether the ids have 7.5, and the ends of 7.1 to 7.64 as it is said.
@@ -172,10 +176,17 @@ fn takes_all(ids: &mut Ids, tags: &Tags) -> bool {
     ids.insert_all(tags).is_ok() || (has_ends(ids, false) && ids.insert_all(tags).is_ok())
 }
 
+fn all_or_none_of_many_ids(rt: &impl Abort, alloc: Global) {
+    let tags = tags_down(rt, alloc, 7, 64);
+    let mut ids = Ids::new(alloc);
+    let one = insert(&mut ids, id(7, 5));
+    holds(rt, "one id", one.is_ok());
+    holds(rt, "all or none", takes_all(&mut ids, &tags));
+    holds(rt, "all", has_ends(&ids, true));
+}
+
 #[test]
-fn all_or_none_of_many_ids(rt: HostRuntime) {
-    let tags = tags_down(&rt, rt.alloc(), 7, 64);
-    let mut ids = Ids::new(rt.alloc());
-    assert!(rt; insert(&mut ids, id(7, 5)).is_ok());
-    assert!(rt; takes_all(&mut ids, &tags) && has_ends(&ids, true));
+fn ids(rt: HostRuntime) {
+    an_id_is_new_once(&rt, rt.alloc());
+    all_or_none_of_many_ids(&rt, rt.alloc());
 }

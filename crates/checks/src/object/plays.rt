@@ -1,5 +1,7 @@
 // What is done to a shelf, as tables, and what comes of it. Its objects are boxes of both kinds.
 use super::helpers::{ByName, Made, Object, Row, Wanted, absorb, add, answers, set_of};
+use crate::holds::holds;
+use crate::orset::shelves::SETS_AND_A_COUNTER;
 use crate::set::helpers::{Does, id};
 use la_object::{AbsorbError, Adds, Ids, Query, Replicated, Shelf, ShelfError, State};
 use std::alloc::Global;
@@ -48,19 +50,19 @@ fn kept(adds: &Adds, gone: &Ids, ids: &[(u8, u32, Option<u64>, bool)]) -> bool {
     true
 }
 
-// Only retiring a set takes memory. After a refusal it stands there still.
-fn retires<B: Replicated>(shelf: &mut Shelf<B>, number: u16, was: &Was) -> bool {
-    let mut first = shelf.retire(number);
-    if first.is_err() && shelf.has(number) {
-        first = shelf.retire(number);
-    }
-    match (first, was) {
+fn retires_once<B: Replicated>(shelf: &mut Shelf<B>, number: u16, was: &Was) -> bool {
+    match (shelf.retire(number), was) {
         (Ok(State::Counter { up, down }), Was::Counter(ups, downs)) => up == *ups && down == *downs,
         (Ok(State::Max { largest }), Was::Register(due)) => largest == *due,
         (Ok(State::Set { adds, gone }), Was::Set(ids)) => kept(&adds, &gone, ids),
         (Err(ShelfError::NoSuchObject), Was::NoObject) => true,
         _ => false,
     }
+}
+
+// Only retiring a set takes memory. After a refusal it stands there still.
+fn retires<B: Replicated>(shelf: &mut Shelf<B>, number: u16, was: &Was) -> bool {
+    retires_once(shelf, number, was) || (shelf.has(number) && retires_once(shelf, number, was))
 }
 
 fn lists<B: Replicated>(shelf: &Shelf<B>, numbers: &[u16]) -> bool {
@@ -90,7 +92,8 @@ fn absorbs<B: ByName>(
     rows: &[Row],
     wanted: &Result<u64, AbsorbError>,
 ) -> bool {
-    absorb(rt, shelf, &set_of(rt, alloc, rows)) == *wanted
+    let set = set_of(rt, alloc, rows);
+    absorb(rt, shelf, &set) == *wanted
 }
 
 fn comes_true<B: ByName>(rt: &impl Abort, alloc: Global, shelf: &mut Shelf<B>, act: &Act) -> bool {
@@ -104,25 +107,15 @@ fn comes_true<B: ByName>(rt: &impl Abort, alloc: Global, shelf: &mut Shelf<B>, a
     }
 }
 
-// How many acts come true, before one does not.
-fn come_true<B: ByName>(
-    rt: &impl Abort,
-    alloc: Global,
-    shelf: &mut Shelf<B>,
-    acts: &[Act],
-) -> usize {
-    for (place, act) in acts.iter().enumerate() {
-        if !comes_true(rt, alloc, shelf, act) {
-            return place;
-        }
+fn come_true<B: ByName>(rt: &impl Abort, alloc: Global, shelf: &mut Shelf<B>, acts: &[Act]) {
+    for act in acts {
+        holds(rt, "an act", comes_true(rt, alloc, shelf, act));
     }
-    acts.len()
 }
 
 pub fn play<R: Abort, B: ByName>(rt: &R, alloc: Global, acts: &[Act]) {
     let mut shelf: Shelf<B> = Shelf::new(alloc);
-    let true_acts = come_true(rt, alloc, &mut shelf, acts);
-    assert!(rt; true_acts == acts.len(), "act {true_acts}");
+    come_true(rt, alloc, &mut shelf, acts);
 }
 
 // ## A counter
@@ -155,11 +148,6 @@ const A_COUNTER: [Act; 22] = [
     Act::Answers(0, Query::Largest, Wanted::Largest(0)),
     Act::Lists(&[1, 0]),
 ];
-
-#[test]
-fn a_counter_absorbs_each_update_once(rt: HostRuntime) {
-    play::<_, Object>(&rt, rt.alloc(), &A_COUNTER);
-}
 
 // ## Several objects
 
@@ -202,11 +190,6 @@ const FOUR_OBJECTS: [Act; 14] = [
     Act::Lists(&[7, 5, 4]),
 ];
 
-#[test]
-fn objects_are_told_apart_by_number(rt: HostRuntime) {
-    play::<_, Object>(&rt, rt.alloc(), &FOUR_OBJECTS);
-}
-
 // ## Queries of other kinds
 
 const FOREIGN: [Act; 14] = [
@@ -226,7 +209,28 @@ const FOREIGN: [Act; 14] = [
     Act::Observes(1, Err(ShelfError::NoSuchObject)),
 ];
 
+// ## Each table in a function of its own: one that has several takes the front end long
+
+fn a_counter_absorbs_each_update_once(rt: &impl Abort, alloc: Global) {
+    play::<_, Object>(rt, alloc, &A_COUNTER);
+}
+
+fn objects_are_told_apart_by_number(rt: &impl Abort, alloc: Global) {
+    play::<_, Object>(rt, alloc, &FOUR_OBJECTS);
+}
+
+fn queries_of_other_kinds_are_foreign(rt: &impl Abort, alloc: Global) {
+    play::<_, Object>(rt, alloc, &FOREIGN);
+}
+
+fn sets_stand_beside_a_counter(rt: &impl Abort, alloc: Global) {
+    play::<_, Object>(rt, alloc, &SETS_AND_A_COUNTER);
+}
+
 #[test]
-fn queries_of_other_kinds_are_foreign(rt: HostRuntime) {
-    play::<_, Object>(&rt, rt.alloc(), &FOREIGN);
+fn shelves(rt: HostRuntime) {
+    a_counter_absorbs_each_update_once(&rt, rt.alloc());
+    objects_are_told_apart_by_number(&rt, rt.alloc());
+    queries_of_other_kinds_are_foreign(&rt, rt.alloc());
+    sets_stand_beside_a_counter(&rt, rt.alloc());
 }

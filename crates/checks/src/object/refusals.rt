@@ -1,5 +1,6 @@
 // Objects of a test's own: they refuse to absorb once, and share a count of those that are alive.
 use super::helpers::{Row, absorb, set_of, stops, totals};
+use crate::holds::holds;
 use crate::set::helpers::Does;
 use la_object::{Answer, Counter, Kind, ObserveError, Query, Replicated, Shelf, ShelfError, State};
 use la_set::{Tags, Update, UpdateSet};
@@ -72,11 +73,31 @@ fn counter(rt: &impl Abort, alloc: Global, left: u32, alive: &Arc<()>) -> Balkin
     }
 }
 
-// Adds a counter that never refuses, and looks that a refusal leaves the number free.
-fn add(rt: &impl Abort, alloc: Global, shelf: &mut Counters, number: u16, all: &Arc<()>) {
-    if shelf.add(number, counter(rt, alloc, NEVER, all)).is_err() {
-        let free = !shelf.has(number);
-        assert!(rt; free && shelf.add(number, counter(rt, alloc, NEVER, all)).is_ok());
+fn adds(
+    rt: &impl Abort,
+    alloc: Global,
+    shelf: &mut Counters,
+    number: u16,
+    left: u32,
+    all: &Arc<()>,
+) -> Result<(), ShelfError> {
+    shelf.add(number, counter(rt, alloc, left, all))
+}
+
+// Adds a counter that refuses after so many updates, and looks that a refusal leaves the number
+// free.
+fn add(
+    rt: &impl Abort,
+    alloc: Global,
+    shelf: &mut Counters,
+    number: u16,
+    left: u32,
+    all: &Arc<()>,
+) {
+    if adds(rt, alloc, shelf, number, left, all).is_err() {
+        holds(rt, "a refusal leaves the number free", !shelf.has(number));
+        let added = adds(rt, alloc, shelf, number, left, all);
+        holds(rt, "an addition", added.is_ok());
     }
 }
 
@@ -99,9 +120,7 @@ const REFUSED_AT: [RefusedAt; 3] = [(0, 0, 0, 4), (1, 2, 1, 2), (2, 3, 101, 1)];
 // A shelf with a counter that refuses after so many updates.
 fn shelf_of(rt: &impl Abort, alloc: Global, left: u32, all: &Arc<()>) -> Counters {
     let mut shelf = Shelf::new(alloc);
-    if shelf.add(1, counter(rt, alloc, left, all)).is_err() {
-        assert!(rt; shelf.add(1, counter(rt, alloc, left, all)).is_ok());
-    }
+    add(rt, alloc, &mut shelf, 1, left, all);
     shelf
 }
 
@@ -112,72 +131,92 @@ fn stops_at(shelf: &mut Counters, set: &UpdateSet, length: usize) -> bool {
     first && second && shelf.view().len() == length
 }
 
-// Whether it stops as this row says, and then absorbs the rest.
-fn goes_on(rt: &impl Abort, shelf: &mut Counters, set: &UpdateSet, row: &RefusedAt) -> bool {
-    let (_, length, total, more) = *row;
-    stops_at(shelf, set, length)
-        && totals(shelf, 1, total)
-        && absorb(rt, shelf, set) == Ok(more)
-        && totals(shelf, 1, -899)
-        && shelf.view().same(set)
+fn has_all(shelf: &Counters, set: &UpdateSet) -> bool {
+    totals(shelf, 1, -899) && shelf.view().same(set)
 }
 
-fn is_absorbed_later(rt: &impl Abort, alloc: Global, set: &UpdateSet, row: &RefusedAt) -> bool {
+// It stops as this row says, and then absorbs the rest.
+fn goes_on(rt: &impl Abort, shelf: &mut Counters, set: &UpdateSet, row: &RefusedAt) {
+    let (_, length, total, more) = *row;
+    holds(rt, "it stops", stops_at(shelf, set, length));
+    holds(rt, "the total then", totals(shelf, 1, total));
+    holds(rt, "it goes on", absorb(rt, shelf, set) == Ok(more));
+    holds(rt, "it has all", has_all(shelf, set));
+}
+
+fn is_absorbed_later(rt: &impl Abort, alloc: Global, set: &UpdateSet, row: &RefusedAt) {
     let all = alive(rt, alloc);
     let mut shelf = shelf_of(rt, alloc, row.0, &all);
-    goes_on(rt, &mut shelf, set, row)
+    goes_on(rt, &mut shelf, set, row);
 }
 
-#[test]
-fn a_refused_update_is_absorbed_later(rt: HostRuntime) {
-    let set = set_of(&rt, rt.alloc(), FOUR);
+fn a_refused_update_is_absorbed_later(rt: &impl Abort, alloc: Global) {
+    let set = set_of(rt, alloc, FOUR);
     for row in &REFUSED_AT {
-        assert!(rt; is_absorbed_later(&rt, rt.alloc(), &set, row), "{}", row.0);
+        is_absorbed_later(rt, alloc, &set, row);
     }
 }
 
-fn absorbs_four(rt: &impl Abort, alloc: Global, shelf: &mut Counters) -> bool {
+fn absorbs_four(rt: &impl Abort, alloc: Global, shelf: &mut Counters) {
     let set = set_of(rt, alloc, FOUR);
-    absorb(rt, shelf, &set) == Ok(4)
+    holds(rt, "four updates", absorb(rt, shelf, &set) == Ok(4));
 }
 
-// Whether a counter that refuses after so many updates is not added, and dropped.
-fn refuses(rt: &impl Abort, alloc: Global, shelf: &mut Counters, left: u32, all: &Arc<()>) -> bool {
-    shelf.add(1, counter(rt, alloc, left, all)) == Err(ShelfError::Memory)
-        && !shelf.has(1)
-        && Arc::strong_count(all) == 1
+// A counter that refuses after so many updates is not added, and dropped.
+fn refuses(rt: &impl Abort, alloc: Global, shelf: &mut Counters, left: u32, all: &Arc<()>) {
+    let added = adds(rt, alloc, shelf, 1, left, all);
+    holds(rt, "not added", added == Err(ShelfError::Memory));
+    holds(rt, "not there", !shelf.has(1));
+    holds(rt, "dropped", Arc::strong_count(all) == 1);
 }
 
 // A counter that comes later and refuses one of its updates is not added.
-#[test]
-fn a_refused_addition_is_made_later(rt: HostRuntime) {
-    let all = alive(&rt, rt.alloc());
-    let mut shelf: Counters = Shelf::new(rt.alloc());
-    assert!(rt; absorbs_four(&rt, rt.alloc(), &mut shelf));
+fn a_refused_addition_is_made_later(rt: &impl Abort, alloc: Global) {
+    let all = alive(rt, alloc);
+    let mut shelf: Counters = Shelf::new(alloc);
+    absorbs_four(rt, alloc, &mut shelf);
     for left in 0..3u32 {
-        assert!(rt; refuses(&rt, rt.alloc(), &mut shelf, left, &all), "{left}");
+        refuses(rt, alloc, &mut shelf, left, &all);
     }
-    add(&rt, rt.alloc(), &mut shelf, 1, &all);
-    assert!(rt; totals(&shelf, 1, -899));
+    add(rt, alloc, &mut shelf, 1, NEVER, &all);
+    holds(rt, "added later", totals(&shelf, 1, -899));
 }
 
 // ## Dropped once
 
-fn is_taken(rt: &impl Abort, alloc: Global, shelf: &mut Counters, all: &Arc<()>) -> bool {
-    shelf.add(1, counter(rt, alloc, 0, all)) == Err(ShelfError::Taken)
-        && Arc::strong_count(all) == 4
+fn is_taken(rt: &impl Abort, alloc: Global, shelf: &mut Counters, all: &Arc<()>) {
+    let added = adds(rt, alloc, shelf, 1, 0, all);
+    holds(rt, "taken", added == Err(ShelfError::Taken));
+    holds(rt, "dropped", Arc::strong_count(all) == 4);
 }
 
-fn drops_with_all(rt: &impl Abort, alloc: Global, all: &Arc<()>) -> bool {
+fn retires(shelf: &mut Counters, number: u16) -> bool {
+    shelf.retire(number).is_ok()
+}
+
+fn drops_with_all(rt: &impl Abort, alloc: Global, all: &Arc<()>) {
     let mut shelf: Counters = Shelf::new(alloc);
     for number in 1..=3u16 {
-        add(rt, alloc, &mut shelf, number, all);
+        add(rt, alloc, &mut shelf, number, NEVER, all);
     }
-    is_taken(rt, alloc, &mut shelf, all) && shelf.retire(2).is_ok() && Arc::strong_count(all) == 3
+    is_taken(rt, alloc, &mut shelf, all);
+    holds(rt, "retired", retires(&mut shelf, 2));
+    holds(
+        rt,
+        "the retired one is dropped",
+        Arc::strong_count(all) == 3,
+    );
+}
+
+fn objects_are_dropped_once(rt: &impl Abort, alloc: Global) {
+    let all = alive(rt, alloc);
+    drops_with_all(rt, alloc, &all);
+    holds(rt, "each is dropped once", Arc::strong_count(&all) == 1);
 }
 
 #[test]
-fn objects_are_dropped_once(rt: HostRuntime) {
-    let all = alive(&rt, rt.alloc());
-    assert!(rt; drops_with_all(&rt, rt.alloc(), &all) && Arc::strong_count(&all) == 1);
+fn objects_that_refuse(rt: HostRuntime) {
+    a_refused_update_is_absorbed_later(&rt, rt.alloc());
+    a_refused_addition_is_made_later(&rt, rt.alloc());
+    objects_are_dropped_once(&rt, rt.alloc());
 }

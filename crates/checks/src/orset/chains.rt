@@ -1,4 +1,5 @@
 // Chains: the newest first, dropped once each, and dropped whatever their length.
+use crate::holds::holds;
 use la_orset::Chain;
 use std::alloc::Global;
 use std::process::Abort;
@@ -8,8 +9,9 @@ use std::sync::Arc;
 fn push(rt: &impl Abort, alloc: Global, chain: &mut Chain<u32>, value: u32) {
     let before = chain.len();
     if chain.push_front(alloc, value).is_err() {
-        let same = chain.len() == before;
-        assert!(rt; same && chain.push_front(alloc, value).is_ok(), "{value}");
+        holds(rt, "a refusal leaves it as long", chain.len() == before);
+        let pushed = chain.push_front(alloc, value);
+        holds(rt, "a push", pushed.is_ok());
     }
 }
 
@@ -31,23 +33,22 @@ fn has_values(chain: &Chain<u32>, values: &[u32]) -> bool {
     chain.len() == values.len() && chain.nth(values.len()).is_none()
 }
 
-#[test]
-fn the_newest_comes_first(rt: HostRuntime) {
-    let three = chain_to(&rt, rt.alloc(), 3);
-    assert!(rt; three.first() == Some(&3) && has_values(&three, &[3, 2, 1]));
+fn the_newest_comes_first(rt: &impl Abort, alloc: Global) {
+    let three = chain_to(rt, alloc, 3);
+    holds(rt, "the newest", three.first() == Some(&3));
+    holds(rt, "three values", has_values(&three, &[3, 2, 1]));
 }
 
-#[test]
-fn a_new_chain_is_empty(rt: HostRuntime) {
+fn a_new_chain_is_empty(rt: &impl Abort) {
     let none = Chain::<u32>::new();
-    assert!(rt; none.first().is_none() && has_values(&none, &[]));
+    holds(rt, "no newest", none.first().is_none());
+    holds(rt, "no value", has_values(&none, &[]));
 }
 
-#[test]
-fn a_million_nodes_are_dropped(rt: HostRuntime) {
-    let chain = chain_to(&rt, rt.alloc(), 1_000_000);
-    assert!(rt; chain.len() == 1_000_000 && chain.nth(999_999) == Some(&1));
-    drop(chain);
+fn a_million_nodes_are_dropped(rt: &impl Abort, alloc: Global) {
+    let chain = chain_to(rt, alloc, 1_000_000);
+    holds(rt, "a million", chain.len() == 1_000_000);
+    holds(rt, "the oldest", chain.nth(999_999) == Some(&1));
 }
 
 // ## Dropped once
@@ -59,22 +60,35 @@ fn alive(rt: &impl Abort, alloc: Global) -> Arc<()> {
     }
 }
 
+fn pushes_one(rt: &impl Abort, alloc: Global, chain: &mut Chain<Arc<()>>, all: &Arc<()>) -> bool {
+    let one = all.clone().expect(rt, "a count has room");
+    chain.push_front(alloc, one).is_ok()
+}
+
 // A value that is refused is dropped too.
 fn push_one(rt: &impl Abort, alloc: Global, chain: &mut Chain<Arc<()>>, all: &Arc<()>) {
-    let one = all.clone().expect(rt, "a count has room");
-    if chain.push_front(alloc, one).is_err() {
-        let one = all.clone().expect(rt, "a count has room");
-        assert!(rt; chain.push_front(alloc, one).is_ok());
+    if !pushes_one(rt, alloc, chain, all) {
+        holds(rt, "a push", pushes_one(rt, alloc, chain, all));
     }
 }
 
-#[test]
-fn values_are_dropped_once(rt: HostRuntime) {
-    let all = alive(&rt, rt.alloc());
+fn hold_two(rt: &impl Abort, alloc: Global, all: &Arc<()>) {
     let mut chain = Chain::new();
-    push_one(&rt, rt.alloc(), &mut chain, &all);
-    push_one(&rt, rt.alloc(), &mut chain, &all);
-    assert!(rt; Arc::strong_count(&all) == 3);
-    drop(chain);
-    assert!(rt; Arc::strong_count(&all) == 1);
+    push_one(rt, alloc, &mut chain, all);
+    push_one(rt, alloc, &mut chain, all);
+    holds(rt, "both are there", Arc::strong_count(all) == 3);
+}
+
+fn values_are_dropped_once(rt: &impl Abort, alloc: Global) {
+    let all = alive(rt, alloc);
+    hold_two(rt, alloc, &all);
+    holds(rt, "both are dropped", Arc::strong_count(&all) == 1);
+}
+
+#[test]
+fn chains(rt: HostRuntime) {
+    the_newest_comes_first(&rt, rt.alloc());
+    a_new_chain_is_empty(&rt);
+    a_million_nodes_are_dropped(&rt, rt.alloc());
+    values_are_dropped_once(&rt, rt.alloc());
 }

@@ -1,11 +1,12 @@
 // What a set absorbs, as tables, and what it answers. Updates come in any order here: a shelf would
 // bring them in the order of ids. What was refused for want of memory is done again, after a look at
 // what stands.
+use crate::holds::holds;
 use crate::object::helpers::{Wanted, is_wanted};
 use crate::set::helpers::{Does, Row, id, update_of};
 use la_object::{Answer, ObserveError, Query, Replicated};
 use la_orset::OrSet;
-use la_set::Tags;
+use la_set::{Tags, Update};
 use std::alloc::Global;
 use std::process::Abort;
 
@@ -27,14 +28,17 @@ fn size_and_nine(set: &OrSet) -> Option<(u64, bool)> {
 // Absorbs an update, and looks that a refusal leaves the set as it was.
 pub fn absorbs(rt: &impl Abort, alloc: Global, set: &mut OrSet, row: &Row) -> bool {
     let update = update_of(rt, alloc, row);
+    absorbs_again(set, &update)
+}
+
+fn absorbs_once(set: &mut OrSet, update: &Update) -> bool {
+    set.has_room() && set.absorb(update).is_ok()
+}
+
+fn absorbs_again(set: &mut OrSet, update: &Update) -> bool {
     let before = size_and_nine(set);
-    if set.has_room() && set.absorb(&update).is_ok() {
-        return true;
-    }
-    before.is_some()
-        && size_and_nine(set) == before
-        && set.has_room()
-        && set.absorb(&update).is_ok()
+    absorbs_once(set, update)
+        || (before.is_some() && size_and_nine(set) == before && absorbs_once(set, update))
 }
 
 fn answers(set: &OrSet, query: &Query, wanted: &Wanted) -> bool {
@@ -63,15 +67,18 @@ fn observes(set: &OrSet, element: u64, ids: &[(u8, u32)]) -> bool {
     tags.len() == ids.len()
 }
 
+fn comes_true(rt: &impl Abort, alloc: Global, set: &mut OrSet, act: &Act) -> bool {
+    match act {
+        Act::Absorbs(row) => absorbs(rt, alloc, set, row),
+        Act::Answers(query, wanted) => answers(set, query, wanted),
+        Act::Tags(element, ids) => observes(set, *element, ids),
+    }
+}
+
 fn play(rt: &impl Abort, alloc: Global, acts: &[Act]) {
     let mut set = OrSet::new(alloc);
-    for (place, act) in acts.iter().enumerate() {
-        let comes_true = match act {
-            Act::Absorbs(row) => absorbs(rt, alloc, &mut set, row),
-            Act::Answers(query, wanted) => answers(&set, query, wanted),
-            Act::Tags(element, ids) => observes(&set, *element, ids),
-        };
-        assert!(rt; comes_true, "act {place}");
+    for act in acts {
+        holds(rt, "an act", comes_true(rt, alloc, &mut set, act));
     }
 }
 
@@ -90,11 +97,6 @@ const REMOVED_BEFORE: [Act; 10] = [
     Act::Answers(Query::Items, Wanted::Items(&[9])),
 ];
 
-#[test]
-fn a_remove_may_come_before_its_put(rt: HostRuntime) {
-    play(&rt, rt.alloc(), &REMOVED_BEFORE);
-}
-
 // ## Several Puts of one element
 
 const PUT_THRICE: [Act; 13] = [
@@ -112,11 +114,6 @@ const PUT_THRICE: [Act; 13] = [
     Act::Answers(Query::Items, Wanted::Items(&[])),
     Act::Tags(9, &[]),
 ];
-
-#[test]
-fn an_element_stays_while_one_put_is_live(rt: HostRuntime) {
-    play(&rt, rt.alloc(), &PUT_THRICE);
-}
 
 // ## What changes nothing
 
@@ -141,11 +138,6 @@ const NOTHING: [Act; 16] = [
     Act::Answers(Query::Largest, Wanted::Foreign),
 ];
 
-#[test]
-fn other_updates_change_nothing(rt: HostRuntime) {
-    play(&rt, rt.alloc(), &NOTHING);
-}
-
 // ## Elements are listed once, in ascending order
 
 const MOST: u64 = 18_446_744_073_709_551_615;
@@ -166,7 +158,28 @@ const ELEMENTS: [Act; 13] = [
     Act::Answers(Query::Items, Wanted::Items(&[MOST])),
 ];
 
+// ## Each table in a function of its own: one that has several takes the front end long
+
+fn a_remove_may_come_before_its_put(rt: &impl Abort, alloc: Global) {
+    play(rt, alloc, &REMOVED_BEFORE);
+}
+
+fn an_element_stays_while_one_put_is_live(rt: &impl Abort, alloc: Global) {
+    play(rt, alloc, &PUT_THRICE);
+}
+
+fn other_updates_change_nothing(rt: &impl Abort, alloc: Global) {
+    play(rt, alloc, &NOTHING);
+}
+
+fn elements_are_listed_in_order(rt: &impl Abort, alloc: Global) {
+    play(rt, alloc, &ELEMENTS);
+}
+
 #[test]
-fn elements_are_listed_in_order(rt: HostRuntime) {
-    play(&rt, rt.alloc(), &ELEMENTS);
+fn sets(rt: HostRuntime) {
+    a_remove_may_come_before_its_put(&rt, rt.alloc());
+    an_element_stays_while_one_put_is_live(&rt, rt.alloc());
+    other_updates_change_nothing(&rt, rt.alloc());
+    elements_are_listed_in_order(&rt, rt.alloc());
 }

@@ -1,6 +1,6 @@
 // Sets on a shelf of boxes, beside a counter.
-use crate::object::helpers::{Made, Object, Row, Wanted};
-use crate::object::plays::{Act, Was, play};
+use crate::object::helpers::{Made, Row, Wanted};
+use crate::object::plays::{Act, Was};
 use crate::set::helpers::Does;
 use la_object::{Query, ShelfError};
 
@@ -16,7 +16,7 @@ const OF_THREE: &[Row] = &[
 ];
 
 // The second set comes after its updates, as the first does where it comes again.
-const SETS_AND_A_COUNTER: [Act; 19] = [
+pub const SETS_AND_A_COUNTER: [Act; 19] = [
     Act::Adds(1, Made::Set, Ok(())),
     Act::Adds(2, Made::Counter, Ok(())),
     Act::Absorbs(OF_THREE, Ok(7)),
@@ -52,8 +52,3 @@ const SETS_AND_A_COUNTER: [Act; 19] = [
     Act::Adds(1, Made::Set, Ok(())),
     Act::Answers(1, Query::Size, Wanted::Size(1)),
 ];
-
-#[test]
-fn sets_stand_beside_a_counter(rt: HostRuntime) {
-    play::<_, Object>(&rt, rt.alloc(), &SETS_AND_A_COUNTER);
-}

@@ -4,6 +4,7 @@ ghost use Rattle.std.specs.Prelude.{◌≡◌, option_copied};
 ghost use Rattle.la_proposer.specs.Tally.{reply_with};
 
 use crate::given::{Given, set_of};
+use crate::holds::holds;
 use la_acceptor::Reply;
 use la_proposer::{Ballot, Heard, Proposer, ProposerError, Status, Verdict, Votes};
 use la_set::{Op, UpdateSet};
@@ -41,6 +42,7 @@ pub struct Step(
 );
 
 /// A group's votes, which of its replicas the proposer is, its cap, and its inputs.
+#[derive(Clone, Copy)]
 pub struct Play {
     pub name: &'static str,
     pub votes: &'static [u16],
@@ -53,12 +55,8 @@ pub struct Play {
 pub fn plays(rt: &impl Abort, alloc: Global, play: &Play) {
     let votes = Votes::new(play.votes).expect(rt, "votes of a group");
     let mut proposer = proposer_of(rt, alloc, play, votes);
-    for (place, step) in play.steps.iter().enumerate() {
-        assert!(rt;
-            goes_so(rt, alloc, &mut proposer, step),
-            "{}: {place}",
-            play.name
-        );
+    for step in play.steps {
+        holds(rt, play.name, goes_so(rt, alloc, &mut proposer, step));
     }
 }
 
@@ -85,13 +83,23 @@ fn tells(rt: &impl Abort, alloc: Global, proposer: &Proposer, step: &Step) -> bo
         Input::Submits(_) => admits_as(proposer.admit_submission(), step.1),
         Input::Replies(from, ballot, refused) => {
             let reply = reply_of(rt, alloc, *refused);
-            let verdict = proposer.verdict(*from, *ballot, refusal_of(&reply));
-            let admitted = proposer.admit_reply(*from, *ballot, refusal_of(&reply));
-            admits_as(admitted.map(|_| ()), step.1)
-                && is_verdict(&verdict, step.1)
-                && proposer.counts(*from, *ballot) == verdict.is_some()
+            tells_of(proposer, *from, *ballot, refusal_of(&reply), step.1)
         }
     }
+}
+
+fn tells_of(
+    proposer: &Proposer,
+    from: u8,
+    ballot: u32,
+    refused: Option<&UpdateSet>,
+    outcome: Outcome,
+) -> bool {
+    let verdict = proposer.verdict(from, ballot, refused);
+    let admitted = proposer.admit_reply(from, ballot, refused);
+    admits_as(admitted.map(|_| ()), outcome)
+        && is_verdict(&verdict, outcome)
+        && proposer.counts(from, ballot) == verdict.is_some()
 }
 
 fn admits_as(admitted: Result<(), ProposerError>, outcome: Outcome) -> bool {
@@ -121,12 +129,22 @@ fn hears(rt: &impl Abort, alloc: Global, proposer: &mut Proposer, input: &Input)
 
 fn hears_once(rt: &impl Abort, alloc: Global, proposer: &mut Proposer, input: &Input) -> Outcome {
     match input {
-        Input::Submits(by) => opened(&proposer.submit(1, Op::Inc(*by))),
+        Input::Submits(by) => submits(proposer, *by),
         Input::Replies(from, ballot, refused) => {
             let reply = reply_of(rt, alloc, *refused);
-            heard(&proposer.reply(*from, *ballot, reply))
+            replies(proposer, *from, *ballot, reply)
         }
     }
+}
+
+fn submits(proposer: &mut Proposer, by: u32) -> Outcome {
+    let answer = proposer.submit(1, Op::Inc(by));
+    opened(&answer)
+}
+
+fn replies(proposer: &mut Proposer, from: u8, ballot: u32, reply: Reply) -> Outcome {
+    let answer = proposer.reply(from, ballot, reply);
+    heard(&answer)
 }
 
 // The set that a reply refuses an offer with, if it does.
@@ -149,11 +167,15 @@ fn reply_of(rt: &impl Abort, alloc: Global, refused: Option<&[Given]>) -> Reply 
 // Whether this is what stands after a step.
 fn stands(rt: &impl Abort, alloc: Global, proposer: &Proposer, step: &Step) -> bool {
     let set = set_of(rt, alloc, step.2);
-    let status = match step.3 {
+    has(proposer, &set, step.3, step.4)
+}
+
+fn has(proposer: &Proposer, set: &UpdateSet, open: Option<u32>, waiting: u32) -> bool {
+    let status = match open {
         None => Status::Idle,
         Some(number) => Status::Asking(number),
     };
-    proposer.status() == status && proposer.buffered() == step.4 && proposer.updates().same(&set)
+    proposer.status() == status && proposer.buffered() == waiting && proposer.updates().same(set)
 }
 
 fn opened(answer: &Result<Option<Ballot>, ProposerError>) -> Outcome {

@@ -3,9 +3,12 @@ use super::plays::Input::{Replies, Submits};
 use super::plays::Outcome::{Counted, Ignored, Learnt, Opened, Refined, Refused, Waits};
 use super::plays::{Play, Step, plays};
 use crate::given::Given;
+use crate::holds::holds;
 use la_proposer::ProposerError::{Clash, Full, NoSuchReplica};
 use la_proposer::{BadConfig, Votes};
 use la_set::UpdateId;
+use std::alloc::Global;
+use std::process::Abort;
 
 const OWN: &[Given] = &[(0, 1, 5)];
 
@@ -159,89 +162,123 @@ const EIGHT: &[Step] = &[
     ),
 ];
 
-const PLAYS: [Play; 7] = [
-    Play {
+// ## Each table in a function of its own: one that has several takes the front end long
+
+fn refines(rt: &impl Abort, alloc: Global) {
+    let play = Play {
         name: "refines",
         votes: &[1, 1, 1],
         own: 0,
         cap: 10,
         steps: REFINES,
-    },
-    Play {
+    };
+    plays(rt, alloc, &play);
+}
+
+fn fills(rt: &impl Abort, alloc: Global) {
+    let play = Play {
         name: "fills",
         votes: &[1, 1, 1],
         own: 1,
         cap: 3,
         steps: FILLS,
-    },
-    Play {
+    };
+    plays(rt, alloc, &play);
+}
+
+fn weighs(rt: &impl Abort, alloc: Global) {
+    let play = Play {
         name: "weighs",
         votes: &[1, 3, 1],
         own: 0,
         cap: 10,
         steps: WEIGHS,
-    },
-    Play {
+    };
+    plays(rt, alloc, &play);
+}
+
+fn early(rt: &impl Abort, alloc: Global) {
+    let play = Play {
         name: "early",
         votes: &[1, 1, 1],
         own: 0,
         cap: 10,
         steps: EARLY,
-    },
-    Play {
+    };
+    plays(rt, alloc, &play);
+}
+
+fn waits_on(rt: &impl Abort, alloc: Global) {
+    let play = Play {
         name: "waits on",
         votes: &[1, 1, 1],
         own: 0,
         cap: 2,
         steps: WAITS_ON,
-    },
-    Play {
+    };
+    plays(rt, alloc, &play);
+}
+
+fn clashes(rt: &impl Abort, alloc: Global) {
+    let play = Play {
         name: "clashes",
         votes: &[1, 1, 1],
         own: 0,
         cap: 10,
         steps: CLASHES,
-    },
-    Play {
+    };
+    plays(rt, alloc, &play);
+}
+
+fn eight(rt: &impl Abort, alloc: Global) {
+    let play = Play {
         name: "eight",
         votes: &[1; 8],
         own: 0,
         cap: 1,
         steps: EIGHT,
-    },
-];
-
-#[test]
-fn runs_come_to_what_is_worked(rt: HostRuntime) {
-    for play in &PLAYS {
-        plays(&rt, rt.alloc(), play);
-    }
+    };
+    plays(rt, alloc, &play);
 }
 
 // Whether there are so many replicas, the last of them with these votes.
-fn weighs(votes: &Votes, replicas: u8, last: (u8, u16), total: u32) -> bool {
+fn has_votes(votes: &Votes, replicas: u8, last: (u8, u16), total: u32) -> bool {
     votes.len() == replicas as usize
         && votes.of(last.0) == Some(last.1)
         && votes.of(replicas).is_none()
         && votes.total() == total
 }
 
-#[test]
-fn votes_of_a_group(rt: HostRuntime) {
-    assert!(rt; matches!(&Votes::new(&[3, 1, 2]), Ok(votes) if weighs(votes, 3, (2, 2), 6)));
-    assert!(rt; matches!(&Votes::new(&[1000; 8]), Ok(votes) if weighs(votes, 8, (7, 1000), 8000)));
-    assert!(rt; weighs(&Votes::one_each(8), 8, (7, 1), 8));
+fn are_of(votes: &[u16], replicas: u8, last: (u8, u16), total: u32) -> bool {
+    match Votes::new(votes) {
+        Ok(votes) => has_votes(&votes, replicas, last, total),
+        Err(BadConfig) => false,
+    }
 }
 
 const NO_GROUPS: [&[u16]; 4] = [&[], &[1, 0], &[1001], &[1; 9]];
 
 #[test]
-fn votes_of_no_group(rt: HostRuntime) {
+fn proposers(rt: HostRuntime) {
+    refines(&rt, rt.alloc());
+    fills(&rt, rt.alloc());
+    weighs(&rt, rt.alloc());
+    early(&rt, rt.alloc());
+    waits_on(&rt, rt.alloc());
+    clashes(&rt, rt.alloc());
+    eight(&rt, rt.alloc());
+    holds(&rt, "three replicas", are_of(&[3, 1, 2], 3, (2, 2), 6));
+    holds(
+        &rt,
+        "the most votes",
+        are_of(&[1000; 8], 8, (7, 1000), 8000),
+    );
+    holds(
+        &rt,
+        "a vote each",
+        has_votes(&Votes::one_each(8), 8, (7, 1), 8),
+    );
     for votes in &NO_GROUPS {
-        assert!(rt;
-            matches!(Votes::new(votes), Err(BadConfig)),
-            "{} votes",
-            votes.len()
-        );
+        holds(&rt, "no group", Votes::new(votes).is_err());
     }
 }

@@ -1,4 +1,5 @@
 // A proposer whose ballots are spent.
+use crate::holds::holds;
 use la_acceptor::Reply;
 use la_proposer::{Heard, MAX_BALLOTS, Proposer, ProposerError, Status, Votes};
 use la_set::{Op, UpdateSet};
@@ -6,6 +7,10 @@ use std::alloc::Global;
 
 fn opens(proposer: &mut Proposer) -> bool {
     matches!(&proposer.submit(1, Op::Mark), Ok(Some(ballot)) if ballot.number == 1)
+}
+
+fn opens_again(proposer: &mut Proposer) -> bool {
+    opens(proposer) || opens(proposer)
 }
 
 fn refines(alloc: Global, proposer: &mut Proposer, number: u32) -> bool {
@@ -36,9 +41,14 @@ fn is_spent(alloc: Global, proposer: &mut Proposer) -> bool {
 
 #[test]
 fn ballots_are_spent(rt: HostRuntime) {
-    let alloc = rt.alloc();
-    let mut proposer = Proposer::new(alloc, 1, 0, 1, Votes::one_each(1));
-    assert!(rt; opens(&mut proposer) || opens(&mut proposer));
-    assert!(rt; refines_all(alloc, &mut proposer));
-    assert!(rt; is_spent(alloc, &mut proposer) && proposer.status() == Status::Asking(MAX_BALLOTS));
+    let mut proposer = Proposer::new(rt.alloc(), 1, 0, 1, Votes::one_each(1));
+    holds(&rt, "the first ballot", opens_again(&mut proposer));
+    holds(&rt, "the others", refines_all(rt.alloc(), &mut proposer));
+    holds(&rt, "all are spent", is_spent(rt.alloc(), &mut proposer));
+    let status = proposer.status();
+    holds(
+        &rt,
+        "the last is open",
+        status == Status::Asking(MAX_BALLOTS),
+    );
 }

@@ -1,6 +1,7 @@
 // Plays a table of inputs at one replica. Each call is made again where memory was refused, after a
 // look at what stands: so the tests pass with every single allocation failing too.
 use crate::given::{Given, set_of};
+use crate::holds::holds;
 use la_acceptor::Reply;
 use la_proposer::{Ballot, Votes};
 use la_replica::{Body, Mail, Message, Out, Replica, ReplicaError, Said};
@@ -50,6 +51,7 @@ pub struct Step(
 );
 
 /// Inputs of replica 0 of three with one vote each, a cap of 3 and one adopt-commit object.
+#[derive(Clone, Copy)]
 pub struct Play {
     pub name: &'static str,
     pub steps: &'static [Step],
@@ -58,10 +60,13 @@ pub struct Play {
 /// Plays a table at one replica.
 pub fn plays(rt: &impl Abort, alloc: Global, play: &Play) {
     let mut replica = fresh(rt, alloc);
-    for (place, step) in play.steps.iter().enumerate() {
-        let goes_so = comes_to(rt, alloc, &mut replica, step) && stands(rt, alloc, &replica, step);
-        assert!(rt; goes_so, "{}: {place}", play.name);
+    for step in play.steps {
+        holds(rt, play.name, goes_so(rt, alloc, &mut replica, step));
     }
+}
+
+fn goes_so(rt: &impl Abort, alloc: Global, replica: &mut Replica, step: &Step) -> bool {
+    comes_to(rt, alloc, replica, step) && stands(rt, alloc, replica, step)
 }
 
 fn fresh(rt: &impl Abort, alloc: Global) -> Replica {
@@ -73,11 +78,20 @@ fn fresh(rt: &impl Abort, alloc: Global) -> Replica {
 
 // Whether a step's input comes to what the step says.
 fn comes_to(rt: &impl Abort, alloc: Global, replica: &mut Replica, step: &Step) -> bool {
-    let answer = match message_of(rt, alloc, &step.0) {
-        None => submit(rt, replica, instance_of(&step.0)),
-        Some(message) => receive(rt, replica, &message),
-    };
+    let answer = answer(rt, alloc, replica, &step.0);
     is_said(&answer, step.1) && sends(&answer, step.2)
+}
+
+fn answer(
+    rt: &impl Abort,
+    alloc: Global,
+    replica: &mut Replica,
+    input: &Input,
+) -> Result<Out, ReplicaError> {
+    match message_of(rt, alloc, input) {
+        None => submit(rt, replica, instance_of(input)),
+        Some(message) => receive(rt, replica, &message),
+    }
 }
 
 fn instance_of(input: &Input) -> u8 {
@@ -88,41 +102,33 @@ fn instance_of(input: &Input) -> u8 {
 }
 
 fn message_of(rt: &impl Abort, alloc: Global, input: &Input) -> Option<Message> {
-    Some(match input {
-        Input::Submits(_) => return None,
+    match input {
+        Input::Submits(_) => None,
         Input::Offer(instance, from, ballot, updates) => {
-            to_0(
-                *instance,
-                *from,
-                *ballot,
-                Body::Offer(set_of(rt, alloc, updates)),
-            )
+            let body = Body::Offer(set_of(rt, alloc, updates));
+            Some(to_0(*instance, *from, *ballot, body))
         }
-        Input::Yes(instance, from, ballot) => to_0(*instance, *from, *ballot, Body::Yes),
+        Input::Yes(instance, from, ballot) => Some(to_0(*instance, *from, *ballot, Body::Yes)),
         Input::No(instance, from, ballot, updates) => {
-            to_0(
-                *instance,
-                *from,
-                *ballot,
-                Body::No(set_of(rt, alloc, updates)),
-            )
+            let body = Body::No(set_of(rt, alloc, updates));
+            Some(to_0(*instance, *from, *ballot, body))
         }
         Input::Tell(instance, from, ballot, updates) => {
-            to_0(
-                *instance,
-                *from,
-                *ballot,
-                Body::Tell(set_of(rt, alloc, updates)),
-            )
+            let body = Body::Tell(set_of(rt, alloc, updates));
+            Some(to_0(*instance, *from, *ballot, body))
         }
-        Input::Astray(instance, from) => Message {
-            instance: *instance,
-            from: *from,
-            to: 1,
-            ballot: 1,
-            body: Body::Yes,
-        },
-    })
+        Input::Astray(instance, from) => Some(astray(*instance, *from)),
+    }
+}
+
+fn astray(instance: u8, from: u8) -> Message {
+    Message {
+        instance,
+        from,
+        to: 1,
+        ballot: 1,
+        body: Body::Yes,
+    }
 }
 
 fn to_0(instance: u8, from: u8, ballot: u32, body: Body) -> Message {
@@ -148,7 +154,11 @@ fn submit(rt: &impl Abort, replica: &mut Replica, instance: u8) -> Result<Out, R
     let before = standing(replica, 0);
     match replica.submit(instance, 1, Op::Inc(5)) {
         Err(ReplicaError::Memory) => {
-            assert!(rt; standing(replica, 0) == before);
+            holds(
+                rt,
+                "a refusal changes nothing",
+                standing(replica, 0) == before,
+            );
             replica.submit(instance, 1, Op::Inc(5))
         }
         answer => answer,
@@ -159,7 +169,11 @@ fn receive(rt: &impl Abort, replica: &mut Replica, message: &Message) -> Result<
     let before = standing(replica, 0);
     match replica.receive(message) {
         Err(ReplicaError::Memory) => {
-            assert!(rt; standing(replica, 0) == before);
+            holds(
+                rt,
+                "a refusal changes nothing",
+                standing(replica, 0) == before,
+            );
             replica.receive(message)
         }
         answer => answer,
@@ -222,13 +236,24 @@ fn letter_of(body: &Body) -> u8 {
 }
 
 fn stands(rt: &impl Abort, alloc: Global, replica: &Replica, step: &Step) -> bool {
-    replica.view().same(&set_of(rt, alloc, step.3)) && has_learnt(rt, alloc, replica, step.4)
+    let view = set_of(rt, alloc, step.3);
+    replica.view().same(&view) && has_learnt(rt, alloc, replica.last_learnt(0), step.4)
 }
 
-fn has_learnt(rt: &impl Abort, alloc: Global, replica: &Replica, set: Option<&[Given]>) -> bool {
-    match (replica.last_learnt(0), set) {
-        (Some(learnt), Some(updates)) => learnt.same(&set_of(rt, alloc, updates)),
+fn has_learnt(
+    rt: &impl Abort,
+    alloc: Global,
+    learnt: Option<&UpdateSet>,
+    wanted: Option<&[Given]>,
+) -> bool {
+    match (learnt, wanted) {
+        (Some(learnt), Some(updates)) => is_set(rt, alloc, learnt, updates),
         (None, None) => true,
         _ => false,
     }
+}
+
+fn is_set(rt: &impl Abort, alloc: Global, set: &UpdateSet, updates: &[Given]) -> bool {
+    let wanted = set_of(rt, alloc, updates);
+    set.same(&wanted)
 }

@@ -1,5 +1,6 @@
 // Updates and sets from tables. Each helper calls again where memory was refused, after a look at
 // what stands: so the tests pass with every single allocation failing too.
+use crate::holds::holds;
 use la_set::{Op, SetError, Tags, Update, UpdateId, UpdateSet};
 use std::alloc::Global;
 use std::process::Abort;
@@ -28,22 +29,21 @@ pub fn id(replica: u8, number: u32) -> UpdateId {
 
 pub fn tag(rt: &impl Abort, tags: &mut Tags, id: UpdateId) -> Result<bool, SetError> {
     let before = tags.len();
-    let first = tags.push(id);
-    if first != Err(SetError::Memory) {
-        return first;
+    match tags.push(id) {
+        Err(SetError::Memory) => {
+            holds(rt, "a refused tag changes nothing", tags.len() == before);
+            tags.push(id)
+        }
+        first => first,
     }
-    assert!(rt; tags.len() == before);
-    tags.push(id)
 }
 
 // The tags of this replica from 1 to a number, pushed from the last down.
 pub fn tags_down(rt: &impl Abort, alloc: Global, replica: u8, count: u32) -> Tags {
     let mut tags = Tags::new(alloc);
     for below in 0..count {
-        assert!(rt;
-            tag(rt, &mut tags, id(replica, count - below)) == Ok(true),
-            "{below}"
-        );
+        let pushed = tag(rt, &mut tags, id(replica, count - below));
+        holds(rt, "a tag", pushed == Ok(true));
     }
     tags
 }
@@ -51,7 +51,8 @@ pub fn tags_down(rt: &impl Abort, alloc: Global, replica: u8, count: u32) -> Tag
 fn tags_of(rt: &impl Abort, alloc: Global, ids: &[(u8, u32)]) -> Tags {
     let mut tags = Tags::new(alloc);
     for (replica, number) in ids {
-        assert!(rt; tag(rt, &mut tags, id(*replica, *number)) == Ok(true));
+        let pushed = tag(rt, &mut tags, id(*replica, *number));
+        holds(rt, "a tag", pushed == Ok(true));
     }
     tags
 }
@@ -85,18 +86,20 @@ pub fn push(
     row: &Row,
 ) -> Result<(), SetError> {
     let before = set.len();
-    let first = set.push(update_of(rt, alloc, row));
-    if first != Err(SetError::Memory) {
-        return first;
+    match set.push(update_of(rt, alloc, row)) {
+        Err(SetError::Memory) => {
+            holds(rt, "a refused push changes nothing", set.len() == before);
+            set.push(update_of(rt, alloc, row))
+        }
+        first => first,
     }
-    assert!(rt; set.len() == before);
-    set.push(update_of(rt, alloc, row))
 }
 
 pub fn set_of(rt: &impl Abort, alloc: Global, rows: &[Row]) -> UpdateSet {
     let mut set = UpdateSet::new(alloc);
     for row in rows {
-        assert!(rt; push(rt, alloc, &mut set, row) == Ok(()));
+        let pushed = push(rt, alloc, &mut set, row);
+        holds(rt, "a push", pushed.is_ok());
     }
     set
 }
@@ -151,10 +154,11 @@ pub fn join(rt: &impl Abort, set: &mut UpdateSet, other: &UpdateSet) {
 // Adds what another set has, and looks that a refusal for want of memory leaves the set as it was.
 pub fn unite(rt: &impl Abort, set: &mut UpdateSet, other: &UpdateSet) -> Result<(), SetError> {
     let before = set.len();
-    let first = set.union(other);
-    if first != Err(SetError::Memory) {
-        return first;
+    match set.union(other) {
+        Err(SetError::Memory) => {
+            holds(rt, "a refused union changes nothing", set.len() == before);
+            set.union(other)
+        }
+        first => first,
     }
-    assert!(rt; set.len() == before);
-    set.union(other)
 }

@@ -1,8 +1,10 @@
 // Histories, which copies share: how long one may be, where an update is found, what a copy, a cut
 // and a join leave.
 ghost use Rattle.std.specs.Prelude.{◌≤◌};
+ghost use Rattle.la_set.specs.Join.{IsCompatible};
 
 use super::helpers::{Does, copy_of, id, join, push, truncate};
+use crate::holds::holds;
 use la_set::{Op, Update, UpdateId, UpdateSet};
 use std::alloc::Global;
 use std::process::Abort;
@@ -29,7 +31,7 @@ fn extend(rt: &impl Abort, alloc: Global, set: &mut UpdateSet, stretch: &Stretch
             number,
             Does::Put(put_by(number, stretch.more)),
         );
-        assert!(rt; push(rt, alloc, set, &row) == Ok(()), "{number}");
+        holds(rt, "a push", push(rt, alloc, set, &row).is_ok());
     }
 }
 
@@ -79,9 +81,8 @@ const OF_5: Stretch = Stretch {
 };
 
 // At each length the updates stand in other places behind the newest.
-#[test]
-fn every_update_is_found(rt: HostRuntime) {
-    let mut set = set_from(&rt, rt.alloc(), &[]);
+fn every_update_is_found(rt: &impl Abort, alloc: Global) {
+    let mut set = set_from(rt, alloc, &[]);
     for length in 0..130u32 {
         let last = length + 1;
         let next = Stretch {
@@ -89,12 +90,18 @@ fn every_update_is_found(rt: HostRuntime) {
             last,
             ..OF_5
         };
-        extend(&rt, rt.alloc(), &mut set, &next);
-        assert!(rt; has(&set, 0, &Stretch { last, ..OF_5 }), "{last}");
+        extend(rt, alloc, &mut set, &next);
+        let found = has(&set, 0, &Stretch { last, ..OF_5 });
+        holds(rt, "each is found at each length", found);
     }
-    extend(&rt, rt.alloc(), &mut set, &OF_2);
-    assert!(rt; has(&set, 0, &OF_2) && has(&set, 100, &OF_5) && set.at(230).is_none());
-    assert!(rt; set.get(id(2, 101)).is_none() && set.get(id(5, 131)).is_none());
+    extend(rt, alloc, &mut set, &OF_2);
+    holds(rt, "replica 2's are found", has(&set, 0, &OF_2));
+    holds(rt, "replica 5's come behind", has(&set, 100, &OF_5));
+    holds(rt, "nothing else is found", has_no_more(&set));
+}
+
+fn has_no_more(set: &UpdateSet) -> bool {
+    set.at(230).is_none() && set.get(id(2, 101)).is_none() && set.get(id(5, 131)).is_none()
 }
 
 // ## Copies
@@ -124,24 +131,28 @@ fn has_both(set: &UpdateSet, more: &Stretch) -> bool {
     has(set, 0, &COMMON) && has(set, 0, more) && set.len() == more.last as usize
 }
 
-#[test]
-fn copies_go_their_own_ways(rt: HostRuntime) {
-    let mut mine = set_from(&rt, rt.alloc(), &[COMMON]);
-    let before = copy_of(&rt, &mine);
-    let mut theirs = copy_of(&rt, &mine);
-    extend(&rt, rt.alloc(), &mut mine, &MINE);
-    extend(&rt, rt.alloc(), &mut theirs, &THEIRS);
-    assert!(rt; has_both(&mine, &MINE) && has_both(&theirs, &THEIRS));
+fn copies_go_their_own_ways(rt: &impl Abort, alloc: Global) {
+    let mut mine = set_from(rt, alloc, &[COMMON]);
+    let before = copy_of(rt, &mine);
+    let mut theirs = copy_of(rt, &mine);
+    extend(rt, alloc, &mut mine, &MINE);
+    extend(rt, alloc, &mut theirs, &THEIRS);
+    holds(rt, "mine went on", has_both(&mine, &MINE));
+    holds(rt, "theirs went on", has_both(&theirs, &THEIRS));
     drop(mine);
-    assert!(rt; has_both(&theirs, &THEIRS) && has_both(&before, &COMMON));
-    assert!(rt; theirs.first_clash(&before).is_none());
+    holds(rt, "theirs stays", has_both(&theirs, &THEIRS));
+    holds(rt, "what was before stays", has_both(&before, &COMMON));
+    holds(rt, "none clashes", theirs.first_clash(&before).is_none());
 }
 
 // A copy shares all updates: it succeeds at once, whatever allocation is refused.
-#[test]
-fn a_copy_takes_no_memory(rt: HostRuntime) {
-    let set = set_from(&rt, rt.alloc(), &[COMMON]);
-    assert!(rt; matches!(&set.copy(), Ok(copy) if has_both(copy, &COMMON)));
+fn a_copy_takes_no_memory(rt: &impl Abort, alloc: Global) {
+    let set = set_from(rt, alloc, &[COMMON]);
+    holds(rt, "a copy takes no memory", is_copied(&set));
+}
+
+fn is_copied(set: &UpdateSet) -> bool {
+    matches!(&set.copy(), Ok(copy) if has_both(copy, &COMMON))
 }
 
 // ## Cuts
@@ -175,34 +186,28 @@ fn has_left(set: &UpdateSet, of_3: u32, of_5: u32) -> bool {
     counts && has(set, 0, &first) && has(set, of_3, &second)
 }
 
-#[test]
-fn a_cut_keeps_the_first(rt: HostRuntime) {
-    let mut set = set_from(&rt, rt.alloc(), &[COMMON, FEW]);
-    let whole = copy_of(&rt, &set);
+fn a_cut_keeps_the_first(rt: &impl Abort, alloc: Global) {
+    let mut set = set_from(rt, alloc, &[COMMON, FEW]);
+    let whole = copy_of(rt, &set);
     for (replica, count, of_3, of_5) in CUTS {
-        truncate(&rt, &mut set, replica, count);
-        assert!(rt; has_left(&set, of_3, of_5), "{replica} {count}");
-        assert!(rt; has_left(&whole, 60, 4), "{replica} {count}");
+        truncate(rt, &mut set, replica, count);
+        holds(rt, "a cut keeps the first", has_left(&set, of_3, of_5));
+        holds(rt, "and the copy", has_left(&whole, 60, 4));
     }
 }
 
-// Nothing to cut takes no memory: it succeeds at once, whatever allocation is refused.
-#[test]
-fn a_cut_to_more_keeps_all(rt: HostRuntime) {
-    let mut set = set_from(&rt, rt.alloc(), &[COMMON, FEW]);
-    let to_more = set.truncate(3, 61).is_ok() && set.truncate(3, 4294967295).is_ok();
-    let to_all = set.truncate(3, 60).is_ok() && set.truncate(0, 0).is_ok();
-    assert!(rt; to_more && to_all && has_left(&set, 60, 4));
+fn others_come_next_after_a_cut(rt: &impl Abort, alloc: Global) {
+    let mut set = set_from(rt, alloc, &[COMMON, MINE]);
+    let before = copy_of(rt, &set);
+    truncate(rt, &mut set, 3, 60);
+    extend(rt, alloc, &mut set, &THEIRS);
+    holds(rt, "others come next", has_both(&set, &THEIRS));
+    holds(rt, "the copy stays", has_both(&before, &MINE));
+    holds(rt, "they clash", clash_at(&set, &before, id(3, 61)));
 }
 
-#[test]
-fn others_come_next_after_a_cut(rt: HostRuntime) {
-    let mut set = set_from(&rt, rt.alloc(), &[COMMON, MINE]);
-    let before = copy_of(&rt, &set);
-    truncate(&rt, &mut set, 3, 60);
-    extend(&rt, rt.alloc(), &mut set, &THEIRS);
-    assert!(rt; has_both(&set, &THEIRS) && has_both(&before, &MINE));
-    assert!(rt; set.first_clash(&before) == Some(id(3, 61)));
+fn clash_at(set: &UpdateSet, other: &UpdateSet, at: UpdateId) -> bool {
+    set.first_clash(other) == Some(at)
 }
 
 // ## Joins
@@ -216,39 +221,54 @@ const LONG: Stretch = Stretch {
 
 // Where another update stands under an id each set keeps its own, and what is added stands behind
 // it.
-#[test]
-fn a_join_keeps_its_own(rt: HostRuntime) {
-    let mut mine = set_from(&rt, rt.alloc(), &[COMMON, MINE]);
-    let theirs = set_from(&rt, rt.alloc(), &[COMMON, LONG, FEW]);
-    join(&rt, &mut mine, &theirs);
-    let added = Stretch { after: 100, ..LONG };
-    assert!(rt; has(&mine, 0, &COMMON) && has(&mine, 0, &MINE) && has(&mine, 0, &added));
-    assert!(rt; has(&mine, 120, &FEW) && mine.len() == 124);
-    assert!(rt; has(&theirs, 0, &COMMON) && has(&theirs, 0, &LONG) && theirs.len() == 124);
+fn a_join_keeps_its_own(rt: &impl Abort, alloc: Global) {
+    let mut mine = set_from(rt, alloc, &[COMMON, MINE]);
+    let theirs = set_from(rt, alloc, &[COMMON, LONG, FEW]);
+    join(rt, &mut mine, &theirs);
+    holds(rt, "a join keeps its own", keeps_its_own(&mine));
+    holds(rt, "the other stays", is_theirs(&theirs));
 }
 
-// Joins a set with which there is no clash, by the counts alone. Whether it had not lain in the
-// set.
-fn joins_by_counts(rt: &impl Abort, set: &mut UpdateSet, other: &UpdateSet) -> bool {
+fn keeps_its_own(mine: &UpdateSet) -> bool {
+    let added = Stretch { after: 100, ..LONG };
+    has(mine, 0, &COMMON)
+        && has(mine, 0, &MINE)
+        && has(mine, 0, &added)
+        && has(mine, 120, &FEW)
+        && mine.len() == 124
+}
+
+fn is_theirs(theirs: &UpdateSet) -> bool {
+    has(theirs, 0, &COMMON) && has(theirs, 0, &LONG) && theirs.len() == 124
+}
+
+// Joins a set by the counts alone, and looks that a refusal leaves the set as it was.
+fn joins(set: &mut UpdateSet, other: &UpdateSet) -> bool
+    requires { IsCompatible set.old other.now }
+{
+    let before = set.len();
+    set.join_compatible(other).is_ok()
+        || (set.len() == before && set.join_compatible(other).is_ok())
+}
+
+// Joins a set with which there is no clash. Whether it had not lain in the set.
+fn joins_by_counts(set: &mut UpdateSet, other: &UpdateSet) -> bool {
     if set.first_clash(other).is_some() {
         return false;
     }
-    let lies_in_it = set.contains_compatible(other);
-    let before = set.len();
-    if set.join_compatible(other).is_err() {
-        assert!(rt; set.len() == before && set.join_compatible(other).is_ok());
-    }
-    !lies_in_it && set.contains_all(other)
+    !set.contains_compatible(other) && joins(set, other) && set.contains_all(other)
 }
 
-#[test]
-fn sets_that_fit_are_joined_by_counts(rt: HostRuntime) {
-    let mut set = set_from(&rt, rt.alloc(), &[COMMON, FEW]);
-    let longer = set_from(&rt, rt.alloc(), &[COMMON, MINE]);
-    let clashing = set_from(&rt, rt.alloc(), &[COMMON, THEIRS]);
-    assert!(rt; joins_by_counts(&rt, &mut set, &longer) && set.len() == 104);
-    assert!(rt; !joins_by_counts(&rt, &mut set, &longer) && has(&set, 0, &MINE));
-    assert!(rt; !joins_by_counts(&rt, &mut set, &clashing) && has(&set, 100, &FEW));
+fn sets_that_fit_are_joined_by_counts(rt: &impl Abort, alloc: Global) {
+    let mut set = set_from(rt, alloc, &[COMMON, FEW]);
+    let longer = set_from(rt, alloc, &[COMMON, MINE]);
+    let clashing = set_from(rt, alloc, &[COMMON, THEIRS]);
+    holds(rt, "joined by counts", joins_by_counts(&mut set, &longer));
+    holds(rt, "so many", set.len() == 104);
+    holds(rt, "it lies there", !joins_by_counts(&mut set, &longer));
+    holds(rt, "it is there", has(&set, 0, &MINE));
+    holds(rt, "they clash", !joins_by_counts(&mut set, &clashing));
+    holds(rt, "the others stay", has(&set, 100, &FEW));
 }
 
 // ## As many updates as would use up the stack, if one were dropped within the drop of the next
@@ -273,13 +293,25 @@ fn has_ends(set: &UpdateSet, last: u32) -> bool
 }
 
 // A half is dropped with the set, a part by a cut, and the rest with the copy.
-#[test]
-fn a_million_updates_end(rt: HostRuntime) {
-    let set = set_from(&rt, rt.alloc(), &[MOST]);
-    let mut copy = copy_of(&rt, &set);
-    truncate(&rt, &mut copy, 3, 500_000);
-    assert!(rt; has_ends(&set, 1_000_000) && has_ends(&copy, 500_000));
+fn a_million_updates_end(rt: &impl Abort, alloc: Global) {
+    let set = set_from(rt, alloc, &[MOST]);
+    let mut copy = copy_of(rt, &set);
+    truncate(rt, &mut copy, 3, 500_000);
+    holds(rt, "a million", has_ends(&set, 1_000_000));
+    holds(rt, "half of them", has_ends(&copy, 500_000));
     drop(set);
-    truncate(&rt, &mut copy, 3, 250_000);
-    assert!(rt; has_ends(&copy, 250_000));
+    truncate(rt, &mut copy, 3, 250_000);
+    holds(rt, "half of those", has_ends(&copy, 250_000));
+}
+
+#[test]
+fn histories(rt: HostRuntime) {
+    every_update_is_found(&rt, rt.alloc());
+    copies_go_their_own_ways(&rt, rt.alloc());
+    a_copy_takes_no_memory(&rt, rt.alloc());
+    a_cut_keeps_the_first(&rt, rt.alloc());
+    others_come_next_after_a_cut(&rt, rt.alloc());
+    a_join_keeps_its_own(&rt, rt.alloc());
+    sets_that_fit_are_joined_by_counts(&rt, rt.alloc());
+    a_million_updates_end(&rt, rt.alloc());
 }

@@ -1,5 +1,6 @@
 // Sets: what a push and a union answer, how two sets stand, what one has beyond the other.
 use super::helpers::{Does, Row, copy_of, copy_of_update, id, pop, push, set_of, unite, update_of};
+use crate::holds::holds;
 use la_set::{SetError, Update, UpdateId, UpdateSet, Updates, laws};
 use std::alloc::Global;
 use std::cmp::Ordering;
@@ -30,10 +31,9 @@ fn answers(
     set.len() == 3 && set.count_of(0) == 2 && set.count_of(8) == 0
 }
 
-#[test]
-fn pushes_are_answered(rt: HostRuntime) {
-    let mut set = UpdateSet::new(rt.alloc());
-    assert!(rt; answers(&rt, rt.alloc(), &mut set, &PUSHES));
+fn pushes_are_answered(rt: &impl Abort, alloc: Global) {
+    let mut set = UpdateSet::new(alloc);
+    holds(rt, "pushes", answers(rt, alloc, &mut set, &PUSHES));
 }
 
 const MINE: &[Row] = &[(0, 1, Does::Mark), (7, 1, Does::Put(4))];
@@ -53,7 +53,7 @@ const BOTH: &[(u8, u32)] = &[(0, 1), (0, 2), (3, 1), (3, 2), (4, 1), (6, 1), (7,
 fn both(rt: &impl Abort, alloc: Global) -> UpdateSet {
     let mut set = set_of(rt, alloc, MINE);
     let other = set_of(rt, alloc, THEIRS);
-    assert!(rt; unite(rt, &mut set, &other) == Ok(()));
+    holds(rt, "a union", unite(rt, &mut set, &other).is_ok());
     set
 }
 
@@ -73,43 +73,42 @@ fn stand_in_order(set: &UpdateSet, ids: &[(u8, u32)]) -> bool {
     set.len() == ids.len() && set.at(ids.len()).is_none()
 }
 
-#[test]
-fn a_union_has_both_in_order(rt: HostRuntime) {
-    let set = both(&rt, rt.alloc());
-    assert!(rt; stand_in_order(&set, BOTH));
-    assert!(rt; set.get(id(1, 1)).is_none() && set.get(id(0, 0)).is_none());
+fn a_union_has_both_in_order(rt: &impl Abort, alloc: Global) {
+    let set = both(rt, alloc);
+    holds(rt, "both in order", stand_in_order(&set, BOTH));
+    holds(rt, "no other", has_no_other(&set));
+}
+
+fn has_no_other(set: &UpdateSet) -> bool {
+    set.get(id(1, 1)).is_none() && set.get(id(0, 0)).is_none()
 }
 
 fn pops(rt: &impl Abort, set: &mut UpdateSet, replica: u8, id: UpdateId) -> bool {
     matches!(&pop(rt, set, replica), Some(update) if update.id == id)
 }
 
-#[test]
-fn a_pop_takes_the_last(rt: HostRuntime) {
-    let mut set = both(&rt, rt.alloc());
-    assert!(rt; pops(&rt, &mut set, 3, id(3, 2)) && pop(&rt, &mut set, 1).is_none());
-    assert!(rt; pop(&rt, &mut set, 8).is_none() && set.len() == 6);
+fn pops_none(rt: &impl Abort, set: &mut UpdateSet, replica: u8) -> bool {
+    pop(rt, set, replica).is_none()
 }
 
-// What takes no memory succeeds at once, whatever allocation is refused.
-#[test]
-fn nothing_to_add_takes_no_memory(rt: HostRuntime) {
-    let mut set = both(&rt, rt.alloc());
-    let other = set_of(&rt, rt.alloc(), THEIRS);
-    let added = set.union(&other) == Ok(()) && set.join(&other) == Ok(());
-    assert!(rt; added && other.beyond(&set).is_ok() && set.len() == 7);
+fn a_pop_takes_the_last(rt: &impl Abort, alloc: Global) {
+    let mut set = both(rt, alloc);
+    holds(rt, "a pop", pops(rt, &mut set, 3, id(3, 2)));
+    holds(rt, "none of 1", pops_none(rt, &mut set, 1));
+    holds(rt, "none of 8", pops_none(rt, &mut set, 8));
+    holds(rt, "six are left", set.len() == 6);
 }
 
-#[test]
-fn a_clash_is_named(rt: HostRuntime) {
-    let mut set = set_of(&rt, rt.alloc(), MINE);
-    let other = set_of(&rt, rt.alloc(), &[(3, 1, Does::Mark), (7, 1, Does::Put(5))]);
-    let clash = Err(SetError::Clash(id(7, 1)));
-    assert!(rt; unite(&rt, &mut set, &other) == clash && set.len() == 2);
-    assert!(rt;
-        set.first_clash(&other) == Some(id(7, 1))
-            && set.join(&set_of(&rt, rt.alloc(), MINE)) == Ok(())
-    );
+fn a_clash_is_named(rt: &impl Abort, alloc: Global) {
+    let mut set = set_of(rt, alloc, MINE);
+    let other = set_of(rt, alloc, &[(3, 1, Does::Mark), (7, 1, Does::Put(5))]);
+    holds(rt, "a clash", clashes(rt, &mut set, &other));
+    holds(rt, "nothing is added", set.len() == 2);
+}
+
+fn clashes(rt: &impl Abort, set: &mut UpdateSet, other: &UpdateSet) -> bool {
+    let at = id(7, 1);
+    unite(rt, set, other) == Err(SetError::Clash(at)) && set.first_clash(other) == Some(at)
 }
 
 const FIVE: &[Row] = &[(0, 1, Does::Inc(5))];
@@ -139,20 +138,12 @@ fn stands_so(set: &UpdateSet, other: &UpdateSet, order: Option<Ordering>) -> boo
     set.order(other) == order && set.contains_all(other) == contains && set.same(other) == same
 }
 
-fn stand_so(rt: &impl Abort, alloc: Global, orders: &[Order]) -> bool {
-    for (mine, theirs, order) in orders {
+fn inclusion_compares_updates(rt: &impl Abort, alloc: Global) {
+    for (mine, theirs, order) in &ORDERS {
         let set = set_of(rt, alloc, mine);
         let other = set_of(rt, alloc, theirs);
-        if !stands_so(&set, &other, *order) {
-            return false;
-        }
+        holds(rt, "inclusion", stands_so(&set, &other, *order));
     }
-    true
-}
-
-#[test]
-fn inclusion_compares_updates(rt: HostRuntime) {
-    assert!(rt; stand_so(&rt, rt.alloc(), &ORDERS));
 }
 
 fn beyond(rt: &impl Abort, set: &UpdateSet, other: &UpdateSet) -> Updates {
@@ -182,15 +173,18 @@ fn more(rt: &impl Abort, alloc: Global) -> Updates {
     beyond(rt, &set, &mine)
 }
 
-#[test]
-fn beyond_is_in_order(rt: HostRuntime) {
-    let more = more(&rt, rt.alloc());
-    assert!(rt; are_in_order(&more, &BOTH[1..6]));
+fn beyond_is_in_order(rt: &impl Abort, alloc: Global) {
+    let more = more(rt, alloc);
+    holds(rt, "what is beyond", are_in_order(&more, &BOTH[1..6]));
+}
+
+fn pushes_to_list(rt: &impl Abort, list: &mut Updates, update: &Update) -> bool {
+    list.push(copy_of_update(rt, update)).is_ok()
 }
 
 fn push_to_list(rt: &impl Abort, list: &mut Updates, update: &Update) {
-    if list.push(copy_of_update(rt, update)).is_err() {
-        assert!(rt; list.push(copy_of_update(rt, update)).is_ok());
+    if !pushes_to_list(rt, list, update) {
+        holds(rt, "a list", pushes_to_list(rt, list, update));
     }
 }
 
@@ -199,14 +193,14 @@ fn is_one(list: &Updates, update: &Update) -> bool {
     first && list.len() == 1 && list.at(1).is_none()
 }
 
-#[test]
-fn updates_are_a_list(rt: HostRuntime) {
-    let mut list = Updates::new(rt.alloc());
-    let mark = update_of(&rt, rt.alloc(), &(0, 1, Does::Mark));
-    push_to_list(&rt, &mut list, &mark);
+fn updates_are_a_list(rt: &impl Abort, alloc: Global) {
+    let mut list = Updates::new(alloc);
+    let mark = update_of(rt, alloc, &(0, 1, Does::Mark));
+    push_to_list(rt, &mut list, &mark);
     let items: Vec<Update> = list.into();
     let list = Updates::from(items);
-    assert!(rt; is_one(&list, &mark) && list.all().len() == 1);
+    holds(rt, "a list of one", is_one(&list, &mark));
+    holds(rt, "all of it", list.all().len() == 1);
 }
 
 // ## Some thousands of updates: nothing gives up early
@@ -214,7 +208,7 @@ fn updates_are_a_list(rt: HostRuntime) {
 fn push_further(rt: &impl Abort, alloc: Global, set: &mut UpdateSet, replica: u8, count: u32) {
     for number in 1..=count {
         let row = (replica, number, Does::Put(number as u64));
-        assert!(rt; push(rt, alloc, set, &row) == Ok(()), "{replica}.{number}");
+        holds(rt, "a push", push(rt, alloc, set, &row).is_ok());
     }
 }
 
@@ -233,14 +227,27 @@ fn is_the_same(set: &UpdateSet, other: &UpdateSet) -> bool {
         && matches!(set.at(2999), Some(last) if last.id == id(7, 1000))
 }
 
+fn thousands_of_updates(rt: &impl Abort, alloc: Global) {
+    let set = thousands(rt, alloc);
+    let copy = copy_of(rt, &set);
+    holds(rt, "a copy", is_the_same(&copy, &set));
+    let mut joined = set_of(rt, alloc, &[(0, 1, Does::Put(1))]);
+    let more = beyond(rt, &set, &joined);
+    holds(rt, "all but one are beyond", more.len() == 2999);
+    holds(rt, "a union", unite(rt, &mut joined, &copy).is_ok());
+    holds(rt, "the union is the same", is_the_same(&joined, &set));
+}
+
 #[test]
-fn thousands_of_updates(rt: HostRuntime) {
-    let set = thousands(&rt, rt.alloc());
-    let copy = copy_of(&rt, &set);
-    assert!(rt; is_the_same(&copy, &set));
-    let mut joined = set_of(&rt, rt.alloc(), &[(0, 1, Does::Put(1))]);
-    assert!(rt; beyond(&rt, &set, &joined).len() == 2999);
-    assert!(rt; unite(&rt, &mut joined, &copy) == Ok(()) && is_the_same(&joined, &set));
+fn sets(rt: HostRuntime) {
+    pushes_are_answered(&rt, rt.alloc());
+    a_union_has_both_in_order(&rt, rt.alloc());
+    a_pop_takes_the_last(&rt, rt.alloc());
+    a_clash_is_named(&rt, rt.alloc());
+    inclusion_compares_updates(&rt, rt.alloc());
+    beyond_is_in_order(&rt, rt.alloc());
+    updates_are_a_list(&rt, rt.alloc());
+    thousands_of_updates(&rt, rt.alloc());
 }
 
 #[test]
