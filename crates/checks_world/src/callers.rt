@@ -1,5 +1,8 @@
 // The callers that the pages quote, each run once: that they do what they are for where memory is
 // there. Where it is refused all is done again.
+ghost use Rattle.std.specs.Prelude.{◌<◌};
+
+use crate::holds::holds;
 use la_acceptor::{Acceptor, Reply};
 use la_commit::{Outcome, Vote};
 use la_object::{Answer, Query, Replicated};
@@ -7,6 +10,7 @@ use la_orset::OrSet;
 use la_proposer::{Proposer, Votes};
 use la_replica::{Body, Message, Replica};
 use la_set::{Op, Update, UpdateId, UpdateSet};
+use la_world::Report;
 use std::alloc::Global;
 use uses::acceptors::acknowledges;
 use uses::commits::{Learner, finish_both};
@@ -40,11 +44,20 @@ fn sets(alloc: Global) -> Option<bool> {
     one.push(adds(0, 5)).ok()?;
     let mut other = one.copy().ok()?;
     other.push(adds(1, 2)).ok()?;
-    let latest = later(&one, &other)?.len();
-    let both = merged(&one, &other).ok()?;
-    let lacking = other.beyond(&one).ok()?;
-    catch_up(&mut one, lacking.all()).ok()?;
-    Some(latest == 2 && both.same(&other) && one.same(&other) && added(&one, 1) == 7)
+    let joined = are_merged(&one, &other)?;
+    catches_up(&mut one, &other)?;
+    Some(joined && one.same(&other) && added(&one, 1) == 7)
+}
+
+fn are_merged(one: &UpdateSet, other: &UpdateSet) -> Option<bool> {
+    let latest = later(one, other)?.len();
+    let both = merged(one, other).ok()?;
+    Some(latest == 2 && both.same(other))
+}
+
+fn catches_up(one: &mut UpdateSet, other: &UpdateSet) -> Option<()> {
+    let lacking = other.beyond(one).ok()?;
+    catch_up(one, lacking.all()).ok()
 }
 
 fn removals(alloc: Global) -> Option<bool> {
@@ -75,10 +88,23 @@ fn adds_win(alloc: Global) -> Option<bool> {
     let mut set = OrSet::new(alloc);
     put(&mut set, id(0, 1), 9).ok()?;
     put(&mut set, id(0, 2), 8).ok()?;
-    let (nine, eight) = (removal_of(&set, 9).ok()?, removal_of(&set, 8).ok()?);
-    put(&mut set, id(1, 1), 9).ok()?;
-    set.absorb(&update(id(2, 1), nine)).ok()?;
-    set.absorb(&update(id(2, 2), eight)).ok()?;
+    put_and_remove(&mut set)?;
+    has_nine(&set)
+}
+
+fn put_and_remove(set: &mut OrSet) -> Option<()> {
+    let nine = removal_of(set, 9).ok()?;
+    put(set, id(1, 1), 9).ok()?;
+    absorbs(set, id(2, 1), nine)?;
+    let eight = removal_of(set, 8).ok()?;
+    absorbs(set, id(2, 2), eight)
+}
+
+fn absorbs(set: &mut OrSet, id: UpdateId, op: Op) -> Option<()> {
+    set.absorb(&update(id, op)).ok()
+}
+
+fn has_nine(set: &OrSet) -> Option<bool> {
     match set.ask(&Query::Items).ok()? {
         Answer::Items(items) => Some(items.len() == 1 && items.at(0) == Some(&9)),
         _ => Some(false),
@@ -89,14 +115,22 @@ fn adds_win(alloc: Global) -> Option<bool> {
 fn followers(alloc: Global) -> Option<bool> {
     let mut first = UpdateSet::new(alloc);
     first.push(update(id(0, 1), Op::Put(9))).ok()?;
+    let other = removed_and_put(alloc)?;
+    let shelf = follow_both(alloc, 1, &first, &other).ok()?;
+    let answers = (ask(&shelf, 1, 8).ok()?, ask(&shelf, 1, 9).ok()?);
+    Some(are_right(&answers) && shelf.view().len() == 3)
+}
+
+fn are_right(answers: &(Answer, Answer)) -> bool {
+    matches!(answers, (Answer::Has(true), Answer::Has(false)))
+}
+
+fn removed_and_put(alloc: Global) -> Option<UpdateSet> {
     let mut other = UpdateSet::new(alloc);
     let gone = removal(alloc, &[id(0, 1), id(0, 2)]).ok()?;
     other.push(update(id(1, 1), gone)).ok()?;
     other.push(update(id(1, 2), Op::Put(8))).ok()?;
-    let shelf = follow_both(alloc, 1, &first, &other).ok()?;
-    let answers = (ask(&shelf, 1, 8).ok()?, ask(&shelf, 1, 9).ok()?);
-    let right = matches!(answers, (Answer::Has(true), Answer::Has(false)));
-    Some(right && shelf.view().len() == 3)
+    Some(other)
 }
 
 fn acknowledgements(alloc: Global) -> Option<bool> {
@@ -111,23 +145,30 @@ fn acknowledgements(alloc: Global) -> Option<bool> {
 
 // Two participants propose 5 and learn both votes: all their votes are sole.
 fn commits(alloc: Global) -> Option<bool> {
-    let mut first = UpdateSet::new(alloc);
-    let mut second = UpdateSet::new(alloc);
-    for replica in 0..2 {
-        first.push(votes(replica, 5, false)).ok()?;
-        second.push(votes(replica, 5, true)).ok()?;
-    }
+    let first = voted(alloc, false)?;
+    let second = voted(alloc, true)?;
+    commit_by(&first, &second)
+}
+
+fn voted(alloc: Global, sole: bool) -> Option<UpdateSet> {
+    let mut set = UpdateSet::new(alloc);
+    set.push(votes(0, 5, sole)).ok()?;
+    set.push(votes(1, 5, sole)).ok()?;
+    Some(set)
+}
+
+fn commit_by(first: &UpdateSet, second: &UpdateSet) -> Option<bool> {
     let one = Learner {
         participant: 0,
         value: 5,
-        first: &first,
-        second: &second,
+        first,
+        second,
     };
     let other = Learner {
         participant: 1,
         value: 5,
-        first: &first,
-        second: &second,
+        first,
+        second,
     };
     let both = finish_both(&one, &other).ok()?;
     Some(both == (Outcome::Commit(5), Outcome::Commit(5)))
@@ -151,11 +192,16 @@ fn worlds(alloc: Global) -> Option<bool> {
 // Before the first learning the total is 0 and the element missing.
 fn questions(alloc: Global) -> Option<bool> {
     let report = counter_beside_a_set(alloc).ok()?;
-    let before = (answer_at(&report, 0)?, answer_at(&report, 1)?);
-    let after = (answer_at(&report, 8)?, answer_at(&report, 9)?);
-    let first = matches!(before, (Answer::Total(0), Answer::Has(false)));
-    let last = matches!(after, (Answer::Total(5), Answer::Has(true)));
-    Some(first && last && answer_at(&report, 2).is_none())
+    let before = are_answers(&report, 0, 0, false);
+    let after = are_answers(&report, 8, 5, true);
+    Some(before && after && answer_at(&report, 2).is_none())
+}
+
+fn are_answers(report: &Report, place: usize, total: i64, has: bool) -> bool
+    requires { place < 100 }
+{
+    let total_is = matches!(answer_at(report, place), Some(Answer::Total(it)) if *it == total);
+    total_is && matches!(answer_at(report, place + 1), Some(Answer::Has(it)) if *it == has)
 }
 
 fn scripts(alloc: Global) -> Option<bool> {
@@ -187,39 +233,36 @@ fn replicas(alloc: Global) -> Option<bool> {
     three_replicas(alloc).ok()
 }
 
-#[test]
-fn callers_of_sets_do_what_they_are_for(rt: HostRuntime) {
-    let alloc = rt.alloc();
-    assert!(rt; sets(alloc).or_else(|| sets(alloc)) == Some(true));
-    assert!(rt; removals(alloc).or_else(|| removals(alloc)) == Some(true));
+// Each caller is called twice: of one of the calls memory may be refused.
+fn is_so(first: Option<bool>, again: Option<bool>) -> bool {
+    match (first, again) {
+        (Some(first), Some(again)) => first && again,
+        (Some(is), None) | (None, Some(is)) => is,
+        (None, None) => false,
+    }
 }
 
 #[test]
-fn callers_of_observed_remove_sets_do_what_they_are_for(rt: HostRuntime) {
+fn callers_do_what_they_are_for(rt: HostRuntime) {
     let alloc = rt.alloc();
-    assert!(rt; adds_win(alloc).or_else(|| adds_win(alloc)) == Some(true));
-    assert!(rt; followers(alloc).or_else(|| followers(alloc)) == Some(true));
-}
-
-#[test]
-fn callers_of_acceptors_and_participants_do_what_they_are_for(rt: HostRuntime) {
-    let alloc = rt.alloc();
-    assert!(rt; acknowledgements(alloc).or_else(|| acknowledgements(alloc)) == Some(true));
-    assert!(rt; commits(alloc).or_else(|| commits(alloc)) == Some(true));
-}
-
-#[test]
-fn callers_of_proposers_and_replicas_do_what_they_are_for(rt: HostRuntime) {
-    let alloc = rt.alloc();
-    assert!(rt; learning(alloc).or_else(|| learning(alloc)) == Some(true));
-    assert!(rt; second_vote(alloc).or_else(|| second_vote(alloc)) == Some(true));
-    assert!(rt; replicas(alloc).or_else(|| replicas(alloc)) == Some(true));
-}
-
-#[test]
-fn callers_of_worlds_and_scripts_do_what_they_are_for(rt: HostRuntime) {
-    let alloc = rt.alloc();
-    assert!(rt; worlds(alloc).or_else(|| worlds(alloc)) == Some(true));
-    assert!(rt; questions(alloc).or_else(|| questions(alloc)) == Some(true));
-    assert!(rt; scripts(alloc).or_else(|| scripts(alloc)) == Some(true));
+    holds(&rt, "sets", is_so(sets(alloc), sets(alloc)));
+    holds(&rt, "removals", is_so(removals(alloc), removals(alloc)));
+    holds(&rt, "adds win", is_so(adds_win(alloc), adds_win(alloc)));
+    holds(&rt, "followers", is_so(followers(alloc), followers(alloc)));
+    holds(
+        &rt,
+        "acknowledgements",
+        is_so(acknowledgements(alloc), acknowledgements(alloc)),
+    );
+    holds(&rt, "commits", is_so(commits(alloc), commits(alloc)));
+    holds(&rt, "learning", is_so(learning(alloc), learning(alloc)));
+    holds(
+        &rt,
+        "second vote",
+        is_so(second_vote(alloc), second_vote(alloc)),
+    );
+    holds(&rt, "replicas", is_so(replicas(alloc), replicas(alloc)));
+    holds(&rt, "worlds", is_so(worlds(alloc), worlds(alloc)));
+    holds(&rt, "questions", is_so(questions(alloc), questions(alloc)));
+    holds(&rt, "scripts", is_so(scripts(alloc), scripts(alloc)));
 }

@@ -5,6 +5,8 @@
 #[cfg(test)]
 mod callers;
 #[cfg(test)]
+mod holds;
+#[cfg(test)]
 mod script;
 #[cfg(test)]
 mod texts;

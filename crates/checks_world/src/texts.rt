@@ -1,4 +1,5 @@
 // The texts of the errors, as programs print them, against fixed strings.
+use crate::holds::holds;
 use la_acceptor::AcceptorError;
 use la_commit::NotMine;
 use la_object::{AbsorbError, ObserveError, ShelfError};
@@ -121,7 +122,10 @@ const OF_READING: [(ReadError, &str); 3] = [
 
 // Whether an error is shown so; `false` also for want of memory.
 fn shows<E: Display>(alloc: Global, error: &E, text: &str) -> bool {
-    matches!(&format!(in alloc; "{error}"), Ok(shown) if shown.as_str() == text)
+    match format!(in alloc; "{error}") {
+        Ok(shown) => shown.as_str() == text,
+        Err(_) => false,
+    }
 }
 
 // Whether each error of a table is shown by its text.
@@ -134,24 +138,73 @@ fn all_show<E: Display>(alloc: Global, table: &[(E, &str)]) -> bool {
     true
 }
 
-#[test]
-fn errors_of_the_protocol_are_shown_so(rt: HostRuntime) {
-    let alloc = rt.alloc();
-    assert!(rt; all_show(alloc, &OF_SETS) && all_show(alloc, &OF_ACCEPTORS));
-    assert!(rt; all_show(alloc, &OF_VOTES) && all_show(alloc, &OF_PROPOSERS));
-    assert!(rt; all_show(alloc, &OF_REPLICAS) && all_show(alloc, &OF_WORLDS));
+// ## Each table in a function of its own: one that has several takes the front end long
+
+fn errors_of_sets(alloc: Global) -> bool {
+    all_show(alloc, &OF_SETS)
+}
+
+fn errors_of_acceptors(alloc: Global) -> bool {
+    all_show(alloc, &OF_ACCEPTORS)
+}
+
+fn errors_of_votes(alloc: Global) -> bool {
+    all_show(alloc, &OF_VOTES)
+}
+
+fn errors_of_proposers(alloc: Global) -> bool {
+    all_show(alloc, &OF_PROPOSERS)
+}
+
+fn errors_of_replicas(alloc: Global) -> bool {
+    all_show(alloc, &OF_REPLICAS)
+}
+
+fn errors_of_worlds(alloc: Global) -> bool {
+    all_show(alloc, &OF_WORLDS)
+}
+
+fn errors_of_participants(alloc: Global) -> bool {
+    all_show(alloc, &OF_COMMITS)
+}
+
+fn errors_of_objects(alloc: Global) -> bool {
+    all_show(alloc, &OF_OBJECTS)
+}
+
+fn errors_of_shelves(alloc: Global) -> bool {
+    all_show(alloc, &OF_SHELVES)
+}
+
+fn errors_of_absorbing(alloc: Global) -> bool {
+    all_show(alloc, &OF_ABSORBING)
+}
+
+fn errors_of_lines(alloc: Global) -> bool {
+    all_show(alloc, &OF_LINES)
+}
+
+fn errors_of_scripts(alloc: Global) -> bool {
+    all_show(alloc, &OF_SCRIPTS)
+}
+
+fn errors_of_reading(alloc: Global) -> bool {
+    all_show(alloc, &OF_READING)
 }
 
 #[test]
-fn errors_of_objects_are_shown_so(rt: HostRuntime) {
-    let alloc = rt.alloc();
-    assert!(rt; all_show(alloc, &OF_OBJECTS) && all_show(alloc, &OF_SHELVES));
-    assert!(rt; all_show(alloc, &OF_ABSORBING) && all_show(alloc, &OF_COMMITS));
-}
-
-#[test]
-fn faults_of_scripts_are_shown_so(rt: HostRuntime) {
-    let alloc = rt.alloc();
-    assert!(rt; all_show(alloc, &OF_LINES) && all_show(alloc, &OF_SCRIPTS));
-    assert!(rt; all_show(alloc, &OF_READING));
+fn errors_are_shown_so(rt: HostRuntime) {
+    holds(&rt, "of sets", errors_of_sets(rt.alloc()));
+    holds(&rt, "of acceptors", errors_of_acceptors(rt.alloc()));
+    holds(&rt, "of votes", errors_of_votes(rt.alloc()));
+    holds(&rt, "of proposers", errors_of_proposers(rt.alloc()));
+    holds(&rt, "of replicas", errors_of_replicas(rt.alloc()));
+    holds(&rt, "of worlds", errors_of_worlds(rt.alloc()));
+    holds(&rt, "of participants", errors_of_participants(rt.alloc()));
+    holds(&rt, "of objects", errors_of_objects(rt.alloc()));
+    holds(&rt, "of shelves", errors_of_shelves(rt.alloc()));
+    holds(&rt, "of absorbing", errors_of_absorbing(rt.alloc()));
+    holds(&rt, "of lines", errors_of_lines(rt.alloc()));
+    holds(&rt, "of scripts", errors_of_scripts(rt.alloc()));
+    holds(&rt, "of reading", errors_of_reading(rt.alloc()));
 }

@@ -1,7 +1,7 @@
 ghost use Rattle.std.specs.Prelude.{◌≡◌, false, true, Some, IfOk, OnOk};
 ghost use Rattle.la_set.specs.declared.update.Update.{Update};
 ghost use Rattle.la_set.specs.declared.update.Op.TheVariants.{Put, Remove};
-ghost use Rattle.la_set.specs.Histories.{ContainsUpdate};
+ghost use Rattle.la_set.specs.Histories.{ContainsUpdate, empty};
 ghost use Rattle.la_set.specs.Inclusion.{IsSubset};
 ghost use Rattle.la_object.specs.declared.kind.Kind.TheVariants.{OrSet as OrSetKind};
 ghost use Rattle.la_object.specs.declared.query.Answer.TheVariants.{Has as HasIs};
@@ -64,6 +64,14 @@ pub fn follow<B: Replicated>(shelf: &mut Shelf<B>, learnt: &UpdateSet) -> Result
     shelf.absorb_compatible(learnt)
 }
 
+fn shelf_with_set(alloc: Global, number: u16) -> Result<Shelf<OrSet>, ShelfError>
+    ensures { IfOk result (λ shelf. shelf.view ≡ empty) }
+{
+    let mut shelf = Shelf::new(alloc);
+    shelf.add(number, OrSet::new(alloc))?;
+    Ok(shelf)
+}
+
 /// A new shelf with a set under a number, which absorbs what was learnt first, and then that with
 /// what another replica has learnt: nothing lies in the one, and the one in both.
 pub fn follow_both(
@@ -77,9 +85,7 @@ pub fn follow_both(
 {
     la_set::laws::tests_decide();
     let both = merged(first, other).map_err(FollowError::Merge)?;
-    let mut shelf = Shelf::new(alloc);
-    let set = OrSet::new(alloc);
-    shelf.add(number, set).map_err(FollowError::Add)?;
+    let mut shelf = shelf_with_set(alloc, number).map_err(FollowError::Add)?;
     follow(&mut shelf, first).map_err(FollowError::Absorb)?;
     follow(&mut shelf, &both).map_err(FollowError::Absorb)?;
     Ok(shelf)

@@ -141,12 +141,16 @@ pub fn shelves_of<B: Replicated>(
 ) -> Result<Vec<Shelf<B>>, ShelfError> {
     let mut shelves = Vec::with_capacity(alloc, objects.len())?;
     for (one, other) in objects {
-        let mut shelf = Shelf::new(alloc);
-        shelf.add(1, one)?;
-        shelf.add(2, other)?;
-        shelves.push(shelf)?;
+        shelves.push(shelf_of(alloc, one, other)?)?;
     }
     Ok(shelves)
+}
+
+fn shelf_of<B: Replicated>(alloc: Global, one: B, other: B) -> Result<Shelf<B>, ShelfError> {
+    let mut shelf = Shelf::new(alloc);
+    shelf.add(1, one)?;
+    shelf.add(2, other)?;
+    Ok(shelf)
 }
 
 /// One replica adds to a counter and puts into a set, and asks both before and after it learns that.
@@ -161,18 +165,30 @@ pub fn asked_before_and_after<B: Replicated>(
         cap: 1000,
         votes: Votes::one_each(1),
     };
-    let Ok(shelves) = shelves_of(alloc, objects) else {
-        return Err(WorldError::Memory);
-    };
+    match shelves_of(alloc, objects) {
+        Ok(shelves) => ask_around(alloc, config, shelves),
+        Err(_) => Err(WorldError::Memory),
+    }
+}
+
+fn ask_around<B: Replicated>(
+    alloc: Global,
+    config: Config,
+    shelves: Vec<Shelf<B>>,
+) -> Result<Report, WorldError> {
     let mut events = Vec::new(alloc);
-    add_questions(&mut events)?;
+    add_events(&mut events)?;
+    play_questions(alloc, config, shelves, events.as_slice())
+}
+
+fn add_events(events: &mut Vec<Event>) -> Result<(), WorldError> {
+    add_questions(events)?;
     events.push(submission(1, Op::Inc(5)))?;
     events.push(submission(2, Op::Put(9)))?;
     for message in 0..4 {
         events.push(Event::Deliver(message))?;
     }
-    add_questions(&mut events)?;
-    play_questions(alloc, config, shelves, events.as_slice())
+    add_questions(events)
 }
 
 fn submission(object: u16, op: Op) -> Event {

@@ -2,6 +2,7 @@
 ghost use Rattle.std.specs.Prelude.{All, IfOk};
 ghost use Rattle.la_world.specs.Printable.{IsPrintableLine, IsPrintableReport};
 
+use crate::holds::holds;
 use la_object::{Answer, Items};
 use la_proposer::Votes;
 use la_script::{Events, Text, Version, print};
@@ -139,18 +140,18 @@ fn printed(alloc: Global, version: Version) -> Result<Text, AllocError> {
 }
 
 // Whether the text of the report in a version is this header and the steps.
-fn prints(alloc: Global, version: Version, header: &[u8]) -> bool {
-    let text = match printed(alloc, version) {
-        Ok(text) => Ok(text),
-        Err(_) => printed(alloc, version),
-    };
-    text.is_ok_and(|text| is_text(text, header))
+fn prints_once(alloc: Global, version: Version, header: &[u8]) -> Option<bool> {
+    match printed(alloc, version) {
+        Ok(text) => Some(is_text(text, header)),
+        Err(_) => None,
+    }
 }
 
-#[test]
-fn answers_are_printed(rt: HostRuntime) {
-    assert!(rt; prints(rt.alloc(), Version::One, HEADER_1));
-    assert!(rt; prints(rt.alloc(), Version::Two, HEADER_2));
+fn prints(alloc: Global, version: Version, header: &[u8]) -> bool {
+    match prints_once(alloc, version, header) {
+        Some(is) => is,
+        None => prints_once(alloc, version, header) == Some(true),
+    }
 }
 
 // The text goes into a string and back.
@@ -171,11 +172,18 @@ fn events_are_a_list(alloc: Global) -> Result<bool, AllocError> {
     Ok(last && events.all().len() == 2 && events.len() == 2)
 }
 
+fn are_a_list_again(alloc: Global) -> bool {
+    match events_are_a_list(alloc) {
+        Ok(are) => are,
+        Err(_) => events_are_a_list(alloc) == Ok(true),
+    }
+}
+
 #[test]
-fn events_go_into_a_list_and_back(rt: HostRuntime) {
-    let is = match events_are_a_list(rt.alloc()) {
-        Ok(is) => is,
-        Err(_) => events_are_a_list(rt.alloc()) == Ok(true),
-    };
-    assert!(rt; is);
+fn answers_are_printed(rt: HostRuntime) {
+    let first = prints(rt.alloc(), Version::One, HEADER_1);
+    holds(&rt, "in version 1", first);
+    let second = prints(rt.alloc(), Version::Two, HEADER_2);
+    holds(&rt, "in version 2", second);
+    holds(&rt, "events are a list", are_a_list_again(rt.alloc()));
 }

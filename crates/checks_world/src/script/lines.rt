@@ -1,4 +1,5 @@
 // Each form at both ends of each of its ranges, against values written by hand.
+use crate::holds::holds;
 use la_object::Query;
 use la_proposer::Votes;
 use la_script::{Events, ReadError, Script, Version, read};
@@ -202,17 +203,27 @@ fn are_votes(votes: Votes, want: &[u16]) -> bool {
 // Whether the bytes are a script of this version with these votes and events.
 fn says(alloc: Global, bytes: &[u8], version: Version, votes: &[u16], want: &[Want]) -> bool {
     match read_again(alloc, bytes) {
-        Ok(script) => {
-            script.version == version
-                && are_votes(script.config.votes, votes)
-                && are_events(&script.events, want)
-        }
+        Ok(script) => is_script(&script, version, votes, want),
         Err(_) => false,
     }
 }
 
+fn is_script(script: &Script, version: Version, votes: &[u16], want: &[Want]) -> bool {
+    script.version == version
+        && are_votes(script.config.votes, votes)
+        && are_events(&script.events, want)
+}
+
+fn is_read_in_version_1(alloc: Global) -> bool {
+    says(alloc, SCRIPT, Version::One, &[1; 8], &EVENTS)
+}
+
+fn is_read_in_version_2(alloc: Global) -> bool {
+    says(alloc, SCRIPT_2, Version::Two, &VOTES_2, &EVENTS_2)
+}
+
 #[test]
 fn each_form_is_read_at_both_ends_of_its_ranges(rt: HostRuntime) {
-    assert!(rt; says(rt.alloc(), SCRIPT, Version::One, &[1; 8], &EVENTS));
-    assert!(rt; says(rt.alloc(), SCRIPT_2, Version::Two, &VOTES_2, &EVENTS_2));
+    holds(&rt, "version 1", is_read_in_version_1(rt.alloc()));
+    holds(&rt, "version 2", is_read_in_version_2(rt.alloc()));
 }

@@ -3,6 +3,7 @@
 use super::lines::Act::{Inc, Put};
 use super::lines::Want::{Ask, Decide, Deliver, Submit};
 use super::lines::{Want, are_events};
+use crate::holds::holds;
 use la_object::Query;
 use la_script::{Events, random_events};
 use std::alloc::{AllocError, Global};
@@ -54,16 +55,16 @@ fn draws(alloc: Global, seed: u64, replicas: u8, want: &[Want]) -> bool {
     events.is_ok_and(|events| are_events(&events, want))
 }
 
-#[test]
-fn the_largest_seed_gives_its_events(rt: HostRuntime) {
-    assert!(rt; draws(rt.alloc(), 18446744073709551615, 8, &OF_LARGEST));
+// As many are drawn as are asked for.
+fn are_drawn(alloc: Global, replicas: u8, count: u32) -> bool {
+    let events = drawn(alloc, 1, replicas, count);
+    events.is_ok_and(|events| events.len() == count as usize)
 }
 
-// None are asked for, and as many as are asked for.
 #[test]
-fn as_many_events_are_drawn_as_are_asked_for(rt: HostRuntime) {
-    let none = drawn(rt.alloc(), 1, 1, 0);
-    assert!(rt; none.is_ok_and(|events| events.len() == 0));
-    let many = drawn(rt.alloc(), 1, 255, 10000);
-    assert!(rt; many.is_ok_and(|events| events.len() == 10000));
+fn the_largest_seed_gives_its_events(rt: HostRuntime) {
+    let draws = draws(rt.alloc(), 18446744073709551615, 8, &OF_LARGEST);
+    holds(&rt, "the largest seed", draws);
+    holds(&rt, "none", are_drawn(rt.alloc(), 1, 0));
+    holds(&rt, "many", are_drawn(rt.alloc(), 255, 10000));
 }

@@ -1,5 +1,6 @@
 // Groups at the ends of the ranges: no world has one out of them, and no run is made of it.
 use super::plays::world_of;
+use crate::holds::holds;
 use la_object::{Counter, Shelf};
 use la_proposer::Votes;
 use la_world::{Config, World, WorldError, empty_shelves, run};
@@ -36,20 +37,17 @@ fn shelves_for(rt: &impl Abort, alloc: Global, config: Config) -> Vec<Shelf<Coun
     }
 }
 
-fn refusals(
-    rt: &impl Abort,
-    alloc: Global,
-    config: Config,
-) -> (Option<WorldError>, Option<WorldError>) {
-    (
-        World::new(alloc, config, shelves_for(rt, alloc, config)).err(),
-        run(alloc, config, shelves_for(rt, alloc, config), &[]).err(),
-    )
+fn is_no_world(rt: &impl Abort, alloc: Global, config: Config) -> bool {
+    let shelves = shelves_for(rt, alloc, config);
+    World::new(alloc, config, shelves).err() == Some(WorldError::BadConfig)
 }
 
-#[test]
-fn no_world_has_a_value_out_of_its_range(rt: HostRuntime) {
-    let refused = (Some(WorldError::BadConfig), Some(WorldError::BadConfig));
+fn is_no_run(rt: &impl Abort, alloc: Global, config: Config) -> bool {
+    let shelves = shelves_for(rt, alloc, config);
+    run(alloc, config, shelves, &[]).err() == Some(WorldError::BadConfig)
+}
+
+fn no_world_has_a_value_out_of_its_range(rt: &impl Abort, alloc: Global) {
     for (replicas, commits, cap) in OUT_OF_RANGE {
         let config = Config {
             replicas,
@@ -57,15 +55,17 @@ fn no_world_has_a_value_out_of_its_range(rt: HostRuntime) {
             cap,
             votes: Votes::one_each(3),
         };
-        assert!(rt;
-            refusals(&rt, rt.alloc(), config) == refused,
-            "{replicas} {commits} {cap}"
-        );
+        holds(rt, "no world", is_no_world(rt, alloc, config));
+        holds(rt, "no run", is_no_run(rt, alloc, config));
     }
 }
 
-#[test]
-fn the_ends_of_the_ranges_are_taken(rt: HostRuntime) {
+fn is_world(rt: &impl Abort, alloc: Global, config: Config) -> bool {
+    let world: World<Counter> = world_of(rt, alloc, config);
+    world.events() == 0
+}
+
+fn the_ends_of_the_ranges_are_taken(rt: &impl Abort, alloc: Global) {
     for (replicas, commits, cap) in IN_RANGE {
         assert!(rt; replicas >= 1 && replicas <= 8);
         let config = Config {
@@ -74,7 +74,12 @@ fn the_ends_of_the_ranges_are_taken(rt: HostRuntime) {
             cap,
             votes: Votes::one_each(replicas),
         };
-        let world: World<Counter> = world_of(&rt, rt.alloc(), config);
-        assert!(rt; world.events() == 0);
+        holds(rt, "a world", is_world(rt, alloc, config));
     }
+}
+
+#[test]
+fn groups(rt: HostRuntime) {
+    no_world_has_a_value_out_of_its_range(&rt, rt.alloc());
+    the_ends_of_the_ranges_are_taken(&rt, rt.alloc());
 }

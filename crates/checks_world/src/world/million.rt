@@ -1,6 +1,7 @@
 // A million updates of one replica, each learnt at once: time and memory grow with what is sent.
 use super::events::Act;
 use super::plays::{act, voters, world_of};
+use crate::holds::holds;
 use la_object::Counter;
 use la_world::{Config, Did, Event, Step, World, WorldError};
 use std::alloc::Global;
@@ -33,17 +34,23 @@ fn learns(
     learnt: u32,
 ) -> bool {
     let offer = 2 * learnt as u64;
-    if plays(rt, world, submission).is_err() {
-        return false;
-    }
-    let offered = act(rt, alloc, Act::Deliver(offer));
-    if plays(rt, world, &offered).is_err() {
-        return false;
-    }
-    let acknowledged = act(rt, alloc, Act::Deliver(offer + 1));
-    match plays(rt, world, &acknowledged) {
-        Ok(step) => updates_learnt(&step) == Some(learnt as usize + 1),
-        Err(_) => false,
+    let submitted = plays(rt, world, submission).is_ok();
+    let offered = delivers(rt, alloc, world, offer) == Some(None);
+    let acknowledged = delivers(rt, alloc, world, offer + 1);
+    submitted && offered && acknowledged == Some(Some(learnt as usize + 1))
+}
+
+// Delivers a message: how large a set is learnt by it, if it happened and one is.
+fn delivers(
+    rt: &impl Abort,
+    alloc: Global,
+    world: &mut World<Counter>,
+    message: u64,
+) -> Option<Option<usize>> {
+    let event = act(rt, alloc, Act::Deliver(message));
+    match plays(rt, world, &event) {
+        Ok(step) => Some(updates_learnt(&step)),
+        Err(_) => None,
     }
 }
 
@@ -63,11 +70,10 @@ fn a_million_learnings(rt: HostRuntime) {
     let mut world: World<Counter> = world_of(&rt, rt.alloc(), config);
     let submission = act(&rt, rt.alloc(), Act::Inc(0, 1));
     for learnt in 0..MILLION {
-        assert!(rt;
-            learns(&rt, rt.alloc(), &mut world, &submission, learnt),
-            "{learnt}"
-        );
+        let learns = learns(&rt, rt.alloc(), &mut world, &submission, learnt);
+        holds(&rt, "a learning", learns);
     }
     let view = world.view(0).expect(&rt, "the group has it");
-    assert_eq!(rt; (view.len(), world.events()), (1_000_000, MOST));
+    holds(&rt, "a million updates", view.len() == 1_000_000);
+    holds(&rt, "three million events", world.events() == MOST);
 }

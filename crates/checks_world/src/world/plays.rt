@@ -1,16 +1,17 @@
-// Runs from tables: by `run`, and event by event by `play`, where a call that was refused for want
-// of memory has changed nothing and is made again.
+// Runs from tables, event by event, where a call that was refused for want of memory has changed
+// nothing and is made again.
+ghost use Rattle.std.specs.Prelude.{◌+◌, ◌<◌, ◌^◌};
+
 use super::events::{Act, event_of};
 use super::runs::{EXACT_HALF, HEAVY_VOTER, Run, UNEQUAL_VOTERS};
-use super::shelves::{Numbered, Object, shelves, shelves_again};
-use super::shown::{Ballot, Row, Shown, counts_of, learnt_of, line_of, row_of};
+use super::shelves::{Numbered, Object, shelves_again};
+use super::shown::{Ballot, Row, Shown, counts_of, learnt_of, row_of};
+use crate::holds::holds;
 use la_object::{Counter, Replicated};
 use la_proposer::Votes;
-use la_world::{Config, Event, Refusal, Report, Step, Steps, World, WorldError, run};
+use la_world::{Config, Event, Refusal, Report, Step, Steps, World, WorldError};
 use std::alloc::Global;
 use std::process::Abort;
-
-const RUNS: [Run; 3] = [EXACT_HALF, HEAVY_VOTER, UNEQUAL_VOTERS];
 
 // The most events that a test plays.
 const MOST: u64 = 10_000;
@@ -76,43 +77,39 @@ fn refused(refusal: Refusal) -> Option<Row> {
 pub fn play<B: Replicated>(rt: &impl Abort, world: &mut World<B>, event: &Event) -> Option<Row> {
     assert!(rt; world.events() < MOST);
     let before = standing(world);
-    let row = match world.play(event) {
-        Err(WorldError::Memory) => {
-            assert!(rt; world.events() < MOST && standing(world) == before);
-            shown(world.play(event))
-        }
-        answer => shown(answer),
-    };
+    let row = play_again(rt, world, event);
     let happened = !matches!(row, None | Some(Row(Shown::Refused(_), _, _)));
-    assert!(rt; happened || standing(world) == before);
+    let stands = happened || standing(world) == before;
+    holds(rt, "what did not happen changes nothing", stands);
     row
 }
 
-// Whether each event does what stands beside it.
+// Plays an event, once more where memory was refused.
+fn play_again<B: Replicated>(rt: &impl Abort, world: &mut World<B>, event: &Event) -> Option<Row>
+    requires { world.old.count + 1 < 2 ^ 64 }
+{
+    let before = standing(world);
+    match world.play(event) {
+        Err(WorldError::Memory) => {
+            holds(rt, "a refusal changes nothing", standing(world) == before);
+            assert!(rt; world.events() < MOST);
+            shown(world.play(event))
+        }
+        answer => shown(answer),
+    }
+}
+
+// Each event does what stands beside it.
 fn plays<B: Replicated>(
     rt: &impl Abort,
     alloc: Global,
     world: &mut World<B>,
     lines: &[(Act, Row)],
-) -> bool {
+) {
     for (what, row) in lines {
         let event = act(rt, alloc, *what);
-        if play(rt, world, &event) != Some(*row) {
-            return false;
-        }
+        holds(rt, "an event", play(rt, world, &event) == Some(*row));
     }
-    true
-}
-
-// Whether the lines of a report are those of a table.
-fn has_lines(steps: &Steps, lines: &[(Act, Row)]) -> bool {
-    for place in 0..lines.len() {
-        match steps.at(place) {
-            Some(line) if line_of(line) == lines[place].1 => {}
-            _ => return false,
-        }
-    }
-    steps.len() == lines.len()
 }
 
 // Whether these sets were learnt, and the views are these.
@@ -133,34 +130,7 @@ fn has_end(report: &Report, run: &Run) -> bool {
     report.learnt.len() == run.learnt.len() && report.views.len() == run.views.len()
 }
 
-fn report_of<B: Numbered>(
-    alloc: Global,
-    config: Config,
-    lines: &[(Act, Row)],
-) -> Result<Report, WorldError> {
-    let Ok(shelves) = shelves::<B>(alloc, config.replicas) else {
-        return Err(WorldError::Memory);
-    };
-    let mut events = Vec::with_capacity(alloc, lines.len())?;
-    for (what, _) in lines {
-        events.push(event_of(alloc, *what)?)?;
-    }
-    run(alloc, config, shelves, events.as_slice())
-}
-
-fn report_again<R: Abort, B: Numbered>(
-    rt: &R,
-    alloc: Global,
-    config: Config,
-    lines: &[(Act, Row)],
-) -> Report {
-    match report_of::<B>(alloc, config, lines) {
-        Ok(report) => report,
-        Err(_) => report_of::<B>(alloc, config, lines).expect(rt, "memory is there again"),
-    }
-}
-
-fn end_of<B: Replicated>(rt: &impl Abort, alloc: Global, world: &World<B>) -> Report {
+pub fn end_of<B: Replicated>(rt: &impl Abort, alloc: Global, world: &World<B>) -> Report {
     match world.report(Steps::new(alloc)) {
         Ok(report) => report,
         Err(_) => world
@@ -169,30 +139,24 @@ fn end_of<B: Replicated>(rt: &impl Abort, alloc: Global, world: &World<B>) -> Re
     }
 }
 
-fn runs_so<R: Abort, B: Numbered>(rt: &R, alloc: Global, run: &Run) -> bool {
-    let report = report_again::<R, B>(rt, alloc, voters(rt, run.votes), run.lines);
-    has_lines(&report.steps, run.lines) && has_end(&report, run)
-}
-
-#[test]
-fn runs_with_unequal_votes(rt: HostRuntime) {
-    for run in &RUNS {
-        assert!(rt; runs_so::<_, Object>(&rt, rt.alloc(), run));
-    }
-}
-
-fn plays_so<R: Abort, B: Numbered>(rt: &R, alloc: Global, run: &Run) -> bool {
+fn plays_so<R: Abort, B: Numbered>(rt: &R, alloc: Global, run: &Run) {
     let mut world: World<B> = world_of(rt, alloc, voters(rt, run.votes));
-    plays(rt, alloc, &mut world, run.lines) && has_end(&end_of(rt, alloc, &world), run)
+    plays(rt, alloc, &mut world, run.lines);
+    let end = end_of(rt, alloc, &world);
+    holds(rt, "the end", has_end(&end, run));
 }
 
-// `play` makes a question again that was refused for want of memory: the shelf may have absorbed
-// some of the view then, and the answers are the same.
-#[test]
-fn the_same_event_by_event(rt: HostRuntime) {
-    for run in &RUNS {
-        assert!(rt; plays_so::<_, Object>(&rt, rt.alloc(), run));
-    }
+// Each table in a function of its own: one that has several takes the front end long.
+fn exact_half(rt: &impl Abort, alloc: Global) {
+    plays_so::<_, Object>(rt, alloc, &EXACT_HALF);
+}
+
+fn heavy_voter(rt: &impl Abort, alloc: Global) {
+    plays_so::<_, Object>(rt, alloc, &HEAVY_VOTER);
+}
+
+fn unequal_voters(rt: &impl Abort, alloc: Global) {
+    plays_so::<_, Object>(rt, alloc, &UNEQUAL_VOTERS);
 }
 
 // Each refusal, with the group's cap reached, and what comes after it.
@@ -221,14 +185,29 @@ const REFUSED: [(Act, Row); 7] = [
     (Act::Deliver(0), Row(Shown::Yes, 2, 1)),
 ];
 
-#[test]
-fn refused_events_change_nothing(rt: HostRuntime) {
+fn has_two_messages_and_views(world: &World<Counter>) -> bool {
+    world.message(2).is_some()
+        && world.message(3).is_none()
+        && world.view(1).is_some()
+        && world.view(2).is_none()
+}
+
+fn refused_events_change_nothing(rt: &impl Abort, alloc: Global) {
     let config = Config {
         cap: 1,
-        ..voters(&rt, &[1, 3])
+        ..voters(rt, &[1, 3])
     };
-    let mut world: World<Counter> = world_of(&rt, rt.alloc(), config);
-    assert!(rt; plays(&rt, rt.alloc(), &mut world, &REFUSED));
-    assert!(rt; world.message(2).is_some() && world.message(3).is_none());
-    assert!(rt; world.view(1).is_some() && world.view(2).is_none());
+    let mut world: World<Counter> = world_of(rt, alloc, config);
+    plays(rt, alloc, &mut world, &REFUSED);
+    holds(rt, "what there is", has_two_messages_and_views(&world));
+}
+
+// `play` makes a question again that was refused for want of memory: the shelf may have absorbed
+// some of the view then, and the answers are the same.
+#[test]
+fn event_by_event(rt: HostRuntime) {
+    exact_half(&rt, rt.alloc());
+    heavy_voter(&rt, rt.alloc());
+    unequal_voters(&rt, rt.alloc());
+    refused_events_change_nothing(&rt, rt.alloc());
 }

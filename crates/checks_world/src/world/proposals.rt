@@ -1,13 +1,12 @@
-// Proposals in a group with unequal votes, which no script says: what is learnt and returned, by `run`
-// and event by event. What is expected was worked out by hand from the rules.
+// Proposals in a group with unequal votes, event by event: what is learnt and returned. What is
+// expected was worked out by hand from the rules.
 use super::events::Act::{self, Decide, Deliver};
-use super::events::event_of;
-use super::plays::{act, play, voters, world_of};
-use super::shelves::shelves;
+use super::plays::{act, end_of, play, voters, world_of};
 use super::shown::{Row, Shown};
+use crate::holds::holds;
 use la_commit::Outcome::{self, Adopt, Commit};
 use la_object::Counter;
-use la_world::{Config, Refusal, Report, World, WorldError, run};
+use la_world::{Config, Refusal, Report, World};
 use std::alloc::Global;
 use std::process::Abort;
 
@@ -70,17 +69,6 @@ fn config_of(rt: &impl Abort) -> Config {
     }
 }
 
-fn report_of(alloc: Global, config: Config) -> Result<Report, WorldError> {
-    let Ok(shelves) = shelves::<Counter>(alloc, config.replicas) else {
-        return Err(WorldError::Memory);
-    };
-    let mut made = Vec::with_capacity(alloc, EVENTS.len())?;
-    for what in &EVENTS {
-        made.push(event_of(alloc, *what)?)?;
-    }
-    run(alloc, config, shelves, made.as_slice())
-}
-
 fn has_learnt(report: &Report) -> bool {
     for place in 0..LEARNT.len() {
         match report.learnt.at(place) {
@@ -99,16 +87,6 @@ fn has_outcomes(report: &Report) -> bool {
         }
     }
     report.outcomes.len() == OUTCOMES.len()
-}
-
-#[test]
-fn a_report_of_proposals(rt: HostRuntime) {
-    let config = config_of(&rt);
-    let report = match report_of(rt.alloc(), config) {
-        Ok(report) => report,
-        Err(_) => report_of(rt.alloc(), config).expect(&rt, "memory again"),
-    };
-    assert!(rt; has_learnt(&report) && has_outcomes(&report));
 }
 
 // Whether what was returned is this, and nothing else of the objects and replicas up to a number.
@@ -138,13 +116,18 @@ fn does(rt: &impl Abort, alloc: Global, world: &mut World<Counter>, what: Act) -
 #[test]
 fn outcomes_event_by_event(rt: HostRuntime) {
     let mut world: World<Counter> = world_of(&rt, rt.alloc(), config_of(&rt));
-    assert!(rt; returned(&world, &[]));
+    holds(&rt, "nothing is returned", returned(&world, &[]));
     for what in &EVENTS {
-        assert!(rt; does(&rt, rt.alloc(), &mut world, *what).is_some());
+        let row = does(&rt, rt.alloc(), &mut world, *what);
+        holds(&rt, "an event", row.is_some());
     }
     for (what, refusal) in &REFUSED {
         let row = Row(Shown::Refused(*refusal), 0, 0);
-        assert!(rt; does(&rt, rt.alloc(), &mut world, *what) == Some(row));
+        let shown = does(&rt, rt.alloc(), &mut world, *what);
+        holds(&rt, "a refusal", shown == Some(row));
     }
-    assert!(rt; returned(&world, &OUTCOMES));
+    holds(&rt, "what is returned", returned(&world, &OUTCOMES));
+    let end = end_of(&rt, rt.alloc(), &world);
+    holds(&rt, "what is learnt", has_learnt(&end));
+    holds(&rt, "what is told", has_outcomes(&end));
 }

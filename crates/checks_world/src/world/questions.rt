@@ -1,6 +1,7 @@
 // Worlds that are asked which tags a replica observes.
 use super::events::Act;
 use super::plays::{act, play, voters, world_of};
+use crate::holds::holds;
 use la_object::Counter;
 use la_orset::OrSet;
 use la_set::{Tags, UpdateId};
@@ -25,13 +26,16 @@ fn puts(rt: &impl Abort, alloc: Global, world: &mut World<OrSet>, before: u64) -
         Act::Deliver(first + 3),
         Act::Deliver(first + 4),
     ];
+    let mut happened = true;
     for what in acts {
-        let event = act(rt, alloc, what);
-        if play(rt, world, &event).is_none() {
-            return false;
-        }
+        happened = happens(rt, alloc, world, what) && happened;
     }
-    true
+    happened
+}
+
+fn happens(rt: &impl Abort, alloc: Global, world: &mut World<OrSet>, what: Act) -> bool {
+    let event = act(rt, alloc, what);
+    play(rt, world, &event).is_some()
 }
 
 fn observed(
@@ -64,35 +68,45 @@ fn refuses(world: &mut World<OrSet>, replica: u8, object: u16, refusal: WorldErr
     observed(world, replica, object, 9).err() == Some(refusal)
 }
 
-#[test]
-fn live_tags_are_observed_by_the_view(rt: HostRuntime) {
+fn live_tags_are_observed_by_the_view(rt: &impl Abort, alloc: Global) {
     let config = Config {
         cap: 100,
-        ..voters(&rt, &[1, 1, 1])
+        ..voters(rt, &[1, 1, 1])
     };
-    let mut world: World<OrSet> = world_of(&rt, rt.alloc(), config);
+    let mut world: World<OrSet> = world_of(rt, alloc, config);
     for before in 0..3u64 {
-        assert!(rt; puts(&rt, rt.alloc(), &mut world, before), "{before}");
+        holds(rt, "a put", puts(rt, alloc, &mut world, before));
     }
-    assert!(rt; observes(&mut world, 0, 3) && observes(&mut world, 1, 0));
+    holds(rt, "three tags", observes(&mut world, 0, 3));
+    holds(rt, "none by another view", observes(&mut world, 1, 0));
     for before in 3..64u64 {
-        assert!(rt; puts(&rt, rt.alloc(), &mut world, before), "{before}");
+        holds(rt, "a put", puts(rt, alloc, &mut world, before));
     }
-    assert!(rt; observes(&mut world, 0, 64) && puts(&rt, rt.alloc(), &mut world, 64));
-    assert!(rt; refuses(&mut world, 0, 3, WorldError::TooManyTags) && observes(&mut world, 1, 0));
+    holds(rt, "64 tags", observes(&mut world, 0, 64));
+    holds(rt, "one more", puts(rt, alloc, &mut world, 64));
+    let too_many = refuses(&mut world, 0, 3, WorldError::TooManyTags);
+    holds(rt, "too many", too_many);
+    holds(rt, "still none", observes(&mut world, 1, 0));
+}
+
+fn tags_are_observed_of_objects_that_there_are(rt: &impl Abort, alloc: Global) {
+    let mut world: World<OrSet> = world_of(rt, alloc, voters(rt, &[1, 1, 1]));
+    let no_object = refuses(&mut world, 0, 4, WorldError::NoSuchObject);
+    holds(rt, "no object", no_object);
+    let no_replica = refuses(&mut world, 3, 4, WorldError::NoSuchReplica);
+    holds(rt, "no replica", no_replica);
+    holds(rt, "no tag", observes(&mut world, 2, 0));
+    holds(rt, "no event", world.events() == 0);
+}
+
+fn has_none(world: &mut World<Counter>) -> bool {
+    world.observed(0, 1, 9).is_ok_and(|tags| tags.len() == 0)
 }
 
 #[test]
-fn tags_are_observed_of_objects_that_there_are(rt: HostRuntime) {
-    let mut world: World<OrSet> = world_of(&rt, rt.alloc(), voters(&rt, &[1, 1, 1]));
-    assert!(rt; refuses(&mut world, 0, 4, WorldError::NoSuchObject));
-    assert!(rt; refuses(&mut world, 3, 4, WorldError::NoSuchReplica));
-    assert!(rt; observes(&mut world, 2, 0) && world.events() == 0);
-}
-
-// A counter has no tags.
-#[test]
-fn counters_observe_nothing(rt: HostRuntime) {
+fn tags_are_observed(rt: HostRuntime) {
+    live_tags_are_observed_by_the_view(&rt, rt.alloc());
+    tags_are_observed_of_objects_that_there_are(&rt, rt.alloc());
     let mut world: World<Counter> = world_of(&rt, rt.alloc(), voters(&rt, &[1]));
-    assert!(rt; world.observed(0, 1, 9).is_ok_and(|tags| tags.len() == 0));
+    holds(&rt, "a counter has no tags", has_none(&mut world));
 }

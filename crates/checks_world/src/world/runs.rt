@@ -1,5 +1,6 @@
-// Runs of groups whose replicas have unequal votes, which no script says. The tables were made
-// independently of this repository, but for the questions, which were worked out by hand.
+// Runs of groups whose replicas have unequal votes, to be played event by event: as scripts they
+// stand in the folder `runs`. The tables were made independently of this repository, but for the
+// questions, which were worked out by hand.
 use super::events::Act::{self, Ask, Deliver, Inc, Mark, Put, Raise, Remove};
 use super::shown::Shown::{
     Counted, Foreign, Held, Ignored, Kept, Learnt, No, Opened, Refined, Took, Total, Yes,

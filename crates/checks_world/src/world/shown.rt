@@ -3,7 +3,7 @@
 use la_acceptor::Reply;
 use la_object::Answer;
 use la_set::UpdateSet;
-use la_world::{Did, Learnt, Line, Opening, Refusal, Step};
+use la_world::{Did, Learnt, Opening, Refusal, Step};
 
 pub type Counts = [u32; 4];
 
@@ -92,12 +92,4 @@ fn did_of(did: &Did) -> Shown {
 
 pub fn row_of(step: &Step) -> Row {
     Row(did_of(&step.did), step.first, step.sent)
-}
-
-// A refused event sends nothing: 0 stands for the messages before it.
-pub fn line_of(line: &Line) -> Row {
-    match line {
-        Line::Done(step) => row_of(step),
-        Line::Refused(refusal) => Row(Shown::Refused(*refusal), 0, 0),
-    }
 }
