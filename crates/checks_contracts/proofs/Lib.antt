@@ -7,3 +7,4 @@ pub mod ReplicaAnswers
 pub mod SameWorlds
 pub mod WorldLaws
 pub mod ProgramAnswers
+pub mod Meetings

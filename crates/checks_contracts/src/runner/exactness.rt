@@ -12,12 +12,16 @@ use la_shared::FreeGate;
 use std::alloc::Global;
 use std::sync::Wait;
 
-fn numbers_are_exact(member: &Member) -> [(u32, u32); 2]
-    ensures replica { result[0].0 ≡ result[0].1 }
-    ensures submitted { result[1].0 ≡ result[1].1 }
+fn replica_is_exact(member: &Member) -> (u8, u8)
+    ensures { result.0 ≡ result.1 }
 {
-    let replica = (member.replica() as u32, member.replica() as u32);
-    [replica, (member.submitted(), member.submitted())]
+    (member.replica(), member.replica())
+}
+
+fn submitted_is_exact(member: &Member) -> (u32, u32)
+    ensures { result.0 ≡ result.1 }
+{
+    (member.submitted(), member.submitted())
 }
 
 fn outcome_is_exact(member: &Member, commit: u8) -> (Option<Outcome>, Option<Outcome>)
@@ -26,10 +30,13 @@ fn outcome_is_exact(member: &Member, commit: u8) -> (Option<Outcome>, Option<Out
     (member.outcome(commit), member.outcome(commit))
 }
 
-fn last_learnt_is_exact(member: &Member, instance: u8) -> [Option<&UpdateSet>; 2]
-    ensures { option_copied result[0] ≡ option_copied result[1] }
+fn last_learnt_is_exact(
+    member: &Member,
+    instance: u8,
+) -> (Option<&UpdateSet>, Option<&UpdateSet>)
+    ensures { option_copied result.0 ≡ option_copied result.1 }
 {
-    [member.last_learnt(instance), member.last_learnt(instance)]
+    (member.last_learnt(instance), member.last_learnt(instance))
 }
 
 fn bad_ranges_are_exact(
