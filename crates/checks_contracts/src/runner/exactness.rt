@@ -30,10 +30,7 @@ fn outcome_is_exact(member: &Member, commit: u8) -> (Option<Outcome>, Option<Out
     (member.outcome(commit), member.outcome(commit))
 }
 
-fn last_learnt_is_exact(
-    member: &Member,
-    instance: u8,
-) -> (Option<&UpdateSet>, Option<&UpdateSet>)
+fn last_learnt_is_exact(member: &Member, instance: u8) -> (Option<&UpdateSet>, Option<&UpdateSet>)
     ensures { option_copied result.0 ≡ option_copied result.1 }
 {
     (member.last_learnt(instance), member.last_learnt(instance))
