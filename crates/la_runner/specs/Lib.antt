@@ -15,3 +15,4 @@ pub mod Laws
 pub mod Stops
 pub mod Entries
 pub mod Runs
+pub mod Together
