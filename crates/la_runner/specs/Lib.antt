@@ -12,3 +12,7 @@ pub mod Notes
 pub mod Fields
 pub mod Starting
 pub mod Laws
+pub mod Stops
+pub mod Entries
+pub mod Runs
+pub mod Together

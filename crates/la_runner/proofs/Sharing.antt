@@ -1,0 +1,241 @@
+-- One member that hears what others have seen, in plain variables.
+use Rattle.std.proofs.Common.{◌≡◌, ◌⊎◌, inl, inr, ℕ, zero, suc, ◌<◌, ◌≤◌, List, [], ◌∷◌, ◌++◌, ◌+◌, map, take, length, get_or, Option, Some, None, refl, ap, sym, ◌∙◌, subst, arith}
+use Rattle.std.specs.Prelude.{IfSome, IfOk, Result, Ok, Err}
+use Rattle.std.specs.List.{All, AllZip, AllWithin, slice_get, slice_set, slice_index_or}
+use mathlib.Core.List.{IsPrefix}
+use Rattle.std.proofs.lemmas.Bool.{cases_lt}
+use Rattle.std.proofs.lemmas.List.Elements.{All-nil, All-cons, All-push}
+use Rattle.std.proofs.lemmas.Option.{slice_get_within, get_or_from_slice_get}
+use Rattle.la_commit.specs.Instances.{first_instance, second_instance}
+use Rattle.la_commit.specs.declared.outcome.Outcome.{Outcome}
+use Rattle.la_object.specs.declared.kind.Kind.{Kind}
+use Rattle.la_object.specs.Shelves.{ShelfState}
+use Rattle.la_set.specs.Histories.{Histories, empty}
+use Rattle.la_set.specs.Inclusion.{IsSubset, AreComparable}
+use Rattle.la_set.proofs.Theorems.{subset-antisym}
+use Rattle.la_shared.proofs.Theorems.{prefix_self}
+use Rattle.la_runner.specs.declared.jobs.Entry.{Entry}
+use Rattle.la_runner.specs.declared.jobs.Entry.TheVariants.{Learned, Decided, Answer}
+use Rattle.la_runner.specs.declared.jobs.Job.{Job}
+use Rattle.la_runner.specs.declared.jobs.Job.TheVariants.{Update, Decide, Ask}
+use Rattle.la_runner.specs.declared.jobs.Stopped.{Stopped}
+use Rattle.la_runner.specs.declared.jobs.Stopped.TheVariants as cause
+use Rattle.la_runner.specs.Certificates.{seen_at, HasCertificate}
+use Rattle.la_runner.specs.Entries.{set_of, next_number, IsKnownTo, IsDecided, Answers, StopsAt}
+use Rattle.la_runner.specs.Invariant.{IsMember}
+use Rattle.la_runner.specs.Members.{MemberState, GroupState, IsOf, GoesOn, passes_in, view, IsCertified, IsOwnCertified}
+use Rattle.la_runner.specs.Notes.{told_by, told_at, told_in, NoteState, Tells, HasMet, doings}
+use Rattle.la_runner.specs.Rounds.{IsLarger}
+use Rattle.la_runner.specs.Runs.{Place, Back, back_of, places, IsReady, IsBackOf}
+use Rattle.la_runner.specs.Together.{HasSeen, SeesMore, IsSameLog, IsSeenBy, AreSeen, NamesSet, AllComparable, HasDecided, DecisionsCompare}
+use Rattle.la_runner.proofs.Answering.{goes_on_self}
+use Rattle.la_runner.proofs.Certified.{certificate_stays}
+use Rattle.la_runner.proofs.Ending.{fits_still}
+use Rattle.la_runner.proofs.Keeping.{goes_on_then, item_at}
+use Rattle.la_runner.proofs.Passing.{prefix_trans}
+use Rattle.la_runner.proofs.Proposing.{some_same, none_some}
+use Rattle.la_runner.proofs.Standing.{certified_compare, own_are, view_is}
+use Rattle.la_runner.proofs.Telling.{tells_seen}
+use Rattle.la_runner.proofs.Threading.{all_rest}
+use Rattle.la_runner.proofs.UnderWay.{keeps_done, of_goes}
+use Rattle.la_runner.proofs.Viewing.{empty_within}
+
+-- ## One note
+
+pub sees_self : (m : MemberState) → IsMember m → SeesMore m m
+sees_self m is = record { is = is; goes = goes_on_self m; same = refl; kept = refl }
+
+pub sees_then : (a b c : MemberState) → SeesMore a b → SeesMore b c → SeesMore a c
+sees_then a b c f g = record { is = g.is; goes = goes_on_then a b c f.goes g.goes; same = g.same ∙ f.same; kept = g.kept ∙ f.kept }
+
+pub seen_then : (m a b : MemberState) → HasSeen m a → GoesOn a b → HasSeen m b
+seen_then m a b h g = record {
+  votes = g.votes ∙ h.votes;
+  sees = λ i n. prefix_trans (seen_at (passes_in m i) n) (seen_at (passes_in a i) n) (seen_at (passes_in b i) n) (h.sees i n) (g.seen i n);
+}
+
+-- a note with an empty view leaves the view
+view_kept : (n : NoteState) (old new : Histories) → n.view ≡ empty → IsLarger n.view old new → new ≡ old
+view_kept n old new none larger = elim larger.one [
+  | inl e ↦ e
+  | inr e ↦
+      let is : new ≡ empty = e ∙ none in
+      subset-antisym new old (subst (λ z. IsSubset z old) (sym is) (empty_within old)) larger.grows
+]
+
+pub sees_met : (n : NoteState) (old new : MemberState) → n.view ≡ empty → HasMet n old new → GoesOn old new → IsMember new → SeesMore old new
+sees_met n old new none met goes is = record { is = is; goes = goes; same = met.same; kept = view_kept n (view old) (view new) none met.view }
+
+pub seen_met : (group : GroupState) (n : NoteState) (m old new : MemberState) → n.told ≡ map (λ x. map told_by x.passes) m.instances → HasMet n old new → IsOf group m → IsOf group new → HasSeen m new
+seen_met group n m old new told met of of_new = record {
+  votes = of_new.votes ∙ sym of.votes;
+  sees = λ i a.
+      let tells : Tells m (record { votes = m.votes; giver = m.replica; told = n.told; view = view m }) = record { votes = refl; giver = refl; told = told; view = refl } in
+      subst (λ l. IsPrefix l (seen_at (passes_in new i) a)) (tells_seen m (record { votes = m.votes; giver = m.replica; told = n.told; view = view m }) tells i a) (met.told i a);
+}
+
+-- ## All notes
+
+pub one_shown : {X : Type 0} (f : X → MemberState) (xs : List X) (at : ℕ) (x : X) (last next : MemberState) → at < length xs → x ≡ get_or xs at x
+    → AllWithin (λ y. HasSeen (f y) last) xs 0 at → GoesOn last next → HasSeen (f x) next → AllWithin (λ y. HasSeen (f y) next) xs 0 (at + 1)
+one_shown f xs at x last next lt is so_far goes now k d le more = elim (cases_lt k at) [
+  | inl before ↦ seen_then (f (get_or xs k d)) last next (so_far k d le before) goes
+  | inr after ↦
+      let here : at ≡ k = omega (arith, more, after) in
+      let same : get_or xs at d ≡ x = get_or_from_slice_get xs at x d (item_at xs at x lt is) in
+      subst (λ j. HasSeen (f (get_or xs j d)) next) here (subst (λ y. HasSeen (f y) next) (sym same) now)
+]
+
+pub here_of : {X : Type 0} (P : X → Type 0) (xs ys : List X) (at : ℕ) (x : X) → ys ≡ xs → at < length xs → x ≡ slice_index_or ys at x → All P xs → P x
+here_of P xs ys at x same lt is all = subst P (sym (is ∙ ap (λ l. slice_index_or l at x) same)) (all at x lt)
+
+-- ## Logs as before
+
+-- a log is one still, as its member has seen more
+pub worked_more : (p : Place) (b c : Back) → IsBackOf p b → IsSameLog b c → IsBackOf p c
+worked_more p b c h s = subst (IsBackOf p) (λ i. back_of (sym s.same_replica i) c.member (sym s.same_shelf i) (sym s.same_entries i) (sym s.same_stopped i)) (record {
+  is = s.sees.is;
+  named = h.named ∙ sym s.sees.goes.replica;
+  goes = goes_on_then p.member b.member c.member h.goes s.sees.goes;
+  done = keeps_done p.member p.shelf.objects p.jobs b.entries b.member c.member h.done s.sees.goes;
+  objects = h.objects;
+  all = h.all;
+  shown = λ e. h.shown e ∙ sym s.sees.kept;
+  stop = reason b.stopped h.stop;
+})
+  where
+    reason : (o : Option Stopped) → IfSome o (λ w. (w ≡ cause.Memory) ⊎ StopsAt p.shelf.objects b.member p.jobs (length b.entries) w) → IfSome o (λ w. (w ≡ cause.Memory) ⊎ StopsAt p.shelf.objects c.member p.jobs (length b.entries) w)
+    reason None h = h
+    reason (Some w) (inl e) = inl e
+    reason (Some w) (inr at) = inr (at.0, at.1, fits_still b.member c.member s.sees.same p.shelf.objects at.0 w at.2)
+
+pub all_worked_more : (ps : List Place) (bs cs : List Back) → AllZip IsBackOf ps bs → AllZip IsSameLog bs cs → AllZip IsBackOf ps cs
+all_worked_more [] [] [] h s = tt
+all_worked_more [] [] (c ∷ cs) h s = s
+all_worked_more [] (b ∷ bs) cs h s = absurd h
+all_worked_more (p ∷ ps) [] cs h s = absurd h
+all_worked_more (p ∷ ps) (b ∷ bs) [] h s = s
+all_worked_more (p ∷ ps) (b ∷ bs) (c ∷ cs) h s = (worked_more p b c h.0 s.0, all_worked_more ps bs cs h.1 s.1)
+
+-- ## What follows
+
+zip_at : (ps : List Place) (bs : List Back) (i : ℕ) (b : Back) → AllZip IsBackOf ps bs → slice_get bs i ≡ Some b → (p : Place) × (slice_get ps i ≡ Some p) × IsBackOf p b
+zip_at [] [] i b h e = absurd (none_some e)
+zip_at [] (x ∷ bs) i b h e = absurd h
+zip_at (p ∷ ps) [] i b h e = absurd (none_some e)
+zip_at (p ∷ ps) (x ∷ bs) zero b h e = (p, refl, subst (IsBackOf p) (some_same e) h.0)
+zip_at (p ∷ ps) (x ∷ bs) (suc i) b h e = zip_at ps bs i b h.1 e
+
+-- what an entry names is known to the member
+named_of : (m : MemberState) (is : IsMember m) (n : ℕ) (objects : List (ℕ × Kind)) (j : Job) (e : Entry) (s : Histories) → Answers m n objects j e → set_of e ≡ Some s → IsKnownTo m s
+named_of m is n objects (Update object op) (Learned l) s h e = inr (own_are m is 0 s (subst (λ z. IsOwnCertified m 0 z) (some_same e) h.0))
+named_of m is n objects (Update object op) (Decided x y o) s h e = absurd h
+named_of m is n objects (Update object op) (Answer seen answer) s h e = absurd h
+named_of m is n objects (Decide k value) (Learned l) s h e = absurd h
+named_of m is n objects (Decide k value) (Decided x y o) s h e = absurd (none_some e)
+named_of m is n objects (Decide k value) (Answer seen answer) s h e = absurd h
+named_of m is n objects (Ask object query) (Learned l) s h e = absurd h
+named_of m is n objects (Ask object query) (Decided x y o) s h e = absurd h
+named_of m is n objects (Ask object query) (Answer seen answer) s h e = subst (IsKnownTo m) (some_same e) h.0
+
+named_known : (p : Place) (b : Back) (s : Histories) → IsBackOf p b → NamesSet b s → IsKnownTo b.member s
+named_known p b s h (inl e) = subst (IsKnownTo b.member) (sym e) (view_is b.member h.is)
+named_known p b s h (inr at) =
+    let a = h.done.answers at.0 at.1 at.2 in
+    named_of b.member h.is (next_number p.member (take at.0 p.jobs)) p.shelf.objects a.0 at.1 s a.2 at.3
+
+certified_seen : (m n : MemberState) → HasSeen m n → (i : ℕ) (s : Histories) → IsCertified m i s → IsCertified n i s
+certified_seen m n h i s c = subst (λ vs. HasCertificate vs (passes_in n i) s) (sym h.votes) (certificate_stays m.votes (passes_in m i) (passes_in n i) s (h.sees i) c)
+
+known_seen : (m n : MemberState) → HasSeen m n → (s : Histories) → IsKnownTo m s → IsKnownTo n s
+known_seen m n h s (inl e) = inl e
+known_seen m n h s (inr c) = inr (certified_seen m n h 0 s c)
+
+known_compare : (m : MemberState) → IsMember m → (s t : Histories) → IsKnownTo m s → IsKnownTo m t → AreComparable s t
+known_compare m is s t (inl e) d = inl (subst (λ z. IsSubset z t) (sym e) (empty_within t))
+known_compare m is s t (inr c) (inl e) = inr (subst (λ z. IsSubset z s) (sym e) (empty_within s))
+known_compare m is s t (inr c) (inr d) = certified_compare m is 0 s t c d
+
+seen_here : (bs : List Back) (w : MemberState) (i : ℕ) (b : Back) → All (λ x. HasSeen x.member w) bs → slice_get bs i ≡ Some b → HasSeen b.member w
+seen_here bs w i b all e = subst (λ x. HasSeen x.member w) (get_or_from_slice_get bs i b b e) (all i b (slice_get_within bs i b e))
+
+pub all_compare : (ps : List Place) (bs : List Back) → AllZip IsBackOf ps bs → AreSeen bs → AllComparable bs
+all_compare ps bs h (inl none) i j b c s t at_b at_c of_b of_c = absurd (none_some (ap (λ l. slice_get l i) (sym none) ∙ at_b))
+all_compare ps bs h (inr w) i j b c s t at_b at_c of_b of_c =
+    let p = zip_at ps bs i b h at_b in
+    let q = zip_at ps bs j c h at_c in
+    known_compare w.witness w.is s t
+    (known_seen b.member w.witness (seen_here bs w.witness i b w.sees at_b) s (named_known p.0 b s p.2 of_b))
+    (known_seen c.member w.witness (seen_here bs w.witness j c w.sees at_c) t (named_known q.0 c t q.2 of_c))
+
+decided_here : (p : Place) (b : Back) (k value : ℕ) (s t : Histories) (o : Outcome) → IsBackOf p b → HasDecided p.jobs b k value s t o → IsDecided b.member k value s t o
+decided_here p b k value s t o h d =
+    let a = h.done.answers d.0 (Decided s t o) d.2 in
+    subst (λ j. Answers b.member (next_number p.member (take d.0 p.jobs)) p.shelf.objects j (Decided s t o)) (some_same (sym a.1 ∙ d.1)) a.2
+
+pub decisions_compare : (ps : List Place) (bs : List Back) → AllZip IsBackOf ps bs → AreSeen bs → DecisionsCompare ps bs
+decisions_compare ps bs h (inl none) i j p q b c k v w s s' t t' o o' at_p at_q at_b at_c of_b of_c = absurd (none_some (ap (λ l. slice_get l i) (sym none) ∙ at_b))
+decisions_compare ps bs h (inr z) i j p q b c k v w s s' t t' o o' at_p at_q at_b at_c of_b of_c =
+    let f = zip_at ps bs i b h at_b in
+    let g = zip_at ps bs j c h at_c in
+    let fb = subst (λ x. IsBackOf x b) (some_same (sym f.1 ∙ at_p)) f.2 in
+    let gc = subst (λ x. IsBackOf x c) (some_same (sym g.1 ∙ at_q)) g.2 in
+    let one = decided_here p b k v s t o fb of_b in
+    let two = decided_here q c k w s' t' o' gc of_c in
+    let see_b = seen_here bs z.witness i b z.sees at_b in
+    let see_c = seen_here bs z.witness j c z.sees at_c in (
+      certified_compare z.witness z.is (first_instance k) s s' (certified_seen b.member z.witness see_b (first_instance k) s (own_are b.member fb.is (first_instance k) s one.first_own)) (certified_seen c.member z.witness see_c (first_instance k) s' (own_are c.member gc.is (first_instance k) s' two.first_own)),
+      certified_compare z.witness z.is (second_instance k) t t' (certified_seen b.member z.witness see_b (second_instance k) t (own_are b.member fb.is (second_instance k) t one.second_own)) (certified_seen c.member z.witness see_c (second_instance k) t' (own_are c.member gc.is (second_instance k) t' two.second_own)),
+    )
+
+pub seen_sees : (bs cs : List Back) → cs ≡ bs → AreSeen bs → AreSeen cs
+seen_sees bs cs e h = subst AreSeen (sym e) h
+
+pub all_front : {X : Type 0} (P : X → Type 0) (xs : List X) (y : X) → All P (xs ++ y ∷ []) → All P xs
+all_front P [] y h = All-nil P
+all_front P (x ∷ xs) y h = All-cons P x xs (h 0 x (omega arith)) (all_front P xs y (all_rest P x (x ∷ xs ++ y ∷ []) (xs ++ y ∷ []) refl h))
+
+pub all_last : {X : Type 0} (P : X → Type 0) (xs : List X) (y : X) → All P (xs ++ y ∷ []) → P y
+all_last P [] y h = h 0 y (omega arith)
+all_last P (x ∷ xs) y h = all_last P xs y (all_rest P x (x ∷ xs ++ y ∷ []) (xs ++ y ∷ []) refl h)
+
+-- the last log alone has changed, and only in what its member has seen
+pub same_all : {X : Type 0} (f : X → Back) (init : List X) (x y : X) → All (λ z. IsMember (f z).member) init → IsSameLog (f x) (f y) → AllZip IsSameLog (map f (init ++ x ∷ [])) (map f (init ++ y ∷ []))
+same_all f [] x y are s = (s, tt)
+same_all f (z ∷ init) x y are s = (
+  record { same_replica = refl; sees = sees_self (f z).member (are 0 z (omega arith)); same_shelf = refl; same_entries = refl; same_stopped = refl },
+  same_all f init x y (all_rest (λ z. IsMember (f z).member) z (z ∷ init) init refl are) s,
+)
+
+pub seen_all : {X : Type 0} (f : X → Back) (init : List X) (y : X) (w : MemberState) → All (λ z. HasSeen (f z).member w) init → HasSeen (f y).member w → All (λ b. HasSeen b.member w) (map f (init ++ y ∷ []))
+seen_all f [] y w are now = All-cons (λ (b : Back). HasSeen b.member w) (f y) [] now (All-nil (λ (b : Back). HasSeen b.member w))
+seen_all f (z ∷ init) y w are now = All-cons (λ (b : Back). HasSeen b.member w) (f z) (map f (init ++ y ∷ [])) (are 0 z (omega arith)) (seen_all f init y w (all_rest (λ z. HasSeen (f z).member w) z (z ∷ init) init refl are) now)
+
+pub seen_self : (m : MemberState) → HasSeen m m
+seen_self m = record { votes = refl; sees = λ i a. prefix_self (seen_at (passes_in m i) a) }
+
+pub zip_long : {A B : Type 0} (Q : A → B → Type 0) (xs : List A) (ys : List B) → AllZip Q xs ys → length xs ≡ length ys
+zip_long Q [] [] h = refl
+zip_long Q [] (y ∷ ys) h = absurd h
+zip_long Q (x ∷ xs) [] h = absurd h
+zip_long Q (x ∷ xs) (y ∷ ys) h = ap suc (zip_long Q xs ys h.1)
+
+-- ## Answers that are there
+
+pub if_both : {T E : Type 0} (r : Result T E) (P Q R : T → Type 0) → ((t : T) → P t → Q t → R t) → IfOk r P → IfOk r Q → IfOk r R
+if_both (Ok t) P Q R f p q = f t p q
+if_both (Err e) P Q R f p q = tt
+
+pub if_anyway : {T E : Type 0} (r : Result T E) (P : Type 0) → P → IfOk r (λ _. P)
+if_anyway (Ok t) P p = p
+if_anyway (Err e) P p = tt
+
+pub places_long : (ms : List MemberState) (ss : List ShelfState) (jss : List (List Job)) → length ss ≡ length ms → length jss ≡ length ms → length (places ms ss jss) ≡ length ms
+places_long [] ss jss s j = refl
+places_long (m ∷ ms) [] jss s j = absurd (omega (arith, s))
+places_long (m ∷ ms) (x ∷ ss) [] s j = absurd (omega (arith, j))
+places_long (m ∷ ms) (x ∷ ss) (js ∷ jss) s j = let rest = places_long ms ss jss (omega (arith, s)) (omega (arith, j)) in omega (arith, rest)
+
+-- what comes back is of the group, and a member
+pub back_of_group : (group : GroupState) (p : Place) (b : Back) → IsBackOf p b → IsReady group p.member p.shelf → IsOf group b.member × IsMember b.member
+back_of_group group p b h ready = (of_goes group p.member b.member h.goes ready.of, h.is)

@@ -1,0 +1,95 @@
+-- Refusals of a member's calls, as reasons why its jobs end.
+use Rattle.std.proofs.Common.{inl, inr, ℕ, ◌≤◌, Option, Some, None, sym, subst}
+use Rattle.std.specs.Prelude.{IsSomeAnd}
+use Rattle.std.specs.List.{slice_get}
+use Rattle.la_proposer.specs.declared.error.ProposerError.{ProposerError}
+use Rattle.la_proposer.specs.declared.error.ProposerError.TheVariants as proposer
+use Rattle.la_proposer.specs.ProposerState.{ProposerState, submitted}
+use Rattle.la_proposer.specs.Refusals.{IsSubmitRefusal}
+use Rattle.la_set.specs.ObjectOps.{ObjectOp}
+use Rattle.la_runner.specs.declared.error.RunnerError.{RunnerError}
+use Rattle.la_runner.specs.declared.error.RunnerError.TheVariants.{BadConfig, NoSuchCommit, AlreadyProposed, Clash, Full, BallotsSpent, NoMajority, TryAgain, Memory}
+use Rattle.la_runner.specs.Instances.{InstanceState}
+use Rattle.la_runner.specs.Members.{MemberState}
+use Rattle.la_runner.specs.Refusals.{of_proposer, IsSubmissionRefusal, IsRefusedUpdate, IsRefusedDecision}
+use Rattle.la_runner.specs.Stops.{IsJobError, stop_by, HasSubmittedCap, StopsUpdate, StopsDecide}
+
+-- a refused submission, by the proposer's own refusal
+abbrev IsSubmissionError : ProposerState → RunnerError → Type 0
+IsSubmissionError p BadConfig = ⊥
+IsSubmissionError p NoSuchCommit = ⊥
+IsSubmissionError p AlreadyProposed = ⊥
+IsSubmissionError p (Clash id) = Unit {0}
+IsSubmissionError p Full = p.cap ≤ submitted p
+IsSubmissionError p BallotsSpent = Unit {0}
+IsSubmissionError p NoMajority = Unit {0}
+IsSubmissionError p TryAgain = Unit {0}
+IsSubmissionError p Memory = Unit {0}
+
+by_proposer : (p : ProposerState) (r : ProposerError) → IsSubmitRefusal p r → IsSubmissionError p (of_proposer r)
+by_proposer p proposer.Full h = h
+by_proposer p proposer.NoSuchReplica h = absurd h
+by_proposer p (proposer.Clash id) h = absurd h
+by_proposer p proposer.BallotsSpent h = tt
+by_proposer p proposer.Memory h = tt
+
+submission : (p : ProposerState) (e : RunnerError) → IsSubmissionRefusal p e → IsSubmissionError p e
+submission p e h = subst (IsSubmissionError p) (sym h.1) (by_proposer p h.0 h.2)
+
+some_and : {A : Type 0} (o : Option A) (P Q : A → Type 0) → ((x : A) → P x → Q x) → IsSomeAnd o P → IsSomeAnd o Q
+some_and None P Q f h = h
+some_and (Some x) P Q f h = f x h
+
+never : {A : Type 0} (o : Option A) (P : A → Type 0) → ((x : A) → P x → ⊥) → IsSomeAnd o P → ⊥
+never None P f h = h
+never (Some x) P f h = f x h
+
+-- an update's refusal is one that a job may meet, and a reason why the jobs end
+pub update_error : (rounds : ℕ) (d : ObjectOp) (old new : MemberState) (e : RunnerError) → IsRefusedUpdate rounds d old new e → IsJobError e
+update_error rounds d old new BadConfig (inl h) = never (slice_get old.instances 0) (λ (x : InstanceState). IsSubmissionRefusal x.proposer BadConfig) (λ x. submission x.proposer BadConfig) h.0
+update_error rounds d old new BadConfig (inr h) = h.1.refusal
+update_error rounds d old new NoSuchCommit h = tt
+update_error rounds d old new AlreadyProposed h = tt
+update_error rounds d old new (Clash id) h = tt
+update_error rounds d old new Full h = tt
+update_error rounds d old new BallotsSpent h = tt
+update_error rounds d old new NoMajority h = tt
+update_error rounds d old new TryAgain h = tt
+update_error rounds d old new Memory h = tt
+
+pub update_stops : (rounds : ℕ) (d : ObjectOp) (old new : MemberState) (e : RunnerError) → IsRefusedUpdate rounds d old new e → StopsUpdate new (stop_by e)
+update_stops rounds d old new BadConfig h = tt
+update_stops rounds d old new NoSuchCommit (inl h) = never (slice_get old.instances 0) (λ (x : InstanceState). IsSubmissionRefusal x.proposer NoSuchCommit) (λ x. submission x.proposer NoSuchCommit) h.0
+update_stops rounds d old new NoSuchCommit (inr h) = h.1.refusal
+update_stops rounds d old new AlreadyProposed (inl h) = never (slice_get old.instances 0) (λ (x : InstanceState). IsSubmissionRefusal x.proposer AlreadyProposed) (λ x. submission x.proposer AlreadyProposed) h.0
+update_stops rounds d old new AlreadyProposed (inr h) = h.1.refusal
+update_stops rounds d old new (Clash id) h = tt
+update_stops rounds d old new Full (inl h) = subst HasSubmittedCap (sym h.1) (some_and (slice_get old.instances 0) (λ (x : InstanceState). IsSubmissionRefusal x.proposer Full) (λ (x : InstanceState). x.proposer.cap ≤ submitted x.proposer) (λ x. submission x.proposer Full) h.0)
+update_stops rounds d old new Full (inr h) = absurd (h.1.refusal)
+update_stops rounds d old new BallotsSpent h = tt
+update_stops rounds d old new NoMajority h = tt
+update_stops rounds d old new TryAgain h = tt
+update_stops rounds d old new Memory h = tt
+
+-- the same of a decision
+pub decide_error : (rounds k value : ℕ) (old new : MemberState) (e : RunnerError) → IsRefusedDecision rounds k value old new e → IsJobError e
+decide_error rounds k value old new BadConfig h = h
+decide_error rounds k value old new NoSuchCommit h = tt
+decide_error rounds k value old new AlreadyProposed h = tt
+decide_error rounds k value old new (Clash id) h = tt
+decide_error rounds k value old new Full h = tt
+decide_error rounds k value old new BallotsSpent h = tt
+decide_error rounds k value old new NoMajority h = tt
+decide_error rounds k value old new TryAgain h = tt
+decide_error rounds k value old new Memory h = tt
+
+pub decide_stops : (rounds k value : ℕ) (old new : MemberState) (e : RunnerError) → IsRefusedDecision rounds k value old new e → StopsDecide new k value (stop_by e)
+decide_stops rounds k value old new BadConfig h = tt
+decide_stops rounds k value old new NoSuchCommit h = subst (λ m. StopsDecide m k value (stop_by NoSuchCommit)) (sym h.1) h.0
+decide_stops rounds k value old new AlreadyProposed h = subst (λ m. StopsDecide m k value (stop_by AlreadyProposed)) (sym h.2) (h.0, h.1)
+decide_stops rounds k value old new (Clash id) h = tt
+decide_stops rounds k value old new Full h = absurd h
+decide_stops rounds k value old new BallotsSpent h = tt
+decide_stops rounds k value old new NoMajority h = tt
+decide_stops rounds k value old new TryAgain h = tt
+decide_stops rounds k value old new Memory h = tt

@@ -1,0 +1,7 @@
+use Rattle.std.specs.Prelude.{map}
+use Rattle.la_runner.specs.Members.{view}
+use Rattle.la_runner.proofs.Counting.{Counting}
+use Rattle.la_runner.proofs.runs.count_notes.Given as goal
+
+abbrev pub invariant-loop-other : goal.invariant-loop-other
+invariant-loop-other g l = Counting (map (λ x. view x.member) l.logs.items) l.at l.other l.count

@@ -1,0 +1,64 @@
+use Rattle.std.proofs.Common.{◌≡◌, map, length, subst, sym, arith}
+use Rattle.std.specs.List.{All, AllZip}
+use Rattle.std.proofs.lemmas.Result.{IfOk-weaker}
+use Rattle.la_runner.specs.Members.{IsOf}
+use Rattle.la_runner.specs.Invariant.{IsMember}
+use Rattle.la_runner.specs.Runs.{Place, IsReady, IsWorked, IsBackOf, place_of, places, back_of}
+use Rattle.la_runner.proofs.Keeping.{long_map}
+use Rattle.la_runner.proofs.Threading.{all_over}
+use Rattle.la_runner.proofs.UnderWay.{of_goes}
+use Rattle.la_runner.proofs.Counting.{ready_all, all_of_map, zip_maps}
+use Rattle.la_runner.proofs.Sharing.{all_worked_more, all_compare, decisions_compare, if_both, if_anyway, places_long, zip_long, back_of_group}
+use Rattle.la_runner.proofs.runs.run.Goals as goal
+
+pub starts-requires-clause-shelves : goal.starts-requires-clause-shelves
+starts-requires-clause-shelves g c = let f = c.is_run.ensures.config.0 c.if-not-is_run.false in omega (arith, f.each_shelf, f.each_member, c.args.shelves.ok.0, c.args.members.ok.0)
+
+pub starts-requires-clause-jobs : goal.starts-requires-clause-jobs
+starts-requires-clause-jobs g c = let f = c.is_run.ensures.config.0 c.if-not-is_run.false in omega (arith, f.each_jobs, f.each_member, c.args.jobs.ok.0, c.args.members.ok.0)
+
+pub run_in-requires-clause-ready : goal.run_in-requires-clause-ready
+run_in-requires-clause-ready g c κs within =
+    let f = c.is_run.ensures.config.0 c.if-not-is_run.false in
+    all_of_map (λ (p : Place). IsReady c.args.group.now p.member p.shelf) (λ s. place_of s.member s.shelf s.jobs.items) c.in-Ok.begun.items
+    (subst (All (λ (p : Place). IsReady c.args.group.now p.member p.shelf)) (sym c.in-Ok.ensures)
+    (ready_all c.args.group.now c.args.members.items c.args.shelves.items (map (λ j. j.items) c.args.jobs.items) c.requires f.unused))
+
+pub returns-in-Ok-run_in-clause-config : goal.returns-in-Ok-run_in-clause-config
+returns-in-Ok-run_in-clause-config g c = if_anyway c.finish.result _ (c.is_run.ensures.config.0 c.if-not-is_run.false)
+
+pub returns-in-Ok-run_in-clause-each : goal.returns-in-Ok-run_in-clause-each
+returns-in-Ok-run_in-clause-each g c =
+    let given = places c.args.members.items c.args.shelves.items (map (λ j. j.items) c.args.jobs.items) in
+    let first = subst (λ l. AllZip IsBackOf l (map (λ l. back_of l.replica l.member l.shelf l.entries.items l.stopped) c.in-Ok-run_in.done.items)) c.in-Ok.ensures
+    (zip_maps (λ s. place_of s.member s.shelf s.jobs.items) (λ l. back_of l.replica l.member l.shelf l.entries.items l.stopped) IsBackOf c.in-Ok.begun.items c.in-Ok-run_in.done.items c.in-Ok-run_in.ensures) in
+    IfOk-weaker c.finish.result _ _ (λ logs same. all_worked_more given (map (λ l. back_of l.replica l.member l.shelf l.entries.items l.stopped) c.in-Ok-run_in.done.items) (map (λ l. back_of l.replica l.member l.shelf l.entries.items l.stopped) logs.items) first same) c.finish.ensures.same
+
+pub returns-in-Ok-run_in-clause-comparable : goal.returns-in-Ok-run_in-clause-comparable
+returns-in-Ok-run_in-clause-comparable g c =
+    if_both c.finish.result _ _ _ (λ logs each seen. all_compare (places c.args.members.items c.args.shelves.items (map (λ j. j.items) c.args.jobs.items)) (map (λ l. back_of l.replica l.member l.shelf l.entries.items l.stopped) logs.items) each seen)
+    (returns-in-Ok-run_in-clause-each g c) c.finish.ensures.seen
+
+pub returns-in-Ok-run_in-clause-decisions : goal.returns-in-Ok-run_in-clause-decisions
+returns-in-Ok-run_in-clause-decisions g c =
+    if_both c.finish.result _ _ _ (λ logs each seen. decisions_compare (places c.args.members.items c.args.shelves.items (map (λ j. j.items) c.args.jobs.items)) (map (λ l. back_of l.replica l.member l.shelf l.entries.items l.stopped) logs.items) each seen)
+    (returns-in-Ok-run_in-clause-each g c) c.finish.ensures.seen
+
+pub finish-requires-clause-few : goal.finish-requires-clause-few
+finish-requires-clause-few g c =
+    let f = c.is_run.ensures.config.0 c.if-not-is_run.false in
+    let a = zip_long _ c.in-Ok.begun.items c.in-Ok-run_in.done.items c.in-Ok-run_in.ensures in
+    let b = long_map (λ s. place_of s.member s.shelf s.jobs.items) c.in-Ok.begun.items in
+    let d : length (map (λ s. place_of s.member s.shelf s.jobs.items) c.in-Ok.begun.items) ≡ length (places c.args.members.items c.args.shelves.items (map (λ j. j.items) c.args.jobs.items)) = (λ i. length (c.in-Ok.ensures i)) in
+    let m = long_map (λ j. j.items) c.args.jobs.items in
+    let e = places_long c.args.members.items c.args.shelves.items (map (λ j. j.items) c.args.jobs.items) (omega (arith, f.each_shelf, f.each_member)) (omega (arith, m, f.each_jobs, f.each_member)) in
+    omega (arith, a, b, d, e, f.each_member, c.is_run.ensures.few, c.in-Ok-run_in.done.ok.0)
+
+pub finish-requires-clause-of : goal.finish-requires-clause-of
+finish-requires-clause-of g c κs within =
+    let f = c.is_run.ensures.config.0 c.if-not-is_run.false in
+    all_over (λ s b. IsWorked s.member s.shelf s.jobs.items b.replica b.member b.shelf b.entries.items b.stopped) (λ s. IsReady c.args.group.now s.member s.shelf) (λ b. IsOf c.args.group.now b.member × IsMember b.member)
+    (λ s b h r. (of_goes c.args.group.now s.member b.member h.goes r.of, h.is)) c.in-Ok.begun.items c.in-Ok-run_in.done.items c.in-Ok-run_in.ensures
+    (all_of_map (λ (p : Place). IsReady c.args.group.now p.member p.shelf) (λ s. place_of s.member s.shelf s.jobs.items) c.in-Ok.begun.items
+    (subst (All (λ (p : Place). IsReady c.args.group.now p.member p.shelf)) (sym c.in-Ok.ensures)
+    (ready_all c.args.group.now c.args.members.items c.args.shelves.items (map (λ j. j.items) c.args.jobs.items) c.requires f.unused)))

@@ -1,0 +1,11 @@
+use Rattle.std.specs.Prelude.{◌≡◌}
+use Rattle.std.specs.List.{AllWithin}
+use Rattle.la_runner.specs.Together.{HasSeen, SeesMore}
+use Rattle.la_runner.proofs.showing.show_last.Given as goal
+
+abbrev pub invariant-loop-at : goal.invariant-loop-at
+invariant-loop-at g l = record {
+  same : l.logs.items ≡ l.initial.logs.items;
+  more : SeesMore l.initial.last l.last;
+  shown : AllWithin (λ x. HasSeen x.member l.last) l.logs.items 0 l.at;
+}

@@ -1,0 +1,104 @@
+-- What the entries of a log say of the jobs that they answer.
+use Rattle.std.specs.Prelude.{◌≡◌, ◌⊎◌, ℕ, ◌+◌, ◌<◌, Bool, true, false, List, length, take, count_by, slice_get, Option, Some, None}
+use Rattle.la_commit.specs.declared.outcome.Outcome.{Outcome}
+use Rattle.la_commit.specs.Instances.{first_instance, second_instance}
+use Rattle.la_commit.specs.Outcomes.{outcome}
+use Rattle.la_commit.specs.Votes.{HoldsVote, first_vote_for, second_vote_for}
+use Rattle.la_object.specs.declared.kind.Kind.{Kind}
+use Rattle.la_object.specs.declared.query.Query.{Query}
+use Rattle.la_object.specs.Shelves.{answer_at}
+use Rattle.la_proposer.specs.ProposerState.{op_on}
+use Rattle.la_set.specs.declared.update.Op.{Op}
+use Rattle.la_set.specs.Histories.{Histories, ContainsUpdate, empty}
+use Rattle.la_set.specs.Inclusion.{IsSubset}
+use Rattle.la_set.specs.ObjectOps.{update_of}
+use Rattle.la_runner.specs.declared.jobs.Entry.{Entry}
+use Rattle.la_runner.specs.declared.jobs.Entry.TheVariants.{Learned, Decided, Answer}
+use Rattle.la_runner.specs.declared.jobs.Job.{Job}
+use Rattle.la_runner.specs.declared.jobs.Job.TheVariants.{Update, Decide, Ask}
+use Rattle.la_runner.specs.declared.jobs.Stopped.{Stopped}
+use Rattle.la_runner.specs.Members.{MemberState, submitted_in, view, IsCertified, IsOwnCertified}
+use Rattle.la_runner.specs.Stops.{StopFits}
+
+-- whether a job submits an update for an object
+abbrev pub is_update : Job → Bool
+is_update (Update object op) = true
+is_update (Decide commit value) = false
+is_update (Ask object query) = false
+
+-- how many of these jobs do
+abbrev pub updates_of : List Job → ℕ
+updates_of jobs = count_by is_update jobs
+
+-- the set of updates for objects that an entry names: the learnt set, or the view of an answer
+abbrev pub set_of : Entry → Option Histories
+set_of (Learned l) = Some l.updates
+set_of (Decided first second reached) = None
+set_of (Answer seen answer) = Some seen
+
+-- empty, or acknowledged by a majority as far as the member's passes have seen
+abbrev pub IsKnownTo : MemberState → Histories → Type 0
+IsKnownTo m s = (s ≡ empty) ⊎ IsCertified m 0 s
+
+-- a decision, by a set of each instance: both were acknowledged to the member itself, the first has
+-- its vote for its value, the second the vote to which the first leads
+pub record IsDecided (m : MemberState) (commit value : ℕ) (first second : Histories) (reached : Outcome) : Type 0 where
+  pub first_own : IsOwnCertified m (first_instance commit) first
+  pub first_vote : HoldsVote first m.replica (first_vote_for value)
+  pub second_own : IsOwnCertified m (second_instance commit) second
+  pub second_vote : HoldsVote second m.replica (second_vote_for first value)
+  pub outcome_is : reached ≡ outcome second value
+
+-- an update is answered by a set that holds it under this number, and that a majority acknowledged
+-- to the member itself
+abbrev pub AnswersUpdate : MemberState → (number object : ℕ) → Op → Entry → Type 0
+AnswersUpdate m number object op (Learned l) =
+    IsOwnCertified m 0 l.updates
+    × ContainsUpdate l.updates (update_of m.replica number (op_on object op))
+AnswersUpdate m number object op (Decided first second reached) = ⊥
+AnswersUpdate m number object op (Answer seen answer) = ⊥
+
+-- a proposal by a decision
+abbrev pub AnswersDecide : MemberState → (commit value : ℕ) → Entry → Type 0
+AnswersDecide m commit value (Learned l) = ⊥
+AnswersDecide m commit value (Decided first second reached) =
+    IsDecided m commit value first second reached
+AnswersDecide m commit value (Answer seen answer) = ⊥
+
+-- a question by what the object answers by the view that is named
+abbrev pub AnswersAsk : MemberState → List (ℕ × Kind) → (object : ℕ) → Query → Entry → Type 0
+AnswersAsk m objects object query (Learned l) = ⊥
+AnswersAsk m objects object query (Decided first second reached) = ⊥
+AnswersAsk m objects object query (Answer seen answer) =
+    IsKnownTo m seen
+    × (answer_at (record { view = seen; objects = objects }) object query ≡ Some answer)
+
+-- an entry answers a job of a member whose next update has this number, beside these objects
+abbrev pub Answers : MemberState → (number : ℕ) → List (ℕ × Kind) → Job → Entry → Type 0
+Answers m number objects (Update object op) e = AnswersUpdate m number object op e
+Answers m number objects (Decide commit value) e = AnswersDecide m commit value e
+Answers m number objects (Ask object query) e = AnswersAsk m objects object query e
+
+-- the number of a member's next update, once these jobs are done
+abbrev pub next_number : MemberState → List Job → ℕ
+next_number first jobs = length (submitted_in first 0) + updates_of jobs + 1
+
+-- the entries answer the first jobs, in order, and each names a set that contains those before it;
+-- the view contains all
+pub record HasDone (first : MemberState) (objects : List (ℕ × Kind)) (jobs : List Job) (entries : List Entry) (now : MemberState) : Type 0 where
+  pub answers :
+      (k : ℕ) (e : Entry) → slice_get entries k ≡ Some e
+      → (j : Job) × (slice_get jobs k ≡ Some j)
+      × Answers now (next_number first (take k jobs)) objects j e
+  pub growing :
+      (k m : ℕ) (e f : Entry) (s t : Histories) → k < m
+      → slice_get entries k ≡ Some e → slice_get entries m ≡ Some f
+      → set_of e ≡ Some s → set_of f ≡ Some t → IsSubset s t
+  pub within :
+      (k : ℕ) (e : Entry) (s : Histories) → slice_get entries k ≡ Some e
+      → set_of e ≡ Some s → IsSubset s (view now)
+
+-- the first job that is not done is there, and the reason fits it
+abbrev pub StopsAt : List (ℕ × Kind) → MemberState → List Job → (done : ℕ) → Stopped → Type 0
+StopsAt objects m jobs done why =
+    (j : Job) × (slice_get jobs done ≡ Some j) × StopFits objects m j why

@@ -1,0 +1,51 @@
+use crate::Member;
+use crate::jobs::{Entry, Stopped};
+use crate::letter::Taken;
+use la_object::{Replicated, Shelf};
+use thiserror::Error;
+
+/// What comes back of one member of a run. The member's view is the log's final view.
+#[derive(Drop)]
+pub struct Log<B: Replicated> {
+    /// Which replica the member is.
+    pub replica: u8,
+
+    /// The member, as far as it has gone on.
+    pub member: Member,
+
+    /// How its first jobs were answered, in order.
+    pub entries: Vec<Entry>,
+
+    /// Why its jobs ended before the last one, or its shelf has not the final view; `None` where all
+    /// jobs are answered and the shelf's view is the final view.
+    pub stopped: Option<Stopped>,
+
+    /// Of how many peers it took a note and contains the final view.
+    pub notes: u8,
+
+    /// Its shelf.
+    pub shelf: Shelf<B>,
+
+    // of which peers it took a note
+    pub(crate) taken: Taken,
+}
+
+/// What comes back of a run, in the order of the members.
+pub type Logs<B> = Vec<Log<B>>;
+
+/// Why nothing comes back of a run.
+#[derive(Clone, Copy, Debug, PartialEq, Eq, Error)]
+pub enum RunError {
+    /// There are not as many members, shelves and jobs as the group has replicas, or a shelf has
+    /// absorbed something.
+    #[error("not a group that can run")]
+    BadConfig,
+
+    /// A thread could not be started.
+    #[error("a thread could not be started")]
+    NoThread,
+
+    /// A growth was refused, outside the members' work.
+    #[error("out of memory")]
+    Memory,
+}

@@ -1,0 +1,208 @@
+// A whole run: its workers in threads, and what is counted once they are joined.
+ghost use Rattle.std.specs.Prelude.{◌≡◌, ◌<◌, ◌≤◌, ◌+◌, ◌↔◌, ℕ, true, All, map, length, vec_len, IfOk, IfErr, IsTrue};
+ghost use Rattle.std.specs.List.{AllZip};
+ghost use Rattle.la_set.specs.Histories.{empty};
+ghost use Rattle.la_set.specs.Inclusion.{IsSubset};
+ghost use Rattle.la_runner.specs.declared.log.RunError.TheVariants.{Memory as RunMemory};
+ghost use Rattle.la_runner.specs.Invariant.{IsMember};
+ghost use Rattle.la_runner.specs.Members.{IsOf, view};
+ghost use Rattle.la_object.specs.Shelves.{ShelfState};
+ghost use Rattle.la_runner.specs.Runs.{IsBackOf, back_of, places, place_of, NotesHold, ContainsAll, IsRunConfig, IsRunRefusal};
+ghost use Rattle.la_runner.specs.Together.{IsSameLog, AreSeen, AllComparable, DecisionsCompare};
+
+use crate::jobs::Jobs;
+use crate::running::{Start, run_in};
+use crate::showing::show_all;
+use crate::{Group, Log, Logs, Member, RunError};
+use la_object::{Replicated, Shelf};
+use la_shared::Gate;
+use std::alloc::{AllocError, Global};
+use std::marker::Brand;
+use std::sync::Wait;
+use std::thread::Threads;
+
+// Whether no shelf has absorbed anything.
+fn are_unused<B: Replicated>(shelves: &[Shelf<B>]) -> bool
+    ensures { IsTrue result ↔ All (λ (s : ShelfState). s.view ≡ empty) shelves.now }
+{
+    for shelf in shelves {
+        if shelf.view().len() != 0 {
+            return false;
+        }
+    }
+    true
+}
+
+// Whether a run may begin: as many of each as the group has replicas, and no shelf was used.
+fn is_run<B: Replicated>(
+    group: &Group,
+    members: &Vec<Member>,
+    shelves: &Vec<Shelf<B>>,
+    jobs: &Vec<Jobs>,
+) -> bool
+    ensures config { IsTrue result ↔ IsRunConfig (length group.now.votes)
+        (length members.now.items) (length jobs.now.items) shelves.now.items }
+    ensures few { length group.now.votes ≤ 8 }
+{
+    let replicas = group.votes.len();
+    if members.len() != replicas {
+        return false;
+    }
+    if jobs.len() != replicas {
+        return false;
+    }
+    if shelves.len() != replicas {
+        return false;
+    }
+    are_unused(shelves)
+}
+
+// What each worker begins with: member, shelf and jobs of one place.
+fn starts<B: Replicated>(
+    alloc: Global,
+    members: Vec<Member>,
+    shelves: Vec<Shelf<B>>,
+    jobs: Vec<Jobs>,
+) -> Result<Vec<Start<B>>, AllocError>
+    requires shelves { vec_len shelves ≡ vec_len members }
+    requires jobs { vec_len jobs ≡ vec_len members }
+    ensures { IfOk result (λ starts. map (λ s. place_of s.member s.shelf s.jobs.items) starts.items
+        ≡ places members.items shelves.items (map (λ j. j.items) jobs.items)) }
+{
+    let mut starts = Vec::with_capacity(alloc, members.len())?;
+    let mut shelves = shelves.into_iter();
+    let mut jobs = jobs.into_iter();
+    for member in members {
+        let Some(shelf) = shelves.next() else {
+            unreachable!()
+        };
+        let Some(of_member) = jobs.next() else {
+            unreachable!()
+        };
+        starts.push(Start {
+            member,
+            shelf,
+            jobs: of_member,
+        })?;
+    }
+    Ok(starts)
+}
+
+// Whether a log took the other's note and contains its view.
+fn has_met<B: Replicated>(log: &Log<B>, other: &Log<B>) -> bool
+    ensures { result ≡ true → IsSubset (view other.now.member) (view log.now.member) }
+{
+    log.taken.has(other.replica) && log.member.view().contains_all(other.member.view())
+}
+
+// Of how many peers the log at a place has a note and contains the view.
+fn count_notes<B: Replicated>(logs: &Vec<Log<B>>, at: usize) -> u8
+    requires there { at < vec_len logs.now }
+    requires few { vec_len logs.now < 256 }
+    ensures { result + 1 ≡ length logs.now.items
+        → ContainsAll (map (λ l. view l.member) logs.now.items) at }
+{
+    let mut count = 0;
+    for other in 0..logs.len() {
+        if other != at && has_met(&logs[at], &logs[other]) {
+            count += 1;
+        }
+    }
+    count
+}
+
+// Counts each log's notes.
+fn note_all<B: Replicated>(logs: &mut Vec<Log<B>>)
+    requires few { vec_len logs.old < 256 }
+    ensures same { map (λ l. back_of l.replica l.member l.shelf l.entries.items l.stopped) logs.new.items
+        ≡ map (λ l. back_of l.replica l.member l.shelf l.entries.items l.stopped) logs.old.items }
+    ensures counted { NotesHold (map (λ l. l.notes) logs.new.items)
+        (map (λ l. view l.member) logs.new.items) }
+{
+    for at in 0..logs.len() {
+        let notes = count_notes(logs, at);
+        logs[at].notes = notes;
+    }
+}
+
+// What is known and counted once all threads are joined.
+fn finish<B: Replicated>(
+    alloc: Global,
+    group: &Group,
+    done: Vec<Log<B>>,
+) -> Result<Logs<B>, RunError>
+    requires of { All (λ l. IsOf group.now l.member × IsMember l.member) done.items }
+    requires few { vec_len done < 256 }
+    ensures same { IfOk result (λ logs. AllZip IsSameLog
+        (map (λ l. back_of l.replica l.member l.shelf l.entries.items l.stopped) done.items)
+        (map (λ l. back_of l.replica l.member l.shelf l.entries.items l.stopped) logs.items)) }
+    ensures seen { IfOk result (λ logs. AreSeen
+        (map (λ l. back_of l.replica l.member l.shelf l.entries.items l.stopped) logs.items)) }
+    ensures notes { IfOk result (λ logs. NotesHold
+        (map (λ l. l.notes) logs.items) (map (λ l. view l.member) logs.items)) }
+    ensures error { IfErr result (λ e. e ≡ RunMemory) }
+{
+    let Ok(shown) = show_all(alloc, group, done) else {
+        return Err(RunError::Memory);
+    };
+    let mut logs = shown;
+    note_all(&mut logs);
+    Ok(logs)
+}
+
+/// Runs each member's jobs in a thread of its own, over the group's acceptors. Member, shelf and jobs
+/// of one place belong together.
+///
+/// A worker does its jobs in order; the first that is refused ends them. An update runs at most so
+/// many rounds, as [`Group::update`] does, and a decision as [`Group::decide`]; before a question the
+/// shelf absorbs the view. Then the worker sends each peer a note of what its member has seen, meets
+/// those of its peers, one of each, until all have ended, and its shelf absorbs the view. Memory that
+/// is refused in a note, in a send or in that absorption makes `stopped` `Memory` where it was
+/// `None`; the rest is still tried. Once all threads are joined the last member hears what all
+/// have seen, and keeps its view, and each log counts the peers whose note it took and whose final
+/// view it contains.
+///
+/// `BadConfig` comes exactly where there are not as many members, shelves and jobs as the group has
+/// replicas, or a shelf has absorbed something; then `NoThread` where a thread could not be started,
+/// and `Memory` where a growth was refused outside the workers. Then all threads that were started
+/// are joined, and the members are gone.
+///
+/// The cost is that of the members' calls, side by side, and of a note for each two members.
+pub fn run<R: Threads + Wait + Sync, G: Gate, B: Replicated>(
+    rt: &R,
+    alloc: Global,
+    group: &Group,
+    members: Vec<Member>,
+    shelves: Vec<Shelf<B>>,
+    jobs: Vec<Jobs>,
+    rounds: u32,
+    gate: &G,
+) -> Result<Logs<B>, RunError>
+    requires { All (IsOf group.now) members.items }
+    ensures config { IfOk result (λ _. IsRunConfig (length group.now.votes)
+        (length members.items) (length jobs.items) shelves.items) }
+    ensures each { IfOk result (λ logs. AllZip IsBackOf
+        (places members.items shelves.items (map (λ j. j.items) jobs.items))
+        (map (λ l. back_of l.replica l.member l.shelf l.entries.items l.stopped) logs.items)) }
+    ensures comparable { IfOk result (λ logs. AllComparable
+        (map (λ l. back_of l.replica l.member l.shelf l.entries.items l.stopped) logs.items)) }
+    ensures decisions { IfOk result (λ logs. DecisionsCompare
+        (places members.items shelves.items (map (λ j. j.items) jobs.items))
+        (map (λ l. back_of l.replica l.member l.shelf l.entries.items l.stopped) logs.items)) }
+    ensures notes { IfOk result (λ logs. NotesHold
+        (map (λ l. l.notes) logs.items) (map (λ l. view l.member) logs.items)) }
+    ensures error { IfErr result (IsRunRefusal (IsRunConfig (length group.now.votes)
+        (length members.items) (length jobs.items) shelves.items)) }
+{
+    if !is_run(group, &members, &shelves, &jobs) {
+        return Err(RunError::BadConfig);
+    }
+    let Ok(begun) = starts(alloc, members, shelves, jobs) else {
+        return Err(RunError::Memory);
+    };
+    match run_in::<Brand, R, G, B>(rt, alloc, group, begun, rounds, gate) {
+        Ok(done) => finish(alloc, group, done),
+        Err(RunError::NoThread) => Err(RunError::NoThread),
+        Err(_) => Err(RunError::Memory),
+    }
+}
