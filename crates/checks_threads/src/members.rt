@@ -4,3 +4,4 @@ mod helpers;
 mod notes;
 mod runs;
 mod threads;
+mod whole;
