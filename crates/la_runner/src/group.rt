@@ -179,6 +179,7 @@ impl Members {
     /// Takes the next member out; `None` once all are taken.
     pub fn take(&mut self) -> Option<Member>
         ensures next { self.old ≡ option_to_list result ++ self.new }
+        ensures last { result ≡ None → self.old ≡ [] }
         ensures member { (group : GroupState) (cap replica : ℕ)
             → AreMembersFrom group cap replica self.old
             → IfSome result (λ member. IsNewMember group cap replica member
