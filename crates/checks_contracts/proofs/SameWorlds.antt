@@ -49,7 +49,7 @@ standing c ks messages events = record {
 world_is : (w : World) (events : Past) → StandsFor w events → record w { shelves = [] } ≡ standing w.config (kinds_of w.shelves) w.messages events
 world_is w events h =
     let s = standing w.config (kinds_of w.shelves) w.messages events in
-    ap (λ ms. record { config = w.config; replica_states = ms; shelves = []; messages = w.messages; learnt = w.learnt; count = w.count }) h.replica_states
+    ap (λ ms. record { config = w.config; replica_states = ms; shelves = []; messages = w.messages; learnt = w.learnt; count = w.count }) h.led.replica_states
     ∙ ap (λ ls. record { config = w.config; replica_states = s.replica_states; shelves = []; messages = s.messages; learnt = ls; count = w.count }) h.learnt
     ∙ ap (λ n. record { config = w.config; replica_states = s.replica_states; shelves = []; messages = s.messages; learnt = s.learnt; count = n }) h.count
 
@@ -58,7 +58,7 @@ of_one_group : {A : Type 0} (f : Group → A) (w v : World) → AreOfOneGroup w 
 of_one_group f w v one = ap₂ (λ c ks. f (group_of c ks)) one.config one.kinds
 
 same_messages : (w v : World) (events : Past) → StandsFor w events → StandsFor v events → AreOfOneGroup w v → w.messages ≡ v.messages
-same_messages w v events h k one = mail_once w.messages v.messages (h.messages ∙ of_one_group (λ g. sent (replicas g) (trace g events)) w v one ∙ sym k.messages)
+same_messages w v events h k one = mail_once w.messages v.messages (h.led.sent ∙ of_one_group (λ g. sent (replicas g) (trace g events)) w v one ∙ sym k.led.sent)
 
 alike : (w v : World) (events : Past) → StandsFor w events → StandsFor v events → AreOfOneGroup w v → AreAlike w v
 alike w v events h k one = record {

@@ -1,3 +1,4 @@
 mod exactness;
 mod following;
 mod laws;
+mod nodes;

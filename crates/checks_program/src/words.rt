@@ -7,12 +7,14 @@ use la_program::{PlayFault, end_without_words, run_boxed, status_of};
 use la_script::{FaultName, ScriptFault};
 use std::alloc::{AllocError, Global};
 use std::io::ErrorKind;
+use std::sync::Wait;
+use std::thread::Threads;
 
 // What is told where a word is no text.
 const NO_TEXT: &str = "a word of the command line is no text: see lattice --help\n";
 
 // Words with a mistake, the program's name first.
-const MISTAKES: [&[&str]; 16] = [
+const MISTAKES: [&[&str]; 21] = [
     &[],
     &["lattice"],
     &["play"],
@@ -20,7 +22,6 @@ const MISTAKES: [&[&str]; 16] = [
     &["lattice", "Play"],
     &["lattice", "plays"],
     &["lattice", "help"],
-    &["lattice", "threads"],
     &["lattice", "play", "x"],
     &["lattice", "x", "play"],
     &["lattice", "random", "--replicas", "0"],
@@ -29,15 +30,47 @@ const MISTAKES: [&[&str]; 16] = [
     &["lattice", "random", "--events=10001"],
     &["lattice", "random", "--seed", "4294967296"],
     &["lattice", "random", "--seed", "1", "--seed", "2"],
+    &["lattice", "threads", "x"],
+    &["lattice", "threads", "--replicas", "0"],
+    &["lattice", "threads", "--replicas", "9"],
+    &["lattice", "threads", "--each", "0"],
+    &["lattice", "threads", "--each=1001"],
+    &["lattice", "threads", "--events", "5"],
 ];
 
 // Words that ask for a text, and how it begins.
-const ASKED_FOR: [(&[&str], &str); 5] = [
+const ASKED_FOR: [(&[&str], &str); 6] = [
     (&["lattice", "--help"], "Plays scripts"),
     (&["lattice", "-h"], "Plays scripts"),
     (&["lattice", "--version"], "lattice "),
     (&["lattice", "play", "--help"], "Plays the script"),
     (&["lattice", "random", "--help"], "Draws events"),
+    (&["lattice", "threads", "--help"], "Runs replicas"),
+];
+
+// Runs of replicas in threads, and what is printed.
+const RUNS: [(&[&str], &str); 3] = [
+    (
+        &["lattice", "threads", "--replicas", "4", "--each", "50"],
+        "threads 4 each 50\n\
+         replica 0 updates 200 total 200\n\
+         replica 1 updates 200 total 200\n\
+         replica 2 updates 200 total 200\n\
+         replica 3 updates 200 total 200\n\
+         agree\n",
+    ),
+    (
+        &["lattice", "threads", "--each=5", "--replicas=1"],
+        "threads 1 each 5\nreplica 0 updates 5 total 5\nagree\n",
+    ),
+    (
+        &["lattice", "threads"],
+        "threads 3 each 10\n\
+         replica 0 updates 30 total 30\n\
+         replica 1 updates 30 total 30\n\
+         replica 2 updates 30 total 30\n\
+         agree\n",
+    ),
 ];
 
 #[derive(Clone, Copy)]
@@ -47,7 +80,7 @@ struct Shown {
     status: u8,
 }
 
-const SHOWN: [Shown; 8] = [
+const SHOWN: [Shown; 9] = [
     Shown {
         fault: PlayFault::Script(ScriptFault {
             line: 16777216,
@@ -95,6 +128,11 @@ const SHOWN: [Shown; 8] = [
     Shown {
         fault: PlayFault::WriteFault,
         text: "WriteFault",
+        status: 4,
+    },
+    Shown {
+        fault: PlayFault::NoThread,
+        text: "NoThread",
         status: 4,
     },
 ];
@@ -199,12 +237,17 @@ fn words_of(alloc: Global, words: &[&str]) -> Result<Vec<String>, AllocError> {
 }
 
 // Calls the program with these words.
-fn call_with(alloc: Global, words: &[&str], case: &Case) -> Result<Came, AllocError> {
+fn call_with<R: Threads + Wait + Sync>(
+    rt: &R,
+    alloc: Global,
+    words: &[&str],
+    case: &Case,
+) -> Result<Came, AllocError> {
     let words = words_of(alloc, words)?;
     let mut output = narrow_writer(alloc, case.room, End::Fails);
     let mut errors = narrow_writer(alloc, case.errors_room, End::Fails);
     let mut input = slow_reader(case.script.as_bytes(), 7, case.fails_at);
-    let status = run_boxed(alloc, &words, &mut input, &mut output, &mut errors);
+    let status = run_boxed(rt, alloc, &words, &mut input, &mut output, &mut errors);
     Ok(Came {
         status,
         written: output.taken,
@@ -213,22 +256,32 @@ fn call_with(alloc: Global, words: &[&str], case: &Case) -> Result<Came, AllocEr
 }
 
 // What comes of these words, or `None` for want of memory.
-fn call(alloc: Global, words: &[&str], case: &Case) -> Option<Came> {
-    let came = call_with(alloc, words, case).ok()?;
+fn call<R: Threads + Wait + Sync>(
+    rt: &R,
+    alloc: Global,
+    words: &[&str],
+    case: &Case,
+) -> Option<Came> {
+    let came = call_with(rt, alloc, words, case).ok()?;
     if came.status == 3 { None } else { Some(came) }
 }
 
 // The same, where one refusal of memory is passed over.
-fn called(alloc: Global, words: &[&str], case: &Case) -> Option<Came> {
-    match call(alloc, words, case) {
-        None => call(alloc, words, case),
+fn called<R: Threads + Wait + Sync>(
+    rt: &R,
+    alloc: Global,
+    words: &[&str],
+    case: &Case,
+) -> Option<Came> {
+    match call(rt, alloc, words, case) {
+        None => call(rt, alloc, words, case),
         came => came,
     }
 }
 
 // Whether the program, called with these words, comes to this.
-fn comes_to(alloc: Global, words: &[&str], case: &Case) -> bool {
-    match called(alloc, words, case) {
+fn comes_to<R: Threads + Wait + Sync>(rt: &R, alloc: Global, words: &[&str], case: &Case) -> bool {
+    match called(rt, alloc, words, case) {
         Some(came) => {
             came.status == case.status
                 && came.written.as_slice() == case.written.as_bytes()
@@ -252,8 +305,8 @@ const fn no_script(room: usize, errors_room: usize) -> Case {
 }
 
 // Whether words are told to be mistaken, with status 2, and nothing is written.
-fn is_mistaken(alloc: Global, words: &[&str]) -> bool {
-    match called(alloc, words, &no_script(usize::MAX, usize::MAX)) {
+fn is_mistaken<R: Threads + Wait + Sync>(rt: &R, alloc: Global, words: &[&str]) -> bool {
+    match called(rt, alloc, words, &no_script(usize::MAX, usize::MAX)) {
         Some(came) => {
             came.status == 2 && came.written.is_empty() && came.told.starts_with(b"error: ")
         }
@@ -262,16 +315,16 @@ fn is_mistaken(alloc: Global, words: &[&str]) -> bool {
 }
 
 // Whether the status is the same where standard error takes five bytes of what is told.
-fn is_mistaken_unheard(alloc: Global, words: &[&str]) -> bool {
-    match called(alloc, words, &no_script(usize::MAX, 5)) {
+fn is_mistaken_unheard<R: Threads + Wait + Sync>(rt: &R, alloc: Global, words: &[&str]) -> bool {
+    match called(rt, alloc, words, &no_script(usize::MAX, 5)) {
         Some(came) => came.status == 2 && came.told.as_slice() == b"error".as_slice(),
         None => false,
     }
 }
 
 // Whether words are answered by a text that begins so, with status 0, and nothing is told.
-fn is_shown(alloc: Global, words: &[&str], begins: &str) -> bool {
-    match called(alloc, words, &no_script(usize::MAX, usize::MAX)) {
+fn is_shown<R: Threads + Wait + Sync>(rt: &R, alloc: Global, words: &[&str], begins: &str) -> bool {
+    match called(rt, alloc, words, &no_script(usize::MAX, usize::MAX)) {
         Some(came) => {
             came.status == 0 && came.told.is_empty() && came.written.starts_with(begins.as_bytes())
         }
@@ -280,8 +333,8 @@ fn is_shown(alloc: Global, words: &[&str], begins: &str) -> bool {
 }
 
 // Whether standard output that takes seven bytes of a text ends the program with status 4.
-fn is_cut_short(alloc: Global, words: &[&str]) -> bool {
-    match called(alloc, words, &no_script(7, usize::MAX)) {
+fn is_cut_short<R: Threads + Wait + Sync>(rt: &R, alloc: Global, words: &[&str]) -> bool {
+    match called(rt, alloc, words, &no_script(7, usize::MAX)) {
         Some(came) => {
             came.status == 4
                 && came.written.len() == 7
@@ -292,11 +345,16 @@ fn is_cut_short(alloc: Global, words: &[&str]) -> bool {
 }
 
 // Whether the program, called with these words, writes this.
-fn writes(alloc: Global, words: &[&str], text: &str) -> bool {
-    match called(alloc, words, &no_script(usize::MAX, 0)) {
+fn writes<R: Threads + Wait + Sync>(rt: &R, alloc: Global, words: &[&str], text: &str) -> bool {
+    match called(rt, alloc, words, &no_script(usize::MAX, 0)) {
         Some(came) => came.status == 0 && came.written.as_slice() == text.as_bytes(),
         None => false,
     }
+}
+
+// The same of a run in threads, where a worker that memory was refused to is passed over once.
+fn runs_to<R: Threads + Wait + Sync>(rt: &R, alloc: Global, words: &[&str], text: &str) -> bool {
+    writes(rt, alloc, words, text) || writes(rt, alloc, words, text)
 }
 
 // Whether a program whose words were not gathered, for this kind of error, ends with this status
@@ -319,31 +377,43 @@ fn faults_are_shown_by_name(rt: HostRuntime) {
 #[test]
 fn a_play_comes_to_this(rt: HostRuntime) {
     for case in &CASES {
-        let is = comes_to(rt.alloc(), &["lattice", "play"], case);
+        let is = comes_to(&rt, rt.alloc(), &["lattice", "play"], case);
         assert!(rt; is, "{}", case.told);
     }
-    assert!(rt; comes_to(rt.alloc(), &["", "play"], &CASES[0]));
+    assert!(rt; comes_to(&rt, rt.alloc(), &["", "play"], &CASES[0]));
 }
 
 #[test]
 fn mistaken_words_end_with_status_2(rt: HostRuntime) {
     for words in &MISTAKES {
-        assert!(rt; is_mistaken(rt.alloc(), words), "{}", words.len());
-        assert!(rt; is_mistaken_unheard(rt.alloc(), words), "{}", words.len());
+        assert!(rt; is_mistaken(&rt, rt.alloc(), words), "{}", words.len());
+        assert!(rt;
+            is_mistaken_unheard(&rt, rt.alloc(), words),
+            "{}",
+            words.len()
+        );
     }
 }
 
 #[test]
 fn help_and_the_version_are_printed(rt: HostRuntime) {
     for (words, begins) in &ASKED_FOR {
-        assert!(rt; is_shown(rt.alloc(), words, begins), "{begins}");
-        assert!(rt; is_cut_short(rt.alloc(), words), "{begins}");
+        assert!(rt; is_shown(&rt, rt.alloc(), words, begins), "{begins}");
+        assert!(rt; is_cut_short(&rt, rt.alloc(), words), "{begins}");
     }
 }
 
 #[test]
 fn drawn_events_are_those_of_the_seed(rt: HostRuntime) {
-    assert!(rt; writes(rt.alloc(), &["lattice", "random"], SEED_1.told));
+    assert!(rt; writes(&rt, rt.alloc(), &["lattice", "random"], SEED_1.told));
+}
+
+#[test]
+fn replicas_in_threads_agree(rt: HostRuntime) {
+    for (words, text) in &RUNS {
+        assert!(rt; runs_to(&rt, rt.alloc(), words, text), "{text}");
+        assert!(rt; is_cut_short(&rt, rt.alloc(), words), "{text}");
+    }
 }
 
 #[test]

@@ -1,7 +1,6 @@
 // Members of a group, in one thread and in two.
 mod decisions;
-mod helpers;
+pub mod helpers;
 mod notes;
 mod runs;
 mod threads;
-mod whole;

@@ -5,18 +5,21 @@ ghost use Rattle.std.specs.Prelude.{◌<◌};
 use crate::holds::holds;
 use la_acceptor::{Acceptor, Reply};
 use la_commit::{Outcome, Vote};
-use la_object::{Answer, Query, Replicated};
+use la_object::{Answer, Counter, Query, Replicated};
 use la_orset::OrSet;
 use la_proposer::{Proposer, Votes};
 use la_replica::{Body, Message, Replica};
 use la_set::{Op, Update, UpdateId, UpdateSet};
-use la_world::Report;
+use la_world::{Config, Report};
 use std::alloc::Global;
 use uses::acceptors::acknowledges;
 use uses::commits::{Learner, finish_both};
+use uses::groups::count_together;
+use uses::kept::{Kept, play_again};
+use uses::nodes::{join, three_nodes};
 use uses::orsets::{ask, follow_both, put, removal as removal_of};
 use uses::proposers::hear;
-use uses::replicas::{take_in_and_vote, three_replicas};
+use uses::replicas::take_in_and_vote;
 use uses::scripts::report_of;
 use uses::sets::{added, catch_up, later, merged, removal};
 use uses::worlds::{answer_at, counter_beside_a_set, one_learning, shown};
@@ -229,8 +232,35 @@ fn second_vote(alloc: Global) -> Option<bool> {
     Some(voted.mail.len() == 1 && replica.submitted(2) == Some(1))
 }
 
-fn replicas(alloc: Global) -> Option<bool> {
-    three_replicas(alloc).ok()
+fn nodes(alloc: Global) -> Option<bool> {
+    let answer = three_nodes(alloc).ok()?;
+    Some(matches!(answer, Answer::Total(3)))
+}
+
+// Three nodes that each add to a counter have one view at the end.
+fn groups(alloc: Global) -> Option<bool> {
+    let config = Config {
+        replicas: 3,
+        commits: 0,
+        cap: 10,
+        votes: Votes::one_each(3),
+    };
+    let group = count_together(alloc, config, 100).ok()?;
+    Some(group.len() == 3 && are_one(group[0].view(), group[2].view()))
+}
+
+fn are_one(one: &UpdateSet, other: &UpdateSet) -> bool {
+    one.len() == 3 && one.same(other)
+}
+
+// A new node into which a kept update is played offers it to all three.
+fn kept_calls(alloc: Global) -> Option<bool> {
+    let mut node = join(alloc, 0, Counter::new(alloc)).ok()?;
+    let mut kept = Vec::new(alloc);
+    let op = Op::Inc(5);
+    kept.push(Kept::Update { object: 1, op }).ok()?;
+    play_again(&mut node, &kept).ok()?;
+    Some(node.again().ok()?.len() == 3)
 }
 
 // Each caller is called twice: of one of the calls memory may be refused.
@@ -261,7 +291,9 @@ fn callers_do_what_they_are_for(rt: HostRuntime) {
         "second vote",
         is_so(second_vote(alloc), second_vote(alloc)),
     );
-    holds(&rt, "replicas", is_so(replicas(alloc), replicas(alloc)));
+    holds(&rt, "nodes", is_so(nodes(alloc), nodes(alloc)));
+    holds(&rt, "groups", is_so(groups(alloc), groups(alloc)));
+    holds(&rt, "kept", is_so(kept_calls(alloc), kept_calls(alloc)));
     holds(&rt, "worlds", is_so(worlds(alloc), worlds(alloc)));
     holds(&rt, "questions", is_so(questions(alloc), questions(alloc)));
     holds(&rt, "scripts", is_so(scripts(alloc), scripts(alloc)));

@@ -4,6 +4,7 @@ mod configs;
 mod events;
 mod making;
 mod million;
+mod nodes;
 mod plays;
 mod proposals;
 mod questions;

@@ -19,9 +19,9 @@ use Rattle.clap.specs.Walk.{Rule, nothing_held, rows_after, settled, walk, answe
 use Rattle.clap.specs.Simple.{App, Shape, built, filled, new_shape, argument_words, new_app, entered, label_of, names_of, rows_at}
 use Rattle.clap.specs.Faults.{check_fault, defaults_fault, entered_fault, level_fault, settle_fault, walk_fault}
 use Rattle.la_program.proofs.Faultless.{AllOne, defaults_there, first_none, level_reads, next_none, some_kinds}
-use Rattle.la_program.specs.Calls.{AreGiven, Calls, IsGiven, IsDraw, AreTaken, IsNamed, IsTaken, Names, lattice, option}
+use Rattle.la_program.specs.Calls.{AreGiven, AreSizesGiven, Calls, IsGiven, IsDraw, IsRun, AreTaken, AreSizesTaken, IsNamed, IsTaken, Names, lattice, option}
 use Rattle.la_program.specs.declared.call.Task.{Task}
-use Rattle.la_program.specs.declared.call.Task.TheVariants.{Play, Random}
+use Rattle.la_program.specs.declared.call.Task.TheVariants.{Play, Random, Threads}
 
 some≢none : {X : Type 0} (x : X) → Some x ≡ None → ⊥
 some≢none x e = true≢false (ap (λ o. Rattle.std.specs.Option.is_some o) e)
@@ -107,6 +107,12 @@ names_of_parse words m name rows e f is = sym is ∙ paired (out-ArgMatches m).s
 pub draw_is_named : (words : List Text) (rows : List Row) (task : Task) → Names words (codes "random") rows → IsDraw rows task → IsNamed words task
 draw_is_named words rows Play named draw = absurd draw
 draw_is_named words rows (Random seed replicas events) named draw = (rows, named, draw)
+draw_is_named words rows (Threads replicas each) named draw = absurd draw
+
+pub run_is_named : (words : List Text) (rows : List Row) (task : Task) → Names words (codes "threads") rows → IsRun rows task → IsNamed words task
+run_is_named words rows Play named run = absurd run
+run_is_named words rows (Random seed replicas events) named run = absurd run
+run_is_named words rows (Threads replicas each) named run = (rows, named, run)
 
 -- ---- each faultless command line names a task
 
@@ -129,6 +135,9 @@ replicas_rule = filled_option (codes "replicas") 1 8 (codes "3")
 abbrev events_rule : Rule
 events_rule = filled_option (codes "events") 1 10000 (codes "100")
 
+abbrev each_rule : Rule
+each_rule = filled_option (codes "each") 1 1000 (codes "10")
+
 no : {X : Type 0} → false ≡ true → X
 no e = absurd (true≢false (sym e))
 
@@ -143,6 +152,14 @@ replicas_alone = (inr (refl, refl, refl, λ e. no e), (inr (refl, refl, refl, λ
 events_alone : AllOne events_rule (shape_at 1).rules
 unfolding clap_on_literals
 events_alone = (inr (refl, refl, refl, λ e. no e), (inr (refl, refl, refl, λ e. no e), (inr (refl, refl, refl, λ e. refl), (inl refl, tt))))
+
+run_replicas_alone : AllOne replicas_rule (shape_at 2).rules
+unfolding clap_on_literals
+run_replicas_alone = (inr (refl, refl, refl, λ e. refl), (inr (refl, refl, refl, λ e. no e), (inl refl, tt)))
+
+each_alone : AllOne each_rule (shape_at 2).rules
+unfolding clap_on_literals
+each_alone = (inr (refl, refl, refl, λ e. no e), (inr (refl, refl, refl, λ e. refl), (inl refl, tt)))
 
 module _ (words : List Text) (faultless : level_fault (shape_at 1) [] nothing_held words false [] ≡ []) where
   settled_at_end : List Row
@@ -163,22 +180,41 @@ module _ (words : List Text) (faultless : level_fault (shape_at 1) [] nothing_he
         events = record { text = events.0; given = events.1; passed = events.2 };
       }
 
--- what is named is one of the two, a draw with each of its numbers
+module _ (words : List Text) (faultless : level_fault (shape_at 2) [] nothing_held words false [] ≡ []) where
+  run_settled_at_end : List Row
+  run_settled_at_end = (settled (shape_at 2).rules (walk (shape_at 2).rules [] nothing_held words).held).rows
+
+  both_taken : AreSizesTaken (rows_after (shape_at 2).rules [] words)
+  unfolding clap_on_literals run_settled_at_end
+  both_taken =
+      let replicas = level_reads replicas_rule (shape_at 2) [] words false [] run_replicas_alone
+      (defaults_there replicas_rule (codes "3") [] [] (drop 1 (shape_at 2).rules) run_settled_at_end refl refl) faultless in
+      let each = level_reads each_rule (shape_at 2) [] words false [] each_alone
+      (defaults_there each_rule (codes "10") [] (replicas_rule ∷ []) (drop 2 (shape_at 2).rules) run_settled_at_end refl refl) faultless in
+      record {
+        replicas = record { text = replicas.0; given = replicas.1; passed = replicas.2 };
+        each = record { text = each.0; given = each.1; passed = each.2 };
+      }
+
+-- what is named is one of the three, a draw or a run with each of its numbers
 abbrev pub NamesTask : Option (Text × List Row) → Type 0
-NamesTask o = ((rows : List Row) × (o ≡ Some (codes "play", rows))) ⊎ ((rows : List Row) × (o ≡ Some (codes "random", rows)) × AreTaken rows)
+NamesTask o = ((rows : List Row) × (o ≡ Some (codes "play", rows)))
+    ⊎ (((rows : List Row) × (o ≡ Some (codes "random", rows)) × AreTaken rows)
+    ⊎ ((rows : List Row) × (o ≡ Some (codes "threads", rows)) × AreSizesTaken rows))
 
 named_at : (stop : Option (Text × List Text)) → entered_fault whole stop ≡ [] → is_some (entered whole stop) ≡ true → NamesTask (entered whole stop)
 unfolding clap_on_literals
 named_at None e there = no there
-named_at (Some p) e there = go (answers_to p.0 (label_of (shape_at 0))) (answers_to p.0 (label_of (shape_at 1))) e there
+named_at (Some p) e there = go (answers_to p.0 (label_of (shape_at 0))) (answers_to p.0 (label_of (shape_at 1))) (answers_to p.0 (label_of (shape_at 2))) e there
   where
-    go : (t u : Bool)
-        → option_map_or (λ s. level_fault s [] nothing_held p.1 false []) (cond t (Some (shape_at 0)) (cond u (Some (shape_at 1)) None)) [] ≡ []
-        → is_some (option_map (λ s. rows_at s p.1) (cond t (Some (shape_at 0)) (cond u (Some (shape_at 1)) None))) ≡ true
-        → NamesTask (option_map (λ s. rows_at s p.1) (cond t (Some (shape_at 0)) (cond u (Some (shape_at 1)) None)))
-    go true u f some = inl (_, refl)
-    go false true f some = inr (_, refl, all_taken p.1 f)
-    go false false f some = no some
+    go : (t u v : Bool)
+        → option_map_or (λ s. level_fault s [] nothing_held p.1 false []) (cond t (Some (shape_at 0)) (cond u (Some (shape_at 1)) (cond v (Some (shape_at 2)) None))) [] ≡ []
+        → is_some (option_map (λ s. rows_at s p.1) (cond t (Some (shape_at 0)) (cond u (Some (shape_at 1)) (cond v (Some (shape_at 2)) None)))) ≡ true
+        → NamesTask (option_map (λ s. rows_at s p.1) (cond t (Some (shape_at 0)) (cond u (Some (shape_at 1)) (cond v (Some (shape_at 2)) None))))
+    go true u v f some = inl (_, refl)
+    go false true v f some = inr (inl (_, refl, all_taken p.1 f))
+    go false false true f some = inr (inr (_, refl, both_taken p.1 f))
+    go false false false f some = no some
 
 -- words in which nothing is wrong name a task
 pub faultless_names : (words : List Text) → fault_of lattice words ≡ [] → NamesTask (subcommand_of lattice words)
@@ -207,6 +243,18 @@ play_is_no_draw words a b plays draws =
     let lengths : length (codes "play") ≡ length (codes "random") = ap length names in
     absurd (omega arith)
 
+play_is_no_run : (words : List Text) (a b : List Row) → Names words (codes "play") a → Names words (codes "threads") b → ⊥
+play_is_no_run words a b plays runs =
+    let names : codes "play" ≡ codes "threads" = ap (λ o. unwrap_or (option_map (λ p. p.0) o) []) (sym plays ∙ runs) in
+    let lengths : length (codes "play") ≡ length (codes "threads") = ap length names in
+    absurd (omega arith)
+
+draw_is_no_run : (words : List Text) (a b : List Row) → Names words (codes "random") a → Names words (codes "threads") b → ⊥
+draw_is_no_run words a b draws runs =
+    let names : codes "random" ≡ codes "threads" = ap (λ o. unwrap_or (option_map (λ p. p.0) o) []) (sym draws ∙ runs) in
+    let lengths : length (codes "random") ≡ length (codes "threads") = ap length names in
+    absurd (omega arith)
+
 same_rows : (words : List Text) (name : Text) (a b : List Row) → Names words name a → Names words name b → a ≡ b
 same_rows words name a b x y = ap (λ o. unwrap_or (option_map (λ p. p.1) o) []) (sym x ∙ y)
 
@@ -214,7 +262,20 @@ same_rows words name a b x y = ap (λ o. unwrap_or (option_map (λ p. p.1) o) []
 pub draw_is_taken : (words : List Text) (rows : List Row) → fault_of lattice words ≡ [] → Names words (codes "random") rows → AreTaken rows
 draw_is_taken words rows faultless named = elim (faultless_names words faultless) [
   | inl plays ↦ absurd (play_is_no_draw words plays.0 rows plays.1 named)
-  | inr draws ↦ subst AreTaken (same_rows words (codes "random") draws.0 rows draws.1 named) draws.2
+  | inr other ↦ elim other [
+    | inl draws ↦ subst AreTaken (same_rows words (codes "random") draws.0 rows draws.1 named) draws.2
+    | inr runs ↦ absurd (draw_is_no_run words rows runs.0 named runs.1)
+  ]
+]
+
+-- the same of a run
+pub run_is_taken : (words : List Text) (rows : List Row) → fault_of lattice words ≡ [] → Names words (codes "threads") rows → AreSizesTaken rows
+run_is_taken words rows faultless named = elim (faultless_names words faultless) [
+  | inl plays ↦ absurd (play_is_no_run words plays.0 rows plays.1 named)
+  | inr other ↦ elim other [
+    | inl draws ↦ absurd (draw_is_no_run words draws.0 rows draws.1 named)
+    | inr runs ↦ subst AreSizesTaken (same_rows words (codes "threads") runs.0 rows runs.1 named) runs.2
+  ]
 ]
 
 same_draw : (rows : List Row) (s r e t q f : ℕ) → AreGiven rows s r e → AreGiven rows t q f → Random s r e ≡ Random t q f
@@ -224,6 +285,12 @@ same_draw rows s r e t q f x y =
     let events = given_once rows (codes "events") e f x.events_given y.events_given in
     λ i. Random (seed i) (replicas i) (events i)
 
+same_run : (rows : List Row) (r e q f : ℕ) → AreSizesGiven rows r e → AreSizesGiven rows q f → Threads r e ≡ Threads q f
+same_run rows r e q f x y =
+    let replicas = given_once rows (codes "replicas") r q x.replicas_given y.replicas_given in
+    let each = given_once rows (codes "each") e f x.each_given y.each_given in
+    λ i. Threads (replicas i) (each i)
+
 -- two tasks that the same words call for are one
 pub one_task : (words : List Text) (a b : Task) → Calls words a → Calls words b → a ≡ b
 one_task words Play Play x y = refl
@@ -231,3 +298,9 @@ one_task words Play (Random t q f) x y = absurd (play_is_no_draw words _ _ x.nam
 one_task words (Random s r e) Play x y = absurd (play_is_no_draw words _ _ y.named.1 x.named.1)
 one_task words (Random s r e) (Random t q f) x y =
     same_draw y.named.0 s r e t q f (subst (λ rows. AreGiven rows s r e) (same_rows words (codes "random") x.named.0 y.named.0 x.named.1 y.named.1) x.named.2) y.named.2
+one_task words Play (Threads q f) x y = absurd (play_is_no_run words _ _ x.named.1 y.named.1)
+one_task words (Threads r e) Play x y = absurd (play_is_no_run words _ _ y.named.1 x.named.1)
+one_task words (Random s r e) (Threads q f) x y = absurd (draw_is_no_run words _ _ x.named.1 y.named.1)
+one_task words (Threads r e) (Random t q f) x y = absurd (draw_is_no_run words _ _ y.named.1 x.named.1)
+one_task words (Threads r e) (Threads q f) x y =
+    same_run y.named.0 r e q f (subst (λ rows. AreSizesGiven rows r e) (same_rows words (codes "threads") x.named.0 y.named.0 x.named.1 y.named.1) x.named.2) y.named.2

@@ -1,14 +1,16 @@
 -- How the program ends, by what was done before.
-use Rattle.std.proofs.Common.{◌≡◌, ◌≢◌, ◌∙◌, ℕ, List, Option, inl, inr, ⊎_elim, sym}
+use Rattle.std.proofs.Common.{◌≡◌, ◌≢◌, ◌∙◌, ℕ, Bool, true, false, List, Option, inl, inr, ⊎_elim, sym}
+use Rattle.std.proofs.lemmas.Bool.{false≢true}
 use Rattle.clap.specs.Words.{HasKind, IsAmong, fault_of, kind_of}
 use Rattle.clap.specs.declared.error.Error.{Error}
 use Rattle.clap.specs.declared.error.kind.ErrorKind.TheVariants.{OutOfMemory, DisplayHelp, DisplayVersion}
 use Rattle.la_object.specs.Shelves.{ShelfState}
 use Rattle.la_program.specs.Calls.{lattice, IsText, IsMistaken, AsksForText}
 use Rattle.la_program.specs.Faults.{status_of}
-use Rattle.la_program.specs.Program.{Standard, Tells, TellsFault, EndsWithoutTask, EndsWell}
+use Rattle.la_program.specs.Program.{Standard, Tells, TellsFault, EndsWithoutTask, EndsWell, ComesTo, IsDone, IsDiffering}
+use Rattle.la_program.specs.declared.call.Task.{Task}
 use Rattle.la_program.specs.declared.error.PlayFault.{PlayFault}
-use Rattle.la_program.specs.declared.error.PlayFault.TheVariants.{Script, ReadFault, TooLong, BadConfig, WriteFault, Memory}
+use Rattle.la_program.specs.declared.error.PlayFault.TheVariants.{Script, ReadFault, TooLong, BadConfig, WriteFault, NoThread, Memory}
 use Rattle.la_program.specs.declared.program.Ended.{Ended}
 
 -- no fault has the status 0
@@ -19,6 +21,19 @@ faults_have_a_status Memory e = cc
 faults_have_a_status ReadFault e = cc
 faults_have_a_status BadConfig e = cc
 faults_have_a_status WriteFault e = cc
+faults_have_a_status NoThread e = cc
+
+-- a task that came to a good end was done
+pub is_done : (well : Bool) (task : Task) (shelves : List ShelfState) (left left_after written written_after : Option (List ℕ)) → well ≡ true
+    → ComesTo well task shelves left left_after written written_after → IsDone task shelves left left_after written written_after
+is_done true task shelves left left_after written written_after e done = done
+is_done false task shelves left left_after written written_after e done = absurd (false≢true e)
+
+-- one that did not was a run of replicas that differ
+pub is_differing : (well : Bool) (task : Task) (shelves : List ShelfState) (left left_after written written_after : Option (List ℕ)) → well ≡ false
+    → ComesTo well task shelves left left_after written written_after → IsDiffering task shelves left left_after written written_after
+is_differing false task shelves left left_after written written_after e done = done
+is_differing true task shelves left left_after written written_after e done = absurd (false≢true (sym e))
 
 -- where something is told with a status that is not 0, the status is not 0
 told_status : (told after line : _) (n : ℕ) (ended : Ended) → Tells told after line n ended → n ≢ 0 → ended.status ≢ 0

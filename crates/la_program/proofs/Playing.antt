@@ -50,3 +50,4 @@ answer_is_refused shelves left left_after written bytes fault.BadConfig read is 
 answer_is_refused shelves left left_after written bytes fault.ReadFault read is = absurd is
 answer_is_refused shelves left left_after written bytes fault.TooLong read is = absurd is
 answer_is_refused shelves left left_after written bytes fault.WriteFault read is = absurd is
+answer_is_refused shelves left left_after written bytes fault.NoThread read is = absurd is

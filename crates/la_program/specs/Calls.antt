@@ -7,7 +7,7 @@ use Rattle.clap.specs.declared.builder.value_parser.ValueParser.TheVariants.{Sig
 use Rattle.clap.specs.declared.error.kind.ErrorKind.{ErrorKind}
 use Rattle.clap.specs.declared.error.kind.ErrorKind.TheVariants.{DisplayHelp, DisplayVersion}
 use Rattle.la_program.specs.declared.call.Task.{Task}
-use Rattle.la_program.specs.declared.call.Task.TheVariants.{Play, Random}
+use Rattle.la_program.specs.declared.call.Task.TheVariants.{Play, Random, Threads}
 
 -- ## The command lines of the program
 
@@ -30,11 +30,17 @@ random = with_rule
     (option (codes "replicas") 1 8 (codes "3")))
     (option (codes "events") 1 10000 (codes "100"))
 
+abbrev pub threads : App
+threads = with_rule
+    (with_rule (new_app (codes "threads")) (option (codes "replicas") 1 8 (codes "3")))
+    (option (codes "each") 1 1000 (codes "10"))
+
 -- the name alone calls for nothing; `--help` and `--version` are there, and no word `help`
 abbrev pub lattice : App
 lattice =
     let top = (new_app (codes "lattice")).top in
     with_subcommand
+    (with_subcommand
     (with_subcommand
     (record {
       top = record top {
@@ -43,7 +49,7 @@ lattice =
         disable_help_subcommand = true;
       };
       subs = [];
-    }) play.top) random.top
+    }) play.top) random.top) threads.top
 
 -- ## What they call for
 
@@ -54,7 +60,7 @@ pub record IsGiven (rows : List Row) (name : Text) (n : ℕ) : Type 0 where
   pub numeral : IsNumeral 10 (without_leading_plus text)
   pub value : n ≡ digits_value 10 (without_leading_plus text)
 
--- a text stands for this number of a draw, and its number is from `least` to `most`
+-- a text stands for this number, and its number is from `least` to `most`
 pub record IsTaken (rows : List Row) (name : Text) (least most : ℕ) : Type 0 where
   pub text : Text
   pub given : one_of name rows ≡ Some (without_minus text)
@@ -65,6 +71,11 @@ pub record AreTaken (rows : List Row) : Type 0 where
   pub seed : IsTaken rows (codes "seed") 0 4294967295
   pub replicas : IsTaken rows (codes "replicas") 1 8
   pub events : IsTaken rows (codes "events") 1 10000
+
+-- the same for each number of a run
+pub record AreSizesTaken (rows : List Row) : Type 0 where
+  pub replicas : IsTaken rows (codes "replicas") 1 8
+  pub each : IsTaken rows (codes "each") 1 1000
 
 -- the numbers of a draw are in their ranges
 pub record AreInRange (replicas events : ℕ) : Type 0 where
@@ -80,14 +91,35 @@ pub record AreGiven (rows : List Row) (seed replicas events : ℕ) : Type 0 wher
   pub events_given : IsGiven rows (codes "events") events
   pub in_range : AreInRange replicas events
 
+-- the numbers of a run are in their ranges
+pub record AreSizes (replicas each : ℕ) : Type 0 where
+  pub some_replicas : 1 ≤ replicas
+  pub few_replicas : replicas ≤ 8
+  pub some_each : 1 ≤ each
+  pub few_each : each ≤ 1000
+
+-- these numbers were given, each in its range
+pub record AreSizesGiven (rows : List Row) (replicas each : ℕ) : Type 0 where
+  pub replicas_given : IsGiven rows (codes "replicas") replicas
+  pub each_given : IsGiven rows (codes "each") each
+  pub in_range : AreSizes replicas each
+
 abbrev pub IsInRange : Task → Type 0
 IsInRange Play = Unit {0}
 IsInRange (Random seed replicas events) = AreInRange replicas events
+IsInRange (Threads replicas each) = AreSizes replicas each
 
 -- the task is a draw with the numbers that were given
 abbrev pub IsDraw : (rows : List Row) → Task → Type 0
 IsDraw rows Play = ⊥
 IsDraw rows (Random seed replicas events) = AreGiven rows seed replicas events
+IsDraw rows (Threads replicas each) = ⊥
+
+-- the task is a run with the numbers that were given
+abbrev pub IsRun : (rows : List Row) → Task → Type 0
+IsRun rows Play = ⊥
+IsRun rows (Random seed replicas events) = ⊥
+IsRun rows (Threads replicas each) = AreSizesGiven rows replicas each
 
 -- the words name this subcommand, with these options
 abbrev pub Names : (words : List Text) → (name : Text) → List Row → Type 0
@@ -100,6 +132,10 @@ IsNamed words (Random seed replicas events) =
     (rows : List Row)
     × Names words (codes "random") rows
     × IsDraw rows (Random seed replicas events)
+IsNamed words (Threads replicas each) =
+    (rows : List Row)
+    × Names words (codes "threads") rows
+    × IsRun rows (Threads replicas each)
 
 -- the words call for a task: nothing is wrong with them, and they name it
 pub record Calls (words : List Text) (task : Task) : Type 0 where

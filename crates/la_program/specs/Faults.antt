@@ -3,7 +3,7 @@ use Rattle.std.specs.Prelude.{◌≡◌, ◌⊎◌, ℕ}
 use Rattle.la_script.specs.declared.error.ReadError.{ReadError}
 use Rattle.la_script.specs.declared.error.ReadError.TheVariants as read
 use Rattle.la_program.specs.declared.error.PlayFault.{PlayFault}
-use Rattle.la_program.specs.declared.error.PlayFault.TheVariants.{Script, ReadFault, TooLong, BadConfig, WriteFault, Memory}
+use Rattle.la_program.specs.declared.error.PlayFault.TheVariants.{Script, ReadFault, TooLong, BadConfig, WriteFault, NoThread, Memory}
 use Rattle.la_program.specs.declared.streams.InputFault.{InputFault}
 use Rattle.la_program.specs.declared.streams.InputFault.TheVariants as input
 
@@ -24,6 +24,7 @@ status_of Memory = 3
 status_of ReadFault = 4
 status_of BadConfig = 4
 status_of WriteFault = 4
+status_of NoThread = 4
 
 -- the exit status of a play: it was done, or there was a fault
 abbrev pub IsStatus : ℕ → Type 0

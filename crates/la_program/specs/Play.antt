@@ -64,6 +64,7 @@ IsAnswerRefusal input fault.BadConfig = ⊥
 IsAnswerRefusal input fault.ReadFault = ⊥
 IsAnswerRefusal input fault.TooLong = ⊥
 IsAnswerRefusal input fault.WriteFault = ⊥
+IsAnswerRefusal input fault.NoThread = ⊥
 
 -- ## A draw
 
@@ -132,6 +133,7 @@ IsPlayRefusal shelves left left_after written written_after fault.BadConfig =
     (¬ FitAnyGroup shelves) × Keeps left left_after × Keeps written written_after
 IsPlayRefusal shelves left left_after written written_after fault.WriteFault =
     PlaysPrefix shelves left left_after written written_after
+IsPlayRefusal shelves left left_after written written_after fault.NoThread = ⊥
 
 -- ## From a seed to a writer
 
@@ -166,3 +168,4 @@ IsDrawRefusal shelves seed replicas events written written_after fault.WriteFaul
 IsDrawRefusal shelves seed replicas events written written_after (fault.Script f) = ⊥
 IsDrawRefusal shelves seed replicas events written written_after fault.TooLong = ⊥
 IsDrawRefusal shelves seed replicas events written written_after fault.ReadFault = ⊥
+IsDrawRefusal shelves seed replicas events written written_after fault.NoThread = ⊥

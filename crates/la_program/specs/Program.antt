@@ -1,6 +1,6 @@
 -- What the program does, by the words that call it: what is left to read, what is written and what
 -- is told, before and after, and how it ends.
-use Rattle.std.specs.Prelude.{◌≡◌, ◌⊎◌, ℕ, List, Option, MatchResult}
+use Rattle.std.specs.Prelude.{◌≡◌, ◌⊎◌, ℕ, Bool, true, false, List, Option, MatchResult}
 use Rattle.std.specs.Io.KnownBytes.{Appends, Keeps}
 use Rattle.la_object.specs.Shelves.{ShelfState}
 use Rattle.la_program.specs.declared.error.PlayFault.{PlayFault}
@@ -11,6 +11,7 @@ use Rattle.la_program.specs.declared.program.Ended.{Ended}
 use Rattle.la_program.specs.Streams.{AppendsPrefix}
 use Rattle.la_program.specs.Faults.{status_of}
 use Rattle.la_program.specs.Play.{Plays, IsPlayRefusal, PlaysDraw, IsDrawRefusal}
+use Rattle.la_program.specs.Threads.{RunsThreads, IsThreadsRefusal}
 use Rattle.la_program.specs.Calls.{Calls, AsksForText, IsMistaken}
 use Rattle.la_program.specs.Texts.{fault_line, no_text_line}
 
@@ -50,6 +51,26 @@ IsDone task.Play shelves left left_after written written_after =
     Plays shelves left left_after written written_after
 IsDone (task.Random seed replicas events) shelves left left_after written written_after =
     (left_after ≡ left) × PlaysDraw shelves seed replicas events written written_after
+IsDone (task.Threads replicas each) shelves left left_after written written_after =
+    (left_after ≡ left) × RunsThreads shelves replicas each true written written_after
+
+-- replicas were run and that was printed, but one was stopped, or two differ
+abbrev pub IsDiffering :
+    Task → (shelves : List ShelfState) → (left left_after written written_after : Option (List ℕ)) →
+    Type 0
+IsDiffering task.Play shelves left left_after written written_after = ⊥
+IsDiffering (task.Random seed replicas events) shelves left left_after written written_after = ⊥
+IsDiffering (task.Threads replicas each) shelves left left_after written written_after =
+    (left_after ≡ left) × RunsThreads shelves replicas each false written written_after
+
+-- one of the two
+abbrev pub ComesTo :
+    (well : Bool) → Task → (shelves : List ShelfState) →
+    (left left_after written written_after : Option (List ℕ)) → Type 0
+ComesTo true task shelves left left_after written written_after =
+    IsDone task shelves left left_after written written_after
+ComesTo false task shelves left left_after written written_after =
+    IsDiffering task shelves left left_after written written_after
 
 -- what stands after its refusal
 abbrev pub IsTaskRefusal :
@@ -59,6 +80,8 @@ IsTaskRefusal task.Play shelves left left_after written written_after f =
     IsPlayRefusal shelves left left_after written written_after f
 IsTaskRefusal (task.Random seed replicas events) shelves left left_after written written_after f =
     (left_after ≡ left) × IsDrawRefusal shelves seed replicas events written written_after f
+IsTaskRefusal (task.Threads replicas each) shelves left left_after written written_after f =
+    (left_after ≡ left) × IsThreadsRefusal shelves replicas each written written_after f
 
 -- ## Ends
 
@@ -71,6 +94,16 @@ pub record EndsDone
   pub done : IsDone task shelves old.left new.left old.written new.written
   pub silent : Keeps old.told new.told
   pub status : ended.status ≡ 0
+
+-- a task was called for, and replicas differ, which was printed; nothing was told
+pub record EndsDiffering
+    (words : List (List ℕ)) (shelves : List ShelfState) (old new : Standard) (ended : Ended)
+    : Type 0 where
+  pub task : Task
+  pub called : Calls words task
+  pub differing : IsDiffering task shelves old.left new.left old.written new.written
+  pub silent : Keeps old.told new.told
+  pub status : ended.status ≡ 4
 
 -- a task was called for and refused, and the fault was told
 pub record EndsRefused
@@ -126,9 +159,10 @@ abbrev pub Ends :
     (words : List (List ℕ)) → (shelves : List ShelfState) → (old new : Standard) → Ended → Type 0
 Ends words shelves old new ended =
     EndsDone words shelves old new ended ⊎
-    (EndsRefused words shelves old new ended ⊎ EndsWithoutTask words old new ended)
+    (EndsDiffering words shelves old new ended ⊎
+    (EndsRefused words shelves old new ended ⊎ EndsWithoutTask words old new ended))
 
--- what a status of 0 says: a task was done, or a text that was asked for was written whole
+-- what a status of 0 says: a task was done, replicas agreeing where they were run, or a text that was asked for was written whole
 abbrev pub EndsWell :
     (words : List (List ℕ)) → (shelves : List ShelfState) → (old new : Standard) → Ended → Type 0
 EndsWell words shelves old new ended =

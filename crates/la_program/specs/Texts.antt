@@ -4,7 +4,7 @@ use Rattle.std.specs.Fmt.{decimal}
 use Rattle.la_script.specs.declared.error.FaultName.{FaultName}
 use Rattle.la_script.specs.declared.error.FaultName.TheVariants.{BadHeader, BadLine, BadNumber}
 use Rattle.la_program.specs.declared.error.PlayFault.{PlayFault}
-use Rattle.la_program.specs.declared.error.PlayFault.TheVariants.{Script, ReadFault, TooLong, BadConfig, WriteFault, Memory}
+use Rattle.la_program.specs.declared.error.PlayFault.TheVariants.{Script, ReadFault, TooLong, BadConfig, WriteFault, NoThread, Memory}
 
 abbrev pub name_of : FaultName → List ℕ
 name_of BadHeader = codes "BadHeader"
@@ -18,6 +18,7 @@ fault_text TooLong = codes "TooLong"
 fault_text ReadFault = codes "ReadFault"
 fault_text BadConfig = codes "BadConfig"
 fault_text WriteFault = codes "WriteFault"
+fault_text NoThread = codes "NoThread"
 fault_text Memory = codes "Memory"
 
 abbrev pub fault_line : PlayFault → List ℕ

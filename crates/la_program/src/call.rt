@@ -3,8 +3,8 @@ ghost use Rattle.std.specs.Prelude.{◌≡◌, false, map, string_bytes, IfOk, I
 ghost use Rattle.clap.specs.Words.{app_of, found_of, rows_of, rule_of, HasKind, fault_of};
 ghost use Rattle.clap.specs.declared.builder.command.Command.TheViews.{out-Command as fields_of};
 ghost use Rattle.clap.specs.declared.builder.value_parser.ValueParser.TheVariants.{Signed};
-ghost use Rattle.la_program.specs.Calls.{option, play, random, lattice};
-ghost use Rattle.la_program.specs.Calls.{AreTaken, Calls, IsDraw, IsInRange};
+ghost use Rattle.la_program.specs.Calls.{option, play, random, threads, lattice};
+ghost use Rattle.la_program.specs.Calls.{AreTaken, AreSizesTaken, Calls, IsDraw, IsRun, IsInRange};
 
 use clap::builder::ValueParser;
 use clap::{Arg, ArgMatches, Command, Error, value_parser};
@@ -23,6 +23,13 @@ pub enum Task {
         replicas: u8,
         /// How many events are drawn: 1 to 10,000.
         events: u32,
+    },
+    /// A group is run with a thread for each replica, and what its logs come to is printed.
+    Threads {
+        /// How many replicas the group has: 1 to 8.
+        replicas: u8,
+        /// How many updates each of them makes: 1 to 1,000.
+        each: u32,
     },
 }
 
@@ -78,17 +85,39 @@ fn random_command<'a>(alloc: Global) -> Result<Command<'a>, AllocError>
         .arg(events)
 }
 
+fn threads_command<'a>(alloc: Global) -> Result<Command<'a>, AllocError>
+    ensures app { IfOk result (λ made. app_of made ≡ threads) }
+    ensures local { IfOk result (λ made. (fields_of made).has_globals ≡ false) }
+{
+    let sizes = value_parser!(u8).range(1..=8);
+    let counts = value_parser!(u32).range(1..=1000);
+    let replicas = number(alloc, "replicas", sizes, "3", "How many replicas, 1 to 8");
+    let each = number(
+        alloc,
+        "each",
+        counts,
+        "10",
+        "How many updates each makes, 1 to 1000",
+    );
+    Command::new(alloc, "threads")
+        .about("Runs replicas in threads of their own: lattice threads --replicas 4 --each 50")
+        .arg(replicas)?
+        .arg(each)
+}
+
 fn program<'a>(alloc: Global) -> Result<Command<'a>, AllocError>
     ensures app { IfOk result (λ made. app_of made ≡ lattice) }
 {
     let random = random_command(alloc)?;
+    let threads = threads_command(alloc)?;
     Command::new(alloc, "lattice")
         .version("1")
         .about(ABOUT)
         .subcommand_required(true)
         .disable_help_subcommand(true)
         .subcommand(play_command(alloc))?
-        .subcommand(random)
+        .subcommand(random)?
+        .subcommand(threads)
 }
 
 // The numbers of a draw, each of which is there and in its range.
@@ -103,10 +132,21 @@ fn drawn(given: &ArgMatches<'_>) -> Task
     }
 }
 
+// The numbers of a run, each of which is there and in its range.
+fn run_of(given: &ArgMatches<'_>) -> Task
+    requires { AreSizesTaken (rows_of (found_of given.now)) }
+    ensures { IsRun (rows_of (found_of given.now)) result }
+{
+    Task::Threads {
+        replicas: given.get_one::<u8>("replicas").unwrap(),
+        each: given.get_one::<u32>("each").unwrap(),
+    }
+}
+
 /// What the words of a command line call for, the program's name first.
 ///
-/// Words in which nothing is wrong call for a task; a draw's numbers are those of its options, or
-/// their defaults. An error has a kind that `clap` finds in the words: they ask for help or for the
+/// Words in which nothing is wrong call for a task; the numbers of a draw or a run are those of its
+/// options, or their defaults. An error has a kind that `clap` finds in the words: they ask for help or for the
 /// version, or they are mistaken. Or its kind is `OutOfMemory`, which comes of memory alone.
 pub fn command(alloc: Global, words: &[String]) -> Result<Task, Error>
     ensures ok { IfOk result (Calls (map string_bytes words.now)) }
@@ -117,8 +157,9 @@ pub fn command(alloc: Global, words: &[String]) -> Result<Task, Error>
     match matches.subcommand() {
         Some((name, _)) if name == "play" => Ok(Task::Play),
         Some((name, given)) if name == "random" => Ok(drawn(given)),
+        Some((name, given)) if name == "threads" => Ok(run_of(given)),
         // `crate::proofs::CommandLines::faultless_names`: a subcommand is required, and there are
-        // these two.
+        // these three.
         _ => unreachable!(),
     }
 }

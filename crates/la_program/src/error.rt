@@ -10,7 +10,7 @@ use std::alloc::AllocError;
 use std::error::Error;
 use std::fmt;
 
-/// Why a script, or drawn events, were not played to a writer. It is shown as the program tells it.
+/// Why a script or drawn events were not played to a writer, or no logs were printed. It is shown as the program tells it.
 #[derive(Clone, Copy, Debug, PartialEq, Eq)]
 pub enum PlayFault {
     /// The bytes are no script: the first faulty line, and what is wrong with it. Nothing was
@@ -30,6 +30,9 @@ pub enum PlayFault {
     /// A write or the flush failed, or a write took no byte. The first bytes of the report's text
     /// were written, perhaps none, perhaps all.
     WriteFault,
+
+    /// A thread could not be started. Nothing was written.
+    NoThread,
 
     /// A growth was refused. Nothing was written.
     Memory,

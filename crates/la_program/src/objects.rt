@@ -15,6 +15,8 @@ use la_orset::OrSet;
 use la_set::REPLICAS;
 use std::alloc::{AllocError, Global};
 use std::io::{ErrorKind, Read, Write};
+use std::sync::Wait;
+use std::thread::Threads;
 
 // Three objects under the numbers that they have on each shelf.
 fn numbered<B: Replicated>(
@@ -55,7 +57,15 @@ fn shelves_of<B: Replicated, F: Fn() -> Result<Numbered<B>, AllocError>>(
 }
 
 // The program with such objects.
-fn run_with<R: Read, W: Write, E: Write, B: Replicated, F: Fn() -> Result<Numbered<B>, AllocError>>(
+fn run_with<
+    P: Threads + Wait + Sync,
+    R: Read,
+    W: Write,
+    E: Write,
+    B: Replicated,
+    F: Fn() -> Result<Numbered<B>, AllocError>,
+>(
+    rt: &P,
     alloc: Global,
     words: &[String],
     input: &mut R,
@@ -76,7 +86,7 @@ fn run_with<R: Read, W: Write, E: Write, B: Replicated, F: Fn() -> Result<Number
         (record { status = result; told = told }) }
 {
     match shelves_of(alloc, make) {
-        Ok(shelves) => run_words(alloc, words, input, output, errors, shelves),
+        Ok(shelves) => run_words(rt, alloc, words, input, output, errors, shelves),
         Err(_) => end_without_words(ErrorKind::OutOfMemory, errors).status,
     }
 }
@@ -87,7 +97,8 @@ fn run_with<R: Read, W: Write, E: Write, B: Replicated, F: Fn() -> Result<Number
 /// register under 2 and an observed-remove set under 3. Want of memory while these are made is told
 /// as any other, with nothing read or written. Where `errors` does not take what is told, a front of
 /// it was written, and the status is the same.
-pub fn run_boxed<R: Read, W: Write, E: Write>(
+pub fn run_boxed<P: Threads + Wait + Sync, R: Read, W: Write, E: Write>(
+    rt: &P,
     alloc: Global,
     words: &[String],
     input: &mut R,
@@ -111,5 +122,5 @@ pub fn run_boxed<R: Read, W: Write, E: Write>(
         let set: Box<dyn Replicated + Send> = Box::new(alloc, OrSet::new(alloc))?;
         numbered(alloc, counter, register, set)
     };
-    run_with(alloc, words, input, output, errors, make)
+    run_with(rt, alloc, words, input, output, errors, make)
 }

@@ -75,7 +75,7 @@ pub fn answer_to<B: Replicated>(
 }
 
 // Writes a text. Where it fails, the first bytes were written.
-fn write_out<W: Write>(writer: &mut W, text: &Pieces) -> Result<(), PlayFault>
+pub(crate) fn write_out<W: Write>(writer: &mut W, text: &Pieces) -> Result<(), PlayFault>
     ensures ok { OnOk result (Writes W.contents writer.old writer.new (joined text.now)) }
     ensures error { IfErr result (λ fault. (fault ≡ WriteFault)
         × WritesPrefix W.contents writer.old writer.new (joined text.now)) }

@@ -1,20 +1,23 @@
 // The whole program but for the real streams.
-ghost use Rattle.std.specs.Prelude.{◌≡◌, ◌≢◌, map, string_bytes, IfErr, OnOk, Result};
+ghost use Rattle.std.specs.Prelude.{◌≡◌, ◌≢◌, map, string_bytes, IfOk, IfErr, Result};
 ghost use Rattle.clap.specs.Words.{HasKind, fault_of};
 ghost use Rattle.la_program.specs.declared.error.PlayFault.TheVariants.{Memory};
 ghost use Rattle.la_program.specs.Calls.{lattice, IsInRange};
 ghost use Rattle.la_program.specs.Faults.{status_of};
-ghost use Rattle.la_program.specs.Program.{Ends, EndsWell, EndsWithoutTask, IsDone, IsTaskRefusal};
+ghost use Rattle.la_program.specs.Program.{Ends, EndsWell, EndsWithoutTask, ComesTo, IsTaskRefusal};
 ghost use Rattle.la_program.specs.Program.{TellsFault, TellsNoText, standard};
 
 use crate::call::{Task, command};
 use crate::streams::{WriteFailed, write_all};
 use crate::telling::{tell, tell_no_text};
+use crate::threads::play_threads;
 use crate::{PlayFault, play_random, play_stream};
 use clap::Error;
 use la_object::{Replicated, Shelf};
 use std::alloc::Global;
 use std::io::{ErrorKind, Read, Write};
+use std::sync::Wait;
+use std::thread::Threads;
 
 /// How the program ended.
 #[derive(Clone, Copy)]
@@ -32,7 +35,8 @@ pub fn status_of(fault: PlayFault) -> u8
     match fault {
         PlayFault::Script(_) | PlayFault::TooLong => 1,
         PlayFault::Memory => 3,
-        PlayFault::ReadFault | PlayFault::BadConfig | PlayFault::WriteFault => 4,
+        PlayFault::ReadFault | PlayFault::BadConfig | PlayFault::WriteFault | PlayFault::NoThread =>
+            4,
     }
 }
 
@@ -46,16 +50,18 @@ fn end_with<E: Write>(fault: PlayFault, errors: &mut E) -> Ended
     }
 }
 
-// Does what was called for.
-fn perform<R: Read, W: Write, B: Replicated>(
+// Does what was called for. Answers whether all is well: only a run of replicas that stopped or that
+// differ is not.
+fn perform<P: Threads + Wait + Sync, R: Read, W: Write, B: Replicated>(
+    rt: &P,
     alloc: Global,
     task: Task,
     input: &mut R,
     output: &mut W,
     shelves: Vec<Shelf<B>>,
-) -> Result<(), PlayFault>
+) -> Result<bool, PlayFault>
     requires { IsInRange task }
-    ensures ok { OnOk result (IsDone task shelves.items
+    ensures ok { IfOk result (λ well. ComesTo well task shelves.items
         (R.remaining input.old) (R.remaining input.new)
         (W.contents output.old) (W.contents output.new)) }
     ensures error { IfErr result (IsTaskRefusal task shelves.items
@@ -63,12 +69,21 @@ fn perform<R: Read, W: Write, B: Replicated>(
         (W.contents output.old) (W.contents output.new)) }
 {
     match task {
-        Task::Play => play_stream(alloc, input, output, shelves),
+        Task::Play => match play_stream(alloc, input, output, shelves) {
+            Ok(()) => Ok(true),
+            Err(fault) => Err(fault),
+        },
         Task::Random {
             seed,
             replicas,
             events,
-        } => play_random(alloc, seed, replicas, events, output, shelves),
+        } => match play_random(alloc, seed, replicas, events, output, shelves) {
+            Ok(()) => Ok(true),
+            Err(fault) => Err(fault),
+        },
+        Task::Threads { replicas, each } => {
+            play_threads(rt, alloc, replicas, each, output, shelves)
+        }
     }
 }
 
@@ -111,7 +126,8 @@ fn end_without_task<W: Write, E: Write>(
 ///
 /// What it does and tells, and the status, are those of the crate's documentation. Where `errors`
 /// does not take what is told, a front of it was written, and the status is the same.
-pub fn carry_out<R: Read, W: Write, E: Write, B: Replicated>(
+pub fn carry_out<P: Threads + Wait + Sync, R: Read, W: Write, E: Write, B: Replicated>(
+    rt: &P,
     alloc: Global,
     words: &[String],
     input: &mut R,
@@ -127,9 +143,9 @@ pub fn carry_out<R: Read, W: Write, E: Write, B: Replicated>(
         (standard (R.remaining input.new) (W.contents output.new) (E.contents errors.new)) result }
 {
     match command(alloc, words) {
-        Ok(task) => match perform(alloc, task, input, output, shelves) {
-            Ok(()) => Ended {
-                status: 0,
+        Ok(task) => match perform(rt, alloc, task, input, output, shelves) {
+            Ok(well) => Ended {
+                status: if well { 0 } else { 4 },
                 told: Ok(()),
             },
             Err(fault) => end_with(fault, errors),
@@ -141,7 +157,8 @@ pub fn carry_out<R: Read, W: Write, E: Write, B: Replicated>(
 /// The program over any streams, called by these words, its name first: its exit status.
 ///
 /// Where `errors` does not take what is told, a front of it was written, and the status is the same.
-pub fn run_words<R: Read, W: Write, E: Write, B: Replicated>(
+pub fn run_words<P: Threads + Wait + Sync, R: Read, W: Write, E: Write, B: Replicated>(
+    rt: &P,
     alloc: Global,
     words: &[String],
     input: &mut R,
@@ -158,7 +175,7 @@ pub fn run_words<R: Read, W: Write, E: Write, B: Replicated>(
         (standard (R.remaining input.new) (W.contents output.new) (E.contents errors.new))
         (record { status = result; told = told }) }
 {
-    carry_out(alloc, words, input, output, errors, shelves).status
+    carry_out(rt, alloc, words, input, output, errors, shelves).status
 }
 
 /// The end of a program whose words were not gathered, for an error of this kind.

@@ -44,6 +44,7 @@ pub(crate) fn text_of(fault: PlayFault) -> FaultLine
         PlayFault::ReadFault => text.push_str("ReadFault"),
         PlayFault::BadConfig => text.push_str("BadConfig"),
         PlayFault::WriteFault => text.push_str("WriteFault"),
+        PlayFault::NoThread => text.push_str("NoThread"),
     }
     text
 }

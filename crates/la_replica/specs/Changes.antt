@@ -6,6 +6,7 @@ use Rattle.la_set.specs.Histories.{Histories}
 use Rattle.la_set.specs.Inclusion.{is_larger}
 use Rattle.la_acceptor.specs.Answer.{accepted_next}
 use Rattle.la_acceptor.specs.declared.reply.Reply.TheVariants as replied
+use Rattle.la_proposer.specs.declared.ballot.Ballot.{Ballot}
 use Rattle.la_proposer.specs.declared.change.Change as proposer_change
 use Rattle.la_proposer.specs.declared.tally.Verdict.{Verdict}
 use Rattle.la_proposer.specs.declared.tally.Verdict.TheVariants.{Waits, Refines, Learns}
@@ -28,10 +29,10 @@ abbrev pub IsProposerFrom : ProposerState → Option proposer_change.Change → 
 IsProposerFrom p None = Unit {0}
 IsProposerFrom p (Some c) = proposer_changes.IsPreparedFrom p c
 
--- a set in the place of what was, or that
-abbrev pub learnt_next : Option Histories → Option Histories → Option Histories
+-- what is given in the place of what was, or that
+abbrev pub learnt_next : Option Ballot → Option Ballot → Option Ballot
 learnt_next before None = before
-learnt_next before (Some s) = Some s
+learnt_next before (Some b) = Some b
 
 abbrev pub view_next : Histories → Option Histories → Histories
 view_next view None = view

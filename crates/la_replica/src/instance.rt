@@ -10,10 +10,10 @@ ghost use Rattle.la_proposer.specs.ProposerState.{submitted, op_on};
 ghost use Rattle.la_proposer.specs.Refusals.{SubmissionSpends, IsVerdictOf};
 ghost use Rattle.la_replica.specs.declared.instance.Instance.{Instance as InstanceOf};
 ghost use Rattle.la_replica.specs.declared.out.Said.TheVariants.{Answered};
-ghost use Rattle.la_replica.specs.Whole.{whole_of, whole_out, whole_body};
+ghost use Rattle.la_replica.specs.Whole.{whole_of, whole_out, whole_body, Adds};
 ghost use Rattle.la_replica.specs.Messages.{reply_of, reply_to};
-ghost use Rattle.la_replica.specs.Steps.{learnt_in, said_of, fresh, submits, answers, hears, is_told};
-ghost use Rattle.la_replica.specs.Steps.{receives};
+ghost use Rattle.la_replica.specs.Steps.{fresh, submits, answers, hears, is_told, receives};
+ghost use Rattle.la_replica.specs.Steps.{last_learnt_after};
 ghost use Rattle.la_replica.specs.Refusals.{IsSubmissionRefusal, HearingFits, HearingSpares};
 ghost use Rattle.la_replica.specs.Refusals.{IsHearingRefusal, IsMessageRefusal, FitsMessage};
 ghost use Rattle.la_replica.specs.Refusals.{SparesMessage};
@@ -21,11 +21,12 @@ ghost use Rattle.la_replica.specs.Memory.{IsFreeReply, IsFreeMessage};
 ghost use Rattle.la_replica.specs.Changes.{proposer_after, IsProposerFrom, learnt_next, step_by};
 ghost use Rattle.la_replica.specs.Changes.{candidate, is_taken, learnt_in_view, told_in_view};
 ghost use Rattle.la_replica.specs.Changes.{IsVerdictOn};
+ghost use Rattle.la_replica.specs.Again.{again_in};
 
 use crate::sender::Sender;
 use crate::{Body, Change, Mail, Message, Out, ReplicaError, Said};
 use la_acceptor::{Acceptor, Reply};
-use la_proposer::{Heard, Proposer, Verdict, Votes};
+use la_proposer::{Ballot, Heard, Proposer, Verdict, Votes};
 use la_set::{Op, UpdateId, UpdateSet};
 use std::alloc::{AllocError, Global};
 
@@ -34,8 +35,8 @@ use std::alloc::{AllocError, Global};
 pub struct Instance {
     pub acceptor: Acceptor,
     pub proposer: Proposer,
-    /// The set that was learnt last.
-    pub learnt: Option<UpdateSet>,
+    /// The ballot that was learnt last.
+    pub learnt: Option<Ballot>,
 }
 
 impl Instance {
@@ -265,7 +266,7 @@ impl Instance {
         let (from, ballot) = (message.from, message.ballot);
         let (heard, change) = self.proposer.prepare_reply(verdict, from, ballot, reply)?;
         let mail = sender.mail(alloc, ballot, &heard)?;
-        let learnt = learnt_copy(&heard)?;
+        let learnt = learnt_copy(ballot, &heard)?;
         let view = set_if(taken, self.proposer.updates())?;
         let said = Said::from(heard);
         let change = Change {
@@ -277,12 +278,22 @@ impl Instance {
         Ok((Out { said, mail }, change))
     }
 
+    // Adds what a timer should send once more: the open ballot's offers to those of whom no reply
+    // has counted, and the tells of what was learnt last.
+    pub fn again(&self, mail: &mut Mail, sender: &Sender) -> Result<(), AllocError>
+        ensures ok { OnOk result (Adds mail.old mail.new (again_in sender.now self.now)) }
+        ensures nothing { again_in sender.now self.now ≡ [] → IsOk result }
+    {
+        sender.offer_again(mail, &self.proposer)?;
+        sender.tell_again(mail, &self.learnt)
+    }
+
     // Does what was prepared from this very instance. It can't be refused, and takes no memory.
     pub fn commit(
         &mut self,
         accepted: Option<UpdateSet>,
         proposer: Option<la_proposer::Change>,
-        learnt: Option<UpdateSet>,
+        learnt: Option<Ballot>,
     )
         requires { IsProposerFrom self.old.proposer proposer }
         ensures { self.new ≡ record {
@@ -301,13 +312,16 @@ impl Instance {
     }
 }
 
-// A copy of what was learnt, if something was.
-fn learnt_copy(heard: &Heard) -> Result<Option<UpdateSet>, AllocError>
-    ensures ok { IfOk result (λ learnt. learnt ≡ learnt_in (said_of heard.now)) }
+// A copy of the ballot that was learnt, which has this number, if one was.
+fn learnt_copy(number: u32, heard: &Heard) -> Result<Option<Ballot>, AllocError>
+    ensures ok { IfOk result (λ learnt. learnt ≡ last_learnt_after None number heard.now) }
     ensures free { heard.now ≡ Heard.Counted → IsOk result }
 {
     match heard {
-        Heard::Learnt(learnt, _) => Ok(Some(learnt.copy()?)),
+        Heard::Learnt(learnt, _) => Ok(Some(Ballot {
+            number,
+            updates: learnt.copy()?,
+        })),
         Heard::Counted | Heard::Ignored | Heard::Refined(_) => Ok(None),
     }
 }

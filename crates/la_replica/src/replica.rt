@@ -1,11 +1,11 @@
 ghost use Rattle.std.specs.Prelude.{◌≡◌, ◌≢◌, ◌+◌, ◌*◌, ◌<◌, ◌≤◌, length, slice_get, ℕ};
-ghost use Rattle.std.specs.Prelude.{true, Some, None, IsOk, IfOk, IfErr, OnOk, OnErr};
+ghost use Rattle.std.specs.Prelude.{[], true, Some, None, IsOk, IfOk, IfErr, OnOk, OnErr};
 ghost use Rattle.std.specs.Option.{option_copied};
 ghost use Rattle.la_set.specs.Inclusion.{IsSubset};
 ghost use Rattle.la_proposer.specs.declared.proposer.TheConstants.{MAX_CAP};
 ghost use Rattle.la_proposer.specs.Majority.{votes_of};
 ghost use Rattle.la_proposer.specs.ProposerState.{op_on};
-ghost use Rattle.la_replica.specs.Whole.{whole_of, whole_out, whole_body};
+ghost use Rattle.la_replica.specs.Whole.{whole_of, whole_out, whole_body, whole_mail};
 ghost use Rattle.la_replica.specs.ReplicaState.{ReplicaState, start, submits, receives, sender_of};
 ghost use Rattle.la_replica.specs.ReplicaState.{last_learnt, submitted_in, InInstance};
 ghost use Rattle.la_replica.specs.Invariant.{IsReplicaState};
@@ -15,11 +15,12 @@ ghost use Rattle.la_replica.specs.Fitting.{FitsReceiver};
 ghost use Rattle.la_replica.specs.Memory.{IsFree};
 ghost use Rattle.la_replica.specs.Changes.{IsPreparedFrom, after_commit, led, AreSameIn, LeadsThere};
 ghost use Rattle.la_replica.specs.Changes.{IsVerdictOn, candidate, is_taken};
+ghost use Rattle.la_replica.specs.Again.{again};
 
 use crate::instance::Instance;
 use crate::sender::Sender;
 use crate::view::{is_taken, is_taken_fitting};
-use crate::{Change, Message, Out, ReplicaError};
+use crate::{Change, Mail, Message, Out, ReplicaError};
 use la_commit::MAX_COMMITS;
 use la_proposer::{Verdict, Votes};
 use la_set::{Op, UpdateSet};
@@ -103,7 +104,8 @@ impl Replica {
     pub fn last_learnt(&self, instance: u8) -> Option<&UpdateSet>
         ensures { option_copied result ≡ last_learnt self.now instance }
     {
-        self.instances.get(instance as usize)?.learnt.as_ref()
+        let learnt = self.instances.get(instance as usize)?.learnt.as_ref()?;
+        Some(&learnt.updates)
     }
 
     /// How many updates it has submitted in an instance; `None` where there is no such instance.
@@ -273,6 +275,25 @@ impl Replica {
             Some(at) => at.admit_message(message),
             None => Err(ReplicaError::NoSuchInstance),
         }
+    }
+
+    /// What a timer should send once more where answers stay away. Of each instance, in order: while
+    /// a ballot is open, its offer to each replica of the group, itself among them, of which no reply
+    /// has counted there; then, in instance 0, the tells of the set that was learnt last. Nothing
+    /// changes. Each message is one that was sent.
+    ///
+    /// It is refused for want of memory alone, and takes none where there is nothing to send. The
+    /// cost is that of a message for each, whose sets are shared.
+    pub fn again(&self) -> Result<Mail, AllocError>
+        ensures mail { IfOk result (λ mail. whole_mail mail ≡ again self.now) }
+        ensures nothing { again self.now ≡ [] → IsOk result }
+    {
+        let mut mail = Mail::new(*self.instances.allocator());
+        for instance in 0..self.instances.len() as u8 {
+            let sender = self.sender(instance);
+            self.instances[instance as usize].again(&mut mail, &sender)?;
+        }
+        Ok(mail)
     }
 
     // The verdict on a message, where it is a reply.

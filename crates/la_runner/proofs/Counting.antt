@@ -11,7 +11,7 @@ use Rattle.la_set.proofs.Differences.{same_length}
 use Rattle.la_object.specs.Shelves.{ShelfState}
 use Rattle.la_runner.specs.declared.jobs.Job.{Job}
 use Rattle.la_runner.specs.Members.{MemberState, GroupState, IsOf, view}
-use Rattle.la_runner.specs.Runs.{Place, Back, place_of, places, IsReady, ContainsAll, NotesHold, IsRunConfig}
+use Rattle.la_runner.specs.Runs.{Place, Back, place_of, places, IsReady, ContainsAll, ViewsHold, IsRunConfig}
 use Rattle.la_runner.proofs.Keeping.{item_at, long_map, get_map, map_set}
 use Rattle.la_runner.proofs.Passing.{get-set_same, get-set_other, map-set_other}
 use Rattle.la_runner.proofs.Proposing.{some_same}
@@ -176,7 +176,7 @@ one_noted notes views upto n there so_far now at m lt got e = elim (cases_eq at 
     is_plus : n ≡ m → n + 1 ≡ m + 1
     is_plus is = ap (λ i. i + 1) is
 
-pub all_noted : (notes : List ℕ) (views : List Histories) (upto : ℕ) → upto ≡ length notes → CountedTo notes views upto → NotesHold notes views
+pub all_noted : (notes : List ℕ) (views : List Histories) (upto : ℕ) → upto ≡ length notes → CountedTo notes views upto → ViewsHold notes views
 all_noted notes views upto whole so_far at n got e = so_far at n (let lt = slice_get_within notes at n got in omega (arith, whole, lt)) got e
 
 pub map_map : {A B C : Type 0} (f : A → B) (g : B → C) (xs : List A) → map g (map f xs) ≡ map (λ x. g (f x)) xs

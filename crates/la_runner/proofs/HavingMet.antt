@@ -119,7 +119,7 @@ module _ (m : MemberState) (is : IsMember m) (n : NoteState) (note : IsNote n) (
   same_learnt : (i : ℕ) → last_learnt mid i ≡ last_learnt m i
   same_learnt i = each_met (λ o q t. learnt_of q ≡ learnt_of o) (λ t x y m. m.learnt) refl i
 
-  same_view : view mid ≡ view m
+  pub same_view : view mid ≡ view m
   same_view = each_met (λ o q t. view_of q ≡ view_of o) (λ t x y m. m.view) refl 0
 
   pub mid_member : IsMember mid
@@ -150,6 +150,16 @@ module _ (m : MemberState) (is : IsMember m) (n : NoteState) (note : IsNote n) (
     submitted = λ i. same_prefix (submitted_in m i) (submitted_in mid i) (same_submitted i);
     grows = subst (IsSubset (view m)) (sym same_view) (subset-refl (view m));
   }
+
+  told_nothing : (a : ℕ) → told_at [] a ≡ []
+  unfolding told_at
+  told_nothing a = refl
+
+  pub mid_told : (i a : ℕ) → IsPrefix (told_at (told_of (slice_get n.told i)) a) (seen_at (passes_of (slice_get ys i)) a)
+  mid_told i a = each_met (λ o q t. IsPrefix (told_at (told_of t) a) (seen_at (passes_of q) a)) (λ t x z m. m.told a) (subst (λ l. IsPrefix l (seen_at [] a)) (sym (told_nothing a)) (seen_at [] a, refl)) i
+
+  pub mid_doings : doings mid ≡ doings m
+  mid_doings = map_each (λ (z : InstanceState). (z.proposer, z.learnt)) m.instances ys all.sizes (λ i x z was now. let t = there_too n.told m.instances i x told_long was in let e = all.each i t.0 x z t.1 was now in λ k. (e.proposer k, e.learnt k))
 
   -- ## The view
 
@@ -198,17 +208,11 @@ module _ (m : MemberState) (is : IsMember m) (n : NoteState) (note : IsNote n) (
       passes_now : (i : ℕ) → passes_of (slice_get (slice_set ys 0 now) i) ≡ passes_of (slice_get ys i)
       passes_now i = each_instance mid 0 y now at (λ o q. passes_of q ≡ passes_of o) refl (λ o. refl) i
 
-      told_nothing : (a : ℕ) → told_at [] a ≡ []
-      unfolding told_at
-      told_nothing a = refl
-
       pub has_met : HasMet n m (with_instance mid 0 now)
       has_met = record {
-        told = λ i a. subst (λ l. IsPrefix (told_at (told_of (slice_get n.told i)) a) (seen_at l a)) (sym (passes_now i))
-            (each_met (λ o q t. IsPrefix (told_at (told_of t) a) (seen_at (passes_of q) a)) (λ t x z m. m.told a) (subst (λ l. IsPrefix l (seen_at [] a)) (sym (told_nothing a)) (seen_at [] a, refl)) i);
+        told = λ i a. subst (λ l. IsPrefix (told_at (told_of (slice_get n.told i)) a) (seen_at l a)) (sym (passes_now i)) (mid_told i a);
         mine = λ i a. ap (λ l. mine_at l a) (passes_now i) ∙ each_met (λ o q t. mine_at (passes_of q) a ≡ mine_at (passes_of o) a) (λ t x z m. m.mine a) refl i;
-        same = map-set_other (λ (z : InstanceState). (z.proposer, z.learnt)) ys 0 y now at refl
-            ∙ map_each (λ (z : InstanceState). (z.proposer, z.learnt)) m.instances ys all.sizes (λ i x z was now. let t = there_too n.told m.instances i x told_long was in let e = all.each i t.0 x z t.1 was now in λ k. (e.proposer k, e.learnt k));
+        same = map-set_other (λ (z : InstanceState). (z.proposer, z.learnt)) ys 0 y now at refl ∙ mid_doings;
         view = subst (λ (z : Histories × Histories). IsLarger n.view z.0 z.1) (λ k. ((sym (ap view_of at) ∙ same_view) k, sym (ap view_of (there mid 0 y now at)) k)) larger;
       }
 

@@ -17,7 +17,7 @@ use Rattle.la_runner.specs.Notes.{told_seen, told_at, told_names}
 use Rattle.la_runner.proofs.Fresh.{item_there}
 use Rattle.la_runner.proofs.Passing.{prefix_trans, on_refl, on_trans, get-set_same, get-set_other, Grown, grown}
 
-grown_trans : (s : Histories) (ps qs rs : List Known) → Grown s ps qs → Grown s qs rs → Grown s ps rs
+pub grown_trans : (s : Histories) (ps qs rs : List Known) → Grown s ps qs → Grown s qs rs → Grown s ps rs
 grown_trans s ps qs rs f g = record {
   sizes = g.sizes ∙ f.sizes;
   on = on_trans ps qs rs f.on g.on;
@@ -32,7 +32,7 @@ pub record Meeting (s : Histories) (told : List Told) (ps : List Known) (notes :
   pub front : IsPrefix notes told
   pub done : (a : ℕ) → length notes ≤ a → IsPrefix (told_at told a) (seen_at qs a)
 
-told_past : (told : List Told) (a : ℕ) → length told ≤ a → told_seen (slice_get told a) ≡ []
+pub told_past : (told : List Told) (a : ℕ) → length told ≤ a → told_seen (slice_get told a) ≡ []
 told_past [] a past = refl
 told_past (t ∷ told) zero past = absurd (omega arith)
 told_past (t ∷ told) (suc a) past = told_past told a (omega arith)
@@ -50,27 +50,38 @@ told_last : (notes rest : List Told) (n : Told) → slice_get ((notes ++ n ∷ [
 told_last [] rest n = refl
 told_last (t ∷ notes) rest n = told_last notes rest n
 
-module _ (s : Histories) (told : List Told) (ps : List Known) (notes : List Told) (n : Told) (qs : List Known) (k w : Known) (m : Meeting s told ps (notes ++ n ∷ []) qs) (at : slice_get qs (length notes) ≡ Some k) (is : IsPass w) (same_one : w.acceptor ≡ k.acceptor) (seen : IsPrefix k.seen w.seen) (mine : w.mine ≡ k.mine) (heard : IsPrefix n.seen w.seen) where
-  here : slice_get (slice_set qs (length notes) w) (length notes) ≡ Some w
-  here = get-set_same qs (length notes) w (slice_get_within qs (length notes) k at)
+-- a pass that has seen more, and is as it was otherwise
+module _ (s : Histories) (qs : List Known) (i : ℕ) (k w : Known) (at : slice_get qs i ≡ Some k) (is : IsPass w) (same_one : w.acceptor ≡ k.acceptor) (seen : IsPrefix k.seen w.seen) (mine : w.mine ≡ k.mine) (are : (a : ℕ) → IsPassAt (slice_get qs a)) where
+  set_here : slice_get (slice_set qs i w) i ≡ Some w
+  set_here = get-set_same qs i w (slice_get_within qs i k at)
 
+  pub pass_grown : Grown s qs (slice_set qs i w)
+  pass_grown = grown s qs i k w at is same_one are seen (subst (IsPrefix k.mine) (sym mine) (prefix_self k.mine)) (λ t r e. inl (subst (λ l. HasEntry l t r) mine e))
+
+  pub pass_mine : (a : ℕ) → mine_at (slice_set qs i w) a ≡ mine_at qs a
+  unfolding mine_at
+  pass_mine a = elim (cases_eq a i) [
+    | inl e ↦ subst (λ b. mine_of (slice_get (slice_set qs i w) b) ≡ mine_of (slice_get qs b)) (sym e) (ap mine_of set_here ∙ mine ∙ sym (ap mine_of at))
+    | inr ne ↦ ap mine_of (get-set_other qs i a w ne)
+  ]
+
+  pub pass_seen : seen_at (slice_set qs i w) i ≡ w.seen
+  unfolding seen_at
+  pass_seen = ap seen_of set_here
+
+module _ (s : Histories) (told : List Told) (ps : List Known) (notes : List Told) (n : Told) (qs : List Known) (k w : Known) (m : Meeting s told ps (notes ++ n ∷ []) qs) (at : slice_get qs (length notes) ≡ Some k) (is : IsPass w) (same_one : w.acceptor ≡ k.acceptor) (seen : IsPrefix k.seen w.seen) (mine : w.mine ≡ k.mine) (heard : IsPrefix n.seen w.seen) where
   step : Grown s qs (slice_set qs (length notes) w)
-  step = grown s qs (length notes) k w at is same_one m.on.are seen (subst (IsPrefix k.mine) (sym mine) (prefix_self k.mine)) (λ t r e. inl (subst (λ l. HasEntry l t r) mine e))
+  step = pass_grown s qs (length notes) k w at is same_one seen mine m.on.are
 
   same_mine : (a : ℕ) → mine_at (slice_set qs (length notes) w) a ≡ mine_at qs a
-  unfolding mine_at
-  same_mine a = elim (cases_eq a (length notes)) [
-    | inl e ↦ subst (λ b. mine_of (slice_get (slice_set qs (length notes) w) b) ≡ mine_of (slice_get qs b)) (sym e) (ap mine_of here ∙ mine ∙ sym (ap mine_of at))
-    | inr ne ↦ ap mine_of (get-set_other qs (length notes) a w ne)
-  ]
+  same_mine = pass_mine s qs (length notes) k w at is same_one seen mine m.on.are
 
   told_here : told_at told (length notes) ≡ n.seen
   unfolding told_at
   told_here = ap told_seen (ap (λ l. slice_get l (length notes)) (sym m.front.1) ∙ told_last notes m.front.0 n)
 
   seen_here : seen_at (slice_set qs (length notes) w) (length notes) ≡ w.seen
-  unfolding seen_at
-  seen_here = ap seen_of here
+  seen_here = pass_seen s qs (length notes) k w at is same_one seen mine m.on.are
 
   done_now : (a : ℕ) → length notes ≤ a → IsPrefix (told_at told a) (seen_at (slice_set qs (length notes) w) a)
   done_now a past = elim (cases_eq a (length notes)) [
@@ -90,11 +101,11 @@ module _ (s : Histories) (told : List Told) (ps : List Known) (notes : List Told
 pub meeting_end : (s : Histories) (told : List Told) (ps qs : List Known) → Meeting s told ps [] qs → (a : ℕ) → IsPrefix (told_at told a) (seen_at qs a)
 meeting_end s told ps qs m a = m.done a (omega arith)
 
-long_names : {A : Type 0} (f : A → AcceptorName) (xs : List A) → length (map f xs) ≡ length xs
+pub long_names : {A : Type 0} (f : A → AcceptorName) (xs : List A) → length (map f xs) ≡ length xs
 long_names f [] = refl
 long_names f (x ∷ xs) = ap suc (long_names f xs)
 
-acceptor_there : (qs : List Known) (i : ℕ) (k : Known) (d : AcceptorName) → slice_get qs i ≡ Some k → d ≡ slice_index_or (acceptors_of qs) i d → d ≡ k.acceptor
+pub acceptor_there : (qs : List Known) (i : ℕ) (k : Known) (d : AcceptorName) → slice_get qs i ≡ Some k → d ≡ slice_index_or (acceptors_of qs) i d → d ≡ k.acceptor
 acceptor_there [] i k d at e = absurd (cc)
 acceptor_there (x ∷ qs) zero k d at e = let same : x ≡ k = cc in e ∙ ap (λ (z : Known). z.acceptor) same
 acceptor_there (x ∷ qs) (suc i) k d at e = acceptor_there qs i k d at e

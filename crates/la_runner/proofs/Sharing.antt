@@ -1,13 +1,11 @@
 -- One member that hears what others have seen, in plain variables.
-use Rattle.std.proofs.Common.{◌≡◌, ◌⊎◌, inl, inr, ℕ, zero, suc, ◌<◌, ◌≤◌, List, [], ◌∷◌, ◌++◌, ◌+◌, map, take, length, get_or, Option, Some, None, refl, ap, sym, ◌∙◌, subst, arith}
+use Rattle.std.proofs.Common.{◌≡◌, ◌⊎◌, inl, inr, ℕ, zero, suc, ◌<◌, ◌≤◌, List, [], ◌∷◌, ◌++◌, ◌+◌, map, take, drop, length, get_or, Option, Some, None, refl, ap, sym, ◌∙◌, subst, arith}
 use Rattle.std.specs.Prelude.{IfSome, IfOk, Result, Ok, Err}
 use Rattle.std.specs.List.{All, AllZip, AllWithin, slice_get, slice_set, slice_index_or}
 use mathlib.Core.List.{IsPrefix}
 use Rattle.std.proofs.lemmas.Bool.{cases_lt}
 use Rattle.std.proofs.lemmas.List.Elements.{All-nil, All-cons, All-push}
 use Rattle.std.proofs.lemmas.Option.{slice_get_within, get_or_from_slice_get}
-use Rattle.la_commit.specs.Instances.{first_instance, second_instance}
-use Rattle.la_commit.specs.declared.outcome.Outcome.{Outcome}
 use Rattle.la_object.specs.declared.kind.Kind.{Kind}
 use Rattle.la_object.specs.Shelves.{ShelfState}
 use Rattle.la_set.specs.Histories.{Histories, empty}
@@ -21,20 +19,20 @@ use Rattle.la_runner.specs.declared.jobs.Job.TheVariants.{Update, Decide, Ask}
 use Rattle.la_runner.specs.declared.jobs.Stopped.{Stopped}
 use Rattle.la_runner.specs.declared.jobs.Stopped.TheVariants as cause
 use Rattle.la_runner.specs.Certificates.{seen_at, HasCertificate}
-use Rattle.la_runner.specs.Entries.{set_of, next_number, IsKnownTo, IsDecided, Answers, StopsAt}
+use Rattle.la_runner.specs.Entries.{set_of, next_number, IsKnownTo, Answers, StopsAt}
 use Rattle.la_runner.specs.Invariant.{IsMember}
 use Rattle.la_runner.specs.Members.{MemberState, GroupState, IsOf, GoesOn, passes_in, view, IsCertified, IsOwnCertified}
 use Rattle.la_runner.specs.Notes.{told_by, told_at, told_in, NoteState, Tells, HasMet, doings}
 use Rattle.la_runner.specs.Rounds.{IsLarger}
 use Rattle.la_runner.specs.Runs.{Place, Back, back_of, places, IsReady, IsBackOf}
-use Rattle.la_runner.specs.Together.{HasSeen, SeesMore, IsSameLog, IsSeenBy, AreSeen, NamesSet, AllComparable, HasDecided, DecisionsCompare}
+use Rattle.la_runner.specs.Together.{HasSeen, SeesMore, IsSameLog, IsSeenBy, AreSeen, IsHonest, NamesSet, AllComparable}
 use Rattle.la_runner.proofs.Answering.{goes_on_self}
 use Rattle.la_runner.proofs.Certified.{certificate_stays}
 use Rattle.la_runner.proofs.Ending.{fits_still}
 use Rattle.la_runner.proofs.Keeping.{goes_on_then, item_at}
 use Rattle.la_runner.proofs.Passing.{prefix_trans}
 use Rattle.la_runner.proofs.Proposing.{some_same, none_some}
-use Rattle.la_runner.proofs.Standing.{certified_compare, own_are, view_is}
+use Rattle.la_runner.proofs.Standing.{certified_compare, own_are, view_is, told_or_own}
 use Rattle.la_runner.proofs.Telling.{tells_seen}
 use Rattle.la_runner.proofs.Threading.{all_rest}
 use Rattle.la_runner.proofs.UnderWay.{keeps_done, of_goes}
@@ -52,26 +50,6 @@ pub seen_then : (m a b : MemberState) → HasSeen m a → GoesOn a b → HasSeen
 seen_then m a b h g = record {
   votes = g.votes ∙ h.votes;
   sees = λ i n. prefix_trans (seen_at (passes_in m i) n) (seen_at (passes_in a i) n) (seen_at (passes_in b i) n) (h.sees i n) (g.seen i n);
-}
-
--- a note with an empty view leaves the view
-view_kept : (n : NoteState) (old new : Histories) → n.view ≡ empty → IsLarger n.view old new → new ≡ old
-view_kept n old new none larger = elim larger.one [
-  | inl e ↦ e
-  | inr e ↦
-      let is : new ≡ empty = e ∙ none in
-      subset-antisym new old (subst (λ z. IsSubset z old) (sym is) (empty_within old)) larger.grows
-]
-
-pub sees_met : (n : NoteState) (old new : MemberState) → n.view ≡ empty → HasMet n old new → GoesOn old new → IsMember new → SeesMore old new
-sees_met n old new none met goes is = record { is = is; goes = goes; same = met.same; kept = view_kept n (view old) (view new) none met.view }
-
-pub seen_met : (group : GroupState) (n : NoteState) (m old new : MemberState) → n.told ≡ map (λ x. map told_by x.passes) m.instances → HasMet n old new → IsOf group m → IsOf group new → HasSeen m new
-seen_met group n m old new told met of of_new = record {
-  votes = of_new.votes ∙ sym of.votes;
-  sees = λ i a.
-      let tells : Tells m (record { votes = m.votes; giver = m.replica; told = n.told; view = view m }) = record { votes = refl; giver = refl; told = told; view = refl } in
-      subst (λ l. IsPrefix l (seen_at (passes_in new i) a)) (tells_seen m (record { votes = m.votes; giver = m.replica; told = n.told; view = view m }) tells i a) (met.told i a);
 }
 
 -- ## All notes
@@ -119,7 +97,7 @@ all_worked_more (p ∷ ps) (b ∷ bs) (c ∷ cs) h s = (worked_more p b c h.0 s.
 
 -- ## What follows
 
-zip_at : (ps : List Place) (bs : List Back) (i : ℕ) (b : Back) → AllZip IsBackOf ps bs → slice_get bs i ≡ Some b → (p : Place) × (slice_get ps i ≡ Some p) × IsBackOf p b
+pub zip_at : (ps : List Place) (bs : List Back) (i : ℕ) (b : Back) → AllZip IsBackOf ps bs → slice_get bs i ≡ Some b → (p : Place) × (slice_get ps i ≡ Some p) × IsBackOf p b
 zip_at [] [] i b h e = absurd (none_some e)
 zip_at [] (x ∷ bs) i b h e = absurd h
 zip_at (p ∷ ps) [] i b h e = absurd (none_some e)
@@ -144,7 +122,7 @@ named_known p b s h (inr at) =
     let a = h.done.answers at.0 at.1 at.2 in
     named_of b.member h.is (next_number p.member (take at.0 p.jobs)) p.shelf.objects a.0 at.1 s a.2 at.3
 
-certified_seen : (m n : MemberState) → HasSeen m n → (i : ℕ) (s : Histories) → IsCertified m i s → IsCertified n i s
+pub certified_seen : (m n : MemberState) → HasSeen m n → (i : ℕ) (s : Histories) → IsCertified m i s → IsCertified n i s
 certified_seen m n h i s c = subst (λ vs. HasCertificate vs (passes_in n i) s) (sym h.votes) (certificate_stays m.votes (passes_in m i) (passes_in n i) s (h.sees i) c)
 
 known_seen : (m n : MemberState) → HasSeen m n → (s : Histories) → IsKnownTo m s → IsKnownTo n s
@@ -156,7 +134,7 @@ known_compare m is s t (inl e) d = inl (subst (λ z. IsSubset z t) (sym e) (empt
 known_compare m is s t (inr c) (inl e) = inr (subst (λ z. IsSubset z s) (sym e) (empty_within s))
 known_compare m is s t (inr c) (inr d) = certified_compare m is 0 s t c d
 
-seen_here : (bs : List Back) (w : MemberState) (i : ℕ) (b : Back) → All (λ x. HasSeen x.member w) bs → slice_get bs i ≡ Some b → HasSeen b.member w
+pub seen_here : (bs : List Back) (w : MemberState) (i : ℕ) (b : Back) → All (λ x. HasSeen x.member w) bs → slice_get bs i ≡ Some b → HasSeen b.member w
 seen_here bs w i b all e = subst (λ x. HasSeen x.member w) (get_or_from_slice_get bs i b b e) (all i b (slice_get_within bs i b e))
 
 pub all_compare : (ps : List Place) (bs : List Back) → AllZip IsBackOf ps bs → AreSeen bs → AllComparable bs
@@ -168,25 +146,11 @@ all_compare ps bs h (inr w) i j b c s t at_b at_c of_b of_c =
     (known_seen b.member w.witness (seen_here bs w.witness i b w.sees at_b) s (named_known p.0 b s p.2 of_b))
     (known_seen c.member w.witness (seen_here bs w.witness j c w.sees at_c) t (named_known q.0 c t q.2 of_c))
 
-decided_here : (p : Place) (b : Back) (k value : ℕ) (s t : Histories) (o : Outcome) → IsBackOf p b → HasDecided p.jobs b k value s t o → IsDecided b.member k value s t o
-decided_here p b k value s t o h d =
-    let a = h.done.answers d.0 (Decided s t o) d.2 in
-    subst (λ j. Answers b.member (next_number p.member (take d.0 p.jobs)) p.shelf.objects j (Decided s t o)) (some_same (sym a.1 ∙ d.1)) a.2
-
-pub decisions_compare : (ps : List Place) (bs : List Back) → AllZip IsBackOf ps bs → AreSeen bs → DecisionsCompare ps bs
-decisions_compare ps bs h (inl none) i j p q b c k v w s s' t t' o o' at_p at_q at_b at_c of_b of_c = absurd (none_some (ap (λ l. slice_get l i) (sym none) ∙ at_b))
-decisions_compare ps bs h (inr z) i j p q b c k v w s s' t t' o o' at_p at_q at_b at_c of_b of_c =
-    let f = zip_at ps bs i b h at_b in
-    let g = zip_at ps bs j c h at_c in
-    let fb = subst (λ x. IsBackOf x b) (some_same (sym f.1 ∙ at_p)) f.2 in
-    let gc = subst (λ x. IsBackOf x c) (some_same (sym g.1 ∙ at_q)) g.2 in
-    let one = decided_here p b k v s t o fb of_b in
-    let two = decided_here q c k w s' t' o' gc of_c in
-    let see_b = seen_here bs z.witness i b z.sees at_b in
-    let see_c = seen_here bs z.witness j c z.sees at_c in (
-      certified_compare z.witness z.is (first_instance k) s s' (certified_seen b.member z.witness see_b (first_instance k) s (own_are b.member fb.is (first_instance k) s one.first_own)) (certified_seen c.member z.witness see_c (first_instance k) s' (own_are c.member gc.is (first_instance k) s' two.first_own)),
-      certified_compare z.witness z.is (second_instance k) t t' (certified_seen b.member z.witness see_b (second_instance k) t (own_are b.member fb.is (second_instance k) t one.second_own)) (certified_seen c.member z.witness see_c (second_instance k) t' (own_are c.member gc.is (second_instance k) t' two.second_own)),
-    )
+-- each member that comes back is one, and so invents nothing
+pub all_honest : {X : Type 0} (f : X → Back) (ps : List Place) (xs : List X) → AllZip IsBackOf ps (map f xs) → All (λ x. IsHonest (f x).member) xs
+all_honest f ps [] h = All-nil (λ x. IsHonest (f x).member)
+all_honest f [] (x ∷ xs) h = absurd h
+all_honest f (p ∷ ps) (x ∷ xs) h = All-cons (λ x. IsHonest (f x).member) x xs (view_is (f x).member h.0.is, told_or_own (f x).member h.0.is) (all_honest f ps xs h.1)
 
 pub seen_sees : (bs cs : List Back) → cs ≡ bs → AreSeen bs → AreSeen cs
 seen_sees bs cs e h = subst AreSeen (sym e) h
@@ -220,21 +184,19 @@ zip_long Q [] (y ∷ ys) h = absurd h
 zip_long Q (x ∷ xs) [] h = absurd h
 zip_long Q (x ∷ xs) (y ∷ ys) h = ap suc (zip_long Q xs ys h.1)
 
--- ## Answers that are there
-
-pub if_both : {T E : Type 0} (r : Result T E) (P Q R : T → Type 0) → ((t : T) → P t → Q t → R t) → IfOk r P → IfOk r Q → IfOk r R
-if_both (Ok t) P Q R f p q = f t p q
-if_both (Err e) P Q R f p q = tt
-
-pub if_anyway : {T E : Type 0} (r : Result T E) (P : Type 0) → P → IfOk r (λ _. P)
-if_anyway (Ok t) P p = p
-if_anyway (Err e) P p = tt
-
 pub places_long : (ms : List MemberState) (ss : List ShelfState) (jss : List (List Job)) → length ss ≡ length ms → length jss ≡ length ms → length (places ms ss jss) ≡ length ms
 places_long [] ss jss s j = refl
 places_long (m ∷ ms) [] jss s j = absurd (omega (arith, s))
 places_long (m ∷ ms) (x ∷ ss) [] s j = absurd (omega (arith, j))
 places_long (m ∷ ms) (x ∷ ss) (js ∷ jss) s j = let rest = places_long ms ss jss (omega (arith, s)) (omega (arith, j)) in omega (arith, rest)
+
+-- a vector whose items were lent whole has what stands there now
+pub written_back : {A : Type 0} (n : ℕ) (xs ys : List A) → length xs ≡ n → length ys ≡ n → take n (xs ++ drop (length xs) ys) ≡ xs
+written_back zero [] ys e f = refl
+written_back zero (x ∷ xs) ys e f = absurd (omega (arith, e))
+written_back (suc n) [] ys e f = absurd (omega (arith, e))
+written_back (suc n) (x ∷ xs) [] e f = absurd (omega (arith, f))
+written_back (suc n) (x ∷ xs) (y ∷ ys) e f = ap (λ l. x ∷ l) (written_back n xs ys (omega (arith, e)) (omega (arith, f)))
 
 -- what comes back is of the group, and a member
 pub back_of_group : (group : GroupState) (p : Place) (b : Back) → IsBackOf p b → IsReady group p.member p.shelf → IsOf group b.member × IsMember b.member

@@ -49,7 +49,7 @@ pub record Telling (states : List InstanceState) (at : ℕ) (xs : List Instance)
   pub same : map state_of xs ≡ states
   pub told : map (λ n. n.notes.items) notes ≡ take at (map tell states)
 
-tells_of : (xs : List Instance) → map (λ x. map told_by x.passes.items) xs ≡ map tell (map state_of xs)
+pub tells_of : (xs : List Instance) → map (λ x. map told_by x.passes.items) xs ≡ map tell (map state_of xs)
 tells_of [] = refl
 tells_of (x ∷ xs) = ap (λ l. map told_by x.passes.items ∷ l) (tells_of xs)
 
@@ -124,7 +124,7 @@ pub told_is_seen : (ps : List Known) (a : ℕ) → told_at (map told_by ps) a �
 unfolding told_at seen_at
 told_is_seen ps a = told_seen_of ps a
 
-told_of_instance : (xs : List InstanceState) (i : ℕ) → told_of (slice_get (map tell xs) i) ≡ map told_by (passes_of (slice_get xs i))
+pub told_of_instance : (xs : List InstanceState) (i : ℕ) → told_of (slice_get (map tell xs) i) ≡ map told_by (passes_of (slice_get xs i))
 told_of_instance [] i = refl
 told_of_instance (x ∷ xs) zero = refl
 told_of_instance (x ∷ xs) (suc i) = told_of_instance xs i

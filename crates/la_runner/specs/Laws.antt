@@ -34,7 +34,10 @@ LearntAreOwnCertified = (m : MemberState) → IsMember m → (i : ℕ) (s : Hist
     last_learnt m i ≡ Some s → IsOwnCertified m i s
 
 -- each update of an own offer is the member's own, or was told by a refusal of an offer that lacks it
-abbrev pub NothingIsInvented : Type 0
-NothingIsInvented = (m : MemberState) → IsMember m → (i a : ℕ) (s : Histories) (r : Reply) →
+abbrev pub InventsNothing : MemberState → Type 0
+InventsNothing m = (i a : ℕ) (s : Histories) (r : Reply) →
     HasEntry (mine_at (passes_in m i) a) s r → (u : Update) → ContainsUpdate s u →
     IsSubmission m.replica (submitted_in m i) u ⊎ WasTold (passes_in m i) u
+
+abbrev pub NothingIsInvented : Type 0
+NothingIsInvented = (m : MemberState) → IsMember m → InventsNothing m

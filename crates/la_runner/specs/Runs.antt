@@ -77,8 +77,8 @@ abbrev pub ContainsAll : List Histories → (at : ℕ) → Type 0
 ContainsAll views at = All (λ v. IsSubset v (slice_index_or views at empty)) views
 
 -- where all peers' notes are counted the view contains all views
-abbrev pub NotesHold : (notes : List ℕ) → List Histories → Type 0
-NotesHold notes views =
+abbrev pub ViewsHold : (notes : List ℕ) → List Histories → Type 0
+ViewsHold notes views =
     (at n : ℕ) → slice_get notes at ≡ Some n → n + 1 ≡ length views → ContainsAll views at
 
 -- as many members, shelves and jobs as the group has replicas, and no shelf has absorbed anything

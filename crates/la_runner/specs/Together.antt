@@ -1,16 +1,23 @@
 -- What the members of a run know together, once all have come back.
-use Rattle.std.specs.Prelude.{◌≡◌, ◌⊎◌, ℕ, List, [], All, slice_get, Some}
+use Rattle.std.specs.Prelude.{◌≡◌, ◌⊎◌, ℕ, ◌+◌, true, List, [], All, length, slice_get, Some, None, IsSome}
 use mathlib.Core.List.{IsPrefix}
 use Rattle.la_commit.specs.declared.outcome.Outcome.{Outcome}
-use Rattle.la_set.specs.Histories.{Histories}
-use Rattle.la_set.specs.Inclusion.{AreComparable}
+use Rattle.la_commit.specs.declared.outcome.Outcome.TheVariants.{Commit}
+use Rattle.la_commit.specs.Outcomes.{is_commit, value_of}
+use Rattle.la_commit.specs.Votes.{vote_of}
+use Rattle.la_object.specs.declared.query.Query.{Query}
+use Rattle.la_object.specs.Shelves.{ShelfState, kind_at, answer_at}
+use Rattle.la_set.specs.declared.update.Update.{Update}
+use Rattle.la_set.specs.Histories.{Histories, ContainsUpdate}
+use Rattle.la_set.specs.Inclusion.{IsSubset, AreComparable}
 use Rattle.la_runner.specs.declared.jobs.Entry.{Entry}
 use Rattle.la_runner.specs.declared.jobs.Entry.TheVariants.{Decided}
 use Rattle.la_runner.specs.declared.jobs.Job.{Job}
 use Rattle.la_runner.specs.declared.jobs.Job.TheVariants.{Decide}
 use Rattle.la_runner.specs.Certificates.{seen_at}
-use Rattle.la_runner.specs.Entries.{set_of}
+use Rattle.la_runner.specs.Entries.{set_of, IsKnownTo}
 use Rattle.la_runner.specs.Invariant.{IsMember}
+use Rattle.la_runner.specs.Laws.{InventsNothing}
 use Rattle.la_runner.specs.Members.{MemberState, GoesOn, passes_in, view}
 use Rattle.la_runner.specs.Notes.{doings}
 use Rattle.la_runner.specs.Runs.{Back, Place}
@@ -45,6 +52,10 @@ pub record IsSeenBy (logs : List Back) : Type 0 where
 abbrev pub AreSeen : List Back → Type 0
 AreSeen logs = (logs ≡ []) ⊎ IsSeenBy logs
 
+-- the view of a member that comes back is empty or certified, and it has invented nothing
+abbrev pub IsHonest : MemberState → Type 0
+IsHonest m = IsKnownTo m (view m) × InventsNothing m
+
 -- ## Sets of a log
 
 -- a set that the log names: its final view, a learnt set or the view of an answer
@@ -60,17 +71,92 @@ AllComparable logs =
     → slice_get logs i ≡ Some b → slice_get logs j ≡ Some c
     → NamesSet b s → NamesSet c t → AreComparable s t
 
--- a decision of a log at an adopt-commit object, by these sets
-abbrev pub HasDecided : List Job → Back → (commit value : ℕ) → (first second : Histories) → Outcome → Type 0
-HasDecided jobs b commit value first second reached =
-    (k : ℕ) × (slice_get jobs k ≡ Some (Decide commit value))
-    × (slice_get b.entries k ≡ Some (Decided first second reached))
+-- ## Notes
 
--- over all logs with decisions there the first sets are pairwise comparable, and so are the second
+-- the final view of a log with a note of each peer contains every set that a log names
+abbrev pub NotesHold : (notes : List ℕ) → List Back → Type 0
+NotesHold notes logs =
+    (at n : ℕ) (b : Back) → slice_get notes at ≡ Some n → n + 1 ≡ length logs
+    → slice_get logs at ≡ Some b
+    → (to : ℕ) (c : Back) (s : Histories) → slice_get logs to ≡ Some c
+    → NamesSet c s → IsSubset s (view b.member)
+
+-- two shelves give the same answers for objects of one kind
+abbrev pub AnswerAlike : ShelfState → ShelfState → Type 0
+AnswerAlike a b =
+    (object : ℕ) (query : Query) → kind_at a.objects object ≡ kind_at b.objects object
+    → answer_at a object query ≡ answer_at b object query
+
+-- two logs with a note of each peer have one view; where nothing stopped them, their shelves answer
+-- alike
+abbrev pub NotesAgree : (notes : List ℕ) → List Back → Type 0
+NotesAgree notes logs =
+    (i j n m : ℕ) (b c : Back) → slice_get notes i ≡ Some n → slice_get notes j ≡ Some m
+    → n + 1 ≡ length logs → m + 1 ≡ length logs
+    → slice_get logs i ≡ Some b → slice_get logs j ≡ Some c
+    → (view b.member ≡ view c.member)
+    × (b.stopped ≡ None → c.stopped ≡ None → AnswerAlike b.shelf c.shelf)
+
+-- ## Decisions
+
+-- a decision of a run: at which adopt-commit object, of which replica and for which value, by which
+-- sets, and what it came to
+pub record Decision : Type 0 where
+  pub commit : ℕ
+  pub replica : ℕ
+  pub value : ℕ
+  pub first : Histories
+  pub second : Histories
+  pub reached : Outcome
+
+-- a job that proposes the value is answered by it, in the replica's log
+pub record IsMade (given : List Place) (logs : List Back) (d : Decision) : Type 0 where
+  pub at : ℕ
+  pub place : Place
+  pub log : Back
+  pub nth : ℕ
+  pub is_given : slice_get given at ≡ Some place
+  pub is_log : slice_get logs at ≡ Some log
+  pub is_of : d.replica ≡ log.replica
+  pub is_job : slice_get place.jobs nth ≡ Some (Decide d.commit d.value)
+  pub is_entry : slice_get log.entries nth ≡ Some (Decided d.first d.second d.reached)
+
+-- at one object
+abbrev pub IsMadeAt : List Place → List Back → (commit : ℕ) → Decision → Type 0
+IsMadeAt given logs k d = IsMade given logs d × (d.commit ≡ k)
+
+-- of an object's decisions the first sets are pairwise comparable, and so are the second
 abbrev pub DecisionsCompare : List Place → List Back → Type 0
 DecisionsCompare given logs =
-    (i j : ℕ) (p q : Place) (b c : Back) (commit v w : ℕ) (s s' t t' : Histories) (o o' : Outcome)
-    → slice_get given i ≡ Some p → slice_get given j ≡ Some q
-    → slice_get logs i ≡ Some b → slice_get logs j ≡ Some c
-    → HasDecided p.jobs b commit v s t o → HasDecided q.jobs c commit w s' t' o'
-    → AreComparable s s' × AreComparable t t'
+    (k : ℕ) (d e : Decision) → IsMadeAt given logs k d → IsMadeAt given logs k e
+    → AreComparable d.first e.first × AreComparable d.second e.second
+
+-- each vote of the set is the first update of a replica that decided at the object
+abbrev pub HasTheirVotes : List Place → List Back → (commit : ℕ) → Histories → Type 0
+HasTheirVotes given logs k s =
+    (u : Update) → ContainsUpdate s u → IsSome (vote_of u.op)
+    → (d : Decision) × IsMadeAt given logs k d
+    × (u.id ≡ record { replica = d.replica; number = 1 })
+
+-- the three safety properties of adopt-commit, over those that decided at an object; unanimity where
+-- nobody else voted in the first sets either
+pub record IsAgreed (given : List Place) (logs : List Back) (k : ℕ) : Type 0 where
+  -- where one commits a value, each has it
+  pub agree :
+      (d e : Decision) → IsMadeAt given logs k d → IsMadeAt given logs k e
+      → is_commit d.reached ≡ true → value_of e.reached ≡ value_of d.reached
+  -- what one returns, one of them proposed
+  pub proposed :
+      (d : Decision) → IsMadeAt given logs k d
+      → (e : Decision) × IsMadeAt given logs k e × (e.value ≡ value_of d.reached)
+  -- where all proposed one value, each commits it
+  pub unanimous :
+      (value : ℕ) → ((d : Decision) → IsMadeAt given logs k d
+      → HasTheirVotes given logs k d.first × (d.value ≡ value))
+      → (d : Decision) → IsMadeAt given logs k d → d.reached ≡ Commit value
+
+-- at each object in whose second sets nobody else voted
+abbrev pub DecisionsAgree : List Place → List Back → Type 0
+DecisionsAgree given logs =
+    (k : ℕ) → ((d : Decision) → IsMadeAt given logs k d → HasTheirVotes given logs k d.second)
+    → IsAgreed given logs k

@@ -1,5 +1,4 @@
 ghost use Rattle.std.specs.Prelude.{◌≡◌, ◌<◌, ℕ, Some, map, length, slice_get, IfOk, IfErr};
-ghost use Rattle.la_set.specs.Histories.{empty};
 ghost use Rattle.la_runner.specs.declared.error.RunnerError.TheVariants.{Memory};
 ghost use Rattle.la_runner.specs.Following.{acceptors_of};
 ghost use Rattle.la_runner.specs.Instances.{InstanceState, state_of};
@@ -148,24 +147,6 @@ impl Group {
             giver: member.replica,
             told,
             view,
-        })
-    }
-
-    // A note of the same with an empty view: whoever meets it keeps its view.
-    pub(crate) fn tell(&self, alloc: Global, member: &mut Member) -> Result<MemberNote, AllocError>
-        requires { IsOf self.now member.old }
-        ensures same { member.new ≡ member.old }
-        ensures of { IfOk result (IsNoteOf self.now) }
-        ensures told { IfOk result (λ n. n.told
-            ≡ map (λ x. map told_by x.passes) member.old.instances) }
-        ensures view { IfOk result (λ n. n.view ≡ empty) }
-    {
-        let told = tell_all(alloc, &self.rows, &mut member.instances)?;
-        Ok(MemberNote {
-            votes: member.votes,
-            giver: member.replica,
-            told,
-            view: UpdateSet::new(alloc),
         })
     }
 

@@ -213,7 +213,7 @@ fn prepare<J: Naming, B: Replicated>(
     let mut works = Vec::with_capacity(alloc, starts.len())?;
     for start in starts {
         let Some(inbox) = inboxes.pop() else {
-            return Err(AllocError);
+            unreachable!()
         };
         let outboxes = others::<J>(alloc, &ends, inboxes.len())?;
         let Start {

@@ -3,12 +3,12 @@ ghost use Rattle.std.specs.Prelude.{◌≡◌, ◌<◌, ◌≤◌, ◌+◌, ◌�
 ghost use Rattle.std.specs.List.{AllZip};
 ghost use Rattle.la_set.specs.Histories.{empty};
 ghost use Rattle.la_set.specs.Inclusion.{IsSubset};
-ghost use Rattle.la_runner.specs.declared.log.RunError.TheVariants.{Memory as RunMemory};
 ghost use Rattle.la_runner.specs.Invariant.{IsMember};
 ghost use Rattle.la_runner.specs.Members.{IsOf, view};
 ghost use Rattle.la_object.specs.Shelves.{ShelfState};
-ghost use Rattle.la_runner.specs.Runs.{IsBackOf, back_of, places, place_of, NotesHold, ContainsAll, IsRunConfig, IsRunRefusal};
-ghost use Rattle.la_runner.specs.Together.{IsSameLog, AreSeen, AllComparable, DecisionsCompare};
+ghost use Rattle.la_runner.specs.Runs.{IsBackOf, back_of, places, place_of, ViewsHold, ContainsAll, IsRunConfig, IsRunRefusal};
+ghost use Rattle.la_runner.specs.Together.{IsSameLog, AreSeen, AllComparable, IsHonest};
+ghost use Rattle.la_runner.specs.Together.{DecisionsCompare, DecisionsAgree, NotesHold, NotesAgree};
 
 use crate::jobs::Jobs;
 use crate::running::{Start, run_in};
@@ -116,7 +116,7 @@ fn note_all<B: Replicated>(logs: &mut Vec<Log<B>>)
     requires few { vec_len logs.old < 256 }
     ensures same { map (λ l. back_of l.replica l.member l.shelf l.entries.items l.stopped) logs.new.items
         ≡ map (λ l. back_of l.replica l.member l.shelf l.entries.items l.stopped) logs.old.items }
-    ensures counted { NotesHold (map (λ l. l.notes) logs.new.items)
+    ensures counted { ViewsHold (map (λ l. l.notes) logs.new.items)
         (map (λ l. view l.member) logs.new.items) }
 {
     for at in 0..logs.len() {
@@ -125,29 +125,22 @@ fn note_all<B: Replicated>(logs: &mut Vec<Log<B>>)
     }
 }
 
-// What is known and counted once all threads are joined.
-fn finish<B: Replicated>(
-    alloc: Global,
-    group: &Group,
-    done: Vec<Log<B>>,
-) -> Result<Logs<B>, RunError>
+// What is known and counted once all threads are joined. It takes no memory.
+fn finish<B: Replicated>(group: &Group, done: Vec<Log<B>>) -> Logs<B>
     requires of { All (λ l. IsOf group.now l.member × IsMember l.member) done.items }
     requires few { vec_len done < 256 }
-    ensures same { IfOk result (λ logs. AllZip IsSameLog
+    ensures same { AllZip IsSameLog
         (map (λ l. back_of l.replica l.member l.shelf l.entries.items l.stopped) done.items)
-        (map (λ l. back_of l.replica l.member l.shelf l.entries.items l.stopped) logs.items)) }
-    ensures seen { IfOk result (λ logs. AreSeen
-        (map (λ l. back_of l.replica l.member l.shelf l.entries.items l.stopped) logs.items)) }
-    ensures notes { IfOk result (λ logs. NotesHold
-        (map (λ l. l.notes) logs.items) (map (λ l. view l.member) logs.items)) }
-    ensures error { IfErr result (λ e. e ≡ RunMemory) }
+        (map (λ l. back_of l.replica l.member l.shelf l.entries.items l.stopped) result.items) }
+    ensures seen { AreSeen
+        (map (λ l. back_of l.replica l.member l.shelf l.entries.items l.stopped) result.items) }
+    ensures notes { ViewsHold (map (λ l. l.notes) result.items)
+        (map (λ l. view l.member) result.items) }
 {
-    let Ok(shown) = show_all(alloc, group, done) else {
-        return Err(RunError::Memory);
-    };
-    let mut logs = shown;
+    let mut logs = done;
+    show_all(group, &mut logs);
     note_all(&mut logs);
-    Ok(logs)
+    logs
 }
 
 /// Runs each member's jobs in a thread of its own, over the group's acceptors. Member, shelf and jobs
@@ -158,9 +151,9 @@ fn finish<B: Replicated>(
 /// shelf absorbs the view. Then the worker sends each peer a note of what its member has seen, meets
 /// those of its peers, one of each, until all have ended, and its shelf absorbs the view. Memory that
 /// is refused in a note, in a send or in that absorption makes `stopped` `Memory` where it was
-/// `None`; the rest is still tried. Once all threads are joined the last member hears what all
+/// `None`; the rest is still tried. Once all threads are joined the last member sees what all
 /// have seen, and keeps its view, and each log counts the peers whose note it took and whose final
-/// view it contains.
+/// view it contains. That takes no memory.
 ///
 /// `BadConfig` comes exactly where there are not as many members, shelves and jobs as the group has
 /// replicas, or a shelf has absorbed something; then `NoThread` where a thread could not be started,
@@ -186,11 +179,17 @@ pub fn run<R: Threads + Wait + Sync, G: Gate, B: Replicated>(
         (map (λ l. back_of l.replica l.member l.shelf l.entries.items l.stopped) logs.items)) }
     ensures comparable { IfOk result (λ logs. AllComparable
         (map (λ l. back_of l.replica l.member l.shelf l.entries.items l.stopped) logs.items)) }
+    ensures honest { IfOk result (λ logs. All (λ l. IsHonest l.member) logs.items) }
     ensures decisions { IfOk result (λ logs. DecisionsCompare
         (places members.items shelves.items (map (λ j. j.items) jobs.items))
         (map (λ l. back_of l.replica l.member l.shelf l.entries.items l.stopped) logs.items)) }
-    ensures notes { IfOk result (λ logs. NotesHold
-        (map (λ l. l.notes) logs.items) (map (λ l. view l.member) logs.items)) }
+    ensures agreed { IfOk result (λ logs. DecisionsAgree
+        (places members.items shelves.items (map (λ j. j.items) jobs.items))
+        (map (λ l. back_of l.replica l.member l.shelf l.entries.items l.stopped) logs.items)) }
+    ensures notes { IfOk result (λ logs. NotesHold (map (λ l. l.notes) logs.items)
+        (map (λ l. back_of l.replica l.member l.shelf l.entries.items l.stopped) logs.items)) }
+    ensures alike { IfOk result (λ logs. NotesAgree (map (λ l. l.notes) logs.items)
+        (map (λ l. back_of l.replica l.member l.shelf l.entries.items l.stopped) logs.items)) }
     ensures error { IfErr result (IsRunRefusal (IsRunConfig (length group.now.votes)
         (length members.items) (length jobs.items) shelves.items)) }
 {
@@ -201,7 +200,7 @@ pub fn run<R: Threads + Wait + Sync, G: Gate, B: Replicated>(
         return Err(RunError::Memory);
     };
     match run_in::<Brand, R, G, B>(rt, alloc, group, begun, rounds, gate) {
-        Ok(done) => finish(alloc, group, done),
+        Ok(done) => Ok(finish(group, done)),
         Err(RunError::NoThread) => Err(RunError::NoThread),
         Err(_) => Err(RunError::Memory),
     }

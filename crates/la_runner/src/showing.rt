@@ -1,75 +1,95 @@
-// Once all threads are joined: one member hears what all others have seen, and keeps its view. So
+// Once all threads are joined: one member sees what all others have seen, and keeps its view. So
 // whatever sets have certificates with any of them are comparable.
-ghost use Rattle.std.specs.Prelude.{◌≡◌, All, map, OnOk, IfOk};
+ghost use Rattle.std.specs.Prelude.{◌≡◌, ℕ, Some, All, map, slice_get};
 ghost use Rattle.std.specs.List.{AllZip};
+ghost use Rattle.la_runner.specs.Following.{acceptors_of};
+ghost use Rattle.la_runner.specs.Instances.{InstanceState, state_of};
 ghost use Rattle.la_runner.specs.Invariant.{IsMember};
 ghost use Rattle.la_runner.specs.Members.{IsOf};
+ghost use Rattle.la_runner.specs.Notes.{told_by, Meets, AllMeet};
 ghost use Rattle.la_runner.specs.Runs.{back_of};
+ghost use Rattle.la_runner.specs.Sound.{IsSound};
 ghost use Rattle.la_runner.specs.Together.{HasSeen, SeesMore, IsSameLog, AreSeen};
 
+use crate::group::Row;
+use crate::instance::Instance;
 use crate::{Group, Log, Member};
 use la_object::Replicated;
-use std::alloc::{AllocError, Global};
+use la_shared::SharedAcceptor;
 
-// One member has then seen what another one has.
-fn show_one(
-    alloc: Global,
-    group: &Group,
-    from: &mut Member,
-    to: &mut Member,
-) -> Result<(), AllocError>
-    requires from { IsOf group.now from.old }
-    requires to { IsOf group.now to.old }
-    ensures same { OnOk result (from.new ≡ from.old) }
-    ensures more { OnOk result (SeesMore to.old to.new) }
-    ensures shown { OnOk result (HasSeen from.old to.new) }
+impl Instance {
+    // Each pass of another instance has then seen what the pass of the same acceptor here has.
+    fn show(&mut self, acceptors: &[SharedAcceptor], to: &mut Instance)
+        requires sound { IsSound to.old.proposer to.old.passes.items }
+        requires from { acceptors_of self.old.passes.items ≡ acceptors.now }
+        requires to { acceptors_of to.old.passes.items ≡ acceptors.now }
+        ensures same { state_of self.new ≡ state_of self.old }
+        ensures met { Meets (map told_by self.old.passes.items) (state_of to.old) (state_of to.new) }
+    {
+        for at in 0..acceptors.len() {
+            let acceptor = &acceptors[at];
+            let note = acceptor.note(&mut self.passes[at]);
+            acceptor.meet(&mut to.passes[at], note);
+        }
+    }
+}
+
+// The same of each instance.
+fn show_instances(rows: &[Row], from: &mut Vec<Instance>, to: &mut Vec<Instance>)
+    requires sound { (i : ℕ) (x : InstanceState)
+        → slice_get (map state_of to.old.items) i ≡ Some x → IsSound x.proposer x.passes }
+    requires from { map (λ x. acceptors_of x.passes.items) from.old.items
+        ≡ map (λ r. r.acceptors.items) rows.now }
+    requires to { map (λ x. acceptors_of x.passes.items) to.old.items
+        ≡ map (λ r. r.acceptors.items) rows.now }
+    ensures same { map state_of from.new.items ≡ map state_of from.old.items }
+    ensures met { AllMeet (map (λ x. map told_by x.passes.items) from.old.items)
+        (map state_of to.old.items) (map state_of to.new.items) }
 {
-    let note = group.tell(alloc, from)?;
-    group.meet(to, note);
-    // a hint to the prover: its contract tells what holds of every member
-    let _own = to.replica();
-    Ok(())
+    for at in 0..rows.len() {
+        from[at].show(&rows[at].acceptors, &mut to[at]);
+    }
+}
+
+impl Group {
+    // One member has then seen what another one has, and keeps its view. It takes no memory.
+    fn show(&self, from: &mut Member, to: &mut Member)
+        requires from { IsOf self.now from.old }
+        requires to { IsOf self.now to.old }
+        ensures same { from.new ≡ from.old }
+        ensures more { SeesMore to.old to.new }
+        ensures shown { HasSeen from.old to.new }
+    {
+        show_instances(&self.rows, &mut from.instances, &mut to.instances);
+    }
 }
 
 // The last member has then seen what each of the others has.
-fn show_last<B: Replicated>(
-    alloc: Global,
-    group: &Group,
-    logs: &mut Vec<Log<B>>,
-    last: &mut Member,
-) -> Result<(), AllocError>
-    requires of { All (λ l. IsOf group.now l.member) logs.old.items }
+fn show_last<B: Replicated>(group: &Group, others: &mut [Log<B>], last: &mut Member)
+    requires of { All (λ l. IsOf group.now l.member) others.old }
     requires last { IsOf group.now last.old }
-    ensures same { OnOk result (logs.new.items ≡ logs.old.items) }
-    ensures more { OnOk result (SeesMore last.old last.new) }
-    ensures shown { OnOk result (All (λ l. HasSeen l.member last.new) logs.old.items) }
+    ensures same { others.new ≡ others.old }
+    ensures more { SeesMore last.old last.new }
+    ensures shown { All (λ l. HasSeen l.member last.new) others.old }
 {
     // a hint to the prover: its contract tells what holds of every member
     let _own = last.replica();
-    for at in 0..logs.len() {
-        show_one(alloc, group, &mut logs[at].member, last)?;
+    for at in 0..others.len() {
+        group.show(&mut others[at].member, last);
     }
-    Ok(())
 }
 
 // The last log's member has then seen what all have.
-pub(crate) fn show_all<B: Replicated>(
-    alloc: Global,
-    group: &Group,
-    logs: Vec<Log<B>>,
-) -> Result<Vec<Log<B>>, AllocError>
-    requires { All (λ l. IsOf group.now l.member × IsMember l.member) logs.items }
-    ensures same { IfOk result (λ shown. AllZip IsSameLog
-        (map (λ l. back_of l.replica l.member l.shelf l.entries.items l.stopped) logs.items)
-        (map (λ l. back_of l.replica l.member l.shelf l.entries.items l.stopped) shown.items)) }
-    ensures seen { IfOk result (λ shown. AreSeen
-        (map (λ l. back_of l.replica l.member l.shelf l.entries.items l.stopped) shown.items)) }
+pub(crate) fn show_all<B: Replicated>(group: &Group, logs: &mut [Log<B>])
+    requires { All (λ l. IsOf group.now l.member × IsMember l.member) logs.old }
+    ensures same { AllZip IsSameLog
+        (map (λ l. back_of l.replica l.member l.shelf l.entries.items l.stopped) logs.old)
+        (map (λ l. back_of l.replica l.member l.shelf l.entries.items l.stopped) logs.new) }
+    ensures seen { AreSeen
+        (map (λ l. back_of l.replica l.member l.shelf l.entries.items l.stopped) logs.new) }
 {
-    let mut shown = logs;
-    let Some(mut last) = shown.pop() else {
-        return Ok(shown);
+    let Some((last, others)) = logs.split_last_mut() else {
+        return;
     };
-    show_last(alloc, group, &mut shown, &mut last.member)?;
-    shown.push(last)?;
-    Ok(shown)
+    show_last(group, others, &mut last.member);
 }

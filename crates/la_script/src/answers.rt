@@ -28,7 +28,7 @@ fn put_yes(out: &mut Pieces, is: bool) -> Result<(), AllocError>
     out.push_str(if is { "yes" } else { "no" })
 }
 
-/// Writes what an object answered.
+/// Adds what an object answered, as a report has it.
 pub fn put_answer(out: &mut Pieces, answer: &Answer) -> Result<(), AllocError>
     ensures { OnOk result (Adds out.old out.new (answer_text answer.now)) }
 {

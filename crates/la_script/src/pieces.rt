@@ -60,8 +60,8 @@ impl Model for Pieces {
 }
 
 impl Pieces {
-    // The empty text, which takes no memory.
-    pub(crate) fn new(alloc: Global) -> Pieces
+    /// The empty text, which takes no memory.
+    pub fn new(alloc: Global) -> Pieces
         ensures { joined result ≡ [] }
     {
         Pieces {
@@ -81,15 +81,16 @@ impl Pieces {
         }
     }
 
-    // Adds words.
-    pub(crate) fn push_str(&mut self, words: &str) -> Result<(), AllocError>
+    /// Adds words. The refusal, as that of the other additions, is for want of memory, and leaves no
+    /// text to go on with.
+    pub fn push_str(&mut self, words: &str) -> Result<(), AllocError>
         ensures { OnOk result (Adds self.old self.new words.now) }
     {
         self.words.extend_from_slice(words.as_bytes())
     }
 
-    // Adds a number.
-    pub(crate) fn push_number(&mut self, number: u64) -> Result<(), AllocError>
+    /// Adds a number in decimal.
+    pub fn push_number(&mut self, number: u64) -> Result<(), AllocError>
         ensures { OnOk result (Adds self.old self.new (decimal number)) }
     {
         self.push_str(Buffer::new().format(number))

@@ -57,17 +57,17 @@ impl SharedAcceptor {
         }
     }
 
-    /// Offers a set in turn: it draws a ticket, waits until that ticket is served, takes what is
-    /// accepted, calls [`Gate::inside`], answers by the acceptor's rule, records the entry, puts back
-    /// what is accepted now, and serves the next ticket.
+    /// Offers a set in turn: it waits until no other offer has the turn, draws the ticket that is
+    /// served, takes what is accepted, calls [`Gate::inside`], answers by the acceptor's rule, records
+    /// the entry, puts back what is accepted now, and serves the next ticket.
     ///
     /// `Clash` comes where an id has two different updates, in the offer and in what was accepted,
     /// and names the least such id; `Memory` where a growth was refused. After either nothing is
     /// recorded, what was accepted is as it was, and the turn has passed on.
     ///
     /// The cost is that of the acceptor's step, and of the wait for the turn, in which the
-    /// thread yields the processor after each look. Turns come in the order of tickets. No clause
-    /// says that a turn ever comes: it does not where a caller in its turn never ends, and an
+    /// thread yields the processor after each look. Whoever looks first has the next turn. No
+    /// clause says that a turn ever comes: it does not where a caller in its turn never ends, and an
     /// offer that finds 2^62 tickets drawn waits for ever.
     pub fn offer<R: Wait, G: Gate>(
         &self,

@@ -53,4 +53,11 @@ pub mod Safe
 pub mod Asking
 pub mod Places
 pub mod Promised
+pub mod WorldNodes
 pub mod Questions
+pub mod SubmittingOnce
+pub mod Voters
+pub mod Nodes
+pub mod LiveGroups
+mod Repeats
+mod Kept

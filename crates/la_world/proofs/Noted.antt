@@ -1,6 +1,6 @@
 -- What a call has put together where its replica's step was taken: the world of the replica
 -- afterwards, and of a journal in which the step was noted, or nothing was.
-use Rattle.std.proofs.Common.{◌≡◌, ℕ, ◌+◌, ◌<◌, ◌≤◌, ◌^◌, List, ◌++◌, length, slice_get, slice_set, Option, Some, None, ap, ap₂, sym, ◌∙◌, subst, subst₂}
+use Rattle.std.proofs.Common.{◌≡◌, ℕ, ◌+◌, ◌<◌, ◌≤◌, ◌^◌, List, ◌++◌, length, slice_set, Option, None, ap, ap₂, sym, ◌∙◌, subst, subst₂}
 use Rattle.std.specs.Prelude.{option_and_then}
 use Rattle.la_set.specs.Histories.{Histories}
 use Rattle.la_commit.specs.declared.outcome.Outcome.{Outcome}
@@ -17,17 +17,12 @@ use Rattle.la_world.specs.Shown.{shown_by, learnings_by, step_by}
 use Rattle.la_world.specs.StandsFor.{World, world_of}
 use Rattle.la_world.specs.Calls.{HoldsInvariant, Plays}
 use Rattle.la_world.proofs.WorldSteps.{receiver_speaks, submitter_speaks}
-use Rattle.la_world.proofs.Worlds.{set_same, world_with, step_with, IsDelivery}
+use Rattle.la_world.proofs.Worlds.{world_with, step_with, IsDelivery}
 
 -- room was made, and nothing was noted
 module _ {w : World} (invariant : HoldsInvariant w) (journal : Journal) (a : journal.messages.items ≡ w.messages) (b : journal.learnt.items ≡ w.learnt) (d : journal.count ≡ w.count) where
   pub holds_reserved : HoldsInvariant (world_of w.config w.replica_states w.shelves journal)
   holds_reserved = subst HoldsInvariant (λ j. record { config = w.config; replica_states = w.replica_states; shelves = w.shelves; messages = sym a j; learnt = sym b j; count = sym d j }) invariant
-
-  -- and the replica is as before
-  pub holds_unchanged : (r : ℕ) {at m : ReplicaState} → slice_get w.replica_states r ≡ Some at → m ≡ at → HoldsInvariant (world_of w.config (slice_set w.replica_states r m) w.shelves journal)
-  holds_unchanged r {at = at} found same =
-      subst (λ replica_states. HoldsInvariant (world_of w.config replica_states w.shelves journal)) (sym (ap (slice_set w.replica_states r) same ∙ set_same w.replica_states r at found)) holds_reserved
 
 -- room was made, and then it was noted what replica s did
 pub record IsNoted (w : World) (s : Speaker) (done : Done) (copy : Option Histories) (room after : Journal) (made : Step) : Type 0 where

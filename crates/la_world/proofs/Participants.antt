@@ -51,7 +51,7 @@ next_instance i r (Some s) v e = let odd = eqb-true (i % 2) 1 (votes_in_first i 
 pub led_is : (r after : ReplicaState) (out : Out) (c : Change) (o : Option (Out × ReplicaState)) → o ≡ led r out c → after_commit r c ≡ Some after → o ≡ Some (out, after)
 led_is r after out c o step done = step ∙ ap (option_map (λ (s : ReplicaState). (out, s))) done
 
-leads_on : (r : ReplicaState) (out : Out) (c : Change) → IsPreparedFrom r c → (after : ReplicaState) × (led r out c ≡ Some (out, after))
+pub leads_on : (r : ReplicaState) (out : Out) (c : Change) → IsPreparedFrom r c → (after : ReplicaState) × (led r out c ≡ Some (out, after))
 leads_on r out c from = go (slice_get r.instances c.instance) from
   where
     go : (o : Option Instance) → IsSomeAnd o (λ x. IsProposerFrom x.proposer c.proposer)

@@ -1,35 +1,33 @@
 -- Questions to a world: a shelf follows its replica's view, and then answers by it.
-use Rattle.std.proofs.Common.{◌≡◌, ℕ, zero, suc, ◌+◌, ◌<◌, ◌≤◌, ◌⊎◌, inl, inr, List, [], ◌∷◌, length, get_or, slice_get, slice_set, unwrap_or, append-nil, Option, Some, None, Result, Ok, Err, OnOk, IfErr, IsSome, IsSomeAnd, option_map, refl, ap, ap₂, sym, ◌∙◌, subst, subst₂, arith}
+use Rattle.std.proofs.Common.{◌≡◌, ℕ, zero, suc, ◌+◌, ◌<◌, ◌≤◌, ◌⊎◌, inl, inr, List, [], ◌∷◌, length, get_or, slice_get, slice_set, unwrap_or, append-nil, Option, Some, None, IsSome, IsSomeAnd, option_map, refl, ap, ap₂, sym, ◌∙◌, subst, subst₂, arith}
 use Rattle.std.specs.Prelude.{nat_le, nat_lt}
 use Rattle.std.specs.List.{AllWithin}
-use Rattle.std.proofs.Math.Bridge.{le_prop}
-use Rattle.std.proofs.Math.Logic.{∥∥₁_elim, ∥∥₁_map}
-use Rattle.std.proofs.Math.Nat.{ℕ_set}
+use Rattle.std.proofs.Math.Logic.{∥∥₁_map}
 use Rattle.std.proofs.Math.Seq.{map-set_same}
 use Rattle.std.proofs.lemmas.Bool.{cond-true, cond-false, cases_lt, lt-leb, lt-ltb}
 use Rattle.std.proofs.lemmas.List.{length-set}
 use Rattle.std.proofs.lemmas.Option.{same_Some, none-some, slice_get-map, slice_get_within, get_or_from_slice_get}
 use Rattle.la_set.specs.declared.update.UpdateId.{UpdateId}
-use Rattle.la_set.specs.Histories.{Histories, empty, get, history, from_histories, updates}
+use Rattle.la_set.specs.Histories.{Histories, empty, history, from_histories, updates}
 use Rattle.la_set.specs.Inclusion.{IsSubset}
-use Rattle.la_set.specs.Join.{IsCompatible}
 use Rattle.la_set.proofs.Differences.{same_length}
 use Rattle.la_object.specs.declared.kind.Kind.{Kind}
 use Rattle.la_object.specs.declared.query.Query.{Query}
 use Rattle.la_object.specs.declared.query.Answer.{Answer}
 use Rattle.la_object.specs.declared.query.Answer.TheVariants.{Foreign}
-use Rattle.la_object.specs.declared.error.AbsorbError.{AbsorbError}
-use Rattle.la_object.specs.declared.error.AbsorbError.TheVariants.{Smaller, Memory}
-use Rattle.la_object.specs.Refusals.{IsAbsorbRefusal}
 use Rattle.la_object.specs.Shelves.{ShelfState, kind_at, answer_at, tags_at}
 use Rattle.la_replica.specs.declared.message.Message as code
-use Rattle.la_replica.specs.Whole.{CarryAll}
+use Rattle.la_replica.specs.Whole.{whole_mail}
 use Rattle.la_replica.specs.ReplicaState.{ReplicaState}
 use Rattle.la_world.specs.declared.error.Refusal.TheVariants.{NoSuchReplica}
 use Rattle.la_world.specs.declared.report.Line.TheVariants.{Done}
 use Rattle.la_world.specs.declared.step.Did.TheVariants as shown
 use Rattle.la_world.specs.declared.step.Learnt.{Learnt}
 use Rattle.la_world.specs.declared.step.Step.{Step}
+use Rattle.la_world.specs.declared.config.Config.{Config}
+use Rattle.la_world.specs.declared.journal.Journal.{Journal}
+use Rattle.la_world.specs.Shown.{answer_step}
+use Rattle.la_world.specs.Nodes.{NodeState, replicas_of, shelves_of, followed, with_shelf}
 use Rattle.la_world.specs.Groups.{Group, group_of, replicas, kinds_on, IsConfig}
 use Rattle.la_world.specs.Events.{Event, Ask}
 use Rattle.la_world.specs.Trace.{Trace}
@@ -39,14 +37,14 @@ use Rattle.la_world.specs.Playing.{answer_of, shelf_of, entry, trace}
 use Rattle.la_world.specs.Learnings.{learnt}
 use Rattle.la_world.specs.Report.{refused, refused_object, line_of}
 use Rattle.la_world.specs.ReplicaStates.{replica_state, replica_states}
-use Rattle.la_world.specs.StandsFor.{World, kinds_of, group_in, IsLegal, AreBehind, StandsFor}
+use Rattle.la_world.specs.StandsFor.{World, world_of, kinds_of, group_in, AreBehind, EventsLeadTo, StandsFor}
 use Rattle.la_world.specs.Calls.{HoldsInvariant, Plays, Keeps, view_in, HasObject, IsFollowing, tags_of}
 use Rattle.la_world.proofs.GrowingViews.{view_more}
 use Rattle.la_world.proofs.OneReplicaSteps.{map_same, replica_state-else}
-use Rattle.la_world.proofs.Receivers.{compatible_from}
 use Rattle.la_world.proofs.Unaffected.{Concerns}
 use Rattle.la_world.proofs.LargestViews.{empty_least}
-use Rattle.la_world.proofs.Worlds.{view_is, sent_is, replicas_are, found_at}
+use Rattle.la_world.proofs.Worlds.{view_is, sent_is, found_at}
+use Rattle.la_world.proofs.WorldNodes.{world_of_nodes, replica_found, shelf_found, looked}
 
 -- ## What a world keeps
 
@@ -146,11 +144,13 @@ module _ (w : World) (events : List Event) (stands : StandsFor w events) where
       let x = entry g t (Ask r object query) in
       record {
         config = stands.config;
-        legal = (allowed, stands.legal);
-        replica_states = stands.replica_states ∙ replicas_stay g t r object query;
+        led = record {
+          legal = (allowed, stands.led.legal);
+          replica_states = stands.led.replica_states ∙ replicas_stay g t r object query;
+          sent = stands.led.sent ∙ sym (append-nil (sent (replicas g) t));
+        };
         shelves = stands.shelves;
         absorbed = λ q s found u has. view_more x t q u (stands.absorbed q s found u has);
-        messages = subst (CarryAll w.messages) (sym (append-nil (sent (replicas g) t))) stands.messages;
         learnt = stands.learnt ∙ sym (append-nil (learnt t));
         count = let c = stands.count in omega arith;
       }
@@ -170,40 +170,16 @@ module _ (w : World) (events : List Event) (stands : StandsFor w events) where
 
 -- ## What a world finds of its shelves
 
-pub replica_known : (w : World) → HoldsInvariant w → (r : ℕ) → r < length w.shelves → r < length w.replica_states
-replica_known w h r lt = ∥∥₁_elim h.reached (hlevel (ℕ_set, le_prop)) (λ p.
-    let same = replicas_are w p.0 p.1 in
-    let a = p.1.shelves in
-    let b = p.1.config.group.replicas in
-    omega arith)
-
 -- the replica r is this one, and this is its shelf
 pub record IsShelf (w : World) (r : ℕ) (at : ReplicaState) (s : ShelfState) : Type 0 where
   pub invariant : HoldsInvariant w
   pub state : slice_get w.replica_states r ≡ Some at
   pub found : slice_get w.shelves r ≡ Some s
 
-pub read_shelf : {w old : World} → HoldsInvariant w → w ≡ old → (r : ℕ) → r < length old.shelves → {at : ReplicaState} → at ≡ get_or w.replica_states r at → {s : ShelfState} → s ≡ get_or w.shelves r s → IsShelf w r at s
-read_shelf {w = w} invariant same r known {at = at} read_state {s = s} read =
-    let there : r < length w.shelves = subst (λ (v : World). r < length v.shelves) (sym same) known in
-    record { invariant = invariant; state = found_at w.replica_states r at (replica_known w invariant r there) read_state; found = found_at w.shelves r s there read }
-
 -- the shelf has absorbed some of its replica's view, or nothing
 pub record HasAbsorbed (at : ReplicaState) (s new : ShelfState) : Type 0 where
   pub objects : new.objects ≡ s.objects
   pub within : IsSubset s.view at.view → IsSubset new.view at.view
-
--- whatever comes of an absorption, the objects stay
-same_objects : (result : Result ℕ AbsorbError) (s : ShelfState) (set : Histories) (new : ShelfState) → OnOk result (new ≡ record s { view = set }) → IfErr result (IsAbsorbRefusal s set new) → new.objects ≡ s.objects
-same_objects (Ok n) s set new ok err = ap (λ (z : ShelfState). z.objects) ok
-same_objects (Err Smaller) s set new ok err = ap (λ (z : ShelfState). z.objects) err.1
-same_objects (Err (Memory done)) s set new ok err = ap (λ (z : ShelfState). z.objects) err.1.1
-
-pub absorbed_as : (result : Result ℕ AbsorbError) (at : ReplicaState) (s : ShelfState) (set : Histories) (new : ShelfState) → set ≡ at.view → OnOk result (new ≡ record s { view = set }) → IfErr result (IsAbsorbRefusal s set new) → (IsSubset s.view set → IsSubset new.view set) → HasAbsorbed at s new
-absorbed_as result at s set new same ok err within = record {
-  objects = same_objects result s set new ok err;
-  within = subst (λ v. IsSubset s.view v → IsSubset new.view v) same within;
-}
 
 -- ## A shelf that follows
 
@@ -237,11 +213,6 @@ module _ {w : World} {r : ℕ} {at : ReplicaState} {s : ShelfState} (is : IsShel
     within : IsSubset s.view at.view
     within = subst (IsSubset s.view) (sym view_then) (stands.absorbed r s is.found)
 
-  pub fits_view : IsCompatible at.view s.view
-  fits_view = compatible_from is.invariant.reached at.view s.view (λ p u v in_view in_shelf e.
-      let there = within p.0 p.1 v in_shelf in
-      same_Some u v (sym in_view ∙ ap (get at.view) e ∙ there))
-
   module _ {new : ShelfState} (absorbed : HasAbsorbed at s new) where
     kinds_stay : kinds_of (slice_set w.shelves r new) ≡ kinds_of w.shelves
     kinds_stay = map-set_same (λ (z : ShelfState). z.objects) w.shelves r new s (absorbed.objects ∙ ap (λ (z : ShelfState). z.objects) (sym (get_or_from_slice_get w.shelves r s s is.found)))
@@ -264,23 +235,13 @@ module _ {w : World} {r : ℕ} {at : ReplicaState} {s : ShelfState} (is : IsShel
           let same : group_of w.config (kinds_of w.shelves) ≡ group_of w.config (kinds_of (slice_set w.shelves r new)) = ap (group_of w.config) (sym kinds_stay) in
           record {
             config = stands.config;
-            legal = subst (λ (g : Group). IsLegal g events) same stands.legal;
-            replica_states = subst (λ (g : Group). w.replica_states ≡ replica_states g (trace g events)) same stands.replica_states;
+            led = subst (λ (g : Group). EventsLeadTo g events w.replica_states (whole_mail w.messages)) same stands.led;
             shelves = length-set w.shelves r new ∙ stands.shelves;
             absorbed = subst (λ (g : Group). AreBehind (slice_set w.shelves r new) (trace g events)) same (behind events stands);
-            messages = subst (λ (g : Group). CarryAll w.messages (sent (replicas g) (trace g events))) same stands.messages;
             learnt = subst (λ (g : Group). w.learnt ≡ learnt (trace g events)) same stands.learnt;
             count = stands.count;
           };
     }
-
-    pub keeps_invariant : HoldsInvariant (then w r new)
-    keeps_invariant = kept_invariant w (then w r new) keeps is.invariant
-
-    pub follows_then : {set : Histories} → new ≡ record s { view = set } → set ≡ at.view → IsFollowing (then w r new) r
-    follows_then whole same =
-        let seen : new.view ≡ at.view = ap (λ (z : ShelfState). z.view) whole ∙ same in
-        subst (λ o. IsSomeAnd o (λ (z : ShelfState). view_in (then w r new) r ≡ Some z.view)) (sym (get_put w.shelves r s new is.found)) (view_at_is ∙ ap Some (sym seen))
 
 -- ## A shelf that has absorbed nothing
 
@@ -332,13 +293,6 @@ module _ (w : World) (r object : ℕ) (query : Query) (s : ShelfState) (answer :
   pub question_invariant : HoldsInvariant w → HoldsInvariant noted
   question_invariant h = record { config = h.config; reached = ∥∥₁_map h.reached (λ p. (Ask r object query ∷ p.0, (question_played p.0 p.1).stands)) }
 
-pub is_there : (w : World) (r : ℕ) → IsFollowing w r → r < length w.shelves
-is_there w r following = go (slice_get w.shelves r) refl following
-  where
-    go : (o : Option ShelfState) → slice_get w.shelves r ≡ o → IsSomeAnd o (λ (z : ShelfState). view_in w r ≡ Some z.view) → r < length w.shelves
-    go None e h = absurd h
-    go (Some s) e h = slice_get_within w.shelves r s e
-
 -- ## The tags that are observed
 
 module _ (w now : World) (k : Keeps w now) (events : List Event) (stands : StandsFor w events) (r object element : ℕ) where
@@ -363,3 +317,68 @@ module _ (w now : World) (k : Keeps w now) (events : List Event) (stands : Stand
           let g = group_in w in
           subst IsSome (sym (cond-true (nat_lt r (replicas g)) (tags_at (shelf_of g (trace g events) r) object element) None (lt-ltb r (replicas g) (is_replica w events stands r s found))))
           (some_mapped (kind_at (kinds_on g r) object) _ (subst (λ o. IsSome (kind_at o object)) (shelf_kinds w events stands r s found) h))
+
+-- ## A node that was looked at
+
+module _ (c : Config) (nodes : List NodeState) (journal : Journal) (invariant : HoldsInvariant (world_of_nodes c nodes journal)) (r : ℕ) (n : NodeState) (found : slice_get nodes r ≡ Some n) where
+  abbrev now : World
+  now = world_of_nodes c nodes journal
+
+  is_shelf : IsShelf now r n.replica n.shelf
+  is_shelf = record { invariant = invariant; state = replica_found nodes r n found; found = shelf_found nodes r n found }
+
+  -- its shelf has absorbed some of its view
+  module _ (made : NodeState) (same : made.replica ≡ n.replica) (objects : made.shelf.objects ≡ n.shelf.objects) (within_view : IsSubset made.shelf.view made.replica.view) where
+    some_absorbed : HasAbsorbed n.replica n.shelf made.shelf
+    some_absorbed = record { objects = objects; within = λ was. subst (λ (m : ReplicaState). IsSubset made.shelf.view m.view) same within_view }
+
+    abbrev after_look : World
+    after_look = world_of_nodes c (slice_set nodes r made) journal
+
+    still_keeps : Keeps now after_look
+    still_keeps = subst (Keeps now) (sym (looked nodes r n found c made journal same)) (keeps is_shelf some_absorbed)
+
+    pub looked_keeps : {old : World} → now ≡ old → Keeps old after_look
+    looked_keeps is = subst (λ v. Keeps v after_look) is still_keeps
+
+    pub looked_holds : HoldsInvariant after_look
+    looked_holds = kept_invariant now after_look still_keeps invariant
+
+  -- or all of it
+  abbrev following : World
+  following = then now r (followed n)
+
+  all_absorbed : HasAbsorbed n.replica n.shelf (followed n)
+  all_absorbed = record { objects = refl; within = λ was u has. has }
+
+  following_keeps : Keeps now following
+  following_keeps = keeps is_shelf all_absorbed
+
+  following_found : slice_get following.shelves r ≡ Some (followed n)
+  following_found = get_put (shelves_of nodes) r n.shelf (followed n) (shelf_found nodes r n found)
+
+  follows : IsFollowing following r
+  follows = subst (λ o. IsSomeAnd o (λ (z : ShelfState). view_in following r ≡ Some z.view)) (sym following_found) (ap (option_map (λ (m : ReplicaState). m.view)) (replica_found nodes r n found))
+
+  pub tags_told : (events : List Event) → StandsFor now events → (object element : ℕ) → tags_of (group_in now) (trace (group_in now) events) r object element ≡ tags_at (followed n) object element
+  tags_told events stands object element = tags_kept now following following_keeps events stands r object element (followed n) following_found follows
+
+  pub tags_known : (events : List Event) → StandsFor now events → (object element : ℕ) → HasObject (shelves_of nodes) r object → IsSome (tags_of (group_in now) (trace (group_in now) events) r object element)
+  tags_known events stands object element = tags_there now following following_keeps events stands r object element
+
+  -- it has answered, and the question was noted
+  module _ (made : NodeState) (made_is : made ≡ with_shelf n (followed n)) (object : ℕ) (query : Query) (answer : Answer) (is : answer_at (followed n) object query ≡ Some answer) (after : Journal) (a : after.messages.items ≡ journal.messages.items) (b : after.learnt.items ≡ journal.learnt.items) (d : after.count ≡ journal.count + 1) where
+    asked_as : world_of_nodes c (slice_set nodes r made) after ≡ world_of c (replicas_of nodes) (slice_set (shelves_of nodes) r (followed n)) after
+    asked_as =
+        looked nodes r n found c made after (ap (λ (m : NodeState). m.replica) made_is)
+        ∙ ap (λ (m : NodeState). world_of c (replicas_of nodes) (slice_set (shelves_of nodes) r m.shelf) after) made_is
+
+    pub asked_holds : HoldsInvariant (world_of_nodes c (slice_set nodes r made) after)
+    asked_holds = subst HoldsInvariant (sym asked_as) (question_invariant following r object query (followed n) answer following_found follows is after.messages.items after.learnt.items after.count a b d (kept_invariant now following following_keeps invariant))
+
+    pub asked_plays : {old : World} → now ≡ old → (events : List Event) → StandsFor old events → {step : Step} → step ≡ answer_step journal answer → Plays old events (Ask r object query) step (world_of_nodes c (slice_set nodes r made) after)
+    asked_plays same events stands {step = step} step_is =
+        let e = Ask r object query in
+        let p = question_played following r object query (followed n) answer following_found follows is after.messages.items after.learnt.items after.count a b d events (following_keeps.stands events (subst (λ v. StandsFor v events) (sym same) stands)) in
+        subst (λ v. Plays v events e step (world_of_nodes c (slice_set nodes r made) after)) same
+        (subst₂ (λ t v. Plays now events e t v) (sym step_is) (sym asked_as) (kept_plays now following following_keeps events e (answer_step journal answer) _ p))

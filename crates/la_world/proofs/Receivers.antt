@@ -1,6 +1,6 @@
 -- That a message fits its receiver may be shown from any list of events that leads to a world: each part
 -- of it is decided, or is a denial.
-use Rattle.std.proofs.Common.{◌≡◌, ℕ, ◌<◌, Bool, true, false, Option, Some, None, IsSomeAnd, slice_get, refl, sym, ◌∙◌}
+use Rattle.std.proofs.Common.{◌≡◌, Bool, true, false, Option, Some, None, IsSomeAnd, slice_get, refl, sym, ◌∙◌}
 use Rattle.std.proofs.Math.Logic.{∥∥₁_elim}
 use Rattle.std.proofs.Math.Nat.{ℕ_set}
 use Rattle.std.proofs.Math.Bridge.{le_prop}
@@ -12,16 +12,14 @@ use Rattle.la_set.proofs.Decisions.{update_eq-Decides}
 use Rattle.la_replica.specs.declared.instance.Instance.{Instance}
 use Rattle.la_replica.specs.Whole.{Message, Body, Offer, Yes, No, Tell}
 use Rattle.la_replica.specs.ReplicaState.{ReplicaState}
-use Rattle.la_proposer.specs.ProposerState.{submitted}
-use Rattle.la_proposer.specs.Refusals.{SubmissionSpends}
-use Rattle.la_replica.specs.Refusals.{IsFor, FitsBody, SparesBody, HasRoom, SubmittingSpares}
+use Rattle.la_replica.specs.Refusals.{IsFor, FitsBody, SparesBody}
 use Rattle.la_replica.specs.Fitting.{FitsReceiver, FitsViewBody}
 
 module _ {A : Type 0} (some : ∥ A ∥₁) where
   never : (A → ⊥) → ⊥
   never f = ∥∥₁_elim some (hlevel) f
 
-  pub compatible_from : (a b : Histories) → (A → IsCompatible a b) → IsCompatible a b
+  compatible_from : (a b : Histories) → (A → IsCompatible a b) → IsCompatible a b
   compatible_from a b h u v p q e = go (update_eq u v) refl
     where
       go : (w : Bool) → update_eq u v ≡ w → u ≡ v
@@ -52,13 +50,6 @@ module _ {A : Type 0} (some : ∥ A ∥₁) where
 
   is_for : (m : ReplicaState) (message : Message) → (A → IsFor m message) → IsFor m message
   is_for m message h = (∥∥₁_elim some (hlevel (ℕ_set, le_prop)) (λ x. (h x).0), ∥∥₁_elim some (hlevel (ℕ_set, le_prop)) (λ x. (h x).1))
-
--- the same of room for a submission
-pub room_from : {A : Type 0} (at : ReplicaState) (i : ℕ) → ∥ A ∥₁ → (A → HasRoom at i × SubmittingSpares at i) → HasRoom at i × SubmittingSpares at i
-room_from at i some h = (
-  in_some some (slice_get at.instances i) (λ x. submitted x.proposer < x.proposer.cap) (λ x f. ∥∥₁_elim some (hlevel (ℕ_set, le_prop)) f) (λ x. (h x).0),
-  in_some some (slice_get at.instances i) (λ x. ¬ SubmissionSpends x.proposer) (λ x f k. never some (λ y. f y k)) (λ x. (h x).1),
-)
 
 pub fits_from : {A : Type 0} (at : ReplicaState) (m : Message) → ∥ A ∥₁ → (A → FitsReceiver at m) → FitsReceiver at m
 fits_from at m some h = record {

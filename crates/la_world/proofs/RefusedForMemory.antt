@@ -1,8 +1,8 @@
 -- A message of a legal list is refused for want of memory alone, and a submission that the world does
 -- not refuse likewise: every set lies within what was submitted, and ballots' numbers stay small.
-use Rattle.std.proofs.Common.{◌≡◌, ◌≢◌, ◌⊎◌, ℕ, ◌*◌, ◌<◌, ◌≤◌, Bool, true, false, not, ◌&&◌, ◌==◌, cond, List, [], ◌∷◌, length, slice_get, Some, None, refl, ap, sym, ◌∙◌, subst, arith, inl, inr}
+use Rattle.std.proofs.Common.{◌≡◌, ◌≢◌, ◌⊎◌, ℕ, ◌*◌, ◌<◌, ◌≤◌, Bool, true, false, not, ◌&&◌, ◌==◌, cond, List, [], ◌∷◌, length, slice_get, None, refl, ap, sym, ◌∙◌, subst, arith, inl, inr}
 use Rattle.std.specs.Prelude.{IsSome, IsSomeAnd}
-use Rattle.std.proofs.lemmas.Bool.{cond_both, cond-false, ne_eqb, true≢false, not-true}
+use Rattle.std.proofs.lemmas.Bool.{cond_both, true≢false, not-true}
 use Rattle.std.proofs.lemmas.List.{length-drop}
 use Rattle.std.proofs.lemmas.List.FromFn.{length-map-range_with_len}
 use Rattle.la_set.specs.declared.update.UpdateId.{UpdateId}
@@ -19,19 +19,16 @@ use Rattle.la_proposer.specs.declared.tally.Verdict.TheVariants.{Waits, Refines,
 use Rattle.la_proposer.specs.Majority.{is_majority}
 use Rattle.la_proposer.specs.Tally.{has_counted, said_yes, has_refusal, verdict, joined_with_refusals}
 use Rattle.la_proposer.specs.ProposerState as proposer
-use Rattle.la_proposer.specs.ProposerState.{ProposerState, with_reply, is_nothing}
+use Rattle.la_proposer.specs.ProposerState.{with_reply, is_nothing}
 use Rattle.la_proposer.specs.Clashes.{ClashesWith, ClashesInTally, Fits}
-use Rattle.la_proposer.specs.declared.proposer.TheConstants.{MAX_CAP}
 use Rattle.la_proposer.specs.Refusals.{opens_by, SubmissionSpends, ReplySpends}
 use Rattle.la_proposer.proofs.LeastIds.{least-clash, get-some, some-get}
 use Rattle.la_replica.specs.declared.error.ReplicaError.{ReplicaError}
 use Rattle.la_replica.specs.declared.error.ReplicaError.TheVariants.{NoSuchReplica, NoSuchInstance, Full, Clash, BallotsSpent, Memory}
-use Rattle.la_replica.specs.Whole.{Message, Body, Offer, Yes, No, Tell, Out}
+use Rattle.la_replica.specs.Whole.{Message, Body, Offer, Yes, No, Tell}
 use Rattle.la_replica.specs.Messages.{body_of}
 use Rattle.la_replica.specs.declared.instance.Instance.{Instance}
-use Rattle.la_replica.specs.ReplicaState as acting
-use Rattle.la_replica.specs.ReplicaState.{ReplicaState}
-use Rattle.la_replica.specs.Refusals.{HasRoom, SubmittingSpares, IsSubmissionRefusal, IsSubmitRefusal, IsHearingRefusal, IsBodyRefusal, IsReceiveRefusal, FitsBody, SparesBody}
+use Rattle.la_replica.specs.Refusals.{IsSubmissionRefusal, IsSubmitRefusal, IsHearingRefusal, IsBodyRefusal, IsReceiveRefusal, FitsBody, SparesBody}
 use Rattle.la_world.specs.declared.step.Opening.{Opening}
 use Rattle.la_world.specs.Groups.{Group, replicas, instances, cap_of}
 use Rattle.la_world.specs.Trace.{Trace}
@@ -39,15 +36,12 @@ use Rattle.la_world.specs.Sent.{sent}
 use Rattle.la_world.specs.Acceptors.{accepted}
 use Rattle.la_world.specs.Ballots.{round, is_open}
 use Rattle.la_world.specs.Counting.{counted}
-use Rattle.la_world.specs.Votes.{Submission}
 use Rattle.la_world.specs.Submissions.{submitted}
 use Rattle.la_world.specs.Views.{view}
-use Rattle.la_world.specs.Events.{Event}
-use Rattle.la_world.specs.StandsFor.{IsLegal}
 use Rattle.la_world.specs.Playing.{counts, trace}
 use Rattle.la_world.specs.ReplicaStates.{proposer_state, instance_of, replica_state}
 use Rattle.la_replica.specs.Fitting.{FitsReceiver, FitsViewBody}
-use Rattle.la_world.specs.Following.{vote_due, SubmissionsFit, DeliveriesFit}
+use Rattle.la_world.specs.Following.{SubmissionsFit, DeliveriesFit}
 use Rattle.la_world.proofs.Lists.{IsIn, AllIn, IsIn_get}
 use Rattle.la_world.proofs.Sizes.{total, total_subset, total_most, total_below, total_strict}
 use Rattle.la_world.proofs.EventCases.{heard, refused_contains}
@@ -62,7 +56,7 @@ use Rattle.la_world.proofs.OneReplicaSteps.{get_instance}
 use Rattle.la_world.proofs.Replying.{before, with_new, waits, tally_then, refined_within, something_length}
 use Rattle.la_world.proofs.Replying.{counts_is as same_counts}
 use Rattle.la_world.proofs.LargestViews.{view_known}
-use Rattle.la_world.proofs.Legal.{legal_between, due, delivery_due}
+use Rattle.la_world.proofs.Legal.{legal_between}
 
 -- ## No clash
 
@@ -317,33 +311,3 @@ module _ (g : Group) (t : Trace) (r i : ℕ) (h : Holds g t) (caps : (q : ℕ) �
 pub submission_refusal : SubmissionsFit
 submission_refusal g events r i few small legal in_group there =
     submitters_refusal g (trace g events) r i (holds g events) (submitted_most g events legal i) (omega arith) there (cap_small g i small)
-
--- ## A second vote
-
--- where nothing was submitted above instance 0
-module _ (g : Group) (t : Trace) (r j : ℕ) (h : Holds g t) (caps : (q : ℕ) → length (submitted t j q) ≤ cap_of g j) (known_replica : r < 8) (there : j < instances g) (small : cap_of g j ≤ 1000000) (above : j ≢ 0) (none : submitted t j r ≡ []) where
-  room_left : length (submitted t j r) < cap_of g j
-  room_left = let one = cond-false (j == 0) g.cap 1 (ne_eqb j 0 above) in omega (arith, one, ap length none)
-
-  proposer_room : proposer.submitted (proposer_state g t j r) < (proposer_state g t j r).cap
-  unfolding proposer_state
-  proposer_room = subst (λ z. z < cap_of g j) (sym (submitted_is g t j r h)) room_left
-
-  in_there : (P : Instance → Type 0) → P (instance_of g t r j) → IsSomeAnd (slice_get (replica_state g t r).instances j) P
-  in_there P p = subst (λ o. IsSomeAnd o P) (sym (get_instance g t r j there)) p
-
-  first_has_room : HasRoom (replica_state g t r) j × SubmittingSpares (replica_state g t r) j
-  unfolding instance_of
-  first_has_room = (
-    in_there (λ x. proposer.submitted x.proposer < x.proposer.cap) proposer_room,
-    in_there (λ x. ¬ SubmissionSpends x.proposer) (spares g t r j h caps known_replica there small room_left),
-  )
-
--- a vote that is due by a message that was sent is within the cap, and no ballot is spent
-pub vote_has_room : (g : Group) (events : List Event) (k : ℕ) (m : Message) (s : Submission) (made : Out × ReplicaState) → replicas g ≤ 8 → g.cap ≤ MAX_CAP → IsLegal g events → let t = trace g events in
-    slice_get (sent (replicas g) t) k ≡ Some m → acting.receives (replica_state g t m.to) m ≡ Some made → vote_due m.instance m.to made.0.said ≡ Some s → HasRoom (replica_state g t m.to) s.instance × SubmittingSpares (replica_state g t m.to) s.instance
-vote_has_room g events k m s made few small legal is receives vote =
-    let d = due g events legal few k m is s (sym (delivery_due g events legal few k m is made receives) ∙ vote) in
-    let between = legal_between g events legal k m is in
-    let lt = between.to in
-    first_has_room g (trace g events) m.to s.instance (holds g events) (submitted_most g events legal s.instance) (omega arith) (d.there between.instance) (cap_small g s.instance small) d.above d.none

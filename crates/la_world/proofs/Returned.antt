@@ -14,7 +14,7 @@ use Rattle.la_world.specs.Events.{Event}
 use Rattle.la_world.specs.Trace.{Trace}
 use Rattle.la_world.specs.Outcomes.{decision_of, returned, decisions_on, decisions}
 use Rattle.la_world.specs.Playing.{trace}
-use Rattle.la_world.specs.ReplicaStates.{instance_of, replica_state}
+use Rattle.la_world.specs.ReplicaStates.{instance_of, replica_state, replica_states}
 use Rattle.la_world.specs.StandsFor.{World, group_in, StandsFor}
 use Rattle.la_world.specs.Calls.{returned_by, returned_at, returned_in, returned_of, decision_by, decisions_at, decisions_in}
 use Rattle.la_world.proofs.OneReplicaSteps.{get_instance}
@@ -42,6 +42,21 @@ returned_is : (g : Group) (t : Trace) (k r : ℕ) → k < g.commits → returned
 unfolding replica_state instance_of
 returned_is g t k r lt = ap (option_and_then (λ s. outcome_of s r)) (ap learnt_of (get_instance g t r (second_instance k) (omega arith)))
 
+-- ## Lists
+
+module _ (g : Group) (t : Trace) where
+  decided : (k : ℕ) → k < g.commits → (rs : List ℕ) → filter_map (decision_by k) (map (replica_state g t) rs) ≡ filter_map (λ r. option_map (decision_of k r) (returned t k r)) rs
+  unfolding replica_state
+  decided k lt [] = refl
+  decided k lt (r ∷ rs) = ap₂ (λ o xs. cons_option o xs) (ap (option_map (decision_of k r)) (returned_is g t k r lt)) (decided k lt rs)
+
+  decided_all : (k n : ℕ) → k + n ≤ g.commits → flat_map (decisions_at (replica_states g t)) (range_with_len k n) ≡ flat_map (decisions_on g t) (range_with_len k n)
+  decided_all k zero le = refl
+  decided_all k (suc n) le = ap₂ (λ xs ys. xs ++ ys) (decided k (omega arith) (group (replicas g))) (decided_all (k + 1) n (omega arith))
+
+  pub decisions_made : flat_map (decisions_at (replica_states g t)) (range_with_len 0 g.commits) ≡ decisions g t
+  decisions_made = decided_all 0 g.commits (omega arith)
+
 module _ (w : World) (events : List Event) (stands : StandsFor w events) where
   abbrev g : Group
   g = group_in w
@@ -60,16 +75,5 @@ module _ (w : World) (events : List Event) (stands : StandsFor w events) where
       go false known true lt = refl
       go false known false ge = refl
 
-  -- ## Lists
-
-  decided : (k : ℕ) → k < g.commits → (rs : List ℕ) → filter_map (decision_by k) (map (replica_state g t) rs) ≡ filter_map (λ r. option_map (decision_of k r) (returned t k r)) rs
-  unfolding replica_state
-  decided k lt [] = refl
-  decided k lt (r ∷ rs) = ap₂ (λ o xs. cons_option o xs) (ap (option_map (decision_of k r)) (returned_is g t k r lt)) (decided k lt rs)
-
-  decided_all : (k n : ℕ) → k + n ≤ g.commits → flat_map (decisions_at w.replica_states) (range_with_len k n) ≡ flat_map (decisions_on g t) (range_with_len k n)
-  decided_all k zero le = refl
-  decided_all k (suc n) le = ap₂ (λ xs ys. xs ++ ys) (ap (λ ms. decisions_at ms k) stands.replica_states ∙ decided k (omega arith) (group (replicas g))) (decided_all (k + 1) n (omega arith))
-
   pub decisions_are : decisions_in w ≡ decisions g t
-  decisions_are = decided_all 0 g.commits (omega arith)
+  decisions_are = ap (λ ms. flat_map (decisions_at ms) (range_with_len 0 g.commits)) stands.led.replica_states ∙ decisions_made g t

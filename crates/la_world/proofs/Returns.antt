@@ -1,5 +1,5 @@
 -- What a participant returned, it returned by a set that it learnt in the object's second instance.
-use Rattle.std.proofs.Common.{◌≡◌, ℕ, ◌⊎◌, inl, inr, List, [], ◌∷◌, ◌++◌, length, Contains, Option, Some, None, option_map, option_and_then, flat_map, filter_map, refl, ◌∙◌, ap, subst}
+use Rattle.std.proofs.Common.{◌≡◌, ℕ, [], ◌∷◌, length, Contains, Option, Some, None, option_map, option_and_then, filter_map, refl, ◌∙◌, ap, subst}
 use Rattle.std.specs.List.{cons_option}
 use Rattle.std.proofs.lemmas.Option.{same_Some, none-some}
 use Rattle.la_set.specs.Histories.{Histories}
@@ -12,25 +12,17 @@ use Rattle.la_commit.specs.Instances.{second_instance}
 use Rattle.la_replica.specs.Messages.{group}
 use Rattle.la_world.specs.declared.report.Decision.{Decision}
 use Rattle.la_world.specs.declared.step.Learnt.{Learnt}
+use Rattle.la_proposer.specs.declared.ballot.Ballot.{Ballot}
 use Rattle.la_world.specs.declared.step.Opening.{Opening}
 use Rattle.la_world.specs.Groups.{Group, replicas}
 use Rattle.la_world.specs.Trace.{Trace}
 use Rattle.la_world.specs.Ballots.{only, learnt_by}
-use Rattle.la_world.specs.Learnings.{learning, learnt, newest_set, last_learnt}
+use Rattle.la_world.specs.Learnings.{learning, learnt, newest_ballot, last_learnt_ballot, last_learnt}
 use Rattle.la_world.specs.Outcomes.{returned, decision_of, decisions_on, decisions}
 use Rattle.std.specs.List.{range_with_len}
-use Rattle.la_world.proofs.Lists.{IsIn, IsIn_contains, contains_IsIn}
+use Rattle.la_world.proofs.Lists.{IsIn_contains, contains_IsIn, in_flat_map}
 use Rattle.la_world.proofs.Openings.{only_is}
 use Rattle.la_world.proofs.SubmittedVotes.{learnt_stays, learnt_now}
-
-in_either : {A : Type 0} (x : A) (xs ys : List A) → IsIn x (xs ++ ys) → IsIn x xs ⊎ IsIn x ys
-in_either x [] ys h = inr h
-in_either x (y ∷ xs) ys (inl e) = inl (inl e)
-in_either x (y ∷ xs) ys (inr h) = elim (in_either x xs ys h) [ inl a ↦ inl (inr a) | inr b ↦ inr b ]
-
-in_flat_map : {X Y : Type 0} (f : X → List Y) (xs : List X) (y : Y) → IsIn y (flat_map f xs) → (x : X) × IsIn y (f x)
-in_flat_map f [] y h = absurd h
-in_flat_map f (x ∷ xs) y h = elim (in_either y (f x) (flat_map f xs) h) [ inl a ↦ (x, a) | inr b ↦ in_flat_map f xs y b ]
 
 -- the set that r learnt last in i was learnt
 record WasLast (t : Trace) (i r : ℕ) (s : Histories) : Type 0 where
@@ -41,11 +33,11 @@ record WasLast (t : Trace) (i r : ℕ) (s : Histories) : Type 0 where
   updates : set.updates ≡ s
 
 last_was : (t : Trace) (i r : ℕ) (s : Histories) → last_learnt t i r ≡ Some s → WasLast t i r s
-unfolding last_learnt
+unfolding last_learnt_ballot
 last_was [] i r s e = absurd (none-some s e)
 last_was (x ∷ t) i r s e = go (only i r (learnt_by x.did)) refl (last_was t i r s) e
   where
-    go : (o : Option Opening) → only i r (learnt_by x.did) ≡ o → (last_learnt t i r ≡ Some s → WasLast t i r s) → newest_set (cons_option o (filter_map (λ y. only i r (learnt_by y.did)) t)) ≡ Some s → WasLast (x ∷ t) i r s
+    go : (o : Option Opening) → only i r (learnt_by x.did) ≡ o → (last_learnt t i r ≡ Some s → WasLast t i r s) → option_map (λ (c : Ballot). c.updates) (newest_ballot (cons_option o (filter_map (λ y. only i r (learnt_by y.did)) t))) ≡ Some s → WasLast (x ∷ t) i r s
     go None f before k = let w = before k in record { set = w.set; was = learnt_stays x t w.set w.was; instance = w.instance; replica = w.replica; updates = w.updates }
     go (Some b) f before k = let p = only_is i r (learnt_by x.did) b f in record { set = learning (length t) b; was = learnt_now x t b p.0; instance = p.1; replica = p.2; updates = same_Some b.updates s k }
 

@@ -22,7 +22,7 @@ use Rattle.la_world.proofs.WorldSteps.{few_of}
 
 -- of a world
 pub returns_safely : (w : World) (events : List Event) → StandsFor w events → IsAdoptCommit events (decisions_in w)
-returns_safely w events stands = subst (IsAdoptCommit events) (sym (decisions_are w events stands)) (adopt_commit (group_in w) events (few_of w.config (kinds_of w.shelves) stands.config) stands.legal)
+returns_safely w events stands = subst (IsAdoptCommit events) (sym (decisions_are w events stands)) (adopt_commit (group_in w) events (few_of w.config (kinds_of w.shelves) stands.config) stands.led.legal)
 
 -- ## A list that is played
 

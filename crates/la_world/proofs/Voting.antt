@@ -20,12 +20,12 @@ use Rattle.la_world.specs.declared.step.Opening.{Opening}
 use Rattle.la_world.specs.Groups.{Group, replicas, instances}
 use Rattle.la_world.specs.Events.{Deliver}
 use Rattle.la_world.specs.Trace as did
-use Rattle.la_world.specs.Trace.{Did, Entry, Trace}
+use Rattle.la_world.specs.Trace.{Entry, Trace}
 use Rattle.la_world.specs.Sent.{ballot_of, sent, offers_for, tells_for}
 use Rattle.la_world.specs.Acceptors.{offered, accepted}
 use Rattle.la_world.specs.Ballots.{is_of, only, round}
 use Rattle.la_world.specs.Counting.{replies}
-use Rattle.la_world.specs.Learnings.{last_learnt}
+use Rattle.la_world.specs.Learnings.{last_learnt_ballot}
 use Rattle.la_world.specs.Votes.{Submission, second_vote_in}
 use Rattle.la_world.specs.Submissions.{object_op_in, submitted}
 use Rattle.la_world.specs.Views.{view}
@@ -34,12 +34,12 @@ use Rattle.la_world.specs.ReplicaStates.{proposer_state, instance_of, replica_st
 use Rattle.la_world.specs.Following.{opened_there, voted_with, with_vote, vote_due, then_votes, takes, taken_at, StepsAs}
 use Rattle.la_world.proofs.Lists.{IsIn}
 use Rattle.la_world.proofs.Openings.{IsOf, not_both, IsAway, round_is, round-same, is_open-learnt, only_of}
-use Rattle.la_world.proofs.Unaffected.{Leaves, proposer_state_is, submitted-none, accepted-none, last_learnt-none, last_learnt-some}
+use Rattle.la_world.proofs.Unaffected.{Leaves, proposer_state_is, submitted-none, accepted-none, last_learnt_ballot-none, last_learnt_ballot-some}
 use Rattle.la_world.proofs.EventCases.{entry_of, submitted_with}
 use Rattle.la_world.proofs.Traces.{Holds}
 use Rattle.la_world.proofs.OneReplicaSteps.{get_instance, between, get_second, after_both, replica_state-left}
 use Rattle.la_world.proofs.Submitting.{opened_at, opens_ballot, opened_after, opened_said, opened_mail}
-use Rattle.la_world.proofs.Replying.{with_new, heard_is, kept_is, last_only, last_seen, tells_are}
+use Rattle.la_world.proofs.Replying.{with_new, heard_is, kept_is, last_only, last_seen, tells_are, learnt_number}
 use Rattle.la_world.proofs.Delivering.{no_offer, reply_offers, hearing_step}
 use Rattle.la_world.proofs.SecondVotes.{LeadsTo, does_learn, IsDue}
 
@@ -122,12 +122,12 @@ module _ (g : Group) (t : Trace) (k : ℕ) (m : Message) (there : m.instance < i
       ∙ cond-true (is_nothing heeding.waiting) (proposer.closed heeding) (proposer.after_opening heeding) nothing
       ∙ sym first_after
 
-  first_is : record { acceptor = accepted t i r; proposer = proposer_state g (x ∷ t) i r; learnt = Some last.updates } ≡ instance_of g (x ∷ t) r i
+  first_is : record { acceptor = accepted t i r; proposer = proposer_state g (x ∷ t) i r; learnt = Some (record { number = m.ballot; updates = last.updates }) } ≡ instance_of g (x ∷ t) r i
   unfolding instance_of
   first_is = λ q. record {
     acceptor = sym (accepted-none x t i r (no_offer g t k m there (ap offered l.body ∙ reply_offers g t k m there l.reply))) q;
     proposer = proposer_state g (x ∷ t) i r;
-    learnt = sym (last_learnt-some x t i r last last_here) q;
+    learnt = sym (last_learnt_ballot-some x t i r last last_here ∙ learnt_number g t k m l.reply l.body h was_sent l.heeded) q;
   }
 
   abbrev sender : Sender
@@ -169,14 +169,14 @@ module _ (g : Group) (t : Trace) (k : ℕ) (m : Message) (there : m.instance < i
   second_after = opened_after g t j r object_op h d.rests lt x sent_before (only_of j r next of_next) (submitted_with x t j r (vote_at j r object_op) l.vote refl refl)
 
   abbrev voted : Instance
-  voted = record { acceptor = accepted t j r; proposer = after_submission (proposer_state g t j r) object_op; learnt = last_learnt t j r }
+  voted = record { acceptor = accepted t j r; proposer = after_submission (proposer_state g t j r) object_op; learnt = last_learnt_ballot t j r }
 
   second_is : voted ≡ instance_of g (x ∷ t) r j
   unfolding instance_of
   second_is = λ q. record {
     acceptor = sym (accepted-none x t j r (cond-false ((i == j) && (r == r)) (offered m.body) [] (not_both i r j r (λ e f. d.apart (sym e))))) q;
     proposer = sym second_after q;
-    learnt = sym (last_learnt-none x t j r (cond-false (is_of j r last) (Some last) None (not_both last.instance last.replica j r (λ e f. d.apart (sym e ∙ last_is.instance))))) q;
+    learnt = sym (last_learnt_ballot-none x t j r (cond-false (is_of j r last) (Some last) None (not_both last.instance last.replica j r (λ e f. d.apart (sym e ∙ last_is.instance))))) q;
   }
 
   abbrev casting : Out
@@ -202,10 +202,6 @@ module _ (g : Group) (t : Trace) (k : ℕ) (m : Message) (there : m.instance < i
       ∙ ap (option_map (λ (cast : Out × ReplicaState). (with_vote learning j cast.0, cast.1))) submits_so
       ∙ ap (λ z. Some (with_vote (record { said = said.Learnt last.updates None; mail = z }) j casting, replica_state g (x ∷ t) r)) (append-nil (tells_for (replicas g) last))
       ∙ ap (λ v. Some (record { said = said.Learnt last.updates (opened_there (Some next) v); voted = voted_with (Some next) v; mail = tells_for (replicas g) last ++ offers_for (replicas g) next }, replica_state g (x ∷ t) r)) (sym l.vote)
-
-  -- what the replica says of the message makes the vote due
-  pub says_due : (made : Out × ReplicaState) → acting.receives (replica_state g t r) m ≡ Some made → vote_due i r made.0.said ≡ Some (vote_at j r object_op)
-  says_due made e = ap (λ (z : Out × ReplicaState). vote_due i r z.0.said) (same_Some made (learning, middle) (sym e ∙ receives_so)) ∙ vote_is
 
   -- the step is what the trace says
   pub votes_as : let y = entry_of (Deliver k) (Some m) (receives g t (Some m)) in StepsAs g t y r (taken_at (replicas g) y) (takes (replica_state g t r) m)

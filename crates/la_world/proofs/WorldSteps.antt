@@ -1,15 +1,15 @@
 -- A world that stands for a list of events, and the world after one event more.
-use Rattle.std.proofs.Common.{◌≡◌, ◌≢◌, ℕ, ◌+◌, ◌*◌, ◌<◌, ◌≤◌, false, cond, List, [], ◌∷◌, ◌++◌, length, map, slice_get, slice_set, All, Option, Some, None, option_map, option_and_then, refl, ap, ap₂, sym, ◌∙◌, subst, arith}
+use Rattle.std.proofs.Common.{◌≡◌, ◌≢◌, ℕ, ◌+◌, ◌<◌, ◌≤◌, false, cond, List, [], ◌∷◌, ◌++◌, length, map, slice_get, slice_set, All, Option, Some, None, option_map, option_and_then, refl, ap, ap₂, sym, ◌∙◌, subst, arith}
 use Rattle.std.proofs.lemmas.Option.{none-some, slice_get_within, get_or_from_slice_get}
+use Rattle.std.proofs.lemmas.List.{map-append}
 use Rattle.la_set.specs.ObjectOps.{ObjectOp}
 use Rattle.la_set.specs.Histories.{Histories, empty}
 use Rattle.la_set.specs.Inclusion.{IsSubset}
 use Rattle.la_set.proofs.Inclusions.{subset-trans}
 use Rattle.la_object.specs.declared.kind.Kind.{Kind}
 use Rattle.la_object.specs.Shelves.{ShelfState}
-use Rattle.la_commit.specs.declared.instance.TheConstants.{MAX_COMMITS}
 use Rattle.la_replica.specs.declared.message.Message as code
-use Rattle.la_replica.specs.Whole.{Out, whole_of, CarryAll}
+use Rattle.la_replica.specs.Whole.{Message, whole_of, whole_mail, CarryAll}
 use Rattle.la_replica.specs.Messages.{group}
 use Rattle.la_replica.specs.Steps.{learnt_in}
 use Rattle.la_replica.specs.ReplicaState as acting
@@ -24,28 +24,27 @@ use Rattle.la_world.specs.Trace.{Did, Entry, Trace}
 use Rattle.la_world.specs.Sent.{sent_at, sent}
 use Rattle.la_world.specs.Ballots.{opened_by, learnt_by, round, is_open}
 use Rattle.la_world.specs.Submissions.{submitted, second_vote_after}
-use Rattle.la_world.specs.Votes.{Submission}
 use Rattle.la_world.specs.Outcomes.{outcome_in, outcome_by}
-use Rattle.la_world.specs.Shown.{shown_by}
+use Rattle.la_world.specs.Shown.{shown_by, submitter}
 use Rattle.la_world.specs.Playing.{next_ballot, opens_or_waits, submits, receives, entry, trace}
 use Rattle.la_world.specs.Learnings.{learning_of, learnt}
 use Rattle.la_world.specs.Report.{refused, shown_as}
-use Rattle.la_world.specs.ReplicaStates.{replica_state}
+use Rattle.la_world.specs.ReplicaStates.{replica_state, replica_states}
 use Rattle.la_world.specs.Views.{view}
-use Rattle.la_world.specs.StandsFor.{World, kinds_of, group_in, AreBehind, StandsFor}
+use Rattle.la_world.specs.StandsFor.{World, kinds_of, group_in, AreBehind, EventsLeadTo, StandsFor}
+use Rattle.la_world.specs.LiveGroups.{submission}
 use Rattle.la_world.specs.Calls.{IsGroup, replica_states_at_start, IsSubmission}
 use Rattle.la_world.proofs.GrowingViews.{view_more}
 use Rattle.la_world.proofs.LargestViews.{empty_least}
 use Rattle.la_world.proofs.OneReplicaSteps.{get_made, replica_state-else, replica_states-set}
-use Rattle.la_world.specs.Following.{said_by, voted_with, voted_by, Taken, without_vote, vote_due, takes, taken_at}
-use Rattle.la_replica.specs.Refusals.{HasRoom, SubmittingSpares}
+use Rattle.la_world.specs.Following.{said_by, voted_with, voted_by, Taken, takes, taken_at}
 use Rattle.la_replica.specs.Fitting.{FitsReceiver}
 use Rattle.la_world.proofs.EventCases.{entry_of}
 use Rattle.la_world.proofs.SubmissionEvents.{submission_entry, submission_replica, submission_instance}
 use Rattle.la_world.proofs.Legal.{legal_submits, legal_between, entry_delivers, opens_in, is_answer, IsPlaced, delivery_steps, delivery_placed}
-use Rattle.la_world.proofs.RefusedForMemory.{delivery_fits, vote_has_room}
+use Rattle.la_world.proofs.RefusedForMemory.{delivery_fits}
 use Rattle.la_world.proofs.Starting.{replica_state_at_start}
-use Rattle.la_world.proofs.StoredMessages.{messages_more, message_at}
+use Rattle.la_world.proofs.StoredMessages.{message_at}
 use Rattle.la_world.proofs.Shown.{SpeaksOf, shown_is, learnt_number, length_trace}
 
 pub few_of : (c : Config) (kinds : List (List (ℕ × Kind))) → IsConfig c → replicas (group_of c kinds) ≤ 8
@@ -64,20 +63,60 @@ same_made f h e (x ∷ xs) = ap₂ (λ y ys. y ∷ ys) (e x) (same_made f h e xs
 unused_behind : (shelves : List ShelfState) (t : Trace) → All (λ (s : ShelfState). s.view ≡ empty) shelves → AreBehind shelves t
 unused_behind shelves t unused r s found = subst (λ v. IsSubset v (view t r)) (sym (subst (λ (z : ShelfState). z.view ≡ empty) (get_or_from_slice_get shelves r s s found) (unused r s (slice_get_within shelves r s found)))) (empty_least (view t r))
 
+pub states_at_start : (c : Config) (kinds : List (List (ℕ × Kind))) → replica_states_at_start c ≡ replica_states (group_of c kinds) []
+states_at_start c kinds = let g = group_of c kinds in sym (same_made (replica_state g []) (λ r. start g.votes r c.cap c.commits) (replica_state_at_start g) (group (replicas g)))
+
+pub led_at_start : (g : Group) (states : List ReplicaState) (messages : List Message) → states ≡ replica_states g [] → messages ≡ [] → EventsLeadTo g [] states messages
+unfolding trace sent
+led_at_start g states messages are none = record { legal = tt; replica_states = are; sent = none }
+
 pub stands_at_start : (c : Config) (shelves : List ShelfState) → IsGroup c shelves → StandsFor (world_at_start c shelves) []
 unfolding trace sent learnt
-stands_at_start c shelves is = let g = group_of c (kinds_of shelves) in record {
+stands_at_start c shelves is = record {
   config = is.config;
-  legal = tt;
-  replica_states = sym (same_made (replica_state g []) (λ r. start g.votes r c.cap c.commits) (replica_state_at_start g) (group (replicas g)));
+  led = led_at_start (group_of c (kinds_of shelves)) _ [] (states_at_start c (kinds_of shelves)) refl;
   shelves = is.one_each;
   absorbed = unused_behind shelves [] is.unused;
-  messages = refl;
   learnt = refl;
   count = refl;
 }
 
+-- ## What an event learns
+
+pub submits_learns : (t : Trace) (i r : ℕ) (object_op : ObjectOp) → learnt_by (submits t i r object_op) ≡ None
+unfolding submits
+submits_learns t i r object_op = go (cond (is_open t i r) None (next_ballot (round t i r) (submitted t i r ++ object_op ∷ [])))
+  where
+    go : (o : Option Opening) → learnt_by (opens_or_waits r (length (submitted t i r ++ object_op ∷ [])) o) ≡ None
+    go None = refl
+    go (Some b) = refl
+
+-- what a replica says that it learnt
+pub learnt_said : (d : Did) → learnt_in (said_by d) ≡ option_map (λ (b : Opening). b.updates) (learnt_by d)
+learnt_said (did.Learnt b next) = refl
+learnt_said (did.Opened b) = refl
+learnt_said (did.Held id) = refl
+learnt_said (did.Answered reply) = refl
+learnt_said did.Counted = refl
+learnt_said did.Ignored = refl
+learnt_said (did.Refined b) = refl
+learnt_said (did.Took s) = refl
+learnt_said did.Kept = refl
+learnt_said (did.Replied answer) = refl
+
 -- ## One event more
+
+-- where all replicas but one stay as they were
+pub led_on : (g : Group) (events : List Event) (states : List ReplicaState) (messages : List Message) → EventsLeadTo g events states messages → (e : Event) (r : ℕ) (made : ReplicaState) (mail : List Message) → let t = trace g events in
+    refused g t e ≡ None → ((q : ℕ) → q ≢ r → replica_state g (entry g t e ∷ t) q ≡ replica_state g t q) → r < replicas g → made ≡ replica_state g (entry g t e ∷ t) r → mail ≡ sent_at (replicas g) (entry g t e) → EventsLeadTo g (e ∷ events) (slice_set states r made) (messages ++ mail)
+unfolding trace sent
+led_on g events states messages led e r made mail allowed others lt is mails =
+    let t = trace g events in
+    record {
+      legal = (allowed, led.legal);
+      replica_states = ap₂ (λ ms m. slice_set ms r m) led.replica_states is ∙ sym (replica_states-set g (entry g t e) t r others lt);
+      sent = ap₂ (λ xs ys. xs ++ ys) led.sent mails;
+    }
 
 -- with this replica, these messages more and what was learnt
 abbrev pub world_after : World → (r : ℕ) → ReplicaState → List code.Message → Did → World
@@ -85,7 +124,7 @@ world_after w r m mail did = record { config = w.config; replica_states = slice_
 
 -- a replica of this world that submits in i
 abbrev pub submitter_speaks : World → (i r : ℕ) → Speaker
-submitter_speaks w i r = record { replicas = w.config.replicas; replica = r; instance = i; ballot = 0; outcome = None }
+submitter_speaks w i r = submitter w.config.replicas i r
 
 -- and one that receives this message, and learns this by it
 abbrev pub receiver_speaks : World → code.Message → (copy : Option Histories) → Speaker
@@ -97,10 +136,6 @@ receiver_speaks w m copy = record {
   outcome = option_and_then (outcome_in m.instance m.to) copy;
 }
 
--- a submission, which casts no second vote
-abbrev pub submitting : Option (Out × ReplicaState) → Option (Taken × ReplicaState)
-submitting made = option_map (λ (p : Out × ReplicaState). (without_vote p.0, p.1)) made
-
 module _ (w : World) (events : List Event) (stands : StandsFor w events) where
   abbrev g : Group
   g = group_in w
@@ -109,27 +144,25 @@ module _ (w : World) (events : List Event) (stands : StandsFor w events) where
   t = trace g events
 
   pub get_replica_state : (r : ℕ) → r < replicas g → slice_get w.replica_states r ≡ Some (replica_state g t r)
-  get_replica_state r lt = ap (λ ms. slice_get ms r) stands.replica_states ∙ get_made (replica_state g t) 0 (replicas g) r r lt (omega arith)
+  get_replica_state r lt = ap (λ ms. slice_get ms r) stands.led.replica_states ∙ get_made (replica_state g t) 0 (replicas g) r r lt (omega arith)
 
   count_is : w.count ≡ length t
   count_is = stands.count ∙ sym (length_trace g events)
 
   -- a kept message carries the one that was sent
   pub get_message : (k : ℕ) (m : code.Message) → slice_get w.messages k ≡ Some m → slice_get (sent (replicas g) t) k ≡ Some (whole_of m)
-  get_message k m stored = sym (message_at w.messages (sent (replicas g) t) k stands.messages) ∙ ap (option_map whole_of) stored
+  get_message k m stored = sym (message_at w.messages (sent (replicas g) t) k stands.led.sent) ∙ ap (option_map whole_of) stored
 
-  -- where all replicas but one stay as they were
   pub stands_after : (e : Event) (r : ℕ) → refused g t e ≡ None → ((q : ℕ) → q ≢ r → replica_state g (entry g t e ∷ t) q ≡ replica_state g t q) → r < replicas g → (mail : List code.Message) → CarryAll mail (sent_at (replicas g) (entry g t e)) → StandsFor (world_after w r (replica_state g (entry g t e ∷ t) r) mail (entry g t e).did) (e ∷ events)
-  unfolding trace sent learnt
+  unfolding trace learnt
   stands_after e r allowed others lt mail carry =
       let x = entry g t e in
+      let states = slice_set w.replica_states r (replica_state g (x ∷ t) r) in
       record {
         config = stands.config;
-        legal = (allowed, stands.legal);
-        replica_states = ap (λ ms. slice_set ms r (replica_state g (x ∷ t) r)) stands.replica_states ∙ sym (replica_states-set g x t r others lt);
+        led = subst (EventsLeadTo g (e ∷ events) states) (sym (map-append whole_of w.messages mail)) (led_on g events w.replica_states (whole_mail w.messages) stands.led e r _ (whole_mail mail) allowed others lt refl carry);
         shelves = stands.shelves;
         absorbed = λ q s found. subset-trans s.view (view t q) (view (x ∷ t) q) (stands.absorbed q s found) (view_more x t q);
-        messages = messages_more w.messages mail (sent (replicas g) t) (sent_at (replicas g) x) stands.messages carry;
         learnt = ap₂ (λ ls n. ls ++ learning_of n (learnt_by x.did)) stands.learnt count_is;
         count = let c = stands.count in omega arith;
       }
@@ -148,14 +181,6 @@ module _ (w : World) (events : List Event) (stands : StandsFor w events) where
   shown_so : (by : Speaker) (d : Did) → by.replicas ≡ w.config.replicas → SpeaksOf by d → shown_by by w.count (said_by d) (voted_by d) ≡ shown_as (replicas g) (length t) d
   shown_so by d n h = shown_is by w.count d h ∙ ap₂ (λ k place. shown_as k place d) (n ∙ stands.config.group.replicas) count_is
 
-  submits_learns : (i r : ℕ) (object_op : ObjectOp) → learnt_by (submits t i r object_op) ≡ None
-  unfolding submits
-  submits_learns i r object_op = go (cond (is_open t i r) None (next_ballot (round t i r) (submitted t i r ++ object_op ∷ [])))
-    where
-      go : (o : Option Opening) → learnt_by (opens_or_waits r (length (submitted t i r ++ object_op ∷ [])) o) ≡ None
-      go None = refl
-      go (Some b) = refl
-
   submits_plain : (i r : ℕ) (object_op : ObjectOp) → is_answer (submits t i r object_op) ≡ false
   unfolding submits
   submits_plain i r object_op = go (cond (is_open t i r) None (next_ballot (round t i r) (submitted t i r ++ object_op ∷ [])))
@@ -164,20 +189,20 @@ module _ (w : World) (events : List Event) (stands : StandsFor w events) where
       go None = refl
       go (Some b) = refl
 
-  pub submission_plays : (e : Event) (i r : ℕ) (object_op : ObjectOp) → IsSubmission e i r object_op → refused g t e ≡ None → PlaysTo e (submitter_speaks w i r) (submitting (acting.submits (replica_state g t r) i object_op))
+  pub submission_plays : (e : Event) (i r : ℕ) (object_op : ObjectOp) → IsSubmission e i r object_op → refused g t e ≡ None → PlaysTo e (submitter_speaks w i r) (submission (acting.submits (replica_state g t r) i object_op))
   submission_plays e i r object_op by allowed =
       let lt = submission_replica g t i r object_op e by allowed in
-      let h = legal_submits g events stands.legal few e i r object_op by (submission_instance g t i r object_op e by allowed) lt in
+      let h = legal_submits g events stands.led.legal few e i r object_op by (submission_instance g t i r object_op e by allowed) lt in
       let d = submits t i r object_op in
       let x : Entry = entry_of e None d in
       let same : entry g t e ≡ x = submission_entry g t i r object_op e by in
       let others : (q : ℕ) → q ≢ r → replica_state g (entry g t e ∷ t) q ≡ replica_state g t q = subst (λ (y : Entry). (q : ℕ) → q ≢ r → replica_state g (y ∷ t) q ≡ replica_state g t q) (sym same) (λ q ne. replica_state-else g x t i r q h.concerns ne) in
-      let none = submits_learns i r object_op in
+      let none = submits_learns t i r object_op in
       let voted : voted_by d ≡ None = ap (λ o. voted_with (opened_by d) (second_vote_after o)) none in
       record {
         in_group = lt;
-        step = subst (λ (y : Entry). submitting (acting.submits (replica_state g t r) i object_op) ≡ Some (taken_at (replicas g) y, replica_state g (y ∷ t) r)) (sym same)
-            (ap submitting h.step ∙ ap (λ v. Some (record { said = said_by d; voted = v; mail = sent_at (replicas g) x }, replica_state g (x ∷ t) r)) (sym voted));
+        step = subst (λ (y : Entry). submission (acting.submits (replica_state g t r) i object_op) ≡ Some (taken_at (replicas g) y, replica_state g (y ∷ t) r)) (sym same)
+            (ap submission h.step ∙ ap (λ v. Some (record { said = said_by d; voted = v; mail = sent_at (replicas g) x }, replica_state g (x ∷ t) r)) (sym voted));
         shown = subst (λ (y : Entry). shown_by (submitter_speaks w i r) w.count (said_by y.did) (voted_by y.did) ≡ shown_as (replicas g) (length t) y.did) (sym same)
             (shown_so (submitter_speaks w i r) d refl (record {
               opened = λ b f. (h.concerns.opened b f).replica;
@@ -192,34 +217,21 @@ module _ (w : World) (events : List Event) (stands : StandsFor w events) where
 
   -- ## A delivery
 
-  -- what a replica says that it learnt
-  learnt_said : (d : Did) → learnt_in (said_by d) ≡ option_map (λ (b : Opening). b.updates) (learnt_by d)
-  learnt_said (did.Learnt b next) = refl
-  learnt_said (did.Opened b) = refl
-  learnt_said (did.Held id) = refl
-  learnt_said (did.Answered reply) = refl
-  learnt_said did.Counted = refl
-  learnt_said did.Ignored = refl
-  learnt_said (did.Refined b) = refl
-  learnt_said (did.Took s) = refl
-  learnt_said did.Kept = refl
-  learnt_said (did.Replied answer) = refl
-
   -- a kept message is to a replica of the group
   pub receiver_in_group : (k : ℕ) (m : code.Message) → slice_get w.messages k ≡ Some m → m.to < replicas g
-  receiver_in_group k m stored = (legal_between g events stands.legal k (whole_of m) (get_message k m stored)).to
+  receiver_in_group k m stored = (legal_between g events stands.led.legal k (whole_of m) (get_message k m stored)).to
 
   pub delivery_step : (k : ℕ) (m : code.Message) → slice_get w.messages k ≡ Some m → refused g t (Deliver k) ≡ None → takes (replica_state g t m.to) (whole_of m) ≡ Some (taken_at (replicas g) (entry g t (Deliver k)), replica_state g (entry g t (Deliver k) ∷ t) m.to)
-  delivery_step k m stored allowed = (delivery_steps g events k (whole_of m) few stands.legal (get_message k m stored)).step
+  delivery_step k m stored allowed = (delivery_steps g events k (whole_of m) few stands.led.legal (get_message k m stored)).step
 
   -- of the kept message with this number, where its receiver learns this by it
   pub delivery_plays : (k : ℕ) (m : code.Message) → slice_get w.messages k ≡ Some m → refused g t (Deliver k) ≡ None → (copy : Option Histories) → copy ≡ learnt_in (said_by (entry g t (Deliver k)).did) → PlaysTo (Deliver k) (receiver_speaks w m copy) (takes (replica_state g t m.to) (whole_of m))
   delivery_plays k m stored allowed copy kept =
       let v = whole_of m in
       let is : slice_get (sent (replicas g) t) k ≡ Some v = get_message k m stored in
-      let h = delivery_steps g events k v few stands.legal is in
-      let placed = delivery_placed g events stands.legal few k v is in
-      let lt = (legal_between g events stands.legal k v is).to in
+      let h = delivery_steps g events k v few stands.led.legal is in
+      let placed = delivery_placed g events stands.led.legal few k v is in
+      let lt = (legal_between g events stands.led.legal k v is).to in
       let same : (entry g t (Deliver k)).did ≡ receives g t (Some v) = ap (λ (y : Entry). y.did) (entry_delivers g t k v is) in
       let d = receives g t (Some v) in
       let by = receiver_speaks w m copy in
@@ -247,15 +259,4 @@ module _ (w : World) (events : List Event) (stands : StandsFor w events) where
 
   -- a kept message fits its receiver
   pub message_fits : (k : ℕ) (m : code.Message) → slice_get w.messages k ≡ Some m → FitsReceiver (replica_state g t m.to) (whole_of m)
-  message_fits k m stored = (delivery_fits g events k (whole_of m) few stands.config.group.cap_most stands.legal (get_message k m stored)).0
-
-  -- and is of an instance of the group
-  pub message_instance : (k : ℕ) (m : code.Message) → slice_get w.messages k ≡ Some m → m.instance ≤ 2 * MAX_COMMITS
-  message_instance k m stored =
-      let lt = (legal_between g events stands.legal k (whole_of m) (get_message k m stored)).instance in
-      let most = stands.config.commits in
-      omega arith
-
-  -- where its receiver votes by it, it has not voted yet
-  pub vote_room : (k : ℕ) (m : code.Message) → slice_get w.messages k ≡ Some m → (s : Submission) (made : Out × ReplicaState) → acting.receives (replica_state g t m.to) (whole_of m) ≡ Some made → vote_due m.instance m.to made.0.said ≡ Some s → HasRoom (replica_state g t m.to) s.instance × SubmittingSpares (replica_state g t m.to) s.instance
-  vote_room k m stored s made is due = vote_has_room g events k (whole_of m) s made few stands.config.group.cap_most stands.legal (get_message k m stored) is due
+  message_fits k m stored = (delivery_fits g events k (whole_of m) few stands.config.group.cap_most stands.led.legal (get_message k m stored)).0

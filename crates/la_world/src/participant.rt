@@ -1,7 +1,7 @@
 // What a replica does as a participant of an adopt-commit object, by the sets that it learns. No
 // state is kept of it: its own vote in a set tells how far it is.
 ghost use Rattle.std.specs.Prelude.{◌≡◌, ◌*◌, ◌<◌, ◌≤◌, ◌+◌, List, ◌++◌, Some, option_and_then};
-ghost use Rattle.std.specs.Prelude.{IfOk, OnErr};
+ghost use Rattle.std.specs.Prelude.{IsSome, IfOk, OnErr};
 ghost use Rattle.std.specs.Option.{option_copied};
 ghost use Rattle.la_commit.specs.declared.instance.TheConstants.{MAX_COMMITS};
 ghost use Rattle.la_commit.specs.Instances.{is_first_instance, is_second_instance, commit_of};
@@ -9,11 +9,10 @@ ghost use Rattle.la_commit.specs.Votes.{casts};
 ghost use Rattle.la_commit.specs.Outcomes.{outcome_of};
 ghost use Rattle.la_replica.specs.Whole.{Message as MessageOf, Out as OutOf};
 ghost use Rattle.la_replica.specs.Whole.{whole_of, whole_mail, whole_out};
-ghost use Rattle.la_replica.specs.ReplicaState.{ReplicaState, submits};
+ghost use Rattle.la_replica.specs.ReplicaState.{ReplicaState, submits, receives};
 ghost use Rattle.la_replica.specs.Steps.{learnt_in};
-ghost use Rattle.la_replica.specs.Changes.{IsPreparedFrom, after_commit, LeadsThere};
+ghost use Rattle.la_replica.specs.Changes.{IsPreparedFrom, after_commit, led, LeadsThere};
 ghost use Rattle.la_replica.specs.Refusals.{HasRoom, SubmittingSpares};
-ghost use Rattle.la_replica.specs.Fitting.{FitsReceiver};
 ghost use Rattle.la_world.specs.Votes.{vote_in};
 ghost use Rattle.la_world.specs.Outcomes.{outcome_in};
 ghost use Rattle.la_world.specs.Calls.{returned_by};
@@ -58,23 +57,28 @@ pub fn returned(replica: &Replica, commit: u8) -> Option<Outcome>
     outcome_of(replica.own(), second)
 }
 
-// Does what a message asks for, which fits its receiver; and where the replica learns a set by it
-// that leads to a second vote, it casts this in the same step: both are prepared from what stands,
-// and then both are committed. A copy of what is learnt is answered too. It is refused for want of
-// memory alone.
-pub fn take(
+// Commits what was prepared for a message; and where the replica learns a set by it that leads to a
+// second vote, it casts this in the same step: both are prepared from what stands, and then both
+// are committed. A copy of what is learnt is answered too. It is refused for want of memory alone,
+// and only where a set would be learnt.
+pub fn take_prepared(
     receiver: &mut Replica,
     message: &Message,
+    out: Out,
+    change: Change,
 ) -> Result<(Done, Option<UpdateSet>), AllocError>
-    requires fits { FitsReceiver receiver.old (whole_of message.now) }
+    requires step { receives receiver.old (whole_of message.now)
+        ≡ led receiver.old (whole_out out) change }
+    requires prepared { IsPreparedFrom receiver.old change }
+    requires here { change.instance ≡ message.now.instance }
     requires few { message.now.instance ≤ 2 * MAX_COMMITS }
     requires vote { VoteFits receiver.old (whole_of message.now) }
     ensures step { IfOk result (λ taken.
         takes receiver.old (whole_of message.now) ≡ Some (whole_done taken.0, receiver.new)) }
     ensures learnt { IfOk result (λ taken. taken.1 ≡ learnt_in taken.0.said) }
+    ensures learning { OnErr result (IsSome (learnt_in out.said)) }
     ensures err { OnErr result (receiver.new ≡ receiver.old) }
 {
-    let (out, change) = receiver.prepare_fitting(message)?;
     let learnt = learnt_copy(&out.said)?;
     match vote_in(message.instance, receiver.own(), learnt.as_ref()) {
         None => {
@@ -122,7 +126,8 @@ fn commit_both(
 
 // A copy of the set that is learnt, if one is.
 fn learnt_copy(said: &Said) -> Result<Option<UpdateSet>, AllocError>
-    ensures { IfOk result (λ learnt. learnt ≡ learnt_in said.now) }
+    ensures ok { IfOk result (λ learnt. learnt ≡ learnt_in said.now) }
+    ensures err { OnErr result (IsSome (learnt_in said.now)) }
 {
     match said.learnt() {
         Some(learnt) => Ok(Some(learnt.copy()?)),
@@ -182,7 +187,7 @@ fn put_last(instance: u8, before: Mail, cast: Out) -> Result<(Voted, Mail), Allo
 }
 
 // A refusal for want of memory.
-fn for_memory(_refused: ReplicaError) -> AllocError
+pub fn for_memory(_refused: ReplicaError) -> AllocError
     requires { _refused ≡ ReplicaError.Memory }
 {
     AllocError

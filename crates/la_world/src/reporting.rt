@@ -1,11 +1,10 @@
 // What a report tells of a world's replicas and of what they learnt.
-ghost use Rattle.std.specs.Prelude.{◌≡◌, ◌<◌, ◌++◌, IfOk, OnOk};
-ghost use Rattle.la_commit.specs.declared.instance.TheConstants.{MAX_COMMITS};
+ghost use Rattle.std.specs.Prelude.{◌≡◌, ◌++◌, IfOk, OnOk};
+ghost use Rattle.la_world.specs.Nodes.{replicas_of};
 ghost use Rattle.la_world.specs.Calls.{views_of, decisions_at};
 
-use crate::participant::returned;
-use crate::{Decision, Learnt};
-use la_replica::Replica;
+use crate::{Decision, Learnt, Node};
+use la_object::Replicated;
 use la_set::UpdateSet;
 use std::alloc::AllocError;
 
@@ -21,31 +20,30 @@ pub fn copy_learnings(learnt: &Vec<Learnt>) -> Result<Vec<Learnt>, AllocError>
 }
 
 // A copy of every replica's view.
-pub fn copy_views(replicas: &Vec<Replica>) -> Result<Vec<UpdateSet>, AllocError>
-    ensures { IfOk result (λ views. views.items ≡ views_of replicas.now.items) }
+pub fn copy_views<B: Replicated>(nodes: &Vec<Node<B>>) -> Result<Vec<UpdateSet>, AllocError>
+    ensures { IfOk result (λ views. views.items ≡ views_of (replicas_of nodes.now.items)) }
 {
-    let mut views = Vec::with_capacity(*replicas.allocator(), replicas.len())?;
-    for replica in replicas {
-        views.push(replica.view().copy()?)?;
+    let mut views = Vec::with_capacity(*nodes.allocator(), nodes.len())?;
+    for node in nodes {
+        views.push(node.view().copy()?)?;
     }
     Ok(views)
 }
 
 // Puts last what each replica returned from an object.
-pub fn add_decisions(
+pub fn add_decisions<B: Replicated>(
     made: &mut Vec<Decision>,
-    replicas: &Vec<Replica>,
+    nodes: &Vec<Node<B>>,
     commit: u8,
 ) -> Result<(), AllocError>
-    requires { commit < MAX_COMMITS }
     ensures { OnOk result
-        (made.new.items ≡ made.old.items ++ decisions_at replicas.now.items commit) }
+        (made.new.items ≡ made.old.items ++ decisions_at (replicas_of nodes.now.items) commit) }
 {
-    for participant in replicas {
-        if let Some(outcome) = returned(participant, commit) {
+    for node in nodes {
+        if let Some(outcome) = node.outcome(commit) {
             made.push(Decision {
                 commit,
-                replica: participant.own(),
+                replica: node.own(),
                 outcome,
             })?;
         }

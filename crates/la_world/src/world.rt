@@ -4,7 +4,7 @@ ghost use Rattle.std.specs.Option.{option_copied};
 ghost use Rattle.la_world.specs.Events.{Past, event_of};
 ghost use Rattle.la_world.specs.Printable.{IsPrintable};
 ghost use Rattle.la_world.specs.StandsFor.{StandsFor, group_in, trace_in, sent_in};
-ghost use Rattle.la_world.specs.Groups.{IsConfig};
+ghost use Rattle.la_world.specs.Nodes.{replicas_of, shelves_of};
 ghost use Rattle.la_world.specs.Calls.{IsGroup, IsMakingRefusal, replica_states_at_start, Keeps};
 ghost use Rattle.la_world.specs.Calls.{may_absorb, IsSameUnless, Plays, Refuses, StandsForMessage};
 ghost use Rattle.la_world.specs.Calls.{view_at, view_in, view_of, views_of, decisions_in};
@@ -17,18 +17,17 @@ mod questions;
 mod submissions;
 
 use crate::journal::Journal;
-use crate::participant::returned;
 use crate::reporting::{add_decisions, copy_learnings, copy_views};
 use crate::shelves::are_unused;
-use crate::{Config, Decisions, Event, Learnings, Report, Step, Steps, Views, WorldError};
+use crate::{Config, Decisions, Event, Learnings, Node, Report, Step, Steps, Views, WorldError};
 use la_commit::Outcome;
 use la_object::{Replicated, Shelf};
-use la_replica::{Message, Replica};
+use la_replica::Message;
 use la_set::UpdateSet;
 use std::alloc::{AllocError, Global};
 use std::marker::Model;
 
-/// A group of replicas and all that was ever sent between them. Any message that was sent may be
+/// A group of nodes and all that was ever sent between them. Any message that was sent may be
 /// delivered at any later time, again and in any order.
 ///
 /// It keeps every message and every learnt set, so its memory grows by what is sent and learnt: by
@@ -38,21 +37,22 @@ use std::marker::Model;
 #[derive(Drop)]
 pub struct World<B: Replicated> {
     config: Config,
-    replicas: Vec<Replica>,
-    shelves: Vec<Shelf<B>>,
+    nodes: Vec<Node<B>>,
     journal: Journal,
 }
 
 impl<B: Replicated> Model for World<B> {
     ghost use Rattle.la_world.specs.StandsFor.{World, world_of};
     ghost use Rattle.la_world.specs.Calls.{HoldsInvariant};
+    ghost use Rattle.la_world.specs.Nodes.{replicas_of, shelves_of};
 
     ghost Value = { World };
 
-    ghost view = { λ w. world_of w.config w.replicas.items w.shelves.items w.journal };
+    ghost view = { λ w.
+        world_of w.config (replicas_of w.nodes.items) (shelves_of w.nodes.items) w.journal };
 
     ghost invariant = { λ w. HoldsInvariant
-        (world_of w.config w.replicas.items w.shelves.items w.journal) };
+        (world_of w.config (replicas_of w.nodes.items) (shelves_of w.nodes.items) w.journal) };
 }
 
 impl<B: Replicated> World<B> {
@@ -78,8 +78,7 @@ impl<B: Replicated> World<B> {
         }
         Ok(World {
             config,
-            replicas: start(alloc, config)?,
-            shelves,
+            nodes: nodes_of(alloc, config, shelves)?,
             journal: Journal::new(alloc),
         })
     }
@@ -201,7 +200,7 @@ impl<B: Replicated> World<B> {
         ensures stands { (events : Past) → StandsFor self.now events → option_copied result
             ≡ view_of (group_in self.now) (trace_in self.now events) replica }
     {
-        view_among(&self.replicas, replica)
+        view_among(&self.nodes, replica)
     }
 
     /// What a replica returned from an adopt-commit object; `None` where it has not, or the group
@@ -216,14 +215,15 @@ impl<B: Replicated> World<B> {
         self.returned_from(commit, replica)
     }
 
+    #[tactic(auto, using(crate::proofs::WorldNodes::replica_at))]
     fn returned_from(&self, commit: u8, replica: u8) -> Option<Outcome>
         ensures { result ≡ returned_in self.now commit replica }
     {
         if commit >= self.config.commits {
             return None;
         }
-        match self.replicas.get(replica as usize) {
-            Some(replica) => returned(replica, commit),
+        match self.nodes.get(replica as usize) {
+            Some(node) => node.outcome(commit),
             None => None,
         }
     }
@@ -232,9 +232,9 @@ impl<B: Replicated> World<B> {
     fn decisions(&self) -> Result<Decisions, AllocError>
         ensures { IfOk result (λ made. made ≡ decisions_in self.now) }
     {
-        let mut made = Vec::new(*self.replicas.allocator());
+        let mut made = Vec::new(*self.nodes.allocator());
         for commit in 0..self.config.commits {
-            add_decisions(&mut made, &self.replicas, commit)?;
+            add_decisions(&mut made, &self.nodes, commit)?;
         }
         Ok(Decisions::from(made))
     }
@@ -255,7 +255,7 @@ impl<B: Replicated> World<B> {
             config: self.config,
             steps,
             learnt: Learnings::from(copy_learnings(&self.journal.learnt)?),
-            views: Views::from(copy_views(&self.replicas)?),
+            views: Views::from(copy_views(&self.nodes)?),
             outcomes: self.decisions()?,
         })
     }
@@ -273,7 +273,7 @@ impl<B: Replicated> World<B> {
         ensures safe { (events : Past) → StandsFor self events →
             IfOk result (λ report. IsAdoptCommit events report.outcomes) }
     {
-        let views = copy_views(&self.replicas)?;
+        let views = copy_views(&self.nodes)?;
         let outcomes = self.decisions()?;
         let config = self.config;
         let journal = self.journal;
@@ -287,31 +287,37 @@ impl<B: Replicated> World<B> {
     }
 }
 
-// The view of a replica, if there is one with this number.
-fn view_among(replicas: &[Replica], replica: u8) -> Option<&UpdateSet>
-    ensures { option_copied result ≡ view_at replicas.now replica }
+// The view of a node's replica, if there is one with this number.
+#[tactic(auto, using(crate::proofs::WorldNodes::replica_at))]
+fn view_among<B: Replicated>(nodes: &[Node<B>], replica: u8) -> Option<&UpdateSet>
+    ensures { option_copied result ≡ view_at (replicas_of nodes.now) replica }
 {
-    match replicas.get(replica as usize) {
-        Some(replica) => Some(replica.view()),
+    match nodes.get(replica as usize) {
+        Some(node) => Some(node.view()),
         None => None,
     }
 }
 
-// The replicas of a group in which nothing has happened.
-fn start(alloc: Global, config: Config) -> Result<Vec<Replica>, AllocError>
-    requires { IsConfig config }
-    ensures { IfOk result (λ made. made.items ≡ replica_states_at_start config) }
+// The nodes of a group in which nothing has happened, each with its shelf.
+fn nodes_of<B: Replicated>(
+    alloc: Global,
+    config: Config,
+    shelves: Vec<Shelf<B>>,
+) -> Result<Vec<Node<B>>, AllocError>
+    requires { IsGroup config shelves.items }
+    ensures replicas { IfOk result (λ nodes.
+        replicas_of nodes.items ≡ replica_states_at_start config) }
+    ensures shelves { IfOk result (λ nodes. shelves_of nodes.items ≡ shelves.items) }
 {
-    let mut replicas = Vec::with_capacity(alloc, config.replicas as usize)?;
-    for own in 0..config.replicas {
-        replicas.push(Replica::new(
-            alloc,
-            config.replicas,
-            own,
-            config.cap,
-            config.commits,
-            config.votes,
-        )?)?;
+    let mut nodes = Vec::with_capacity(alloc, shelves.len())?;
+    let mut own: u8 = 0;
+    for shelf in shelves {
+        // Every value is in its range, so that only memory is left.
+        let Ok(node) = Node::new(alloc, config, own, shelf) else {
+            return Err(AllocError);
+        };
+        nodes.push(node)?;
+        own += 1;
     }
-    Ok(replicas)
+    Ok(nodes)
 }

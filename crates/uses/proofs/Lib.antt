@@ -3,3 +3,5 @@ pub mod Tagging
 pub mod Runs
 pub mod Asking
 pub mod Committing
+mod Mapped
+mod Together

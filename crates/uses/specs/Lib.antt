@@ -2,3 +2,4 @@ pub mod Reading
 pub mod Promises
 pub mod Scripts
 pub mod Commits
+pub mod Kept

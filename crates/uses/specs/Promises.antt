@@ -1,5 +1,5 @@
 -- What a group promises, of the lists that a report has.
-use Rattle.std.specs.Prelude.{◌≡◌, ℕ, ◌<◌, List, reverse, Contains, slice_get, slice_index_or, Some, IsSome, IfSome}
+use Rattle.std.specs.Prelude.{◌≡◌, ℕ, ◌<◌, List, reverse, Contains, slice_get, Some, IsSome, IfSome}
 use Rattle.la_set.specs.declared.update.UpdateId.{UpdateId}
 use Rattle.la_set.specs.declared.update.Op.TheVariants.{Mark}
 use Rattle.la_set.specs.Histories.{Histories, get}
@@ -8,7 +8,6 @@ use Rattle.la_object.specs.declared.kind.Kind.{Kind}
 use Rattle.la_object.specs.declared.query.Query.{Query}
 use Rattle.la_object.specs.declared.query.Answer.{Answer}
 use Rattle.la_object.specs.Shelves.{ShelfState, kind_at}
-use Rattle.la_replica.specs.ReplicaState.{ReplicaState}
 use Rattle.la_world.specs.declared.config.Config.{Config}
 use Rattle.la_world.specs.declared.report.Line.{Line}
 use Rattle.la_world.specs.declared.step.Learnt.{Learnt}
@@ -22,11 +21,6 @@ use Rattle.la_world.specs.Promises.{IsLearntAt, IsSubmittedAt}
 abbrev pub ViewsHoldTheirOwn : (views : List Histories) → List Learnt → Type 0
 ViewsHoldTheirOwn views learnt = (x : Learnt) → Contains learnt x → x.instance ≡ 0 →
     IfSome (slice_get views x.replica) (IsSubset x.updates)
-
--- of replicas before and after, at each place
-abbrev pub NoViewShrinks : (before after : List ReplicaState) → Type 0
-NoViewShrinks before after = (k : ℕ) (none : ReplicaState) →
-    IsSubset (slice_index_or before k none).view (slice_index_or after k none).view
 
 -- the events of a list that are accepted, the newest first
 abbrev pub accepted : Config → (kinds : List (List (ℕ × Kind))) → List Event → List Event

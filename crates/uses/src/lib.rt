@@ -4,7 +4,10 @@
 
 pub mod acceptors;
 pub mod commits;
+pub mod groups;
+pub mod kept;
 pub mod members;
+pub mod nodes;
 pub mod objects;
 pub mod orsets;
 pub mod passes;

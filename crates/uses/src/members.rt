@@ -1,4 +1,4 @@
-ghost use Rattle.std.specs.Prelude.{◌≡◌, Some, IfOk, OnOk, IfSome};
+ghost use Rattle.std.specs.Prelude.{◌≡◌, ℕ, Some, All, IfOk, OnOk, IfSome, slice_get};
 ghost use Rattle.la_set.specs.Histories.{Histories};
 ghost use Rattle.la_set.specs.Inclusion.{IsSubset, AreComparable};
 ghost use Rattle.la_commit.specs.Instances.{first_instance};
@@ -6,12 +6,14 @@ ghost use Rattle.la_commit.specs.Votes.{HoldsVote, first_vote_for};
 ghost use Rattle.la_runner.specs.Members.{IsOf, view, last_learnt};
 
 use la_commit::Outcome;
+use la_object::{Replicated, Shelf};
 use la_proposer::Votes;
-use la_runner::{Group, Learned, Member, Members, RunnerError, laws};
+use la_runner::{Group, Jobs, Learned, Logs, Member, Members, RunError, RunnerError, laws, run};
 use la_set::Op;
 use la_shared::FreeGate;
 use std::alloc::Global;
 use std::sync::Wait;
+use std::thread::Threads;
 
 /// A group of three replicas with one vote each and one adopt-commit object, in which each may submit
 /// a thousand updates.
@@ -77,4 +79,30 @@ pub fn propose<R: Wait>(
         HoldsVote learnt member.new.replica (first_vote_for value))) }
 {
     group.decide(rt, member, 0, value, 100, &FreeGate)
+}
+
+/// Runs all members, a thread for each, and hands back their logs where each has a note of each peer.
+/// Then all have one view.
+pub fn run_to_one_view<R: Threads + Wait + Sync, B: Replicated>(
+    rt: &R,
+    alloc: Global,
+    group: &Group,
+    members: Vec<Member>,
+    shelves: Vec<Shelf<B>>,
+    jobs: Vec<Jobs>,
+) -> Result<Option<Logs<B>>, RunError>
+    requires { All (IsOf group.now) members.items }
+    ensures { IfOk result (λ told. IfSome told (λ logs. (i j : ℕ) (l m : _)
+        → slice_get logs.items i ≡ Some l → slice_get logs.items j ≡ Some m
+        → view l.member ≡ view m.member)) }
+{
+    let logs = run(
+        rt, alloc, group, members, shelves, jobs, 1_000_000, &FreeGate,
+    )?;
+    for log in &logs {
+        if log.notes as usize + 1 != logs.len() {
+            return Ok(None);
+        }
+    }
+    Ok(Some(logs))
 }

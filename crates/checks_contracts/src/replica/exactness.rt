@@ -2,7 +2,7 @@
 ghost use Rattle.std.specs.Prelude.{◌≡◌, ◌≢◌, ◌↔◌, ◌≤◌, ◌<◌};
 ghost use Rattle.std.specs.Prelude.{length, IsTrue, IfOk, OnOk, OnErr, option_copied};
 ghost use Rattle.la_proposer.specs.Majority.{votes_of};
-ghost use Rattle.la_replica.specs.Whole.{whole_of, whole_out};
+ghost use Rattle.la_replica.specs.Whole.{whole_of, whole_out, whole_mail};
 ghost use Rattle.la_replica.specs.Changes.{IsPreparedFrom, led};
 ghost use Rattle.la_replica.specs.Fitting.{FitsReceiver};
 
@@ -13,6 +13,7 @@ use la_replica::{Body, Change, Mail, Message, Out, Replica, ReplicaError, Said};
 use la_set::{Op, UpdateSet};
 use smallvec::SmallVec;
 use std::alloc::{AllocError, Global};
+use std::collections::VecDeque;
 
 // ## Bodies and messages
 
@@ -122,6 +123,18 @@ fn append_is_exact(
     (one.append(further.0), other.append(further.1))
 }
 
+fn hand_to_is_exact(
+    one: &mut VecDeque<Message>,
+    other: &mut VecDeque<Message>,
+    mails: (Mail, Mail),
+) -> (Result<(), AllocError>, Result<(), AllocError>)
+    requires queue { one.old.items ≡ other.old.items }
+    requires mails { mails.0 ≡ mails.1 }
+    ensures { OnOk result.0 (OnOk result.1 (one.new.items ≡ other.new.items)) }
+{
+    (mails.0.hand_to(one), mails.1.hand_to(other))
+}
+
 fn lists_are_one(mails: (Mail, Mail)) -> (SmallVec<Message, 1>, SmallVec<Message, 1>)
     requires { mails.0 ≡ mails.1 }
     ensures { result.0.items ≡ result.1.items }
@@ -200,6 +213,12 @@ fn submitted_is_exact(replica: &Replica, instance: u8) -> (Option<u32>, Option<u
     ensures { result.0 ≡ result.1 }
 {
     (replica.submitted(instance), replica.submitted(instance))
+}
+
+fn again_is_exact(replica: &Replica) -> (Result<Mail, AllocError>, Result<Mail, AllocError>)
+    ensures { IfOk result.0 (λ a. IfOk result.1 (λ b. whole_mail a ≡ whole_mail b)) }
+{
+    (replica.again(), replica.again())
 }
 
 // At most 16 adopt-commit objects, and so at most 33 instances.

@@ -6,7 +6,7 @@ ghost use Rattle.la_world.specs.StandsFor.{StandsFor};
 ghost use Rattle.la_world.specs.Calls.{Plays, Refuses};
 
 use super::World;
-use crate::participant::{outcome_by, take};
+use crate::participant::outcome_by;
 use crate::speaker::Speaker;
 use crate::{Step, WorldError};
 use la_object::Replicated;
@@ -44,7 +44,7 @@ impl<B: Replicated> World<B> {
         let message = &self.journal.messages[number];
         let (instance, to) = (message.instance, message.to);
         // `laws::deliveries_fit`: what was sent fits its receiver, so that only memory is left.
-        let (done, learnt) = take(&mut self.replicas[to as usize], message)?;
+        let (done, learnt) = self.nodes[to as usize].take(message)?;
         let speaker = Speaker {
             replicas: self.config.replicas,
             replica: to,

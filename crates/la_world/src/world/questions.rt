@@ -1,16 +1,15 @@
 // Questions to the objects on a replica's shelf, which absorbs the replica's view first.
-ghost use Rattle.std.specs.Prelude.{◌≡◌, ◌+◌, ◌<◌, ◌^◌, length, Some, IfOk, IfErr, OnOk, OnErr};
+ghost use Rattle.std.specs.Prelude.{◌≡◌, ◌+◌, ◌<◌, ◌^◌, Some, IfOk, IfErr, OnOk, OnErr};
 ghost use Rattle.la_world.specs.Events.{Past, Ask};
 ghost use Rattle.la_world.specs.Printable.{IsPrintable};
 ghost use Rattle.la_world.specs.StandsFor.{StandsFor, group_in, trace_in};
 ghost use Rattle.la_world.specs.Calls.{Keeps, may_absorb, IsSameUnless, tags_of, IsTagsRefusal};
-ghost use Rattle.la_world.specs.Calls.{HasObject, IsObjectRefusal, IsFollowing, Plays, Refuses};
+ghost use Rattle.la_world.specs.Calls.{HasObject, IsObjectRefusal, Plays, Refuses};
 
 use super::World;
 use crate::{Step, WorldError};
 use la_object::{Query, Replicated, ShelfError};
 use la_set::Tags;
-use std::alloc::AllocError;
 
 impl<B: Replicated> World<B> {
     pub(super) fn ask(
@@ -30,8 +29,8 @@ impl<B: Replicated> World<B> {
             IsSameUnless (may_absorb (Ask replica object query.now) e) self.old self.new) }
     {
         self.admit_question(replica, object)?;
-        self.follow_view(replica)?;
-        let Ok(answer) = self.shelves[replica as usize].ask(object, query) else {
+        // There is such an object, so that only memory is left.
+        let Ok(answer) = self.nodes[replica as usize].ask(object, query) else {
             return Err(WorldError::Memory);
         };
         Ok(self.journal.note_answer(answer))
@@ -53,8 +52,7 @@ impl<B: Replicated> World<B> {
         ensures keeps { Keeps self.old self.new }
     {
         self.admit_question(replica, object)?;
-        self.follow_view(replica)?;
-        match self.shelves[replica as usize].observed(object, element) {
+        match self.nodes[replica as usize].observed(object, element) {
             Ok(tags) => Ok(tags),
             Err(ShelfError::TooManyTags) => Err(WorldError::TooManyTags),
             Err(_) => Err(WorldError::Memory),
@@ -62,31 +60,17 @@ impl<B: Replicated> World<B> {
     }
 
     // Whether a replica's shelf may be asked for an object: by the first refusal that fits.
+    #[tactic(auto, using(crate::proofs::WorldNodes::shelf_at))]
     fn admit_question(&self, replica: u8, object: u16) -> Result<(), WorldError>
         ensures ok { OnOk result (HasObject self.now.shelves replica object) }
         ensures error { IfErr result (IsObjectRefusal self.now.shelves replica object) }
     {
-        let Some(shelf) = self.shelves.get(replica as usize) else {
+        let Some(node) = self.nodes.get(replica as usize) else {
             return Err(WorldError::NoSuchReplica);
         };
-        if !shelf.has(object) {
+        if !node.has(object) {
             return Err(WorldError::NoSuchObject);
         }
         Ok(())
-    }
-
-    // Lets a replica's shelf absorb its view.
-    fn follow_view(&mut self, replica: u8) -> Result<(), AllocError>
-        requires { replica < length self.old.shelves }
-        ensures ok { OnOk result (IsFollowing self.new replica) }
-        ensures rest { self.new ≡ record self.old { shelves = self.new.shelves } }
-        ensures keeps { Keeps self.old self.new }
-    {
-        let view = self.replicas[replica as usize].view();
-        // The view has all that the shelf has absorbed, so that only memory is left.
-        match self.shelves[replica as usize].absorb_compatible(view) {
-            Ok(_) => Ok(()),
-            Err(_) => Err(AllocError),
-        }
     }
 }

@@ -1,21 +1,25 @@
 // Events by which a replica submits: updates of its objects, and proposals to adopt-commit objects.
-ghost use Rattle.std.specs.Prelude.{◌≡◌, ℕ, ◌+◌, ◌<◌, ◌^◌, length, Some, None, IfOk, IfErr, OnOk};
-ghost use Rattle.std.specs.Prelude.{OnErr};
+ghost use Rattle.std.specs.Prelude.{◌≡◌, ℕ, ◌+◌, ◌*◌, ◌<◌, ◌≤◌, ◌^◌, [], ◌++◌, length, Some, None};
+ghost use Rattle.std.specs.Prelude.{IfOk, IfErr, OnOk, OnErr};
 ghost use Rattle.la_set.specs.ObjectOps.{ObjectOp};
 ghost use Rattle.la_proposer.specs.ProposerState.{op_on};
 ghost use Rattle.la_commit.specs.declared.instance.TheConstants.{MAX_COMMITS};
-ghost use Rattle.la_world.specs.Events.{Event as EventOf, Past, Submit, Decide, submission_of};
+ghost use Rattle.la_world.specs.Nodes.{replicas_of};
+ghost use Rattle.la_world.specs.Events.{Past, Submit, Decide, submission_of};
 ghost use Rattle.la_world.specs.Printable.{IsPrintable};
 ghost use Rattle.la_world.specs.StandsFor.{StandsFor, refused_in};
-ghost use Rattle.la_world.specs.Calls.{Plays, IsAllowed, Refuses, submitted_at, IsSubmission};
+ghost use Rattle.la_world.specs.Calls.{Plays, IsAllowed, Refuses, submitted_at};
+ghost use Rattle.la_world.specs.Shown.{HasRoomToSend, HasRoomToLearn, step_by, submitter};
+ghost use Rattle.la_world.specs.Shown.{submitted_so};
 
 use super::World;
 use crate::done::Done;
+use crate::journal::Journal;
 use crate::speaker::Speaker;
-use crate::{Step, WorldError};
-use la_commit::{Fresh, first_instance};
+use crate::{Node, Step, WorldError};
+use la_commit::first_instance;
 use la_object::Replicated;
-use la_replica::Replica;
+use la_replica::Out;
 use la_set::Op;
 use std::alloc::AllocError;
 
@@ -31,7 +35,7 @@ impl<B: Replicated> World<B> {
     {
         self.admit_submission(replica)?;
         let op = op.copy()?;
-        Ok(self.take_submission(0, replica, object, op)?)
+        Ok(self.take_update(replica, object, op)?)
     }
 
     // Whether a replica may submit, whatever it submits: by the first refusal that fits.
@@ -45,7 +49,7 @@ impl<B: Replicated> World<B> {
             IfErr result (λ e. (object_op : ObjectOp) →
             Refuses self.now events (Submit replica object_op) e) }
     {
-        match submitted_among(&self.replicas, 0, replica) {
+        match submitted_among(&self.nodes, 0, replica) {
             None => Err(WorldError::NoSuchReplica),
             Some(count) if count >= self.config.cap => Err(WorldError::Full),
             Some(_) => Ok(()),
@@ -62,9 +66,7 @@ impl<B: Replicated> World<B> {
         ensures err { OnErr result (self.new ≡ self.old) }
     {
         self.admit_proposal(replica, commit)?;
-        let (_, vote) = Fresh::new(replica).propose(value);
-        let first = first_instance(commit);
-        Ok(self.take_submission(first, replica, commit as u16, Op::from(vote))?)
+        Ok(self.take_proposal(replica, commit, value)?)
     }
 
     // Whether a replica may propose to an object, whatever it proposes: by the first refusal that
@@ -85,59 +87,91 @@ impl<B: Replicated> World<B> {
         if commit >= self.config.commits {
             return Err(WorldError::NoSuchCommit);
         }
-        if submitted_among(&self.replicas, first_instance(commit), replica) != Some(0) {
+        if submitted_among(&self.nodes, first_instance(commit), replica) != Some(0) {
             return Err(WorldError::AlreadyProposed);
         }
         Ok(())
     }
 
-    // Plays an event by which a replica submits this in an instance, and which is not refused but
-    // for want of memory.
-    fn take_submission(
-        &mut self,
-        instance: u8,
-        replica: u8,
-        object: u16,
-        op: Op,
-    ) -> Result<Step, AllocError>
+    // Plays the submission of an update, which is not refused but for want of memory.
+    fn take_update(&mut self, replica: u8, object: u16, op: Op) -> Result<Step, AllocError>
         requires count { self.old.count + 1 < 2 ^ 64 }
         requires known { replica < length self.old.replica_states }
-        requires event { (e : EventOf) × IsSubmission e instance replica (op_on object op)
-            × IsAllowed self.old e }
-        ensures step { (events : Past) (e : EventOf) →
-            IsSubmission e instance replica (op_on object op) →
-            refused_in self.old events e ≡ None → StandsFor self.old events →
-            IfOk result (λ step. Plays self.old events e step self.new) }
+        requires allowed { IsAllowed self.old (Submit replica (op_on object op)) }
+        ensures step { (events : Past) → StandsFor self.old events → IfOk result (λ step.
+            Plays self.old events (Submit replica (op_on object op)) step self.new) }
         ensures printable { IfOk result IsPrintable }
         ensures err { OnErr result (self.new ≡ self.old) }
     {
         self.journal.reserve(self.config.replicas)?;
         // `laws::submissions_fit`: of what the world does not refuse, only memory is left.
-        let Ok(out) = self.replicas[replica as usize].submit(instance, object, op) else {
+        let Ok(out) = self.nodes[replica as usize].submit(object, op) else {
             return Err(AllocError);
         };
-        let speaker = Speaker {
-            replicas: self.config.replicas,
+        Ok(note_submission(&mut self.journal, self.config.replicas, 0, replica, out))
+    }
+
+    // The same of a proposal.
+    fn take_proposal(&mut self, replica: u8, commit: u8, value: u64) -> Result<Step, AllocError>
+        requires count { self.old.count + 1 < 2 ^ 64 }
+        requires known { replica < length self.old.replica_states }
+        requires object { commit < MAX_COMMITS }
+        requires allowed { IsAllowed self.old (Decide replica commit value) }
+        ensures step { (events : Past) → StandsFor self.old events →
+            IfOk result (λ step. Plays self.old events (Decide replica commit value) step self.new) }
+        ensures printable { IfOk result IsPrintable }
+        ensures err { OnErr result (self.new ≡ self.old) }
+    {
+        self.journal.reserve(self.config.replicas)?;
+        let Ok(out) = self.nodes[replica as usize].propose(commit, value) else {
+            return Err(AllocError);
+        };
+        Ok(note_submission(
+            &mut self.journal,
+            self.config.replicas,
+            first_instance(commit),
             replica,
-            instance,
-            ballot: 0,
-            outcome: None,
-        };
-        let done = Done {
-            said: out.said,
-            voted: None,
-            mail: out.mail,
-        };
-        Ok(self.journal.note(&speaker, done, None))
+            out,
+        ))
     }
 }
 
-// How much a replica has submitted in an instance, if there is one with this number.
-fn submitted_among(replicas: &[Replica], instance: u8, replica: u8) -> Option<u32>
-    ensures { result ≡ submitted_at replicas.now instance replica }
+// Notes what a replica of a group of so many submitted in an instance. There is room.
+fn note_submission(journal: &mut Journal, replicas: u8, instance: u8, replica: u8, out: Out) -> Step
+    requires known { replica < replicas }
+    requires few { length out.mail ≤ 2 * replicas }
+    requires count { journal.old.count + 1 < 2 ^ 64 }
+    requires messages_room { HasRoomToSend journal.old replicas }
+    requires learnt_room { HasRoomToLearn journal.old }
+    ensures step { result
+        ≡ step_by (submitter replicas instance replica) journal.old (submitted_so out) }
+    ensures messages { journal.new.messages.items ≡ journal.old.messages.items ++ out.mail }
+    ensures learnt { journal.new.learnt.items ≡ journal.old.learnt.items ++ [] }
+    ensures count { journal.new.count ≡ journal.old.count + 1 }
+    ensures numbers { length journal.old.messages.items + length out.mail < 2 ^ 64 }
 {
-    match replicas.get(replica as usize) {
-        Some(replica) => replica.submitted(instance),
+    let speaker = Speaker {
+        replicas,
+        replica,
+        instance,
+        ballot: 0,
+        outcome: None,
+    };
+    let done = Done {
+        said: out.said,
+        voted: None,
+        mail: out.mail,
+    };
+    journal.note(&speaker, done, None)
+}
+
+// How much a replica has submitted in an instance, if there is one with this number.
+#[tactic(auto, using(crate::proofs::WorldNodes::replica_at))]
+fn submitted_among<B: Replicated>(nodes: &[Node<B>], instance: u8, replica: u8) -> Option<u32>
+    ensures { result ≡ submitted_at (replicas_of nodes.now) instance replica }
+{
+    match nodes.get(replica as usize) {
+        Some(node) => node.submitted(instance),
         None => None,
     }
 }

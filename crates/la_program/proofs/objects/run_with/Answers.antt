@@ -16,5 +16,5 @@ returns-in-Ok-clause-ends g c =
 pub returns-in-Err-clause-ends : goal.returns-in-Err-clause-ends
 returns-in-Err-clause-ends g c = (
   c.end_without_words.result.told,
-  inr (inr (inr (inr (inr (record { unread = refl; unwritten = refl; tells = c.end_without_words.ensures.memory refl }))))),
+  inr (inr (inr (inr (inr (inr (record { unread = refl; unwritten = refl; tells = c.end_without_words.ensures.memory refl })))))),
 )

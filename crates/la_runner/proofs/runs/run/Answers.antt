@@ -1,14 +1,15 @@
 use Rattle.std.proofs.Common.{◌≡◌, map, length, subst, sym, arith}
 use Rattle.std.specs.List.{All, AllZip}
-use Rattle.std.proofs.lemmas.Result.{IfOk-weaker}
 use Rattle.la_runner.specs.Members.{IsOf}
 use Rattle.la_runner.specs.Invariant.{IsMember}
 use Rattle.la_runner.specs.Runs.{Place, IsReady, IsWorked, IsBackOf, place_of, places, back_of}
+use Rattle.la_runner.proofs.Agreeing.{decisions_compare, decisions_agree}
 use Rattle.la_runner.proofs.Keeping.{long_map}
+use Rattle.la_runner.proofs.Noted.{views_of, notes_hold, notes_agree}
 use Rattle.la_runner.proofs.Threading.{all_over}
 use Rattle.la_runner.proofs.UnderWay.{of_goes}
 use Rattle.la_runner.proofs.Counting.{ready_all, all_of_map, zip_maps}
-use Rattle.la_runner.proofs.Sharing.{all_worked_more, all_compare, decisions_compare, if_both, if_anyway, places_long, zip_long, back_of_group}
+use Rattle.la_runner.proofs.Sharing.{all_worked_more, all_compare, all_honest, places_long, zip_long, back_of_group}
 use Rattle.la_runner.proofs.runs.run.Goals as goal
 
 pub starts-requires-clause-shelves : goal.starts-requires-clause-shelves
@@ -25,24 +26,33 @@ run_in-requires-clause-ready g c κs within =
     (ready_all c.args.group.now c.args.members.items c.args.shelves.items (map (λ j. j.items) c.args.jobs.items) c.requires f.unused))
 
 pub returns-in-Ok-run_in-clause-config : goal.returns-in-Ok-run_in-clause-config
-returns-in-Ok-run_in-clause-config g c = if_anyway c.finish.result _ (c.is_run.ensures.config.0 c.if-not-is_run.false)
+returns-in-Ok-run_in-clause-config g c = c.is_run.ensures.config.0 c.if-not-is_run.false
 
 pub returns-in-Ok-run_in-clause-each : goal.returns-in-Ok-run_in-clause-each
 returns-in-Ok-run_in-clause-each g c =
-    let given = places c.args.members.items c.args.shelves.items (map (λ j. j.items) c.args.jobs.items) in
-    let first = subst (λ l. AllZip IsBackOf l (map (λ l. back_of l.replica l.member l.shelf l.entries.items l.stopped) c.in-Ok-run_in.done.items)) c.in-Ok.ensures
+    let given = (places c.args.members.items c.args.shelves.items (map (λ j. j.items) c.args.jobs.items)) in
+    let done = map (λ l. back_of l.replica l.member l.shelf l.entries.items l.stopped) c.in-Ok-run_in.done.items in
+    let first = subst (λ l. AllZip IsBackOf l done) c.in-Ok.ensures
     (zip_maps (λ s. place_of s.member s.shelf s.jobs.items) (λ l. back_of l.replica l.member l.shelf l.entries.items l.stopped) IsBackOf c.in-Ok.begun.items c.in-Ok-run_in.done.items c.in-Ok-run_in.ensures) in
-    IfOk-weaker c.finish.result _ _ (λ logs same. all_worked_more given (map (λ l. back_of l.replica l.member l.shelf l.entries.items l.stopped) c.in-Ok-run_in.done.items) (map (λ l. back_of l.replica l.member l.shelf l.entries.items l.stopped) logs.items) first same) c.finish.ensures.same
+    all_worked_more given done (map (λ l. back_of l.replica l.member l.shelf l.entries.items l.stopped) c.finish.result.items) first c.finish.ensures.same
 
 pub returns-in-Ok-run_in-clause-comparable : goal.returns-in-Ok-run_in-clause-comparable
-returns-in-Ok-run_in-clause-comparable g c =
-    if_both c.finish.result _ _ _ (λ logs each seen. all_compare (places c.args.members.items c.args.shelves.items (map (λ j. j.items) c.args.jobs.items)) (map (λ l. back_of l.replica l.member l.shelf l.entries.items l.stopped) logs.items) each seen)
-    (returns-in-Ok-run_in-clause-each g c) c.finish.ensures.seen
+returns-in-Ok-run_in-clause-comparable g c = all_compare (places c.args.members.items c.args.shelves.items (map (λ j. j.items) c.args.jobs.items)) (map (λ l. back_of l.replica l.member l.shelf l.entries.items l.stopped) c.finish.result.items) (returns-in-Ok-run_in-clause-each g c) c.finish.ensures.seen
+
+pub returns-in-Ok-run_in-clause-honest : goal.returns-in-Ok-run_in-clause-honest
+returns-in-Ok-run_in-clause-honest g c = all_honest (λ l. back_of l.replica l.member l.shelf l.entries.items l.stopped) (places c.args.members.items c.args.shelves.items (map (λ j. j.items) c.args.jobs.items)) c.finish.result.items (returns-in-Ok-run_in-clause-each g c)
 
 pub returns-in-Ok-run_in-clause-decisions : goal.returns-in-Ok-run_in-clause-decisions
-returns-in-Ok-run_in-clause-decisions g c =
-    if_both c.finish.result _ _ _ (λ logs each seen. decisions_compare (places c.args.members.items c.args.shelves.items (map (λ j. j.items) c.args.jobs.items)) (map (λ l. back_of l.replica l.member l.shelf l.entries.items l.stopped) logs.items) each seen)
-    (returns-in-Ok-run_in-clause-each g c) c.finish.ensures.seen
+returns-in-Ok-run_in-clause-decisions g c = decisions_compare (places c.args.members.items c.args.shelves.items (map (λ j. j.items) c.args.jobs.items)) (map (λ l. back_of l.replica l.member l.shelf l.entries.items l.stopped) c.finish.result.items) (returns-in-Ok-run_in-clause-each g c) c.finish.ensures.seen
+
+pub returns-in-Ok-run_in-clause-agreed : goal.returns-in-Ok-run_in-clause-agreed
+returns-in-Ok-run_in-clause-agreed g c = decisions_agree (places c.args.members.items c.args.shelves.items (map (λ j. j.items) c.args.jobs.items)) (map (λ l. back_of l.replica l.member l.shelf l.entries.items l.stopped) c.finish.result.items) (returns-in-Ok-run_in-clause-each g c) c.finish.ensures.seen
+
+pub returns-in-Ok-run_in-clause-notes : goal.returns-in-Ok-run_in-clause-notes
+returns-in-Ok-run_in-clause-notes g c = notes_hold (places c.args.members.items c.args.shelves.items (map (λ j. j.items) c.args.jobs.items)) (map (λ l. back_of l.replica l.member l.shelf l.entries.items l.stopped) c.finish.result.items) (returns-in-Ok-run_in-clause-each g c) (map (λ l. l.notes) c.finish.result.items) (views_of (λ l. back_of l.replica l.member l.shelf l.entries.items l.stopped) (map (λ l. l.notes) c.finish.result.items) c.finish.result.items c.finish.ensures.notes)
+
+pub returns-in-Ok-run_in-clause-alike : goal.returns-in-Ok-run_in-clause-alike
+returns-in-Ok-run_in-clause-alike g c = notes_agree (places c.args.members.items c.args.shelves.items (map (λ j. j.items) c.args.jobs.items)) (map (λ l. back_of l.replica l.member l.shelf l.entries.items l.stopped) c.finish.result.items) (returns-in-Ok-run_in-clause-each g c) (map (λ l. l.notes) c.finish.result.items) (views_of (λ l. back_of l.replica l.member l.shelf l.entries.items l.stopped) (map (λ l. l.notes) c.finish.result.items) c.finish.result.items c.finish.ensures.notes)
 
 pub finish-requires-clause-few : goal.finish-requires-clause-few
 finish-requires-clause-few g c =

@@ -1,5 +1,5 @@
 use Rattle.std.proofs.Common.{◌≡◌, ◌<◌, ◌+◌, length, refl, subst, sym, ap, ◌∙◌, arith}
-use Rattle.std.specs.List.{AllWithin}
+use Rattle.std.specs.List.{AllWithin, slice_index_or}
 use Rattle.la_runner.specs.Members.{IsOf}
 use Rattle.la_runner.specs.Together.{HasSeen}
 use Rattle.la_runner.proofs.Keeping.{put_back}
@@ -10,18 +10,21 @@ use Rattle.la_runner.proofs.showing.show_last.Goals as goal
 pub loop-at-init : goal.loop-at-init
 loop-at-init g c = record { same = refl; more = sees_self c.args.last.now c.replica-own.ensures.is; shown = λ k d le lt. absurd (omega (arith, le, lt)) }
 
-pub show_one-requires-clause-from : goal.show_one-requires-clause-from
-show_one-requires-clause-from g c = here_of (λ l. IsOf c.args.group.now l.member) c.args.logs.now.items c.loop-at.logs.items c.loop-at.at c.index_mut.result.now c.loop-at.invariant.same (omega (arith, c.loop-at-test.true, c.args.logs.now.ok.0)) c.index_mut.ensures.value c.requires.of
+pub show-requires-clause-from : goal.show-requires-clause-from
+show-requires-clause-from g c = subst (λ l. IsOf c.args.group.now l.member) c.index-others-at.is (here_of (λ l. IsOf c.args.group.now l.member) c.args.others.now c.loop-at.others c.loop-at.at c.index-others-at.result c.loop-at.invariant.same c.loop-at-test.true c.index-others-at.is c.requires.of)
 
-pub show_one-requires-clause-to : goal.show_one-requires-clause-to
-show_one-requires-clause-to g c = of_goes c.args.group.now c.args.last.now c.loop-at.last c.loop-at.invariant.more.goes c.requires.last
+pub show-requires-clause-to : goal.show-requires-clause-to
+show-requires-clause-to g c = of_goes c.args.group.now c.args.last.now c.loop-at.last c.loop-at.invariant.more.goes c.requires.last
 
 pub loop-at-preserved : goal.loop-at-preserved
 loop-at-preserved g c =
-    let lt : c.loop-at.at < length c.loop-at.logs.items = (let long = ap length c.loop-at.invariant.same in omega (arith, long, c.loop-at-test.true, c.args.logs.now.ok.0)) in
-    let put = put_back c.loop-at.logs.items c.loop-at.at c.index_mut.result.now (record c.index_mut.result.now { member = c.show_one.new.from }) lt c.index_mut.ensures.value (ap (λ m. record c.index_mut.result.now { member = m }) c.in_ok-show_one.ensures.same) in
+    let log = slice_index_or c.loop-at.others c.loop-at.at c.index-others-at.result in
+    let is : log ≡ slice_index_or c.loop-at.others c.loop-at.at log = ap (slice_index_or c.loop-at.others c.loop-at.at) c.index-others-at.is in
+    let lt : c.loop-at.at < length c.loop-at.others = (let long = ap length c.loop-at.invariant.same in omega (arith, long, c.loop-at-test.true)) in
+    let put = put_back c.loop-at.others c.loop-at.at log (record log { member = c.show.new.from }) lt is (ap (λ m. record log { member = m }) c.show.ensures.same) in
     record {
       same = put ∙ c.loop-at.invariant.same;
-      more = sees_then c.args.last.now c.loop-at.last c.show_one.new.to c.loop-at.invariant.more c.in_ok-show_one.ensures.more;
-      shown = subst (λ l. AllWithin (λ x. HasSeen x.member c.show_one.new.to) l 0 (c.loop-at.at + 1)) (sym put) (one_shown (λ l. l.member) c.loop-at.logs.items c.loop-at.at c.index_mut.result.now c.loop-at.last c.show_one.new.to lt c.index_mut.ensures.value c.loop-at.invariant.shown c.in_ok-show_one.ensures.more.goes c.in_ok-show_one.ensures.shown);
+      more = sees_then c.args.last.now c.loop-at.last c.show.new.to c.loop-at.invariant.more c.show.ensures.more;
+      shown = subst (λ l. AllWithin (λ x. HasSeen x.member c.show.new.to) l 0 (c.loop-at.at + 1)) (sym put)
+          (one_shown (λ l. l.member) c.loop-at.others c.loop-at.at log c.loop-at.last c.show.new.to lt is c.loop-at.invariant.shown c.show.ensures.more.goes c.show.ensures.shown);
     }

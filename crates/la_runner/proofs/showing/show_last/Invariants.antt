@@ -5,7 +5,7 @@ use Rattle.la_runner.proofs.showing.show_last.Given as goal
 
 abbrev pub invariant-loop-at : goal.invariant-loop-at
 invariant-loop-at g l = record {
-  same : l.logs.items ≡ l.initial.logs.items;
+  same : l.others ≡ l.initial.others;
   more : SeesMore l.initial.last l.last;
-  shown : AllWithin (λ x. HasSeen x.member l.last) l.logs.items 0 l.at;
+  shown : AllWithin (λ x. HasSeen x.member l.last) l.others 0 l.at;
 }

@@ -1,0 +1,128 @@
+// A node's calls, each made twice, or at two nodes that are one.
+ghost use Rattle.std.specs.Prelude.{◌≡◌, IfOk, IfErr, OnOk, OnErr};
+ghost use Rattle.la_replica.specs.Whole.{whole_of, whole_out, whole_mail};
+ghost use Rattle.la_replica.specs.Fitting.{FitsReceiver};
+ghost use Rattle.la_world.specs.Following.{whole_done};
+
+use la_commit::Outcome;
+use la_object::{Answer, Query, Replicated, Shelf, ShelfError};
+use la_replica::{Mail, Message, Out, ReplicaError};
+use la_set::{Op, Tags};
+use la_world::{Config, Node, Received, WorldError};
+use std::alloc::{AllocError, Global};
+
+fn new_nodes_are_one<B: Replicated>(
+    alloc: Global,
+    config: Config,
+    own: u8,
+    shelf: Shelf<B>,
+    same: Shelf<B>,
+) -> (Result<Node<B>, WorldError>, Result<Node<B>, WorldError>)
+    requires { shelf ≡ same }
+    ensures nodes { IfOk result.0 (λ a. IfOk result.1 (λ b. a ≡ b)) }
+    ensures alike { IfErr result.0 (λ d. IfErr result.1 (λ e. d ≡ e)) }
+{
+    (
+        Node::new(alloc, config, own, shelf),
+        Node::new(alloc, config, own, same),
+    )
+}
+
+fn outcome_is_exact<B: Replicated>(node: &Node<B>, commit: u8) -> (Option<Outcome>, Option<Outcome>)
+    ensures { result.0 ≡ result.1 }
+{
+    (node.outcome(commit), node.outcome(commit))
+}
+
+fn again_is_exact<B: Replicated>(
+    node: &Node<B>,
+) -> (Result<Mail, AllocError>, Result<Mail, AllocError>)
+    ensures { IfOk result.0 (λ a. IfOk result.1 (λ b. whole_mail a ≡ whole_mail b)) }
+{
+    (node.again(), node.again())
+}
+
+fn submit_is_exact<B: Replicated>(
+    one: &mut Node<B>,
+    other: &mut Node<B>,
+    by: u32,
+) -> (Result<Out, ReplicaError>, Result<Out, ReplicaError>)
+    requires { one.old ≡ other.old }
+    ensures answers { IfOk result.0 (λ a. IfOk result.1 (λ b. whole_out a ≡ whole_out b)) }
+    ensures steps { OnOk result.0 (OnOk result.1 (one.new ≡ other.new)) }
+    ensures stays { OnErr result.0 (one.new ≡ one.old) }
+{
+    (one.submit(1, Op::Inc(by)), other.submit(1, Op::Inc(by)))
+}
+
+fn propose_is_exact<B: Replicated>(
+    one: &mut Node<B>,
+    other: &mut Node<B>,
+    commit: u8,
+    value: u64,
+) -> (Result<Out, WorldError>, Result<Out, WorldError>)
+    requires { one.old ≡ other.old }
+    ensures answers { IfOk result.0 (λ a. IfOk result.1 (λ b. whole_out a ≡ whole_out b)) }
+    ensures steps { OnOk result.0 (OnOk result.1 (one.new ≡ other.new)) }
+    ensures alike { IfErr result.0 (λ d. IfErr result.1 (λ e. d ≡ e)) }
+    ensures stays { OnErr result.0 (one.new ≡ one.old) }
+{
+    (one.propose(commit, value), other.propose(commit, value))
+}
+
+fn receive_is_exact<B: Replicated>(
+    one: &mut Node<B>,
+    other: &mut Node<B>,
+    message: &Message,
+) -> (
+    Result<Received, ReplicaError>,
+    Result<Received, ReplicaError>,
+)
+    requires { one.old ≡ other.old }
+    ensures said { IfOk result.0 (λ a. IfOk result.1 (λ b. whole_done a.done ≡ whole_done b.done)) }
+    ensures outcomes { IfOk result.0 (λ a. IfOk result.1 (λ b. a.outcome ≡ b.outcome)) }
+    ensures steps { OnOk result.0 (OnOk result.1 (one.new ≡ other.new)) }
+    ensures stays { OnErr result.0 (one.new ≡ one.old) }
+{
+    (one.receive(message), other.receive(message))
+}
+
+// A message that fits, by whichever call it is taken.
+fn receive_fitting_is_exact<B: Replicated>(
+    one: &mut Node<B>,
+    other: &mut Node<B>,
+    message: &Message,
+) -> (Result<Received, AllocError>, Result<Received, ReplicaError>)
+    requires same { one.old ≡ other.old }
+    requires fits { FitsReceiver one.old.replica (whole_of message.now) }
+    ensures said { IfOk result.0 (λ a. IfOk result.1 (λ b. whole_done a.done ≡ whole_done b.done)) }
+    ensures outcomes { IfOk result.0 (λ a. IfOk result.1 (λ b. a.outcome ≡ b.outcome)) }
+    ensures steps { OnOk result.0 (OnOk result.1 (one.new ≡ other.new)) }
+    ensures stays { OnErr result.0 (one.new ≡ one.old) }
+{
+    (one.receive_fitting(message), other.receive(message))
+}
+
+// Whatever the first call left of its shelf.
+fn ask_is_exact<B: Replicated>(
+    node: &mut Node<B>,
+    object: u16,
+    query: &Query,
+) -> (Result<Answer, ShelfError>, Result<Answer, ShelfError>)
+    ensures { IfOk result.0 (λ a. IfOk result.1 (λ b. a ≡ b)) }
+{
+    (node.ask(object, query), node.ask(object, query))
+}
+
+fn observed_is_exact<B: Replicated>(
+    node: &mut Node<B>,
+    object: u16,
+    element: u64,
+) -> (Result<Tags, ShelfError>, Result<Tags, ShelfError>)
+    ensures { IfOk result.0 (λ a. IfOk result.1 (λ b. a ≡ b)) }
+{
+    (
+        node.observed(object, element),
+        node.observed(object, element),
+    )
+}

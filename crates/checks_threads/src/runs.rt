@@ -1,0 +1,7 @@
+// Whole runs: a thread a member.
+mod config;
+mod helpers;
+mod refusals;
+mod shelves;
+mod turns;
+mod whole;

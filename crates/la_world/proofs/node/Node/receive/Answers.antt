@@ -1,0 +1,22 @@
+use Rattle.std.proofs.Common.{subst}
+use Rattle.la_set.specs.Inclusion.{IsSubset}
+use Rattle.la_replica.specs.Whole.{whole_of}
+use Rattle.la_world.specs.Following.{whole_done}
+use Rattle.la_world.specs.Nodes.{NodeState}
+use Rattle.la_world.proofs.Voters.{votes_fit}
+use Rattle.la_world.proofs.Nodes.{receipt_keeps}
+use Rattle.la_world.proofs.node.Node.receive.Goals as goal
+
+pub take_prepared-requires-clause-vote : goal.take_prepared-requires-clause-vote
+take_prepared-requires-clause-vote g c = votes_fit c.self.inside.replica (whole_of c.args.message.now) c.self.invariant.participates
+
+pub invariant_of-self-2 : goal.invariant_of-self-2
+invariant_of-self-2 g c =
+    let n : NodeState = record { replica = c.self.inside.replica; shelf = c.self.inside.shelf } in
+    (receipt_keeps n (whole_of c.args.message.now) (whole_done c.in_ok-done.done) c.take_prepared.new.receiver c.self.invariant c.in_ok-done.ensures.step).0
+
+pub returns-clause-grows : goal.returns-clause-grows
+returns-clause-grows g c =
+    let n : NodeState = record { replica = c.self.inside.replica; shelf = c.self.inside.shelf } in
+    subst (λ (q : NodeState). IsSubset q.replica.view c.take_prepared.new.receiver.view) c.self.view_is
+    (receipt_keeps n (whole_of c.args.message.now) (whole_done c.in_ok-done.done) c.take_prepared.new.receiver c.self.invariant c.in_ok-done.ensures.step).1

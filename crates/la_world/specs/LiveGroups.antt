@@ -1,0 +1,257 @@
+-- A group of live replicas over any transport: what each node keeps, and all that was ever sent. A
+-- node takes calls, and receives any message that was ever sent to it: late, again, or never. A
+-- refused call changes nothing, and is none of these.
+use Rattle.std.specs.Prelude.{◌≡◌, ℕ, List, [], ◌∷◌, ◌++◌, length, map, slice_get, slice_set, filter_map, flat_map, Contains, Option, Some, None, IsSomeAnd, option_map, option_and_then}
+use Rattle.std.specs.List.{range_with_len}
+use Rattle.la_set.specs.ObjectOps.{ObjectOp}
+use Rattle.la_set.specs.Histories.{Histories}
+use Rattle.la_set.specs.Inclusion.{AreComparable}
+use Rattle.la_commit.specs.Instances.{first_instance}
+use Rattle.la_commit.specs.Votes.{first_vote}
+use Rattle.la_replica.specs.declared.out.Said.{Said}
+use Rattle.la_replica.specs.declared.out.Said.TheVariants.{Ignored}
+use Rattle.la_replica.specs.declared.message.Message as code
+use Rattle.la_replica.specs.declared.out.Out as code_out
+use Rattle.la_replica.specs.Whole.{Message, Out, whole_of, whole_out}
+use Rattle.la_replica.specs.Steps.{learnt_in}
+use Rattle.la_replica.specs.Refusals.{HasRoom}
+use Rattle.la_replica.specs.ReplicaState.{ReplicaState, submits, submitted_in}
+use Rattle.la_world.specs.declared.config.Config.{Config}
+use Rattle.la_world.specs.declared.done.Done.{Done}
+use Rattle.la_world.specs.declared.report.Decision.{Decision}
+use Rattle.la_world.specs.declared.step.Learnt.{Learnt}
+use Rattle.la_world.specs.Groups.{Group, group_of, IsConfig}
+use Rattle.la_world.specs.Events.{Event, Past, Submit, Deliver, Decide}
+use Rattle.la_world.specs.Playing.{trace}
+use Rattle.la_world.specs.Learnings.{learnt}
+use Rattle.la_world.specs.StandsFor.{EventsLeadTo}
+use Rattle.la_world.specs.Following.{Taken, without_vote, takes, whole_done}
+use Rattle.la_world.specs.Nodes.{NodeState}
+pub use Rattle.la_world.specs.Nodes.{replicas_of}
+use Rattle.la_world.specs.Calls.{replica_states_at_start, views_of, decisions_at}
+use Rattle.la_world.specs.Promises.{KeepsPromises}
+use Rattle.la_world.specs.Laws.{IsAdoptCommit}
+
+-- ## Calls
+
+-- a set that a replica said it has learnt in an instance
+pub record LearntSet : Type 0 where
+  pub instance : ℕ
+  pub replica : ℕ
+  pub updates : Histories
+
+pub record LiveGroup : Type 0 where
+  -- the nodes, from 0 on
+  pub nodes : List NodeState
+  -- all that was sent, in order
+  pub sent : List Message
+  -- all sets that nodes said they learnt, in order
+  pub learnt : List LearntSet
+
+-- what a node accepted
+pub data Call : Type 0 where
+  -- an update
+  Submitted : ObjectOp → Call
+  -- a value, to an adopt-commit object
+  Proposed : (commit value : ℕ) → Call
+  -- the message with this number, from 0, of all that was sent
+  Received : (number : ℕ) → Call
+  -- what leaves its replica as it was: a question, an object more or less
+  Looked : Call
+
+-- what a replica says and sends where it does nothing
+abbrev pub silence : Taken
+silence = record { said = Ignored; voted = None; mail = [] }
+
+abbrev pub submission : Option (Out × ReplicaState) → Option (Taken × ReplicaState)
+submission made = option_map (λ (p : Out × ReplicaState). (without_vote p.0, p.1)) made
+
+-- what a replica makes of a call
+abbrev pub makes : (sent : List Message) → ReplicaState → Call → Option (Taken × ReplicaState)
+makes sent state (Submitted d) = submission (submits state 0 d)
+makes sent state (Proposed k value) =
+    submission (submits state (first_instance k) (first_vote k value))
+makes sent state (Received number) = option_and_then (takes state) (slice_get sent number)
+makes sent state Looked = Some (silence, state)
+
+-- the calls that replica r may accept: an update where its cap leaves room, its first proposal to an
+-- object, and a message that is for it
+abbrev pub MayAccept : (sent : List Message) → (r : ℕ) → ReplicaState → Call → Type 0
+MayAccept sent r state (Submitted d) = HasRoom state 0
+MayAccept sent r state (Proposed k value) = submitted_in state (first_instance k) ≡ Some 0
+MayAccept sent r state (Received number) = IsSomeAnd (slice_get sent number) (λ m. m.to ≡ r)
+MayAccept sent r state Looked = Unit {0}
+
+-- the set that r says it has learnt by a message
+abbrev pub learnt_from : (r : ℕ) → Option Message → Option Histories → List LearntSet
+learnt_from r (Some m) (Some s) =
+    record { instance = m.instance; replica = r; updates = s } ∷ []
+learnt_from r (Some m) None = []
+learnt_from r None s = []
+
+-- and by a call
+abbrev pub learnt_by_call : (sent : List Message) → (r : ℕ) → Call → Said → List LearntSet
+learnt_by_call sent r (Received number) said =
+    learnt_from r (slice_get sent number) (learnt_in said)
+learnt_by_call sent r (Submitted d) said = []
+learnt_by_call sent r (Proposed k value) said = []
+learnt_by_call sent r Looked said = []
+
+-- ## Steps
+
+-- node r accepts a call, and all the others stay as they were
+pub record IsStep (before : LiveGroup) (r : ℕ) (call : Call) (after : LiveGroup) : Type 0 where
+  pub node : NodeState
+  pub is_at : slice_get before.nodes r ≡ Some node
+  pub accepts : MayAccept before.sent r node.replica call
+  pub taken : Taken
+  pub made : NodeState
+  pub does : makes before.sent node.replica call ≡ Some (taken, made.replica)
+  pub nodes : after.nodes ≡ slice_set before.nodes r made
+  pub sent : after.sent ≡ before.sent ++ taken.mail
+  pub learnt : after.learnt ≡ before.learnt ++ learnt_by_call before.sent r call taken.said
+
+-- a group in which nothing has happened: each node as it is made, whatever is on its shelf
+pub record IsStart (c : Config) (group : LiveGroup) : Type 0 where
+  pub config : IsConfig c
+  pub nodes : replicas_of group.nodes ≡ replica_states_at_start c
+  pub sent : group.sent ≡ []
+  pub learnt : group.learnt ≡ []
+
+-- these calls, the newest first and each of a node, lead from such a group to this one
+unfoldable pub Reaches : Config → (calls : List (ℕ × Call)) → LiveGroup → Type 0
+Reaches c [] group = IsStart c group
+Reaches c (call ∷ calls) group =
+    (before : LiveGroup) × Reaches c calls before × IsStep before call.0 call.1 group
+
+-- ## What a program holds
+
+-- nodes, and messages on a network: some calls led to these nodes, and sent each of the messages.
+-- Others that they sent are lost
+pub record IsReached (nodes : List NodeState) (network : List code.Message) : Type 0 where
+  pub config : Config
+  pub calls : List (ℕ × Call)
+  pub group : LiveGroup
+  pub reached : Reaches config calls group
+  pub nodes_are : group.nodes ≡ nodes
+  pub sent : (m : code.Message) → Contains network m → Contains group.sent (whole_of m)
+
+abbrev pub AreLive : (nodes : List NodeState) → (network : List code.Message) → Type 0
+AreLive nodes network = ∥ IsReached nodes network ∥₁
+
+-- ## Events
+
+-- a call of node r as an event of its group; looking is none
+abbrev pub event_of : (r : ℕ) → Call → Option Event
+event_of r (Submitted d) = Some (Submit r d)
+event_of r (Proposed k value) = Some (Decide r k value)
+event_of r (Received number) = Some (Deliver number)
+event_of r Looked = None
+
+abbrev pub events_of : List (ℕ × Call) → Past
+events_of calls = filter_map (λ (call : ℕ × Call). event_of call.0 call.1) calls
+
+-- in which nothing is said of shelves
+abbrev pub live_group_of : Config → Group
+live_group_of c = group_of c []
+
+abbrev pub learnt_set_of : Learnt → LearntSet
+learnt_set_of x = record { instance = x.instance; replica = x.replica; updates = x.updates }
+
+-- each part of a group is what the trace of these events says
+pub record StandsForEvents (c : Config) (group : LiveGroup) (events : Past) : Type 0 where
+  pub config : IsConfig c
+  pub led : EventsLeadTo (live_group_of c) events (replicas_of group.nodes) group.sent
+  pub learnt : group.learnt ≡ map learnt_set_of (learnt (trace (live_group_of c) events))
+
+-- ## Laws
+
+-- a group that some calls lead to stands for these calls' events
+abbrev pub LiveGroupsStandForEvents : Type 0
+LiveGroupsStandForEvents = (c : Config) (calls : List (ℕ × Call)) (group : LiveGroup) →
+    Reaches c calls group → StandsForEvents c group (events_of calls)
+
+-- what nodes returned from adopt-commit objects, by object, and then by replica
+abbrev pub decisions_of : Config → List NodeState → List Decision
+decisions_of c nodes =
+    flat_map (decisions_at (replicas_of nodes)) (range_with_len 0 c.commits)
+
+-- so it keeps what a world promises
+pub record KeepsAll (c : Config) (calls : List (ℕ × Call)) (group : LiveGroup) : Type 0 where
+  pub promises : let g = live_group_of c in let events = events_of calls in
+      KeepsPromises g events (learnt (trace g events)) (views_of (replicas_of group.nodes))
+  pub safe : IsAdoptCommit (events_of calls) (decisions_of c group.nodes)
+
+abbrev pub LiveGroupsKeepAll : Type 0
+LiveGroupsKeepAll = (c : Config) (calls : List (ℕ × Call)) (group : LiveGroup) →
+    Reaches c calls group → KeepsAll c calls group
+
+-- any two sets that nodes said they learnt in one instance are comparable
+abbrev pub LiveLearntAreComparable : Type 0
+LiveLearntAreComparable = (c : Config) (calls : List (ℕ × Call)) (group : LiveGroup) →
+    Reaches c calls group → (x y : LearntSet) →
+    Contains group.learnt x → Contains group.learnt y → x.instance ≡ y.instance →
+    AreComparable x.updates y.updates
+
+-- any two views are: of whatever nodes, before and after more calls
+abbrev pub LiveViewsAreComparable : Type 0
+LiveViewsAreComparable =
+    (c : Config) (more calls : List (ℕ × Call)) (before after : LiveGroup) (m n : NodeState) →
+    Reaches c calls before → Reaches c (more ++ calls) after →
+    Contains before.nodes m → Contains after.nodes n →
+    AreComparable m.replica.view n.replica.view
+
+-- ## Laws for programs
+
+abbrev pub AllViewsAreComparable : List NodeState → Type 0
+AllViewsAreComparable nodes =
+    (m n : NodeState) → Contains nodes m → Contains nodes n →
+    AreComparable m.replica.view n.replica.view
+
+abbrev pub LiveNodesAreOneHistory : Type 0
+LiveNodesAreOneHistory = (nodes : List NodeState) (network : List code.Message) →
+    AreLive nodes network → AllViewsAreComparable nodes
+
+-- nodes as they are made are live, with nothing on the network
+abbrev pub NewNodesAreLive : Type 0
+NewNodesAreLive = (c : Config) (nodes : List NodeState) → IsConfig c →
+    replicas_of nodes ≡ replica_states_at_start c → AreLive nodes []
+
+-- and whatever the network loses, holds twice or brings late
+abbrev pub NetworksMayLose : Type 0
+NetworksMayLose = (nodes : List NodeState) (network left : List code.Message) →
+    AreLive nodes network → ((m : code.Message) → Contains left m → Contains network m) →
+    AreLive nodes left
+
+-- node r is live after a submission, with all that it sends on the network
+abbrev pub SubmissionsKeepLive : Type 0
+SubmissionsKeepLive =
+    (nodes : List NodeState) (network : List code.Message) (r : ℕ) (node made : NodeState)
+    (d : ObjectOp) (out : code_out.Out) → AreLive nodes network → slice_get nodes r ≡ Some node →
+    HasRoom node.replica 0 → submits node.replica 0 d ≡ Some (whole_out out, made.replica) →
+    AreLive (slice_set nodes r made) (network ++ out.mail)
+
+-- after a proposal
+abbrev pub ProposalsKeepLive : Type 0
+ProposalsKeepLive =
+    (nodes : List NodeState) (network : List code.Message) (r : ℕ) (node made : NodeState)
+    (k value : ℕ) (out : code_out.Out) → AreLive nodes network → slice_get nodes r ≡ Some node →
+    submitted_in node.replica (first_instance k) ≡ Some 0 →
+    submits node.replica (first_instance k) (first_vote k value) ≡ Some (whole_out out, made.replica) →
+    AreLive (slice_set nodes r made) (network ++ out.mail)
+
+-- after the receipt of a message that is on the network, and stays there
+abbrev pub ReceiptsKeepLive : Type 0
+ReceiptsKeepLive =
+    (nodes : List NodeState) (network : List code.Message) (r : ℕ) (node made : NodeState)
+    (m : code.Message) (done : Done) → AreLive nodes network → slice_get nodes r ≡ Some node →
+    Contains network m → m.to ≡ r →
+    takes node.replica (whole_of m) ≡ Some (whole_done done, made.replica) →
+    AreLive (slice_set nodes r made) (network ++ done.mail)
+
+-- and after a call that leaves its replica as it was
+abbrev pub LooksKeepLive : Type 0
+LooksKeepLive =
+    (nodes : List NodeState) (network : List code.Message) (r : ℕ) (node made : NodeState) →
+    AreLive nodes network → slice_get nodes r ≡ Some node → made.replica ≡ node.replica →
+    AreLive (slice_set nodes r made) network

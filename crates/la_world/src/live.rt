@@ -1,0 +1,79 @@
+// What holds of every group of live nodes, over whatever transport: laws over the definitions, which no
+// code runs. The last seven are for programs that hold nodes and a network: an invariant over loops.
+ghost use Rattle.la_world.specs.LiveGroups.{LiveGroupsStandForEvents, LiveGroupsKeepAll};
+ghost use Rattle.la_world.specs.LiveGroups.{LiveLearntAreComparable, LiveViewsAreComparable};
+ghost use Rattle.la_world.specs.LiveGroups.{LiveNodesAreOneHistory, NewNodesAreLive};
+ghost use Rattle.la_world.specs.LiveGroups.{NetworksMayLose, SubmissionsKeepLive};
+ghost use Rattle.la_world.specs.LiveGroups.{ProposalsKeepLive, ReceiptsKeepLive, LooksKeepLive};
+ghost use Rattle.la_world.specs.Kept.{KeptListsLeadOn, KeptListsArePlayedAgain};
+
+/// A group that calls lead to stands for the events that these calls are: for the accepted updates,
+/// proposals and receipts, one after another, whatever the network loses, repeats or brings late.
+pub fn groups_stand_for_events()
+    ensures { LiveGroupsStandForEvents }
+{}
+
+/// So it keeps all that a world promises of these events: of what is learnt, of its nodes' views, and of
+/// what they return from adopt-commit objects.
+pub fn groups_keep_all_promises()
+    ensures { LiveGroupsKeepAll }
+{}
+
+/// Any two sets that nodes said they learnt in one instance are comparable.
+pub fn learnt_sets_are_comparable()
+    ensures { LiveLearntAreComparable }
+{}
+
+/// Any two views are: of whatever nodes, one at any moment and the other at the same or a later one.
+pub fn views_are_comparable()
+    ensures { LiveViewsAreComparable }
+{}
+
+/// Of the views of live nodes any two are comparable.
+pub fn live_nodes_are_one_history()
+    ensures { LiveNodesAreOneHistory }
+{}
+
+/// Nodes as [`Node::new`](crate::Node::new) makes them, one for each replica of a group, are live, with
+/// nothing on their network.
+pub fn new_nodes_are_live()
+    ensures { NewNodesAreLive }
+{}
+
+/// They stay so whatever the network loses, holds twice or brings late.
+pub fn networks_may_lose()
+    ensures { NetworksMayLose }
+{}
+
+/// They are live after a submission at one of them, with what it sends on the network.
+pub fn submissions_keep_live()
+    ensures { SubmissionsKeepLive }
+{}
+
+/// And after a proposal.
+pub fn proposals_keep_live()
+    ensures { ProposalsKeepLive }
+{}
+
+/// And after the receipt of a message on the network, by the node that it is for. The message stays
+/// there, as if the network held it twice.
+pub fn receipts_keep_live()
+    ensures { ReceiptsKeepLive }
+{}
+
+/// And after a call that leaves its replica as it was: a question, an object more or less.
+pub fn looks_keep_live()
+    ensures { LooksKeepLive }
+{}
+
+/// Where a list of accepted calls leads from a new replica to a node's, the list with the next call
+/// that the node accepts leads to its replica then.
+pub fn kept_lists_lead_on()
+    ensures { KeptListsLeadOn }
+{}
+
+/// Where a first part of such a list is played into a new node, the rest leads from there to where it
+/// led before.
+pub fn kept_lists_are_played_again()
+    ensures { KeptListsArePlayedAgain }
+{}
