@@ -1,7 +1,8 @@
--- Only the operations of an object's own kind count.
-use Rattle.std.proofs.Common.{◌≡◌, ℕ, max, Bool, true, false, true≢false, cond, ◌||◌, List, [], ◌∷◌, fold, filter, map as list_map, Option, None, refl, ap, sym, ◌∙◌, arith, inl, inr}
+-- Only the operations of an object's own kind on the object itself count.
+use Rattle.std.proofs.Common.{◌≡◌, ℕ, max, Bool, true, false, true≢false, cond, ◌+◌, ◌||◌, List, [], ◌∷◌, fold, filter, map as list_map, Option, Some, None, refl, ap, sym, ◌∙◌, subst, arith, inl, inr}
 use Rattle.std.specs.Prelude.{pos, ◌-ℤ◌}
 use Rattle.std.specs.List.{sum_by, list_any, filter_map, cons_option}
+use Rattle.std.specs.Option.{option_map}
 use Rattle.std.specs.Ordering.{eq_by_cmp}
 use Rattle.std.specs.FinMap as map
 use Rattle.std.proofs.lemmas.Bool.{cases_Bool}
@@ -15,11 +16,17 @@ use Rattle.la_object.specs.declared.kind.Kind.TheVariants.{Counter as CounterKin
 use Rattle.la_object.specs.declared.query.Query.{Query}
 use Rattle.la_object.specs.declared.query.Query.TheVariants.{Total, AtLeast, Largest, Has, Size, Items}
 use Rattle.la_object.specs.declared.query.Answer.TheVariants.{Total as TotalIs, Reached, Largest as LargestIs, Has as HasIs, Size as SizeIs, Items as ItemsAre}
+use Rattle.la_object.specs.declared.state.State.{State}
+use Rattle.la_object.specs.declared.state.State.TheVariants.{Counter, Max, Set}
 use Rattle.la_object.specs.IdOrder.{id_cmp}
 use Rattle.la_object.specs.Counter.{counts, increment, decrement, total, reaches}
 use Rattle.la_object.specs.MaxRegister.{raises, raised}
-use Rattle.la_object.specs.OrSet.{puts_or_removes, element, named, is_removed, live, present, element_set, is_element, live_tags}
-use Rattle.la_object.specs.Objects.{value, tags_by, is_of_kind, is_of_some_kind}
+use Rattle.la_object.specs.OrSet.{puts_or_removes, element, named, is_removed, live, present, element_set, is_element, live_tags, with_element, with_ids}
+use Rattle.la_object.specs.Objects.{value, tags_by, is_of_kind, is_of_some_kind, kind_of, start, after, steps}
+use Rattle.la_object.specs.Shelves.{ShelfState, kind_at, updates_at, operations_at, state_by, answer_at, tags_at, state_at}
+use Rattle.la_object.proofs.IdMaps.{with_ids-nil}
+use Rattle.la_object.proofs.Replies.{kind_of-after}
+use Rattle.la_object.proofs.Rows.{kind_of-start}
 
 -- ## What a kind takes from the operations of others
 
@@ -167,3 +174,32 @@ of_no_kind kind (Dec n) e = absurd (true≢false e)
 of_no_kind kind (Raise n) e = absurd (true≢false e)
 of_no_kind kind (Put x) e = absurd (true≢false e)
 of_no_kind kind (Remove ids) e = absurd (true≢false e)
+
+-- ## The state
+
+changes_nothing : (s : State) (u : Update) → is_of_kind (kind_of s) u.op ≡ false → after s u ≡ s
+changes_nothing (Counter up down) u other = λ i. Counter (same up (increment u.op) (no_increment u.op other) i) (same down (decrement u.op) (no_decrement u.op other) i)
+  where
+    same : (a n : ℕ) → n ≡ 0 → a + n ≡ a
+    same a n e = omega (arith, e)
+changes_nothing (Max most) u other = ap Max {x = max most (raised u.op)} {y = most} (omega (arith, no_raise u.op other))
+changes_nothing (Set adds gone) u other = (λ i. Set (with_element adds u.id (no_element u.op other i)) (with_ids gone (no_names u.op other i))) ∙ ap (Set adds) (with_ids-nil gone)
+
+pub steps-kept : (keeps : Update → Bool) (s : State) → LeavesOutOthers (kind_of s) keeps → (us : List Update) → steps s (filter keeps us) ≡ steps s us
+steps-kept keeps s others [] = refl
+steps-kept keeps s others (u ∷ us) = elim (cases_Bool (keeps u)) [
+  | inl is ↦ ap (λ b. steps s (cond b (u ∷ filter keeps us) (filter keeps us))) is ∙ steps-kept keeps (after s u) (subst (λ kind. LeavesOutOthers kind keeps) (sym (kind_of-after s u)) others) us
+  | inr not ↦ ap (λ b. steps s (cond b (u ∷ filter keeps us) (filter keeps us))) not ∙ steps-kept keeps s others us ∙ ap (λ t. steps t us) (sym (changes_nothing s u (others u not)))
+]
+
+-- ## A shelf's object, by the operations of its kind on it
+
+module _ (s : ShelfState) (number : ℕ) (kind : Kind) (here : kind_at s.objects number ≡ Some kind) where
+  pub answer-own : (query : Query) → answer_at s number query ≡ Some (value kind (operations_at s.view number kind) query)
+  answer-own query = ap (option_map (λ k. value k (updates_at s.view number) query)) here ∙ ap Some (sym (value-kept kind (λ u. is_of_kind kind u.op) (λ u not. not) (updates_at s.view number) query))
+
+  pub tags-own : (x : ℕ) → tags_at s number x ≡ Some (tags_by kind (operations_at s.view number kind) x)
+  tags-own x = ap (option_map (λ k. tags_by k (updates_at s.view number) x)) here ∙ ap Some (sym (tags_by-kept kind (λ u. is_of_kind kind u.op) (λ u not. not) (updates_at s.view number) x))
+
+  pub state-own : state_at s number ≡ Some (steps (start kind) (operations_at s.view number kind))
+  state-own = ap (option_map (state_by s.view number)) here ∙ ap Some (sym (steps-kept (λ u. is_of_kind kind u.op) (start kind) (subst (λ k. LeavesOutOthers k (λ u. is_of_kind kind u.op)) (sym (kind_of-start kind)) (λ u not. not)) (updates_at s.view number)))

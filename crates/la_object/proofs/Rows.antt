@@ -7,7 +7,7 @@ use Rattle.std.specs.Option.{option_map}
 use Rattle.std.proofs.lemmas.Bool.{eq-eqb, eqb-true}
 use Rattle.std.proofs.lemmas.Option.{same_Some, none-some, slice_get_within, get_or_from_slice_get}
 use Rattle.std.proofs.lemmas.List.{length-take, take_all}
-use Rattle.std.specs.Option.{IsSome}
+use Rattle.std.specs.Option.{IsSome, IsSomeAnd}
 use Rattle.std.proofs.lemmas.List.Elements.{All-map, All-weaker, All-cons, All-filter, All-head, All-tail, All-take, All-push}
 use Rattle.std.proofs.lemmas.List.Sorted.{All-permutation, IsPermutation-middle, IsPermutation-sym}
 use Rattle.indexmap.specs.IndexMap.{set_value_at}
@@ -19,7 +19,7 @@ use Rattle.la_object.specs.declared.kind.Kind.TheVariants.{Counter as CounterKin
 use Rattle.la_object.specs.declared.query.Query.{Query}
 use Rattle.la_object.specs.declared.query.Answer.{Answer}
 use Rattle.la_object.specs.declared.state.State.{State}
-use Rattle.la_object.specs.Objects.{after, steps, start, kind_of, HasRoom, of_object, reply, value, tags_of, tags_by}
+use Rattle.la_object.specs.Objects.{after, steps, start, kind_of, HasRoom, of_object, reply, value, tags_of, tags_by, answers_a_list}
 use Rattle.la_object.specs.Shelves.{kinds, IsObject, IsSmall, IsShelf, state_by, kind_at, updates_at, answer_at, tags_at, state_at}
 use Rattle.la_object.proofs.Replies.{kind_of-after, steps-HasRoom, reply-steps, tags-steps}
 use Rattle.la_object.proofs.NewUpdates.{length-filter-le}
@@ -206,6 +206,9 @@ module _ {B : Type 0} (view : Histories) (f : B → State) (k : ℕ) (es : List 
 
   pub lookup-kind : IsSome (kind_at (kinds (rows f es)) k)
   lookup-kind = subst IsSome (sym found_kind) refl
+
+  pub lookup-listing : (query : Query) → IsSomeAnd (kind_at (kinds (rows f es)) k) (λ kind. answers_a_list kind query ≡ false) → answers_a_list (kind_of (f v)) query ≡ false
+  lookup-listing query none = subst (λ o. IsSomeAnd o (λ kind. answers_a_list kind query ≡ false)) found_kind none
 
 pub none_from : {X : Type 0} (o : Option X) → false ≡ is_some o → o ≡ None
 none_from (Some x) e = absurd (true≢false (sym e))

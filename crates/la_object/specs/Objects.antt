@@ -10,6 +10,7 @@ use Rattle.la_set.specs.declared.update.Update.{Update}
 use Rattle.la_object.specs.declared.kind.Kind.{Kind}
 use Rattle.la_object.specs.declared.kind.Kind.TheVariants.{Counter as CounterKind, MaxRegister, OrSet}
 use Rattle.la_object.specs.declared.query.Query.{Query}
+use Rattle.la_object.specs.declared.query.Query.TheVariants.{Items}
 use Rattle.la_object.specs.declared.query.Answer.{Answer}
 use Rattle.la_object.specs.declared.state.State.{State}
 use Rattle.la_object.specs.declared.state.State.TheVariants.{Counter, Max, Set}
@@ -40,6 +41,13 @@ abbrev pub value : Kind → List Update → Query → Answer
 value CounterKind us query = counter_value us query
 value MaxRegister us query = register_value us query
 value OrSet us query = set_value us query
+
+-- whether a query is answered by a list, the only answer that takes memory
+abbrev pub answers_a_list : Kind → Query → Bool
+answers_a_list OrSet Items = true
+answers_a_list OrSet _ = false
+answers_a_list CounterKind query = false
+answers_a_list MaxRegister query = false
 
 -- the tags of an element that an object of a kind with these updates observes
 abbrev pub tags_by : Kind → List Update → ℕ → List UpdateId

@@ -1,6 +1,6 @@
 -- When each call is refused, and how: a word for each call, by cases over the error.
-use Rattle.std.specs.Prelude.{◌≡◌, ℕ, ◌<◌, List, length, Option, IsSome, IsSomeAnd, None}
-use Rattle.la_set.specs.declared.tags.TheConstants.{MAX_TAGS}
+use Rattle.std.specs.Prelude.{◌≡◌, ℕ, ◌<◌, ◌≤◌, List, length, Option, IsSome, IsSomeAnd, None}
+use Rattle.la_set.specs.declared.tags.TheConstants.{MAX_TAGS, INLINE_TAGS}
 use Rattle.la_set.specs.declared.update.UpdateId.{UpdateId}
 use Rattle.la_set.specs.Histories.{Histories}
 use Rattle.la_set.specs.Inclusion.{IsSubset}
@@ -16,11 +16,11 @@ use Rattle.la_object.specs.declared.error.AbsorbError.TheVariants.{Smaller, Memo
 use Rattle.la_object.specs.Objects.{IsFresh}
 use Rattle.la_object.specs.Shelves.{ShelfState, after_first}
 
--- what an object observes: more tags than a Remove may name; memory may run out before these are
--- counted
+-- what an object observes: more tags than a Remove may name, and else memory may run out where they
+-- are more than take none
 abbrev pub IsObserveRefusal : List UpdateId → ObserveError → Type 0
 IsObserveRefusal tags TagsTooMany = MAX_TAGS < length tags
-IsObserveRefusal tags ObserveMemory = Unit {0}
+IsObserveRefusal tags ObserveMemory = (INLINE_TAGS < length tags) × (length tags ≤ MAX_TAGS)
 
 -- an addition: a number that is there, and else an object that is not fresh, and else memory may
 -- run out
@@ -39,12 +39,13 @@ IsAskRefusal there Taken = ⊥
 IsAskRefusal there NotFresh = ⊥
 IsAskRefusal there TooManyTags = ⊥
 
--- the tags that an object observes: no such number, and else more tags than a Remove may name, or
--- memory ran out before
+-- the tags that an object observes: no such number, else more tags than a Remove may name, and else
+-- memory may run out where they are more than take none
 abbrev pub IsTagsRefusal : Option (List UpdateId) → ShelfError → Type 0
 IsTagsRefusal tags NoSuchObject = tags ≡ None
 IsTagsRefusal tags TooManyTags = IsSomeAnd tags (λ ids. MAX_TAGS < length ids)
-IsTagsRefusal tags Memory = IsSome tags
+IsTagsRefusal tags Memory =
+    IsSomeAnd tags (λ ids. (INLINE_TAGS < length ids) × (length ids ≤ MAX_TAGS))
 IsTagsRefusal tags Taken = ⊥
 IsTagsRefusal tags NotFresh = ⊥
 

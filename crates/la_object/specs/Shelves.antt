@@ -1,6 +1,6 @@
 -- A shelf, as contracts see it: the set of updates that was absorbed, and which kind of object has
 -- which number, in the order of addition.
-use Rattle.std.specs.Prelude.{◌≡◌, ℕ, ◌<◌, ◌^◌, nat_eq, List, ◌∷◌, take, fold, map, All, Option, option_map}
+use Rattle.std.specs.Prelude.{◌≡◌, ℕ, ◌<◌, ◌^◌, nat_eq, List, ◌∷◌, take, fold, map, filter, All, Option, Some, option_map}
 use Rattle.std.specs.Map.{lookup}
 use Rattle.indexmap.specs.IndexMap.{IndexMap}
 use Rattle.la_set.specs.declared.update.UpdateId.{UpdateId}
@@ -13,7 +13,7 @@ use Rattle.la_object.specs.declared.query.Query.{Query}
 use Rattle.la_object.specs.declared.query.Answer.{Answer}
 use Rattle.la_object.specs.declared.state.State.{State}
 use Rattle.la_object.specs.Counter.{increment, decrement}
-use Rattle.la_object.specs.Objects.{of_object, value, tags_by, start, kind_of, steps}
+use Rattle.la_object.specs.Objects.{of_object, is_of_kind, value, tags_by, start, kind_of, steps}
 
 pub record ShelfState : Type 0 where
   pub view : Histories
@@ -27,7 +27,11 @@ kind_at objects number = lookup (nat_eq number) objects
 abbrev pub updates_at : Histories → ℕ → List Update
 updates_at view number = of_object number (updates view)
 
--- the state that these lead an object to
+-- those of its kind
+abbrev pub operations_at : Histories → ℕ → Kind → List Update
+operations_at view number kind = filter (λ u. is_of_kind kind u.op) (updates_at view number)
+
+-- the state that an object's updates lead it to
 abbrev pub state_by : Histories → ℕ → Kind → State
 state_by view number kind = steps (start kind) (updates_at view number)
 
@@ -44,6 +48,12 @@ tags_at s number x =
 -- its state
 abbrev pub state_at : ShelfState → ℕ → Option State
 state_at s number = option_map (state_by s.view number) (kind_at s.objects number)
+
+-- two shelves have objects of one kind under a number, and their views the same operations on them
+pub record IsOneObject (number : ℕ) (kind : Kind) (a b : ShelfState) : Type 0 where
+  pub here : kind_at a.objects number ≡ Some kind
+  pub there : kind_at b.objects number ≡ Some kind
+  pub operations : operations_at a.view number kind ≡ operations_at b.view number kind
 
 -- the view after the first k of some updates
 abbrev pub after_first : Histories → ℕ → List Update → Histories

@@ -12,7 +12,7 @@ ghost use Rattle.la_object.specs.declared.state.State.{State};
 ghost use Rattle.la_object.specs.Objects.{after, steps, start, reply, value, tags_of, tags_by};
 ghost use Rattle.la_object.specs.Objects.{is_of_kind, is_of_some_kind};
 ghost use Rattle.la_object.specs.Shelves.{ShelfState, updates_at, kind_at, answer_at, tags_at};
-ghost use Rattle.la_object.specs.Shelves.{state_at};
+ghost use Rattle.la_object.specs.Shelves.{state_at, IsOneObject};
 ghost use Rattle.la_object.specs.OrSet.{is_removed, set_value};
 
 use crate::MAX_SUM;
@@ -36,8 +36,8 @@ pub fn order_does_not_matter()
         → tags_of (steps (start kind) order) x ≡ tags_by kind (updates_at set number) x }
 {}
 
-/// Only the operations of an object's own kind count: the answers over updates are those over the
-/// ones of the kind, and those over the ones that are no `Mark` and no `Vote`.
+/// Only the operations of an object's own kind count: the answers and the live tags over updates are
+/// those over the ones of the kind, and those over the ones that are no `Mark` and no `Vote`.
 pub fn only_own_operations_count()
     ensures own { (kind : Kind) (us : List Update) (query : Query)
         → value kind (filter (λ u. is_of_kind kind u.op) us) query ≡ value kind us query }
@@ -45,6 +45,20 @@ pub fn only_own_operations_count()
         → tags_by kind (filter (λ u. is_of_kind kind u.op) us) x ≡ tags_by kind us x }
     ensures marks { (kind : Kind) (us : List Update) (query : Query)
         → value kind (filter (λ u. is_of_some_kind u.op) us) query ≡ value kind us query }
+    ensures mark_tags { (kind : Kind) (us : List Update) (x : ℕ)
+        → tags_by kind (filter (λ u. is_of_some_kind u.op) us) x ≡ tags_by kind us x }
+{}
+
+/// Only the operations on an object itself count: two shelves with objects of one kind under a
+/// number, whose views have the same operations of that kind there, answer every query to them alike,
+/// observe the same tags, and retire the same state, whatever else their views have.
+pub fn other_objects_do_not_count()
+    ensures answers { (a b : ShelfState) (number : ℕ) (kind : Kind) (query : Query)
+        → IsOneObject number kind a b → answer_at a number query ≡ answer_at b number query }
+    ensures tags { (a b : ShelfState) (number : ℕ) (kind : Kind) (x : ℕ)
+        → IsOneObject number kind a b → tags_at a number x ≡ tags_at b number x }
+    ensures states { (a b : ShelfState) (number : ℕ) (kind : Kind)
+        → IsOneObject number kind a b → state_at a number ≡ state_at b number }
 {}
 
 /// Adds win: an element is in an observed-remove set where one of its updates is a Put of it whose

@@ -1,4 +1,4 @@
-ghost use Rattle.std.specs.Prelude.{◌≡◌, ◌↔◌, IsTrue, IfOk, IfErr, OnOk, OnErr};
+ghost use Rattle.std.specs.Prelude.{◌≡◌, ◌↔◌, false, IsTrue, IsOk, IfOk, IfErr, OnOk, OnErr};
 
 use crate::{Answer, Kind, ObserveError, Query, State};
 use la_set::{Tags, Update};
@@ -10,7 +10,8 @@ use std::alloc::AllocError;
 /// objects of a kind.
 pub trait Replicated: Drop + Send {
     ghost use Rattle.la_object.specs.declared.state.State.{State};
-    ghost use Rattle.la_object.specs.Objects.{after, reply, tags_of, kind_of, IsFresh, HasRoom};
+    ghost use Rattle.la_object.specs.Objects.{after, reply, tags_of, kind_of, answers_a_list};
+    ghost use Rattle.la_object.specs.Objects.{IsFresh, HasRoom};
     ghost use Rattle.la_object.specs.Refusals.{IsObserveRefusal};
 
     /// What it keeps of the updates that it absorbed.
@@ -38,15 +39,18 @@ pub trait Replicated: Drop + Send {
         ensures ok { OnOk result (state self.new ≡ after (state self.old) update.now) }
         ensures err { OnErr result (state self.new ≡ state self.old) };
 
-    /// Answers a query by the state: [`Answer::Foreign`], where it is not one of the kind's.
+    /// Answers a query by the state: [`Answer::Foreign`], where it is not one of the kind's. Only an
+    /// answer that is a list takes memory.
     fn ask(&self, query: &Query) -> Result<Answer, AllocError>
-        ensures { IfOk result (λ answer. answer ≡ reply (state self.now) query.now) };
+        ensures ok { IfOk result (λ answer. answer ≡ reply (state self.now) query.now) }
+        ensures room { answers_a_list (kind_of (state self.now)) query.now ≡ false → IsOk result };
 
     /// The live tags of an element: the ids of its Puts that no `Remove` names, which a `Remove` of
-    /// it is to name. Other kinds than an observed-remove set have none. Where memory is there
-    /// `TooManyTags` comes exactly where they are more than [`MAX_TAGS`].
+    /// it is to name. Other kinds than an observed-remove set have none. `TooManyTags` comes exactly
+    /// where they are more than [`MAX_TAGS`]; up to [`INLINE_TAGS`] of them take no memory.
     ///
     /// [`MAX_TAGS`]: la_set::MAX_TAGS
+    /// [`INLINE_TAGS`]: la_set::INLINE_TAGS
     fn observed(&self, element: u64) -> Result<Tags, ObserveError>
         ensures ok { IfOk result (λ tags. tags ≡ tags_of (state self.now) element) }
         ensures error { IfErr result (IsObserveRefusal (tags_of (state self.now) element)) };

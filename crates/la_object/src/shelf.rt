@@ -1,13 +1,13 @@
 ghost use Rattle.std.specs.Prelude.{◌≡◌, [], ◌∷◌, ◌++◌};
-ghost use Rattle.std.specs.Prelude.{map, length, slice_get, nat_eq, is_some, Some, None, Ok, IfOk};
-ghost use Rattle.std.specs.Prelude.{IfErr, OnOk, OnErr, MatchOption};
+ghost use Rattle.std.specs.Prelude.{map, length, slice_get, nat_eq, is_some, false, Some, None, Ok};
+ghost use Rattle.std.specs.Prelude.{IsSomeAnd, IsOk, IfOk, IfErr, OnOk, OnErr, MatchOption};
 ghost use Rattle.std.specs.Option.{option_copied};
 ghost use Rattle.std.specs.Map.{remove_entry};
 ghost use Rattle.la_set.specs.Histories.{empty, push, IsNext};
 ghost use Rattle.la_set.specs.Inclusion.{IsSubset};
 ghost use Rattle.la_set.specs.Join.{IsCompatible};
 ghost use Rattle.la_set.specs.Difference.{beyond};
-ghost use Rattle.la_object.specs.Objects.{kind_of, IsFresh};
+ghost use Rattle.la_object.specs.Objects.{kind_of, answers_a_list, IsFresh};
 ghost use Rattle.la_object.specs.Shelves.{kind_at, answer_at, tags_at, state_at, IsSmall};
 ghost use Rattle.la_object.specs.Shelves.{IsFirstBeyond};
 ghost use Rattle.la_object.specs.Refusals.{IsAddRefusal, IsAskRefusal, IsTagsRefusal};
@@ -77,9 +77,12 @@ impl<B: Replicated> Shelf<B> {
     }
 
     /// Asks the object under a number. The answer is what the query's definition says of the
-    /// object's updates of the view. `NoSuchObject` comes exactly where there is none.
+    /// object's updates of the view. `NoSuchObject` comes exactly where there is none. Only an answer
+    /// that is a list takes memory.
     pub fn ask(&self, number: u16, query: &Query) -> Result<Answer, ShelfError>
         ensures ok { IfOk result (λ answer. answer_at self.now number query.now ≡ Some answer) }
+        ensures room { IsSomeAnd (kind_at self.now.objects number)
+            (λ kind. answers_a_list kind query.now ≡ false) → IsOk result }
         ensures error { IfErr result (IsAskRefusal (kind_at self.now.objects number)) }
     {
         let Some(object) = self.objects.get(&number) else {
@@ -92,8 +95,8 @@ impl<B: Replicated> Shelf<B> {
     }
 
     /// The live tags of an element of the object under a number, by the view. `NoSuchObject` comes
-    /// exactly where there is none, and `TooManyTags`, where memory is there, exactly where the
-    /// live tags are more than a `Remove` may name.
+    /// exactly where there is none, and else `TooManyTags` exactly where the live tags are more than
+    /// a `Remove` may name. Up to [`INLINE_TAGS`](la_set::INLINE_TAGS) tags take no memory.
     pub fn observed(&self, number: u16, element: u64) -> Result<Tags, ShelfError>
         ensures ok { IfOk result (λ tags. tags_at self.now number element ≡ Some tags) }
         ensures error { IfErr result (IsTagsRefusal (tags_at self.now number element)) }

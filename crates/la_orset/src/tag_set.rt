@@ -58,8 +58,8 @@ impl TagSet {
         self.ids.remove(&id);
     }
 
-    /// The tags in ascending order, in one pass. Where memory is there `TooManyTags` comes exactly
-    /// where they are more than a `Remove` may name.
+    /// The tags in ascending order, in one pass. `TooManyTags` comes exactly where they are more than
+    /// a `Remove` may name; up to [`INLINE_TAGS`](la_set::INLINE_TAGS) of them take no memory.
     pub fn tags(&self, alloc: Global) -> Result<Tags, ObserveError>
         ensures ok { IfOk result (λ tags. tags ≡ map.keys self.now) }
         ensures error { IfErr result (IsObserveRefusal (map.keys self.now)) }

@@ -135,11 +135,12 @@ impl UpdateSet {
     }
 
     /// Takes a replica's last update out, and answers a copy of it, at logarithmic cost and that of
-    /// [`Update::copy`]. A replica of 8 or more, or one without updates, has none. After a refusal
-    /// the set is unchanged.
+    /// [`Update::copy`]. A replica of 8 or more, or one without updates, has none, and then it takes
+    /// no memory. After a refusal the set is unchanged.
     pub fn pop(&mut self, replica: u8) -> Result<Option<Update>, AllocError>
         ensures last { IfOk result (λ last. last ≡ last_update self.old replica) }
         ensures rest { OnOk result (self.new ≡ pop self.old replica) }
+        ensures room { count self.old replica ≡ 0 → IsOk result }
         ensures err { OnErr result (self.new ≡ self.old) }
     {
         let count = self.count_of(replica);

@@ -10,3 +10,6 @@ returns-clause-own_tags c kind us x = tags_by-kept kind (λ u. is_of_kind kind u
 
 pub returns-clause-marks : goal.returns-clause-marks
 returns-clause-marks c kind us query = value-kept kind (λ u. is_of_some_kind u.op) (λ u not. of_no_kind kind u.op not) us query
+
+pub returns-clause-mark_tags : goal.returns-clause-mark_tags
+returns-clause-mark_tags c kind us x = tags_by-kept kind (λ u. is_of_some_kind u.op) (λ u not. of_no_kind kind u.op not) us x
