@@ -70,7 +70,7 @@ submitted_by x t i r = go (submission_by x.event x.did) refl
 
 module _ (g : Group) (t : Trace) (h : Grouped g t) where
   -- where a ballot is open
-  open_grouped : (i r : ℕ) → IsIn (round t i r) (ballots t i r) → IsOfGroup g i r
+  pub open_grouped : (i r : ℕ) → IsIn (round t i r) (ballots t i r) → IsOfGroup g i r
   open_grouped i r is_in = AllIn_at (λ b. IsOfGroup g i r) (ballots t i r) (round t i r) (h.ballots i r) is_in
 
   counted_grouped : (m : Message) → counts t m ≡ true → IsOfGroup g m.instance m.to

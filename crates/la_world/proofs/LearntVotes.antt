@@ -1,16 +1,16 @@
 -- What a set holds that was learnt in an instance of an adopt-commit object, where no event is
 -- refused: only votes that were submitted there.
-use Rattle.std.proofs.Common.{◌≡◌, ℕ, zero, suc, ◌<◌, ◌≤◌, inl, inr, List, [], ◌∷◌, Contains, Some, sym, ◌∙◌, ap, subst, arith}
+use Rattle.std.proofs.Common.{◌≡◌, ℕ, zero, suc, ◌<◌, ◌≤◌, inl, inr, List, [], ◌∷◌, Contains, Some, option_and_then, sym, ◌∙◌, ap, subst, arith}
 use Rattle.std.proofs.lemmas.Bool.{cases_lt}
 use Rattle.std.proofs.lemmas.Option.{same_Some, none-some}
 use Rattle.la_set.specs.declared.update.Update.{Update}
-use Rattle.la_set.specs.ObjectOps.{ObjectOp, object_op_of}
+use Rattle.la_set.specs.ObjectOps.{ObjectOp, object_op_of, update_of}
 use Rattle.la_set.specs.Histories.{object_op_number, ContainsUpdate}
 use Rattle.la_set.specs.Inclusion.{IsSubset}
 use Rattle.la_set.proofs.SetHistories.{history_past}
 use Rattle.la_set.proofs.Inclusions.{object_op-contains}
 use Rattle.la_commit.specs.declared.vote.Vote.{Vote}
-use Rattle.la_commit.specs.Votes.{vote_of, votes, first_vote_for, second_vote_for, casts}
+use Rattle.la_commit.specs.Votes.{vote_of, votes, HoldsVote, first_vote_for, second_vote_for, casts}
 use Rattle.la_commit.proofs.Casting.{votes-cast}
 use Rattle.la_commit.specs.Instances.{first_instance, second_instance}
 use Rattle.la_world.specs.declared.step.Opening.{Opening}
@@ -30,7 +30,8 @@ use Rattle.la_world.proofs.SubmittedBound.{history-whole}
 use Rattle.la_world.proofs.Traces.{holds}
 use Rattle.la_world.proofs.Chains.{learning_justified}
 use Rattle.la_world.proofs.InGroup.{IsOfGroup, grouped}
-use Rattle.la_world.proofs.SubmittedVotes.{proposals, HasVoted, second_votes_cast}
+use Rattle.la_world.proofs.SubmittedVotes.{proposals, HasProposed, HasVoted, second_votes_cast}
+use Rattle.la_world.proofs.OwnUpdates.{learnt_first}
 
 -- ## One update
 
@@ -121,3 +122,32 @@ module _ (g : Group) (events : List Event) (few : replicas g ≤ 8) (legal : IsL
               is = casts_only u v y k cast.casts (numbered_one d u.id.number (object_op_of u) (submitted_at (second_instance k) at u cast.member (d ∷ []) w.all));
             }
       ]
+
+  -- ## The learner's own vote
+
+  abbrev r : ℕ
+  r = x.replica
+
+  abbrev own_op : ObjectOp
+  own_op = (learnt_first g events x was).object_op
+
+  own_submitted : (i : ℕ) → x.instance ≡ i → (ds : List ObjectOp) → submitted (trace g events) i r ≡ ds → object_op_number ds 1 ≡ Some own_op
+  own_submitted i at ds e = submitted_at i at (update_of r 1 own_op) (learnt_first g events x was).is ds e
+
+  own_casts : (k : ℕ) (v : Vote) → casts k v ≡ own_op → HoldsVote x.updates r v
+  own_casts k v same = ap (option_and_then (λ (u : Update). vote_of u.op)) (learnt_first g events x was).is ∙ sym (ap (λ (d : ObjectOp). vote_of d.op) same)
+
+  pub own_first : (k : ℕ) → x.instance ≡ first_instance k → (p : HasProposed events (trace g events) k r) × HoldsVote x.updates r (first_vote_for p.value)
+  own_first k at = elim (proposals g events legal k r) [
+    | inl none ↦ absurd (numbered_none 1 own_op (own_submitted (first_instance k) at [] none))
+    | inr p ↦ let d = casts k (first_vote_for p.value) in (p, own_casts k (first_vote_for p.value) (numbered_one d 1 own_op (own_submitted (first_instance k) at (d ∷ []) p.all)))
+  ]
+
+  pub own_second : (k : ℕ) → x.instance ≡ second_instance k → (w : HasVoted (trace g events) k r) × HoldsVote x.updates r (second_vote_for w.first.updates w.value)
+  own_second k at = elim (second_votes_cast g events legal k r) [
+    | inl none ↦ absurd (numbered_none 1 own_op (own_submitted (second_instance k) at [] none))
+    | inr w ↦
+        let v = second_vote_for w.first.updates w.value in
+        let d = casts k v in
+        (w, own_casts k v (numbered_one d 1 own_op (own_submitted (second_instance k) at (d ∷ []) w.all)))
+  ]

@@ -45,6 +45,8 @@ pub mod Worlds
 pub mod Noted
 pub mod Returned
 pub mod Playback
+pub mod OwnUpdates
+pub mod Staying
 pub mod SubmittedVotes
 pub mod LearntVotes
 pub mod Returns
@@ -53,10 +55,13 @@ pub mod Safe
 pub mod Asking
 pub mod Places
 pub mod Promised
+pub mod Outcomes
+pub mod WorldOutcomes
 pub mod WorldNodes
 pub mod Questions
 pub mod SubmittingOnce
 pub mod Voters
+pub mod Returning
 pub mod Nodes
 pub mod LiveGroups
 mod Repeats

@@ -55,15 +55,15 @@ learnt_only (Took s) b e f = none-some b e
 learnt_only Kept b e f = none-some b e
 learnt_only (Replied answer) b e f = none-some b e
 
--- the ballot in the first instance has ended, with an update of the replica's own
-pub record IsDone (t : Trace) (k r : ℕ) : Type 0 where
-  pub closed : is_open t (first_instance k) r ≡ false
-  pub voted : 1 ≤ count (round t (first_instance k) r).updates r
+-- the ballot in an instance has ended, with an update of the replica's own
+pub record IsDone (t : Trace) (i r : ℕ) : Type 0 where
+  pub closed : is_open t i r ≡ false
+  pub voted : 1 ≤ count (round t i r).updates r
 
 pub record VotesOnce (t : Trace) : Type 0 where
   pub first : (k r : ℕ) → length (submitted t (first_instance k) r) ≤ 1
   pub second : (k r : ℕ) → length (submitted t (second_instance k) r) ≤ 1
-  pub done : (k r : ℕ) → (submitted t (second_instance k) r ≡ []) ⊎ IsDone t k r
+  pub done : (k r : ℕ) → (submitted t (second_instance k) r ≡ []) ⊎ IsDone t (first_instance k) r
 
 -- ## One event more
 
@@ -89,15 +89,12 @@ module _ (g : Group) (t : Trace) (x : Entry) (h : Holds g t) (step_is : Step g t
       go None e = refl
       go (Some b) e = let p = only_is i r (opened_by x.did) b e in absurd (never b p.1 p.2 (step_opens g t x step_is b p.0).source)
 
-  still_done : (k r : ℕ) → length (submitted (x ∷ t) (first_instance k) r) ≤ 1 → IsDone t k r → IsDone (x ∷ t) k r
-  still_done k r le d = record {
+  pub still_done : (i r : ℕ) → length (submitted (x ∷ t) i r) ≤ 1 → IsDone t i r → IsDone (x ∷ t) i r
+  still_done i r le d = record {
     closed = go (only i r (learnt_by x.did)) refl;
     voted = subst (λ (b : Opening). 1 ≤ count b.updates r) (sym (round-same x t i r none)) d.voted;
   }
     where
-      i : ℕ
-      i = first_instance k
-
       none : only i r (opened_by x.did) ≡ None
       none = opens_none i r le d.voted (λ asks f. true≢false (sym asks ∙ d.closed))
 
@@ -105,21 +102,18 @@ module _ (g : Group) (t : Trace) (x : Entry) (h : Holds g t) (step_is : Step g t
       go None e = is_open-same x t i r none e ∙ d.closed
       go (Some b) e = is_open-learnt x t i r b none e
 
-  -- where the first ballot is learnt and leads to the vote
-  now_done : (k r : ℕ) → length (submitted (x ∷ t) (first_instance k) r) ≤ 1 → (b : Opening) (s : Submission) → learnt_by x.did ≡ Some b → second_vote b ≡ Some s → b.instance ≡ first_instance k → b.replica ≡ r → IsDone (x ∷ t) k r
-  now_done k r le b s e vote ei er = record {
+  -- where a ballot is learnt that has such an update
+  pub now_done : (i r : ℕ) → length (submitted (x ∷ t) i r) ≤ 1 → (b : Opening) → learnt_by x.did ≡ Some b → 1 ≤ count b.updates b.replica → b.instance ≡ i → b.replica ≡ r → IsDone (x ∷ t) i r
+  now_done i r le b e own_there ei er = record {
     closed = is_open-learnt x t i r b none (ap (only i r) e ∙ only_of i r b (record { instance = ei; replica = er }));
     voted = subst (λ (c : Opening). 1 ≤ count c.updates r) (sym (round-same x t i r none)) voted_before;
   }
     where
-      i : ℕ
-      i = first_instance k
-
       last : round t i r ≡ b
       last = subst₂ (λ j q. round t j q ≡ b) ei er (event_learns g t x.event x.delivered x.did step_is.cases b e).is_last
 
       voted_before : 1 ≤ count (round t i r).updates r
-      voted_before = subst (λ (c : Opening). 1 ≤ count c.updates r) (sym last) (subst (λ q. 1 ≤ count b.updates q) er (has_voted b s vote))
+      voted_before = subst (λ (c : Opening). 1 ≤ count c.updates r) (sym last) (subst (λ q. 1 ≤ count b.updates q) er own_there)
 
       none : only i r (opened_by x.did) ≡ None
       none = opens_none i r le voted_before (λ asks f. learnt_only x.did b e f)
@@ -153,7 +147,7 @@ module _ (g : Group) (t : Trace) (h : Holds g t) (v : VotesOnce t) where
   ]
 
   -- a second vote comes by a learning in the first instance
-  second_at : (e : Event) → refused g t e ≡ None → (k r : ℕ) → IsSubmitted (entry g t e) t (second_instance k) r → IsDone (entry g t e ∷ t) k r × (length (submitted (entry g t e ∷ t) (second_instance k) r) ≤ 1)
+  second_at : (e : Event) → refused g t e ≡ None → (k r : ℕ) → IsSubmitted (entry g t e) t (second_instance k) r → IsDone (entry g t e ∷ t) (first_instance k) r × (length (submitted (entry g t e ∷ t) (second_instance k) r) ≤ 1)
   second_at (Submit q object_op) allowed k r s =
       let at : 0 ≡ second_instance k = ap (λ (z : Submission). z.instance) (same_Some _ s.submission s.by) ∙ s.instance in
       absurd (omega (arith, at))
@@ -168,7 +162,7 @@ module _ (g : Group) (t : Trace) (h : Holds g t) (v : VotesOnce t) where
       let ei : b.instance ≡ first_instance k = voted_first b.instance k is.0 (sym is.1 ∙ s.instance) in
       let er : b.replica ≡ r = sym is.2 ∙ s.replica in
       let asking = subst₂ (λ i q. is_open t i q ≡ true) ei er (event_learns g t x.event x.delivered x.did (step g t (Deliver j)).cases b w.1).asking in (
-        now_done g t x h (step g t (Deliver j)) k r (first_more (Deliver j) allowed k r) b s.submission w.1 w.2 ei er,
+        now_done g t x h (step g t (Deliver j)) (first_instance k) r (first_more (Deliver j) allowed k r) b w.1 (has_voted b s.submission w.2) ei er,
         elim (v.done k r) [
           | inl none ↦ omega (arith, ap length none, ap length s.all ∙ length_push (submitted t (second_instance k) r) s.submission.object_op)
           | inr d ↦ absurd (true≢false (sym asking ∙ d.closed))
@@ -186,7 +180,7 @@ module _ (g : Group) (t : Trace) (h : Holds g t) (v : VotesOnce t) where
     done = λ k r. elim (submitted_by (entry g t e) t (second_instance k) r) [
       | inl same ↦ elim (v.done k r) [
         | inl none ↦ inl (same ∙ none)
-        | inr d ↦ inr (still_done g t (entry g t e) h (step g t e) k r (first_more e allowed k r) d)
+        | inr d ↦ inr (still_done g t (entry g t e) h (step g t e) (first_instance k) r (first_more e allowed k r) d)
       ]
       | inr s ↦ inr (second_at e allowed k r s).0
     ];
@@ -204,7 +198,7 @@ votes_once g (e ∷ events) legal = votes_more g (trace g events) (holds g event
 -- ## Every instance
 
 -- an instance above 0 is one of an object's
-once : (t : Trace) (i r : ℕ) → VotesOnce t → (i ≡ 0 → ⊥) → length (submitted t i r) ≤ 1
+pub once : (t : Trace) (i r : ℕ) → VotesOnce t → (i ≡ 0 → ⊥) → length (submitted t i r) ≤ 1
 once t zero r v some = absurd (some refl)
 once t (suc i) r v some = go (i % 2) refl
   where

@@ -360,6 +360,13 @@ module _ (c : Config) (nodes : List NodeState) (journal : Journal) (invariant : 
   follows : IsFollowing following r
   follows = subst (λ o. IsSomeAnd o (λ (z : ShelfState). view_in following r ≡ Some z.view)) (sym following_found) (ap (option_map (λ (m : ReplicaState). m.view)) (replica_found nodes r n found))
 
+  -- its shelf has absorbed all of its view
+  pub look_follows : (made : NodeState) → made ≡ with_shelf n (followed n) → IsFollowing (world_of_nodes c (slice_set nodes r made) journal) r
+  look_follows made made_is = subst (λ v. IsFollowing v r)
+      (sym (looked nodes r n found c made journal (ap (λ (m : NodeState). m.replica) made_is)
+      ∙ ap (λ (m : NodeState). world_of c (replicas_of nodes) (slice_set (shelves_of nodes) r m.shelf) journal) made_is))
+      follows
+
   pub tags_told : (events : List Event) → StandsFor now events → (object element : ℕ) → tags_of (group_in now) (trace (group_in now) events) r object element ≡ tags_at (followed n) object element
   tags_told events stands object element = tags_kept now following following_keeps events stands r object element (followed n) following_found follows
 

@@ -3,7 +3,7 @@
 use Rattle.std.proofs.Common.{◌≡◌, ℕ, ◌≤◌, ◌==◌, ◌&&◌, Bool, true, false, cond, [], ◌∷◌, ◌++◌, length, Option, Some, IsSome, refl, ap, sym, ◌∙◌, subst, arith}
 use Rattle.std.proofs.lemmas.Bool.{true≢false}
 use Rattle.std.proofs.lemmas.List.{length-append}
-use Rattle.std.proofs.lemmas.Option.{none-some}
+use Rattle.std.proofs.lemmas.Option.{none-some, same_Some}
 use Rattle.la_set.specs.ObjectOps.{ObjectOp}
 use Rattle.la_set.specs.Histories.{Histories, history}
 use Rattle.la_set.specs.Inclusion.{is_larger}
@@ -114,26 +114,28 @@ module _ (p : ProposerState) (learnt : Option Ballot) (is : SubmitsOnce p learnt
 -- how an instance of an object goes on
 pub record Advances (x y : Instance) : Type 0 where
   pub once : SubmitsOnce y.proposer y.learnt
-  pub learnt : IsSome x.learnt → IsSome y.learnt
+  pub learnt : IsSome x.learnt → y.learnt ≡ x.learnt
   pub submitted : 1 ≤ submitted y.proposer → 1 ≤ submitted x.proposer
 
-learnt_still : (o : Option Ballot) (n : ℕ) (h : Heard) → IsSome o → IsSome (last_learnt_after o n h)
-learnt_still o n heard.Counted some = some
-learnt_still o n heard.Ignored some = some
-learnt_still o n (heard.Refined b) some = some
-learnt_still o n (heard.Learnt s next) some = refl
+-- what was learnt stays, since no reply counts then
+learnt_still : (p : ProposerState) (o : Option Ballot) → SubmitsOnce p o → (from ballot : ℕ) (reply : Reply) → IsSome o → last_learnt_after o ballot (heard_of p from ballot reply) ≡ o
+learnt_still p o is from ballot reply some = go (counts p from ballot) refl
+  where
+    go : (b : Bool) → counts p from ballot ≡ b → last_learnt_after o ballot (cond b (heard_counting (with_reply p from reply)) heard.Ignored) ≡ o
+    go false e = refl
+    go true e = absurd (none_learnt p o is (counts_open p from ballot e) some)
 
 same_advances : (x y : Instance) → y.proposer ≡ x.proposer → y.learnt ≡ x.learnt → SubmitsOnce x.proposer x.learnt → Advances x y
 same_advances x y pe le is = record {
   once = subst (λ (z : ProposerState × Option Ballot). SubmitsOnce z.0 z.1) (λ j. (sym pe j, sym le j)) is;
-  learnt = λ some. subst IsSome (sym le) some;
+  learnt = λ some. le;
   submitted = λ some. subst (λ z. 1 ≤ submitted z) pe some;
 }
 
 reply_advances : (s : Sender) (x : Instance) (view : Histories) (m : Message) (reply : Reply) → SubmitsOnce x.proposer x.learnt → Advances x (steps.hears s x view m reply).at
 reply_advances s x view m reply is = record {
   once = replied_once x.proposer x.learnt is m.from m.ballot reply;
-  learnt = learnt_still x.learnt m.ballot (heard_of x.proposer m.from m.ballot reply);
+  learnt = learnt_still x.proposer x.learnt is m.from m.ballot reply;
   submitted = replied_before x.proposer x.learnt is m.from m.ballot reply;
 }
 
@@ -158,11 +160,11 @@ learning_counts p from ballot reply s e = go (counts p from ballot) e
     go true h = refl
     go false h = absurd (none-some s h)
 
-learning_keeps : (o : Option Ballot) (n : ℕ) (h : Heard) (s : Histories) → learnt_in (said_of h) ≡ Some s → IsSome (last_learnt_after o n h)
+learning_keeps : (o : Option Ballot) (n : ℕ) (h : Heard) (s : Histories) → learnt_in (said_of h) ≡ Some s → last_learnt_after o n h ≡ Some (record { number = n; updates = s })
 learning_keeps o n heard.Counted s e = absurd (none-some s e)
 learning_keeps o n heard.Ignored s e = absurd (none-some s e)
 learning_keeps o n (heard.Refined b) s e = absurd (none-some s e)
-learning_keeps o n (heard.Learnt t next) s e = refl
+learning_keeps o n (heard.Learnt t next) s e = ap (λ u. Some (record { number = n; updates = u })) (same_Some t s e)
 
 -- what it comes to where it is a reply; nothing else learns
 abbrev pub Counting : Instance → Message → Body → Type 0
@@ -177,7 +179,7 @@ body_counts s x view m Yes set e = learning_counts x.proposer m.from m.ballot re
 body_counts s x view m (No accepted) set e = learning_counts x.proposer m.from m.ballot (replied.No accepted) set e
 body_counts s x view m (Tell told) set e = told_none (s.instance == 0) (is_larger view told) told set e
 
-pub body_learns : (s : Sender) (x : Instance) (view : Histories) (m : Message) (b : Body) (set : Histories) → learnt_in (receives_body s x view m b).said ≡ Some set → (x.proposer.is_asking ≡ true) × IsSome (receives_body s x view m b).at.learnt
+pub body_learns : (s : Sender) (x : Instance) (view : Histories) (m : Message) (b : Body) (set : Histories) → learnt_in (receives_body s x view m b).said ≡ Some set → (x.proposer.is_asking ≡ true) × ((receives_body s x view m b).at.learnt ≡ Some (record { number = m.ballot; updates = set }))
 body_learns s x view m (Offer offered) set e = absurd (none-some set e)
 body_learns s x view m Yes set e = (counts_open x.proposer m.from m.ballot (learning_counts x.proposer m.from m.ballot replied.Yes set e), learning_keeps x.learnt m.ballot (heard_of x.proposer m.from m.ballot replied.Yes) set e)
 body_learns s x view m (No accepted) set e = (counts_open x.proposer m.from m.ballot (learning_counts x.proposer m.from m.ballot (replied.No accepted) set e), learning_keeps x.learnt m.ballot (heard_of x.proposer m.from m.ballot (replied.No accepted)) set e)

@@ -72,7 +72,7 @@ module _ (r : ReplicaState) (i : ℕ) (x y : Instance) (view : Histories) (at : 
       ]
 
 -- what a step comes to, where there is such an instance
-stepped : (r : ReplicaState) (i : ℕ) (f : Instance → Step) (out : Out) (end : ReplicaState) (o : Option Instance) → slice_get r.instances i ≡ o → option_map (λ x. after_step r i (f x)) o ≡ Some (out, end)
+pub stepped : (r : ReplicaState) (i : ℕ) (f : Instance → Step) (out : Out) (end : ReplicaState) (o : Option Instance) → slice_get r.instances i ≡ o → option_map (λ x. after_step r i (f x)) o ≡ Some (out, end)
     → (x : Instance) × (slice_get r.instances i ≡ Some x) × (out.said ≡ (f x).said) × (end ≡ with_instance r i (f x).at (f x).view)
 stepped r i f out end None at made = absurd (none-some _ made)
 stepped r i f out end (Some x) at made =
@@ -96,13 +96,13 @@ spares_unused : (p : ProposerState) → p.number ≡ 0 → SubmissionSpends p �
 spares_unused p e h = let most = h.1 in omega (arith, most, e)
 
 -- a second vote that is due: by this set, in the second instance of the same object
-record IsVoteOf (i : ℕ) (vote : Submission) (o : Option Histories) : Type 0 where
-  set : Histories
-  learnt : o ≡ Some set
-  first : is_first_instance i ≡ true
-  second : vote.instance ≡ second_instance (commit_of i)
+pub record IsVoteOf (i : ℕ) (vote : Submission) (o : Option Histories) : Type 0 where
+  pub set : Histories
+  pub learnt : o ≡ Some set
+  pub first : is_first_instance i ≡ true
+  pub second : vote.instance ≡ second_instance (commit_of i)
 
-due_is : (i r : ℕ) (o : Option Histories) (vote : Submission) → option_and_then (second_vote_in i r) o ≡ Some vote → IsVoteOf i vote o
+pub due_is : (i r : ℕ) (o : Option Histories) (vote : Submission) → option_and_then (second_vote_in i r) o ≡ Some vote → IsVoteOf i vote o
 due_is i r None vote e = absurd (none-some vote e)
 due_is i r (Some s) vote e =
     let b : Opening = record { replica = r; instance = i; ballot = 0; updates = s } in
@@ -120,15 +120,15 @@ module _ (r : ReplicaState) (m : Message) (out : Out) (after : ReplicaState) (is
   abbrev f : Instance → Step
   f x = steps.receives (sender_of r m.instance) x r.view m
 
-  step : (x : Instance) × (slice_get r.instances m.instance ≡ Some x) × (out.said ≡ (f x).said) × (after ≡ with_instance r m.instance (f x).at (f x).view)
+  pub step : (x : Instance) × (slice_get r.instances m.instance ≡ Some x) × (out.said ≡ (f x).said) × (after ≡ with_instance r m.instance (f x).at (f x).view)
   step = stepped r m.instance f out after (slice_get r.instances m.instance) refl made
 
-  advances : 0 < m.instance → Advances step.0 (f step.0).at
+  pub advances : 0 < m.instance → Advances step.0 (f step.0).at
   advances lt = body_advances (sender_of r m.instance) step.0 r.view m m.body (is.once m.instance step.0 lt step.1)
 
   pub receipt_participates : IsParticipant after
   receipt_participates = subst IsParticipant (sym step.3)
-      (participates r m.instance step.0 (f step.0).at (f step.0).view step.1 is (λ lt. (advances lt).once) (λ lt. (advances lt).learnt) (λ lt some. inl ((advances lt).submitted some)))
+      (participates r m.instance step.0 (f step.0).at (f step.0).view step.1 is (λ lt. (advances lt).once) (λ lt some. subst IsSome (sym ((advances lt).learnt some)) some) (λ lt some. inl ((advances lt).submitted some)))
 
   -- ## The second vote
 
@@ -139,11 +139,11 @@ module _ (r : ReplicaState) (m : Message) (out : Out) (after : ReplicaState) (is
     abbrev k : ℕ
     k = commit_of m.instance
 
-    is_first : m.instance ≡ first_instance k
+    pub is_first : m.instance ≡ first_instance k
     is_first = let odd = eqb-true (m.instance % 2) 1 is_due.first in omega (arith, div-add-mod m.instance 2, odd)
 
     learning : (step.0.proposer.is_asking ≡ true) × IsSome (f step.0).at.learnt
-    learning = body_learns (sender_of r m.instance) step.0 r.view m m.body is_due.set (ap learnt_in (sym step.2) ∙ is_due.learnt)
+    learning = let both = body_learns (sender_of r m.instance) step.0 r.view m m.body is_due.set (ap learnt_in (sym step.2) ∙ is_due.learnt) in (both.0, subst IsSome (sym both.1) refl)
 
     within : vote.instance < length r.instances
     within =

@@ -68,7 +68,7 @@ module _ (g : Group) (t : Trace) (k : ℕ) (m : Message) (there : m.instance < i
   x = entry_of (Deliver k) (Some m) (did.Learnt last (Some next))
 
   -- this is what the delivery does
-  did_is : receives g t (Some m) ≡ did.Learnt last (Some next)
+  pub did_is : receives g t (Some m) ≡ did.Learnt last (Some next)
   unfolding after_learning
   did_is =
       does_learn g t m (vote_at j r object_op) l

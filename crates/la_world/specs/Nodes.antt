@@ -8,6 +8,8 @@ use Rattle.la_proposer.specs.ProposerState.{ProposerState, submitted}
 use Rattle.la_commit.specs.declared.instance.TheConstants.{MAX_COMMITS}
 use Rattle.la_commit.specs.declared.outcome.Outcome.{Outcome}
 use Rattle.la_commit.specs.Instances.{first_instance, second_instance}
+use Rattle.la_object.specs.declared.error.ShelfError.{ShelfError}
+use Rattle.la_object.specs.declared.error.ShelfError.TheVariants.{NoSuchObject, TooManyTags}
 use Rattle.la_object.specs.Shelves.{ShelfState}
 use Rattle.la_replica.specs.declared.instance.Instance.{Instance}
 use Rattle.la_replica.specs.declared.out.Said.{Said}
@@ -18,6 +20,7 @@ use Rattle.la_world.specs.declared.error.WorldError.{WorldError}
 use Rattle.la_world.specs.declared.error.WorldError.TheVariants.{BadConfig, NoSuchReplica, NoSuchCommit, AlreadyProposed, Memory}
 use Rattle.la_world.specs.Groups.{IsConfig}
 use Rattle.la_world.specs.Outcomes.{outcome_in}
+use Rattle.la_world.specs.Calls.{returned_by}
 
 pub record NodeState : Type 0 where
   pub replica : ReplicaState
@@ -30,6 +33,13 @@ followed n = record { view = n.replica.view; objects = n.shelf.objects }
 -- with this shelf
 abbrev pub with_shelf : NodeState → ShelfState → NodeState
 with_shelf n shelf = record { replica = n.replica; shelf = shelf }
+
+-- what is left where tags of an object on its shelf were not told: the same node, or one whose shelf
+-- has absorbed the view; where memory ran out it may have absorbed a part
+abbrev pub LeftUntold : ShelfError → (before after : NodeState) → Type 0
+LeftUntold NoSuchObject before after = after ≡ before
+LeftUntold TooManyTags before after = after ≡ with_shelf before (followed before)
+LeftUntold _ before after = Unit {0}
 
 -- the replicas of a group's nodes, from 0 on
 abbrev pub replicas_of : List NodeState → List ReplicaState
@@ -103,3 +113,14 @@ IsProposeRefusal r k _ = ⊥
 -- what a replica returns, once it has said this of a message of instance i
 abbrev pub outcome_due : (i r : ℕ) → Said → Option Outcome
 outcome_due i r said = option_and_then (outcome_in i r) (learnt_in said)
+
+-- what a replica returned from an object it still returns
+abbrev pub OutcomesStayIn : (before after : ReplicaState) → Type 0
+OutcomesStayIn before after = (k : ℕ) (o : Outcome) →
+    returned_by k before ≡ Some o → returned_by k after ≡ Some o
+
+-- an outcome that is told where a message of instance i was received is what the replica returns
+-- from then on, where i is the second instance of an object
+abbrev pub ReturnsIn : (i : ℕ) → (told : Option Outcome) → (after : ReplicaState) → Type 0
+ReturnsIn i told after = (k : ℕ) (o : Outcome) →
+    i ≡ second_instance k → told ≡ Some o → returned_by k after ≡ Some o

@@ -21,6 +21,7 @@ ghost use Rattle.la_world.specs.Calls.{returned_by};
 ghost use Rattle.la_world.specs.Following.{takes, whole_done};
 ghost use Rattle.la_world.specs.Nodes.{followed, with_shelf, MayStart, node_at_start};
 ghost use Rattle.la_world.specs.Nodes.{IsStartRefusal, IsProposeRefusal, outcome_due};
+ghost use Rattle.la_world.specs.Nodes.{OutcomesStayIn, ReturnsIn, LeftUntold};
 
 use crate::participant::{for_memory, outcome_by, returned, take_prepared};
 use crate::{Config, Done, WorldError};
@@ -36,7 +37,8 @@ use std::marker::Model;
 pub struct Received {
     /// What its replica did, with the second vote, and what it sends.
     pub done: Done,
-    /// What it returns from an adopt-commit object, where it learnt a set in the second instance.
+    /// What it returns from an adopt-commit object, where it learnt a set in the second instance: from
+    /// then on [`Node::outcome`] answers this.
     pub outcome: Option<Outcome>,
 }
 
@@ -129,7 +131,7 @@ impl<B: Replicated> Node<B> {
     }
 
     /// What it returned from an adopt-commit object; `None` where it has not, or there is no such
-    /// object. The cost is that of a pass over the votes.
+    /// object. Once there, it is the same after every call. The cost is that of a pass over the votes.
     pub fn outcome(&self, commit: u8) -> Option<Outcome>
         ensures { result ≡ returned_by commit self.now.replica }
     {
@@ -157,6 +159,7 @@ impl<B: Replicated> Node<B> {
         ensures spares { OnOk result (SubmittingSpares self.old.replica 0) }
         ensures shelf { self.new.shelf ≡ self.old.shelf }
         ensures grows { IsSubset self.old.replica.view self.new.replica.view }
+        ensures stays { OutcomesStayIn self.old.replica self.new.replica }
         ensures error { IfErr result (IsSubmitRefusal self.old.replica 0) }
         ensures err { OnErr result (self.new ≡ self.old) }
     {
@@ -176,6 +179,7 @@ impl<B: Replicated> Node<B> {
             (submitted_in self.old.replica (first_instance commit) ≡ Some 0) }
         ensures shelf { self.new.shelf ≡ self.old.shelf }
         ensures grows { IsSubset self.old.replica.view self.new.replica.view }
+        ensures stays { OutcomesStayIn self.old.replica self.new.replica }
         ensures error { IfErr result (IsProposeRefusal self.old.replica commit) }
         ensures err { OnErr result (self.new ≡ self.old) }
     {
@@ -219,10 +223,13 @@ impl<B: Replicated> Node<B> {
             ≡ Some (whole_done received.done, self.new.replica)) }
         ensures outcome { IfOk result (λ received. received.outcome ≡ outcome_due
             message.now.instance self.old.replica.own received.done.said) }
+        ensures returns { IfOk result (λ received.
+            ReturnsIn message.now.instance received.outcome self.new.replica) }
         ensures fits { OnOk result (IsReceivable self.old.replica (whole_of message.now)) }
         ensures spares { OnOk result (ReceivingSpares self.old.replica (whole_of message.now)) }
         ensures shelf { self.new.shelf ≡ self.old.shelf }
         ensures grows { IsSubset self.old.replica.view self.new.replica.view }
+        ensures stays { OutcomesStayIn self.old.replica self.new.replica }
         ensures error { IfErr result (IsReceiveRefusal self.old.replica (whole_of message.now)) }
         ensures err { OnErr result (self.new ≡ self.old) }
     {
@@ -242,8 +249,11 @@ impl<B: Replicated> Node<B> {
             ≡ Some (whole_done received.done, self.new.replica)) }
         ensures outcome { IfOk result (λ received. received.outcome ≡ outcome_due
             message.now.instance self.old.replica.own received.done.said) }
+        ensures returns { IfOk result (λ received.
+            ReturnsIn message.now.instance received.outcome self.new.replica) }
         ensures shelf { self.new.shelf ≡ self.old.shelf }
         ensures grows { IsSubset self.old.replica.view self.new.replica.view }
+        ensures stays { OutcomesStayIn self.old.replica self.new.replica }
         ensures err { OnErr result (self.new ≡ self.old) }
     {
         let own = self.replica.own();
@@ -261,8 +271,12 @@ impl<B: Replicated> Node<B> {
         ensures step { IfOk result (λ taken. takes self.old.replica (whole_of message.now)
             ≡ Some (whole_done taken.0, self.new.replica)) }
         ensures learnt { IfOk result (λ taken. taken.1 ≡ learnt_in taken.0.said) }
+        ensures returns { IfOk result (λ taken. ReturnsIn message.now.instance
+            (outcome_due message.now.instance self.old.replica.own taken.0.said)
+            self.new.replica) }
         ensures shelf { self.new.shelf ≡ self.old.shelf }
         ensures grows { IsSubset self.old.replica.view self.new.replica.view }
+        ensures stays { OutcomesStayIn self.old.replica self.new.replica }
         ensures err { OnErr result (self.new ≡ self.old) }
     {
         let (out, change) = self.replica.prepare_fitting(message)?;
@@ -324,13 +338,15 @@ impl<B: Replicated> Node<B> {
     /// The live tags of an element of an object on the shelf, by the view, which the shelf absorbs
     /// first: what a `Remove` of it submitted here is to name. The cost is that of a question.
     ///
-    /// `NoSuchObject` comes where there is none under the number; else `TooManyTags` (over 64), or
-    /// `Memory`. The shelf may have absorbed some of the view, by which no later answer differs.
+    /// `NoSuchObject` comes where there is none under the number, and leaves the node as it was; else
+    /// `TooManyTags` (over 64), once the view is absorbed, or `Memory`, after which the shelf may have
+    /// absorbed some of it, by which no later answer differs.
     pub fn observed(&mut self, object: u16, element: u64) -> Result<Tags, ShelfError>
         ensures ok { IfOk result (λ tags.
             tags_at (followed self.old) object element ≡ Some tags) }
         ensures follows { OnOk result (self.new ≡ with_shelf self.old (followed self.old)) }
         ensures error { IfErr result (IsTagsRefusal (tags_at (followed self.old) object element)) }
+        ensures err { IfErr result (λ e. LeftUntold e self.old self.new) }
         ensures replica { self.new.replica ≡ self.old.replica }
         ensures objects { self.new.shelf.objects ≡ self.old.shelf.objects }
         ensures within { IsSubset self.new.shelf.view self.new.replica.view }

@@ -11,6 +11,8 @@ ghost use Rattle.la_world.specs.Calls.{view_at, view_in, view_of, views_of, deci
 ghost use Rattle.la_world.specs.Calls.{returned_in, returned_of, report_with, report_after};
 ghost use Rattle.la_world.specs.Laws.{IsAdoptCommit};
 ghost use Rattle.la_world.specs.Promises.{KeepsPromises, NoViewShrinks};
+ghost use Rattle.la_world.specs.Returning.{ShowsOutcome, ShowsVote, OutcomesStayThere};
+ghost use Rattle.la_world.specs.Returning.{AnswersAreListed};
 
 mod deliveries;
 mod questions;
@@ -97,7 +99,8 @@ impl<B: Replicated> World<B> {
     /// accepted.
     ///
     /// A replica that learns a set in the first instance of an adopt-commit object casts its second
-    /// vote in the same step; by the set that it learns in the second one it returns its outcome.
+    /// vote in the same step; by the set that it learns in the second one it returns its outcome, which
+    /// the step shows, and which stays whatever is played later.
     ///
     /// At a question the shelf absorbs the replica's view, and the answer is the query's value over
     /// that. It is an event as any other: it takes a place.
@@ -116,6 +119,15 @@ impl<B: Replicated> World<B> {
             self.new.learnt (views_of self.new.replica_states)) }
         ensures views { (events : Past) → StandsFor self.old events →
             OnOk result (NoViewShrinks self.old self.new) }
+        ensures outcome { (events : Past) → StandsFor self.old events →
+            IfOk result (λ step. ShowsOutcome step.did self.new) }
+        ensures vote { (events : Past) → StandsFor self.old events →
+            IfOk result (λ step. ShowsVote step.did) }
+        ensures stays { (events : Past) → StandsFor self.old events →
+            OutcomesStayThere self.old self.new }
+        ensures listed { (events : Past) → StandsFor self.old events → AnswersAreListed self.new }
+        ensures safe { (events : Past) → StandsFor self.old events → OnOk result
+            (IsAdoptCommit (event_of event.now ∷ events) (decisions_in self.new)) }
         ensures printable { IfOk result IsPrintable }
         ensures error { (events : Past) → StandsFor self.old events →
             IfErr result (Refuses self.old events (event_of event.now)) }
@@ -204,13 +216,17 @@ impl<B: Replicated> World<B> {
     }
 
     /// What a replica returned from an adopt-commit object; `None` where it has not, or the group
-    /// has no such replica, or no such object. The cost is that of a pass over the votes, of which
-    /// there is one a replica.
+    /// has no such replica, or no such object. Where one answer is a commit, each one of its object has
+    /// its value, also from another moment. The cost is that of a pass over the votes, of which there is
+    /// one a replica.
     #[tactic(auto, using(crate::proofs::Returned::returned_found))]
     pub fn outcome(&self, commit: u8, replica: u8) -> Option<Outcome>
         ensures value { result ≡ returned_in self.now commit replica }
         ensures stands { (events : Past) → StandsFor self.now events → result
             ≡ returned_of (group_in self.now) (trace_in self.now events) commit replica }
+        ensures listed { (events : Past) → StandsFor self.now events → AnswersAreListed self.now }
+        ensures safe { (events : Past) → StandsFor self.now events →
+            IsAdoptCommit events (decisions_in self.now) }
     {
         self.returned_from(commit, replica)
     }

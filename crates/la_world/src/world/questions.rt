@@ -5,6 +5,7 @@ ghost use Rattle.la_world.specs.Printable.{IsPrintable};
 ghost use Rattle.la_world.specs.StandsFor.{StandsFor, group_in, trace_in};
 ghost use Rattle.la_world.specs.Calls.{Keeps, may_absorb, IsSameUnless, tags_of, IsTagsRefusal};
 ghost use Rattle.la_world.specs.Calls.{HasObject, IsObjectRefusal, Plays, Refuses};
+ghost use Rattle.la_world.specs.Calls.{IsFollowing, LeftUntold};
 
 use super::World;
 use crate::{Step, WorldError};
@@ -42,13 +43,16 @@ impl<B: Replicated> World<B> {
     /// `NoSuchReplica` comes where the group has no such replica, else `NoSuchObject` where no object
     /// stands under the number on its shelf, else `TooManyTags` where the tags are more than a
     /// `Remove` may name, or `Memory`. The world stands for the same events as before, whatever is
-    /// answered. The cost is that of a question.
+    /// answered; it is the same after the first two, and after `TooManyTags` the shelf has absorbed the
+    /// whole view. The cost is that of a question.
     pub fn observed(&mut self, replica: u8, object: u16, element: u64) -> Result<Tags, WorldError>
         ensures tags { (events : Past) → StandsFor self.old events → IfOk result (λ tags.
             tags_of (group_in self.old) (trace_in self.old events) replica object element
             ≡ Some tags) }
         ensures error { (events : Past) → StandsFor self.old events → IfErr result
             (IsTagsRefusal (group_in self.old) (trace_in self.old events) replica object element) }
+        ensures follows { OnOk result (IsFollowing self.new replica) }
+        ensures err { IfErr result (λ e. LeftUntold e replica self.old self.new) }
         ensures keeps { Keeps self.old self.new }
     {
         self.admit_question(replica, object)?;

@@ -3,8 +3,9 @@ use Rattle.la_commit.specs.Instances.{first_instance}
 use Rattle.la_proposer.specs.ProposerState.{op_on}
 use Rattle.la_replica.specs.Whole.{whole_out}
 use Rattle.la_replica.specs.ReplicaState.{ReplicaState, submitted_in}
-use Rattle.la_world.specs.Nodes.{NodeState, IsNode}
+use Rattle.la_world.specs.Nodes.{NodeState, IsNode, OutcomesStayIn}
 use Rattle.la_world.proofs.Nodes.{with_replica, proposal_keeps}
+use Rattle.la_world.proofs.Returning.{submission_stays}
 use Rattle.la_world.proofs.node.Node.propose.Goals as goal
 use Rattle.la_world.proofs.node.Node.propose.Goals.{in-Ok, in-Err}
 
@@ -16,3 +17,11 @@ invariant_of-self g c =
       | in-Ok w ↦ proposal_keeps n c.args.commit c.in_ok-first.first (op_on c.args.commit c.from.result) (whole_out w.in-Ok.out) c.submit.new.self c.self.invariant c.in_ok-first.ensures.instance first w.in-Ok.ensures.step
       | in-Err w ↦ subst (λ (r : ReplicaState). IsNode (with_replica n r)) (sym w.in-Err.ensures.err) c.self.invariant
     ]
+
+pub returns-clause-stays : goal.returns-clause-stays
+returns-clause-stays g c =
+    let r = c.self.inside.replica in
+    subst (λ (q : NodeState). OutcomesStayIn q.replica c.submit.new.self) c.self.view_is (elim c.match-submit.branch [
+      | in-Ok w ↦ submission_stays r c.in_ok-first.first (op_on c.args.commit c.from.result) (whole_out w.in-Ok.out) c.submit.new.self w.in-Ok.ensures.step
+      | in-Err w ↦ subst (OutcomesStayIn r) (sym w.in-Err.ensures.err) (λ k o had. had)
+    ])

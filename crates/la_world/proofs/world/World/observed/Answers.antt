@@ -1,13 +1,14 @@
-use Rattle.std.proofs.Common.{rules, ◌≡◌, ◌<◌, length, Some, IsSome, IsSomeAnd, IfOk, IfErr, subst, sym, ◌∙◌}
+use Rattle.std.proofs.Common.{rules, ◌≡◌, ◌<◌, length, slice_set, Some, IsSome, IsSomeAnd, IfOk, IfErr, OnOk, subst, sym, ◌∙◌}
 use Rattle.la_set.specs.declared.tags.TheConstants.{MAX_TAGS}
 use Rattle.la_object.specs.Refusals.{IsTagsRefusal as IsRefusedSo}
 use Rattle.la_object.specs.Shelves.{tags_at}
-use Rattle.la_world.specs.Nodes.{followed}
+use Rattle.la_world.specs.declared.error.WorldError.{WorldError}
+use Rattle.la_world.specs.Nodes.{followed, LeftUntold as LeftAtNode}
 use Rattle.la_world.specs.StandsFor.{StandsFor, group_in, trace_in}
-use Rattle.la_world.specs.Calls.{HasObject, tags_of, IsTagsRefusal}
+use Rattle.la_world.specs.Calls.{HasObject, IsFollowing, tags_of, IsTagsRefusal, LeftUntold}
 use Rattle.la_world.proofs.Worlds.{found_at}
-use Rattle.la_world.proofs.WorldNodes.{asked_known}
-use Rattle.la_world.proofs.Questions.{looked_holds, looked_keeps, tags_told, tags_known}
+use Rattle.la_world.proofs.WorldNodes.{world_of_nodes, asked_known}
+use Rattle.la_world.proofs.Questions.{looked_holds, looked_keeps, look_follows, tags_told, tags_known}
 use Rattle.la_world.proofs.world.World.observed.Goals as goal
 use Rattle.la_world.proofs.world.World.observed.Goals.{in-Ok, in-Err-TooManyTags, in-Err}
 
@@ -70,3 +71,32 @@ returns-clause-keeps g c =
     let has = subst (λ v. HasObject v.shelves r c.args.object) (sym c.self.view_is) c.in_ok-admit_question.ensures.ok in
     let found = found_at nodes r c.index_mut.result.now (asked_known nodes r c.args.object has) c.index_mut.ensures.value in
     looked_keeps c.self.inside.config c.self.inside.nodes.items c.self.inside.journal c.self.invariant r c.index_mut.result.now found c.observed.new.self c.observed.ensures.replica c.observed.ensures.objects c.observed.ensures.within c.self.view_is
+
+pub returns-clause-follows : goal.returns-clause-follows
+returns-clause-follows g c =
+    let r = c.args.replica in
+    let nodes = c.self.inside.nodes.items in
+    let has = subst (λ v. HasObject v.shelves r c.args.object) (sym c.self.view_is) c.in_ok-admit_question.ensures.ok in
+    let found = found_at nodes r c.index_mut.result.now (asked_known nodes r c.args.object has) c.index_mut.ensures.value in
+    let after = world_of_nodes c.self.inside.config (slice_set nodes r c.observed.new.self) c.self.inside.journal in
+    elim c.match-observed.branch [
+      | in-Ok w ↦ subst (λ z. OnOk z (IsFollowing after r)) (sym w.result-is) (look_follows c.self.inside.config nodes c.self.inside.journal c.self.invariant r c.index_mut.result.now found c.observed.new.self w.in-Ok.ensures.follows)
+      | in-Err-TooManyTags w ↦ subst (λ z. OnOk z (IsFollowing after r)) (sym w.result-is) tt
+      | in-Err w ↦ subst (λ z. OnOk z (IsFollowing after r)) (sym w.result-is) tt
+    ]
+
+pub returns-clause-err : goal.returns-clause-err
+returns-clause-err g c =
+    let r = c.args.replica in
+    let nodes = c.self.inside.nodes.items in
+    let has = subst (λ v. HasObject v.shelves r c.args.object) (sym c.self.view_is) c.in_ok-admit_question.ensures.ok in
+    let found = found_at nodes r c.index_mut.result.now (asked_known nodes r c.args.object has) c.index_mut.ensures.value in
+    let n = c.index_mut.result.now in
+    let after = world_of_nodes c.self.inside.config (slice_set nodes r c.observed.new.self) c.self.inside.journal in
+    let left : WorldError → Type 0 = λ e. LeftUntold e r c.args.self.now after in
+    elim c.match-observed.branch [
+      | in-Ok w ↦ subst (λ z. IfErr z left) (sym w.result-is) tt
+      | in-Err-TooManyTags w ↦ subst (λ z. IfErr z left) (sym w.result-is)
+          (look_follows c.self.inside.config nodes c.self.inside.journal c.self.invariant r n found c.observed.new.self (subst (λ e. LeftAtNode e n c.observed.new.self) w.in-Err-TooManyTags.field-0-is w.in-Err-TooManyTags.ensures.err))
+      | in-Err w ↦ subst (λ z. IfErr z left) (sym w.result-is) tt
+    ]

@@ -1,13 +1,38 @@
-use Rattle.std.proofs.Common.{Result, Ok, Err, IfOk, OnOk}
+use Rattle.std.proofs.Common.{Result, Ok, Err, IfOk, OnOk, OnErr}
 use Rattle.la_world.proofs.Promised.{play_keeps, no_view_shrinks}
+use Rattle.la_world.proofs.WorldOutcomes.{play_shows, play_votes, play_stays, play_safe, kept_stays, answers_listed}
 use Rattle.la_world.proofs.world.World.play.Goals as goal
 
 on_ok : {T E : Type 0} (r : Result T E) (P : T → Type 0) (Q : Type 0) → ((x : T) → P x → Q) → IfOk r P → OnOk r Q
 on_ok (Ok x) P Q f h = f x h
 on_ok (Err e) P Q f h = tt
 
+if_ok : {T E : Type 0} (r : Result T E) (P Q : T → Type 0) → ((x : T) → P x → Q x) → IfOk r P → IfOk r Q
+if_ok (Ok x) P Q f h = f x h
+if_ok (Err e) P Q f h = tt
+
+-- whatever is answered
+in_both : {T E : Type 0} (r : Result T E) (P : T → Type 0) (K Q : Type 0) → ((x : T) → P x → Q) → (K → Q) → IfOk r P → OnErr r K → Q
+in_both (Ok x) P K Q f k h e = f x h
+in_both (Err d) P K Q f k h e = k e
+
 pub returns-clause-promises : goal.returns-clause-promises
 returns-clause-promises g c events stands = on_ok c.take_event.result _ _ (λ step p. play_keeps _ events _ step _ p) (c.take_event.ensures.step events stands)
 
 pub returns-clause-views : goal.returns-clause-views
 returns-clause-views g c events stands = on_ok c.take_event.result _ _ (λ step p. no_view_shrinks _ events _ step _ stands p) (c.take_event.ensures.step events stands)
+
+pub returns-clause-outcome : goal.returns-clause-outcome
+returns-clause-outcome g c events stands = if_ok c.take_event.result _ _ (λ step p. play_shows _ events _ step _ stands p) (c.take_event.ensures.step events stands)
+
+pub returns-clause-vote : goal.returns-clause-vote
+returns-clause-vote g c events stands = if_ok c.take_event.result _ _ (λ step p. play_votes _ events _ step _ stands p) (c.take_event.ensures.step events stands)
+
+pub returns-clause-stays : goal.returns-clause-stays
+returns-clause-stays g c events stands = in_both c.take_event.result _ _ _ (λ step p. play_stays _ events _ step _ stands p) (λ kept. kept_stays _ events _ stands kept) (c.take_event.ensures.step events stands) c.take_event.ensures.keeps
+
+pub returns-clause-safe : goal.returns-clause-safe
+returns-clause-safe g c events stands = on_ok c.take_event.result _ _ (λ step p. play_safe _ events _ step _ stands p) (c.take_event.ensures.step events stands)
+
+pub returns-clause-listed : goal.returns-clause-listed
+returns-clause-listed g c events stands = in_both c.take_event.result _ _ _ (λ step p. answers_listed _ _ p.stands) (λ kept. answers_listed _ events (kept.stands events stands)) (c.take_event.ensures.step events stands) c.take_event.ensures.keeps
