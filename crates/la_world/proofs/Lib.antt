@@ -52,6 +52,10 @@ pub mod Agreement
 pub mod Safe
 pub mod Asking
 pub mod Places
+pub mod SubmissionLines
+pub mod OwnUpdates
+pub mod ShownLater
+pub mod ReadsByMarks
 pub mod Promised
 pub mod WorldNodes
 pub mod Questions

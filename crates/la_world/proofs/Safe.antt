@@ -27,7 +27,7 @@ returns_safely w events stands = subst (IsAdoptCommit events) (sym (decisions_ar
 -- ## A list that is played
 
 -- what is accepted of it is not refused
-runs_legal : (g : Group) (es : List Event) → IsLegal g (runs g es).accepted
+pub runs_legal : (g : Group) (es : List Event) → IsLegal g (runs g es).accepted
 unfolding runs
 runs_legal g [] = tt
 runs_legal g (e ∷ es) = go (refused g (trace g (runs g es).accepted) e) refl (runs_legal g es)
