@@ -31,7 +31,7 @@ use Rattle.la_world.proofs.Traces.{holds}
 use Rattle.la_world.proofs.Chains.{learning_justified}
 use Rattle.la_world.proofs.InGroup.{IsOfGroup, grouped}
 use Rattle.la_world.proofs.SubmittedVotes.{proposals, HasProposed, HasVoted, second_votes_cast}
-use Rattle.la_world.proofs.OwnUpdates.{learnt_first}
+use Rattle.la_world.proofs.OwnFirst.{learnt_first}
 
 -- ## One update
 

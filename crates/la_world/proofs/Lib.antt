@@ -45,7 +45,7 @@ pub mod Worlds
 pub mod Noted
 pub mod Returned
 pub mod Playback
-pub mod OwnUpdates
+pub mod OwnFirst
 pub mod Staying
 pub mod SubmittedVotes
 pub mod LearntVotes
@@ -54,6 +54,10 @@ pub mod Agreement
 pub mod Safe
 pub mod Asking
 pub mod Places
+pub mod SubmissionLines
+pub mod OwnUpdates
+pub mod ShownLater
+pub mod ReadsByMarks
 pub mod Promised
 pub mod Outcomes
 pub mod WorldOutcomes

@@ -26,7 +26,7 @@ use Rattle.la_world.proofs.Quorum.{event_learns, open_in}
 use Rattle.la_world.proofs.Traces.{holds}
 use Rattle.la_world.proofs.Unaffected.{last_learnt_ballot-none}
 use Rattle.la_world.proofs.Once.{IsDone, still_done, now_done, once, votes_once}
-use Rattle.la_world.proofs.OwnUpdates.{own_held}
+use Rattle.la_world.proofs.OwnFirst.{own_held}
 
 nothing_learnt : (i r : ℕ) → last_learnt_ballot [] i r ≡ None
 unfolding last_learnt_ballot

@@ -11,8 +11,7 @@ use Rattle.la_world.specs.Events.{Event}
 use Rattle.la_world.specs.StandsFor.{kinds_of}
 use Rattle.la_world.specs.Laws.{EqualViewsAnswerAlike}
 use Rattle.la_world.specs.Calls.{IsGroup}
-use Rattle.la_world.specs.Promises.{IsSubmittedAt, ArePlacesInOrder}
-use Rattle.uses.specs.Promises.{HaveOneKind, AnswersAgree, MarksShowWhatWasLearnt}
+use Rattle.uses.specs.Promises.{HaveOneKind, AnswersAgree}
 
 -- the shelf that stands at a place
 record Stands (shelves : List ShelfState) (r : ℕ) : Type 0 where
@@ -47,12 +46,3 @@ run_answers_agree c shelves events (Err d) alike h one = tt
 pub no_kinds : (n : ℕ) → kinds_of (replicate n (record { view = empty; objects = [] })) ≡ replicate n []
 no_kinds zero = refl
 no_kinds (suc n) = ap (λ ks. [] ∷ ks) (no_kinds n)
-
--- ## Reading by a Mark
-
-pub run_shows_by_marks : (c : Config) (shelves : List ShelfState) (events : List Event) (r : Result Report WorldError)
-    → IfOk r (λ (made : Report). ArePlacesInOrder (group_of c (kinds_of shelves)) events made.steps made.learnt)
-    → IfOk r (λ (made : Report). MarksShowWhatWasLearnt (group_of c (kinds_of shelves)) events made.steps made.learnt)
-run_shows_by_marks c shelves events (Ok made) order = λ j k earlier later mark learnt_at of_objects marked lt there also holds.
-    order j k earlier later mark learnt_at (subst (λ i. IsSubmittedAt (group_of c (kinds_of shelves)) events made.steps k i mark) (sym of_objects) marked.submitted) lt there (of_objects ∙ sym also) holds
-run_shows_by_marks c shelves events (Err d) order = tt

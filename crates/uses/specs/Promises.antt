@@ -1,21 +1,24 @@
 -- What a group promises, of the lists that a report has.
-use Rattle.std.specs.Prelude.{◌≡◌, ℕ, ◌<◌, List, reverse, Contains, slice_get, Some, IsSome, IfSome}
-use Rattle.la_set.specs.declared.update.UpdateId.{UpdateId}
+use Rattle.std.specs.Prelude.{◌≡◌, ℕ, ◌<◌, ◌≤◌, List, reverse, Contains, slice_get, Some, IfSome}
 use Rattle.la_set.specs.declared.update.Op.TheVariants.{Mark}
-use Rattle.la_set.specs.Histories.{Histories, get}
+use Rattle.la_set.specs.declared.update.Update.{Update}
+use Rattle.la_set.specs.ObjectOps.{object_op_of}
+use Rattle.la_set.specs.Histories.{Histories, ContainsUpdate}
 use Rattle.la_set.specs.Inclusion.{IsSubset}
 use Rattle.la_object.specs.declared.kind.Kind.{Kind}
 use Rattle.la_object.specs.declared.query.Query.{Query}
 use Rattle.la_object.specs.declared.query.Answer.{Answer}
-use Rattle.la_object.specs.Shelves.{ShelfState, kind_at}
+use Rattle.la_object.specs.Shelves.{ShelfState, kind_at, answer_at}
 use Rattle.la_world.specs.declared.config.Config.{Config}
 use Rattle.la_world.specs.declared.report.Line.{Line}
 use Rattle.la_world.specs.declared.step.Learnt.{Learnt}
-use Rattle.la_world.specs.Groups.{Group, group_of, replicas}
-use Rattle.la_world.specs.Events.{Event, submission_of}
+use Rattle.la_world.specs.declared.step.Opening.{Opening}
+use Rattle.la_world.specs.Groups.{Group, group_of, replicas, kinds_on}
+use Rattle.la_world.specs.Events.{Event, Submit, submission_of}
 use Rattle.la_world.specs.Report.{runs}
 use Rattle.la_world.specs.Laws.{IsAnswered, view_at_place}
-use Rattle.la_world.specs.Promises.{IsLearntAt, IsSubmittedAt}
+use Rattle.la_world.specs.Promises.{IsLearntAt}
+use Rattle.la_world.specs.Reading.{Submits, IsOpenedAt}
 
 -- the view of each replica contains each set that it learnt in instance 0
 abbrev pub ViewsHoldTheirOwn : (views : List Histories) → List Learnt → Type 0
@@ -38,18 +41,55 @@ AnswersAgree g events steps = (j k r q object : ℕ) (query : Query) (a b : Answ
     IsAnswered events steps j r object query a → IsAnswered events steps k q object query b →
     view_at_place g events j r ≡ view_at_place g events k q → a ≡ b
 
--- a Mark was submitted at this place, under this id
-pub record IsMarkedAt (g : Group) (events : List Event) (steps : List Line) (place : ℕ)
-    (id : UpdateId) : Type 0 where
+-- ## By places and lines
+
+-- the answer counts an update: it is the query's value over a set that holds it
+pub record Counts (g : Group) (r object : ℕ) (query : Query) (answer : Answer) (update : Update) :
+    Type 0 where
+  pub set : Histories
+  pub value : answer_at (record { view = set; objects = kinds_on g r }) object query ≡ Some answer
+  pub holds : ContainsUpdate set update
+
+-- a Mark was submitted at this place, as this update
+pub record IsMarkedAt (events : List Event) (steps : List Line) (place : ℕ) (mark : Update) :
+    Type 0 where
   pub replica : ℕ
   pub object : ℕ
   pub handed_in : slice_get events place ≡ Some (submission_of replica object Mark)
-  pub submitted : IsSubmittedAt g events steps place 0 id
+  pub submitted : Submits events steps place 0 mark
 
--- a learnt set that holds a Mark contains each set that anyone had learnt when it was submitted
-abbrev pub MarksShowWhatWasLearnt : Group → List Event → List Line → (learnt : List Learnt) → Type 0
-MarksShowWhatWasLearnt g events steps learnt =
-    (j k : ℕ) (earlier later : Learnt) (mark : UpdateId) →
-    IsLearntAt steps j earlier → earlier.instance ≡ 0 → IsMarkedAt g events steps k mark → j < k →
-    Contains learnt later → later.instance ≡ 0 → IsSome (get later.updates mark) →
-    IsSubset earlier.updates later.updates
+-- where a replica has learnt a set with a Mark, and is asked later, its answer counts each update
+-- that anyone had learnt before the Mark was submitted
+abbrev pub MarksShowWhatWasLearnt : Group → List Event → List Line → Type 0
+MarksShowWhatWasLearnt g events steps =
+    (i m j k object : ℕ) (early x : Learnt) (update mark : Update) (query : Query)
+    (answer : Answer) →
+    IsLearntAt steps i early → early.instance ≡ 0 → ContainsUpdate early.updates update →
+    IsMarkedAt events steps m mark → i < m →
+    IsLearntAt steps j x → x.instance ≡ 0 → ContainsUpdate x.updates mark → j < k →
+    IsAnswered events steps k x.replica object query answer →
+    Counts g x.replica object query answer update
+
+-- an update was submitted in instance 0 at this place, and opened a ballot of its replica there
+pub record IsOfferedAt (events : List Event) (steps : List Line) (place : ℕ) (update : Update) :
+    Type 0 where
+  pub submitted : Submits events steps place 0 update
+  pub ballot : Opening
+  pub opened : IsOpenedAt steps place ballot
+  pub of_objects : ballot.instance ≡ 0
+  pub by : ballot.replica ≡ update.id.replica
+
+-- it is in each set that its replica learns there later
+abbrev pub OffersAreLearnt : List Event → List Line → Type 0
+OffersAreLearnt events steps =
+    (k place : ℕ) (update : Update) (x : Learnt) →
+    IsOfferedAt events steps k update → IsLearntAt steps place x → k < place →
+    x.instance ≡ 0 → x.replica ≡ update.id.replica → ContainsUpdate x.updates update
+
+-- each update that was learnt in instance 0 was submitted by an event that stands no later
+abbrev pub NothingIsMadeUp : List Event → List Line → Type 0
+NothingIsMadeUp events steps =
+    (place : ℕ) (x : Learnt) (update : Update) →
+    IsLearntAt steps place x → x.instance ≡ 0 → ContainsUpdate x.updates update →
+    (k : ℕ) × (k ≤ place)
+    × (slice_get events k ≡ Some (Submit update.id.replica (object_op_of update)))

@@ -95,6 +95,7 @@ pub fn play_proposals<B: Replicated>(
 // ---- questions
 ghost use Rattle.la_world.specs.Groups.{group_of};
 ghost use Rattle.uses.specs.Promises.{HaveOneKind, AnswersAgree, MarksShowWhatWasLearnt};
+ghost use Rattle.uses.specs.Promises.{OffersAreLearnt, NothingIsMadeUp};
 
 use la_object::{Answer, Query, ShelfError};
 use la_orset::OrSet;
@@ -116,8 +117,8 @@ pub fn play_questions<B: Replicated>(
     run(alloc, config, shelves, events)
 }
 
-/// Plays a list of events in which replicas read by a Mark: one submits it, and is asked once it has
-/// learnt a set that holds it. Such a set contains each set that anyone had learnt when the Mark was
+/// Plays a list of events in which replicas read by a Mark: it is submitted, and whoever has learnt a
+/// set that holds it is asked. The answer counts each update that anyone had learnt when the Mark was
 /// submitted; and two replicas that are asked the same with equal views answer alike.
 pub fn play_reads<B: Replicated>(
     alloc: Global,
@@ -126,10 +127,25 @@ pub fn play_reads<B: Replicated>(
     events: &[Event],
 ) -> Result<Report, WorldError>
     ensures current { IfOk result (λ made. MarksShowWhatWasLearnt
-        (group_of config (kinds_of shelves.items)) (map event_of events.now)
-        made.steps made.learnt) }
+        (group_of config (kinds_of shelves.items)) (map event_of events.now) made.steps) }
     ensures agree { HaveOneKind shelves.items → IfOk result (λ made. AnswersAgree
         (group_of config (kinds_of shelves.items)) (map event_of events.now) made.steps) }
+{
+    run(alloc, config, shelves, events)
+}
+
+/// Plays a list of events. An update whose submission opened a ballot is in each set that its replica
+/// learns in instance 0 later; and each update that is learnt there was submitted before, by an event
+/// of the list.
+pub fn play_submissions<B: Replicated>(
+    alloc: Global,
+    config: Config,
+    shelves: Vec<Shelf<B>>,
+    events: &[Event],
+) -> Result<Report, WorldError>
+    ensures learnt { IfOk result (λ made. OffersAreLearnt (map event_of events.now) made.steps) }
+    ensures submitted { IfOk result (λ made.
+        NothingIsMadeUp (map event_of events.now) made.steps) }
 {
     run(alloc, config, shelves, events)
 }
