@@ -1,8 +1,9 @@
 -- What a call leaves of a node, and what its refusals are.
-use Rattle.std.proofs.Common.{◌≡◌, inl, inr, ℕ, ◌<◌, ◌≤◌, List, length, slice_get, Option, Some, None, IsSome, IsSomeAnd, option_map, option_and_then, refl, ap, sym, ◌∙◌, subst, arith}
+use Rattle.std.proofs.Common.{◌≡◌, inl, inr, ℕ, ◌<◌, ◌≤◌, List, length, slice_get, Option, Some, None, Result, Ok, Err, IfErr, IsSome, IsSomeAnd, option_map, option_and_then, refl, ap, sym, ◌∙◌, subst, arith}
 use Rattle.std.proofs.lemmas.Bool.{true≢false, cases_lt}
 use Rattle.std.proofs.lemmas.Option.{none-some, slice_get_within, slice_get_past}
 use Rattle.la_set.specs.ObjectOps.{ObjectOp}
+use Rattle.la_set.specs.declared.update.UpdateId.{UpdateId}
 use Rattle.la_set.specs.Histories.{Histories, ContainsUpdate}
 use Rattle.la_set.specs.Inclusion.{IsSubset}
 use Rattle.la_set.proofs.Inclusions.{subset-trans}
@@ -11,7 +12,10 @@ use Rattle.la_proposer.specs.ProposerState.{submitted}
 use Rattle.la_commit.specs.declared.instance.TheConstants.{MAX_COMMITS}
 use Rattle.la_commit.specs.Instances.{first_instance, second_instance}
 use Rattle.la_commit.specs.Outcomes.{outcome_of}
+use Rattle.la_object.specs.declared.error.ShelfError.{ShelfError}
+use Rattle.la_object.specs.declared.error.ShelfError.TheVariants.{Taken, NotFresh, NoSuchObject, TooManyTags, Memory as ShelfMemory}
 use Rattle.la_object.specs.Shelves.{ShelfState}
+use Rattle.la_object.specs.Refusals.{IsTagsRefusal}
 use Rattle.la_replica.specs.declared.change.Change.{Change}
 use Rattle.la_replica.specs.declared.instance.Instance.{Instance}
 use Rattle.la_replica.specs.declared.error.ReplicaError.TheVariants.{Memory}
@@ -24,7 +28,7 @@ use Rattle.la_replica.proofs.Growing.{submits_grows}
 use Rattle.la_world.specs.declared.config.Config.{Config}
 use Rattle.la_world.specs.Calls.{returned_by}
 use Rattle.la_world.specs.Following.{Taken, takes}
-use Rattle.la_world.specs.Nodes.{NodeState, IsNode, IsParticipant, MayStart, node_at_start}
+use Rattle.la_world.specs.Nodes.{NodeState, IsNode, IsParticipant, MayStart, node_at_start, IsObservedRefusal}
 use Rattle.la_world.proofs.Participants.{leads_on}
 use Rattle.la_world.proofs.SubmittingOnce.{body_counts}
 use Rattle.la_world.proofs.Voters.{exists, received_in, start_participates, update_participates, proposal_participates, taken_participates}
@@ -105,3 +109,15 @@ none_proposed r i k at none = elim (cases_lt i (length r.instances)) [
   | inl lt ↦ absurd (let x = exists r.instances i lt in none-some (submitted x.0.proposer) (sym none ∙ ap (option_map (λ z. submitted z.proposer)) x.1))
   | inr le ↦ omega (arith, le, at)
 ]
+
+-- ## A look at the shelf
+
+-- what a shelf that has absorbed the view refuses is refused by the node too
+pub observed_refused : (tags : Option (List UpdateId)) (r : Result (List UpdateId) ShelfError) → IfErr r (IsTagsRefusal tags) → IfErr r (IsObservedRefusal tags)
+observed_refused tags (Ok ids) h = tt
+observed_refused tags (Err NoSuchObject) h = h
+observed_refused tags (Err TooManyTags) h = h
+observed_refused (Some ids) (Err ShelfMemory) h = refl
+observed_refused None (Err ShelfMemory) h = absurd h
+observed_refused tags (Err Taken) h = h
+observed_refused tags (Err NotFresh) h = h

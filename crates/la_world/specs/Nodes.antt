@@ -1,5 +1,6 @@
 -- A node as contracts see it: one replica of a group with its shelf, and what a call on it comes to.
 use Rattle.std.specs.Prelude.{◌≡◌, ℕ, ◌+◌, ◌*◌, ◌<◌, ◌≤◌, ◌%◌, true, false, List, [], length, map, slice_get, Option, Some, IsSome, IsSomeAnd, option_and_then}
+use Rattle.la_set.specs.declared.update.UpdateId.{UpdateId}
 use Rattle.la_set.specs.Histories.{empty}
 use Rattle.la_set.specs.Inclusion.{IsSubset}
 use Rattle.la_proposer.specs.declared.ballot.Ballot.{Ballot}
@@ -9,8 +10,9 @@ use Rattle.la_commit.specs.declared.instance.TheConstants.{MAX_COMMITS}
 use Rattle.la_commit.specs.declared.outcome.Outcome.{Outcome}
 use Rattle.la_commit.specs.Instances.{first_instance, second_instance}
 use Rattle.la_object.specs.declared.error.ShelfError.{ShelfError}
-use Rattle.la_object.specs.declared.error.ShelfError.TheVariants.{NoSuchObject, TooManyTags}
+use Rattle.la_object.specs.declared.error.ShelfError.TheVariants.{NoSuchObject, TooManyTags, Memory as ShelfMemory}
 use Rattle.la_object.specs.Shelves.{ShelfState}
+use Rattle.la_object.specs.Refusals.{IsTagsRefusal}
 use Rattle.la_replica.specs.declared.instance.Instance.{Instance}
 use Rattle.la_replica.specs.declared.out.Said.{Said}
 use Rattle.la_replica.specs.Steps.{learnt_in}
@@ -124,3 +126,11 @@ OutcomesStayIn before after = (k : ℕ) (o : Outcome) →
 abbrev pub ReturnsIn : (i : ℕ) → (told : Option Outcome) → (after : ReplicaState) → Type 0
 ReturnsIn i told after = (k : ℕ) (o : Outcome) →
     i ≡ second_instance k → told ≡ Some o → returned_by k after ≡ Some o
+
+-- ## Looking at the shelf
+
+-- the tags that an object on the shelf observes by the view: as on a shelf, but that memory may run
+-- out while it absorbs the view
+abbrev pub IsObservedRefusal : Option (List UpdateId) → ShelfError → Type 0
+IsObservedRefusal tags ShelfMemory = IsSome tags
+IsObservedRefusal tags e = IsTagsRefusal tags e

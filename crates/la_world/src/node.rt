@@ -8,7 +8,7 @@ ghost use Rattle.la_commit.specs.Instances.{first_instance};
 ghost use Rattle.la_commit.specs.Votes.{first_vote};
 ghost use Rattle.la_object.specs.Objects.{kind_of};
 ghost use Rattle.la_object.specs.Shelves.{kind_at, answer_at, tags_at, state_at};
-ghost use Rattle.la_object.specs.Refusals.{IsAddRefusal, IsAskRefusal, IsTagsRefusal};
+ghost use Rattle.la_object.specs.Refusals.{IsAddRefusal, IsAskRefusal};
 ghost use Rattle.la_replica.specs.Whole.{whole_of, whole_out, whole_mail};
 ghost use Rattle.la_replica.specs.ReplicaState.{submits, last_learnt, submitted_in};
 ghost use Rattle.la_replica.specs.Refusals.{IsSubmitRefusal, IsReceiveRefusal};
@@ -20,8 +20,8 @@ ghost use Rattle.la_replica.specs.Fitting.{FitsReceiver};
 ghost use Rattle.la_world.specs.Calls.{returned_by};
 ghost use Rattle.la_world.specs.Following.{takes, whole_done};
 ghost use Rattle.la_world.specs.Nodes.{followed, with_shelf, MayStart, node_at_start};
-ghost use Rattle.la_world.specs.Nodes.{IsStartRefusal, IsProposeRefusal, outcome_due};
-ghost use Rattle.la_world.specs.Nodes.{OutcomesStayIn, ReturnsIn, LeftUntold};
+ghost use Rattle.la_world.specs.Nodes.{IsStartRefusal, IsProposeRefusal, IsObservedRefusal};
+ghost use Rattle.la_world.specs.Nodes.{outcome_due, OutcomesStayIn, ReturnsIn, LeftUntold};
 
 use crate::participant::{for_memory, outcome_by, returned, take_prepared};
 use crate::{Config, Done, WorldError};
@@ -341,11 +341,13 @@ impl<B: Replicated> Node<B> {
     /// `NoSuchObject` comes where there is none under the number, and leaves the node as it was; else
     /// `TooManyTags` (over 64), once the view is absorbed, or `Memory`, after which the shelf may have
     /// absorbed some of it, by which no later answer differs.
+    #[tactic(auto, using(crate::proofs::Nodes::observed_refused))]
     pub fn observed(&mut self, object: u16, element: u64) -> Result<Tags, ShelfError>
         ensures ok { IfOk result (λ tags.
             tags_at (followed self.old) object element ≡ Some tags) }
         ensures follows { OnOk result (self.new ≡ with_shelf self.old (followed self.old)) }
-        ensures error { IfErr result (IsTagsRefusal (tags_at (followed self.old) object element)) }
+        ensures error { IfErr result
+            (IsObservedRefusal (tags_at (followed self.old) object element)) }
         ensures err { IfErr result (λ e. LeftUntold e self.old self.new) }
         ensures replica { self.new.replica ≡ self.old.replica }
         ensures objects { self.new.shelf.objects ≡ self.old.shelf.objects }

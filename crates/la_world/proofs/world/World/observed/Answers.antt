@@ -1,9 +1,8 @@
 use Rattle.std.proofs.Common.{rules, ◌≡◌, ◌<◌, length, slice_set, Some, IsSome, IsSomeAnd, IfOk, IfErr, OnOk, subst, sym, ◌∙◌}
 use Rattle.la_set.specs.declared.tags.TheConstants.{MAX_TAGS}
-use Rattle.la_object.specs.Refusals.{IsTagsRefusal as IsRefusedSo}
 use Rattle.la_object.specs.Shelves.{tags_at}
 use Rattle.la_world.specs.declared.error.WorldError.{WorldError}
-use Rattle.la_world.specs.Nodes.{followed, LeftUntold as LeftAtNode}
+use Rattle.la_world.specs.Nodes.{followed, IsObservedRefusal, LeftUntold as LeftAtNode}
 use Rattle.la_world.specs.StandsFor.{StandsFor, group_in, trace_in}
 use Rattle.la_world.specs.Calls.{HasObject, IsFollowing, tags_of, IsTagsRefusal, LeftUntold}
 use Rattle.la_world.proofs.Worlds.{found_at}
@@ -59,7 +58,7 @@ returns-clause-error g c events stands =
     elim c.match-observed.branch [
       | in-Ok w ↦ subst (λ z. IfErr z (IsTagsRefusal (group_in old) (trace_in old events) r object element)) (sym w.result-is) tt
       | in-Err-TooManyTags w ↦ subst (λ z. IfErr z (IsTagsRefusal (group_in old) (trace_in old events) r object element)) (sym w.result-is)
-          (subst (λ o. IsSomeAnd o (λ ids. MAX_TAGS < length ids)) (sym same) (subst (IsRefusedSo (tags_at (followed n) object element)) w.in-Err-TooManyTags.field-0-is w.in-Err-TooManyTags.ensures.error))
+          (subst (λ o. IsSomeAnd o (λ ids. MAX_TAGS < length ids)) (sym same) (subst (IsObservedRefusal (tags_at (followed n) object element)) w.in-Err-TooManyTags.field-0-is w.in-Err-TooManyTags.ensures.error))
       | in-Err w ↦ subst (λ z. IfErr z (IsTagsRefusal (group_in old) (trace_in old events) r object element)) (sym w.result-is)
           (subst (λ v. IsSome (tags_of (group_in v) (trace_in v events) r object element)) c.self.view_is (tags_known c.self.inside.config c.self.inside.nodes.items c.self.inside.journal c.self.invariant r n found events then object element has))
     ]
