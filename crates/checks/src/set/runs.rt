@@ -203,7 +203,7 @@ fn updates_are_a_list(rt: &impl Abort, alloc: Global) {
     holds(rt, "all of it", list.all().len() == 1);
 }
 
-// ## Some thousands of updates: nothing gives up early
+// ## A hundred thousand updates: nothing gives up early
 
 fn push_further(rt: &impl Abort, alloc: Global, set: &mut UpdateSet, replica: u8, count: u32) {
     for number in 1..=count {
@@ -212,28 +212,28 @@ fn push_further(rt: &impl Abort, alloc: Global, set: &mut UpdateSet, replica: u8
     }
 }
 
-fn thousands(rt: &impl Abort, alloc: Global) -> UpdateSet {
+fn many(rt: &impl Abort, alloc: Global) -> UpdateSet {
     let mut set = UpdateSet::new(alloc);
     for replica in [0, 3, 7] {
-        push_further(rt, alloc, &mut set, replica, 1000);
+        push_further(rt, alloc, &mut set, replica, 40_000);
     }
     set
 }
 
 fn is_the_same(set: &UpdateSet, other: &UpdateSet) -> bool {
-    set.len() == 3000
+    set.len() == 120_000
         && set.same(other)
         && set.order(other) == Some(Ordering::Equal)
-        && matches!(set.at(2999), Some(last) if last.id == id(7, 1000))
+        && matches!(set.at(119_999), Some(last) if last.id == id(7, 40_000))
 }
 
-fn thousands_of_updates(rt: &impl Abort, alloc: Global) {
-    let set = thousands(rt, alloc);
+fn many_updates(rt: &impl Abort, alloc: Global) {
+    let set = many(rt, alloc);
     let copy = copy_of(rt, &set);
     holds(rt, "a copy", is_the_same(&copy, &set));
     let mut joined = set_of(rt, alloc, &[(0, 1, Does::Put(1))]);
     let more = beyond(rt, &set, &joined);
-    holds(rt, "all but one are beyond", more.len() == 2999);
+    holds(rt, "all but one are beyond", more.len() == 119_999);
     holds(rt, "a union", unite(rt, &mut joined, &copy).is_ok());
     holds(rt, "the union is the same", is_the_same(&joined, &set));
 }
@@ -247,7 +247,7 @@ fn sets(rt: HostRuntime) {
     inclusion_compares_updates(&rt, rt.alloc());
     beyond_is_in_order(&rt, rt.alloc());
     updates_are_a_list(&rt, rt.alloc());
-    thousands_of_updates(&rt, rt.alloc());
+    many_updates(&rt, rt.alloc());
 }
 
 #[test]

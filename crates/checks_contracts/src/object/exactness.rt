@@ -78,7 +78,8 @@ pub fn observed_by_one_is_exact<B: Replicated>(
     element: u64,
 ) -> (Result<Tags, ObserveError>, Result<Tags, ObserveError>)
     requires { B.state one.now ≡ B.state other.now }
-    ensures { IfOk result.0 (λ a. IfOk result.1 (λ b. a ≡ b)) }
+    ensures tags { IfOk result.0 (λ a. IfOk result.1 (λ b. a ≡ b)) }
+    ensures refusal { IfErr result.0 (λ e. IfErr result.1 (λ f. e ≡ f)) }
 {
     (one.observed(element), other.observed(element))
 }
@@ -139,7 +140,8 @@ fn observed_is_exact<B: Replicated>(
     element: u64,
 ) -> (Result<Tags, ShelfError>, Result<Tags, ShelfError>)
     requires { one.now ≡ other.now }
-    ensures { IfOk result.0 (λ a. IfOk result.1 (λ b. a ≡ b)) }
+    ensures tags { IfOk result.0 (λ a. IfOk result.1 (λ b. a ≡ b)) }
+    ensures refusal { IfErr result.0 (λ e. IfErr result.1 (λ f. e ≡ f)) }
 {
     (
         one.observed(number, element),

@@ -6,12 +6,13 @@ ghost use Rattle.la_set.specs.declared.update.Update.{Update as UpdateOf};
 ghost use Rattle.la_set.specs.declared.update.UpdateId.{UpdateId};
 ghost use Rattle.la_set.specs.Histories.{Histories};
 ghost use Rattle.la_object.specs.declared.kind.Kind.{Kind};
+ghost use Rattle.la_object.specs.declared.kind.Kind.TheVariants.{OrSet as OrSetKind};
 ghost use Rattle.la_object.specs.declared.query.Query.{Query as Question};
-ghost use Rattle.la_object.specs.Objects.{after, steps, start, reply, value};
-ghost use Rattle.la_object.specs.Shelves.{updates_at, kind_at};
+ghost use Rattle.la_object.specs.Objects.{after, steps, start, reply, value, tags_by};
+ghost use Rattle.la_object.specs.Shelves.{updates_at, kind_at, IsOneObject};
 
 use la_object::{Answer, MAX_SUM, Query, Replicated, Shelf, laws};
-use la_set::{Update, UpdateSet};
+use la_set::{Tags, Update, UpdateSet};
 use std::alloc::AllocError;
 
 fn a_sum_has_this_limit() -> u64
@@ -68,6 +69,32 @@ fn a_mark_is_no_operation()
         ≡ value kind us query }
 {
     laws::only_own_operations_count();
+}
+
+// A Mark takes no tag away, and adds none.
+fn a_mark_is_observed_by_none()
+    ensures { (kind : Kind) (id : UpdateId) (number : ℕ) (us : List UpdateOf) (x : ℕ)
+        → tags_by kind (record { id = id; object = number; op = Mark } ∷ us) x ≡ tags_by kind us x }
+{
+    laws::only_own_operations_count();
+}
+
+// Two sets whose views have the same Puts and Removes of theirs observe the same tags, whatever
+// updates of other objects the views have.
+fn other_objects_are_not_observed<A: Replicated, B: Replicated>(
+    one: &Shelf<A>,
+    other: &Shelf<B>,
+    number: u16,
+    element: u64,
+) -> Option<(Tags, Tags)>
+    requires { IsOneObject number OrSetKind one.now other.now }
+    ensures { IfSome result (λ both. both.0 ≡ both.1) }
+{
+    laws::other_objects_do_not_count();
+    Some((
+        one.observed(number, element).ok()?,
+        other.observed(number, element).ok()?,
+    ))
 }
 
 // Two shelves with equal views and one kind of object under a number answer alike, whatever types

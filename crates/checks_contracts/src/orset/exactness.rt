@@ -1,6 +1,6 @@
 // Callers that know nothing but the contracts: each makes a call twice, or on two equal values, and
 // promises equal answers where both succeed.
-ghost use Rattle.std.specs.Prelude.{◌≡◌, IfOk, OnOk, OnErr, option_copied};
+ghost use Rattle.std.specs.Prelude.{◌≡◌, IfOk, IfErr, OnOk, OnErr, option_copied};
 ghost use Rattle.la_object.specs.Objects.{HasRoom};
 
 use crate::object::exactness::{absorb_one_is_exact, ask_one_is_exact, observed_by_one_is_exact};
@@ -49,7 +49,8 @@ fn observed_is_exact(
     element: u64,
 ) -> (Result<Tags, ObserveError>, Result<Tags, ObserveError>)
     requires { ⟦<OrSet as Replicated>⟧.state one.now ≡ ⟦<OrSet as Replicated>⟧.state other.now }
-    ensures { IfOk result.0 (λ a. IfOk result.1 (λ b. a ≡ b)) }
+    ensures tags { IfOk result.0 (λ a. IfOk result.1 (λ b. a ≡ b)) }
+    ensures refusal { IfErr result.0 (λ e. IfErr result.1 (λ f. e ≡ f)) }
 {
     observed_by_one_is_exact(one, other, element)
 }
