@@ -1,12 +1,12 @@
 -- A learnt set holds what was submitted by its place, and of its own replica all that had been
 -- submitted when the replica last opened a ballot that is no refinement: by the lines of a report.
-use Rattle.std.proofs.Common.{◌≡◌, ℕ, zero, suc, ◌+◌, ◌<◌, ◌≤◌, ◌==◌, Bool, true, false, List, [], ◌∷◌, ◌++◌, length, take, reverse, slice_get, Option, Some, None, refl, ap, ap₂, sym, ◌∙◌, subst, subst₂, arith, inl, inr, eq-eqb}
+use Rattle.std.proofs.Common.{◌≡◌, ℕ, zero, suc, ◌+◌, ◌<◌, ◌≤◌, ◌==◌, false, List, [], ◌∷◌, ◌++◌, length, take, reverse, slice_get, Some, refl, ap, ap₂, sym, ◌∙◌, subst, subst₂, arith, inl, inr, eq-eqb}
 use Rattle.std.proofs.lemmas.Bool.{cases_lt, cond-true}
 use Rattle.std.proofs.lemmas.List.{take-take}
 use Rattle.std.proofs.lemmas.Option.{same_Some, none-some}
 use Rattle.la_set.specs.declared.update.Update.{Update}
-use Rattle.la_set.specs.ObjectOps.{ObjectOp, object_op_of}
-use Rattle.la_set.specs.Histories.{Histories, history, object_op_number, ContainsUpdate}
+use Rattle.la_set.specs.ObjectOps.{object_op_of}
+use Rattle.la_set.specs.Histories.{history, object_op_number, ContainsUpdate}
 use Rattle.la_set.specs.Inclusion.{IsSubset}
 use Rattle.la_set.proofs.Prefixes.{IsPrefix}
 use Rattle.la_set.proofs.SetHistories.{history_past}
@@ -21,7 +21,7 @@ use Rattle.la_world.specs.Groups.{Group, replicas}
 use Rattle.la_world.specs.Events.{Event}
 use Rattle.la_world.specs.Trace as did
 use Rattle.la_world.specs.Trace.{Did, Entry, Trace}
-use Rattle.la_world.specs.Ballots.{opened_by, learnt_by, only, ballots, round}
+use Rattle.la_world.specs.Ballots.{opened_by, learnt_by, only, ballots}
 use Rattle.la_world.specs.Submissions.{submitted, whole, is_refined, taken_at, taken}
 use Rattle.la_world.specs.Playing.{entry, trace}
 use Rattle.la_world.specs.Learnings.{learning}

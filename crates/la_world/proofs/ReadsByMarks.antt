@@ -1,8 +1,8 @@
 -- Reads by a Mark: the answer at a place is over a set that was learnt at a line before, and that contains
 -- all that had been learnt before the Mark was submitted.
-use Rattle.std.proofs.Common.{◌≡◌, ℕ, zero, suc, ◌<◌, List, [], ◌∷◌, ◌++◌, length, take, reverse, slice_get, Contains, Option, Some, None, IsSome, refl, ap, sym, ◌∙◌, subst, inl, inr}
-use Rattle.std.proofs.lemmas.List.{reverse-append, reverse-reverse}
-use Rattle.std.proofs.lemmas.Option.{none-some, slice_get_within}
+use Rattle.std.proofs.Common.{◌≡◌, ℕ, ◌<◌, List, [], ◌∷◌, ◌++◌, length, take, reverse, slice_get, Option, Some, None, IsSome, refl, ap, sym, ◌∙◌, subst, inl, inr}
+use Rattle.std.proofs.lemmas.List.{reverse-append}
+use Rattle.std.proofs.lemmas.Option.{slice_get_within}
 use Rattle.la_set.specs.Histories.{get}
 use Rattle.la_set.specs.Inclusion.{IsSubset}
 use Rattle.la_set.proofs.NumberedLists.{slice_get-append_left}
@@ -22,7 +22,7 @@ use Rattle.la_world.specs.Report.{refused, shown_as, line_of, Run, runs, runs_on
 use Rattle.la_world.specs.Laws.{view_at_place}
 use Rattle.la_world.specs.Promises.{learnt_in, IsLearntAt, IsSubmittedAt}
 use Rattle.la_world.specs.Reading.{MarksAreRead}
-use Rattle.la_world.proofs.Lists.{IsIn, IsIn_contains, contains_IsIn, in_either}
+use Rattle.la_world.proofs.Lists.{IsIn, in_either}
 use Rattle.la_world.proofs.Asking.{answers_are_values}
 use Rattle.la_world.proofs.Order.{held_within, view_learnt}
 use Rattle.la_world.proofs.Places.{accepted_of, learnt_at_end, learnt_in_order_of_places}

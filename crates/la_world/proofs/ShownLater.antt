@@ -1,6 +1,5 @@
 -- What a replica learnt in instance 0 at a place its view holds at each later place.
-use Rattle.std.proofs.Common.{◌≡◌, ℕ, ◌+◌, ◌<◌, inl, inr, cond, ◌&&◌, List, [], ◌∷◌, ◌++◌, length, take, Contains, Option, Some, None, refl, sym, ◌∙◌, ap, ap₂, subst, arith, eq-eqb}
-use Rattle.la_set.specs.Histories.{Histories}
+use Rattle.std.proofs.Common.{◌≡◌, ℕ, ◌+◌, ◌<◌, inl, inr, cond, ◌&&◌, List, [], ◌∷◌, length, take, Contains, Option, Some, None, refl, sym, ◌∙◌, ap, ap₂, subst, arith, eq-eqb}
 use Rattle.la_set.specs.Inclusion.{IsSubset}
 use Rattle.la_world.specs.declared.step.Opening.{Opening}
 use Rattle.la_world.specs.declared.step.Learnt.{Learnt}
@@ -8,9 +7,9 @@ use Rattle.la_world.specs.Groups.{Group}
 use Rattle.la_world.specs.Events.{Event}
 use Rattle.la_world.specs.Trace.{Trace}
 use Rattle.la_world.specs.Ballots.{only, learnt_by}
-use Rattle.la_world.specs.Views.{set_of, told_to, seen_at, seen, view}
+use Rattle.la_world.specs.Views.{set_of, told_to, seen_at, seen}
 use Rattle.la_world.specs.Playing.{trace}
-use Rattle.la_world.specs.Learnings.{learning, learning_of, learnt}
+use Rattle.la_world.specs.Learnings.{learning_of, learnt}
 use Rattle.la_world.specs.Report.{lines}
 use Rattle.la_world.specs.Promises.{IsLearntAt}
 use Rattle.la_world.specs.Laws.{view_at_place}

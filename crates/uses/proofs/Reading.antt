@@ -1,10 +1,9 @@
 -- What a run's clauses on submissions and reads say of its answers and of its learnt sets.
-use Rattle.std.proofs.Common.{◌≡◌, ℕ, ◌+◌, ◌≤◌, Bool, true, false, cond, List, slice_get, Option, Some, None, refl, sym, ◌∙◌, ap, subst, arith}
+use Rattle.std.proofs.Common.{◌≡◌, ℕ, Bool, true, false, cond, List, Option, Some, None, refl, sym, ◌∙◌, ap, subst, arith}
 use Rattle.std.specs.Prelude.{Result, Ok, Err, IfOk, IsSome}
 use Rattle.std.proofs.lemmas.Option.{same_Some, none-some}
 use Rattle.la_set.specs.declared.update.Update.{Update}
 use Rattle.la_set.specs.ObjectOps.{object_op_of}
-use Rattle.la_set.specs.Histories.{ContainsUpdate}
 use Rattle.la_commit.specs.Instances.{is_first_instance, commit_of}
 use Rattle.la_commit.specs.Votes.{proposed}
 use Rattle.la_world.specs.declared.error.WorldError.{WorldError}
