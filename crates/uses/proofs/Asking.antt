@@ -51,8 +51,8 @@ no_kinds (suc n) = ap (λ ks. [] ∷ ks) (no_kinds n)
 -- ## Reading by a Mark
 
 pub run_shows_by_marks : (c : Config) (shelves : List ShelfState) (events : List Event) (r : Result Report WorldError)
-    → IfOk r (λ (made : Report). ArePlacesInOrder (group_of c (kinds_of shelves)) events made.steps made.learnt)
-    → IfOk r (λ (made : Report). MarksShowWhatWasLearnt (group_of c (kinds_of shelves)) events made.steps made.learnt)
-run_shows_by_marks c shelves events (Ok made) order = λ j k earlier later mark learnt_at of_objects marked lt there also holds.
-    order j k earlier later mark learnt_at (subst (λ i. IsSubmittedAt (group_of c (kinds_of shelves)) events made.steps k i mark) (sym of_objects) marked.submitted) lt there (of_objects ∙ sym also) holds
+    → IfOk r (λ (made : Report). ArePlacesInOrder (group_of c (kinds_of shelves)) events made.steps)
+    → IfOk r (λ (made : Report). MarksShowWhatWasLearnt (group_of c (kinds_of shelves)) events made.steps)
+run_shows_by_marks c shelves events (Ok made) order = λ j k l earlier later mark learnt_at of_objects marked lt there also holds.
+    order j k l earlier later mark learnt_at (subst (λ i. IsSubmittedAt (group_of c (kinds_of shelves)) events made.steps k i mark) (sym of_objects) marked.submitted) lt there (of_objects ∙ sym also) holds
 run_shows_by_marks c shelves events (Err d) order = tt

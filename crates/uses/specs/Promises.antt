@@ -46,10 +46,16 @@ pub record IsMarkedAt (g : Group) (events : List Event) (steps : List Line) (pla
   pub handed_in : slice_get events place ≡ Some (submission_of replica object Mark)
   pub submitted : IsSubmittedAt g events steps place 0 id
 
--- a learnt set that holds a Mark contains each set that anyone had learnt when it was submitted
-abbrev pub MarksShowWhatWasLearnt : Group → List Event → List Line → (learnt : List Learnt) → Type 0
-MarksShowWhatWasLearnt g events steps learnt =
-    (j k : ℕ) (earlier later : Learnt) (mark : UpdateId) →
+-- a line whose set holds a Mark has each set that a line before the Mark's place shows
+abbrev pub MarksShowWhatWasLearnt : Group → List Event → List Line → Type 0
+MarksShowWhatWasLearnt g events steps =
+    (j k l : ℕ) (earlier later : Learnt) (mark : UpdateId) →
     IsLearntAt steps j earlier → earlier.instance ≡ 0 → IsMarkedAt g events steps k mark → j < k →
-    Contains learnt later → later.instance ≡ 0 → IsSome (get later.updates mark) →
+    IsLearntAt steps l later → later.instance ≡ 0 → IsSome (get later.updates mark) →
     IsSubset earlier.updates later.updates
+
+-- the set contains both those that these two lines show as learnt
+abbrev pub ContainsBoth : (steps : List Line) → (one other : ℕ) → Histories → Type 0
+ContainsBoth steps one other s = (x y : Learnt) →
+    IsLearntAt steps one x → IsLearntAt steps other y →
+    IsSubset x.updates s × IsSubset y.updates s
