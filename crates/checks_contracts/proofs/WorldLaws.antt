@@ -1,8 +1,8 @@
 -- What follows from the laws of la_world.
 use Rattle.std.proofs.Common.{◌≡◌, ℕ, ◌+◌, ◌<◌, ◌≤◌, List, [], ◌∷◌, ◌++◌, length, drop, slice_get, Some, Contains, sym, ◌∙◌, ap, subst, arith}
-use Rattle.std.specs.Prelude.{reverse, Result, Ok, Err, IfOk, OnOk}
+use Rattle.std.specs.Prelude.{reverse, Result, Ok, Err, IfOk}
 use Rattle.std.proofs.lemmas.Option.{same_Some}
-use Rattle.la_set.specs.Histories.{Histories, history}
+use Rattle.la_set.specs.Histories.{history}
 use Rattle.la_set.specs.Inclusion.{IsSubset, AreComparable}
 use Rattle.la_object.specs.declared.kind.Kind.{Kind}
 use Rattle.la_object.specs.declared.query.Query.{Query}
@@ -15,7 +15,6 @@ use Rattle.la_world.specs.declared.error.Refusal.TheVariants.{AlreadyProposed}
 use Rattle.la_world.specs.declared.report.Report.{Report}
 use Rattle.la_world.specs.declared.step.Opening.{Opening}
 use Rattle.la_world.specs.declared.step.Learnt.{Learnt}
-use Rattle.la_world.specs.declared.step.Step.{Step}
 use Rattle.la_world.specs.Groups.{Group, group_of, replicas, kinds_on, IsConfig}
 use Rattle.la_world.specs.Events.{Event, Decide}
 use Rattle.la_world.specs.Sent.{sent}
@@ -24,7 +23,7 @@ use Rattle.la_world.specs.Ballots.{ballots}
 use Rattle.la_world.specs.Submissions.{submitted, taken}
 use Rattle.la_world.specs.Playing.{trace}
 use Rattle.la_world.specs.Report.{report, refused, runs, lines, trace_of}
-use Rattle.la_world.specs.Promises.{KeepsPromises, AreAllComparable, IsLearntAt, PlacesCountAccepted}
+use Rattle.la_world.specs.Promises.{IsLearntAt, PlacesCountAccepted}
 use Rattle.la_world.specs.Laws.{LearntAreComparable, AcknowledgementsHavePlaces, LearntHoldWhatWasTaken, NumbersNameBallots, BallotsGrow, LearntGrow, SecondProposalsAreRefused, ProposalsAreTestedInOrder, LimitsAre, ReportedAnswersAreValues, IsAnswered, view_at_place}
 
 -- ## Of a run
@@ -90,11 +89,7 @@ pub answers_stay : ReportedAnswersAreValues → (g : Group) (events : List Event
 answers_stay law g events j k r object query a b x y views =
     same_Some a b (sym (law g events j r object query a x) ∙ ap (λ v. answer_at (record { view = v; objects = kinds_on g r }) object query) views ∙ law g events k r object query b y)
 
--- ## Promises
-
-pub step_comparable : (g : Group) (accepted : List Event) (learnt : List Learnt) (views : List Histories) (r : Result Step WorldError) → OnOk r (KeepsPromises g accepted learnt views) → OnOk r (AreAllComparable learnt)
-step_comparable g accepted learnt views (Ok step) kept = kept.comparable
-step_comparable g accepted learnt views (Err d) kept = tt
+-- ## Places
 
 pub one_place : PlacesCountAccepted → (g : Group) (events : List Event) (place : ℕ) (x y : Learnt) → IsLearntAt (lines g events) place x → IsLearntAt (lines g events) place y → x.place ≡ y.place
 one_place law g events place x y p q = law g events place x p ∙ sym (law g events place y q)

@@ -169,10 +169,10 @@ module _ (g : Group) (events : List Event) where
       let number : id.number ≡ length (submitted (trace_before g events k) i id.replica) + 1 = h.number ∙ ap (λ r. length (submitted (trace_before g events k) i r) + 1) (sym h.replica) in
       omega (arith, fewer, number)
 
-  pub learnt_in_order_of_places : ArePlacesInOrder g events (lines g events) (learnt (trace_of g events))
-  learnt_in_order_of_places j k x y id at submitted_at lt was same holds =
+  pub learnt_in_order_of_places : ArePlacesInOrder g events (lines g events)
+  learnt_in_order_of_places j k l x y id at submitted_at lt was same holds =
       let until = accepted_of g (take (j + 1) events) in
-      in_order g (accepted_of g events) until x y id (learnt_at_end j x at) was same
+      in_order g (accepted_of g events) until x y id (learnt_at_end j x at) (learnt_at_end l y was) same
       (learnt_submitted g until x (learnt_then j x at)) (submitted_after j k x id lt submitted_at) holds
 
 -- ## Removes

@@ -2,7 +2,7 @@
 use Rattle.std.proofs.Common.{◌≡◌, ◌+◌, List, ◌∷◌, ◌++◌, reverse, Some, None, IsSome, Bool, true, false, cond, ap, ap₂, sym, ◌∙◌, subst, subst₂, arith}
 use Rattle.std.proofs.lemmas.Option.{same_Some, none-some}
 use Rattle.std.proofs.lemmas.List.{reverse-reverse}
-use Rattle.std.specs.Prelude.{nat_lt}
+use Rattle.std.specs.Prelude.{nat_lt, Result, Ok, Err, IfOk}
 use Rattle.la_set.specs.declared.update.Op.TheVariants.{Remove}
 use Rattle.la_set.specs.Histories.{get}
 use Rattle.la_set.specs.Inclusion.{IsSubset, AreComparable}
@@ -30,18 +30,22 @@ use Rattle.la_world.proofs.GrowingViews.{views_grow}
 use Rattle.la_world.proofs.Places.{accepted_of}
 use Rattle.la_world.proofs.Safe.{accepted_are}
 
+pub if_ok : {T E : Type 0} (r : Result T E) (P Q : T → Type 0) → ((x : T) → P x → Q x) → IfOk r P → IfOk r Q
+if_ok (Ok x) P Q f h = f x h
+if_ok (Err e) P Q f h = tt
+
 -- of the definitions' own lists
 pub trace_keeps : (g : Group) (events : Past) → KeepsPromises g events (learnt (trace g events)) (views g (trace g events))
 trace_keeps g events = record {
   comparable = learnt_comparable g events;
-  growing = learnt_grow g events;
+  grows = learnt_grow g events;
   valid = learnt_valid g events;
   largest = λ r s at. let p = made_at (view (trace g events)) 0 (replicas g) r s at in let same : view (trace g events) r ≡ s = ap (view (trace g events)) {x = r} {y = 0 + r} (omega arith) ∙ p in subst (IsLargest (seen (trace g events) r)) same (views_largest g events r);
   one_history = λ a b p q.
       let x = IsIn_made (view (trace g events)) (group (replicas g)) a (contains_IsIn (views g (trace g events)) a p) in
       let y = IsIn_made (view (trace g events)) (group (replicas g)) b (contains_IsIn (views g (trace g events)) b q) in
       subst₂ AreComparable x.1 y.1 (views_comparable g events 0 0 x.0 y.0);
-  in_order = learnt_in_order g events;
+  order = learnt_in_order g events;
   removed = λ more before r object tags shown same stood listed holds tag named.
       let p = IsIn_made (view (trace g events)) (group (replicas g)) shown (contains_IsIn (views g (trace g events)) shown listed) in
       let is : view (trace g (more ++ submission_of r object (Remove tags) ∷ before)) p.0 ≡ shown = sym (ap (λ es. view (trace g es) p.0) same) ∙ p.1 in

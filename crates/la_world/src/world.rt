@@ -10,6 +10,9 @@ ghost use Rattle.la_world.specs.Calls.{may_absorb, IsSameUnless, Plays, Refuses,
 ghost use Rattle.la_world.specs.Calls.{view_at, view_in, view_of, views_of, decisions_in};
 ghost use Rattle.la_world.specs.Calls.{returned_in, returned_of, report_with, report_after};
 ghost use Rattle.la_world.specs.Laws.{IsAdoptCommit};
+ghost use Rattle.la_world.specs.Promises.{AreAllComparable, AreGrowing, AreValid, AreLargest};
+ghost use Rattle.la_world.specs.Promises.{AreOneHistory, AreInOrder, RemovedAreInViews};
+ghost use Rattle.la_world.specs.Promises.{AreValidIn, AreLargestIn, AreInOrderIn, RemovedAreIn};
 ghost use Rattle.la_world.specs.Promises.{KeepsPromises, NoViewShrinks};
 ghost use Rattle.la_world.specs.Returning.{ShowsOutcome, ShowsVote, OutcomesStayThere};
 ghost use Rattle.la_world.specs.Returning.{AnswersAreListed};
@@ -114,9 +117,20 @@ impl<B: Replicated> World<B> {
         requires { self.old.count + 1 < 2 ^ 64 }
         ensures step { (events : Past) → StandsFor self.old events →
             IfOk result (λ step. Plays self.old events (event_of event.now) step self.new) }
-        ensures promises { (events : Past) → StandsFor self.old events →
-            OnOk result (KeepsPromises (group_in self.new) (event_of event.now ∷ events)
-            self.new.learnt (views_of self.new.replica_states)) }
+        ensures comparable { (events : Past) → StandsFor self.old events →
+            OnOk result (AreAllComparable self.new.learnt) }
+        ensures grows { (events : Past) → StandsFor self.old events →
+            OnOk result (AreGrowing self.new.learnt) }
+        ensures valid { (events : Past) → StandsFor self.old events →
+            OnOk result (AreValidIn self.new (event_of event.now ∷ events)) }
+        ensures largest { (events : Past) → StandsFor self.old events →
+            OnOk result (AreLargestIn self.new (event_of event.now ∷ events)) }
+        ensures one_history { (events : Past) → StandsFor self.old events →
+            OnOk result (AreOneHistory (views_of self.new.replica_states)) }
+        ensures order { (events : Past) → StandsFor self.old events →
+            OnOk result (AreInOrderIn self.new (event_of event.now ∷ events)) }
+        ensures removed { (events : Past) → StandsFor self.old events →
+            OnOk result (RemovedAreIn self.new (event_of event.now ∷ events)) }
         ensures views { (events : Past) → StandsFor self.old events →
             OnOk result (NoViewShrinks self.old self.new) }
         ensures outcome { (events : Past) → StandsFor self.old events →
@@ -257,8 +271,33 @@ impl<B: Replicated> World<B> {
 
     /// A report of these lines, of what was learnt, of the views and of what was returned, at the
     /// cost of an entry for each; their updates are shared. It refuses with want of memory alone.
-    #[tactic(auto, using(crate::proofs::Worlds::views_are, crate::proofs::Returned::decisions_are, crate::proofs::Safe::returns_safely, crate::proofs::Promised::world_keeps))]
     pub fn report(&self, steps: Steps) -> Result<Report, AllocError>
+        ensures value { IfOk result (λ report. report ≡ report_with self.now steps) }
+        ensures stands { (events : Past) → StandsFor self.now events →
+            IfOk result (λ report. report ≡ report_after self.now events steps) }
+        ensures comparable { (events : Past) → StandsFor self.now events →
+            IfOk result (λ report. AreAllComparable report.learnt) }
+        ensures grows { (events : Past) → StandsFor self.now events →
+            IfOk result (λ report. AreGrowing report.learnt) }
+        ensures valid { (events : Past) → StandsFor self.now events →
+            IfOk result (λ report. AreValid (group_in self.now) events report.learnt) }
+        ensures largest { (events : Past) → StandsFor self.now events →
+            IfOk result (λ report. AreLargest (group_in self.now) events report.views) }
+        ensures one_history { (events : Past) → StandsFor self.now events →
+            IfOk result (λ report. AreOneHistory report.views) }
+        ensures order { (events : Past) → StandsFor self.now events →
+            IfOk result (λ report. AreInOrder (group_in self.now) events report.learnt) }
+        ensures removed { (events : Past) → StandsFor self.now events →
+            IfOk result (λ report. RemovedAreInViews (group_in self.now) events report.views) }
+        ensures safe { (events : Past) → StandsFor self.now events →
+            IfOk result (λ report. IsAdoptCommit events report.outcomes) }
+    {
+        self.gather(steps)
+    }
+
+    // The same, with what is promised of its lists in one.
+    #[tactic(auto, using(crate::proofs::Worlds::views_are, crate::proofs::Returned::decisions_are, crate::proofs::Safe::returns_safely, crate::proofs::Promised::world_keeps))]
+    fn gather(&self, steps: Steps) -> Result<Report, AllocError>
         ensures value { IfOk result (λ report. report ≡ report_with self.now steps) }
         ensures stands { (events : Past) → StandsFor self.now events →
             IfOk result (λ report. report ≡ report_after self.now events steps) }
@@ -279,8 +318,33 @@ impl<B: Replicated> World<B> {
     /// The report that [`World::report`] would make, of a world that goes: what was learnt is
     /// handed out, and the views are copied. It refuses with want of memory alone, and then the
     /// world is lost.
-    #[tactic(auto, using(crate::proofs::Worlds::views_are, crate::proofs::Returned::decisions_are, crate::proofs::Safe::returns_safely, crate::proofs::Promised::world_keeps))]
     pub fn into_report(self, steps: Steps) -> Result<Report, AllocError>
+        ensures value { IfOk result (λ report. report ≡ report_with self steps) }
+        ensures stands { (events : Past) → StandsFor self events →
+            IfOk result (λ report. report ≡ report_after self events steps) }
+        ensures comparable { (events : Past) → StandsFor self events →
+            IfOk result (λ report. AreAllComparable report.learnt) }
+        ensures grows { (events : Past) → StandsFor self events →
+            IfOk result (λ report. AreGrowing report.learnt) }
+        ensures valid { (events : Past) → StandsFor self events →
+            IfOk result (λ report. AreValid (group_in self) events report.learnt) }
+        ensures largest { (events : Past) → StandsFor self events →
+            IfOk result (λ report. AreLargest (group_in self) events report.views) }
+        ensures one_history { (events : Past) → StandsFor self events →
+            IfOk result (λ report. AreOneHistory report.views) }
+        ensures order { (events : Past) → StandsFor self events →
+            IfOk result (λ report. AreInOrder (group_in self) events report.learnt) }
+        ensures removed { (events : Past) → StandsFor self events →
+            IfOk result (λ report. RemovedAreInViews (group_in self) events report.views) }
+        ensures safe { (events : Past) → StandsFor self events →
+            IfOk result (λ report. IsAdoptCommit events report.outcomes) }
+    {
+        self.gather_all(steps)
+    }
+
+    // The same of a world that goes.
+    #[tactic(auto, using(crate::proofs::Worlds::views_are, crate::proofs::Returned::decisions_are, crate::proofs::Safe::returns_safely, crate::proofs::Promised::world_keeps))]
+    fn gather_all(self, steps: Steps) -> Result<Report, AllocError>
         ensures value { IfOk result (λ report. report ≡ report_with self steps) }
         ensures stands { (events : Past) → StandsFor self events →
             IfOk result (λ report. report ≡ report_after self events steps) }

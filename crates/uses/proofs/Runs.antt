@@ -19,21 +19,10 @@ use Rattle.la_world.specs.Views.{set_of, told_to, seen_at, seen, view}
 use Rattle.la_world.specs.Playing.{trace}
 use Rattle.la_world.specs.Learnings.{learning, learning_of, learnt}
 use Rattle.la_world.specs.Report.{report, views, accepted_among}
-use Rattle.la_world.specs.Promises.{KeepsPromises, accepted_in, AreAllComparable, AreOneHistory}
 use Rattle.la_world.specs.StandsFor.{kinds_of}
 use Rattle.la_world.specs.Calls.{IsGroup}
 use Rattle.la_world.specs.Laws.{ViewsAreLargest, CommitsAgree, ReturnsAreProposed, ReportedOutcomesAreSafe}
 use Rattle.uses.specs.Promises.{ViewsHoldTheirOwn, accepted}
-
-pub run_comparable : (c : Config) (shelves : List ShelfState) (events : List Event) (r : Result Report WorldError)
-    → IfOk r (λ (made : Report). KeepsPromises (group_of c (kinds_of shelves)) (accepted_in events made.steps) made.learnt made.views) → IfOk r (λ (made : Report). AreAllComparable made.learnt)
-run_comparable c shelves events (Ok made) kept = kept.comparable
-run_comparable c shelves events (Err d) kept = tt
-
-pub run_one_history : (c : Config) (shelves : List ShelfState) (events : List Event) (r : Result Report WorldError)
-    → IfOk r (λ (made : Report). KeepsPromises (group_of c (kinds_of shelves)) (accepted_in events made.steps) made.learnt made.views) → IfOk r (λ (made : Report). AreOneHistory made.views)
-run_one_history c shelves events (Ok made) kept = kept.one_history
-run_one_history c shelves events (Err d) kept = tt
 
 -- ## What a replica learnt in instance 0, it saw
 

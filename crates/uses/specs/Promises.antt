@@ -93,3 +93,9 @@ NothingIsMadeUp events steps =
     IsLearntAt steps place x → x.instance ≡ 0 → ContainsUpdate x.updates update →
     (k : ℕ) × (k ≤ place)
     × (slice_get events k ≡ Some (Submit update.id.replica (object_op_of update)))
+
+-- the set contains both those that these two lines show as learnt
+abbrev pub ContainsBoth : (steps : List Line) → (one other : ℕ) → Histories → Type 0
+ContainsBoth steps one other s = (x y : Learnt) →
+    IsLearntAt steps one x → IsLearntAt steps other y →
+    IsSubset x.updates s × IsSubset y.updates s

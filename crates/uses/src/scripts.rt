@@ -25,3 +25,19 @@ pub fn report_of(alloc: Global, bytes: &[u8]) -> Result<Text, ReadError>
     let text = print(alloc, script.version, &report)?;
     Ok(text)
 }
+
+// ---- what a text keeps
+ghost use Rattle.uses.specs.Scripts.{IsTextOfKept};
+
+use la_world::laws;
+
+/// The same: the text is that of a report which keeps all that `run` promises of its lines, of its
+/// views and of what was returned.
+pub fn kept_report_of(alloc: Global, bytes: &[u8]) -> Result<Text, ReadError>
+    requires { length bytes.now < 2 ^ 32 }
+    ensures kept { IfOk result (λ text. IsTextOfKept bytes.now text) }
+    ensures error { IfErr result (IsRefusal (script_of bytes.now)) }
+{
+    laws::reports_keep_promises();
+    report_of(alloc, bytes)
+}

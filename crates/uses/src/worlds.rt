@@ -3,15 +3,16 @@ ghost use Rattle.la_world.specs.Events.{event_of};
 ghost use Rattle.la_world.specs.Report.{report, accepted_among};
 ghost use Rattle.la_world.specs.Calls.{IsMakingRefusal};
 ghost use Rattle.la_world.specs.StandsFor.{kinds_of};
-ghost use Rattle.la_world.specs.Promises.{AreAllComparable, AreOneHistory};
+ghost use Rattle.la_world.specs.Promises.{LinesAreComparable, AreOneHistory};
 ghost use Rattle.uses.specs.Promises.{ViewsHoldTheirOwn};
 
 use la_object::{Replicated, Shelf};
 use la_world::{Config, Event, Report, WorldError, laws, run};
 use std::alloc::Global;
 
-/// Plays a list of submissions and deliveries. Of any two sets that were learnt in one instance one
-/// contains the other, and so it is of any two views. Each view holds what its replica learnt.
+/// Plays a list of submissions and deliveries. Of any two sets that lines of the report show as learnt
+/// in one instance one contains the other, and so it is of any two views. Each view holds what its
+/// replica learnt.
 pub fn play<B: Replicated>(
     alloc: Global,
     config: Config,
@@ -20,7 +21,7 @@ pub fn play<B: Replicated>(
 ) -> Result<Report, WorldError>
     ensures report { IfOk result (λ made.
         made ≡ report config (kinds_of shelves.items) (map event_of events.now)) }
-    ensures comparable { IfOk result (λ made. AreAllComparable made.learnt) }
+    ensures comparable { IfOk result (λ made. LinesAreComparable made.steps) }
     ensures one_history { IfOk result (λ made. AreOneHistory made.views) }
     ensures shown { IfOk result (λ made. ViewsHoldTheirOwn made.views made.learnt) }
     ensures error { IfErr result (IsMakingRefusal config shelves.items) }
@@ -41,7 +42,7 @@ use la_world::empty_shelves;
 /// A submission at one of three replicas, which are asked nothing. All that is sent is delivered, in
 /// the order of sending.
 pub fn one_learning(alloc: Global) -> Result<Report, WorldError>
-    ensures comparable { IfOk result (λ made. AreAllComparable made.learnt) }
+    ensures comparable { IfOk result (λ made. LinesAreComparable made.steps) }
     ensures one_history { IfOk result (λ made. AreOneHistory made.views) }
     ensures shown { IfOk result (λ made. ViewsHoldTheirOwn made.views made.learnt) }
 {
@@ -249,5 +250,63 @@ pub fn answer_at(made: &Report, place: usize) -> Option<&Answer> {
             _ => None,
         },
         Line::Refused(_) => None,
+    }
+}
+
+// ---- two lines
+ghost use Rattle.std.specs.Prelude.{IfSome, option_and_then};
+ghost use Rattle.la_world.specs.Promises.{learnt_on};
+ghost use Rattle.la_world.specs.Report.{lines};
+ghost use Rattle.uses.specs.Promises.{ContainsBoth};
+
+use la_world::Learnt;
+
+/// The set that the line at a place, from 0, shows as learnt; `None` where it shows none.
+pub fn learnt_at(made: &Report, place: usize) -> Option<&Learnt>
+    ensures { option_copied result ≡ option_and_then learnt_on (slice_get made.now.steps place) }
+{
+    match made.steps.at(place)? {
+        Line::Done(step) => match &step.did {
+            Did::Learnt { learnt, .. } => Some(learnt),
+            _ => None,
+        },
+        Line::Refused(_) => None,
+    }
+}
+
+/// Of the sets that two lines show as learnt in one instance the larger: it contains both. `None`
+/// where a line shows none, or they are of two instances.
+pub fn larger_of(made: &Report, one: usize, other: usize) -> Option<&UpdateSet>
+    requires { LinesAreComparable made.now.steps }
+    ensures { IfSome (option_copied result) (ContainsBoth made.now.steps one other) }
+{
+    let x = learnt_at(made, one)?;
+    let y = learnt_at(made, other)?;
+    if x.instance != y.instance {
+        return None;
+    }
+    if y.updates.contains_all(&x.updates) {
+        Some(&y.updates)
+    } else {
+        Some(&x.updates)
+    }
+}
+
+/// Plays a list of events, and answers with the larger of the sets that two of its lines show.
+pub fn larger_learnt<B: Replicated>(
+    alloc: Global,
+    config: Config,
+    shelves: Vec<Shelf<B>>,
+    events: &[Event],
+    one: usize,
+    other: usize,
+) -> Result<Option<UpdateSet>, WorldError>
+    ensures { IfOk result (λ larger. IfSome larger (ContainsBoth
+        (lines (group_of config (kinds_of shelves.items)) (map event_of events.now)) one other)) }
+{
+    let made = run(alloc, config, shelves, events)?;
+    match larger_of(&made, one, other) {
+        Some(set) => Ok(Some(set.copy()?)),
+        None => Ok(None),
     }
 }

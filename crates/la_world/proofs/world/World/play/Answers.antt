@@ -16,8 +16,26 @@ in_both : {T E : Type 0} (r : Result T E) (P : T → Type 0) (K Q : Type 0) → 
 in_both (Ok x) P K Q f k h e = f x h
 in_both (Err d) P K Q f k h e = k e
 
-pub returns-clause-promises : goal.returns-clause-promises
-returns-clause-promises g c events stands = on_ok c.take_event.result _ _ (λ step p. play_keeps _ events _ step _ p) (c.take_event.ensures.step events stands)
+pub returns-clause-comparable : goal.returns-clause-comparable
+returns-clause-comparable g c events stands = on_ok c.take_event.result _ _ (λ step p. (play_keeps _ events _ step _ p).comparable) (c.take_event.ensures.step events stands)
+
+pub returns-clause-grows : goal.returns-clause-grows
+returns-clause-grows g c events stands = on_ok c.take_event.result _ _ (λ step p. (play_keeps _ events _ step _ p).grows) (c.take_event.ensures.step events stands)
+
+pub returns-clause-valid : goal.returns-clause-valid
+returns-clause-valid g c events stands = on_ok c.take_event.result _ _ (λ step p. (play_keeps _ events _ step _ p).valid) (c.take_event.ensures.step events stands)
+
+pub returns-clause-largest : goal.returns-clause-largest
+returns-clause-largest g c events stands = on_ok c.take_event.result _ _ (λ step p. (play_keeps _ events _ step _ p).largest) (c.take_event.ensures.step events stands)
+
+pub returns-clause-one_history : goal.returns-clause-one_history
+returns-clause-one_history g c events stands = on_ok c.take_event.result _ _ (λ step p. (play_keeps _ events _ step _ p).one_history) (c.take_event.ensures.step events stands)
+
+pub returns-clause-order : goal.returns-clause-order
+returns-clause-order g c events stands = on_ok c.take_event.result _ _ (λ step p. (play_keeps _ events _ step _ p).order) (c.take_event.ensures.step events stands)
+
+pub returns-clause-removed : goal.returns-clause-removed
+returns-clause-removed g c events stands = on_ok c.take_event.result _ _ (λ step p. (play_keeps _ events _ step _ p).removed) (c.take_event.ensures.step events stands)
 
 pub returns-clause-views : goal.returns-clause-views
 returns-clause-views g c events stands = on_ok c.take_event.result _ _ (λ step p. no_view_shrinks _ events _ step _ stands p) (c.take_event.ensures.step events stands)
