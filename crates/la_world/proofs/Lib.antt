@@ -53,9 +53,9 @@ pub mod Safe
 pub mod Asking
 pub mod Places
 pub mod Promised
-pub mod Reported
 pub mod TellOrder
 pub mod Seeing
+pub mod Reported
 pub mod WorldNodes
 pub mod Questions
 pub mod SubmittingOnce

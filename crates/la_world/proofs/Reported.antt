@@ -24,6 +24,7 @@ use Rattle.la_world.proofs.LearntOrder.{learnt_grow}
 use Rattle.la_world.proofs.Places.{accepted_of, learnt_at_end, learnt_in_order_of_places, removed_shown}
 use Rattle.la_world.proofs.Promised.{list_keeps}
 use Rattle.la_world.proofs.Safe.{reported}
+use Rattle.la_world.proofs.Seeing.{views_seen}
 
 -- ## The lines show exactly what was learnt
 
@@ -129,7 +130,7 @@ reports_keep c kinds events is =
       comparable = lines_comparable g events;
       grows = lines_grow g events;
       valid = kept.valid;
-      largest = kept.largest;
+      largest = views_seen g events;
       one_history = kept.one_history;
       order = learnt_in_order_of_places g events;
       removed = removed_shown g events;

@@ -265,7 +265,7 @@ pub record ReportKeeps (g : Group) (events : List Event) (made : Report) : Type 
   pub comparable : LinesAreComparable made.steps
   pub grows : LinesGrow made.steps
   pub valid : AreValid g (accepted_in events made.steps) made.learnt
-  pub largest : AreLargest g (accepted_in events made.steps) made.views
+  pub largest : AreLargestSeen g events made.steps made.views
   pub one_history : AreOneHistory made.views
   pub order : ArePlacesInOrder g events made.steps
   pub removed : RemovedAreShown g events made.steps made.views
