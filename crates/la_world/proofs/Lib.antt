@@ -61,9 +61,9 @@ pub mod ReadsByMarks
 pub mod Promised
 pub mod Outcomes
 pub mod WorldOutcomes
-pub mod Reported
 pub mod TellOrder
 pub mod Seeing
+pub mod Reported
 pub mod WorldNodes
 pub mod Questions
 pub mod SubmittingOnce

@@ -25,7 +25,7 @@ use Rattle.la_world.specs.Reading.{MarksAreRead}
 use Rattle.la_world.proofs.Lists.{IsIn, in_either}
 use Rattle.la_world.proofs.Asking.{answers_are_values}
 use Rattle.la_world.proofs.Order.{held_within, view_learnt}
-use Rattle.la_world.proofs.Places.{accepted_of, learnt_at_end, learnt_in_order_of_places}
+use Rattle.la_world.proofs.Places.{accepted_of, learnt_in_order_of_places}
 use Rattle.la_world.proofs.SubmissionLines.{lines_before, submits_by_trace}
 use Rattle.la_world.proofs.OwnUpdates.{get_taken}
 use Rattle.la_world.proofs.ShownLater.{shown_later}
@@ -112,6 +112,6 @@ module _ (g : Group) (events : List Event) where
         value = ap (λ u. answer_at (record { view = u; objects = kinds_on g r }) object query) known.set ∙ answers_are_values g events k r object query answer asked;
         own = λ l y at_y before of_y of_r. subst (IsSubset y.updates) (sym known.set) (subst (λ q. IsSubset y.updates (view_at_place g events k q)) of_r (shown_later g events l k y at_y of_y before));
         current = λ l y at_y before of_y.
-            learnt_in_order_of_places g events l m y read mark.id at_y (subst (λ i. IsSubmittedAt g events (lines g events) m i mark.id) (sym of_y) (submits_by_trace g events m 0 mark s)) before
-            (learnt_at_end g events line.0 read line.2) (of_y ∙ sym known.of_objects) (subst (λ u. IsSome (get u mark.id)) (sym known.set) has);
+            learnt_in_order_of_places g events l m line.0 y read mark.id at_y (subst (λ i. IsSubmittedAt g events (lines g events) m i mark.id) (sym of_y) (submits_by_trace g events m 0 mark s)) before
+            line.2 (of_y ∙ sym known.of_objects) (subst (λ u. IsSome (get u mark.id)) (sym known.set) has);
       }

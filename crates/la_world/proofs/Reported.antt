@@ -28,6 +28,7 @@ use Rattle.la_world.proofs.ReadsByMarks.{marks_are_read}
 use Rattle.la_world.proofs.Promised.{list_keeps}
 use Rattle.la_world.proofs.Outcomes.{outcomes_listed}
 use Rattle.la_world.proofs.Safe.{reported}
+use Rattle.la_world.proofs.Seeing.{views_seen}
 use Rattle.la_world.proofs.WorldSteps.{few_of}
 
 -- ## The lines show exactly what was learnt
@@ -135,7 +136,7 @@ reports_keep c kinds events is =
       grows = lines_grow g events;
       submitted = learnt_were_submitted g events;
       own = learnt_hold_their_own g events (few_of c kinds is);
-      largest = kept.largest;
+      largest = views_seen g events;
       one_history = kept.one_history;
       order = learnt_in_order_of_places g events;
       removed = removed_shown g events;

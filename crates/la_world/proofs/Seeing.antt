@@ -197,7 +197,7 @@ module _ (g : Group) (events : List Event) where
 
 -- ## What was seen, lines show
 
-told_set : Body → Option Histories
+abbrev told_set : Body → Option Histories
 told_set (Tell s) = Some s
 told_set (Offer s) = None
 told_set Yes = None

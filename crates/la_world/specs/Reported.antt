@@ -7,7 +7,7 @@ use Rattle.la_world.specs.Groups.{Group, group_of, IsConfig}
 use Rattle.la_world.specs.Events.{Event}
 use Rattle.la_world.specs.Report.{report, accepted_among}
 use Rattle.la_world.specs.Laws.{IsAdoptCommit, EqualViewsAnswerAlike}
-use Rattle.la_world.specs.Promises.{AreListed, LinesAreComparable, LinesGrow, accepted_in, AreLargest, AreOneHistory, ArePlacesInOrder, RemovedAreShown}
+use Rattle.la_world.specs.Promises.{AreListed, LinesAreComparable, LinesGrow, AreLargestSeen, AreOneHistory, ArePlacesInOrder, RemovedAreShown}
 use Rattle.la_world.specs.Returning.{OutcomesAreListed}
 use Rattle.la_world.specs.Reading.{LearntWereSubmitted, LearntHoldTheirOwn, MarksAreRead}
 
@@ -18,7 +18,7 @@ pub record ReportKeeps (g : Group) (events : List Event) (made : Report) : Type 
   pub grows : LinesGrow made.steps
   pub submitted : LearntWereSubmitted events made.steps
   pub own : LearntHoldTheirOwn events made.steps
-  pub largest : AreLargest g (accepted_in events made.steps) made.views
+  pub largest : AreLargestSeen g events made.steps made.views
   pub one_history : AreOneHistory made.views
   pub order : ArePlacesInOrder g events made.steps
   pub removed : RemovedAreShown g events made.steps made.views
