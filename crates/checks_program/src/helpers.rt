@@ -9,6 +9,7 @@ use la_object::{Counter, Replicated};
 use la_program::{PlayFault, play_stream};
 use la_world::empty_shelves;
 use std::alloc::Global;
+use std::fmt::Display;
 use std::io::Read;
 
 /// What came of a play: its fault, and whether just the text that was looked for was written.
@@ -130,7 +131,7 @@ fn fault_of(alloc: Global, script: &[u8]) -> Option<PlayFault> {
 /// Whether the script has a fault that is told so.
 pub fn has_fault(alloc: Global, script: &[u8], told: &str) -> bool {
     match fault_of(alloc, script) {
-        Some(fault) => shows(alloc, fault, told),
+        Some(fault) => shows(alloc, &fault, told),
         None => false,
     }
 }
@@ -216,11 +217,11 @@ pub fn fills_so(
     is(went, fault) && left == unread
 }
 
-/// Whether a fault is shown so.
-pub fn shows(alloc: Global, fault: PlayFault, text: &str) -> bool {
-    match format!(in alloc; "{fault}") {
+/// Whether an error is shown so.
+pub fn shows<E: Display>(alloc: Global, error: &E, text: &str) -> bool {
+    match format!(in alloc; "{error}") {
         Ok(shown) => shown.as_str() == text,
-        Err(_) => match format!(in alloc; "{fault}") {
+        Err(_) => match format!(in alloc; "{error}") {
             Ok(shown) => shown.as_str() == text,
             Err(_) => false,
         },

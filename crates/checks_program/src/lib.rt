@@ -18,4 +18,6 @@ mod shelves;
 #[cfg(test)]
 mod streams;
 #[cfg(test)]
+mod texts;
+#[cfg(test)]
 mod words;

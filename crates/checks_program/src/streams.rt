@@ -1,4 +1,5 @@
 // Readers and writers that fail.
+use la_program::{Listener, WriteFailed, flush, write_some};
 use std::alloc::Global;
 use std::io;
 use std::io::{Read, Write};
@@ -110,6 +111,18 @@ impl Write for Narrow {
                 Ok(())
             }
         }
+    }
+}
+
+impl Listener for Narrow {
+    ghost refuses = { λ old bytes new. Unit {0} };
+
+    fn hear(&mut self, bytes: &[u8]) -> Result<usize, WriteFailed> {
+        write_some(self, bytes)
+    }
+
+    fn settle(&mut self) -> Result<(), WriteFailed> {
+        flush(self)
     }
 }
 

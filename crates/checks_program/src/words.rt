@@ -368,7 +368,7 @@ fn ends_without_words(alloc: Global, kind: ErrorKind, status: u8, told: &str) ->
 #[test]
 fn faults_are_shown_by_name(rt: HostRuntime) {
     for shown in &SHOWN {
-        let is = shows(rt.alloc(), shown.fault, shown.text)
+        let is = shows(rt.alloc(), &shown.fault, shown.text)
             && status_of(shown.fault) == shown.status;
         assert!(rt; is, "{}", shown.text);
     }

@@ -7,7 +7,7 @@ use Rattle.clap.specs.declared.error.kind.ErrorKind.TheVariants.{OutOfMemory, Di
 use Rattle.la_object.specs.Shelves.{ShelfState}
 use Rattle.la_program.specs.Calls.{lattice, IsText, IsMistaken, AsksForText}
 use Rattle.la_program.specs.Faults.{status_of}
-use Rattle.la_program.specs.Program.{Standard, Tells, TellsFault, EndsWithoutTask, EndsWell, ComesTo, IsDone, IsDiffering}
+use Rattle.la_program.specs.Program.{Standard, Heard, Tells, TellsFault, EndsWithoutTask, EndsWell, ComesTo, IsDone, IsDiffering}
 use Rattle.la_program.specs.declared.call.Task.{Task}
 use Rattle.la_program.specs.declared.error.PlayFault.{PlayFault}
 use Rattle.la_program.specs.declared.error.PlayFault.TheVariants.{Script, ReadFault, TooLong, BadConfig, WriteFault, NoThread, Memory}
@@ -36,19 +36,19 @@ is_differing false task shelves left left_after written written_after e done = d
 is_differing true task shelves left left_after written written_after e done = absurd (false≢true (sym e))
 
 -- where something is told with a status that is not 0, the status is not 0
-told_status : (told after line : _) (n : ℕ) (ended : Ended) → Tells told after line n ended → n ≢ 0 → ended.status ≢ 0
-told_status told after line n ended tells some zero = some (sym tells.status ∙ zero)
+told_status : (heard : Heard) (line : List ℕ) (n : ℕ) (ended : Ended) → Tells heard line n ended → n ≢ 0 → ended.status ≢ 0
+told_status heard line n ended tells some zero = some (sym tells.status ∙ zero)
 
-pub a_told_fault_is_no_good_end : (told after : Option (List ℕ)) (f : PlayFault) (ended : Ended) → TellsFault told after f ended → ended.status ≢ 0
-a_told_fault_is_no_good_end told after f ended tells = told_status told after _ _ ended tells (faults_have_a_status f)
+pub a_told_fault_is_no_good_end : (heard : Heard) (f : PlayFault) (ended : Ended) → TellsFault heard f ended → ended.status ≢ 0
+a_told_fault_is_no_good_end heard f ended tells = told_status heard _ _ ended tells (faults_have_a_status f)
 
 -- without a task, the status 0 is that of a text that was asked for and written
-pub without_task_well : (words : List (List ℕ)) (shelves : List ShelfState) (old new : Standard) (ended : Ended)
-    → EndsWithoutTask words old new ended → ended.status ≡ 0 → EndsWell words shelves old new ended
-without_task_well words shelves old new ended (inl shown) zero = inr shown
-without_task_well words shelves old new ended (inr (inl it)) zero = absurd (a_told_fault_is_no_good_end _ _ WriteFault ended it.tells zero)
-without_task_well words shelves old new ended (inr (inr (inl it))) zero = absurd (told_status _ _ it.text 2 ended it.tells (λ e. cc) zero)
-without_task_well words shelves old new ended (inr (inr (inr it))) zero = absurd (a_told_fault_is_no_good_end _ _ Memory ended it.tells zero)
+pub without_task_well : (words : List (List ℕ)) (shelves : List ShelfState) (old new : Standard) (heard : Heard) (ended : Ended)
+    → EndsWithoutTask words old new heard ended → ended.status ≡ 0 → EndsWell words shelves old new heard ended
+without_task_well words shelves old new heard ended (inl shown) zero = inr shown
+without_task_well words shelves old new heard ended (inr (inl it)) zero = absurd (a_told_fault_is_no_good_end heard WriteFault ended it.tells zero)
+without_task_well words shelves old new heard ended (inr (inr (inl it))) zero = absurd (told_status heard it.text 2 ended it.tells (λ e. cc) zero)
+without_task_well words shelves old new heard ended (inr (inr (inr it))) zero = absurd (a_told_fault_is_no_good_end heard Memory ended it.tells zero)
 
 -- ## Words that call for no task
 

@@ -1,5 +1,5 @@
 -- What is written for what was played, and what stands after a play that was refused before that.
-use Rattle.std.proofs.Common.{◌≡◌, ◌∙◌, ◌+◌, ℕ, List, Option, map, refl, ap}
+use Rattle.std.proofs.Common.{◌≡◌, ◌∙◌, ◌+◌, ℕ, List, Option, map, refl, ap, arith}
 use Rattle.std.proofs.KnownBytes.{Keeps-refl}
 use Rattle.la_object.specs.Shelves.{ShelfState}
 use Rattle.la_world.specs.declared.config.Config.{Config}
@@ -13,8 +13,8 @@ use Rattle.la_script.specs.declared.script.Version.TheVariants.{One}
 use Rattle.la_script.specs.RandomEvents.{random_events}
 use Rattle.la_script.specs.Text.{text_of}
 use Rattle.la_program.specs.Faults.{of_input}
-use Rattle.la_program.specs.Play.{shelves_of, text_by, IsRandomGroup, AnswersDraw, ReadsInput, IsAnswerRefusal, IsPlayRefusal}
-use Rattle.la_program.specs.Streams.{Takes}
+use Rattle.la_program.specs.Play.{FitAnyGroup, shelves_of, text_by, IsRandomGroup, AnswersDraw, ReadsInput, IsAnswerRefusal, IsPlayRefusal}
+use Rattle.la_program.specs.Streams.{Takes, TakesAtMost}
 use Rattle.la_program.specs.declared.error.PlayFault.{PlayFault}
 use Rattle.la_program.specs.declared.error.PlayFault.TheVariants as fault
 use Rattle.la_program.specs.declared.streams.InputFault.{InputFault}
@@ -35,19 +35,19 @@ draw_is_answered shelves seed replicas count c events text group drawn is =
 -- ## Refusals
 
 -- not all was read
-pub input_is_refused : (shelves : List ShelfState) (left left_after written : Option (List ℕ)) (f : InputFault) → (f ≡ input.TooLong → Takes (LIMIT + 1) left left_after)
-    → IsPlayRefusal shelves left left_after written written (of_input f)
-input_is_refused shelves left left_after written input.ReadFault long = Keeps-refl written
-input_is_refused shelves left left_after written input.TooLong long = (long refl, Keeps-refl written)
-input_is_refused shelves left left_after written input.Memory long = Keeps-refl written
+pub input_is_refused : (shelves : List ShelfState) → FitAnyGroup shelves → (left left_after written : Option (List ℕ)) (f : InputFault) → (f ≡ input.TooLong → Takes (LIMIT + 1) left left_after)
+    → (f ≡ input.ReadFault → TakesAtMost LIMIT left left_after) → TakesAtMost (LIMIT + 1) left left_after → IsPlayRefusal shelves left left_after written written (of_input f)
+input_is_refused shelves fit left left_after written input.ReadFault long failed taken = (fit, failed refl, Keeps-refl written)
+input_is_refused shelves fit left left_after written input.TooLong long failed taken = (fit, long refl, Keeps-refl written)
+input_is_refused shelves fit left left_after written input.Memory long failed taken = (fit, taken, Keeps-refl written)
 
 -- there is no text for what was read
-pub answer_is_refused : (shelves : List ShelfState) (left left_after written : Option (List ℕ)) (bytes : List ℕ) (f : PlayFault) → ReadsInput left left_after bytes → IsAnswerRefusal bytes f
+pub answer_is_refused : (shelves : List ShelfState) → FitAnyGroup shelves → (left left_after written : Option (List ℕ)) (bytes : List ℕ) (f : PlayFault) → ReadsInput left left_after bytes → IsAnswerRefusal bytes f
     → IsPlayRefusal shelves left left_after written written f
-answer_is_refused shelves left left_after written bytes (fault.Script f) read is = (record { input = bytes; read = read; fault = is }, Keeps-refl written)
-answer_is_refused shelves left left_after written bytes fault.Memory read is = Keeps-refl written
-answer_is_refused shelves left left_after written bytes fault.BadConfig read is = absurd is
-answer_is_refused shelves left left_after written bytes fault.ReadFault read is = absurd is
-answer_is_refused shelves left left_after written bytes fault.TooLong read is = absurd is
-answer_is_refused shelves left left_after written bytes fault.WriteFault read is = absurd is
-answer_is_refused shelves left left_after written bytes fault.NoThread read is = absurd is
+answer_is_refused shelves fit left left_after written bytes (fault.Script f) read is = (fit, record { input = bytes; read = read; fault = is }, Keeps-refl written)
+answer_is_refused shelves fit left left_after written bytes fault.Memory read is = (fit, (bytes, read.all.0, omega (arith, read.short)), Keeps-refl written)
+answer_is_refused shelves fit left left_after written bytes fault.BadConfig read is = absurd is
+answer_is_refused shelves fit left left_after written bytes fault.ReadFault read is = absurd is
+answer_is_refused shelves fit left left_after written bytes fault.TooLong read is = absurd is
+answer_is_refused shelves fit left left_after written bytes fault.WriteFault read is = absurd is
+answer_is_refused shelves fit left left_after written bytes fault.NoThread read is = absurd is

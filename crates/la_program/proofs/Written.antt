@@ -1,8 +1,8 @@
 -- What is written part by part.
-use Rattle.std.proofs.Common.{◌≡◌, ℕ, ◌+◌, ◌-◌, ◌<◌, ◌≤◌, min, refl, arith, append_assoc, Some, Result, Ok, Err, OnOk, OnErr, get_or, [], ◌∷◌, List, ◌++◌, length, take, drop, Option, ap, sym, ◌∙◌, subst}
+use Rattle.std.proofs.Common.{◌≡◌, ℕ, ◌+◌, ◌-◌, ◌<◌, ◌≤◌, min, refl, arith, append_assoc, Some, Result, Ok, Err, OnOk, OnErr, get_or, [], ◌∷◌, List, ◌++◌, length, take, drop, Option, None, ap, sym, ◌∙◌, subst}
 use Rattle.std.specs.Io.KnownBytes.{Appends, Keeps}
 use Rattle.std.proofs.Math.Seq.{take-add}
-use Rattle.std.proofs.lemmas.List.{take_rest, take_more, take-append-drop, flat_map_more, take_all, take_at, take_min, drop_at, take-append-le}
+use Rattle.std.proofs.lemmas.List.{take_rest, take_more, take-append-drop, flat_map_more, take_all, take_at, take_min, drop_at, take-append-le, append-nil}
 use Rattle.std.proofs.KnownBytes.{Appends-trans, Appends-kept}
 use Rattle.std.specs.List.{flat_map, slice_get}
 use Rattle.std.proofs.lemmas.Option.{slice_get_within, get_or_from_slice_get}
@@ -41,6 +41,12 @@ plays_prefix shelves fit a b old new input given text r is made w = record {
   answers = made;
   wrote = w;
 }
+
+-- no byte was written
+pub kept_by_none : (a b : Option (List ℕ)) (xs : List ℕ) → Appends a b (take 0 xs) → Keeps a b
+kept_by_none None b xs p = tt
+kept_by_none (Some x) None xs p = absurd p
+kept_by_none (Some x) (Some y) xs p = p ∙ append-nil x
 
 -- ## Piece by piece
 

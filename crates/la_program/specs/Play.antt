@@ -20,7 +20,7 @@ use Rattle.la_script.specs.Text.{text_of}
 use Rattle.la_program.specs.declared.error.PlayFault.{PlayFault}
 use Rattle.la_program.specs.declared.error.PlayFault.TheVariants as fault
 use Rattle.la_program.specs.declared.streams.TheConstants.{LIMIT}
-use Rattle.la_program.specs.Streams.{ReadsAll, Takes, AppendsPrefix}
+use Rattle.la_program.specs.Streams.{ReadsAll, Takes, TakesAtMost, AppendsPrefix}
 
 -- ## Shelves
 
@@ -117,18 +117,19 @@ pub record IsFaulty (left left_after : Option (List ℕ)) (f : ScriptFault) : Ty
   pub read : ReadsInput left left_after input
   pub fault : script_of input ≡ Err f
 
--- what stands after a refusal: but for a writer that failed, nothing was written
+-- what stands after a refusal: shelves that do not fit any group come first, and nothing else is
+-- refused where they do not; but for a writer that failed, nothing was written
 abbrev pub IsPlayRefusal :
     (shelves : List ShelfState) → (left left_after written written_after : Option (List ℕ)) →
     PlayFault → Type 0
 IsPlayRefusal shelves left left_after written written_after (fault.Script f) =
-    IsFaulty left left_after f × Keeps written written_after
+    FitAnyGroup shelves × IsFaulty left left_after f × Keeps written written_after
 IsPlayRefusal shelves left left_after written written_after fault.TooLong =
-    Takes (LIMIT + 1) left left_after × Keeps written written_after
+    FitAnyGroup shelves × Takes (LIMIT + 1) left left_after × Keeps written written_after
 IsPlayRefusal shelves left left_after written written_after fault.ReadFault =
-    Keeps written written_after
+    FitAnyGroup shelves × TakesAtMost LIMIT left left_after × Keeps written written_after
 IsPlayRefusal shelves left left_after written written_after fault.Memory =
-    Keeps written written_after
+    FitAnyGroup shelves × TakesAtMost (LIMIT + 1) left left_after × Keeps written written_after
 IsPlayRefusal shelves left left_after written written_after fault.BadConfig =
     (¬ FitAnyGroup shelves) × Keeps left left_after × Keeps written written_after
 IsPlayRefusal shelves left left_after written written_after fault.WriteFault =
@@ -155,12 +156,12 @@ pub record PlaysDrawPrefix
   pub answers : AnswersDraw shelves seed replicas events text
   pub wrote : AppendsPrefix written written_after text
 
--- what stands after a refusal: there is nothing to read, and no script
+-- the same of a draw: there is nothing to read, and no script
 abbrev pub IsDrawRefusal :
     (shelves : List ShelfState) → (seed replicas events : ℕ) →
     (written written_after : Option (List ℕ)) → PlayFault → Type 0
 IsDrawRefusal shelves seed replicas events written written_after fault.Memory =
-    Keeps written written_after
+    FitAnyGroup shelves × Keeps written written_after
 IsDrawRefusal shelves seed replicas events written written_after fault.BadConfig =
     (¬ FitAnyGroup shelves) × Keeps written written_after
 IsDrawRefusal shelves seed replicas events written written_after fault.WriteFault =

@@ -1,6 +1,6 @@
--- What the program does, by the words that call it: what is left to read, what is written and what
--- is told, before and after, and how it ends.
-use Rattle.std.specs.Prelude.{◌≡◌, ◌⊎◌, ℕ, Bool, true, false, List, Option, MatchResult}
+-- What the program does, by the words that call it: what is left to read and what is written, before
+-- and after, what is told, and how it ends.
+use Rattle.std.specs.Prelude.{◌≡◌, ◌⊎◌, ℕ, ◌<◌, Bool, true, false, List, length, Option, MatchResult}
 use Rattle.std.specs.Io.KnownBytes.{Appends, Keeps}
 use Rattle.la_object.specs.Shelves.{ShelfState}
 use Rattle.la_program.specs.declared.error.PlayFault.{PlayFault}
@@ -8,38 +8,52 @@ use Rattle.la_program.specs.declared.error.PlayFault.TheVariants.{Memory, WriteF
 use Rattle.la_program.specs.declared.call.Task.{Task}
 use Rattle.la_program.specs.declared.call.Task.TheVariants as task
 use Rattle.la_program.specs.declared.program.Ended.{Ended}
-use Rattle.la_program.specs.Streams.{AppendsPrefix}
+use Rattle.la_program.specs.Streams.{AppendsPrefix, Refuses}
 use Rattle.la_program.specs.Faults.{status_of}
 use Rattle.la_program.specs.Play.{Plays, IsPlayRefusal, PlaysDraw, IsDrawRefusal}
 use Rattle.la_program.specs.Threads.{RunsThreads, IsThreadsRefusal}
 use Rattle.la_program.specs.Calls.{Calls, AsksForText, IsMistaken}
 use Rattle.la_program.specs.Texts.{fault_line, no_text_line}
 
--- the program ends with this status, and this line was told; where telling failed, a front of it
-pub record Tells
-    (told told_after : Option (List ℕ)) (line : List ℕ) (n : ℕ) (ended : Ended) : Type 0 where
+-- what standard error did to lines: the bytes that it holds before and after, and which lines it
+-- refused, after a front of them
+pub record Heard : Type 1 where
+  pub before : Option (List ℕ)
+  pub after : Option (List ℕ)
+  pub refused : List ℕ → Type 0
+
+-- the same of a listener
+abbrev pub heard :
+    {W : Type 0} → (contents : W → Option (List ℕ)) → (refuses : W → List ℕ → W → Type 0) →
+    (old new : W) → Heard
+heard contents refuses old new = record {
+  before = contents old;
+  after = contents new;
+  refused = Refuses contents refuses old new;
+}
+
+-- the program ends with this status, and this line was told; where it says that telling failed, a
+-- front of it was taken and the rest was refused
+pub record Tells (heard : Heard) (line : List ℕ) (n : ℕ) (ended : Ended) : Type 0 where
   pub status : ended.status ≡ n
   pub wrote :
-      MatchResult ended.told
-      (λ _. Appends told told_after line)
-      (λ _. AppendsPrefix told told_after line)
+      MatchResult ended.told (λ _. Appends heard.before heard.after line) (λ _. heard.refused line)
 
 -- a fault is told, and the status is its
-abbrev pub TellsFault : (told told_after : Option (List ℕ)) → PlayFault → Ended → Type 0
-TellsFault told told_after f ended = Tells told told_after (fault_line f) (status_of f) ended
+abbrev pub TellsFault : Heard → PlayFault → Ended → Type 0
+TellsFault heard f ended = Tells heard (fault_line f) (status_of f) ended
 
 -- it is told that a word is no text, and the status is 2
-abbrev pub TellsNoText : (told told_after : Option (List ℕ)) → Ended → Type 0
-TellsNoText told told_after ended = Tells told told_after no_text_line 2 ended
+abbrev pub TellsNoText : Heard → Ended → Type 0
+TellsNoText heard ended = Tells heard no_text_line 2 ended
 
--- the bytes that standard input has left, that standard output and standard error were given
+-- the bytes that standard input has left, and that standard output was given
 pub record Standard : Type 0 where
   pub left : Option (List ℕ)
   pub written : Option (List ℕ)
-  pub told : Option (List ℕ)
 
-abbrev pub standard : (left written told : Option (List ℕ)) → Standard
-standard left written told = record { left = left; written = written; told = told }
+abbrev pub standard : (left written : Option (List ℕ)) → Standard
+standard left written = record { left = left; written = written }
 
 -- ## Tasks
 
@@ -87,83 +101,91 @@ IsTaskRefusal (task.Threads replicas each) shelves left left_after written writt
 
 -- a task was called for and done, and nothing was told
 pub record EndsDone
-    (words : List (List ℕ)) (shelves : List ShelfState) (old new : Standard) (ended : Ended)
-    : Type 0 where
+    (words : List (List ℕ)) (shelves : List ShelfState) (old new : Standard) (heard : Heard)
+    (ended : Ended) : Type 0 where
   pub task : Task
   pub called : Calls words task
   pub done : IsDone task shelves old.left new.left old.written new.written
-  pub silent : Keeps old.told new.told
+  pub silent : Keeps heard.before heard.after
   pub status : ended.status ≡ 0
 
 -- a task was called for, and replicas differ, which was printed; nothing was told
 pub record EndsDiffering
-    (words : List (List ℕ)) (shelves : List ShelfState) (old new : Standard) (ended : Ended)
-    : Type 0 where
+    (words : List (List ℕ)) (shelves : List ShelfState) (old new : Standard) (heard : Heard)
+    (ended : Ended) : Type 0 where
   pub task : Task
   pub called : Calls words task
   pub differing : IsDiffering task shelves old.left new.left old.written new.written
-  pub silent : Keeps old.told new.told
+  pub silent : Keeps heard.before heard.after
   pub status : ended.status ≡ 4
 
 -- a task was called for and refused, and the fault was told
 pub record EndsRefused
-    (words : List (List ℕ)) (shelves : List ShelfState) (old new : Standard) (ended : Ended)
-    : Type 0 where
+    (words : List (List ℕ)) (shelves : List ShelfState) (old new : Standard) (heard : Heard)
+    (ended : Ended) : Type 0 where
   pub task : Task
   pub called : Calls words task
   pub fault : PlayFault
   pub refused : IsTaskRefusal task shelves old.left new.left old.written new.written fault
-  pub tells : TellsFault old.told new.told fault ended
+  pub tells : TellsFault heard fault ended
 
 -- help or the version was asked for and written, and nothing was read or told
-pub record EndsShown (words : List (List ℕ)) (old new : Standard) (ended : Ended) : Type 0 where
+pub record EndsShown
+    (words : List (List ℕ)) (old new : Standard) (heard : Heard) (ended : Ended) : Type 0 where
   pub asked : AsksForText words
   pub unread : new.left ≡ old.left
   pub text : List ℕ
+  pub some : 0 < length text
   pub wrote : Appends old.written new.written text
-  pub silent : new.told ≡ old.told
+  pub silent : heard.after ≡ heard.before
   pub status : ended.status ≡ 0
 
 -- it was asked for, and not all of it was written; that was told
-pub record EndsUnshown (words : List (List ℕ)) (old new : Standard) (ended : Ended) : Type 0 where
+pub record EndsUnshown
+    (words : List (List ℕ)) (old new : Standard) (heard : Heard) (ended : Ended) : Type 0 where
   pub asked : AsksForText words
   pub unread : new.left ≡ old.left
   pub text : List ℕ
+  pub some : 0 < length text
   pub wrote : AppendsPrefix old.written new.written text
-  pub tells : TellsFault old.told new.told WriteFault ended
+  pub tells : TellsFault heard WriteFault ended
 
 -- the words are mistaken: nothing was read or written, and a text was told
-pub record EndsMistaken (words : List (List ℕ)) (old new : Standard) (ended : Ended) : Type 0 where
+pub record EndsMistaken
+    (words : List (List ℕ)) (old new : Standard) (heard : Heard) (ended : Ended) : Type 0 where
   pub mistaken : IsMistaken words
   pub unread : new.left ≡ old.left
   pub unwritten : new.written ≡ old.written
   pub text : List ℕ
-  pub tells : Tells old.told new.told text 2 ended
+  pub some : 0 < length text
+  pub tells : Tells heard text 2 ended
 
 -- memory was refused before a task was begun: nothing was read or written
-pub record EndsStarved (old new : Standard) (ended : Ended) : Type 0 where
+pub record EndsStarved (old new : Standard) (heard : Heard) (ended : Ended) : Type 0 where
   pub unread : new.left ≡ old.left
   pub unwritten : new.written ≡ old.written
-  pub tells : TellsFault old.told new.told Memory ended
+  pub tells : TellsFault heard Memory ended
 
 -- the words call for no task
 abbrev pub EndsWithoutTask :
-    (words : List (List ℕ)) → (old new : Standard) → Ended → Type 0
-EndsWithoutTask words old new ended =
-    EndsShown words old new ended ⊎
-    (EndsUnshown words old new ended ⊎
-    (EndsMistaken words old new ended ⊎ EndsStarved old new ended))
+    (words : List (List ℕ)) → (old new : Standard) → Heard → Ended → Type 0
+EndsWithoutTask words old new heard ended =
+    EndsShown words old new heard ended ⊎
+    (EndsUnshown words old new heard ended ⊎
+    (EndsMistaken words old new heard ended ⊎ EndsStarved old new heard ended))
 
 -- what came of the program
 abbrev pub Ends :
-    (words : List (List ℕ)) → (shelves : List ShelfState) → (old new : Standard) → Ended → Type 0
-Ends words shelves old new ended =
-    EndsDone words shelves old new ended ⊎
-    (EndsDiffering words shelves old new ended ⊎
-    (EndsRefused words shelves old new ended ⊎ EndsWithoutTask words old new ended))
+    (words : List (List ℕ)) → (shelves : List ShelfState) → (old new : Standard) → Heard → Ended →
+    Type 0
+Ends words shelves old new heard ended =
+    EndsDone words shelves old new heard ended ⊎
+    (EndsDiffering words shelves old new heard ended ⊎
+    (EndsRefused words shelves old new heard ended ⊎ EndsWithoutTask words old new heard ended))
 
 -- what a status of 0 says: a task was done, replicas agreeing where they were run, or a text that was asked for was written whole
 abbrev pub EndsWell :
-    (words : List (List ℕ)) → (shelves : List ShelfState) → (old new : Standard) → Ended → Type 0
-EndsWell words shelves old new ended =
-    EndsDone words shelves old new ended ⊎ EndsShown words old new ended
+    (words : List (List ℕ)) → (shelves : List ShelfState) → (old new : Standard) → Heard → Ended →
+    Type 0
+EndsWell words shelves old new heard ended =
+    EndsDone words shelves old new heard ended ⊎ EndsShown words old new heard ended

@@ -119,14 +119,15 @@ pub record RunsThreadsPrefix
   pub verdict : IsTrue agreed ↔ Agree logs
   pub wrote : AppendsPrefix written written_after (threads_text replicas each logs agreed)
 
--- what stands after a refusal: there is nothing to read, and no script
+-- what stands after a refusal: shelves that do not fit any group come first, and nothing else is
+-- refused where they do not; there is nothing to read, and no script
 abbrev pub IsThreadsRefusal :
     (shelves : List ShelfState) → (replicas each : ℕ) →
     (written written_after : Option (List ℕ)) → PlayFault → Type 0
 IsThreadsRefusal shelves replicas each written written_after fault.Memory =
-    Keeps written written_after
+    FitAnyGroup shelves × Keeps written written_after
 IsThreadsRefusal shelves replicas each written written_after fault.NoThread =
-    Keeps written written_after
+    FitAnyGroup shelves × Keeps written written_after
 IsThreadsRefusal shelves replicas each written written_after fault.BadConfig =
     (¬ FitAnyGroup shelves) × Keeps written written_after
 IsThreadsRefusal shelves replicas each written written_after fault.WriteFault =

@@ -22,6 +22,7 @@
 mod call;
 mod error;
 pub mod laws;
+mod listener;
 mod objects;
 mod play;
 mod program;
@@ -32,10 +33,13 @@ mod threads;
 
 pub use call::{Task, command};
 pub use error::PlayFault;
+pub use listener::{Listener, tell_all};
 pub use objects::run_boxed;
 pub use play::{answer_to, fit_any_group, play_random, play_stream};
 pub use program::{Ended, carry_out, end_without_words, run_words, status_of};
 pub use shelves::{Numbered, fill};
-pub use streams::{InputFault, LIMIT, WriteFailed, read_all, write_all, write_pieces};
+pub use streams::{
+    InputFault, LIMIT, WriteFailed, flush, read_all, write_all, write_pieces, write_some,
+};
 pub use telling::{tell, tell_no_text};
 pub use threads::{agree, play_threads, text_of_logs};

@@ -5,9 +5,10 @@ ghost use Rattle.la_object.specs.declared.kind.Kind.TheVariants.{Counter as Coun
 ghost use Rattle.la_object.specs.declared.kind.Kind.TheVariants.{MaxRegister as RegisterKind};
 ghost use Rattle.la_object.specs.declared.kind.Kind.TheVariants.{OrSet as SetKind};
 ghost use Rattle.la_object.specs.Objects.{start};
-ghost use Rattle.la_program.specs.Program.{Ends, EndsWell, standard};
+ghost use Rattle.la_program.specs.Program.{Ends, EndsWell, heard, standard};
 ghost use Rattle.la_program.specs.Shelves.{states_of, standard_objects, standard_shelves};
 
+use crate::listener::Listener;
 use crate::program::{end_without_words, run_words};
 use crate::shelves::{Numbered, fill};
 use la_object::{Counter, MaxRegister, Replicated, Shelf, ShelfError};
@@ -61,7 +62,7 @@ fn run_with<
     P: Threads + Wait + Sync,
     R: Read,
     W: Write,
-    E: Write,
+    E: Listener,
     B: Replicated,
     F: Fn() -> Result<Numbered<B>, AllocError>,
 >(
@@ -77,12 +78,14 @@ fn run_with<
     requires made { (objects : _) → F.post make objects
         → IfOk objects (λ v. states_of B.state v.items ≡ standard_objects) }
     ensures ends { (told : _) × Ends (map string_bytes words.now) standard_shelves
-        (standard (R.remaining input.old) (W.contents output.old) (E.contents errors.old))
-        (standard (R.remaining input.new) (W.contents output.new) (E.contents errors.new))
+        (standard (R.remaining input.old) (W.contents output.old))
+        (standard (R.remaining input.new) (W.contents output.new))
+        (heard E.contents E.refuses errors.old errors.new)
         (record { status = result; told = told }) }
     ensures done { result ≡ 0 → (told : _) × EndsWell (map string_bytes words.now) standard_shelves
-        (standard (R.remaining input.old) (W.contents output.old) (E.contents errors.old))
-        (standard (R.remaining input.new) (W.contents output.new) (E.contents errors.new))
+        (standard (R.remaining input.old) (W.contents output.old))
+        (standard (R.remaining input.new) (W.contents output.new))
+        (heard E.contents E.refuses errors.old errors.new)
         (record { status = result; told = told }) }
 {
     match shelves_of(alloc, make) {
@@ -97,7 +100,7 @@ fn run_with<
 /// register under 2 and an observed-remove set under 3. Want of memory while these are made is told
 /// as any other, with nothing read or written. Where `errors` does not take what is told, a front of
 /// it was written, and the status is the same.
-pub fn run_boxed<P: Threads + Wait + Sync, R: Read, W: Write, E: Write>(
+pub fn run_boxed<P: Threads + Wait + Sync, R: Read, W: Write, E: Listener>(
     rt: &P,
     alloc: Global,
     words: &[String],
@@ -106,12 +109,14 @@ pub fn run_boxed<P: Threads + Wait + Sync, R: Read, W: Write, E: Write>(
     errors: &mut E,
 ) -> u8
     ensures ends { (told : _) × Ends (map string_bytes words.now) standard_shelves
-        (standard (R.remaining input.old) (W.contents output.old) (E.contents errors.old))
-        (standard (R.remaining input.new) (W.contents output.new) (E.contents errors.new))
+        (standard (R.remaining input.old) (W.contents output.old))
+        (standard (R.remaining input.new) (W.contents output.new))
+        (heard E.contents E.refuses errors.old errors.new)
         (record { status = result; told = told }) }
     ensures done { result ≡ 0 → (told : _) × EndsWell (map string_bytes words.now) standard_shelves
-        (standard (R.remaining input.old) (W.contents output.old) (E.contents errors.old))
-        (standard (R.remaining input.new) (W.contents output.new) (E.contents errors.new))
+        (standard (R.remaining input.old) (W.contents output.old))
+        (standard (R.remaining input.new) (W.contents output.new))
+        (heard E.contents E.refuses errors.old errors.new)
         (record { status = result; told = told }) }
 {
     let make = || -> Result<Numbered<Box<dyn Replicated + Send>>, AllocError>

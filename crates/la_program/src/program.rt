@@ -1,13 +1,14 @@
 // The whole program but for the real streams.
-ghost use Rattle.std.specs.Prelude.{◌≡◌, ◌≢◌, map, string_bytes, IfOk, IfErr, Result};
+ghost use Rattle.std.specs.Prelude.{◌≡◌, ◌≢◌, ◌<◌, length, map, string_bytes, IfOk, IfErr, Result};
 ghost use Rattle.clap.specs.Words.{HasKind, fault_of};
 ghost use Rattle.la_program.specs.declared.error.PlayFault.TheVariants.{Memory};
 ghost use Rattle.la_program.specs.Calls.{lattice, IsInRange};
 ghost use Rattle.la_program.specs.Faults.{status_of};
 ghost use Rattle.la_program.specs.Program.{Ends, EndsWell, EndsWithoutTask, ComesTo, IsTaskRefusal};
-ghost use Rattle.la_program.specs.Program.{TellsFault, TellsNoText, standard};
+ghost use Rattle.la_program.specs.Program.{TellsFault, TellsNoText, heard, standard};
 
 use crate::call::{Task, command};
+use crate::listener::{Listener, tell_all};
 use crate::streams::{WriteFailed, write_all};
 use crate::telling::{tell, tell_no_text};
 use crate::threads::play_threads;
@@ -18,6 +19,9 @@ use std::alloc::Global;
 use std::io::{ErrorKind, Read, Write};
 use std::sync::Wait;
 use std::thread::Threads;
+
+// What is shown where `clap` has no text for an error: it states nothing of its texts.
+const SEE_HELP: &str = "see lattice --help\n";
 
 /// How the program ended.
 #[derive(Clone, Copy)]
@@ -41,8 +45,8 @@ pub fn status_of(fault: PlayFault) -> u8
 }
 
 // The end after a fault, which is told. Where it can't be written, the status alone tells it.
-fn end_with<E: Write>(fault: PlayFault, errors: &mut E) -> Ended
-    ensures { TellsFault (E.contents errors.old) (E.contents errors.new) fault result }
+fn end_with<E: Listener>(fault: PlayFault, errors: &mut E) -> Ended
+    ensures { TellsFault (heard E.contents E.refuses errors.old errors.new) fault result }
 {
     Ended {
         status: status_of(fault),
@@ -87,8 +91,19 @@ fn perform<P: Threads + Wait + Sync, R: Read, W: Write, B: Replicated>(
     }
 }
 
+// The bytes of a text, or of another where it is empty.
+fn shown(text: &str) -> &[u8]
+    ensures { 0 < length result.now }
+{
+    if text.is_empty() {
+        SEE_HELP.as_bytes()
+    } else {
+        text.as_bytes()
+    }
+}
+
 // The end of words that call for no task: help and the version are written, and a mistake is told.
-fn end_without_task<W: Write, E: Write>(
+fn end_without_task<W: Write, E: Listener>(
     alloc: Global,
     error: &Error,
     words: &[String],
@@ -97,8 +112,8 @@ fn end_without_task<W: Write, E: Write>(
 ) -> Ended
     requires { HasKind (fault_of lattice (map string_bytes words.now)) error.now }
     ensures { (left : _) → EndsWithoutTask (map string_bytes words.now)
-        (standard left (W.contents output.old) (E.contents errors.old))
-        (standard left (W.contents output.new) (E.contents errors.new)) result }
+        (standard left (W.contents output.old)) (standard left (W.contents output.new))
+        (heard E.contents E.refuses errors.old errors.new) result }
 {
     if error.kind() == clap::error::ErrorKind::OutOfMemory {
         return end_with(PlayFault::Memory, errors);
@@ -106,13 +121,14 @@ fn end_without_task<W: Write, E: Write>(
     let Ok(text) = format!(in alloc; "{error}") else {
         return end_with(PlayFault::Memory, errors);
     };
+    let bytes = shown(text.as_str());
     if error.use_stderr() {
         return Ended {
             status: 2,
-            told: write_all(errors, text.as_bytes()),
+            told: tell_all(errors, bytes),
         };
     }
-    match write_all(output, text.as_bytes()) {
+    match write_all(output, bytes) {
         Ok(()) => Ended {
             status: 0,
             told: Ok(()),
@@ -126,7 +142,7 @@ fn end_without_task<W: Write, E: Write>(
 ///
 /// What it does and tells, and the status, are those of the crate's documentation. Where `errors`
 /// does not take what is told, a front of it was written, and the status is the same.
-pub fn carry_out<P: Threads + Wait + Sync, R: Read, W: Write, E: Write, B: Replicated>(
+pub fn carry_out<P: Threads + Wait + Sync, R: Read, W: Write, E: Listener, B: Replicated>(
     rt: &P,
     alloc: Global,
     words: &[String],
@@ -136,11 +152,13 @@ pub fn carry_out<P: Threads + Wait + Sync, R: Read, W: Write, E: Write, B: Repli
     shelves: Vec<Shelf<B>>,
 ) -> Ended
     ensures ends { Ends (map string_bytes words.now) shelves.items
-        (standard (R.remaining input.old) (W.contents output.old) (E.contents errors.old))
-        (standard (R.remaining input.new) (W.contents output.new) (E.contents errors.new)) result }
+        (standard (R.remaining input.old) (W.contents output.old))
+        (standard (R.remaining input.new) (W.contents output.new))
+        (heard E.contents E.refuses errors.old errors.new) result }
     ensures done { result.status ≡ 0 → EndsWell (map string_bytes words.now) shelves.items
-        (standard (R.remaining input.old) (W.contents output.old) (E.contents errors.old))
-        (standard (R.remaining input.new) (W.contents output.new) (E.contents errors.new)) result }
+        (standard (R.remaining input.old) (W.contents output.old))
+        (standard (R.remaining input.new) (W.contents output.new))
+        (heard E.contents E.refuses errors.old errors.new) result }
 {
     match command(alloc, words) {
         Ok(task) => match perform(rt, alloc, task, input, output, shelves) {
@@ -157,7 +175,7 @@ pub fn carry_out<P: Threads + Wait + Sync, R: Read, W: Write, E: Write, B: Repli
 /// The program over any streams, called by these words, its name first: its exit status.
 ///
 /// Where `errors` does not take what is told, a front of it was written, and the status is the same.
-pub fn run_words<P: Threads + Wait + Sync, R: Read, W: Write, E: Write, B: Replicated>(
+pub fn run_words<P: Threads + Wait + Sync, R: Read, W: Write, E: Listener, B: Replicated>(
     rt: &P,
     alloc: Global,
     words: &[String],
@@ -167,12 +185,14 @@ pub fn run_words<P: Threads + Wait + Sync, R: Read, W: Write, E: Write, B: Repli
     shelves: Vec<Shelf<B>>,
 ) -> u8
     ensures ends { (told : _) × Ends (map string_bytes words.now) shelves.items
-        (standard (R.remaining input.old) (W.contents output.old) (E.contents errors.old))
-        (standard (R.remaining input.new) (W.contents output.new) (E.contents errors.new))
+        (standard (R.remaining input.old) (W.contents output.old))
+        (standard (R.remaining input.new) (W.contents output.new))
+        (heard E.contents E.refuses errors.old errors.new)
         (record { status = result; told = told }) }
     ensures done { result ≡ 0 → (told : _) × EndsWell (map string_bytes words.now) shelves.items
-        (standard (R.remaining input.old) (W.contents output.old) (E.contents errors.old))
-        (standard (R.remaining input.new) (W.contents output.new) (E.contents errors.new))
+        (standard (R.remaining input.old) (W.contents output.old))
+        (standard (R.remaining input.new) (W.contents output.new))
+        (heard E.contents E.refuses errors.old errors.new)
         (record { status = result; told = told }) }
 {
     carry_out(rt, alloc, words, input, output, errors, shelves).status
@@ -181,11 +201,11 @@ pub fn run_words<P: Threads + Wait + Sync, R: Read, W: Write, E: Write, B: Repli
 /// The end of a program whose words were not gathered, for an error of this kind.
 ///
 /// Want of memory is told as any other, with its status; words that are no text are a wrong call.
-pub fn end_without_words<E: Write>(kind: ErrorKind, errors: &mut E) -> Ended
+pub fn end_without_words<E: Listener>(kind: ErrorKind, errors: &mut E) -> Ended
     ensures memory { kind ≡ ErrorKind.OutOfMemory
-        → TellsFault (E.contents errors.old) (E.contents errors.new) Memory result }
+        → TellsFault (heard E.contents E.refuses errors.old errors.new) Memory result }
     ensures other { kind ≢ ErrorKind.OutOfMemory
-        → TellsNoText (E.contents errors.old) (E.contents errors.new) result }
+        → TellsNoText (heard E.contents E.refuses errors.old errors.new) result }
 {
     match kind {
         ErrorKind::OutOfMemory => end_with(PlayFault::Memory, errors),

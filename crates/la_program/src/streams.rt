@@ -13,7 +13,7 @@ ghost use Rattle.std.specs.Prelude.{
   OnErr,
   IsErrOf,
 };
-ghost use Rattle.std.specs.Io.KnownBytes.{Consumes, IsAtEnd, Keeps};
+ghost use Rattle.std.specs.Io.KnownBytes.{Consumes, IsAtEnd, Keeps, WriteAppends};
 ghost use Rattle.la_script.specs.Pieces.{joined};
 ghost use Rattle.la_program.specs.declared.streams.InputFault.TheVariants.{Memory};
 ghost use Rattle.la_program.specs.Streams.{ReadsAll, Takes, TakesAtMost, Writes, WritesPrefix};
@@ -96,6 +96,8 @@ pub fn read_all<R: Read>(alloc: Global, reader: &mut R) -> Result<Vec<u8>, Input
     ensures short { IfOk result (λ input. length input.items ≤ LIMIT) }
     ensures long { IsErrOf result InputFault.TooLong
         → Takes (LIMIT + 1) (R.remaining reader.old) (R.remaining reader.new) }
+    ensures failed { IsErrOf result InputFault.ReadFault
+        → TakesAtMost LIMIT (R.remaining reader.old) (R.remaining reader.new) }
     ensures taken { TakesAtMost (LIMIT + 1) (R.remaining reader.old) (R.remaining reader.new) }
 {
     let mut input = Vec::new(alloc);
@@ -114,6 +116,21 @@ pub fn read_all<R: Read>(alloc: Global, reader: &mut R) -> Result<Vec<u8>, Input
     unreachable!()
 }
 
+/// One write, of the first of the bytes, at least of one: it answers how many were taken. It is
+/// refused where the write fails or takes no byte.
+#[tactic(auto, using(crate::proofs::Written::kept_by_none))]
+pub fn write_some<W: Write>(writer: &mut W, bytes: &[u8]) -> Result<usize, WriteFailed>
+    ensures some { IfOk result (λ count. 0 < count) }
+    ensures bound { IfOk result (λ count. count ≤ length bytes.now) }
+    ensures bytes { WriteAppends (W.contents writer.old) (W.contents writer.new)
+        result bytes.now }
+{
+    match writer.write(bytes) {
+        Ok(0) | Err(_) => Err(WriteFailed),
+        Ok(count) => Ok(count),
+    }
+}
+
 // Writes all of the bytes, in as many writes as it takes. Where one fails or takes no byte, the
 // writer has taken a front of them.
 fn put_bytes<W: Write>(writer: &mut W, bytes: &[u8]) -> Result<(), WriteFailed>
@@ -122,15 +139,14 @@ fn put_bytes<W: Write>(writer: &mut W, bytes: &[u8]) -> Result<(), WriteFailed>
 {
     let mut done = 0;
     while done < bytes.len() {
-        match writer.write(&bytes[done..]) {
-            Ok(0) | Err(_) => return Err(WriteFailed),
-            Ok(count) => done += count,
-        }
+        let count = write_some(writer, &bytes[done..])?;
+        done += count;
     }
     Ok(())
 }
 
-fn flush<W: Write>(writer: &mut W) -> Result<(), WriteFailed>
+/// Flushes the writer.
+pub fn flush<W: Write>(writer: &mut W) -> Result<(), WriteFailed>
     ensures { Keeps (W.contents writer.old) (W.contents writer.new) }
 {
     match writer.flush() {

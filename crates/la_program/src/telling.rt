@@ -1,14 +1,14 @@
 // What is told on standard error. Telling takes no memory.
 ghost use Rattle.std.specs.Prelude.{◌≡◌, ◌≤◌, OnOk, OnErr, length};
-ghost use Rattle.la_program.specs.Streams.{Writes, WritesPrefix};
+ghost use Rattle.la_program.specs.Streams.{Writes, Refuses};
 ghost use Rattle.la_program.specs.Texts.{name_of, fault_text, fault_line, no_text_line};
 
 use crate::PlayFault;
-use crate::streams::{WriteFailed, write_all};
+use crate::listener::{Listener, tell_all};
+use crate::streams::WriteFailed;
 use arrayvec::ArrayString;
 use itoa::Buffer;
 use la_script::FaultName;
-use std::io::Write;
 
 // A line with a number of 32 bits has at most 27 bytes.
 type FaultLine = ArrayString<27>;
@@ -50,20 +50,21 @@ pub(crate) fn text_of(fault: PlayFault) -> FaultLine
 }
 
 /// Writes a fault as the program tells it, and LF. It takes no memory. The refusal is that of
-/// [`write_all`].
-pub fn tell<W: Write>(writer: &mut W, fault: PlayFault) -> Result<(), WriteFailed>
-    ensures ok { OnOk result (Writes W.contents writer.old writer.new (fault_line fault)) }
-    ensures err { OnErr result (WritesPrefix W.contents writer.old writer.new (fault_line fault)) }
+/// [`tell_all`].
+pub fn tell<E: Listener>(errors: &mut E, fault: PlayFault) -> Result<(), WriteFailed>
+    ensures ok { OnOk result (Writes E.contents errors.old errors.new (fault_line fault)) }
+    ensures err { OnErr result
+        (Refuses E.contents E.refuses errors.old errors.new (fault_line fault)) }
 {
     let mut line = text_of(fault);
     line.push_str("\n");
-    write_all(writer, line.as_str().as_bytes())
+    tell_all(errors, line.as_str().as_bytes())
 }
 
-/// Tells that a word of the command line is no text. The refusal is that of [`write_all`].
-pub fn tell_no_text<W: Write>(writer: &mut W) -> Result<(), WriteFailed>
-    ensures ok { OnOk result (Writes W.contents writer.old writer.new no_text_line) }
-    ensures err { OnErr result (WritesPrefix W.contents writer.old writer.new no_text_line) }
+/// Tells that a word of the command line is no text. The refusal is that of [`tell_all`].
+pub fn tell_no_text<E: Listener>(errors: &mut E) -> Result<(), WriteFailed>
+    ensures ok { OnOk result (Writes E.contents errors.old errors.new no_text_line) }
+    ensures err { OnErr result (Refuses E.contents E.refuses errors.old errors.new no_text_line) }
 {
-    write_all(writer, NO_TEXT.as_bytes())
+    tell_all(errors, NO_TEXT.as_bytes())
 }

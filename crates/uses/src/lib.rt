@@ -15,4 +15,5 @@ pub mod proposers;
 pub mod replicas;
 pub mod scripts;
 pub mod sets;
+pub mod texts;
 pub mod worlds;

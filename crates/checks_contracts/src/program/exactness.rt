@@ -1,14 +1,17 @@
 // Callers that know the contracts alone, and by them that two calls come to the same.
 ghost use Rattle.std.specs.Prelude.{◌≡◌, ◌<◌, ◌^◌, ◌↔◌, IsTrue, length, IfSome};
+ghost use Rattle.std.specs.Io.KnownBytes.{Appends};
 ghost use Rattle.clap.specs.Words.{kind_of};
 ghost use Rattle.clap.specs.declared.error.kind.ErrorKind.TheVariants.{OutOfMemory};
 ghost use Rattle.la_script.specs.Pieces.{joined};
 ghost use Rattle.la_program.specs.Play.{FitAnyGroup};
+ghost use Rattle.la_program.specs.Texts.{fault_line};
 
 use clap::Error;
 use la_object::{Replicated, Shelf};
 use la_program::laws::words_call_for_one_task;
-use la_program::{PlayFault, Task, answer_to, command, fit_any_group, status_of};
+use la_program::{Listener, PlayFault, Task, WriteFailed};
+use la_program::{answer_to, command, fit_any_group, status_of, tell};
 use la_script::Pieces;
 use std::alloc::Global;
 
@@ -16,6 +19,15 @@ fn status_of_is_exact(fault: PlayFault) -> (u8, u8)
     ensures { result.0 ≡ result.1 }
 {
     (status_of(fault), status_of(fault))
+}
+
+// What a listener that refuses nothing is told of a fault: all of it.
+#[tactic(auto, using(crate::proofs::ProgramAnswers::told_whole))]
+fn a_fault_is_told<E: Listener>(fault: PlayFault, errors: &mut E) -> Result<(), WriteFailed>
+    requires { (old : _) (bytes : _) (new : _) → ¬ E.refuses old bytes new }
+    ensures { Appends (E.contents errors.old) (E.contents errors.new) (fault_line fault) }
+{
+    tell(errors, fault)
 }
 
 fn fit_any_group_is_exact<B: Replicated>(shelves: &[Shelf<B>]) -> (bool, bool)

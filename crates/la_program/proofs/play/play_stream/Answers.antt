@@ -9,8 +9,11 @@ use Rattle.la_program.proofs.play.play_stream.Goals as goal
 
 pub returns-in_err-input-clause-error : goal.returns-in_err-input-clause-error
 returns-in_err-input-clause-error g c =
+    let fit : FitAnyGroup c.args.shelves.items = search rules in
     let p = err_from_is_err_and c.from_residual.result c.from_residual.ensures.1 in
-    rw (p.1, p.2) (input_is_refused c.args.shelves.items _ _ _ c.in_err-input.field-0.0 (λ e. c.in_err-input.ensures.long (ap Err e)))
+    rw (p.1, p.2)
+    (input_is_refused c.args.shelves.items fit _ _ _ c.in_err-input.field-0.0
+    (λ e. c.in_err-input.ensures.long (ap Err e)) (λ e. c.in_err-input.ensures.failed (ap Err e)) c.in_err-input.ensures.taken)
 
 pub returns-in_err-input-clause-taken : goal.returns-in_err-input-clause-taken
 returns-in_err-input-clause-taken g c = c.in_err-input.ensures.taken
@@ -19,8 +22,9 @@ pub returns-in_err-text-clause-error : goal.returns-in_err-text-clause-error
 returns-in_err-text-clause-error g c =
     let read : ReadsInput (g.R.Read.remaining c.args.reader.now) (g.R.Read.remaining c.read_all.new.reader) c.deref-2.result.now =
     subst (ReadsInput (g.R.Read.remaining c.args.reader.now) (g.R.Read.remaining c.read_all.new.reader)) (sym c.deref-2.ensures.value) (record { all = c.in_ok-input.ensures.all; short = c.in_ok-input.ensures.short }) in
+    let fit : FitAnyGroup c.args.shelves.items = search rules in
     let p = err_from_is_err_and c.from_residual-in_err-text.result c.from_residual-in_err-text.ensures.1 in
-    rw (p.1, p.2) (answer_is_refused c.args.shelves.items _ _ _ c.deref-2.result.now c.in_err-text.field-0.0 read c.in_err-text.ensures.error)
+    rw (p.1, p.2) (answer_is_refused c.args.shelves.items fit _ _ _ c.deref-2.result.now c.in_err-text.field-0.0 read c.in_err-text.ensures.error)
 
 pub returns-in_err-text-clause-taken : goal.returns-in_err-text-clause-taken
 returns-in_err-text-clause-taken g c = c.in_ok-input.ensures.taken

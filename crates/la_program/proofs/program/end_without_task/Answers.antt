@@ -21,8 +21,9 @@ returns-then-use_stderr g c left =
       mistaken = words_are_mistaken (map string_bytes c.args.words.now) c.args.error.now c.requires other help version;
       unread = refl;
       unwritten = refl;
-      text = c.as_bytes.result.now;
-      tells = record { status = refl; wrote = MatchResult-from_both c.write_all.result _ _ c.write_all.ensures.ok c.write_all.ensures.err };
+      text = c.shown.result.now;
+      some = c.shown.ensures;
+      tells = record { status = refl; wrote = MatchResult-from_both c.tell_all.result _ _ c.tell_all.ensures.ok c.tell_all.ensures.err };
     })))
 
 pub returns-in-Ok-write_all : goal.returns-in-Ok-write_all
@@ -32,7 +33,8 @@ returns-in-Ok-write_all g c left =
     inl (record {
       asked = words_ask_for_text (map string_bytes c.args.words.now) c.args.error.now c.requires other text;
       unread = refl;
-      text = c.as_bytes-2.result.now;
+      text = c.shown.result.now;
+      some = c.shown.ensures;
       wrote = c.in-Ok-write_all.ensures.ok;
       silent = refl;
       status = refl;
@@ -45,7 +47,8 @@ returns g c left =
     inr (inl (record {
       asked = words_ask_for_text (map string_bytes c.args.words.now) c.args.error.now c.requires other text;
       unread = refl;
-      text = c.as_bytes-2.result.now;
+      text = c.shown.result.now;
+      some = c.shown.ensures;
       wrote = c.in-Err.ensures.err;
       tells = c.end_with-in-Err.ensures;
     }))

@@ -5,6 +5,6 @@ use Rattle.la_program.proofs.streams.put_bytes.Goals as goal
 
 pub loop-done-preserved : goal.loop-done-preserved
 loop-done-preserved g c = record {
-  written = written_more _ _ _ _ _ _ c.loop-done.invariant.written c.in-Ok.ensures.bytes;
-  within = omega (arith, c.in-Ok.ensures.bound, length-drop c.loop-done.done c.args.bytes.now);
+  written = written_more _ _ _ _ _ _ c.loop-done.invariant.written c.in_ok-count.ensures.bytes;
+  within = omega (arith, c.in_ok-count.ensures.bound, length-drop c.loop-done.done c.args.bytes.now);
 }
