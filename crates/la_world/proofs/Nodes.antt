@@ -13,7 +13,7 @@ use Rattle.la_commit.specs.declared.instance.TheConstants.{MAX_COMMITS}
 use Rattle.la_commit.specs.Instances.{first_instance, second_instance}
 use Rattle.la_commit.specs.Outcomes.{outcome_of}
 use Rattle.la_object.specs.declared.error.ShelfError.{ShelfError}
-use Rattle.la_object.specs.declared.error.ShelfError.TheVariants.{Taken, NotFresh, NoSuchObject, TooManyTags, Memory as ShelfMemory}
+use Rattle.la_object.specs.declared.error.ShelfError.TheVariants.{Taken as TakenNumber, NotFresh, NoSuchObject, TooManyTags, Memory as ShelfMemory}
 use Rattle.la_object.specs.Shelves.{ShelfState}
 use Rattle.la_object.specs.Refusals.{IsTagsRefusal}
 use Rattle.la_replica.specs.declared.change.Change.{Change}
@@ -119,5 +119,5 @@ observed_refused tags (Err NoSuchObject) h = h
 observed_refused tags (Err TooManyTags) h = h
 observed_refused (Some ids) (Err ShelfMemory) h = refl
 observed_refused None (Err ShelfMemory) h = absurd h
-observed_refused tags (Err Taken) h = h
+observed_refused tags (Err TakenNumber) h = h
 observed_refused tags (Err NotFresh) h = h
