@@ -3,5 +3,6 @@ pub mod Tagging
 pub mod Runs
 pub mod Asking
 pub mod Committing
+pub mod Later
 mod Mapped
 mod Together

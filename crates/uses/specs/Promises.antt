@@ -1,9 +1,11 @@
 -- What a group promises, of the lists that a report has.
-use Rattle.std.specs.Prelude.{◌≡◌, ℕ, ◌<◌, List, reverse, Contains, slice_get, Some, IsSome, IfSome}
+use Rattle.std.specs.Prelude.{◌≡◌, ◌⊎◌, ℕ, ◌<◌, true, List, reverse, Contains, slice_get, Some, IsSome, IfSome}
 use Rattle.la_set.specs.declared.update.UpdateId.{UpdateId}
 use Rattle.la_set.specs.declared.update.Op.TheVariants.{Mark}
 use Rattle.la_set.specs.Histories.{Histories, get}
 use Rattle.la_set.specs.Inclusion.{IsSubset}
+use Rattle.la_commit.specs.declared.outcome.Outcome.{Outcome}
+use Rattle.la_commit.specs.Outcomes.{value_of, is_commit}
 use Rattle.la_object.specs.declared.kind.Kind.{Kind}
 use Rattle.la_object.specs.declared.query.Query.{Query}
 use Rattle.la_object.specs.declared.query.Answer.{Answer}
@@ -53,3 +55,8 @@ MarksShowWhatWasLearnt g events steps learnt =
     IsLearntAt steps j earlier → earlier.instance ≡ 0 → IsMarkedAt g events steps k mark → j < k →
     Contains learnt later → later.instance ≡ 0 → IsSome (get later.updates mark) →
     IsSubset earlier.updates later.updates
+
+-- where one of two outcomes of an object is a commit, both have one value
+abbrev pub AgreeWhereCommitted : (a b : Outcome) → Type 0
+AgreeWhereCommitted a b =
+    (is_commit a ≡ true) ⊎ (is_commit b ≡ true) → value_of a ≡ value_of b
