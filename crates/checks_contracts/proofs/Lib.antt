@@ -8,3 +8,4 @@ pub mod SameWorlds
 pub mod WorldLaws
 pub mod ProgramAnswers
 pub mod Meetings
+pub mod Untold

@@ -4,5 +4,6 @@ pub mod Runs
 pub mod Asking
 pub mod Reading
 pub mod Committing
+pub mod Later
 mod Mapped
 mod Together

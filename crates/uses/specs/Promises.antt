@@ -1,10 +1,12 @@
 -- What a group promises, of the lists that a report has.
-use Rattle.std.specs.Prelude.{◌≡◌, ℕ, ◌<◌, ◌≤◌, List, reverse, Contains, slice_get, Some, IfSome}
+use Rattle.std.specs.Prelude.{◌≡◌, ◌⊎◌, ℕ, ◌<◌, ◌≤◌, true, List, reverse, Contains, slice_get, Some, IfSome}
 use Rattle.la_set.specs.declared.update.Op.TheVariants.{Mark}
 use Rattle.la_set.specs.declared.update.Update.{Update}
 use Rattle.la_set.specs.ObjectOps.{object_op_of}
 use Rattle.la_set.specs.Histories.{Histories, ContainsUpdate}
 use Rattle.la_set.specs.Inclusion.{IsSubset}
+use Rattle.la_commit.specs.declared.outcome.Outcome.{Outcome}
+use Rattle.la_commit.specs.Outcomes.{value_of, is_commit}
 use Rattle.la_object.specs.declared.kind.Kind.{Kind}
 use Rattle.la_object.specs.declared.query.Query.{Query}
 use Rattle.la_object.specs.declared.query.Answer.{Answer}
@@ -99,3 +101,8 @@ abbrev pub ContainsBoth : (steps : List Line) → (one other : ℕ) → Historie
 ContainsBoth steps one other s = (x y : Learnt) →
     IsLearntAt steps one x → IsLearntAt steps other y →
     IsSubset x.updates s × IsSubset y.updates s
+
+-- where one of two outcomes of an object is a commit, both have one value
+abbrev pub AgreeWhereCommitted : (a b : Outcome) → Type 0
+AgreeWhereCommitted a b =
+    (is_commit a ≡ true) ⊎ (is_commit b ≡ true) → value_of a ≡ value_of b

@@ -15,5 +15,4 @@ pub mod proposers;
 pub mod replicas;
 pub mod scripts;
 pub mod sets;
-pub mod texts;
 pub mod worlds;

@@ -93,6 +93,33 @@ pub fn play_proposals<B: Replicated>(
     run(alloc, config, shelves, events)
 }
 
+// ---- outcomes at different moments
+ghost use Rattle.std.specs.Prelude.{◌+◌, ◌<◌, ◌^◌, IfSome};
+ghost use Rattle.la_world.specs.Events.{Past};
+ghost use Rattle.la_world.specs.StandsFor.{StandsFor};
+ghost use Rattle.uses.specs.Promises.{AgreeWhereCommitted};
+
+use la_commit::Outcome;
+use la_world::World;
+
+/// Asks what one replica returned from an adopt-commit object, which may be acted on at once, and one
+/// event later what another one returned from it. Where either committed, both have one value.
+pub fn act_and_compare<B: Replicated>(
+    world: &mut World<B>,
+    commit: u8,
+    acting: u8,
+    comparing: u8,
+    event: &Event,
+) -> (Option<Outcome>, Option<Outcome>)
+    requires { world.old.count + 1 < 2 ^ 64 }
+    ensures { (events : Past) → StandsFor world.old events →
+        IfSome result.0 (λ before. IfSome result.1 (λ after. AgreeWhereCommitted before after)) }
+{
+    let before = world.outcome(commit, acting);
+    let _played = world.play(event);
+    (before, world.outcome(commit, comparing))
+}
+
 // ---- questions
 ghost use Rattle.la_world.specs.Groups.{group_of};
 ghost use Rattle.uses.specs.Promises.{HaveOneKind, AnswersAgree, MarksShowWhatWasLearnt};

@@ -4,9 +4,12 @@
 ghost use Rattle.std.specs.Prelude.{◌≡◌, ◌≢◌, ◌+◌, ◌<◌, ◌^◌};
 ghost use Rattle.std.specs.Prelude.{◌↔◌, IsTrue, IfOk, IfErr, OnOk, option_copied};
 ghost use Rattle.la_world.specs.declared.error.WorldError.TheVariants.{Memory as MemoryIs};
+ghost use Rattle.la_world.specs.declared.error.WorldError.TheVariants.{NoSuchReplica as NoReplicaIs};
+ghost use Rattle.la_world.specs.declared.error.WorldError.TheVariants.{NoSuchObject as NoObjectIs};
+ghost use Rattle.la_world.specs.declared.error.WorldError.TheVariants.{TooManyTags as ManyIs};
 ghost use Rattle.la_world.specs.Events.{Past};
 ghost use Rattle.la_world.specs.StandsFor.{StandsFor};
-ghost use Rattle.la_world.specs.Calls.{IsGroup};
+ghost use Rattle.la_world.specs.Calls.{IsGroup, IsFollowing};
 ghost use Rattle.checks_contracts.specs.Alike.{AreAlike, AreOfOneGroup};
 
 use la_commit::Outcome;
@@ -105,6 +108,22 @@ fn observed_is_exact<B: Replicated>(
         one.observed(replica, object, element),
         other.observed(replica, object, element),
     )
+}
+
+// Where there is no such replica or object the world is as before; else the shelf follows the view,
+// unless memory was refused.
+fn untold_tags_leave_it_so<B: Replicated>(
+    world: &mut World<B>,
+    replica: u8,
+    object: u16,
+    element: u64,
+) -> Result<Tags, WorldError>
+    ensures told { OnOk result (IsFollowing world.new replica) }
+    ensures replicas { IfErr result (λ d. d ≡ NoReplicaIs → world.new ≡ world.old) }
+    ensures objects { IfErr result (λ d. d ≡ NoObjectIs → world.new ≡ world.old) }
+    ensures many { IfErr result (λ d. d ≡ ManyIs → IsFollowing world.new replica) }
+{
+    world.observed(replica, object, element)
 }
 
 fn runs_are_one<B: Replicated>(

@@ -1,5 +1,6 @@
 // A node's calls, each made twice, or at two nodes that are one.
-ghost use Rattle.std.specs.Prelude.{◌≡◌, IfOk, IfErr, OnOk, OnErr};
+ghost use Rattle.std.specs.Prelude.{◌≡◌, ◌≢◌, IfOk, IfErr, OnOk, OnErr};
+ghost use Rattle.la_object.specs.declared.error.ShelfError.TheVariants.{Memory as MemoryIs};
 ghost use Rattle.la_replica.specs.Whole.{whole_of, whole_out, whole_mail};
 ghost use Rattle.la_replica.specs.Fitting.{FitsReceiver};
 ghost use Rattle.la_world.specs.Following.{whole_done};
@@ -124,5 +125,23 @@ fn observed_is_exact<B: Replicated>(
     (
         node.observed(object, element),
         node.observed(object, element),
+    )
+}
+
+// Want of memory alone may leave them apart.
+fn observed_leaves_one<B: Replicated>(
+    one: &mut Node<B>,
+    other: &mut Node<B>,
+    object: u16,
+    element: u64,
+) -> (Result<Tags, ShelfError>, Result<Tags, ShelfError>)
+    requires { one.old ≡ other.old }
+    ensures told { OnOk result.0 (OnOk result.1 (one.new ≡ other.new)) }
+    ensures untold { IfErr result.0 (λ d. IfErr result.1 (λ e.
+        d ≢ MemoryIs → e ≢ MemoryIs → one.new ≡ other.new)) }
+{
+    (
+        one.observed(object, element),
+        other.observed(object, element),
     )
 }

@@ -21,8 +21,8 @@ returns-then-use_stderr g c left =
       mistaken = words_are_mistaken (map string_bytes c.args.words.now) c.args.error.now c.requires other help version;
       unread = refl;
       unwritten = refl;
-      text = c.shown.result.now;
-      some = c.shown.ensures;
+      text = c.shown-bytes.result.now;
+      some = c.shown-bytes.ensures;
       tells = record { status = refl; wrote = MatchResult-from_both c.tell_all.result _ _ c.tell_all.ensures.ok c.tell_all.ensures.err };
     })))
 
@@ -33,8 +33,8 @@ returns-in-Ok-write_all g c left =
     inl (record {
       asked = words_ask_for_text (map string_bytes c.args.words.now) c.args.error.now c.requires other text;
       unread = refl;
-      text = c.shown.result.now;
-      some = c.shown.ensures;
+      text = c.shown-bytes.result.now;
+      some = c.shown-bytes.ensures;
       wrote = c.in-Ok-write_all.ensures.ok;
       silent = refl;
       status = refl;
@@ -47,8 +47,8 @@ returns g c left =
     inr (inl (record {
       asked = words_ask_for_text (map string_bytes c.args.words.now) c.args.error.now c.requires other text;
       unread = refl;
-      text = c.shown.result.now;
-      some = c.shown.ensures;
+      text = c.shown-bytes.result.now;
+      some = c.shown-bytes.ensures;
       wrote = c.in-Err.ensures.err;
       tells = c.end_with-in-Err.ensures;
     }))
