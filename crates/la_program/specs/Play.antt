@@ -6,9 +6,11 @@ use Rattle.la_object.specs.Shelves.{ShelfState}
 use Rattle.la_proposer.specs.Majority.{votes_of}
 use Rattle.la_world.specs.declared.config.Config.{Config}
 use Rattle.la_world.specs.declared.event.Event.{Event}
-use Rattle.la_world.specs.Groups.{IsConfig}
+use Rattle.la_world.specs.declared.report.Report.{Report}
+use Rattle.la_world.specs.Groups.{group_of, IsConfig}
 use Rattle.la_world.specs.Events.{event_of}
 use Rattle.la_world.specs.Report.{report}
+use Rattle.la_world.specs.Reported.{ReportKeeps}
 use Rattle.la_world.specs.StandsFor.{kinds_of}
 use Rattle.la_script.specs.declared.error.ScriptFault.{ScriptFault}
 use Rattle.la_script.specs.declared.script.Script.{Script}
@@ -55,6 +57,22 @@ pub record Answers (shelves : List ShelfState) (input text : List ℕ) : Type 0 
   pub says : Says input script
   pub is_text : text ≡ answer script shelves
   pub only : (other : Script) → Says input other → text ≡ answer other shelves
+
+-- the bytes are a script, and the text is that of a report of its events, in its version, which keeps
+-- all that is promised of reports
+pub record IsTextOfKept (shelves : List ShelfState) (input text : List ℕ) : Type 0 where
+  pub script : Script
+  pub says : Says input script
+  pub made : Report
+  pub is_text : text ≡ text_of script.version made
+  pub keeps :
+      ReportKeeps (group_of script.config (kinds_of (shelves_of script.config shelves)))
+      (map event_of script.events) made
+
+-- of every text that bytes are answered with
+abbrev pub TextsKeepPromises : Type 0
+TextsKeepPromises = (shelves : List ShelfState) (input text : List ℕ) →
+    Answers shelves input text → IsTextOfKept shelves input text
 
 -- why there is no text for the bytes: their fault, or else memory may run out
 abbrev pub IsAnswerRefusal : List ℕ → PlayFault → Type 0

@@ -1,13 +1,14 @@
-//! What holds of the numbers that the program is made with, of its shelves, and of the words that it
-//! is called by.
+//! What holds of the numbers that the program is made with, of its shelves, of the words that it is
+//! called by, and of what it prints.
 ghost use Rattle.std.specs.Prelude.{◌≡◌, List};
 ghost use Rattle.clap.specs.Words.{Text};
 ghost use Rattle.la_program.specs.Calls.{Calls};
-ghost use Rattle.la_program.specs.Play.{FitAnyGroup};
+ghost use Rattle.la_program.specs.Play.{FitAnyGroup, TextsKeepPromises};
 ghost use Rattle.la_program.specs.Shelves.{standard_shelves};
 ghost use Rattle.la_program.specs.declared.call.Task.{Task};
 
 use crate::LIMIT;
+use la_world::laws;
 
 /// An input may have 16,777,216 bytes.
 pub fn the_limit_is_a_number()
@@ -27,3 +28,15 @@ pub fn words_call_for_one_task()
 pub fn the_shelves_fit_any_group()
     ensures { FitAnyGroup standard_shelves }
 {}
+
+/// The text that is written for a script, by [`answer_to`], [`play_stream`] or [`run_boxed`], is that of
+/// a report which keeps all that [`la_world::run`] promises of its lines, views, answers and outcomes.
+///
+/// [`answer_to`]: crate::answer_to
+/// [`play_stream`]: crate::play_stream
+/// [`run_boxed`]: crate::run_boxed
+pub fn texts_keep_promises()
+    ensures { TextsKeepPromises }
+{
+    laws::reports_keep_promises();
+}

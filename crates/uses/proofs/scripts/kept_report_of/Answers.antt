@@ -1,6 +1,6 @@
 use Rattle.std.specs.Prelude.{ℕ, List, [], map, replicate, Result, Ok, Err, IfOk}
 use Rattle.la_world.specs.Events.{event_of}
-use Rattle.la_world.specs.Promises.{ReportsKeepPromises}
+use Rattle.la_world.specs.Reported.{ReportsKeepPromises}
 use Rattle.la_world.specs.Report.{report}
 use Rattle.uses.specs.Scripts.{IsReportOf, IsTextOfKept}
 use Rattle.uses.proofs.scripts.kept_report_of.Goals as goal
