@@ -10,8 +10,9 @@ ghost use Rattle.la_program.specs.Texts.{fault_line};
 use clap::Error;
 use la_object::{Replicated, Shelf};
 use la_program::laws::words_call_for_one_task;
-use la_program::{Listener, PlayFault, Task, WriteFailed};
-use la_program::{answer_to, command, fit_any_group, status_of, tell};
+use la_program::{
+    Listener, PlayFault, Task, WriteFailed, answer_to, command, fit_any_group, status_of, tell,
+};
 use la_script::Pieces;
 use std::alloc::Global;
 
