@@ -1,14 +1,15 @@
 // A node's calls, each made twice, or at two nodes that are one.
-ghost use Rattle.std.specs.Prelude.{◌≡◌, ◌≢◌, IfOk, IfErr, OnOk, OnErr};
+ghost use Rattle.std.specs.Prelude.{◌≡◌, ◌≢◌, ◌↔◌, IsTrue, IfOk, IfErr, OnOk, OnErr};
+ghost use Rattle.std.specs.Option.{option_copied};
 ghost use Rattle.la_object.specs.declared.error.ShelfError.TheVariants.{Memory as MemoryIs};
 ghost use Rattle.la_replica.specs.Whole.{whole_of, whole_out, whole_mail};
 ghost use Rattle.la_replica.specs.Fitting.{FitsReceiver};
 ghost use Rattle.la_world.specs.Following.{whole_done};
 
 use la_commit::Outcome;
-use la_object::{Answer, Query, Replicated, Shelf, ShelfError};
+use la_object::{Answer, Query, Replicated, Shelf, ShelfError, State};
 use la_replica::{Mail, Message, Out, ReplicaError};
-use la_set::{Op, Tags};
+use la_set::{Op, Tags, UpdateSet};
 use la_world::{Config, Node, Received, WorldError};
 use std::alloc::{AllocError, Global};
 
@@ -27,6 +28,47 @@ fn new_nodes_are_one<B: Replicated>(
         Node::new(alloc, config, own, shelf),
         Node::new(alloc, config, own, same),
     )
+}
+
+fn is_group_is_exact(config: &Config) -> (bool, bool)
+    ensures { IsTrue result.0 ↔ IsTrue result.1 }
+{
+    (config.is_group(), config.is_group())
+}
+
+// What a node tells of itself: which replica it is, its view and what it learnt last and submitted in an
+// instance, and whether it has an object.
+fn own_is_exact<B: Replicated>(node: &Node<B>) -> (u8, u8)
+    ensures { result.0 ≡ result.1 }
+{
+    (node.own(), node.own())
+}
+
+fn view_is_exact<B: Replicated>(node: &Node<B>) -> (&UpdateSet, &UpdateSet)
+    ensures { result.0.now ≡ result.1.now }
+{
+    (node.view(), node.view())
+}
+
+fn last_learnt_is_exact<B: Replicated>(
+    node: &Node<B>,
+    instance: u8,
+) -> (Option<&UpdateSet>, Option<&UpdateSet>)
+    ensures { option_copied result.0 ≡ option_copied result.1 }
+{
+    (node.last_learnt(instance), node.last_learnt(instance))
+}
+
+fn submitted_is_exact<B: Replicated>(node: &Node<B>, instance: u8) -> (Option<u32>, Option<u32>)
+    ensures { result.0 ≡ result.1 }
+{
+    (node.submitted(instance), node.submitted(instance))
+}
+
+fn has_is_exact<B: Replicated>(node: &Node<B>, object: u16) -> (bool, bool)
+    ensures { result.0 ≡ result.1 }
+{
+    (node.has(object), node.has(object))
 }
 
 fn outcome_is_exact<B: Replicated>(node: &Node<B>, commit: u8) -> (Option<Outcome>, Option<Outcome>)
@@ -128,6 +170,7 @@ fn observed_is_exact<B: Replicated>(
     )
 }
 
+<<<<<<< HEAD
 // Want of memory alone may leave them apart.
 fn observed_leaves_one<B: Replicated>(
     one: &mut Node<B>,
@@ -144,4 +187,32 @@ fn observed_leaves_one<B: Replicated>(
         one.observed(object, element),
         other.observed(object, element),
     )
+=======
+// Objects in one state.
+fn add_is_exact<B: Replicated>(
+    one: &mut Node<B>,
+    other: &mut Node<B>,
+    number: u16,
+    object: B,
+    same: B,
+) -> (Result<(), ShelfError>, Result<(), ShelfError>)
+    requires nodes { one.old ≡ other.old }
+    requires objects { B.state object ≡ B.state same }
+    ensures steps { OnOk result.0 (OnOk result.1 (one.new ≡ other.new)) }
+    ensures stays { OnErr result.0 (one.new ≡ one.old) }
+{
+    (one.add(number, object), other.add(number, same))
+}
+
+fn retire_is_exact<B: Replicated>(
+    one: &mut Node<B>,
+    other: &mut Node<B>,
+    number: u16,
+) -> (Result<State, ShelfError>, Result<State, ShelfError>)
+    requires { one.old ≡ other.old }
+    ensures states { IfOk result.0 (λ a. IfOk result.1 (λ b. a ≡ b)) }
+    ensures steps { OnOk result.0 (OnOk result.1 (one.new ≡ other.new)) }
+{
+    (one.retire(number), other.retire(number))
+>>>>>>> 37a37c130c3b88d50dc214b4fa38be5b0887aee9
 }
