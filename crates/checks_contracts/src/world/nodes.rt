@@ -170,7 +170,6 @@ fn observed_is_exact<B: Replicated>(
     )
 }
 
-<<<<<<< HEAD
 // Want of memory alone may leave them apart.
 fn observed_leaves_one<B: Replicated>(
     one: &mut Node<B>,
@@ -187,7 +186,8 @@ fn observed_leaves_one<B: Replicated>(
         one.observed(object, element),
         other.observed(object, element),
     )
-=======
+}
+
 // Objects in one state.
 fn add_is_exact<B: Replicated>(
     one: &mut Node<B>,
@@ -214,5 +214,4 @@ fn retire_is_exact<B: Replicated>(
     ensures steps { OnOk result.0 (OnOk result.1 (one.new ≡ other.new)) }
 {
     (one.retire(number), other.retire(number))
->>>>>>> 37a37c130c3b88d50dc214b4fa38be5b0887aee9
 }
