@@ -4,9 +4,8 @@ use Rattle.std.specs.Prelude.{Result, Ok, Err, IfErr}
 use Rattle.la_set.specs.declared.update.UpdateId.{UpdateId}
 use Rattle.la_object.specs.declared.error.ShelfError.{ShelfError}
 use Rattle.la_object.specs.declared.error.ShelfError.TheVariants.{Taken, NotFresh, NoSuchObject, TooManyTags, Memory}
-use Rattle.la_object.specs.Refusals.{IsTagsRefusal}
 use Rattle.la_object.specs.Shelves.{tags_at}
-use Rattle.la_world.specs.Nodes.{NodeState, followed, LeftUntold}
+use Rattle.la_world.specs.Nodes.{NodeState, followed, IsObservedRefusal, LeftUntold}
 use Rattle.la_world.specs.declared.error.WorldError as world
 use Rattle.la_world.specs.declared.error.WorldError.TheVariants as named
 use Rattle.la_world.specs.StandsFor.{World}
@@ -18,7 +17,7 @@ use Rattle.la_world.specs.Calls.{IsFollowing}
 some_none : {A : Type 0} (o : Option A) (P : A → Type 0) → o ≡ None → IsSomeAnd o P → ⊥
 some_none o P e some = subst (λ z. IsSomeAnd z P) e some
 
-left_one : (n x y : NodeState) (tags : Option (List UpdateId)) (d e : ShelfError) → IsTagsRefusal tags d → IsTagsRefusal tags e → LeftUntold d n x → LeftUntold e n y → d ≢ Memory → e ≢ Memory → x ≡ y
+left_one : (n x y : NodeState) (tags : Option (List UpdateId)) (d e : ShelfError) → IsObservedRefusal tags d → IsObservedRefusal tags e → LeftUntold d n x → LeftUntold e n y → d ≢ Memory → e ≢ Memory → x ≡ y
 left_one n x y tags Memory e p q h k not_d not_e = absurd (not_d refl)
 left_one n x y tags Taken e p q h k not_d not_e = absurd p
 left_one n x y tags NotFresh e p q h k not_d not_e = absurd p
@@ -33,12 +32,12 @@ left_one n x y tags TooManyTags Memory p q h k not_d not_e = absurd (not_e refl)
 left_one n x y tags TooManyTags Taken p q h k not_d not_e = absurd q
 left_one n x y tags TooManyTags NotFresh p q h k not_d not_e = absurd q
 
-pub nodes_left_one : (n m x y : NodeState) → n ≡ m → (object element : ℕ) (a b : Result (List UpdateId) ShelfError) → IfErr a (IsTagsRefusal (tags_at (followed n) object element)) → IfErr b (IsTagsRefusal (tags_at (followed m) object element)) → IfErr a (λ d. LeftUntold d n x) → IfErr b (λ e. LeftUntold e m y)
+pub nodes_left_one : (n m x y : NodeState) → n ≡ m → (object element : ℕ) (a b : Result (List UpdateId) ShelfError) → IfErr a (IsObservedRefusal (tags_at (followed n) object element)) → IfErr b (IsObservedRefusal (tags_at (followed m) object element)) → IfErr a (λ d. LeftUntold d n x) → IfErr b (λ e. LeftUntold e m y)
     → IfErr a (λ d. IfErr b (λ e. d ≢ Memory → e ≢ Memory → x ≡ y))
 nodes_left_one n m x y same object element (Ok s) b p q h k = tt
 nodes_left_one n m x y same object element (Err d) (Ok s) p q h k = tt
 nodes_left_one n m x y same object element (Err d) (Err e) p q h k =
-    left_one n x y (tags_at (followed n) object element) d e p (subst (λ z. IsTagsRefusal (tags_at (followed z) object element) e) (sym same) q) h (subst (λ z. LeftUntold e z y) (sym same) k)
+    left_one n x y (tags_at (followed n) object element) d e p (subst (λ z. IsObservedRefusal (tags_at (followed z) object element) e) (sym same) q) h (subst (λ z. LeftUntold e z y) (sym same) k)
 
 -- ## A world
 
