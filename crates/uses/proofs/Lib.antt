@@ -2,6 +2,7 @@ pub mod Adding
 pub mod Tagging
 pub mod Runs
 pub mod Asking
+pub mod TwoLines
 pub mod Reading
 pub mod Committing
 pub mod Later

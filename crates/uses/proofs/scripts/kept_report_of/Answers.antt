@@ -20,4 +20,4 @@ keeps law bytes (Ok text) is =
 keeps law bytes (Err e) is = tt
 
 pub returns-clause-kept : goal.returns-clause-kept
-returns-clause-kept g c = keeps c.reports_keep_promises.ensures c.args.bytes.now c.report_of.result c.report_of.ensures.text
+returns-clause-kept c = keeps c.reports_keep_promises.ensures c.args.bytes.now c.report_of.result c.report_of.ensures.text
