@@ -2,7 +2,7 @@
 use Rattle.std.proofs.Common.{◌≡◌, ◌⊎◌, inl, inr, sym, ◌∙◌, subst}
 use Rattle.la_set.specs.Histories.{Histories}
 use Rattle.la_set.specs.Inclusion.{IsSubset}
-use Rattle.la_set.proofs.Theorems.{subset-antisym}
+use Rattle.la_set.proofs.lemmas.Theorems.{subset-antisym}
 use Rattle.la_runner.specs.Rounds.{IsLarger}
 
 pub larger_is_one : (s v w u : Histories) → IsLarger s v w → IsLarger s v u → w ≡ u

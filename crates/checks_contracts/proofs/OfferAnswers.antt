@@ -2,7 +2,7 @@
 use Rattle.std.proofs.Common.{◌≡◌, refl, ap}
 use Rattle.la_set.specs.Histories.{Histories}
 use Rattle.la_set.specs.Join.{IsCompatible}
-use Rattle.la_set.proofs.Agreements.{clash_compatible}
+use Rattle.la_set.proofs.lemmas.Agreements.{clash_compatible}
 use Rattle.la_acceptor.specs.declared.error.AcceptorError.{AcceptorError}
 use Rattle.la_acceptor.specs.declared.error.AcceptorError.TheVariants.{Clash, Memory}
 use Rattle.la_acceptor.specs.Refusals.{IsOfferRefusal}

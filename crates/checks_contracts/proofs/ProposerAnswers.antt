@@ -1,7 +1,7 @@
 -- What the contracts of la_proposer leave open of a reply that counts: one refusal.
 use Rattle.std.proofs.Common.{◌≡◌, ℕ, Some, refl, ap, inl, inr}
 use Rattle.la_set.specs.declared.update.UpdateId.{UpdateId}
-use Rattle.la_set.proofs.IdOrder.{id_cases}
+use Rattle.la_set.proofs.lemmas.IdOrder.{id_cases}
 use Rattle.la_acceptor.specs.declared.reply.Reply.{Reply}
 use Rattle.la_proposer.specs.declared.error.ProposerError.{ProposerError}
 use Rattle.la_proposer.specs.declared.error.ProposerError.TheVariants.{Full, NoSuchReplica, Clash, BallotsSpent, Memory}

@@ -8,8 +8,8 @@ use Rattle.la_set.specs.Histories.{Histories}
 use Rattle.la_set.specs.Inclusion.{IsSubset, IsOrderOf}
 use Rattle.la_set.specs.Join.{IsCompatible, IsLeastClash}
 use Rattle.la_set.specs.Refusals.{IsUnionRefusal}
-use Rattle.la_set.proofs.IdOrder.{id_cases}
-use Rattle.la_set.proofs.Agreements.{clash_compatible}
+use Rattle.la_set.proofs.lemmas.IdOrder.{id_cases}
+use Rattle.la_set.proofs.lemmas.Agreements.{clash_compatible}
 
 within : (a b : Histories) → a ≡ b → IsSubset a b
 within a b e = subst (IsSubset a) e (λ u has. has)

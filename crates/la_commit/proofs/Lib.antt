@@ -1,4 +1,2 @@
-pub mod Listed
+pub mod lemmas
 pub mod Reading
-pub mod Casting
-pub mod Agreeing

@@ -8,7 +8,7 @@ use Rattle.la_set.specs.declared.update.Update.{Update}
 use Rattle.la_set.specs.Histories.{Histories, updates}
 use Rattle.la_commit.specs.declared.vote.Vote.{Vote}
 use Rattle.la_commit.specs.Votes.{vote_of, votes}
-use Rattle.la_commit.proofs.Listed.{filter_map-skip, filter_map-more, filter_map-at}
+use Rattle.la_commit.proofs.lemmas.Listed.{filter_map-skip, filter_map-more, filter_map-at}
 
 -- the vote at a place, if the update there is one
 abbrev pub vote_at : Histories → ℕ → Option Vote

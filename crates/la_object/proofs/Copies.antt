@@ -9,9 +9,9 @@ use Rattle.std.specs.FinSet as set
 use Rattle.la_set.specs.declared.update.UpdateId.{UpdateId}
 use Rattle.la_object.specs.IdOrder.{id_cmp, Elements, IdSet}
 use Rattle.la_object.specs.OrSet.{with_ids}
-use Rattle.la_object.proofs.IdOrder.{id_cmp_total, id_cmp-IsAntisymmetric}
-use Rattle.la_object.proofs.Sorted.{first, second, not_found}
-use Rattle.la_object.proofs.IdMaps.{with_ids-nil, with_ids-more, contains-with_ids, same_ids}
+use Rattle.la_object.proofs.lemmas.IdOrder.{id_cmp_total, id_cmp-IsAntisymmetric}
+use Rattle.la_object.proofs.lemmas.Sorted.{first, second, not_found}
+use Rattle.la_object.proofs.lemmas.IdMaps.{with_ids-nil, with_ids-more, contains-with_ids, same_ids}
 
 -- ## Ids
 

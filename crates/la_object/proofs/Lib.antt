@@ -1,6 +1,4 @@
-pub mod IdOrder
-pub mod Sorted
-pub mod IdMaps
+pub mod lemmas
 pub mod Copies
 pub mod Steps
 pub mod Presence
@@ -11,4 +9,3 @@ pub mod Replies
 pub mod OwnOperations
 pub mod Views
 pub mod NewUpdates
-pub mod Rows

@@ -5,7 +5,7 @@ use Rattle.std.specs.Ordering.{nat_cmp, eq_by_cmp}
 use Rattle.std.specs.Cmp.{unsigned_tied, nat_eq_equiv}
 use Rattle.std.specs.FinMap as map
 use Rattle.la_set.specs.declared.update.Update.{Update}
-use Rattle.la_set.proofs.Filters.{Contains-none, Contains-cons_cases}
+use Rattle.la_set.proofs.lemmas.Filters.{Contains-none, Contains-cons_cases}
 use Rattle.la_object.specs.OrSet.{live, present, is_element}
 use Rattle.la_object.proofs.Presence.{get-element_set}
 

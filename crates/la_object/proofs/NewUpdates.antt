@@ -11,14 +11,14 @@ use Rattle.la_set.specs.ObjectOps.{ObjectOp, object_op_of, update_of}
 use Rattle.la_set.specs.Histories.{Histories, history, object_op_number, get, ContainsUpdate, has_update, is_update, count, numbered, updates_from, updates, push, IsNext}
 use Rattle.la_set.specs.Inclusion.{IsSubset}
 use Rattle.la_set.specs.Difference.{lacks, beyond}
-use Rattle.la_set.proofs.NumberedLists.{numbered-append}
-use Rattle.la_set.proofs.SetHistories.{history-with_same, history-with_other}
-use Rattle.la_set.proofs.Prefixes.{IsPrefix}
-use Rattle.la_set.proofs.Inclusions.{subset-prefix, prefix-subset, subset-refl, subset-antisym, contains-object_op, object_op-contains}
-use Rattle.la_set.proofs.Filters.{Contains-none, contains-filter}
-use Rattle.la_set.proofs.Membership.{contains-listed}
-use Rattle.la_set.proofs.Places.{get_past}
-use Rattle.la_set.proofs.Decisions.{has_update-Decides}
+use Rattle.la_set.proofs.lemmas.NumberedLists.{numbered-append}
+use Rattle.la_set.proofs.lemmas.SetHistories.{history-with_same, history-with_other}
+use Rattle.la_set.proofs.lemmas.Prefixes.{IsPrefix}
+use Rattle.la_set.proofs.lemmas.Inclusions.{subset-prefix, prefix-subset, subset-refl, subset-antisym, contains-object_op, object_op-contains}
+use Rattle.la_set.proofs.lemmas.Filters.{Contains-none, contains-filter}
+use Rattle.la_set.proofs.lemmas.Membership.{contains-listed}
+use Rattle.la_set.proofs.lemmas.Places.{get_past}
+use Rattle.la_set.proofs.lemmas.Decisions.{has_update-Decides}
 use Rattle.la_object.specs.Shelves.{IsFirstBeyond, after_first}
 
 -- of one replica, the updates that the set has are passed over, and those past its count are kept

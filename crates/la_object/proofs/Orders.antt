@@ -11,7 +11,7 @@ use Rattle.la_set.specs.declared.update.Update.{Update}
 use Rattle.la_object.specs.IdOrder.{id_cmp}
 use Rattle.la_object.specs.declared.state.State.{State}
 use Rattle.la_object.specs.Objects.{after, steps}
-use Rattle.la_object.proofs.IdOrder.{id_cmp_total, id_cmp-IsAntisymmetric}
+use Rattle.la_object.proofs.lemmas.IdOrder.{id_cmp_total, id_cmp-IsAntisymmetric}
 use Rattle.la_object.proofs.Steps.{AllOther, after-swap}
 use Rattle.la_object.proofs.Presence.{IsDistinctList}
 

@@ -16,7 +16,7 @@ use Rattle.la_object.specs.IdOrder.{id_cmp, Elements, IdSet}
 use Rattle.la_object.specs.declared.state.State.TheVariants.{Set}
 use Rattle.la_object.specs.OrSet.{element, named, is_removed, live, present, held, with_element, with_ids, element_set}
 use Rattle.la_object.specs.Objects.{steps}
-use Rattle.la_object.proofs.IdOrder.{id_cmp_total, id_cmp-IsAntisymmetric}
+use Rattle.la_object.proofs.lemmas.IdOrder.{id_cmp_total, id_cmp-IsAntisymmetric}
 use Rattle.la_object.proofs.Steps.{AllOther, or_else, get-with_element, or_else-None}
 
 or_false : (a : Bool) → a ≡ (a || false)

@@ -13,7 +13,7 @@ use Rattle.la_object.specs.Counter.{increment, decrement}
 use Rattle.la_object.specs.MaxRegister.{raised}
 use Rattle.la_object.specs.OrSet.{element, named, with_element, with_ids}
 use Rattle.la_object.specs.Objects.{after, steps}
-use Rattle.la_object.proofs.IdOrder.{id_cmp_total, id_cmp-IsAntisymmetric}
+use Rattle.la_object.proofs.lemmas.IdOrder.{id_cmp_total, id_cmp-IsAntisymmetric}
 
 pub or_else : Option ℕ → Option ℕ → Option ℕ
 or_else (Some x) b = Some x

@@ -12,7 +12,7 @@ use Rattle.la_set.specs.declared.update.UpdateId.{UpdateId}
 use Rattle.la_set.specs.declared.update.Update.{Update}
 use Rattle.la_object.specs.IdOrder.{id_cmp, Elements}
 use Rattle.la_object.specs.OrSet.{element, is_removed, is_element, live_tags, with_element, held_tags}
-use Rattle.la_object.proofs.IdOrder.{id_cmp_total}
+use Rattle.la_object.proofs.lemmas.IdOrder.{id_cmp_total}
 use Rattle.la_object.proofs.Steps.{AllOther}
 use Rattle.la_object.proofs.Presence.{IsDistinctList, AreNew, AreNew-more, AreNew-empty, entries-empty, adds_after, gone_after, contains-gone_after}
 

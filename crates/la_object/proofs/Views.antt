@@ -8,8 +8,8 @@ use Rattle.la_set.specs.declared.update.UpdateId.{UpdateId}
 use Rattle.la_set.specs.declared.update.Update.{Update}
 use Rattle.la_set.specs.ObjectOps.{ObjectOp, object_op_of, update_of}
 use Rattle.la_set.specs.Histories.{Histories, history, numbered, updates_from, updates, IsNext, push}
-use Rattle.la_set.proofs.NumberedLists.{numbered-append, updates_from-add, updates_from-same}
-use Rattle.la_set.proofs.SetHistories.{history-with_same, history-with_other}
+use Rattle.la_set.proofs.lemmas.NumberedLists.{numbered-append, updates_from-add, updates_from-same}
+use Rattle.la_set.proofs.lemmas.SetHistories.{history-with_same, history-with_other}
 use Rattle.la_object.specs.declared.state.State.{State}
 use Rattle.la_object.specs.IdOrder.{id_cmp}
 use Rattle.la_object.specs.Objects.{after, steps, of_object}

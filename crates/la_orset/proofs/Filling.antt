@@ -10,9 +10,9 @@ use Rattle.std.proofs.lemmas.List.Elements.{All-contains, All-from_recursion}
 use Rattle.la_set.specs.declared.update.UpdateId.{UpdateId}
 use Rattle.la_set.specs.Ids.{id_below}
 use Rattle.la_set.specs.Tags.{with_tag}
-use Rattle.la_set.proofs.IdOrder.{cmp-less, below-test, test-below, below_trans, below_irreflexive}
+use Rattle.la_set.proofs.lemmas.IdOrder.{cmp-less, below-test, test-below, below_trans, below_irreflexive}
 use Rattle.la_object.specs.IdOrder.{id_cmp}
-use Rattle.la_object.proofs.IdOrder.{id_cmp_total}
+use Rattle.la_object.proofs.lemmas.IdOrder.{id_cmp_total}
 
 abbrev AllUnder : UpdateId → List UpdateId → Type 0
 AllUnder id ts = AllByRecursion (λ t. id_cmp t id ≡ Less) ts

@@ -10,9 +10,9 @@ use Rattle.std.proofs.lemmas.Bool.{eqb-true}
 use Rattle.la_set.specs.declared.update.UpdateId.{UpdateId}
 use Rattle.la_object.specs.IdOrder.{id_cmp, Elements, IdSet}
 use Rattle.la_object.specs.OrSet.{stays, held, held_tags, with_element}
-use Rattle.la_object.proofs.IdOrder.{id_cmp_total, id_cmp-IsAntisymmetric}
+use Rattle.la_object.proofs.lemmas.IdOrder.{id_cmp_total, id_cmp-IsAntisymmetric}
 use Rattle.la_orset.specs.Index.{set_of, Index, has_any, tags_at, is_tag, IsWhole, HasTags, IsIndex}
-use Rattle.la_object.proofs.Sorted.{passes, any-find, any-keys, sorted-filter}
+use Rattle.la_object.proofs.lemmas.Sorted.{passes, any-find, any-keys, sorted-filter}
 use Rattle.la_orset.proofs.Sets.{same_members, contains-set_of, contains-put, contains-taken, keys-set_of, sorted-entries}
 use Rattle.la_orset.proofs.LiveTags.{tied}
 

@@ -9,9 +9,9 @@ use Rattle.std.specs.FinMap.{nat_cmp-IsAntisymmetric}
 use Rattle.std.specs.Map.{lookup}
 use Rattle.la_set.specs.declared.update.UpdateId.{UpdateId}
 use Rattle.la_object.specs.IdOrder.{id_cmp}
-use Rattle.la_object.proofs.IdOrder.{id_cmp_total, id_cmp-IsAntisymmetric}
+use Rattle.la_object.proofs.lemmas.IdOrder.{id_cmp_total, id_cmp-IsAntisymmetric}
 use Rattle.la_orset.specs.Index.{TagMap, Index, has_any, tags_or, tags_at, IsWhole, HasTags}
-use Rattle.la_object.proofs.Sorted.{get-lookup}
+use Rattle.la_object.proofs.lemmas.Sorted.{get-lookup}
 use Rattle.la_orset.proofs.Sets.{same_members, contains-put, contains-taken, something_in, keys-empty}
 
 pub tied : (x y : ℕ) → eq_by_cmp nat_cmp x y ≡ (y == x)

@@ -11,7 +11,7 @@ use Rattle.std.specs.FinMap.{FinMap, IsAntisymmetric}
 use Rattle.std.specs.FinMap.Entries.{is_sorted, below_all}
 use Rattle.std.proofs.lemmas.List.{nil_from_length}
 use Rattle.la_orset.specs.Index.{set_of, has_any}
-use Rattle.la_object.proofs.Sorted.{units, entries-from_entries, sorted-keys}
+use Rattle.la_object.proofs.lemmas.Sorted.{units, entries-from_entries, sorted-keys}
 
 abbrev marked : Bool → Option (Unit {0})
 marked b = cond b (Some tt) None

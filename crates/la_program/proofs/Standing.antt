@@ -15,7 +15,7 @@ use Rattle.la_object.specs.declared.state.State.{State}
 use Rattle.la_object.specs.Objects.{kind_of, IsFresh}
 use Rattle.la_object.specs.Shelves.{ShelfState, kinds, kind_at}
 use Rattle.la_object.specs.Refusals.{IsAddRefusal}
-use Rattle.la_object.proofs.Rows.{rows-push, kinds-push}
+use Rattle.la_object.proofs.lemmas.Rows.{rows-push, kinds-push}
 use Rattle.la_program.specs.Shelves.{states_of, all_states_of, shelf_of, CanStand, IsUnfit, HasUnfit, IsFillRefusal, standard_objects}
 
 -- no number is this one, where none of the objects stands under it

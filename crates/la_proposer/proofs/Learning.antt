@@ -4,7 +4,7 @@ use Rattle.std.proofs.lemmas.Bool.{cond_both}
 use Rattle.std.proofs.lemmas.List.Elements.{All-push}
 use Rattle.la_set.specs.ObjectOps.{ObjectOp}
 use Rattle.la_set.specs.Histories.{Histories, history}
-use Rattle.la_set.proofs.SetHistories.{history-with_same}
+use Rattle.la_set.proofs.lemmas.SetHistories.{history-with_same}
 use Rattle.la_acceptor.specs.declared.reply.Reply.{Reply}
 use Rattle.la_proposer.specs.declared.ballot.Ballot.{Ballot}
 use Rattle.la_proposer.specs.declared.heard.Heard.{Heard}

@@ -11,7 +11,7 @@ use Rattle.la_set.specs.declared.update.Update.{Update}
 use Rattle.la_set.specs.Histories.{Histories, history, object_op_number, ContainsUpdate, get}
 use Rattle.la_set.specs.ObjectOps.{ObjectOp, update_of}
 use Rattle.la_set.specs.Inclusion.{IsSubset, AreComparable}
-use Rattle.la_set.proofs.Filters.{filter-contains}
+use Rattle.la_set.proofs.lemmas.Filters.{filter-contains}
 use Rattle.la_commit.specs.declared.outcome.Outcome.{Outcome}
 use Rattle.la_commit.specs.declared.outcome.Outcome.TheVariants.{Commit, Adopt}
 use Rattle.la_commit.specs.declared.vote.Vote.{Vote}
@@ -19,8 +19,8 @@ use Rattle.la_commit.specs.Instances.{first_instance, second_instance}
 use Rattle.la_commit.specs.Outcomes.{are_all_sole, outcome_by, outcome, is_commit, value_of}
 use Rattle.la_commit.specs.Votes.{vote_of, votes, sole_votes, is_sole, HoldsVote, first_vote_for, second_vote_for}
 use Rattle.la_commit.specs.Laws.{HasVoteFor}
-use Rattle.la_commit.proofs.Agreeing.{sole_values-agree, outcomes-agree, unanimous-commit}
-use Rattle.la_commit.proofs.Casting.{votes-cast, own_vote-cast, own_vote-votes}
+use Rattle.la_commit.proofs.lemmas.Agreeing.{sole_values-agree, outcomes-agree, unanimous-commit}
+use Rattle.la_commit.proofs.lemmas.Casting.{votes-cast, own_vote-cast, own_vote-votes}
 use Rattle.la_runner.specs.declared.jobs.Entry.TheVariants.{Decided}
 use Rattle.la_runner.specs.declared.jobs.Job.TheVariants.{Decide}
 use Rattle.la_runner.specs.Entries.{next_number, IsDecided, Answers}

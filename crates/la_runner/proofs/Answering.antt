@@ -13,7 +13,7 @@ use Rattle.la_object.specs.declared.query.Query.{Query}
 use Rattle.la_object.specs.declared.query.Answer.{Answer}
 use Rattle.la_object.specs.Shelves.{ShelfState, answer_at}
 use Rattle.la_proposer.specs.ProposerState.{op_on}
-use Rattle.la_shared.proofs.Theorems.{prefix_self}
+use Rattle.la_shared.proofs.lemmas.Theorems.{prefix_self}
 use Rattle.la_runner.specs.declared.learned.Learned.{Learned}
 use Rattle.la_runner.specs.declared.jobs.Entry.TheVariants as entry
 use Rattle.la_runner.specs.Certificates.{seen_at, mine_at}

@@ -5,15 +5,15 @@ use Rattle.std.specs.List.{slice_get}
 use Rattle.la_set.specs.Histories.{Histories, empty}
 use Rattle.la_set.specs.Inclusion.{IsSubset, AreComparable}
 use Rattle.la_set.specs.Join.{IsCompatible, IsUnionOf, join}
-use Rattle.la_set.proofs.Theorems.{subset-join_left, contains-join, contains-join_cases}
-use Rattle.la_acceptor.proofs.Theorems.{subset-from_yes}
+use Rattle.la_set.proofs.lemmas.Theorems.{subset-join_left, contains-join, contains-join_cases}
+use Rattle.la_acceptor.proofs.lemmas.Theorems.{subset-from_yes}
 use Rattle.la_acceptor.specs.declared.reply.Reply.{Reply}
 use Rattle.la_acceptor.specs.declared.reply.Reply.TheVariants.{Yes}
-use Rattle.la_proposer.proofs.Theorems.{majorities_meet}
+use Rattle.la_proposer.proofs.lemmas.Theorems.{majorities_meet}
 use Rattle.la_shared.specs.History.{IsLegal}
 use Rattle.la_shared.specs.History.{HasEntry, HasYes}
 use Rattle.la_shared.specs.Passes.{Known}
-use Rattle.la_shared.proofs.Theorems.{has-prefix, owns-has, yes_comparable, later_contains}
+use Rattle.la_shared.proofs.lemmas.Theorems.{has-prefix, owns-has, yes_comparable, later_contains}
 use Rattle.la_runner.specs.Certificates.{seen_of, mine_of, seen_at, mine_at, OfMajority, HasCertificate, HasOwnCertificate}
 use Rattle.la_runner.specs.Sound.{IsPassAt}
 use Rattle.la_runner.specs.Following.{Beyond}

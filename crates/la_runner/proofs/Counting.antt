@@ -7,7 +7,7 @@ use Rattle.std.proofs.lemmas.List.Elements.{All-nil, All-cons}
 use Rattle.std.proofs.lemmas.Option.{slice_get_within, get_or_from_slice_get, slice_get-get_or}
 use Rattle.la_set.specs.Histories.{Histories, empty, history, from_histories, updates}
 use Rattle.la_set.specs.Inclusion.{IsSubset}
-use Rattle.la_set.proofs.Differences.{same_length}
+use Rattle.la_set.proofs.lemmas.Differences.{same_length}
 use Rattle.la_object.specs.Shelves.{ShelfState}
 use Rattle.la_runner.specs.declared.jobs.Job.{Job}
 use Rattle.la_runner.specs.Members.{MemberState, GroupState, IsOf, view}

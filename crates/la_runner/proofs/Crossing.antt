@@ -1,7 +1,7 @@
 -- Members and notes may cross threads, and threads may share a group.
 use denote.Param.Send.{IsSend, IsSync, sendable}
 use Rattle.std.proofs.Crossing as heap
-use Rattle.la_set.proofs.history.Node.TheLaws.TheKnot as knot
+use Rattle.la_set.proofs.lemmas.Crossing as knot
 use Rattle.la_proposer.specs.contracts.votes.Votes as Votes
 use Rattle.la_proposer.specs.contracts.proposer.Proposer as Proposer
 use Rattle.la_runner.specs.contracts.group.Group as Group
@@ -10,7 +10,7 @@ use Rattle.la_runner.specs.contracts.instance.Instance as Instance
 use Rattle.la_runner.specs.contracts.note.InstanceNote as InstanceNote
 use Rattle.la_runner.specs.contracts.member.Member as Member
 use Rattle.la_runner.specs.contracts.note.MemberNote as MemberNote
-use Rattle.la_shared.proofs.Theorems as shared
+use Rattle.la_shared.proofs.lemmas.Theorems as shared
 
 votes_send : IsSend (Votes.the_field).row
 votes_send = search (heap.crosses, sendable) depth 60 fits 20000

@@ -8,12 +8,12 @@ use Rattle.std.specs.Option.{option_to_list}
 use Rattle.std.specs.List.{slice_get, slice_index_or}
 use Rattle.la_set.specs.ObjectOps.{ObjectOp, update_of}
 use Rattle.la_set.specs.Histories.{history, object_op_number, empty}
-use Rattle.la_set.proofs.Theorems.{contains-object_op}
+use Rattle.la_set.proofs.lemmas.Theorems.{contains-object_op}
 use Rattle.la_commit.specs.Instances.{first_instance, second_instance}
 use Rattle.la_proposer.specs.Inputs.{all_submitted}
-use Rattle.la_acceptor.proofs.Theorems.{contains-empty}
+use Rattle.la_acceptor.proofs.lemmas.Theorems.{contains-empty}
 use Rattle.la_proposer.specs.ProposerState.{ProposerState, start}
-use Rattle.la_proposer.proofs.Theorems.{start_is}
+use Rattle.la_proposer.proofs.lemmas.Theorems.{start_is}
 use Rattle.la_shared.specs.History.{HasEntry}
 use Rattle.la_shared.specs.Passes.{Known, AcceptorName}
 use Rattle.la_runner.specs.declared.instance.Instance.{Instance}

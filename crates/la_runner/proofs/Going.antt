@@ -4,13 +4,13 @@ use mathlib.Core.List.{IsPrefix}
 use Rattle.la_set.specs.declared.update.Update.{Update}
 use Rattle.la_set.specs.Histories.{Histories, history, count}
 use Rattle.la_set.specs.Inclusion.{IsSubset}
-use Rattle.la_set.proofs.Theorems.{subset-refl, subset-trans}
+use Rattle.la_set.proofs.lemmas.Theorems.{subset-refl, subset-trans}
 use Rattle.la_acceptor.specs.declared.reply.Reply.TheVariants.{Yes, No}
 use Rattle.la_proposer.specs.ProposerState.{ProposerState}
 use Rattle.la_proposer.specs.Inputs.{all_submitted}
 use Rattle.la_shared.specs.History.{HasYes}
 use Rattle.la_shared.specs.Passes.{Known}
-use Rattle.la_shared.proofs.Theorems.{has-prefix, has-left, has-right}
+use Rattle.la_shared.proofs.lemmas.Theorems.{has-prefix, has-left, has-right}
 use Rattle.la_runner.specs.Certificates.{seen_at, mine_at, OfMajority}
 use Rattle.la_runner.specs.Sound.{IsSound, HasReply, WasTold, IsView}
 use Rattle.la_runner.specs.Following.{GoOn, Beyond, Follows, IsLearnt}

@@ -6,13 +6,13 @@ use Rattle.std.proofs.lemmas.Option.{slice_get_within}
 use mathlib.Core.List.{IsPrefix}
 use Rattle.la_set.specs.Histories.{Histories, empty}
 use Rattle.la_set.specs.Inclusion.{IsSubset, AreComparable, larger_of}
-use Rattle.la_set.proofs.Theorems.{subset-refl}
+use Rattle.la_set.proofs.lemmas.Theorems.{subset-refl}
 use Rattle.la_acceptor.specs.declared.reply.Reply.TheVariants.{Yes}
 use Rattle.la_proposer.specs.ProposerState.{ProposerState}
 use Rattle.la_proposer.specs.Inputs.{all_submitted}
 use Rattle.la_shared.specs.History.{HasYes}
 use Rattle.la_shared.specs.Passes.{Known, Told}
-use Rattle.la_shared.proofs.Theorems.{has-prefix, prefix_self}
+use Rattle.la_shared.proofs.lemmas.Theorems.{has-prefix, prefix_self}
 use Rattle.la_runner.specs.declared.group.Row.{Row}
 use Rattle.la_runner.specs.declared.instance.Instance.{Instance}
 use Rattle.la_runner.specs.declared.member.Member.TheInside.{Inside}

@@ -4,10 +4,10 @@ use Rattle.std.proofs.lemmas.Bool.{cond_both, or_cases, and_parts, eqb-true, cas
 use Rattle.la_set.specs.declared.update.Update.{Update}
 use Rattle.la_set.specs.ObjectOps.{ObjectOp, object_op_of}
 use Rattle.la_set.specs.Histories.{Histories, history, count, object_op_number, ContainsUpdate, has_update}
-use Rattle.la_set.proofs.Theorems.{history-with_same, history-with_other}
-use Rattle.la_set.proofs.Theorems.{object_op-contains, contains-object_op, subset-refl, subset-trans}
-use Rattle.la_set.proofs.Theorems.{contains-join_cases}
-use Rattle.la_set.proofs.Theorems.{has_update-Decides}
+use Rattle.la_set.proofs.lemmas.Theorems.{history-with_same, history-with_other}
+use Rattle.la_set.proofs.lemmas.Theorems.{object_op-contains, contains-object_op, subset-refl, subset-trans}
+use Rattle.la_set.proofs.lemmas.Theorems.{contains-join_cases}
+use Rattle.la_set.proofs.lemmas.Theorems.{has_update-Decides}
 use Rattle.la_acceptor.specs.declared.reply.Reply.{Reply}
 use Rattle.la_acceptor.specs.declared.reply.Reply.TheVariants.{Yes, No}
 use Rattle.la_proposer.specs.declared.heard.Heard.{Heard}
@@ -21,8 +21,8 @@ use Rattle.la_proposer.specs.ProposerState.{ProposerState, with_more, with_waiti
 use Rattle.la_proposer.specs.Inputs.{all_submitted}
 use Rattle.la_proposer.specs.Clashes.{Fits}
 use Rattle.la_proposer.specs.Invariant.{IsProposerState}
-use Rattle.la_proposer.proofs.Theorems.{joined-contains}
-use Rattle.la_proposer.proofs.Theorems.{history-joined, counting_keeps, more_contains}
+use Rattle.la_proposer.proofs.lemmas.Theorems.{joined-contains}
+use Rattle.la_proposer.proofs.lemmas.Theorems.{history-joined, counting_keeps, more_contains}
 use Rattle.la_shared.specs.History.{HasEntry}
 use Rattle.la_shared.specs.Passes.{Known}
 use Rattle.la_runner.specs.Certificates.{mine_at}

@@ -9,14 +9,14 @@ use mathlib.Core.List.{IsPrefix}
 use Rattle.la_set.specs.ObjectOps.{ObjectOp}
 use Rattle.la_set.specs.Histories.{Histories, history}
 use Rattle.la_set.specs.Inclusion.{IsSubset}
-use Rattle.la_set.proofs.Theorems.{subset-refl, subset-trans}
+use Rattle.la_set.proofs.lemmas.Theorems.{subset-refl, subset-trans}
 use Rattle.la_commit.specs.Instances.{first_instance, second_instance}
 use Rattle.la_commit.specs.Votes.{second_vote}
 use Rattle.la_proposer.specs.Inputs.{all_submitted}
 use Rattle.la_proposer.specs.Majority.{votes_of}
 use Rattle.la_proposer.specs.ProposerState.{ProposerState, after_submission}
 use Rattle.la_shared.specs.Passes.{Known}
-use Rattle.la_shared.proofs.Theorems.{prefix_self}
+use Rattle.la_shared.proofs.lemmas.Theorems.{prefix_self}
 use Rattle.la_runner.specs.declared.instance.Instance.{Instance}
 use Rattle.la_runner.specs.declared.learned.Learned.{Learned}
 use Rattle.la_runner.specs.declared.member.Member.TheInside.{Inside}

@@ -7,7 +7,7 @@ use mathlib.Core.List.{IsPrefix}
 use Rattle.la_set.specs.Histories.{Histories}
 use Rattle.la_shared.specs.History.{HasEntry}
 use Rattle.la_shared.specs.Passes.{Known, Told, AcceptorName, IsPass}
-use Rattle.la_shared.proofs.Theorems.{prefix_self}
+use Rattle.la_shared.proofs.lemmas.Theorems.{prefix_self}
 use Rattle.la_runner.specs.Certificates.{seen_of, mine_of, seen_at, mine_at}
 use Rattle.la_runner.specs.Sound.{IsPassAt}
 use Rattle.la_runner.specs.Following.{acceptors_of}

@@ -4,7 +4,7 @@ use Rattle.std.specs.List.{AllZip, slice_get, slice_index_or}
 use Rattle.std.proofs.lemmas.Option.{slice_get_within, get_or_from_slice_get}
 use Rattle.la_set.specs.Histories.{Histories, empty}
 use Rattle.la_set.specs.Inclusion.{IsSubset}
-use Rattle.la_set.proofs.Theorems.{subset-refl, subset-trans, subset-antisym}
+use Rattle.la_set.proofs.lemmas.Theorems.{subset-refl, subset-trans, subset-antisym}
 use Rattle.la_object.specs.Objects.{value}
 use Rattle.la_object.specs.Shelves.{updates_at}
 use Rattle.la_runner.specs.Members.{view}

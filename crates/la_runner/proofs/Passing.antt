@@ -11,8 +11,8 @@ use Rattle.la_acceptor.specs.declared.reply.Reply.TheVariants.{Yes}
 use Rattle.la_shared.specs.History.{entry}
 use Rattle.la_shared.specs.History.{HasEntry}
 use Rattle.la_shared.specs.Passes.{Known, IsPass, Extends}
-use Rattle.la_shared.proofs.Theorems.{has-cases, entry_stands, has-right}
-use Rattle.la_shared.proofs.Theorems.{prefix_self}
+use Rattle.la_shared.proofs.lemmas.Theorems.{has-cases, entry_stands, has-right}
+use Rattle.la_shared.proofs.lemmas.Theorems.{prefix_self}
 use Rattle.la_runner.specs.Certificates.{seen_of, mine_of, seen_at, mine_at}
 use Rattle.la_runner.specs.Asking.{IsSamePass}
 use Rattle.la_runner.specs.Sound.{IsPassAt}

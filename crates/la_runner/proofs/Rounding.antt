@@ -12,7 +12,7 @@ use Rattle.la_proposer.specs.declared.heard.Status.TheVariants.{Idle, Asking}
 use Rattle.la_proposer.specs.ProposerState.{ProposerState, submitted, status_of}
 use Rattle.la_proposer.specs.Inputs.{all_submitted}
 use Rattle.la_shared.specs.Passes.{Known}
-use Rattle.la_shared.proofs.Theorems.{prefix_self}
+use Rattle.la_shared.proofs.lemmas.Theorems.{prefix_self}
 use Rattle.la_runner.specs.Following.{Goes, IsLearnt, IfLearnt, StaysOpen, IsOpenOrWhole, SubmitsNothing}
 use Rattle.la_runner.specs.declared.learned.Learned.{Learned}
 use Rattle.la_runner.specs.Rounds.{IsOpenAnswer}

@@ -2,10 +2,10 @@
 use denote.RattleType.{RattleType}
 use denote.Param.Send.{IsSend, sendable}
 use Rattle.std.proofs.Crossing as heap
-use Rattle.la_set.proofs.history.Node.TheLaws.TheKnot as knot
+use Rattle.la_set.proofs.lemmas.Crossing as knot
 use Rattle.la_object.specs.declared.replicated.Replicated as replicated
 use Rattle.la_object.specs.contracts.shelf.Shelf as Shelf
-use Rattle.la_shared.proofs.Theorems as shared
+use Rattle.la_shared.proofs.lemmas.Theorems as shared
 
 -- a shelf whole, since a `search` that goes down through its set runs out of steps
 pub Shelf-send : (T : RattleType) (g : replicated.Ghosts T.Denot) → IsSend T → IsSend (Shelf.the_row T g)

@@ -10,8 +10,8 @@ use Rattle.la_object.specs.declared.kind.Kind.{Kind}
 use Rattle.la_object.specs.Shelves.{ShelfState}
 use Rattle.la_set.specs.Histories.{Histories, empty}
 use Rattle.la_set.specs.Inclusion.{IsSubset, AreComparable}
-use Rattle.la_set.proofs.Theorems.{subset-antisym}
-use Rattle.la_shared.proofs.Theorems.{prefix_self}
+use Rattle.la_set.proofs.lemmas.Theorems.{subset-antisym}
+use Rattle.la_shared.proofs.lemmas.Theorems.{prefix_self}
 use Rattle.la_runner.specs.declared.jobs.Entry.{Entry}
 use Rattle.la_runner.specs.declared.jobs.Entry.TheVariants.{Learned, Decided, Answer}
 use Rattle.la_runner.specs.declared.jobs.Job.{Job}

@@ -6,7 +6,7 @@ use Rattle.std.proofs.lemmas.Bool.{cases_eq}
 use Rattle.la_set.specs.declared.update.Update.{Update}
 use Rattle.la_set.specs.ObjectOps.{ObjectOp, object_op_of}
 use Rattle.la_set.specs.Histories.{Histories, history, object_op_number, ContainsUpdate}
-use Rattle.la_set.proofs.Theorems.{object_op-contains}
+use Rattle.la_set.proofs.lemmas.Theorems.{object_op-contains}
 use Rattle.la_acceptor.specs.declared.reply.Reply.{Reply}
 use Rattle.la_proposer.specs.Inputs.{all_submitted}
 use Rattle.la_shared.specs.History.{HasEntry}

@@ -5,14 +5,14 @@ use mathlib.Core.List.{IsPrefix}
 use Rattle.la_set.specs.ObjectOps.{ObjectOp}
 use Rattle.la_set.specs.Histories.{Histories, history, count}
 use Rattle.la_set.specs.Inclusion.{IsSubset}
-use Rattle.la_set.proofs.Theorems.{subset-refl, subset-trans}
+use Rattle.la_set.proofs.lemmas.Theorems.{subset-refl, subset-trans}
 use Rattle.la_acceptor.specs.declared.reply.Reply.TheVariants.{Yes}
 use Rattle.la_proposer.specs.ProposerState.{ProposerState, submitted, after_submission}
 use Rattle.la_proposer.specs.Inputs.{all_submitted}
 use Rattle.la_proposer.specs.Invariant.{IsProposerState}
-use Rattle.la_proposer.proofs.Theorems.{majorities_meet}
+use Rattle.la_proposer.proofs.lemmas.Theorems.{majorities_meet}
 use Rattle.la_shared.specs.Passes.{Known}
-use Rattle.la_shared.proofs.Theorems.{prefix_self}
+use Rattle.la_shared.proofs.lemmas.Theorems.{prefix_self}
 use Rattle.la_runner.specs.Certificates.{mine_at, HasCertificate, HasOwnCertificate}
 use Rattle.la_runner.specs.Sound.{IsSound, IsView}
 use Rattle.la_runner.specs.Following.{Follows, Goes, SubmitsNothing, IsLearnt}

@@ -10,11 +10,11 @@ use Rattle.la_set.specs.Histories.{Histories, history, count, numbered, IsWithin
 use Rattle.la_set.specs.Join.{joined, join, IsCompatible}
 use Rattle.la_set.specs.Representation.{represented, IsRepresentation}
 use Rattle.la_set.specs.Agreement.{AgreeBelow}
-use Rattle.la_set.proofs.NumberedLists.{numbered-append, drop-numbered, length-numbered, slice_get-numbered}
-use Rattle.la_set.proofs.SetHistories.{count_past}
+use Rattle.la_set.proofs.lemmas.NumberedLists.{numbered-append, drop-numbered, length-numbered, slice_get-numbered}
+use Rattle.la_set.proofs.lemmas.SetHistories.{count_past}
 use Rattle.la_set.proofs.Representation.{represented-from, IsRepresentation-from}
-use Rattle.la_set.proofs.Inclusions.{compatible-agree}
-use Rattle.la_set.proofs.Joins.{history-join}
+use Rattle.la_set.proofs.lemmas.Inclusions.{compatible-agree}
+use Rattle.la_set.proofs.lemmas.Joins.{history-join}
 
 -- a list, and then what another has beyond it, of two replica's lists
 joined-numbered : (r : ℕ) (h k : List ObjectOp) → numbered r 1 h ++ drop (length (numbered r 1 h)) (numbered r 1 k) ≡ numbered r 1 (joined h k)

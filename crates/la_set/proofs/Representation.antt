@@ -6,8 +6,8 @@ use Rattle.la_set.specs.declared.update.Update.{Update}
 use Rattle.la_set.specs.ObjectOps.{ObjectOp, object_op_of, update_of}
 use Rattle.la_set.specs.Histories.{Histories, empty, history, count, with_history, numbered, IsWithinLimit}
 use Rattle.la_set.specs.Representation.{represented, IsRepresentation}
-use Rattle.la_set.proofs.NumberedLists.{object_ops-numbered, numbered-append}
-use Rattle.la_set.proofs.SetHistories.{history-from_histories, same_histories, history-with_same, history-with_other, history-empty, count-edited}
+use Rattle.la_set.proofs.lemmas.NumberedLists.{object_ops-numbered, numbered-append}
+use Rattle.la_set.proofs.lemmas.SetHistories.{history-from_histories, same_histories, history-with_same, history-with_other, history-empty, count-edited}
 
 -- a list of lists that holds each replica's updates
 pub represented-from : (lists : List (List Update)) (s : Histories) → ((r : ℕ) → r < 8 → get_or lists r [] ≡ numbered r 1 (history s r)) → represented lists ≡ s

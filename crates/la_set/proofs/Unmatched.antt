@@ -8,7 +8,7 @@ use Rattle.la_set.specs.declared.update.Update.{Update}
 use Rattle.la_set.specs.ObjectOps.{ObjectOp, update_of, update_eq}
 use Rattle.la_set.specs.Histories.{Histories, history, ContainsUpdate, is_update, has_update, numbered}
 use Rattle.la_set.specs.Difference.{lacks, unmatched}
-use Rattle.la_set.proofs.Decisions.{update_eq-Decides, has_update-Decides}
+use Rattle.la_set.proofs.lemmas.Decisions.{update_eq-Decides, has_update-Decides}
 use Rattle.la_set.proofs.Walks.{last_is}
 
 pub unmatched-all : (us : List Update) → unmatched us [] ≡ us

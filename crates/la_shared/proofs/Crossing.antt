@@ -12,7 +12,7 @@ use Rattle.atomic_table.proofs.Rights.{right_send}
 use Rattle.atomic_table.specs.contracts.send_lease.SendLease as SendLease
 use Rattle.std.specs.declared.alloc.Allocator as alloc
 use Rattle.la_shared.specs.contracts.table.Core as Core
-use Rattle.la_set.proofs.history.Node.TheLaws.TheKnot as knot
+use Rattle.la_set.proofs.lemmas.Crossing as knot
 use Rattle.la_set.specs.contracts.set.UpdateSet as UpdateSet
 use Rattle.la_shared.specs.contracts.pass.Pass as Pass
 use Rattle.la_shared.specs.contracts.pass.Note as Note

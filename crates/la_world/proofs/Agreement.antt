@@ -11,8 +11,8 @@ use Rattle.la_commit.specs.declared.vote.Vote.{Vote}
 use Rattle.la_commit.specs.Votes.{votes, sole_votes, is_sole, HoldsVote, first_vote_for, second_vote_for}
 use Rattle.la_commit.specs.Outcomes.{are_all_sole, outcome_by, outcome, value_of, is_commit}
 use Rattle.la_commit.specs.Laws.{HasVoteFor}
-use Rattle.la_commit.proofs.Casting.{own_vote-votes, sole_votes-vote}
-use Rattle.la_commit.proofs.Agreeing.{sole_values-agree, outcomes-agree, unanimous-commit}
+use Rattle.la_commit.proofs.lemmas.Casting.{own_vote-votes, sole_votes-vote}
+use Rattle.la_commit.proofs.lemmas.Agreeing.{sole_values-agree, outcomes-agree, unanimous-commit}
 use Rattle.la_commit.specs.Instances.{first_instance, second_instance}
 use Rattle.la_world.specs.declared.step.Learnt.{Learnt}
 use Rattle.la_world.specs.Groups.{Group, replicas}

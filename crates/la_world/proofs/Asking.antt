@@ -4,7 +4,7 @@ use Rattle.std.specs.Prelude.{nat_le}
 use Rattle.std.proofs.lemmas.Bool.{cases_lt}
 use Rattle.std.proofs.lemmas.List.{reverse-append, reverse-reverse, length-reverse, take_all, take-append-le}
 use Rattle.std.proofs.lemmas.Option.{same_Some, none-some, slice_get_within}
-use Rattle.la_set.proofs.NumberedLists.{slice_get-append_left}
+use Rattle.la_set.proofs.lemmas.NumberedLists.{slice_get-append_left}
 use Rattle.la_object.specs.declared.kind.Kind.{Kind}
 use Rattle.la_object.specs.declared.query.Answer.{Answer}
 use Rattle.la_object.specs.declared.query.Answer.TheVariants.{Foreign}

@@ -7,11 +7,11 @@ use Rattle.la_set.specs.declared.update.Update.{Update}
 use Rattle.la_set.specs.ObjectOps.{ObjectOp, object_op_of, update_of}
 use Rattle.la_set.specs.Histories.{object_op_number, ContainsUpdate}
 use Rattle.la_set.specs.Inclusion.{IsSubset}
-use Rattle.la_set.proofs.SetHistories.{history_past}
-use Rattle.la_set.proofs.Inclusions.{object_op-contains}
+use Rattle.la_set.proofs.lemmas.SetHistories.{history_past}
+use Rattle.la_set.proofs.lemmas.Inclusions.{object_op-contains}
 use Rattle.la_commit.specs.declared.vote.Vote.{Vote}
 use Rattle.la_commit.specs.Votes.{vote_of, votes, HoldsVote, first_vote_for, second_vote_for, casts}
-use Rattle.la_commit.proofs.Casting.{votes-cast}
+use Rattle.la_commit.proofs.lemmas.Casting.{votes-cast}
 use Rattle.la_commit.specs.Instances.{first_instance, second_instance}
 use Rattle.la_world.specs.declared.step.Opening.{Opening}
 use Rattle.la_world.specs.declared.step.Learnt.{Learnt}

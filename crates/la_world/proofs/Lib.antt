@@ -32,7 +32,7 @@ pub mod SecondVotes
 pub mod Voting
 pub mod Legal
 pub mod RefusedForMemory
-pub mod Starting
+pub mod lemmas
 pub mod StoredMessages
 pub mod Shown
 pub mod Telling

@@ -11,8 +11,8 @@ use Rattle.std.proofs.lemmas.List.FromFn.{length-map-range_with_len}
 use Rattle.la_set.specs.ObjectOps.{ObjectOp}
 use Rattle.la_set.specs.Histories.{Histories}
 use Rattle.la_set.specs.Inclusion.{is_subset, AreComparable}
-use Rattle.la_set.proofs.Decisions.{is_subset-Decides}
-use Rattle.la_set.proofs.Filters.{Contains-none}
+use Rattle.la_set.proofs.lemmas.Decisions.{is_subset-Decides}
+use Rattle.la_set.proofs.lemmas.Filters.{Contains-none}
 use Rattle.la_proposer.specs.ProposerState as proposer
 use Rattle.la_commit.specs.Instances.{first_instance}
 use Rattle.la_commit.specs.Votes.{first_vote}

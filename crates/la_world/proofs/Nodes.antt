@@ -6,7 +6,7 @@ use Rattle.la_set.specs.ObjectOps.{ObjectOp}
 use Rattle.la_set.specs.declared.update.UpdateId.{UpdateId}
 use Rattle.la_set.specs.Histories.{Histories, ContainsUpdate}
 use Rattle.la_set.specs.Inclusion.{IsSubset}
-use Rattle.la_set.proofs.Inclusions.{subset-trans}
+use Rattle.la_set.proofs.lemmas.Inclusions.{subset-trans}
 use Rattle.la_proposer.specs.Majority.{votes_of}
 use Rattle.la_proposer.specs.ProposerState.{submitted}
 use Rattle.la_commit.specs.declared.instance.TheConstants.{MAX_COMMITS}
@@ -24,7 +24,7 @@ use Rattle.la_replica.specs.Steps.{learnt_in, receives_body}
 use Rattle.la_replica.specs.Changes.{IsPreparedFrom, led}
 use Rattle.la_replica.specs.Refusals.{FitsBody, FitsMessage, SparesBody, SparesMessage, IsBodyRefusal, IsMessageRefusal, IsReceivable, ReceivingSpares, IsReceiveRefusal}
 use Rattle.la_replica.specs.ReplicaState.{ReplicaState, sender_of, learnt_of, submitted_in, submits, receives}
-use Rattle.la_replica.proofs.Growing.{submits_grows}
+use Rattle.la_replica.proofs.lemmas.Growing.{submits_grows}
 use Rattle.la_world.specs.declared.config.Config.{Config}
 use Rattle.la_world.specs.Calls.{returned_by}
 use Rattle.la_world.specs.Following.{Taken, takes}

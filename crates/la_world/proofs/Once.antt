@@ -10,8 +10,8 @@ use Rattle.la_set.specs.declared.update.Update.{Update}
 use Rattle.la_set.specs.ObjectOps.{ObjectOp}
 use Rattle.la_set.specs.Histories.{history, count, get}
 use Rattle.la_set.specs.Inclusion.{IsSubset}
-use Rattle.la_set.proofs.Prefixes.{IsPrefix, IsPrefix-antisym}
-use Rattle.la_proposer.proofs.LeastIds.{some-get}
+use Rattle.la_set.proofs.lemmas.Prefixes.{IsPrefix, IsPrefix-antisym}
+use Rattle.la_proposer.proofs.lemmas.LeastIds.{some-get}
 use Rattle.la_commit.specs.Votes.{vote_of, proposal}
 use Rattle.la_commit.specs.Instances.{first_instance, second_instance, is_first_instance, commit_of}
 use Rattle.la_world.specs.declared.step.Opening.{Opening}

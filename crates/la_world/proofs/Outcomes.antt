@@ -11,7 +11,7 @@ use Rattle.la_commit.specs.declared.vote.Vote.{Vote}
 use Rattle.la_commit.specs.Instances.{first_instance, second_instance, is_first_instance, is_second_instance, commit_of}
 use Rattle.la_commit.specs.Outcomes.{outcome, outcome_of}
 use Rattle.la_commit.specs.Votes.{proposal, proposed, first_vote}
-use Rattle.la_commit.proofs.Listed.{contains-filter_map}
+use Rattle.la_commit.proofs.lemmas.Listed.{contains-filter_map}
 use Rattle.la_replica.specs.Messages.{group}
 use Rattle.la_replica.specs.Whole.{Message}
 use Rattle.la_world.specs.declared.report.Decision.{Decision}

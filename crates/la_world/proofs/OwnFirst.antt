@@ -6,8 +6,8 @@ use Rattle.std.specs.List.{cons_option}
 use Rattle.la_set.specs.ObjectOps.{ObjectOp, update_of}
 use Rattle.la_set.specs.Histories.{Histories, history, count, get}
 use Rattle.la_set.specs.Inclusion.{IsSubset}
-use Rattle.la_set.proofs.Inclusions.{subset-count}
-use Rattle.la_set.proofs.Prefixes.{IsPrefix}
+use Rattle.la_set.proofs.lemmas.Inclusions.{subset-count}
+use Rattle.la_set.proofs.lemmas.Prefixes.{IsPrefix}
 use Rattle.la_world.specs.declared.step.Opening.{Opening}
 use Rattle.la_world.specs.declared.step.Learnt.{Learnt}
 use Rattle.la_world.specs.Groups.{Group}

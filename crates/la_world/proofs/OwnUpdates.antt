@@ -8,9 +8,9 @@ use Rattle.la_set.specs.declared.update.Update.{Update}
 use Rattle.la_set.specs.ObjectOps.{object_op_of}
 use Rattle.la_set.specs.Histories.{history, object_op_number, ContainsUpdate}
 use Rattle.la_set.specs.Inclusion.{IsSubset}
-use Rattle.la_set.proofs.Prefixes.{IsPrefix}
-use Rattle.la_set.proofs.SetHistories.{history_past}
-use Rattle.la_set.proofs.Inclusions.{object_op-contains, contains-object_op, object_op_number-reads}
+use Rattle.la_set.proofs.lemmas.Prefixes.{IsPrefix}
+use Rattle.la_set.proofs.lemmas.SetHistories.{history_past}
+use Rattle.la_set.proofs.lemmas.Inclusions.{object_op-contains, contains-object_op, object_op_number-reads}
 use Rattle.la_world.specs.declared.report.Line.{Line}
 use Rattle.la_world.specs.declared.report.Line.TheVariants.{Done}
 use Rattle.la_world.specs.declared.step.Did as step

@@ -3,7 +3,7 @@ use Rattle.std.proofs.Common.{◌≡◌, ℕ, ◌<◌, ◌≤◌, cond, List, []
 use Rattle.std.specs.Prelude.{nat_le}
 use Rattle.std.proofs.lemmas.Bool.{cond-true, cond-false, le-leb, lt-leb}
 use Rattle.std.proofs.lemmas.List.{length_push}
-use Rattle.la_set.proofs.Prefixes.{IsPrefix-length}
+use Rattle.la_set.proofs.lemmas.Prefixes.{IsPrefix-length}
 use Rattle.la_commit.specs.Instances.{first_instance}
 use Rattle.la_commit.specs.Votes.{first_vote}
 use Rattle.la_world.specs.declared.error.Refusal.{Refusal}

@@ -5,7 +5,7 @@ use Rattle.std.proofs.lemmas.List.{reverse-append}
 use Rattle.std.proofs.lemmas.Option.{slice_get_within}
 use Rattle.la_set.specs.Histories.{get}
 use Rattle.la_set.specs.Inclusion.{IsSubset}
-use Rattle.la_set.proofs.NumberedLists.{slice_get-append_left}
+use Rattle.la_set.proofs.lemmas.NumberedLists.{slice_get-append_left}
 use Rattle.la_object.specs.Shelves.{answer_at}
 use Rattle.la_world.specs.declared.error.Refusal.{Refusal}
 use Rattle.la_world.specs.declared.report.Line.{Line}

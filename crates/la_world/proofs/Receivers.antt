@@ -8,7 +8,7 @@ use Rattle.std.proofs.lemmas.Bool.{false≢true}
 use Rattle.la_set.specs.Histories.{Histories}
 use Rattle.la_set.specs.ObjectOps.{update_eq}
 use Rattle.la_set.specs.Join.{IsCompatible}
-use Rattle.la_set.proofs.Decisions.{update_eq-Decides}
+use Rattle.la_set.proofs.lemmas.Decisions.{update_eq-Decides}
 use Rattle.la_replica.specs.declared.instance.Instance.{Instance}
 use Rattle.la_replica.specs.Whole.{Message, Body, Offer, Yes, No, Tell}
 use Rattle.la_replica.specs.ReplicaState.{ReplicaState}

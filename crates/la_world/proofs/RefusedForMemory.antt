@@ -10,7 +10,7 @@ use Rattle.la_set.specs.ObjectOps.{ObjectOp}
 use Rattle.la_set.specs.Histories.{Histories, count, get}
 use Rattle.la_set.specs.Inclusion.{IsSubset}
 use Rattle.la_set.specs.Join.{IsCompatible, ClashesAt}
-use Rattle.la_set.proofs.Inclusions.{subset-count, compatible-within}
+use Rattle.la_set.proofs.lemmas.Inclusions.{subset-count, compatible-within}
 use Rattle.la_acceptor.specs.declared.reply.Reply.{Reply}
 use Rattle.la_acceptor.specs.declared.reply.Reply.TheVariants as replied
 use Rattle.la_proposer.specs.declared.tally.Counted.{Counted}
@@ -22,7 +22,7 @@ use Rattle.la_proposer.specs.ProposerState as proposer
 use Rattle.la_proposer.specs.ProposerState.{with_reply, is_nothing}
 use Rattle.la_proposer.specs.Clashes.{ClashesWith, ClashesInTally, Fits}
 use Rattle.la_proposer.specs.Refusals.{opens_by, SubmissionSpends, ReplySpends}
-use Rattle.la_proposer.proofs.LeastIds.{least-clash, get-some, some-get}
+use Rattle.la_proposer.proofs.lemmas.LeastIds.{least-clash, get-some, some-get}
 use Rattle.la_replica.specs.declared.error.ReplicaError.{ReplicaError}
 use Rattle.la_replica.specs.declared.error.ReplicaError.TheVariants.{NoSuchReplica, NoSuchInstance, Full, Clash, BallotsSpent, Memory}
 use Rattle.la_replica.specs.Whole.{Message, Body, Offer, Yes, No, Tell}

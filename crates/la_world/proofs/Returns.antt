@@ -7,7 +7,7 @@ use Rattle.la_commit.specs.declared.outcome.Outcome.{Outcome}
 use Rattle.la_commit.specs.declared.vote.Vote.{Vote}
 use Rattle.la_commit.specs.Votes.{own_vote, HoldsVote}
 use Rattle.la_commit.specs.Outcomes.{outcome, outcome_of}
-use Rattle.la_commit.proofs.Listed.{filter_map-contains}
+use Rattle.la_commit.proofs.lemmas.Listed.{filter_map-contains}
 use Rattle.la_commit.specs.Instances.{second_instance}
 use Rattle.la_replica.specs.Messages.{group}
 use Rattle.la_world.specs.declared.report.Decision.{Decision}

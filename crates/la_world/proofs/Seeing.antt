@@ -7,7 +7,7 @@ use Rattle.std.proofs.lemmas.List.{length-append, reverse-append, reverse-revers
 use Rattle.std.proofs.lemmas.Option.{same_Some, none-some, slice_get_within}
 use Rattle.la_set.specs.Histories.{Histories, empty}
 use Rattle.la_set.specs.Inclusion.{IsSubset}
-use Rattle.la_set.proofs.NumberedLists.{slice_get-append_left, slice_get-append_right}
+use Rattle.la_set.proofs.lemmas.NumberedLists.{slice_get-append_left, slice_get-append_right}
 use Rattle.la_acceptor.specs.declared.reply.Reply.{Reply}
 use Rattle.la_acceptor.specs.declared.reply.Reply.TheVariants as replied
 use Rattle.la_replica.specs.Whole.{Message, Body, Offer, Yes, No, Tell}

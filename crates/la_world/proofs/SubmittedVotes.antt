@@ -6,7 +6,7 @@ use Rattle.std.proofs.lemmas.List.{length_push}
 use Rattle.std.proofs.lemmas.Option.{same_Some, none-some}
 use Rattle.la_set.specs.ObjectOps.{ObjectOp}
 use Rattle.la_set.specs.Histories.{Histories}
-use Rattle.la_set.proofs.Filters.{Contains-first, Contains-later}
+use Rattle.la_set.proofs.lemmas.Filters.{Contains-first, Contains-later}
 use Rattle.la_commit.specs.declared.vote.Vote.{Vote}
 use Rattle.la_commit.specs.Votes.{HoldsVote, own_vote, proposal, proposed, first_vote_for, second_vote_for, casts, first_vote}
 use Rattle.la_commit.specs.Instances.{first_instance, second_instance, is_first_instance, commit_of}

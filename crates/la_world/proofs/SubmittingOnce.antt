@@ -7,7 +7,7 @@ use Rattle.std.proofs.lemmas.Option.{none-some, same_Some}
 use Rattle.la_set.specs.ObjectOps.{ObjectOp}
 use Rattle.la_set.specs.Histories.{Histories, history}
 use Rattle.la_set.specs.Inclusion.{is_larger}
-use Rattle.la_set.proofs.Inclusions.{subset-count}
+use Rattle.la_set.proofs.lemmas.Inclusions.{subset-count}
 use Rattle.la_acceptor.specs.declared.reply.Reply.{Reply}
 use Rattle.la_acceptor.specs.declared.reply.Reply.TheVariants as replied
 use Rattle.la_proposer.specs.declared.ballot.Ballot.{Ballot}
@@ -16,8 +16,8 @@ use Rattle.la_proposer.specs.declared.heard.Heard.TheVariants as heard
 use Rattle.la_proposer.specs.declared.tally.Verdict.{Verdict}
 use Rattle.la_proposer.specs.declared.tally.Verdict.TheVariants.{Waits, Refines, Learns}
 use Rattle.la_proposer.specs.ProposerState.{ProposerState, submitted, is_nothing, closed, with_waiting, with_reply, counts, verdict_of, heard_by, heard_counting, heard_of, after_opening, after_verdict, after_counting, after_reply, after_submission}
-use Rattle.la_proposer.proofs.Growing.{takes_all}
-use Rattle.la_proposer.proofs.Theorems.{joined-contains}
+use Rattle.la_proposer.proofs.lemmas.Growing.{takes_all}
+use Rattle.la_proposer.proofs.lemmas.Theorems.{joined-contains}
 use Rattle.la_replica.specs.declared.instance.Instance.{Instance}
 use Rattle.la_replica.specs.declared.out.Said.TheVariants as said
 use Rattle.la_replica.specs.declared.sender.Sender.{Sender}

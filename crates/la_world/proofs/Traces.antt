@@ -4,9 +4,9 @@ use Rattle.std.proofs.Common.{◌≡◌, ℕ, ◌<◌, ◌≤◌, List, [], ◌�
 use Rattle.std.proofs.lemmas.Bool.{cases_lt}
 use Rattle.la_set.specs.Histories.{history, count}
 use Rattle.la_set.specs.Inclusion.{IsSubset}
-use Rattle.la_set.proofs.Prefixes.{IsPrefix, IsPrefix-length}
-use Rattle.la_set.proofs.SetHistories.{history_past}
-use Rattle.la_set.proofs.Inclusions.{subset-prefix}
+use Rattle.la_set.proofs.lemmas.Prefixes.{IsPrefix, IsPrefix-length}
+use Rattle.la_set.proofs.lemmas.SetHistories.{history_past}
+use Rattle.la_set.proofs.lemmas.Inclusions.{subset-prefix}
 use Rattle.la_acceptor.specs.declared.reply.Reply.{Reply}
 use Rattle.la_acceptor.specs.declared.reply.Reply.TheVariants as replied
 use Rattle.la_proposer.specs.declared.tally.Counted.{Counted}

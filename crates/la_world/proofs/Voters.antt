@@ -8,8 +8,8 @@ use Rattle.std.proofs.lemmas.Option.{none-some, same_Some, slice_get_within}
 use Rattle.la_set.specs.ObjectOps.{ObjectOp}
 use Rattle.la_set.specs.Histories.{Histories}
 use Rattle.la_set.specs.Inclusion.{IsSubset}
-use Rattle.la_set.proofs.Inclusions.{subset-trans}
-use Rattle.la_set.proofs.SetHistories.{history-empty}
+use Rattle.la_set.proofs.lemmas.Inclusions.{subset-trans}
+use Rattle.la_set.proofs.lemmas.SetHistories.{history-empty}
 use Rattle.la_proposer.specs.ProposerState.{ProposerState, submitted}
 use Rattle.la_proposer.specs.Refusals.{SubmissionSpends}
 use Rattle.la_commit.specs.declared.instance.TheConstants.{MAX_COMMITS}
@@ -20,7 +20,7 @@ use Rattle.la_replica.specs.Refusals.{HasRoom, SubmittingSpares}
 use Rattle.la_replica.specs.Steps.{Step, fresh, learnt_in, said_of, last_learnt_after, receives_body}
 use Rattle.la_replica.specs.Steps as steps
 use Rattle.la_replica.specs.ReplicaState.{ReplicaState, start, submitted_in, with_instance, after_step, sender_of, submits, receives}
-use Rattle.la_replica.proofs.Growing.{receives_grows, submits_grows}
+use Rattle.la_replica.proofs.lemmas.Growing.{receives_grows, submits_grows}
 use Rattle.la_world.specs.declared.step.Opening.{Opening}
 use Rattle.la_world.specs.Votes.{Submission, second_vote_in}
 use Rattle.la_world.specs.Following.{Taken, with_vote, vote_due, then_votes, takes, VoteFits}

@@ -6,12 +6,12 @@ use Rattle.std.specs.List.{cons_option}
 use Rattle.la_set.specs.Histories.{Histories, empty}
 use Rattle.la_set.specs.Inclusion.{IsSubset, is_subset}
 use Rattle.la_set.specs.Join.{join}
-use Rattle.la_set.proofs.Inclusions.{subset-trans}
-use Rattle.la_set.proofs.Joins.{join-least}
+use Rattle.la_set.proofs.lemmas.Inclusions.{subset-trans}
+use Rattle.la_set.proofs.lemmas.Joins.{join-least}
 use Rattle.la_acceptor.specs.declared.reply.Reply.{Reply}
 use Rattle.la_acceptor.specs.declared.reply.Reply.TheVariants as replied
 use Rattle.la_acceptor.specs.Answer.{answer}
-use Rattle.la_acceptor.proofs.Accepting.{contains-empty}
+use Rattle.la_acceptor.proofs.lemmas.Accepting.{contains-empty}
 use Rattle.la_proposer.specs.declared.tally.Counted.{Counted}
 use Rattle.la_proposer.specs.Tally.{with_refusal, joined_with_refusals}
 use Rattle.la_replica.specs.Whole.{Message, Body, Offer, Yes, No, Tell}

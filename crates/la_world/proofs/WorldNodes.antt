@@ -15,7 +15,7 @@ use Rattle.la_world.specs.Nodes.{NodeState, node_at_start, replicas_of, shelves_
 use Rattle.la_world.specs.StandsFor.{World, world_of}
 use Rattle.la_world.specs.Calls.{HoldsInvariant, IsSubmission, IsAllowed, HasObject}
 use Rattle.la_world.proofs.Lists.{get_mapped}
-use Rattle.la_world.proofs.Starting.{replica_states_more}
+use Rattle.la_world.proofs.lemmas.Starting.{replica_states_more}
 use Rattle.la_world.proofs.Worlds.{set_same, found_at, IsDelivery, IsTaken}
 
 abbrev pub world_of_nodes : Config → List NodeState → Journal → World

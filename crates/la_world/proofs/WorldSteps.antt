@@ -5,7 +5,7 @@ use Rattle.std.proofs.lemmas.List.{map-append}
 use Rattle.la_set.specs.ObjectOps.{ObjectOp}
 use Rattle.la_set.specs.Histories.{Histories, empty}
 use Rattle.la_set.specs.Inclusion.{IsSubset}
-use Rattle.la_set.proofs.Inclusions.{subset-trans}
+use Rattle.la_set.proofs.lemmas.Inclusions.{subset-trans}
 use Rattle.la_object.specs.declared.kind.Kind.{Kind}
 use Rattle.la_object.specs.Shelves.{ShelfState}
 use Rattle.la_replica.specs.declared.message.Message as code
@@ -43,7 +43,7 @@ use Rattle.la_world.proofs.EventCases.{entry_of}
 use Rattle.la_world.proofs.SubmissionEvents.{submission_entry, submission_replica, submission_instance}
 use Rattle.la_world.proofs.Legal.{legal_submits, legal_between, entry_delivers, opens_in, is_answer, IsPlaced, delivery_steps, delivery_placed}
 use Rattle.la_world.proofs.RefusedForMemory.{delivery_fits}
-use Rattle.la_world.proofs.Starting.{replica_state_at_start}
+use Rattle.la_world.proofs.lemmas.Starting.{replica_state_at_start}
 use Rattle.la_world.proofs.StoredMessages.{message_at}
 use Rattle.la_world.proofs.Shown.{SpeaksOf, shown_is, learnt_number, length_trace}
 

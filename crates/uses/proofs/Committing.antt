@@ -4,7 +4,7 @@ use Rattle.std.proofs.lemmas.Bool.{false≢true}
 use Rattle.std.proofs.lemmas.List.Elements.{All-contains, All-contains_itself}
 use Rattle.std.specs.Prelude.{if◌then◌else◌}
 use Rattle.la_set.specs.Histories.{Histories}
-use Rattle.la_set.proofs.Filters.{filter-contains}
+use Rattle.la_set.proofs.lemmas.Filters.{filter-contains}
 use Rattle.la_set.specs.Inclusion.{AreComparable}
 use Rattle.la_commit.specs.declared.vote.Vote.{Vote}
 use Rattle.la_commit.specs.declared.outcome.Outcome.{Outcome}

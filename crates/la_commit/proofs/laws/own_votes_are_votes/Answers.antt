@@ -1,4 +1,4 @@
-use Rattle.la_commit.proofs.Casting.{own_vote-votes}
+use Rattle.la_commit.proofs.lemmas.Casting.{own_vote-votes}
 use Rattle.la_commit.proofs.laws.own_votes_are_votes.Goals as goal
 
 pub returns : goal.returns

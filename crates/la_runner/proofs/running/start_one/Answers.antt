@@ -1,7 +1,7 @@
 use denote.Param.Send.{sendable}
 use Rattle.std.proofs.Crossing as heap
-use Rattle.la_set.proofs.history.Node.TheLaws.TheKnot as knot
-use Rattle.la_shared.proofs.Theorems.{set_send}
+use Rattle.la_set.proofs.lemmas.Crossing as knot
+use Rattle.la_shared.proofs.lemmas.Theorems.{set_send}
 use Rattle.la_runner.proofs.Crossing.{member_send, note_send, group_sync}
 use Rattle.la_runner.proofs.Sending.{Shelf-send}
 use Rattle.la_runner.proofs.running.start_one.Goals as goal

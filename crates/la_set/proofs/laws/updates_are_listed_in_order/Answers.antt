@@ -1,7 +1,7 @@
 use Rattle.std.proofs.Common.{arith}
 use Rattle.std.proofs.lemmas.Option.{slice_get-get_or}
 use Rattle.la_set.specs.Histories.{updates}
-use Rattle.la_set.proofs.Membership.{updates-ascending, listed-contains, contains-listed}
+use Rattle.la_set.proofs.lemmas.Membership.{updates-ascending, listed-contains, contains-listed}
 use Rattle.la_set.proofs.laws.updates_are_listed_in_order.Goals as goal
 
 pub returns-clause-ascending : goal.returns-clause-ascending

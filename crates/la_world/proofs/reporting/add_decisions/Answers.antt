@@ -1,7 +1,7 @@
 use Rattle.std.proofs.Common.{rules, ◌≡◌, ◌+◌, ◌<◌, suc, length, List, [], ◌∷◌, ◌++◌, take, slice_get, Some, None, option_map, option_and_then, ap, ap₂, sym, ◌∙◌, append_assoc, arith}
 use Rattle.std.specs.Prelude.{filter_map}
 use Rattle.std.proofs.lemmas.List.{take-map}
-use Rattle.la_commit.proofs.Listed.{filter_map-skip, filter_map-more}
+use Rattle.la_commit.proofs.lemmas.Listed.{filter_map-skip, filter_map-more}
 use Rattle.la_replica.specs.ReplicaState.{ReplicaState}
 use Rattle.la_world.specs.declared.report.Decision.{Decision}
 use Rattle.la_world.specs.Outcomes.{decision_of}

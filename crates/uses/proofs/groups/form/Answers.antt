@@ -2,7 +2,7 @@ use Rattle.std.proofs.Common.{◌≡◌, [], ◌∷◌, ◌++◌, map, refl, ap,
 use Rattle.std.proofs.lemmas.List.{map-append}
 use Rattle.la_world.specs.LiveGroups.{replicas_of}
 use Rattle.la_world.specs.Nodes.{NodeState}
-use Rattle.la_world.proofs.Starting.{replica_states_more}
+use Rattle.la_world.proofs.lemmas.Starting.{replica_states_more}
 use Rattle.uses.proofs.groups.form.Goals as goal
 
 pub loop-own-preserved : goal.loop-own-preserved

@@ -1,7 +1,7 @@
 use Rattle.std.proofs.Common.{◌≡◌, ◌==◌, Result, Ok, Err, Option, Some, option_map, IfOk, sym, ap, ◌∙◌}
 use Rattle.std.specs.Cmp.{nat_eq_equiv}
 use Rattle.std.proofs.lemmas.Option.{same_Some}
-use Rattle.la_set.proofs.Filters.{contains-filter}
+use Rattle.la_set.proofs.lemmas.Filters.{contains-filter}
 use Rattle.la_set.specs.Histories.{updates}
 use Rattle.la_object.specs.declared.query.Query.TheVariants.{Has}
 use Rattle.la_object.specs.declared.query.Answer.{Answer}

@@ -1,6 +1,6 @@
 use denote.Param.Send.{sendable}
 use Rattle.std.proofs.Crossing as heap
-use Rattle.la_runner.proofs.Theorems.{member_send, group_sync}
+use Rattle.la_runner.proofs.lemmas.Theorems.{member_send, group_sync}
 use Rattle.checks_threads.proofs.members.threads.both_add.Goals as goal
 
 pub join-requires-send-F : goal.join-requires-send-F

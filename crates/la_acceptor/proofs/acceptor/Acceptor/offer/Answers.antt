@@ -1,7 +1,7 @@
 use Rattle.std.proofs.Common.{cond, Ok, sym, ◌∙◌, ap}
 use Rattle.la_set.specs.Join.{join}
 use Rattle.la_acceptor.specs.declared.reply.Reply.TheVariants.{Yes, No}
-use Rattle.la_acceptor.proofs.Accepting.{contained-again}
+use Rattle.la_acceptor.proofs.lemmas.Accepting.{contained-again}
 use Rattle.la_acceptor.proofs.acceptor.Acceptor.offer.Goals as goal
 
 pub returns-clause-again : goal.returns-clause-again

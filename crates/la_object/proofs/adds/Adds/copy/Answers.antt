@@ -1,6 +1,6 @@
 use Rattle.std.proofs.Common.{rules}
 use Rattle.la_object.specs.IdOrder.{id_cmp}
-use Rattle.la_object.proofs.Sorted.{sorted-keys}
+use Rattle.la_object.proofs.lemmas.Sorted.{sorted-keys}
 use Rattle.la_object.proofs.Copies.{all_put-from_entries}
 use Rattle.la_object.proofs.adds.Adds.copy.Goals as goal
 

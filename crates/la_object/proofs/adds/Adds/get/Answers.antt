@@ -1,7 +1,7 @@
 use Rattle.std.proofs.Common.{◌∙◌, sym, ap}
 use Rattle.std.specs.FinMap as map
-use Rattle.la_object.proofs.IdOrder.{id_cmp_total}
-use Rattle.la_object.proofs.Sorted.{get-lookup}
+use Rattle.la_object.proofs.lemmas.IdOrder.{id_cmp_total}
+use Rattle.la_object.proofs.lemmas.Sorted.{get-lookup}
 use Rattle.la_object.proofs.adds.Adds.get.Goals as goal
 
 pub returns : goal.returns

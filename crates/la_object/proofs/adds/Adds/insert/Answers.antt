@@ -1,7 +1,7 @@
 use Rattle.std.proofs.Common.{◌∙◌, ap}
 use Rattle.std.specs.FinMap as map
-use Rattle.la_object.proofs.IdOrder.{id_cmp_total, id_cmp-IsAntisymmetric}
-use Rattle.la_object.proofs.Sorted.{one_put}
+use Rattle.la_object.proofs.lemmas.IdOrder.{id_cmp_total, id_cmp-IsAntisymmetric}
+use Rattle.la_object.proofs.lemmas.Sorted.{one_put}
 use Rattle.la_object.proofs.adds.Adds.insert.Goals as goal
 
 pub returns-clause-ok : goal.returns-clause-ok

@@ -1,8 +1,8 @@
 use Rattle.std.proofs.Common.{◌≡◌, Some, None, not, is_some, if◌then◌else◌, sym, ap, ◌∙◌}
 use Rattle.std.specs.FinMap as map
-use Rattle.la_object.proofs.IdOrder.{id_cmp_total, id_cmp-IsAntisymmetric}
-use Rattle.la_object.proofs.Sorted.{get-lookup, one_put}
-use Rattle.la_object.proofs.IdMaps.{put_back}
+use Rattle.la_object.proofs.lemmas.IdOrder.{id_cmp_total, id_cmp-IsAntisymmetric}
+use Rattle.la_object.proofs.lemmas.Sorted.{get-lookup, one_put}
+use Rattle.la_object.proofs.lemmas.IdMaps.{put_back}
 use Rattle.la_object.proofs.adds.Adds.insert_new.Goals as goal
 
 pub returns-in-None-clause-ok : goal.returns-in-None-clause-ok

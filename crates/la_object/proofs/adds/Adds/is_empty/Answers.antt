@@ -1,5 +1,5 @@
 use Rattle.std.proofs.Common.{◌∙◌, sym}
-use Rattle.la_object.proofs.IdMaps.{no_entries, empty_entries}
+use Rattle.la_object.proofs.lemmas.IdMaps.{no_entries, empty_entries}
 use Rattle.la_object.proofs.adds.Adds.is_empty.Goals as goal
 
 pub returns : goal.returns

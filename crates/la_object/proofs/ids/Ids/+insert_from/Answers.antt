@@ -2,7 +2,7 @@ use Rattle.std.proofs.Common.{◌≡◌, ◌+◌, Bool, true, false, not, drop, 
 use Rattle.std.specs.FinSet as set
 use Rattle.std.proofs.lemmas.Option.{slice_get_within}
 use Rattle.la_object.specs.OrSet.{with_ids}
-use Rattle.la_object.proofs.IdMaps.{with_ids-nil, with_ids-more, undone, nothing_new, drop_none, drop_some}
+use Rattle.la_object.proofs.lemmas.IdMaps.{with_ids-nil, with_ids-more, undone, nothing_new, drop_none, drop_some}
 use Rattle.la_object.proofs.ids.Ids.+insert_from.Goals as goal
 
 not_true : (b : Bool) → not b ≡ true → b ≡ false

@@ -1,6 +1,6 @@
 use Rattle.std.proofs.Common.{◌∙◌, sym, ap}
 use Rattle.std.specs.FinSet as set
-use Rattle.la_object.proofs.IdOrder.{id_cmp_total}
+use Rattle.la_object.proofs.lemmas.IdOrder.{id_cmp_total}
 use Rattle.la_object.proofs.ids.Ids.has.Goals as goal
 
 pub returns : goal.returns

@@ -1,7 +1,7 @@
 use Rattle.std.proofs.Common.{◌∙◌, ap, not, sym}
 use Rattle.std.specs.FinSet as set
-use Rattle.la_object.proofs.IdOrder.{id_cmp_total}
-use Rattle.la_object.proofs.IdMaps.{one_more}
+use Rattle.la_object.proofs.lemmas.IdOrder.{id_cmp_total}
+use Rattle.la_object.proofs.lemmas.IdMaps.{one_more}
 use Rattle.la_object.proofs.ids.Ids.insert.Goals as goal
 
 pub returns-clause-ok : goal.returns-clause-ok

@@ -1,5 +1,5 @@
 use Rattle.std.proofs.Common.{◌∙◌, sym}
-use Rattle.la_object.proofs.IdMaps.{no_ids, empty_ids}
+use Rattle.la_object.proofs.lemmas.IdMaps.{no_ids, empty_ids}
 use Rattle.la_object.proofs.ids.Ids.is_empty.Goals as goal
 
 pub returns : goal.returns

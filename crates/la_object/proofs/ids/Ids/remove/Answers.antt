@@ -1,6 +1,6 @@
 use Rattle.std.proofs.Common.{◌∙◌, ap}
 use Rattle.std.specs.FinSet as set
-use Rattle.la_object.proofs.IdMaps.{one_less}
+use Rattle.la_object.proofs.lemmas.IdMaps.{one_less}
 use Rattle.la_object.proofs.ids.Ids.remove.Goals as goal
 
 pub returns : goal.returns

@@ -1,6 +1,6 @@
 use Rattle.std.proofs.Common.{◌≡◌, false, Result, Ok, Err, OnOk, refl, sym, ap, ◌∙◌, subst, true≢false}
 use Rattle.la_set.specs.Inclusion.{IsSubset, is_subset}
-use Rattle.la_set.proofs.Decisions.{is_subset-Decides}
+use Rattle.la_set.proofs.lemmas.Decisions.{is_subset-Decides}
 use Rattle.la_object.proofs.shelf.Shelf.absorb_compatible.Goals as goal
 
 pub returns-then-not-contains_compatible-clause-error : goal.returns-then-not-contains_compatible-clause-error

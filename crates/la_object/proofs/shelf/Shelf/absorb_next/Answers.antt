@@ -2,7 +2,7 @@ use Rattle.std.proofs.Common.{◌≡◌, ◌≤◌, ap, ◌∙◌, sym, subst, l
 use Rattle.la_set.specs.Histories.{updates, push, IsNext}
 use Rattle.indexmap.specs.IndexMap.{set_value_at}
 use Rattle.la_object.specs.Shelves.{ShelfState, kinds, IsShelf}
-use Rattle.la_object.proofs.Rows.{rows, row_here, rows-absorbed, rows-same, row-HasRoom, absorbed-lacks, lacks_from_lookup, kinds-absorbed, push-IsShelf, none_from}
+use Rattle.la_object.proofs.lemmas.Rows.{rows, row_here, rows-absorbed, rows-same, row-HasRoom, absorbed-lacks, lacks_from_lookup, kinds-absorbed, push-IsShelf, none_from}
 use Rattle.la_object.proofs.shelf.Shelf.absorb_next.Goals as goal
 
 pub absorb-requires : goal.absorb-requires

@@ -2,7 +2,7 @@ use Rattle.std.proofs.Common.{◌≡◌, false, Some, None, sym, subst}
 use Rattle.std.specs.Option.{IsSome, IsSomeAnd}
 use Rattle.la_object.specs.Objects.{answers_a_list}
 use Rattle.la_object.specs.Shelves.{ShelfState, kind_at, answer_at}
-use Rattle.la_object.proofs.Rows.{lookup-answer, lookup-kind, lookup-none, lookup-listing}
+use Rattle.la_object.proofs.lemmas.Rows.{lookup-answer, lookup-kind, lookup-none, lookup-listing}
 use Rattle.la_object.proofs.shelf.Shelf.ask.Goals as goal
 
 pub returns-in-Ok-clause-ok : goal.returns-in-Ok-clause-ok

@@ -3,7 +3,7 @@ use Rattle.std.specs.List.{slice_get}
 use Rattle.std.specs.Option.{option_map}
 use Rattle.la_object.specs.declared.kind.Kind.{Kind}
 use Rattle.la_object.specs.Shelves.{ShelfState}
-use Rattle.la_object.proofs.Rows.{number_at}
+use Rattle.la_object.proofs.lemmas.Rows.{number_at}
 use Rattle.la_object.proofs.shelf.Shelf.at.Goals as goal
 
 pub returns-in-Some : goal.returns-in-Some

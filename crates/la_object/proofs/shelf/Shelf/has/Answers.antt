@@ -1,6 +1,6 @@
 use Rattle.std.proofs.Common.{is_some, ap, ◌∙◌}
 use Rattle.la_object.specs.Shelves.{ShelfState, kind_at}
-use Rattle.la_object.proofs.Rows.{is_some-kind_at}
+use Rattle.la_object.proofs.lemmas.Rows.{is_some-kind_at}
 use Rattle.la_object.proofs.shelf.Shelf.has.Goals as goal
 
 pub returns : goal.returns

@@ -4,7 +4,7 @@ use Rattle.std.proofs.lemmas.List.{nil_from_length}
 use Rattle.std.proofs.lemmas.List.Elements.{All-nil}
 use Rattle.la_set.specs.Histories.{updates}
 use Rattle.la_object.specs.Shelves.{IsObject, IsSmall}
-use Rattle.la_object.proofs.Rows.{rows, updates-empty}
+use Rattle.la_object.proofs.lemmas.Rows.{rows, updates-empty}
 use Rattle.la_object.proofs.shelf.Shelf.new.Goals as goal
 
 pub invariant_of-result : goal.invariant_of-result

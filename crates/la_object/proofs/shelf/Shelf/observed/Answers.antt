@@ -3,7 +3,7 @@ use Rattle.std.specs.Option.{IsSomeAnd, option_map}
 use Rattle.la_object.specs.Objects.{tags_by, tags_of}
 use Rattle.la_object.specs.Refusals.{IsObserveRefusal}
 use Rattle.la_object.specs.Shelves.{ShelfState, tags_at, updates_at}
-use Rattle.la_object.proofs.Rows.{lookup-tags, lookup-none}
+use Rattle.la_object.proofs.lemmas.Rows.{lookup-tags, lookup-none}
 use Rattle.la_object.proofs.shelf.Shelf.observed.Goals as goal
 
 pub returns-in-Ok-clause-ok : goal.returns-in-Ok-clause-ok

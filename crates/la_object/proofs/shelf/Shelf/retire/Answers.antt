@@ -2,7 +2,7 @@ use Rattle.std.proofs.Common.{◌≡◌, nat_eq, Some, None, ap, ◌∙◌, sym,
 use Rattle.std.specs.Option.{IsSome}
 use Rattle.std.specs.Map.{remove_entry}
 use Rattle.la_object.specs.Shelves.{ShelfState, kinds, kind_at, state_at, IsShelf}
-use Rattle.la_object.proofs.Rows.{rows, kinds-remove, remove-IsShelf, lookup-state, lookup-kind, lookup-none}
+use Rattle.la_object.proofs.lemmas.Rows.{rows, kinds-remove, remove-IsShelf, lookup-state, lookup-kind, lookup-none}
 use Rattle.la_object.proofs.shelf.Shelf.retire.Goals as goal
 
 pub invariant_of-self : goal.invariant_of-self

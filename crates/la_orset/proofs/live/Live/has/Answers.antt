@@ -1,7 +1,7 @@
 use Rattle.std.proofs.Common.{◌∙◌, sym, ap, is_some}
 use Rattle.std.specs.FinMap as map
 use Rattle.std.specs.Cmp.{nat_cmp_total}
-use Rattle.la_object.proofs.Sorted.{get-lookup}
+use Rattle.la_object.proofs.lemmas.Sorted.{get-lookup}
 use Rattle.la_orset.proofs.live.Live.has.Goals as goal
 
 pub returns-clause-answer : goal.returns-clause-answer

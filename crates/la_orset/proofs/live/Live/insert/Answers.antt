@@ -7,7 +7,7 @@ use Rattle.std.specs.FinMap as map
 use Rattle.std.specs.FinMap.{nat_cmp-IsAntisymmetric}
 use Rattle.std.specs.Cmp.{nat_cmp_total}
 use Rattle.la_orset.specs.Index.{has_any, tags_or, tags_at, HasTags}
-use Rattle.la_object.proofs.Sorted.{get-lookup}
+use Rattle.la_object.proofs.lemmas.Sorted.{get-lookup}
 use Rattle.la_orset.proofs.LiveTags.{has_tags, still_whole, whole-put, changed_from, put_again, on_err}
 use Rattle.la_orset.proofs.live.Live.insert.Goals as goal
 

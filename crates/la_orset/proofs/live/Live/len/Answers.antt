@@ -3,7 +3,7 @@ use Rattle.std.specs.Ordering.{nat_cmp}
 use Rattle.std.specs.FinMap as map
 use Rattle.std.specs.FinMap.{nat_cmp-IsAntisymmetric}
 use Rattle.std.specs.Cmp.{nat_cmp_total}
-use Rattle.la_object.proofs.Sorted.{entries-from_entries, sorted-keys}
+use Rattle.la_object.proofs.lemmas.Sorted.{entries-from_entries, sorted-keys}
 use Rattle.la_orset.proofs.live.Live.len.Goals as goal
 
 pub returns-clause-answer : goal.returns-clause-answer

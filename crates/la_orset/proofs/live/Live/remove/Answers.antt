@@ -4,9 +4,9 @@ use Rattle.std.specs.BTreeMap.{is_at}
 use Rattle.std.specs.Ordering.{nat_cmp}
 use Rattle.std.specs.FinMap as map
 use Rattle.std.specs.Cmp.{nat_cmp_total}
-use Rattle.la_object.proofs.IdOrder.{id_cmp_total, id_cmp-IsAntisymmetric}
+use Rattle.la_object.proofs.lemmas.IdOrder.{id_cmp_total, id_cmp-IsAntisymmetric}
 use Rattle.la_orset.specs.Index.{tags_or, tags_at, HasTags}
-use Rattle.la_object.proofs.Sorted.{get-lookup}
+use Rattle.la_object.proofs.lemmas.Sorted.{get-lookup}
 use Rattle.la_orset.proofs.Sets.{nothing_in}
 use Rattle.la_orset.proofs.LiveTags.{has_tags, still_whole, whole-none, changed_from, put_again, twice, taken-empty}
 use Rattle.la_orset.proofs.live.Live.remove.Goals as goal

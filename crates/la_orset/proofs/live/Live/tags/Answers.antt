@@ -4,7 +4,7 @@ use Rattle.std.specs.Cmp.{nat_cmp_total}
 use Rattle.la_object.specs.IdOrder.{id_cmp}
 use Rattle.la_object.specs.Refusals.{IsObserveRefusal}
 use Rattle.la_orset.specs.Index.{tags_or}
-use Rattle.la_object.proofs.Sorted.{get-lookup}
+use Rattle.la_object.proofs.lemmas.Sorted.{get-lookup}
 use Rattle.la_orset.proofs.Sets.{keys-empty}
 use Rattle.la_orset.proofs.live.Live.tags.Goals as goal
 

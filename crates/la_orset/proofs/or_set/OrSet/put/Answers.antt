@@ -1,6 +1,6 @@
 use Rattle.std.proofs.Common.{◌≡◌, Bool, true, false, not, if◌then◌else◌, refl, sym, ap, ◌∙◌, subst}
 use Rattle.std.specs.FinMap as map
-use Rattle.la_object.proofs.IdMaps.{taken_back}
+use Rattle.la_object.proofs.lemmas.IdMaps.{taken_back}
 use Rattle.la_orset.specs.Index.{IsIndex}
 use Rattle.la_orset.proofs.LiveTags.{none_of}
 use Rattle.la_orset.proofs.Held.{put_gone, put_live}

@@ -1,7 +1,7 @@
 use Rattle.std.proofs.Common.{rules, ◌∙◌, sym, ap}
 use Rattle.la_object.specs.declared.state.State.TheVariants.{Set}
 use Rattle.la_object.specs.OrSet.{element, named, with_element, with_ids}
-use Rattle.la_object.proofs.IdMaps.{with_ids-nil}
+use Rattle.la_object.proofs.lemmas.IdMaps.{with_ids-nil}
 use Rattle.la_orset.proofs.LiveTags.{on_ok}
 use Rattle.la_orset.proofs.or_set.OrSetReplicated.absorb.Goals as goal
 

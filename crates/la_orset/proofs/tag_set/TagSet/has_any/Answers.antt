@@ -1,7 +1,7 @@
 use Rattle.std.proofs.Common.{◌≡◌, nat_lt, List, [], ◌∷◌, length, ◌∙◌, sym, ap, refl, suc, arith}
 use Rattle.std.specs.FinMap as map
 use Rattle.std.proofs.lemmas.Bool.{lt-ltb}
-use Rattle.la_object.proofs.IdOrder.{id_cmp_total, id_cmp-IsAntisymmetric}
+use Rattle.la_object.proofs.lemmas.IdOrder.{id_cmp_total, id_cmp-IsAntisymmetric}
 use Rattle.la_orset.specs.Index.{has_any}
 use Rattle.la_orset.proofs.Sets.{keys-set_of, sorted-units}
 use Rattle.la_orset.proofs.tag_set.TagSet.has_any.Goals as goal

@@ -4,7 +4,7 @@ use Rattle.std.proofs.lemmas.List.{length-append}
 use Rattle.std.specs.List.Sorted.{IsStrictlySortedBy}
 use Rattle.std.specs.FinMap as map
 use Rattle.la_object.specs.IdOrder.{id_cmp}
-use Rattle.la_object.proofs.IdOrder.{id_cmp_total, id_cmp-IsAntisymmetric}
+use Rattle.la_object.proofs.lemmas.IdOrder.{id_cmp_total, id_cmp-IsAntisymmetric}
 use Rattle.la_orset.proofs.Sets.{keys-set_of, sorted-units}
 use Rattle.la_orset.proofs.Filling.{last_tag}
 use Rattle.la_orset.proofs.tag_set.TagSet.tags.Goals as goal

@@ -1,5 +1,5 @@
 use Rattle.std.proofs.Common.{◌∙◌}
-use Rattle.la_acceptor.proofs.Theorems.{on_ok_anyway}
+use Rattle.la_acceptor.proofs.lemmas.Theorems.{on_ok_anyway}
 use Rattle.la_proposer.specs.ProposerState.{op_on}
 use Rattle.la_runner.specs.Instances.{state_of}
 use Rattle.la_runner.proofs.Stepping.{steps_trans, submitted_asks, submitted_is_instance, submitted_steps, submitted_adds, updated_of, view_of, refused_of}

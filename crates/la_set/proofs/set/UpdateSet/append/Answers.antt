@@ -2,7 +2,7 @@ use Rattle.std.proofs.Common.{◌≡◌, [], ◌∷◌, ◌++◌, ◌∙◌, map
 use Rattle.std.proofs.lemmas.List.{length-append}
 use Rattle.la_set.specs.ObjectOps.{object_op_of}
 use Rattle.la_set.specs.Histories.{history, with_history}
-use Rattle.la_set.proofs.NumberedLists.{object_ops-numbered, length-numbered}
+use Rattle.la_set.proofs.lemmas.NumberedLists.{object_ops-numbered, length-numbered}
 use Rattle.la_set.proofs.Representation.{numbered-object_ops, pushed-list}
 use Rattle.la_set.proofs.set.UpdateSet.append.Goals as goal
 

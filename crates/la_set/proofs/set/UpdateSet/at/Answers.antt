@@ -2,8 +2,8 @@ use Rattle.std.proofs.Common.{sym, ◌∙◌, ap, arith, length}
 use Rattle.std.specs.List.{slice_get}
 use Rattle.std.proofs.lemmas.Option.{slice_get_past}
 use Rattle.la_set.specs.Histories.{history, updates}
-use Rattle.la_set.proofs.NumberedLists.{length-numbered}
-use Rattle.la_set.proofs.Places.{count_before, count_before-more, updates_count_before, count_before_none, updates-place}
+use Rattle.la_set.proofs.lemmas.NumberedLists.{length-numbered}
+use Rattle.la_set.proofs.lemmas.Places.{count_before, count_before-more, updates_count_before, count_before_none, updates-place}
 use Rattle.la_set.proofs.set.UpdateSet.at.Goals as goal
 
 pub loop-replica-init : goal.loop-replica-init

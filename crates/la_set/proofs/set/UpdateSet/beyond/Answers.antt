@@ -4,9 +4,9 @@ use Rattle.std.proofs.lemmas.List.Elements.{filter-append}
 use Rattle.std.proofs.lemmas.Bool.{false≢true}
 use Rattle.la_set.specs.Histories.{history, numbered, updates_from, updates}
 use Rattle.la_set.specs.Difference.{lacks}
-use Rattle.la_set.proofs.NumberedLists.{updates_from-add}
+use Rattle.la_set.proofs.lemmas.NumberedLists.{updates_from-add}
 use Rattle.la_set.proofs.Unmatched.{lacked-lists, none_lacked}
-use Rattle.la_set.proofs.Membership.{numbered-members}
+use Rattle.la_set.proofs.lemmas.Membership.{numbered-members}
 use Rattle.la_set.proofs.set.UpdateSet.beyond.Goals as goal
 
 pub loop-replica-preserved : goal.loop-replica-preserved

@@ -4,7 +4,7 @@ use Rattle.la_set.specs.Histories.{history, numbered}
 use Rattle.std.specs.Option.{option_copied}
 use Rattle.la_set.specs.Links.{items_of}
 use Rattle.la_set.specs.Agreement.{AgreeBelow, IsFirstDifference}
-use Rattle.la_set.proofs.Agreements.{AgreeAt, compatible-from, least-from}
+use Rattle.la_set.proofs.lemmas.Agreements.{AgreeAt, compatible-from, least-from}
 use Rattle.la_set.proofs.set.UpdateSet.first_clash.Goals as goal
 
 pub loop-replica-init : goal.loop-replica-init

@@ -1,7 +1,7 @@
 use Rattle.std.proofs.Common.{◌-◌, ◌∙◌, ap, sym, arith}
 use Rattle.std.specs.List.{slice_get}
-use Rattle.la_set.proofs.SetHistories.{count_past}
-use Rattle.la_set.proofs.Places.{numbered-get, get_zero, get_past}
+use Rattle.la_set.proofs.lemmas.SetHistories.{count_past}
+use Rattle.la_set.proofs.lemmas.Places.{numbered-get, get_zero, get_past}
 use Rattle.la_set.proofs.set.UpdateSet.get.Goals as goal
 use Rattle.la_set.proofs.set.UpdateSet.get.Goals.{then-id-eq0-via-then-id-eq0, then-id-eq0-via-else-id-eq0+then-id-ge-REPLICAS}
 

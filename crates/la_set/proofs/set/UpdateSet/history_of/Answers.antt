@@ -1,7 +1,7 @@
 use Rattle.std.proofs.Common.{◌∙◌, ap, sym, get_or, subst, arith, length}
 use Rattle.la_set.specs.Histories.{history, IsWithinLimit}
 use Rattle.la_set.specs.Representation.{lists_of}
-use Rattle.la_set.proofs.NumberedLists.{length-numbered}
+use Rattle.la_set.proofs.lemmas.NumberedLists.{length-numbered}
 use Rattle.la_set.proofs.Representation.{list_at}
 use Rattle.la_set.proofs.set.UpdateSet.history_of.Goals as goal
 

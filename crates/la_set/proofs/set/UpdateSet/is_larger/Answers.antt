@@ -1,6 +1,6 @@
 use Rattle.std.proofs.Common.{sym, ◌∙◌}
-use Rattle.la_set.proofs.Inclusions.{compatible-superset}
-use Rattle.la_set.proofs.Comparable.{counts-subset, larger-within}
+use Rattle.la_set.proofs.lemmas.Inclusions.{compatible-superset}
+use Rattle.la_set.proofs.lemmas.Comparable.{counts-subset, larger-within}
 use Rattle.la_set.proofs.set.UpdateSet.is_larger.Goals as goal
 
 pub returns-then-contains_all : goal.returns-then-contains_all

@@ -1,6 +1,6 @@
 use Rattle.std.proofs.Common.{sym, ◌∙◌}
-use Rattle.la_set.proofs.Inclusions.{compatible-sym}
-use Rattle.la_set.proofs.Comparable.{counts-subset, larger-within, larger-without}
+use Rattle.la_set.proofs.lemmas.Inclusions.{compatible-sym}
+use Rattle.la_set.proofs.lemmas.Comparable.{counts-subset, larger-within, larger-without}
 use Rattle.la_set.proofs.set.UpdateSet.is_larger_compatible.Goals as goal
 
 pub returns-then-has_no_more : goal.returns-then-has_no_more

@@ -1,5 +1,5 @@
 use Rattle.std.proofs.Common.{arith, sym, ◌∙◌}
-use Rattle.la_set.proofs.Joins.{join-nothing}
+use Rattle.la_set.proofs.lemmas.Joins.{join-nothing}
 use Rattle.la_set.proofs.Joining.{joining-more, joining-represented, joining-keeps}
 use Rattle.la_set.proofs.set.UpdateSet.join.Goals as goal
 

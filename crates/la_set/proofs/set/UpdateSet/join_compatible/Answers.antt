@@ -1,6 +1,6 @@
 use Rattle.std.proofs.Common.{arith, sym, ◌∙◌}
-use Rattle.la_set.proofs.Inclusions.{subset-counts}
-use Rattle.la_set.proofs.Joins.{join-nothing, join-subset}
+use Rattle.la_set.proofs.lemmas.Inclusions.{subset-counts}
+use Rattle.la_set.proofs.lemmas.Joins.{join-nothing, join-subset}
 use Rattle.la_set.proofs.Joining.{joining-more, joining-represented, joining-keeps, not_yet, agree-lists}
 use Rattle.la_set.proofs.set.UpdateSet.join_compatible.Goals as goal
 

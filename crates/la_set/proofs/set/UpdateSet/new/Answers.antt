@@ -1,6 +1,6 @@
 use Rattle.std.proofs.Common.{length, refl, ap, arith}
 use Rattle.la_set.specs.Histories.{empty}
-use Rattle.la_set.proofs.SetHistories.{history-empty}
+use Rattle.la_set.proofs.lemmas.SetHistories.{history-empty}
 use Rattle.la_set.proofs.Representation.{IsRepresentation-from, represented-from, none_each}
 use Rattle.la_set.proofs.set.UpdateSet.new.Goals as goal
 

@@ -1,8 +1,8 @@
 use Rattle.std.proofs.Common.{◌∙◌, ap, sym}
 use Rattle.std.specs.Option.{option_copied}
 use Rattle.la_set.specs.Histories.{get}
-use Rattle.la_set.proofs.SetHistories.{pop_none}
-use Rattle.la_set.proofs.Places.{no_last, has_last}
+use Rattle.la_set.proofs.lemmas.SetHistories.{pop_none}
+use Rattle.la_set.proofs.lemmas.Places.{no_last, has_last}
 use Rattle.la_set.proofs.set.UpdateSet.pop.Goals as goal
 
 pub returns-in_err-copy-in-Some-clause-room : goal.returns-in_err-copy-in-Some-clause-room

@@ -1,6 +1,6 @@
 use Rattle.std.proofs.Common.{sym, ◌∙◌}
-use Rattle.la_set.proofs.Comparable.{comparable-compatible, larger-first, larger-second, second_grows}
-use Rattle.la_set.proofs.Decisions.{is_subset-Decides}
+use Rattle.la_set.proofs.lemmas.Comparable.{comparable-compatible, larger-first, larger-second, second_grows}
+use Rattle.la_set.proofs.lemmas.Decisions.{is_subset-Decides}
 use Rattle.la_set.proofs.set.UpdateSet.take_larger.Goals as goal
 
 pub contains_compatible-requires : goal.contains_compatible-requires

@@ -1,8 +1,8 @@
 use Rattle.std.proofs.Common.{◌≡◌, ◌∙◌, map, ap, subst, length, take, arith, OnOk}
 use Rattle.la_set.specs.ObjectOps.{object_op_of}
 use Rattle.la_set.specs.Histories.{history, with_history}
-use Rattle.la_set.proofs.NumberedLists.{take-numbered, object_ops-numbered, length-numbered}
-use Rattle.la_set.proofs.SetHistories.{known_from_count, shortened-none}
+use Rattle.la_set.proofs.lemmas.NumberedLists.{take-numbered, object_ops-numbered, length-numbered}
+use Rattle.la_set.proofs.lemmas.SetHistories.{known_from_count, shortened-none}
 use Rattle.la_set.proofs.Representation.{numbered-object_ops}
 use Rattle.la_set.proofs.set.UpdateSet.truncate.Goals as goal
 

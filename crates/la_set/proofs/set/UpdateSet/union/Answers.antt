@@ -1,6 +1,6 @@
 use Rattle.std.proofs.lemmas.Bool.{false≢true}
-use Rattle.la_set.proofs.Inclusions.{subset-count, compatible-superset}
-use Rattle.la_set.proofs.Agreements.{clash_compatible}
+use Rattle.la_set.proofs.lemmas.Inclusions.{subset-count, compatible-superset}
+use Rattle.la_set.proofs.lemmas.Agreements.{clash_compatible}
 use Rattle.la_set.proofs.set.UpdateSet.union.Goals as goal
 
 pub returns-in-Some-clause-room : goal.returns-in-Some-clause-room

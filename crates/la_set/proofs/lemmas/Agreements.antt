@@ -11,8 +11,8 @@ use Rattle.la_set.specs.Histories.{Histories, history, object_op_number, get, nu
 use Rattle.la_set.specs.ObjectOps.{ObjectOp, update_of}
 use Rattle.la_set.specs.Join.{ClashesAt, IsCompatible, IsLeastClash}
 use Rattle.la_set.specs.Agreement.{AgreeBelow, IsFirstDifference}
-use Rattle.la_set.proofs.SetHistories.{count_past}
-use Rattle.la_set.proofs.Places.{numbered-get, get_zero, get_past}
+use Rattle.la_set.proofs.lemmas.SetHistories.{count_past}
+use Rattle.la_set.proofs.lemmas.Places.{numbered-get, get_zero, get_past}
 
 -- an id that has an update names a replica of the eight, and a number from 1
 got_known : (s : Histories) (id : UpdateId) (u : Update) → get s id ≡ Some u → id.replica < 8

@@ -5,8 +5,8 @@ use Rattle.std.proofs.lemmas.Bool.{both_ways, and_parts, and_from, not_from_fals
 use Rattle.la_set.specs.Histories.{Histories}
 use Rattle.la_set.specs.Inclusion.{IsSubset, is_subset, AreComparable, is_larger, larger_of}
 use Rattle.la_set.specs.Join.{HasNoMore, IsCompatible}
-use Rattle.la_set.proofs.Inclusions.{subset-refl, subset-count, subset-counts, compatible-subset, compatible-superset}
-use Rattle.la_set.proofs.Decisions.{is_subset-Decides, is_subset-from}
+use Rattle.la_set.proofs.lemmas.Inclusions.{subset-refl, subset-count, subset-counts, compatible-subset, compatible-superset}
+use Rattle.la_set.proofs.lemmas.Decisions.{is_subset-Decides, is_subset-from}
 
 module _ (a b : Histories) where
   pub comparable-compatible : AreComparable a b → IsCompatible a b

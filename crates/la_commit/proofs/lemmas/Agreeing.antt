@@ -6,13 +6,13 @@ use Rattle.std.proofs.lemmas.List.Sums.{AllPass-from_list_all, list_all-from_All
 use Rattle.std.proofs.lemmas.List.Elements.{All-contains, All-filter}
 use Rattle.la_set.specs.Histories.{Histories}
 use Rattle.la_set.specs.Inclusion.{IsSubset, AreComparable}
-use Rattle.la_set.proofs.Filters.{Contains-first}
+use Rattle.la_set.proofs.lemmas.Filters.{Contains-first}
 use Rattle.la_commit.specs.declared.vote.Vote.{Vote}
 use Rattle.la_commit.specs.declared.outcome.Outcome.TheVariants.{Commit}
 use Rattle.la_commit.specs.Votes.{votes, sole_votes, is_sole}
 use Rattle.la_commit.specs.Outcomes.{are_all_sole, outcome_by, outcome, value_of}
 use Rattle.la_commit.specs.Laws.{HasVoteFor, SoleValuesAgree, OutcomesAgree, UnanimousCommit}
-use Rattle.la_commit.proofs.Casting.{votes-subset, vote-sole_votes, sole_votes-subset}
+use Rattle.la_commit.proofs.lemmas.Casting.{votes-subset, vote-sole_votes, sole_votes-subset}
 
 -- ## The first agreement
 

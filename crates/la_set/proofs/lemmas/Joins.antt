@@ -9,10 +9,10 @@ use Rattle.la_set.specs.ObjectOps.{ObjectOp, object_op_of}
 use Rattle.la_set.specs.Histories.{Histories, history, object_op_number, ContainsUpdate, empty}
 use Rattle.la_set.specs.Inclusion.{IsSubset}
 use Rattle.la_set.specs.Join.{joined, join, HasNoMore, IsCompatible}
-use Rattle.la_set.proofs.NumberedLists.{slice_get-append_left, slice_get-append_right}
-use Rattle.la_set.proofs.Prefixes.{IsPrefix, IsPrefix-from_reads}
-use Rattle.la_set.proofs.SetHistories.{same_histories, history-from_histories, history_past, history-empty}
-use Rattle.la_set.proofs.Inclusions.{object_op-contains, contains-object_op, prefix-subset, subset-refl, subset-antisym, compatible-agree, compatible-within}
+use Rattle.la_set.proofs.lemmas.NumberedLists.{slice_get-append_left, slice_get-append_right}
+use Rattle.la_set.proofs.lemmas.Prefixes.{IsPrefix, IsPrefix-from_reads}
+use Rattle.la_set.proofs.lemmas.SetHistories.{same_histories, history-from_histories, history_past, history-empty}
+use Rattle.la_set.proofs.lemmas.Inclusions.{object_op-contains, contains-object_op, prefix-subset, subset-refl, subset-antisym, compatible-agree, compatible-within}
 
 -- ## One replica's histories
 

@@ -3,7 +3,7 @@ use Rattle.std.proofs.Common.{◌≡◌, ℕ, zero, suc, List, [], ◌∷◌, �
 use Rattle.std.specs.Prelude.{option_and_then}
 use Rattle.std.specs.List.{filter_map, cons_option, slice_get}
 use Rattle.std.proofs.lemmas.Option.{none-some}
-use Rattle.la_set.proofs.Filters.{Contains-none, Contains-first, Contains-later, Contains-cons_cases}
+use Rattle.la_set.proofs.lemmas.Filters.{Contains-none, Contains-first, Contains-later, Contains-cons_cases}
 
 cons_option-append : {Y : Type 0} (o : Option Y) (ys zs : List Y) → cons_option o ys ++ zs ≡ cons_option o (ys ++ zs)
 cons_option-append None ys zs = refl

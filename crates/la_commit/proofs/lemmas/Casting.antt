@@ -7,12 +7,12 @@ use Rattle.la_set.specs.declared.update.Update.{Update}
 use Rattle.la_set.specs.ObjectOps.{ObjectOp, update_of}
 use Rattle.la_set.specs.Histories.{Histories, history, object_op_number, get, ContainsUpdate, updates}
 use Rattle.la_set.specs.Inclusion.{IsSubset}
-use Rattle.la_set.proofs.Filters.{filter-contains, contains-filter}
-use Rattle.la_set.proofs.Membership.{contains-listed, listed-contains}
+use Rattle.la_set.proofs.lemmas.Filters.{filter-contains, contains-filter}
+use Rattle.la_set.proofs.lemmas.Membership.{contains-listed, listed-contains}
 use Rattle.la_commit.specs.declared.vote.Vote.{Vote}
 use Rattle.la_commit.specs.Votes.{vote_of, votes, sole_votes, HoldsVote}
 use Rattle.la_commit.specs.Laws.{OwnVotesAreVotes}
-use Rattle.la_commit.proofs.Listed.{filter_map-contains, contains-filter_map}
+use Rattle.la_commit.proofs.lemmas.Listed.{filter_map-contains, contains-filter_map}
 
 -- an update of the set casts the vote
 pub record IsCastIn (s : Histories) (v : Vote) : Type 0 where

@@ -1,0 +1,4 @@
+pub mod IdOrder
+pub mod Sorted
+pub mod IdMaps
+pub mod Rows

@@ -1,0 +1,4 @@
+pub mod LeastIds
+pub mod Majorities
+pub mod Growing
+pub mod Theorems

@@ -1,6 +1,0 @@
--- What the proofs of upper crates may use of this one: they name no other file of its `proofs`.
-pub use Rattle.la_set.proofs.Inclusions.{subset-refl, subset-trans, subset-antisym}
-pub use Rattle.la_set.proofs.Inclusions.{object_op-contains, contains-object_op}
-pub use Rattle.la_set.proofs.Decisions.{has_update-Decides}
-pub use Rattle.la_set.proofs.Joins.{contains-join_cases, contains-join, subset-join_left}
-pub use Rattle.la_set.proofs.SetHistories.{history-with_same, history-with_other}

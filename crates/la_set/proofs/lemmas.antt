@@ -1,0 +1,16 @@
+pub mod IdOrder
+pub mod Filters
+pub mod TagPlaces
+pub mod NumberedLists
+pub mod Prefixes
+pub mod SetHistories
+pub mod Places
+pub mod Inclusions
+pub mod Membership
+pub mod Joins
+pub mod Decisions
+pub mod Comparable
+pub mod Differences
+pub mod Agreements
+pub mod Theorems
+pub mod Crossing
