@@ -9,3 +9,5 @@ pub mod Difference
 pub mod Agreement
 pub mod Representation
 pub mod Refusals
+pub mod Counts
+pub mod Deltas

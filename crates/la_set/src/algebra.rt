@@ -272,7 +272,10 @@ fn step_beside<'a>(list: Lent<'a, Update>, len: usize, update: &Update) -> Besid
 }
 
 // Puts updates last in a list, the last of them first.
-fn append_reversed(updates: &mut Updates, reversed: Vec<Update>) -> Result<(), AllocError>
+pub(crate) fn append_reversed(
+    updates: &mut Updates,
+    reversed: Vec<Update>,
+) -> Result<(), AllocError>
     ensures room { reversed.items ≡ [] → IsOk result }
     ensures ok { OnOk result (updates.new ≡ updates.old ++ reverse reversed.items) }
 {

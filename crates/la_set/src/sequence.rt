@@ -49,6 +49,11 @@ impl<T: Drop> Sequence<T> {
         self.items.as_slice()
     }
 
+    // What the list allocates with.
+    pub(crate) fn allocator(&self) -> Global {
+        *self.items.allocator()
+    }
+
     /// Puts an item last, at constant cost but for growth. Where memory is refused the list is
     /// unchanged, and the item is dropped.
     pub fn push(&mut self, item: T) -> Result<(), AllocError>

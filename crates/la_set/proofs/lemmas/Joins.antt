@@ -16,7 +16,7 @@ use Rattle.la_set.proofs.lemmas.Inclusions.{object_op-contains, contains-object_
 
 -- ## One replica's histories
 
-slice_get-drop : {X : Type 0} (n : ℕ) (xs : List X) (k : ℕ) → slice_get (drop n xs) k ≡ slice_get xs (n + k)
+pub slice_get-drop : {X : Type 0} (n : ℕ) (xs : List X) (k : ℕ) → slice_get (drop n xs) k ≡ slice_get xs (n + k)
 slice_get-drop zero xs k = ap (slice_get xs) {x = k} {y = 0 + k} (omega arith)
 slice_get-drop (suc n) [] k = refl
 slice_get-drop (suc n) (x ∷ xs) k = slice_get-drop n xs k ∙ ap (slice_get (x ∷ xs)) {x = suc (n + k)} {y = suc n + k} (omega arith)

@@ -1,0 +1,18 @@
+use Rattle.std.proofs.Common.{ap, arith, inl, inr, refl}
+use Rattle.std.proofs.lemmas.Bool.{cases_eq}
+use Rattle.la_set.specs.Histories.{count}
+use Rattle.la_set.specs.Counts.{count_in}
+use Rattle.la_set.proofs.Counting.{HasCounts-known}
+use Rattle.la_set.proofs.set.UpdateSet.has_counts.Goals as goal
+
+pub loop-replica-init : goal.loop-replica-init
+loop-replica-init c r lt = absurd (omega arith)
+
+pub loop-replica-preserved : goal.loop-replica-preserved
+loop-replica-preserved c r lt = elim (cases_eq r c.loop-replica.replica) [
+  | inl e ↦ omega (arith, ap (count_in c.args.counts) e, ap (count c.args.self.now) e, c.of.ensures, c.count_of.ensures.count)
+  | inr ne ↦ c.loop-replica.invariant r (omega arith)
+]
+
+pub returns : goal.returns
+returns c = ((λ _. HasCounts-known c.args.self.now c.args.counts (λ r lt. c.loop-replica.invariant r (omega arith))), λ _. refl)

@@ -1,0 +1,71 @@
+ghost use Rattle.std.specs.Prelude.{◌≡◌, ◌<◌, ℕ, length, min, slice_index_or};
+ghost use Rattle.la_set.specs.Counts.{count_in, from_counts, zero_counts};
+
+use crate::REPLICAS;
+
+/// How many updates of each replica there are, apart from the updates. They are made of a set, by
+/// [`UpdateSet::counts`], or of eight numbers, as a transport has them.
+///
+/// [`UpdateSet::counts`]: crate::UpdateSet::counts
+#[derive(Clone, Copy, Debug, PartialEq, Eq)]
+pub struct Counts {
+    pub(crate) of: [u32; 8],
+}
+
+impl Counts {
+    /// None of any replica.
+    pub fn zero() -> Counts
+        ensures { result ≡ zero_counts }
+    {
+        Counts { of: [0; 8] }
+    }
+
+    /// How many of a replica: none of one of 8 or more.
+    pub fn of(&self, replica: u8) -> u32
+        ensures { result ≡ count_in self.now replica }
+    {
+        if replica >= REPLICAS {
+            return 0;
+        }
+        self.of[replica as usize]
+    }
+
+    // The eight numbers.
+    pub(crate) fn numbers(&self) -> [u32; 8]
+        ensures eight { length result ≡ REPLICAS }
+        ensures each { (r : ℕ) → r < REPLICAS → slice_index_or result r 0 ≡ count_in self.now r }
+    {
+        self.of
+    }
+
+    /// Of each replica the smaller of the two.
+    pub fn min(self, other: Counts) -> Counts
+        ensures { result ≡ from_counts (λ r. min (count_in self r) (count_in other r)) }
+    {
+        Counts {
+            of: [
+                self.of(0).min(other.of(0)),
+                self.of(1).min(other.of(1)),
+                self.of(2).min(other.of(2)),
+                self.of(3).min(other.of(3)),
+                self.of(4).min(other.of(4)),
+                self.of(5).min(other.of(5)),
+                self.of(6).min(other.of(6)),
+                self.of(7).min(other.of(7)),
+            ],
+        }
+    }
+}
+
+/// Each replica's count at its place.
+impl From<[u32; 8]> for Counts {
+    ghost use Rattle.std.specs.Prelude.{slice_index_or};
+    ghost use Rattle.la_set.specs.Counts.{from_counts};
+
+    ghost from_gives = { λ numbers counts.
+        counts ≡ from_counts (λ r. slice_index_or numbers r 0) };
+
+    fn from(numbers: [u32; 8]) -> Counts {
+        Counts { of: numbers }
+    }
+}

@@ -1,0 +1,419 @@
+ghost use Rattle.std.specs.Prelude.{◌≡◌, ◌+◌, ◌≤◌, ◌<◌, ◌++◌, [], ◌∷◌, length, slice_get, drop, reverse};
+ghost use Rattle.std.specs.Prelude.{IsOk, IfOk, IfErr, OnOk, OnErr, Some, None, IsTrue, ◌↔◌, take};
+ghost use Rattle.std.specs.Option.{option_copied};
+ghost use Rattle.la_set.specs.Links.{lent_items};
+ghost use Rattle.la_set.specs.Histories.{history, updates_of, push, IsNext, IsWithinLimit};
+ghost use Rattle.la_set.specs.Representation.{represented, IsRepresentation, IsFront, GrowsFrom};
+ghost use Rattle.la_set.specs.Counts.{count_in, counts_of, HasCounts, within};
+ghost use Rattle.la_set.specs.Deltas.{over, delta_over, rebuilt, pushed, AreNext, AgreesWithin};
+ghost use Rattle.la_set.specs.Deltas.{IsOver, IsRebuildRefusal};
+
+use crate::algebra::append_reversed;
+use crate::history::{History, Lent, item_at, len_of, step_back};
+use crate::{Counts, MAX_NUMBER, REPLICAS, SetError, Update, UpdateId, UpdateSet, Updates};
+use std::alloc::{AllocError, Global};
+use std::marker::Model;
+
+/// A set, told to one who has a part of it: what that one is known to have, and what comes beyond.
+///
+/// One that [`UpdateSet::over`] makes shares the set's updates. One that [`Delta::new`] makes has
+/// its updates as a list, as they come from outside.
+#[derive(Drop)]
+pub struct Delta {
+    base: Counts,
+    more: More,
+}
+
+// What comes beyond the base.
+#[derive(Drop)]
+enum More {
+    // What this set has over it.
+    Whole(UpdateSet),
+    // These updates.
+    Listed(Updates),
+}
+
+impl Model for Delta {
+    ghost use Rattle.la_set.specs.Deltas.{DeltaState};
+
+    ghost Value = { DeltaState };
+
+    ghost use Rattle.la_set.specs.Deltas.{stands_for, HoldsInvariant};
+
+    ghost view = { stands_for };
+
+    ghost invariant = { HoldsInvariant };
+}
+
+impl Delta {
+    /// A delta with this base and these updates beyond it. It takes no memory.
+    pub fn new(base: Counts, more: Updates) -> Delta
+        ensures { result ≡ record { base = base; more = more; made_of = None } }
+    {
+        Delta {
+            base,
+            more: More::Listed(more),
+        }
+    }
+
+    /// How many updates of each replica the receiver is known to have.
+    pub fn base(&self) -> Counts
+        ensures { result ≡ self.now.base }
+    {
+        self.base
+    }
+
+    /// How many updates come beyond, at constant cost.
+    pub fn len(&self) -> usize
+        ensures { result ≡ length self.now.more }
+    {
+        match &self.more {
+            More::Whole(set) => set.len_over(self.base),
+            More::Listed(updates) => updates.len(),
+        }
+    }
+
+    /// The update at a place, from 0, of those that come beyond, at logarithmic cost.
+    pub fn at(&self, place: usize) -> Option<&Update>
+        ensures { option_copied result ≡ slice_get self.now.more place }
+    {
+        match &self.more {
+            More::Whole(set) => set.at_over(self.base, place),
+            More::Listed(updates) => updates.at(place),
+        }
+    }
+
+    /// Copies of the updates that come beyond, in order, at linear cost. Where there is none it
+    /// takes no memory.
+    pub fn more(&self) -> Result<Updates, AllocError>
+        ensures room { self.now.more ≡ [] → IsOk result }
+        ensures ok { IfOk result (λ updates. updates ≡ self.now.more) }
+    {
+        match &self.more {
+            More::Whole(set) => set.listed_over(self.base),
+            More::Listed(updates) => copied(updates),
+        }
+    }
+
+    /// A copy. One of a delta that was made of a set shares that set, at constant cost, and takes no
+    /// memory; else the updates are copied.
+    pub fn copy(&self) -> Result<Delta, AllocError>
+        ensures { IfOk result (λ copy. copy ≡ self.now) }
+    {
+        let more = match &self.more {
+            More::Whole(set) => More::Whole(set.copy()?),
+            More::Listed(updates) => More::Listed(copied(updates)?),
+        };
+        Ok(Delta {
+            base: self.base,
+            more,
+        })
+    }
+
+    /// Whether two deltas have one base and the same updates beyond it, whatever they were made of.
+    /// The bases and the lengths are compared first, and then the updates, each at logarithmic cost.
+    pub fn same(&self, other: &Delta) -> bool
+        ensures { IsTrue result
+            ↔ ((self.now.base ≡ other.now.base) × (self.now.more ≡ other.now.more)) }
+    {
+        self.base == other.base && self.len() == other.len() && self.begins_alike(other)
+    }
+
+    // Whether another delta has at each place of this one's updates the same update.
+    fn begins_alike(&self, other: &Delta) -> bool
+        requires { length self.now.more ≡ length other.now.more }
+        ensures { IsTrue result ↔ (self.now.more ≡ other.now.more) }
+    {
+        for place in 0..self.len() {
+            if !self.item(place).same(other.item(place)) {
+                return false;
+            }
+        }
+        true
+    }
+}
+
+impl UpdateSet {
+    /// How many updates of each replica there are, at most [`MAX_NUMBER`] each, at constant cost.
+    pub fn counts(&self) -> Counts
+        ensures counts { result ≡ counts_of self.now }
+        ensures limit { IsWithinLimit self.now }
+    {
+        // a hint to the prover: no number is over the limit
+        let _ = self.allocator();
+        Counts {
+            of: [
+                self.count_of(0),
+                self.count_of(1),
+                self.count_of(2),
+                self.count_of(3),
+                self.count_of(4),
+                self.count_of(5),
+                self.count_of(6),
+                self.count_of(7),
+            ],
+        }
+    }
+
+    /// Whether there are so many updates of each replica, or more.
+    pub fn has_counts(&self, counts: Counts) -> bool
+        ensures { IsTrue result ↔ HasCounts self.now counts }
+    {
+        for replica in 0..REPLICAS {
+            if counts.of(replica) > self.count_of(replica) {
+                return false;
+            }
+        }
+        true
+    }
+
+    /// The set as a delta over this base, at constant cost: it shares the set, and takes no memory.
+    pub fn over(&self, base: Counts) -> Result<Delta, AllocError>
+        requires { HasCounts self.now base }
+        ensures { IfOk result (λ delta. delta ≡ delta_over self.now base) }
+    {
+        Ok(Delta {
+            base,
+            more: More::Whole(self.copy()?),
+        })
+    }
+
+    /// What a delta stands for over this set: what is here within its base, and then what comes
+    /// beyond it. In this order: `NoBase` where there is less of a replica here than in the base;
+    /// `Gap` where an update beyond does not come next; `Memory`. This set is unchanged. What is
+    /// here within the base is shared, without a look at it, and so are the updates beyond that are
+    /// this set's own next ones: the cost is that of the updates beyond, each compared with one of
+    /// this set, which is found at logarithmic cost.
+    pub fn with(&self, delta: &Delta) -> Result<UpdateSet, SetError>
+        ensures ok { IfOk result (λ set. set ≡ rebuilt self.now delta.now) }
+        ensures stands { IfOk result (λ _. IsOver self.now delta.now) }
+        ensures error { IfErr result (IsRebuildRefusal self.now delta.now) }
+    {
+        if !self.has_counts(delta.base()) {
+            return Err(SetError::NoBase);
+        }
+        if !self.leads_on(delta) {
+            return Err(SetError::Gap);
+        }
+        Ok(self.rebuilt(delta)?)
+    }
+
+    /// The same, where the set that a delta was made of is known to have within the base what this
+    /// one has: nothing is compared, and the result shares that set, at constant cost.
+    pub fn with_agreeing(&self, delta: &Delta) -> Result<UpdateSet, AllocError>
+        requires stands { IsOver self.now delta.now }
+        requires agrees { AgreesWithin self.now delta.now }
+        ensures { IfOk result (λ set. set ≡ rebuilt self.now delta.now) }
+    {
+        match &delta.more {
+            More::Whole(set) => {
+                // a hint to the prover: no number is over the limit
+                let _ = set.allocator();
+                set.copy()
+            }
+            More::Listed(_) => self.rebuilt(delta),
+        }
+    }
+
+    // Whether a delta's updates each come next behind its base: by their ids alone.
+    fn leads_on(&self, delta: &Delta) -> bool
+        requires { HasCounts self.now delta.now.base }
+        ensures { IsTrue result ↔ AreNext (within self.now delta.now.base) delta.now.more }
+    {
+        // a hint to the prover: no number is over the limit
+        let _ = self.allocator();
+        let mut counts = delta.base().numbers();
+        for place in 0..delta.len() {
+            let UpdateId { replica, number } = delta.item(place).id;
+            if replica >= REPLICAS || number > MAX_NUMBER {
+                return false;
+            }
+            if number != counts[replica as usize] + 1 {
+                return false;
+            }
+            counts[replica as usize] = number;
+        }
+        true
+    }
+
+    // What a delta stands for over this set, made anew in one block.
+    fn rebuilt(&self, delta: &Delta) -> Result<UpdateSet, AllocError>
+        requires { IsOver self.now delta.now }
+        ensures { IfOk result (λ set. set ≡ rebuilt self.now delta.now) }
+    {
+        let mut of = self.fronts(delta.base())?;
+        let mut own = [true; 8];
+        for place in 0..delta.len() {
+            self.add(&mut of, &mut own, delta.item(place))?;
+        }
+        UpdateSet::keeping(self.allocator(), of)
+    }
+
+    // The lists of what is here within these counts, which share it.
+    fn fronts(&self, counts: Counts) -> Result<[History<Update>; 8], AllocError>
+        requires { HasCounts self.now counts }
+        ensures keeps { IfOk result (λ of. IsRepresentation of) }
+        ensures fronts { IfOk result (λ of. represented of ≡ within self.now counts) }
+    {
+        // a hint to the prover: no number is over the limit
+        let _ = self.allocator();
+        Ok([
+            self.front(0, counts)?,
+            self.front(1, counts)?,
+            self.front(2, counts)?,
+            self.front(3, counts)?,
+            self.front(4, counts)?,
+            self.front(5, counts)?,
+            self.front(6, counts)?,
+            self.front(7, counts)?,
+        ])
+    }
+
+    // Adds an update that comes next to the lists of a set that grows out of fronts of this one's.
+    // Which lists are such fronts still, the flags say.
+    fn add(
+        &self,
+        of: &mut [History<Update>; 8],
+        own: &mut [bool; 8],
+        update: &Update,
+    ) -> Result<(), AllocError>
+        requires grows { GrowsFrom self.now of.old own.old }
+        requires next { IsNext (represented of.old) update.now.id }
+        ensures ok { OnOk result (represented of.new ≡ push (represented of.old) update.now) }
+        ensures grows { OnOk result (GrowsFrom self.now of.new own.new) }
+    {
+        let at = update.id.replica as usize;
+        own[at] = self.lengthen(&mut of[at], own[at], update)?;
+        Ok(())
+    }
+
+    // Adds an update to a list, and answers whether the list is a front of this set's still: the
+    // update is shared where it is the set's own next one, and else copied.
+    fn lengthen(
+        &self,
+        list: &mut History<Update>,
+        own: bool,
+        update: &Update,
+    ) -> Result<bool, AllocError>
+        requires known { update.now.id.replica < REPLICAS }
+        requires room { length list.old < MAX_NUMBER }
+        requires own { IsTrue own → IsFront list.old (updates_of self.now update.now.id.replica) }
+        ensures ok { OnOk result (list.new ≡ list.old ++ update.now ∷ []) }
+        ensures own { IfOk result (λ own.
+            IsTrue own → IsFront list.new (updates_of self.now update.now.id.replica)) }
+    {
+        let mine = self.history_of(update.id.replica);
+        let len = len_of(list.link());
+        if own && has_at(mine, len, update) {
+            *list = History::front_of(mine, len + 1)?;
+            return Ok(true);
+        }
+        list.push(self.allocator(), update.copy()?)?;
+        Ok(false)
+    }
+
+    // A replica's updates within these counts.
+    fn front(&self, replica: u8, counts: Counts) -> Result<History<Update>, AllocError>
+        requires known { replica < REPLICAS }
+        requires there { HasCounts self.now counts }
+        ensures { IfOk result (λ front. front ≡ updates_of (within self.now counts) replica) }
+    {
+        History::front_of(self.history_of(replica), counts.of(replica) as usize)
+    }
+
+    // Copies of the updates over this base, in order.
+    fn listed_over(&self, base: Counts) -> Result<Updates, AllocError>
+        requires { HasCounts self.now base }
+        ensures room { over self.now base ≡ [] → IsOk result }
+        ensures ok { IfOk result (λ updates. updates ≡ over self.now base) }
+    {
+        let alloc = self.allocator();
+        let mut updates = Updates::new(alloc);
+        for replica in 0..REPLICAS {
+            let rest = rest_of(alloc, self.history_of(replica), base.of(replica) as usize)?;
+            append_reversed(&mut updates, rest)?;
+        }
+        Ok(updates)
+    }
+
+    // How many updates there are over this base.
+    fn len_over(&self, base: Counts) -> usize
+        requires { HasCounts self.now base }
+        ensures { result ≡ length (over self.now base) }
+    {
+        let mut all = 0;
+        for replica in 0..REPLICAS {
+            all += (self.count_of(replica) - base.of(replica)) as usize;
+        }
+        all
+    }
+
+    // The update at a place, from 0, of those over this base.
+    fn at_over(&self, base: Counts, place: usize) -> Option<&Update>
+        requires { HasCounts self.now base }
+        ensures { option_copied result ≡ slice_get (over self.now base) place }
+    {
+        let mut left = place;
+        for replica in 0..REPLICAS {
+            let mine = self.history_of(replica);
+            let skipped = base.of(replica) as usize;
+            let count = len_of(mine) - skipped;
+            if left < count {
+                return item_at(mine, skipped + left);
+            }
+            left -= count;
+        }
+        None
+    }
+}
+
+impl Delta {
+    // The update at a place that there is.
+    fn item(&self, place: usize) -> &Update
+        requires { place < length self.now.more }
+        ensures { slice_get self.now.more place ≡ Some result.now }
+    {
+        match self.at(place) {
+            Some(update) => update,
+            None => unreachable!(),
+        }
+    }
+}
+
+// Copies of updates, in order.
+fn copied(updates: &Updates) -> Result<Updates, AllocError>
+    ensures room { updates.now ≡ [] → IsOk result }
+    ensures ok { IfOk result (λ copy. copy ≡ updates.now) }
+{
+    let mut copy = Updates::new(updates.allocator());
+    for update in updates.all() {
+        copy.push(update.copy()?)?;
+    }
+    Ok(copy)
+}
+
+// Copies of a list's updates behind the first so many, the last first.
+fn rest_of(alloc: Global, list: Lent<'_, Update>, len: usize) -> Result<Vec<Update>, AllocError>
+    requires { len ≤ length (lent_items list) }
+    ensures room { drop len (lent_items list.entry) ≡ [] → IsOk result }
+    ensures ok { IfOk result (λ rest. rest.items ≡ reverse (drop len (lent_items list.entry))) }
+{
+    let mut rest = Vec::new(alloc);
+    let mut left = list;
+    while len_of(left) > len {
+        let step = step_back(left);
+        rest.push(step.item.copy()?)?;
+        left = step.prev;
+    }
+    Ok(rest)
+}
+
+// Whether a list has this update at a place.
+fn has_at(list: Lent<'_, Update>, place: usize, update: &Update) -> bool
+    ensures { IsTrue result ↔ (slice_get (lent_items list.entry) place ≡ Some update.now) }
+{
+    match item_at(list, place) {
+        Some(item) => item.same(update),
+        None => false,
+    }
+}
