@@ -1,12 +1,13 @@
 -- What a prepared change is to a proposer: what stands once it is committed, and when it was
 -- prepared from this very proposer.
-use Rattle.std.specs.Prelude.{Bool, true, false, List, [], ◌∷◌, ◌++◌}
+use Rattle.std.specs.Prelude.{◌<◌, Bool, true, false, List, [], ◌∷◌, ◌++◌, length, slice_set}
+use Rattle.la_set.specs.declared.counts.Counts as numbers
 use Rattle.la_set.specs.Histories.{Histories}
 use Rattle.la_proposer.specs.declared.ballot.Ballot.{Ballot}
 use Rattle.la_proposer.specs.declared.change.Change.{Change}
 use Rattle.la_proposer.specs.declared.change.Change.TheVariants.{Nothing, Holds, Submits, Counts, Opens, Closes}
 use Rattle.la_proposer.specs.declared.tally.Counted.{Counted}
-use Rattle.la_proposer.specs.ProposerState.{ProposerState}
+use Rattle.la_proposer.specs.ProposerState.{ProposerState, told_by}
 use Rattle.la_proposer.specs.Inputs.{all_submitted}
 use Rattle.la_proposer.specs.Fields.{alone, proposer_state_of, IsRepresented}
 
@@ -18,24 +19,24 @@ last_of p = record { number = p.number; updates = p.updates }
 
 abbrev pub last_after : ProposerState → Change → Ballot
 last_after p (Submits b s) = b
-last_after p (Opens b) = b
+last_after p (Opens b told) = b
 last_after p Nothing = last_of p
 last_after p (Holds s) = last_of p
 last_after p (Counts c) = last_of p
-last_after p Closes = last_of p
+last_after p (Closes told) = last_of p
 
 abbrev pub asking_after : ProposerState → Change → Bool
 asking_after p (Submits b s) = true
-asking_after p (Opens b) = true
-asking_after p Closes = false
+asking_after p (Opens b told) = true
+asking_after p (Closes told) = false
 asking_after p Nothing = p.is_asking
 asking_after p (Holds s) = p.is_asking
 asking_after p (Counts c) = p.is_asking
 
 abbrev pub tally_after : ProposerState → Change → List Counted
 tally_after p (Submits b s) = []
-tally_after p (Opens b) = []
-tally_after p Closes = []
+tally_after p (Opens b told) = []
+tally_after p (Closes told) = []
 tally_after p (Counts c) = p.tally ++ c ∷ []
 tally_after p Nothing = p.tally
 tally_after p (Holds s) = p.tally
@@ -46,17 +47,35 @@ submissions_after p (Holds s) = s
 submissions_after p (Submits b s) = s
 submissions_after p Nothing = alone p.own (all_submitted p)
 submissions_after p (Counts c) = alone p.own (all_submitted p)
-submissions_after p (Opens b) = alone p.own (all_submitted p)
-submissions_after p Closes = alone p.own (all_submitted p)
+submissions_after p (Opens b told) = alone p.own (all_submitted p)
+submissions_after p (Closes told) = alone p.own (all_submitted p)
+
+-- how many updates each acceptor has told that it has
+abbrev pub reported_after : ProposerState → Change → List numbers.Counts
+reported_after p (Counts c) = slice_set p.reported c.from (told_by p.updates c.reply)
+reported_after p (Opens b told) = slice_set p.reported told.from told.counts
+reported_after p (Closes told) = slice_set p.reported told.from told.counts
+reported_after p Nothing = p.reported
+reported_after p (Holds s) = p.reported
+reported_after p (Submits b s) = p.reported
 
 -- what the proposer is once the change is committed
 unfoldable pub after_commit : ProposerState → Change → ProposerState
 after_commit p c =
     proposer_state_of p.votes p.own p.cap (last_after p c) (asking_after p c) (tally_after p c)
-    (submissions_after p c)
+    (submissions_after p c) (reported_after p c)
 
 -- ## Where it comes from
 
+-- whom the reply is from by which a ballot ends, is of the group
+abbrev pub EndsByOneOf : ProposerState → Change → Type 0
+EndsByOneOf p (Opens b told) = told.from < length p.votes
+EndsByOneOf p (Closes told) = told.from < length p.votes
+EndsByOneOf p Nothing = Unit {0}
+EndsByOneOf p (Holds s) = Unit {0}
+EndsByOneOf p (Submits b s) = Unit {0}
+EndsByOneOf p (Counts c) = Unit {0}
+
 -- it was prepared from this proposer: the fields that it leads to are a proposer's
 unfoldable pub IsPreparedFrom : ProposerState → Change → Type 0
-IsPreparedFrom p c = IsRepresented (after_commit p c) (submissions_after p c)
+IsPreparedFrom p c = IsRepresented (after_commit p c) (submissions_after p c) × EndsByOneOf p c

@@ -1,6 +1,10 @@
+ghost use Rattle.std.specs.Prelude.{◌≡◌};
+ghost use Rattle.la_proposer.specs.ProposerState.{told_by};
+
 use crate::Ballot;
 use crate::tally::Counted;
-use la_set::UpdateSet;
+use la_acceptor::Reply;
+use la_set::{Counts, UpdateSet};
 
 /// What a prepared step is to change in the proposer that it was prepared from.
 #[derive(Drop)]
@@ -13,8 +17,32 @@ pub enum Change {
     Submits(Ballot, UpdateSet),
     /// This reply counts.
     Counts(Counted),
-    /// This ballot opens in the place of the open one.
-    Opens(Ballot),
-    /// The open ballot ends, and none opens.
-    Closes,
+    /// By a reply that tells this, this ballot opens in the place of the open one.
+    Opens(Ballot, Told),
+    /// By a reply that tells this, the open ballot ends, and none opens.
+    Closes(Told),
+}
+
+/// What a reply tells of its acceptor.
+#[derive(Clone, Copy)]
+pub struct Told {
+    pub from: u8,
+    /// How many updates it has: of each replica so many, or more.
+    pub counts: Counts,
+}
+
+impl Told {
+    // What a reply of this acceptor tells, to a ballot with these updates.
+    pub(crate) fn by(from: u8, updates: &UpdateSet, reply: &Reply) -> Told
+        ensures { result ≡ record { from = from; counts = told_by updates.now reply.now } }
+    {
+        let set = match reply {
+            Reply::Yes => updates,
+            Reply::No(refused) => refused,
+        };
+        Told {
+            from,
+            counts: set.counts(),
+        }
+    }
 }

@@ -5,7 +5,7 @@ ghost use Rattle.la_proposer.specs.Majority.{votes_of};
 ghost use Rattle.la_proposer.specs.Tally.{reply_carrying, has_counted};
 ghost use Rattle.la_proposer.specs.ProposerState.{start, submitted, op_on, status_of};
 ghost use Rattle.la_proposer.specs.ProposerState.{submission_opens, after_submission, counts};
-ghost use Rattle.la_proposer.specs.ProposerState.{heard_of, after_reply};
+ghost use Rattle.la_proposer.specs.ProposerState.{heard_of, after_reply, reported};
 ghost use Rattle.la_proposer.specs.Refusals.{SubmissionSpends, IsSubmitRefusal, IsReplyRefusal};
 ghost use Rattle.la_proposer.specs.Refusals.{ReplySpares, IsVerdictOf, IsIgnored, OnlyCounts};
 ghost use Rattle.la_proposer.specs.Clashes.{ReplyFits};
@@ -17,7 +17,7 @@ mod preparing;
 use crate::tally::{self, Counted, Verdict};
 use crate::{Ballot, Heard, ProposerError, Status, Votes};
 use la_acceptor::Reply;
-use la_set::{Op, UpdateSet};
+use la_set::{Counts, Op, UpdateSet};
 use smallvec::SmallVec;
 use std::alloc::Global;
 use std::marker::Model;
@@ -45,6 +45,7 @@ pub struct Proposer {
     is_asking: bool,
     tally: SmallVec<Counted, INLINE_TALLY>,
     submissions: UpdateSet,
+    reported: [Counts; 8],
 }
 
 impl Model for Proposer {
@@ -80,6 +81,7 @@ impl Proposer {
             is_asking: false,
             tally: SmallVec::new(alloc),
             submissions: UpdateSet::new(alloc),
+            reported: [Counts::zero(); 8],
         }
     }
 
@@ -125,6 +127,18 @@ impl Proposer {
         ensures in_group { length self.now.votes ≤ from → result ≡ false }
     {
         tally::has_counted(self.tally.as_slice(), from)
+    }
+
+    /// How many updates an acceptor has told that it has, in the last reply of it that counted, in
+    /// whichever ballot that was: an acknowledgement tells those of the ballot's set, a refusal those
+    /// of the set that came with it. Zero where no reply of it has counted. The cost is constant.
+    pub fn reported(&self, from: u8) -> Counts
+        ensures { result ≡ reported self.now from }
+    {
+        match self.reported.get(from as usize) {
+            Some(told) => *told,
+            None => Counts::zero(),
+        }
     }
 
     /// Submits an update for an object, under the proposer's next number. An idle proposer opens a

@@ -5,7 +5,7 @@ ghost use Rattle.la_proposer.specs.ProposerState.{submitted, op_on, submission_o
 ghost use Rattle.la_proposer.specs.ProposerState.{with_reply, verdict_of, heard_of, after_reply};
 ghost use Rattle.la_proposer.specs.ProposerState.{heard_counting, after_counting, counts};
 ghost use Rattle.la_proposer.specs.ProposerState.{refined_ballot, after_refinement, is_nothing};
-ghost use Rattle.la_proposer.specs.ProposerState.{learning_opens, after_learning};
+ghost use Rattle.la_proposer.specs.ProposerState.{learning_opens, after_learning, noted};
 ghost use Rattle.la_proposer.specs.Refusals.{SubmissionSpends, IsSubmitRefusal, IsVerdictOf};
 ghost use Rattle.la_proposer.specs.Refusals.{ReplySpends, ReplySpares, OnlyCounts};
 ghost use Rattle.la_proposer.specs.Refusals.{StepSpends};
@@ -13,7 +13,7 @@ ghost use Rattle.la_proposer.specs.Clashes.{Fits, ReplyFits};
 ghost use Rattle.la_proposer.specs.Changes.{after_commit, IsPreparedFrom};
 
 use super::{MAX_BALLOTS, Proposer};
-use crate::change::Change;
+use crate::change::{Change, Told};
 use crate::joins::{add_next, join_refusal, join_refusals, taking};
 use crate::tally::{Counted, Verdict};
 use crate::{Ballot, Heard, ProposerError};
@@ -114,13 +114,19 @@ impl Proposer {
                 self.tally.clear();
                 self.submissions = submissions;
             }
-            Change::Counts(counted) => self.tally.push_reserved(counted),
-            Change::Opens(ballot) => {
+            Change::Counts(counted) => {
+                let told = Told::by(counted.from, &self.last.updates, &counted.reply);
+                self.reported[counted.from as usize] = told.counts;
+                self.tally.push_reserved(counted);
+            }
+            Change::Opens(ballot, told) => {
+                self.reported[told.from as usize] = told.counts;
                 self.last = ballot;
                 self.is_asking = true;
                 self.tally.clear();
             }
-            Change::Closes => {
+            Change::Closes(told) => {
+                self.reported[told.from as usize] = told.counts;
                 self.is_asking = false;
                 self.tally.clear();
             }
@@ -158,7 +164,7 @@ impl Proposer {
         match verdict {
             Verdict::Waits => Ok((Heard::Counted, self.counting(from, reply))),
             Verdict::Refines => self.prepare_refinement(from, reply),
-            Verdict::Learns => self.prepare_learning(),
+            Verdict::Learns => self.prepare_learning(from, &reply),
         }
     }
 
@@ -188,6 +194,7 @@ impl Proposer {
             after_commit self.now prepared.1 ≡ after_refinement (with_reply self.now from reply)) }
         ensures from { IfOk result (λ prepared. IsPreparedFrom self.now prepared.1) }
     {
+        let told = Told::by(from, &self.last.updates, &reply);
         let mut updates = self.last.updates.copy()?;
         join_refusals(&mut updates, self.tally.as_slice())?;
         join_refusal(&mut updates, &reply)?;
@@ -196,24 +203,30 @@ impl Proposer {
             updates,
         };
         let opened = ballot.copy()?;
-        Ok((Heard::Refined(opened), Change::Opens(ballot)))
+        Ok((Heard::Refined(opened), Change::Opens(ballot, told)))
     }
 
-    // Prepares to learn the open ballot's set. Where submissions wait a ballot opens at once.
-    fn prepare_learning(&self) -> Result<(Heard, Change), AllocError>
-        requires { ¬ StepSpends (not (is_nothing self.now.waiting)) self.now }
+    // Prepares to learn the open ballot's set, by this reply. Where submissions wait a ballot opens
+    // at once.
+    fn prepare_learning(&self, from: u8, reply: &Reply) -> Result<(Heard, Change), AllocError>
+        requires in_group { from < length self.now.votes }
+        requires left { ¬ StepSpends (not (is_nothing self.now.waiting)) self.now }
         ensures heard { IfOk result (λ prepared.
             prepared.0 ≡ Heard.Learnt self.now.updates (learning_opens self.now)) }
         ensures ok { IfOk result (λ prepared.
-            after_commit self.now prepared.1 ≡ after_learning self.now) }
+            after_commit self.now prepared.1 ≡ after_learning (noted self.now from reply.now)) }
         ensures from { IfOk result (λ prepared. IsPreparedFrom self.now prepared.1) }
     {
+        let told = Told::by(from, &self.last.updates, reply);
         let learnt = self.last.updates.copy()?;
         if self.buffered() == 0 {
-            return Ok((Heard::Learnt(learnt, None), Change::Closes));
+            return Ok((Heard::Learnt(learnt, None), Change::Closes(told)));
         }
         let ballot = taking(&self.last, &self.submissions)?;
         let opened = ballot.copy()?;
-        Ok((Heard::Learnt(learnt, Some(opened)), Change::Opens(ballot)))
+        Ok((
+            Heard::Learnt(learnt, Some(opened)),
+            Change::Opens(ballot, told),
+        ))
     }
 }

@@ -1,5 +1,4 @@
-use Rattle.std.proofs.Common.{refl, subst}
-use Rattle.la_proposer.specs.declared.tally.Counted.{Counted}
+use Rattle.std.proofs.Common.{subst}
 use Rattle.la_proposer.specs.Fields.{IsRepresented}
 use Rattle.la_proposer.proofs.Preparing.{counts_leads}
 use Rattle.la_proposer.proofs.proposer.Proposer.counting.Goals as goal
@@ -7,11 +6,9 @@ use Rattle.la_proposer.proofs.proposer.Proposer.counting.Goals as goal
 pub returns-clause-ok : goal.returns-clause-ok
 returns-clause-ok c =
     let is = subst (λ p. IsRepresented p c.self.inside.submissions) c.self.view_is c.self.invariant in
-    let counted : Counted = record { from = c.args.from; reply = c.args.reply } in
-    (counts_leads c.args.self.now c.self.inside.submissions is c.args.from c.args.reply c.requires.asking c.requires.in_group c.requires.new c.requires.fits counted refl).to
+    (counts_leads c.args.self.now c.self.inside.submissions is c.args.from c.args.reply c.requires.asking c.requires.in_group c.requires.new c.requires.fits).to
 
 pub returns-clause-from : goal.returns-clause-from
 returns-clause-from c =
     let is = subst (λ p. IsRepresented p c.self.inside.submissions) c.self.view_is c.self.invariant in
-    let counted : Counted = record { from = c.args.from; reply = c.args.reply } in
-    (counts_leads c.args.self.now c.self.inside.submissions is c.args.from c.args.reply c.requires.asking c.requires.in_group c.requires.new c.requires.fits counted refl).from
+    (counts_leads c.args.self.now c.self.inside.submissions is c.args.from c.args.reply c.requires.asking c.requires.in_group c.requires.new c.requires.fits).from

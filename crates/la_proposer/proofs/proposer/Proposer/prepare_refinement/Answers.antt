@@ -1,9 +1,12 @@
-use Rattle.std.proofs.Common.{◌≡◌, ◌+◌, ap, subst, ◌∙◌}
+use Rattle.std.proofs.Common.{◌≡◌, ◌+◌, ap, sym, subst, ◌∙◌}
 use Rattle.la_proposer.specs.Tally.{joined_with_refusals}
-use Rattle.la_proposer.specs.ProposerState.{ProposerState}
+use Rattle.la_proposer.specs.declared.ballot.Ballot.{Ballot}
+use Rattle.la_proposer.specs.declared.change.Change.TheVariants.{Opens}
+use Rattle.la_proposer.specs.declared.change.Told.{Told}
+use Rattle.la_proposer.specs.ProposerState.{ProposerState, told_by, with_reply, after_refinement}
 use Rattle.la_proposer.specs.Fields.{IsRepresented}
 use Rattle.la_proposer.specs.declared.heard.Heard.TheVariants.{Refined}
-use Rattle.la_proposer.proofs.Preparing.{agrees_last, refines_leads}
+use Rattle.la_proposer.proofs.Preparing.{Leads, agrees_last, refines_leads}
 use Rattle.la_proposer.proofs.proposer.Proposer.prepare_refinement.Goals as goal
 
 pub join_refusal-requires : goal.join_refusal-requires
@@ -32,7 +35,8 @@ returns-clause-ok c =
     c.in_ok-join_refusals.ensures ∙ (λ i. joined_with_refusals (c.in_ok-updates.ensures i) (c.as_slice.ensures i)) ∙ ap (λ (p : ProposerState). joined_with_refusals p.updates p.tally) c.self.view_is in
     let number_is = ap (λ (p : ProposerState). record { number = p.number + 1; updates = c.join_refusal.new.set }) c.self.view_is in
     let both = refines_leads q c.self.inside.submissions is c.args.from c.args.reply c.requires.asking c.requires.in_group c.requires.new c.requires.fits _ c.join_refusals.new.set c.join_refusal.new.set joined_is c.in_ok-join_refusal.ensures number_is c.requires.left in
-    both.0.to
+    let b : Ballot = record { number = c.self.inside.last.number + 1; updates = c.join_refusal.new.set } in
+    (subst (λ (z : Told). Leads q (Opens b z) (after_refinement (with_reply q c.args.from c.args.reply))) (sym (c.by-told.ensures ∙ (λ i. record { from = c.args.from; counts = told_by (c.self.view_is i).updates c.args.reply }))) both.0).to
 
 pub returns-clause-from : goal.returns-clause-from
 returns-clause-from c =
@@ -42,4 +46,5 @@ returns-clause-from c =
     c.in_ok-join_refusals.ensures ∙ (λ i. joined_with_refusals (c.in_ok-updates.ensures i) (c.as_slice.ensures i)) ∙ ap (λ (p : ProposerState). joined_with_refusals p.updates p.tally) c.self.view_is in
     let number_is = ap (λ (p : ProposerState). record { number = p.number + 1; updates = c.join_refusal.new.set }) c.self.view_is in
     let both = refines_leads q c.self.inside.submissions is c.args.from c.args.reply c.requires.asking c.requires.in_group c.requires.new c.requires.fits _ c.join_refusals.new.set c.join_refusal.new.set joined_is c.in_ok-join_refusal.ensures number_is c.requires.left in
-    both.0.from
+    let b : Ballot = record { number = c.self.inside.last.number + 1; updates = c.join_refusal.new.set } in
+    (subst (λ (z : Told). Leads q (Opens b z) (after_refinement (with_reply q c.args.from c.args.reply))) (sym (c.by-told.ensures ∙ (λ i. record { from = c.args.from; counts = told_by (c.self.view_is i).updates c.args.reply }))) both.0).from
