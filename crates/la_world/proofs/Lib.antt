@@ -15,12 +15,14 @@ mod Order
 pub mod OwnHistories
 pub mod Sizes
 pub mod Openings
+pub mod Reports
 pub mod Unaffected
 pub mod OwnBound
 pub mod OneReplicaSteps
 pub mod Allowing
 pub mod InGroup
 pub mod Traces
+pub mod Hearing
 pub mod Once
 pub mod Taking
 pub mod SubmissionEvents

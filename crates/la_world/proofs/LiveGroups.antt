@@ -45,7 +45,7 @@ use Rattle.la_world.specs.Laws.{IsAdoptCommit}
 use Rattle.la_world.specs.Promises.{KeepsPromises}
 use Rattle.la_world.specs.LiveGroups.{LearntSet, LiveGroup, Call, Submitted, Proposed, Received, Looked, silence, submission, makes, MayAccept, learnt_from, learnt_by_call, IsStep, IsStart, Reaches, IsReached, replicas_of, event_of, events_of, live_group_of, learnt_set_of, StandsForEvents, decisions_of}
 use Rattle.la_world.specs.LiveGroups.{LiveGroupsStandForEvents, LiveGroupsKeepAll, LiveLearntAreComparable, LiveViewsAreComparable, LiveNodesAreOneHistory, NewNodesAreLive, NetworksMayLose, SubmissionsKeepLive, ProposalsKeepLive, ReceiptsKeepLive, LooksKeepLive}
-use Rattle.la_world.proofs.Lists.{contains_IsIn, IsIn_contains, IsIn_mapped, IsIn_image, IsIn_place, get_mapped}
+use Rattle.la_world.proofs.Lists.{contains_IsIn, IsIn_contains, IsIn_mapped, IsIn_image, IsIn_place, get_mapped, made_at}
 use Rattle.la_world.proofs.Openings.{IsOf}
 use Rattle.la_world.proofs.Traces.{holds}
 use Rattle.la_world.proofs.Chains.{learnt_comparable}
@@ -53,7 +53,7 @@ use Rattle.la_world.proofs.LargestViews.{views_comparable}
 use Rattle.la_world.proofs.Allowing.{submission_allowed, delivery_allowed}
 use Rattle.la_world.proofs.Proposals.{tested_in_order}
 use Rattle.la_world.proofs.SubmissionEvents.{submission_entry}
-use Rattle.la_world.proofs.OneReplicaSteps.{get_instance, made_at, replica_states-set}
+use Rattle.la_world.proofs.OneReplicaSteps.{get_instance, replica_states-set}
 use Rattle.la_world.proofs.RefusedForMemory.{submitted_is}
 use Rattle.la_world.proofs.Legal.{submission_steps, proposal_steps, delivery_steps, delivery_placed, entry_delivers}
 use Rattle.la_world.proofs.WorldSteps.{few_of, states_at_start, led_at_start, led_on, submits_learns, learnt_said}

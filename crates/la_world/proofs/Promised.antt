@@ -23,8 +23,7 @@ use Rattle.la_world.proofs.Validity.{learnt_valid}
 use Rattle.la_world.proofs.Order.{learnt_in_order, removed_held}
 use Rattle.la_world.proofs.LearntOrder.{learnt_grow}
 use Rattle.la_world.proofs.LargestViews.{views_largest, views_comparable}
-use Rattle.la_world.proofs.Lists.{contains_IsIn, IsIn_made}
-use Rattle.la_world.proofs.OneReplicaSteps.{made_at}
+use Rattle.la_world.proofs.Lists.{contains_IsIn, IsIn_made, made_at}
 use Rattle.la_world.proofs.Worlds.{view_is, views_are}
 use Rattle.la_world.proofs.GrowingViews.{views_grow}
 use Rattle.la_world.proofs.Places.{accepted_of}

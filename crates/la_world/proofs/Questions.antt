@@ -39,8 +39,9 @@ use Rattle.la_world.specs.Report.{refused, refused_object, line_of}
 use Rattle.la_world.specs.ReplicaStates.{replica_state, replica_states}
 use Rattle.la_world.specs.StandsFor.{World, world_of, kinds_of, group_in, AreBehind, EventsLeadTo, StandsFor}
 use Rattle.la_world.specs.Calls.{HoldsInvariant, Plays, Keeps, view_in, HasObject, IsFollowing, tags_of}
+use Rattle.la_world.proofs.Lists.{map_same}
 use Rattle.la_world.proofs.GrowingViews.{view_more}
-use Rattle.la_world.proofs.OneReplicaSteps.{map_same, replica_state-else}
+use Rattle.la_world.proofs.OneReplicaSteps.{replica_state-else}
 use Rattle.la_world.proofs.Unaffected.{Concerns}
 use Rattle.la_world.proofs.LargestViews.{empty_least}
 use Rattle.la_world.proofs.Worlds.{view_is, sent_is, found_at}

@@ -30,16 +30,17 @@ use Rattle.la_world.specs.Votes.{Submission, second_vote_in}
 use Rattle.la_world.specs.Submissions.{object_op_in, submitted}
 use Rattle.la_world.specs.Views.{view}
 use Rattle.la_world.specs.Playing.{after_vote, after_learning, receives}
-use Rattle.la_world.specs.ReplicaStates.{proposer_state, instance_of, replica_state}
+use Rattle.la_world.specs.ReplicaStates.{reports, proposer_state, instance_of, replica_state}
 use Rattle.la_world.specs.Following.{opened_there, voted_with, with_vote, vote_due, then_votes, takes, taken_at, StepsAs}
 use Rattle.la_world.proofs.Lists.{IsIn}
 use Rattle.la_world.proofs.Openings.{IsOf, not_both, IsAway, round_is, round-same, is_open-learnt, only_of}
-use Rattle.la_world.proofs.Unaffected.{Leaves, proposer_state_is, submitted-none, accepted-none, last_learnt_ballot-none, last_learnt_ballot-some}
+use Rattle.la_world.proofs.Reports.{reports-away}
+use Rattle.la_world.proofs.Unaffected.{Leaves, keeping, proposer_state_is, submitted-none, accepted-none, last_learnt_ballot-none, last_learnt_ballot-some}
 use Rattle.la_world.proofs.EventCases.{entry_of, submitted_with}
 use Rattle.la_world.proofs.Traces.{Holds}
 use Rattle.la_world.proofs.OneReplicaSteps.{get_instance, between, get_second, after_both, replica_state-left}
 use Rattle.la_world.proofs.Submitting.{opened_at, opens_ballot, opened_after, opened_said, opened_mail}
-use Rattle.la_world.proofs.Replying.{with_new, heard_is, kept_is, last_only, last_seen, tells_are, learnt_number}
+use Rattle.la_world.proofs.Replying.{with_new, told_after, heard_is, kept_is, last_only, last_seen, tells_are, learnt_number}
 use Rattle.la_world.proofs.Delivering.{no_offer, reply_offers, hearing_step}
 use Rattle.la_world.proofs.SecondVotes.{LeadsTo, does_learn, IsDue}
 
@@ -108,8 +109,9 @@ module _ (g : Group) (t : Trace) (k : ℕ) (m : Message) (there : m.instance < i
 
   first_after : proposer_state g (x ∷ t) i r ≡ proposer.closed heeding
   first_after =
-      proposer_state_is g (x ∷ t) i r last false (replies (x ∷ t) i r last.ballot) (submitted t i r)
-      (round-same x t i r none_here) (is_open-learnt x t i r last none_here last_here) refl submitted_here
+      proposer_state_is g (x ∷ t) i r last false (replies (x ∷ t) i r last.ballot) (submitted t i r) (reports (x ∷ t) i r)
+      (round-same x t i r none_here) (is_open-learnt x t i r last none_here last_here) refl submitted_here refl
+      ∙ ap (keeping g i r last false [] heeding.waiting) (told_after g t k m l.reply l.body h was_sent l.heeded (did.Learnt last (Some next)))
 
   heard_so : heard_of (proposer_state g t i r) m.from m.ballot l.reply ≡ heard.Learnt last.updates None
   heard_so =
@@ -167,6 +169,7 @@ module _ (g : Group) (t : Trace) (k : ℕ) (m : Message) (there : m.instance < i
 
   second_after : proposer_state g (x ∷ t) j r ≡ after_submission (proposer_state g t j r) object_op
   second_after = opened_after g t j r object_op h d.rests lt x sent_before (only_of j r next of_next) (submitted_with x t j r (vote_at j r object_op) l.vote refl refl)
+      (reports-away x t j r (λ n e ei er. d.apart (sym ei ∙ ap (λ (z : Message). z.instance) (sym (same_Some m n e)))))
 
   abbrev voted : Instance
   voted = record { acceptor = accepted t j r; proposer = after_submission (proposer_state g t j r) object_op; learnt = last_learnt_ballot t j r }

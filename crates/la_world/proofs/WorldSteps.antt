@@ -34,9 +34,10 @@ use Rattle.la_world.specs.Views.{view}
 use Rattle.la_world.specs.StandsFor.{World, kinds_of, group_in, AreBehind, EventsLeadTo, StandsFor}
 use Rattle.la_world.specs.LiveGroups.{submission}
 use Rattle.la_world.specs.Calls.{IsGroup, replica_states_at_start, IsSubmission}
+use Rattle.la_world.proofs.Lists.{get_made}
 use Rattle.la_world.proofs.GrowingViews.{view_more}
 use Rattle.la_world.proofs.LargestViews.{empty_least}
-use Rattle.la_world.proofs.OneReplicaSteps.{get_made, replica_state-else, replica_states-set}
+use Rattle.la_world.proofs.OneReplicaSteps.{replica_state-else, replica_states-set}
 use Rattle.la_world.specs.Following.{said_by, voted_with, voted_by, Taken, takes, taken_at}
 use Rattle.la_replica.specs.Fitting.{FitsReceiver}
 use Rattle.la_world.proofs.EventCases.{entry_of}
@@ -114,7 +115,7 @@ led_on g events states messages led e r made mail allowed others lt is mails =
     let t = trace g events in
     record {
       legal = (allowed, led.legal);
-      replica_states = ap₂ (λ ms m. slice_set ms r m) led.replica_states is ∙ sym (replica_states-set g (entry g t e) t r others lt);
+      replica_states = ap₂ (λ ms m. slice_set ms r m) led.replica_states is ∙ sym (replica_states-set g (entry g t e) t r others);
       sent = ap₂ (λ xs ys. xs ++ ys) led.sent mails;
     }
 

@@ -11,6 +11,8 @@ use Rattle.la_world.specs.Counting.{replies, counted}
 use Rattle.la_world.specs.Submissions.{submitted}
 use Rattle.la_world.specs.Views.{seen, view}
 use Rattle.la_world.specs.Playing.{submits, counts, after_learning, hears, answers, is_told, answer_of, trace}
+use Rattle.la_world.specs.Hearing.{reported}
+use Rattle.la_set.specs.Counts.{from_counts}
 use Rattle.la_world.specs.Learnings.{learnt, last_learnt_ballot}
 use Rattle.la_world.specs.Report.{runs}
 use Rattle.worked_runs.specs.FirstRun.{FirstRun}
@@ -27,7 +29,7 @@ use Rattle.worked_runs.specs.OwnVoteSoleAlone.{OwnVoteSoleAlone}
 use Rattle.worked_runs.specs.LateDissenter.{LateDissenter}
 use Rattle.worked_runs.specs.ByReplicas.{LateDissenterByReplicas}
 use Rattle.worked_runs.specs.Questions.{Questions}
-use Rattle.la_world.specs.ReplicaStates.{proposer_state, instance_of, replica_state}
+use Rattle.la_world.specs.ReplicaStates.{reports, proposer_state, instance_of, replica_state}
 
 pub first_run : FirstRun
 unfolding history from_histories empty updates with_history is_subset join is_majority sent offers accepted ballots round is_open replies counted submitted seen view submits counts after_learning hears answers is_told trace learnt last_learnt_ballot runs
@@ -78,7 +80,7 @@ unfolding history from_histories empty updates with_history is_subset join is_ma
 late_dissenter few = refl
 
 pub late_dissenter_by_replicas : LateDissenterByReplicas
-unfolding history from_histories empty updates with_history is_subset join is_majority sent offers accepted ballots round is_open replies counted submitted seen view submits counts after_learning hears answers is_told trace proposer_state last_learnt_ballot instance_of replica_state
+unfolding history from_histories empty updates with_history is_subset join is_majority sent offers accepted ballots round is_open replies counted submitted seen view submits counts after_learning hears answers is_told trace reported reports from_counts proposer_state last_learnt_ballot instance_of replica_state
 late_dissenter_by_replicas = refl
 
 pub questions : Questions
