@@ -3,11 +3,12 @@ use Rattle.std.proofs.Common.{◌≡◌, Option, Some, None, MatchOption, Orderi
 use Rattle.std.specs.declared.cmp.Ordering.TheVariants.{Less, Equal, Greater}
 use Rattle.la_set.specs.declared.update.UpdateId.{UpdateId}
 use Rattle.la_set.specs.declared.error.SetError.{SetError}
-use Rattle.la_set.specs.declared.error.SetError.TheVariants.{TooManyTags, Gap, Clash, Memory}
+use Rattle.la_set.specs.declared.error.SetError.TheVariants.{TooManyTags, Gap, Clash, NoBase, Memory}
 use Rattle.la_set.specs.Histories.{Histories}
 use Rattle.la_set.specs.Inclusion.{IsSubset, IsOrderOf}
 use Rattle.la_set.specs.Join.{IsCompatible, IsLeastClash}
 use Rattle.la_set.specs.Refusals.{IsUnionRefusal}
+use Rattle.la_set.specs.Deltas.{DeltaState, IsOver, IsRebuildRefusal}
 use Rattle.la_set.proofs.lemmas.IdOrder.{id_cases}
 use Rattle.la_set.proofs.lemmas.Agreements.{clash_compatible}
 
@@ -54,7 +55,36 @@ one_union_refusal a b Memory (Clash y) p q = absurd (clash_compatible a b y q.cl
 one_union_refusal a b Memory Memory p q = refl
 one_union_refusal a b TooManyTags f p q = absurd p
 one_union_refusal a b Gap f p q = absurd p
+one_union_refusal a b NoBase f p q = absurd p
 one_union_refusal a b (Clash x) Gap p q = absurd q
+one_union_refusal a b (Clash x) NoBase p q = absurd q
 one_union_refusal a b (Clash x) TooManyTags p q = absurd q
 one_union_refusal a b Memory Gap p q = absurd q
+one_union_refusal a b Memory NoBase p q = absurd q
 one_union_refusal a b Memory TooManyTags p q = absurd q
+
+pub one_rebuild_refusal : (s : Histories) (d : DeltaState) (e f : SetError) → IsRebuildRefusal s d e → IsRebuildRefusal s d f → e ≡ f
+one_rebuild_refusal s d NoBase NoBase p q = refl
+one_rebuild_refusal s d NoBase Gap p q = absurd (p q.0)
+one_rebuild_refusal s d NoBase Memory p q = absurd (p q.base)
+one_rebuild_refusal s d Gap NoBase p q = absurd (q p.0)
+one_rebuild_refusal s d Gap Gap p q = refl
+one_rebuild_refusal s d Gap Memory p q = absurd (p.1 q.next)
+one_rebuild_refusal s d Memory NoBase p q = absurd (q p.base)
+one_rebuild_refusal s d Memory Gap p q = absurd (q.1 p.next)
+one_rebuild_refusal s d Memory Memory p q = refl
+one_rebuild_refusal s d TooManyTags f p q = absurd p
+one_rebuild_refusal s d (Clash x) f p q = absurd p
+one_rebuild_refusal s d NoBase TooManyTags p q = absurd q
+one_rebuild_refusal s d NoBase (Clash x) p q = absurd q
+one_rebuild_refusal s d Gap TooManyTags p q = absurd q
+one_rebuild_refusal s d Gap (Clash x) p q = absurd q
+one_rebuild_refusal s d Memory TooManyTags p q = absurd q
+one_rebuild_refusal s d Memory (Clash x) p q = absurd q
+
+pub rebuilt_but_for_memory : (s : Histories) (d : DeltaState) (e : SetError) → IsOver s d → IsRebuildRefusal s d e → e ≡ Memory
+rebuilt_but_for_memory s d NoBase over p = absurd (p over.base)
+rebuilt_but_for_memory s d Gap over p = absurd (p.1 over.next)
+rebuilt_but_for_memory s d Memory over p = refl
+rebuilt_but_for_memory s d TooManyTags over p = absurd p
+rebuilt_but_for_memory s d (Clash x) over p = absurd p

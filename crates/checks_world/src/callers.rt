@@ -14,6 +14,7 @@ use la_world::{Config, Report};
 use std::alloc::Global;
 use uses::acceptors::acknowledges;
 use uses::commits::{Learner, finish_both};
+use uses::deltas::{read, written};
 use uses::groups::count_together;
 use uses::kept::{Kept, play_again};
 use uses::nodes::{join, three_nodes};
@@ -61,6 +62,27 @@ fn are_merged(one: &UpdateSet, other: &UpdateSet) -> Option<bool> {
 fn catches_up(one: &mut UpdateSet, other: &UpdateSet) -> Option<()> {
     let lacking = other.beyond(one).ok()?;
     catch_up(one, lacking.all()).ok()
+}
+
+// A delta of a set with one more update is written down, and read by who has the set without it.
+fn deltas(alloc: Global) -> Option<bool> {
+    let mut one = UpdateSet::new(alloc);
+    one.push(adds(0, 5)).ok()?;
+    let mut other = one.copy().ok()?;
+    other.push(adds(1, 2)).ok()?;
+    is_sent(alloc, &one, &other)
+}
+
+fn is_sent(alloc: Global, one: &UpdateSet, other: &UpdateSet) -> Option<bool> {
+    let base = one.counts();
+    if !other.has_counts(base) {
+        return Some(false);
+    }
+    let delta = other.over(base).ok()?;
+    let numbers = written(alloc, &delta).ok()?;
+    let made = read(alloc, numbers.as_slice()).ok()??;
+    let told = one.with(&made).ok()?;
+    Some(numbers.len() == 12 && made.same(&delta) && told.same(other))
 }
 
 fn removals(alloc: Global) -> Option<bool> {
@@ -276,6 +298,7 @@ fn is_so(first: Option<bool>, again: Option<bool>) -> bool {
 fn callers_do_what_they_are_for(rt: HostRuntime) {
     let alloc = rt.alloc();
     holds(&rt, "sets", is_so(sets(alloc), sets(alloc)));
+    holds(&rt, "deltas", is_so(deltas(alloc), deltas(alloc)));
     holds(&rt, "removals", is_so(removals(alloc), removals(alloc)));
     holds(&rt, "adds win", is_so(adds_win(alloc), adds_win(alloc)));
     holds(&rt, "followers", is_so(followers(alloc), followers(alloc)));

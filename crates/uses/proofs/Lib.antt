@@ -6,5 +6,6 @@ pub mod TwoLines
 pub mod Reading
 pub mod Committing
 pub mod Later
+pub mod Numbers
 mod Mapped
 mod Together

@@ -3,3 +3,4 @@ pub mod Promises
 pub mod Scripts
 pub mod Commits
 pub mod Kept
+pub mod Numbers

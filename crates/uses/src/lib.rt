@@ -4,6 +4,7 @@
 
 pub mod acceptors;
 pub mod commits;
+pub mod deltas;
 pub mod groups;
 pub mod kept;
 pub mod members;

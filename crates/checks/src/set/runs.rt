@@ -259,5 +259,6 @@ fn laws_have_no_work(_rt: HostRuntime) {
     laws::union_has_both();
     laws::subsets_of_one_set();
     laws::difference_leads_on();
+    laws::deltas_rebuild();
     laws::tags_are_sets();
 }

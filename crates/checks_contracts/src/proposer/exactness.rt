@@ -10,7 +10,7 @@ use la_acceptor::Reply;
 use la_proposer::{
     BadConfig, Ballot, Change, Heard, MAX_CAP, Proposer, ProposerError, Status, Verdict, Votes,
 };
-use la_set::{Op, UpdateSet};
+use la_set::{Counts, Op, UpdateSet};
 use std::alloc::{AllocError, Global};
 
 // ## Votes and ballots
@@ -112,6 +112,12 @@ fn has_counted_is_exact(proposer: &Proposer, from: u8) -> (bool, bool)
     ensures { result.0 ≡ result.1 }
 {
     (proposer.has_counted(from), proposer.has_counted(from))
+}
+
+fn reported_is_exact(proposer: &Proposer, from: u8) -> (Counts, Counts)
+    ensures { result.0 ≡ result.1 }
+{
+    (proposer.reported(from), proposer.reported(from))
 }
 
 // ## Steps: two equal proposers answer alike, save that memory may be refused to one

@@ -1,10 +1,11 @@
 // The laws and the clauses on memory and limits, each by what follows from it. To call a law is a
 // hint to the prover, and no work: its contract is what it hands on.
-ghost use Rattle.std.specs.Prelude.{◌≡◌, ◌<◌, ◌≤◌, [], ◌∷◌, ◌++◌};
+ghost use Rattle.std.specs.Prelude.{◌≡◌, ◌≢◌, ◌<◌, ◌≤◌, [], ◌∷◌, ◌++◌};
 ghost use Rattle.std.specs.Prelude.{ℕ, Bool, true, false, List, Option, length, replicate, IsTrue, IsOk};
 ghost use Rattle.std.specs.Prelude.{IfOk, OnOk};
 ghost use Rattle.la_set.specs.ObjectOps.{ObjectOp};
 ghost use Rattle.la_set.specs.Inclusion.{IsSubset};
+ghost use Rattle.la_acceptor.specs.declared.reply.Reply.TheVariants.{No};
 ghost use Rattle.la_proposer.specs.declared.tally.Verdict.TheVariants.{Refines};
 ghost use Rattle.la_proposer.specs.declared.ballot.Ballot.{Ballot};
 ghost use Rattle.la_proposer.specs.declared.heard.Heard.TheVariants.{Learnt};
@@ -15,6 +16,7 @@ ghost use Rattle.la_proposer.specs.Inputs.{Input, after_inputs, all_submitted};
 ghost use Rattle.la_proposer.specs.Firsts.{CountsFirsts};
 ghost use Rattle.la_proposer.specs.ProposerState.{ProposerState, start, submitted};
 ghost use Rattle.la_proposer.specs.ProposerState.{after_submission, counts, with_reply, op_on};
+ghost use Rattle.la_proposer.specs.ProposerState.{reported, verdict_of};
 ghost use Rattle.la_proposer.specs.Refusals.{OnlyCounts};
 
 use la_acceptor::Reply;
@@ -229,4 +231,27 @@ fn what_refines_has_a_number(
     ensures { OnOk result (proposer.old.number < 8000000) }
 {
     proposer.reply(from, ballot, reply)
+}
+
+// What another acceptor reported stands, whatever a reply comes to.
+fn another_reply_leaves_what_was_reported(
+    proposer: &mut Proposer,
+    other: u8,
+    from: u8,
+    ballot: u32,
+    reply: Reply,
+) -> Result<Heard, ProposerError>
+    requires { other ≢ from }
+    ensures { OnOk result (reported proposer.new other ≡ reported proposer.old other) }
+{
+    laws::last_replies_are_reported();
+    proposer.reply(from, ballot, reply)
+}
+
+// A refusal comes to the same by the votes, whatever set it carries.
+fn a_refusals_set_decides_nothing()
+    ensures { (p : ProposerState) (from : ℕ) (s t : Histories)
+        → verdict_of (with_reply p from (No s)) ≡ verdict_of (with_reply p from (No t)) }
+{
+    laws::verdicts_look_at_no_set();
 }

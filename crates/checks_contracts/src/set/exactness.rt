@@ -2,10 +2,15 @@
 // promises equal answers. Where memory may run out for one call and not for the other, it promises
 // them where both succeed; and where both are refused, one refusal.
 ghost use Rattle.std.specs.Prelude.{◌≡◌, ◌↔◌, IsTrue, IfOk, IfErr, OnOk, OnErr, option_copied};
+ghost use Rattle.la_set.specs.declared.error.SetError.TheVariants.{Memory};
 ghost use Rattle.la_set.specs.Inclusion.{IsSubset, AreComparable};
 ghost use Rattle.la_set.specs.Join.{IsCompatible};
+ghost use Rattle.la_set.specs.Counts.{HasCounts};
+ghost use Rattle.la_set.specs.Deltas.{IsOver, AgreesWithin};
 
-use la_set::{Op, Sequence, SetError, Tags, Update, UpdateId, UpdateSet, Updates, laws};
+use la_set::{
+    Counts, Delta, Op, Sequence, SetError, Tags, Update, UpdateId, UpdateSet, Updates, laws,
+};
 use std::alloc::{AllocError, Global};
 use std::cmp::Ordering;
 
@@ -372,4 +377,138 @@ fn beyond_is_exact(set: &UpdateSet, other: &UpdateSet) -> Result<(Updates, Updat
     ensures { IfOk result (λ both. both.0 ≡ both.1) }
 {
     Ok((set.beyond(other)?, set.beyond(other)?))
+}
+
+// ## Counts and deltas
+
+fn zero_is_exact() -> (Counts, Counts)
+    ensures { result.0 ≡ result.1 }
+{
+    (Counts::zero(), Counts::zero())
+}
+
+fn from_numbers_is_exact(numbers: [u32; 8]) -> (Counts, Counts)
+    ensures { result.0 ≡ result.1 }
+{
+    (Counts::from(numbers), Counts::from(numbers))
+}
+
+fn of_is_exact(counts: Counts, replica: u8) -> (u32, u32)
+    ensures { result.0 ≡ result.1 }
+{
+    (counts.of(replica), counts.of(replica))
+}
+
+fn min_is_exact(counts: Counts, other: Counts) -> (Counts, Counts)
+    ensures { result.0 ≡ result.1 }
+{
+    (counts.min(other), counts.min(other))
+}
+
+fn equal_counts_are_one(counts: Counts, other: Counts) -> bool
+    ensures { IsTrue result ↔ (counts ≡ other) }
+{
+    counts == other
+}
+
+fn counts_are_exact(set: &UpdateSet) -> (Counts, Counts)
+    ensures { result.0 ≡ result.1 }
+{
+    (set.counts(), set.counts())
+}
+
+fn has_counts_is_exact(set: &UpdateSet, counts: Counts) -> (bool, bool)
+    ensures { IsTrue result.0 ↔ IsTrue result.1 }
+{
+    (set.has_counts(counts), set.has_counts(counts))
+}
+
+fn delta_new_is_exact(base: Counts, more: Updates, again: Updates) -> (Delta, Delta)
+    requires { more ≡ again }
+    ensures { result.0 ≡ result.1 }
+{
+    (Delta::new(base, more), Delta::new(base, again))
+}
+
+fn over_is_exact(set: &UpdateSet, base: Counts) -> Result<(Delta, Delta), AllocError>
+    requires { HasCounts set.now base }
+    ensures { IfOk result (λ both. both.0 ≡ both.1) }
+{
+    Ok((set.over(base)?, set.over(base)?))
+}
+
+fn base_is_exact(delta: &Delta) -> (Counts, Counts)
+    ensures { result.0 ≡ result.1 }
+{
+    (delta.base(), delta.base())
+}
+
+fn delta_len_is_exact(delta: &Delta) -> (usize, usize)
+    ensures { result.0 ≡ result.1 }
+{
+    (delta.len(), delta.len())
+}
+
+fn delta_at_is_exact(delta: &Delta, place: usize) -> (Option<&Update>, Option<&Update>)
+    ensures { option_copied result.0 ≡ option_copied result.1 }
+{
+    (delta.at(place), delta.at(place))
+}
+
+fn more_is_exact(delta: &Delta) -> Result<(Updates, Updates), AllocError>
+    ensures { IfOk result (λ both. both.0 ≡ both.1) }
+{
+    Ok((delta.more()?, delta.more()?))
+}
+
+fn delta_copies_are_one(delta: &Delta) -> Result<(Delta, Delta), AllocError>
+    ensures { IfOk result (λ both. both.0 ≡ both.1) }
+{
+    Ok((delta.copy()?, delta.copy()?))
+}
+
+fn delta_same_is_exact(delta: &Delta, other: &Delta) -> (bool, bool)
+    ensures { IsTrue result.0 ↔ IsTrue result.1 }
+{
+    (delta.same(other), delta.same(other))
+}
+
+fn with_is_exact(
+    set: &UpdateSet,
+    delta: &Delta,
+) -> (Result<UpdateSet, SetError>, Result<UpdateSet, SetError>)
+    ensures set { IfOk result.0 (λ a. IfOk result.1 (λ b. a ≡ b)) }
+    ensures refusal { IfErr result.0 (λ e. IfErr result.1 (λ f. e ≡ f)) }
+{
+    (set.with(delta), set.with(delta))
+}
+
+fn with_agreeing_is_exact(
+    set: &UpdateSet,
+    delta: &Delta,
+) -> Result<(UpdateSet, UpdateSet), AllocError>
+    requires stands { IsOver set.now delta.now }
+    requires agrees { AgreesWithin set.now delta.now }
+    ensures { IfOk result (λ both. both.0 ≡ both.1) }
+{
+    Ok((set.with_agreeing(delta)?, set.with_agreeing(delta)?))
+}
+
+// A delta of a set stands for it over whatever has the base and clashes with nothing in the set.
+fn a_delta_leads_to_its_set(
+    set: &UpdateSet,
+    other: &UpdateSet,
+    base: Counts,
+) -> Result<UpdateSet, SetError>
+    requires counts { HasCounts set.now base }
+    requires other { HasCounts other.now base }
+    requires compatible { IsCompatible other.now set.now }
+    ensures set { IfOk result (λ rebuilt. rebuilt ≡ set.now) }
+    ensures refusal { IfErr result (λ e. e ≡ Memory) }
+{
+    laws::deltas_rebuild();
+    // a hint to the prover: no number is over the limit
+    let _counts = set.counts();
+    let delta = set.over(base)?;
+    other.with(&delta)
 }
