@@ -1,4 +1,4 @@
-// Runs in which one worker's object refuses memory.
+// Runs in which one worker's object refuses memory, and how many objects are alive.
 use super::helpers::{all_increments, group_of, increment, is_whole, shows, total};
 use la_object::{Answer, Counter, Kind, ObserveError, Query, Replicated, Shelf, State};
 use la_runner::{Jobs, Log, Logs, RunError, Stopped, run};
@@ -6,14 +6,16 @@ use la_set::{Tags, Update};
 use la_shared::FreeGate;
 use std::alloc::{AllocError, Global};
 use std::process::Abort;
-use std::sync::Wait;
+use std::sync::{Arc, Wait};
 use std::thread::Threads;
 
-// An object that is refused memory once it has absorbed so many updates.
+// An object that is refused memory once it has absorbed so many updates, and shares a count of those
+// that are alive.
 #[derive(Drop)]
 struct Refusing<B: Replicated> {
     object: B,
     left: u32,
+    _alive: Arc<()>,
 }
 
 impl<B: Replicated> Replicated for Refusing<B> {
@@ -52,11 +54,21 @@ impl<B: Replicated> Replicated for Refusing<B> {
     }
 }
 
-fn refusing_shelf(rt: &impl Abort, alloc: Global, left: u32) -> Shelf<Refusing<Counter>> {
+fn count(rt: &impl Abort, alloc: Global) -> Arc<()> {
+    Arc::new(alloc, ()).expect(rt, "there is memory")
+}
+
+fn refusing_shelf(
+    rt: &impl Abort,
+    alloc: Global,
+    left: u32,
+    alive: &Arc<()>,
+) -> Shelf<Refusing<Counter>> {
     let mut shelf = Shelf::new(alloc);
     let object = Refusing {
         object: Counter::new(alloc),
         left,
+        _alive: alive.clone().expect(rt, "a count has room"),
     };
     let added = shelf.add(1, object).is_ok();
     assert!(rt; added);
@@ -69,11 +81,12 @@ fn run_refusing<R: Abort + Threads + Wait + Sync>(
     alloc: Global,
     left: u32,
     jobs: Vec<Jobs>,
+    alive: &Arc<()>,
 ) -> Result<Logs<Refusing<Counter>>, RunError> {
     let (group, members) = group_of(rt, alloc, &[1, 1, 1], 3, 3);
     let mut shelves = Vec::new(alloc);
     for most in [u32::MAX, left, u32::MAX] {
-        let pushed = shelves.push(refusing_shelf(rt, alloc, most)).is_ok();
+        let pushed = shelves.push(refusing_shelf(rt, alloc, most, alive)).is_ok();
         assert!(rt; pushed);
     }
     run(
@@ -106,9 +119,10 @@ fn is_alone_refused(logs: &Logs<Refusing<Counter>>, each: u32, entries: usize, s
 #[test]
 fn a_refused_absorption_stops_its_worker_alone(rt: HostRuntime) {
     let alloc = rt.alloc();
+    let alive = count(&rt, alloc);
     for left in 0..9u32 {
         let jobs = all_increments(&rt, alloc, 3, 3);
-        let logs = run_refusing(&rt, alloc, left, jobs).expect(&rt, "it runs");
+        let logs = run_refusing(&rt, alloc, left, jobs, &alive).expect(&rt, "it runs");
         assert!(rt; is_alone_refused(&logs, 3, 3, i64::from(left)));
     }
 }
@@ -129,6 +143,26 @@ fn all_ask(rt: &impl Abort, alloc: Global) -> Vec<Jobs> {
 #[test]
 fn a_refused_absorption_answers_no_question(rt: HostRuntime) {
     let jobs = all_ask(&rt, rt.alloc());
-    let logs = run_refusing(&rt, rt.alloc(), 0, jobs).expect(&rt, "it runs");
+    let alive = count(&rt, rt.alloc());
+    let logs = run_refusing(&rt, rt.alloc(), 0, jobs, &alive).expect(&rt, "it runs");
     assert!(rt; is_alone_refused(&logs, 1, 1, 0));
+}
+
+// A run that stops its second worker leaves three objects alive, in its logs.
+fn stops_one<R: Abort + Threads + Wait + Sync>(rt: &R, alloc: Global, alive: &Arc<()>) {
+    let jobs = all_increments(rt, alloc, 3, 3);
+    let logs = run_refusing(rt, alloc, 1, jobs, alive).expect(rt, "it runs");
+    assert!(rt; is_alone_refused(&logs, 3, 3, 1) && Arc::strong_count(alive) == 4);
+}
+
+// Each is dropped once: with the logs, or where a run is refused that has jobs for two alone.
+#[test]
+fn objects_are_dropped_once(rt: HostRuntime) {
+    let alloc = rt.alloc();
+    let alive = count(&rt, alloc);
+    stops_one(&rt, alloc, &alive);
+    assert!(rt; Arc::strong_count(&alive) == 1);
+    let jobs = all_increments(&rt, alloc, 2, 3);
+    let refused = run_refusing(&rt, alloc, 1, jobs, &alive).is_err();
+    assert!(rt; refused && Arc::strong_count(&alive) == 1);
 }
