@@ -1,0 +1,32 @@
+-- A number that goes up and down, by lines of text.
+use Rattle.std.specs.Prelude.{◌≡◌, ℕ, suc, zero, ◌+◌, List, [], ◌∷◌, Option, Some, None, if◌then◌else◌, ◌==◌, refl}
+use Rattle.std.proofs.Common.{arith}
+use Rattle.la_journal.specs.Lines.{IsClean}
+use Rattle.checks_journal.specs.declared.tally.Move.{Move}
+use Rattle.checks_journal.specs.declared.tally.Move.TheVariants.{Up, Down}
+
+abbrev pub largest : ℕ
+largest = 18446744073709551615
+
+-- no move above the largest, and none below 0
+abbrev pub moved : ℕ → Move → Option ℕ
+moved n Up = if n == largest then None else Some (n + 1)
+moved zero Down = None
+moved (suc n) Down = Some n
+
+abbrev pub text : Move → List ℕ
+text Up = 117 ∷ []
+text Down = 100 ∷ []
+
+abbrev pub named : List ℕ → Option Move
+named [] = None
+named (b ∷ []) = if b == 117 then Some Up else (if b == 100 then Some Down else None)
+named (b ∷ c ∷ bytes) = None
+
+pub round_trip : (m : Move) → named (text m) ≡ Some m
+round_trip Up = refl
+round_trip Down = refl
+
+pub clean : (m : Move) → IsClean (text m)
+clean Up = (omega arith, omega arith, tt)
+clean Down = (omega arith, omega arith, tt)

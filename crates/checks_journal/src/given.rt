@@ -1,0 +1,50 @@
+// Journals as text, and what a start on them comes to.
+use crate::Tally;
+use la_journal::{Disk, MemoryDisk, Unplayed, recover};
+use std::alloc::Global;
+use std::process::Abort;
+
+/// Stops a test that has found this to be false.
+pub fn holds(rt: &impl Abort, what: &str, found: bool) {
+    assert!(rt; found, "{what}");
+}
+
+/// A disk that has this text.
+pub fn disk_of(rt: &impl Abort, alloc: Global, text: &str) -> MemoryDisk {
+    let Ok(bytes) = text.as_bytes().to_vec(alloc) else {
+        panic!(rt; "out of memory");
+    };
+    MemoryDisk::new(alloc, bytes)
+}
+
+/// What a start comes to.
+#[derive(Clone, Copy, Debug, PartialEq, Eq)]
+pub enum Start {
+    /// A tally at this number.
+    At(u64),
+    /// The line at this byte is no call.
+    NoCall(usize),
+    /// The line at this byte is refused.
+    Refused(usize),
+    /// A line stands behind a 0 after the lines that end at this byte.
+    Damaged(usize),
+    /// There is no memory, or the disk failed.
+    Failed,
+}
+
+/// Starts on a disk.
+pub fn started<D: Disk>(alloc: Global, disk: D) -> Start {
+    match recover(alloc, Tally { total: 0 }, disk) {
+        Ok(node) => Start::At(node.machine.total),
+        Err((why, _)) => refusal(why),
+    }
+}
+
+fn refusal<R: Drop>(why: Unplayed<R>) -> Start {
+    match why {
+        Unplayed::NoCall(place) => Start::NoCall(place),
+        Unplayed::Refused(place, _) => Start::Refused(place),
+        Unplayed::Damaged(place) => Start::Damaged(place),
+        Unplayed::Memory | Unplayed::Disk => Start::Failed,
+    }
+}

@@ -1,0 +1,14 @@
+//! A small machine on a journal, and tests of what no contract says of journals.
+#![tactic(auto)]
+
+#[cfg(test)]
+mod crashes;
+#[cfg(test)]
+mod folders;
+#[cfg(test)]
+mod given;
+mod kept;
+mod tally;
+
+pub use kept::counted_in;
+pub use tally::{Move, MoveError, Stopped, Tally, counted};

@@ -1,0 +1,9 @@
+mod Goes
+mod TornLines
+mod Groups
+mod Moments
+mod Reserved
+mod StepsMore
+mod Takes
+mod Torn
+mod Whole

@@ -1,0 +1,8 @@
+use Rattle.std.proofs.Common.{rules}
+use Rattle.la_journal.proofs.Torn.{front_of}
+use Rattle.la_journal.proofs.memory_disk.MemoryDiskDisk.append.Goals as goal
+
+pub returns-then-free-bytes-clause-crash : goal.returns-then-free-bytes-clause-crash
+returns-then-free-bytes-clause-crash c f left =
+    let was = c.append.ensures.crash f (c.fail.ensures.crash f left) in
+    (was.0, was.1, front_of _ c.args.bytes.now was.0 f was.2)

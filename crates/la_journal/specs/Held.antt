@@ -1,0 +1,33 @@
+-- What is known of a file, as a disk sees it: each by the bytes, by how many of them are on the disk,
+-- and by what is noted of the past.
+use Rattle.std.specs.Prelude.{ℕ, ◌-◌, List, length, vec_len, vec_capacity, ◌⊎◌}
+use Rattle.la_journal.specs.declared.contents.Contents.{Contents}
+use Rattle.la_journal.specs.Outcomes.{LeftOf, LeftSince, only_left}
+
+abbrev pub bytes_of : Contents → List ℕ
+bytes_of contents = contents.bytes.items
+
+-- so many of the bytes are on the disk
+abbrev pub kept_of : Contents → ℕ
+kept_of contents = contents.kept
+
+-- so many bytes more take no memory
+abbrev pub room_of : Contents → ℕ
+room_of contents = vec_capacity contents.bytes - vec_len contents.bytes
+
+-- how often the disk has failed
+abbrev pub faults_of : Contents → ℕ
+faults_of contents = length contents.failures.events
+
+abbrev pub moment_of : Contents → ℕ
+moment_of contents = length contents.past.events
+
+abbrev pub may_leave_of : Contents → List ℕ → Type 0
+may_leave_of contents c = LeftOf contents.kept contents.bytes.items c
+
+abbrev pub left_since_of : Contents → ℕ → List ℕ → Type 0
+left_since_of contents t c = LeftSince contents.past.events contents.kept contents.bytes.items t c
+
+-- since this moment there is no other
+pub only_now_of : (contents : Contents) (c : List ℕ) → left_since_of contents (moment_of contents) c → may_leave_of contents c
+only_now_of contents c left = only_left contents.past.events contents.kept contents.bytes.items c left

@@ -1,0 +1,112 @@
+// What becomes of the contents of a file.
+ghost use Rattle.std.specs.Prelude.{◌≡◌, ◌++◌, ◌+◌, ◌≤◌, [], List, ℕ, length, vec_len, OnOk};
+ghost use Rattle.la_journal.specs.Disk.{Only, Follows, Torn, Elapses};
+ghost use Rattle.la_journal.specs.Held.{bytes_of, kept_of, room_of, faults_of, moment_of, may_leave_of, left_since_of};
+
+use crate::Contents;
+use crate::record::Record;
+use std::alloc::{AllocError, Global};
+
+impl Contents {
+    /// A file that holds these bytes. How many of them are on the disk is not known.
+    pub fn found(bytes: Vec<u8>) -> Contents
+        ensures { bytes_of result ≡ bytes.items }
+    {
+        Contents {
+            bytes,
+            kept: 0,
+            past: Record::new(),
+            failures: Record::new(),
+        }
+    }
+
+    /// A file that holds these bytes, all of them on the disk.
+    pub fn stored(bytes: Vec<u8>) -> Contents
+        ensures bytes { bytes_of result ≡ bytes.items }
+        ensures kept { kept_of result ≡ length bytes.items }
+    {
+        let kept = bytes.len();
+        Contents {
+            bytes,
+            kept,
+            past: Record::new(),
+            failures: Record::new(),
+        }
+    }
+
+    /// The bytes that a read returns.
+    pub fn bytes(&self) -> &[u8]
+        ensures { result.now ≡ bytes_of self.now }
+    {
+        self.bytes.as_slice()
+    }
+
+    /// How many of the bytes are on the disk, the first ones.
+    pub fn kept(&self) -> usize
+        ensures value { result ≡ kept_of self.now }
+        ensures within { result ≤ length (bytes_of self.now) }
+    {
+        self.kept
+    }
+
+    /// Takes memory for so many bytes more.
+    pub fn reserve(&mut self, more: usize) -> Result<(), AllocError>
+        ensures ok { OnOk result (more ≤ room_of self.new) }
+        ensures bytes { bytes_of self.new ≡ bytes_of self.old }
+        ensures crash { (c : List ℕ) → may_leave_of self.new c → may_leave_of self.old c }
+        ensures time { Elapses (moment_of self.old) (moment_of self.new) (left_since_of self.old) (left_since_of self.new) (may_leave_of self.new) }
+        ensures faults { faults_of self.new ≡ faults_of self.old }
+    {
+        self.bytes.reserve(more)
+    }
+
+    /// Bytes were put behind the others, or some of them were: none of them is on the disk for sure.
+    pub fn append(&mut self, bytes: &[u8])
+        requires { length bytes.now ≤ room_of self.old }
+        ensures bytes { bytes_of self.new ≡ bytes_of self.old ++ bytes.now }
+        ensures kept { kept_of self.new ≡ kept_of self.old }
+        ensures crash { Follows (Torn bytes.now) (may_leave_of self.old) (may_leave_of self.new) }
+        ensures time { Elapses (moment_of self.old) (moment_of self.new) (left_since_of self.old) (left_since_of self.new) (may_leave_of self.new) }
+        ensures faults { faults_of self.new ≡ faults_of self.old }
+    {
+        self.past.note(&[self.kept as u64], &self.bytes);
+        let _there_is_room = self.bytes.extend_from_slice(bytes);
+    }
+
+    /// All the bytes are on the disk.
+    pub fn sync(&mut self)
+        ensures bytes { bytes_of self.new ≡ bytes_of self.old }
+        ensures kept { kept_of self.new ≡ length (bytes_of self.old) }
+        ensures durable { Only (bytes_of self.old) (may_leave_of self.new) }
+        ensures crash { (c : List ℕ) → may_leave_of self.new c → may_leave_of self.old c }
+        ensures time { Elapses (moment_of self.old) (moment_of self.new) (left_since_of self.old) (left_since_of self.new) (may_leave_of self.new) }
+        ensures faults { faults_of self.new ≡ faults_of self.old }
+    {
+        self.past.note(&[self.kept as u64], &self.bytes);
+        self.kept = self.bytes.len();
+    }
+
+    /// Other bytes stand in the place of these, all of them on the disk.
+    pub fn replace(&mut self, bytes: Vec<u8>)
+        ensures bytes { bytes_of self.new ≡ bytes.items }
+        ensures kept { kept_of self.new ≡ length bytes.items }
+        ensures durable { Only bytes.items (may_leave_of self.new) }
+        ensures time { Elapses (moment_of self.old) (moment_of self.new) (left_since_of self.old) (left_since_of self.new) (may_leave_of self.new) }
+        ensures faults { faults_of self.new ≡ faults_of self.old }
+    {
+        self.past.note(&[self.kept as u64], &self.bytes);
+        self.kept = bytes.len();
+        self.bytes = bytes;
+    }
+
+    /// The disk failed once more.
+    pub fn fail(&mut self)
+        ensures bytes { bytes_of self.new ≡ bytes_of self.old }
+        ensures kept { kept_of self.new ≡ kept_of self.old }
+        ensures crash { (c : List ℕ) → may_leave_of self.new c → may_leave_of self.old c }
+        ensures time { Elapses (moment_of self.old) (moment_of self.new) (left_since_of self.old) (left_since_of self.new) (may_leave_of self.new) }
+        ensures faults { faults_of self.new ≡ faults_of self.old + 1 }
+    {
+        self.failures.note(&[], &[]);
+    }
+}

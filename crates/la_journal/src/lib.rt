@@ -1,0 +1,29 @@
+//! A machine that keeps its state over a crash: the line of each call is on the disk before the call
+//! is answered.
+//!
+//! A [`Machine`] changes by calls alone, each of which is a line of text. [`Durable`] puts the line of
+//! each call behind a [`Disk`]'s file, and [`recover`] plays these lines, from the first one on.
+//!
+//! `specs/` has the definitions: `Lines` (what a file stands for), `Machine` (what lines lead to),
+//! `Disk` (what a crash may leave), `Durable` (when a machine stands on its journal, and why a call
+//! is refused), `Outcomes` (what was written of a file's [`Contents`]), `Starts`; [`laws`] has what
+//! holds over a crash and a new start.
+#![tactic(auto)]
+
+mod contents;
+mod disk;
+mod durable;
+mod group;
+mod holding;
+pub mod laws;
+mod machine;
+mod memory_disk;
+mod record;
+mod recovery;
+
+pub use contents::Contents;
+pub use disk::{Disk, DiskError, DiskFault};
+pub use durable::{Durable, Refused};
+pub use machine::Machine;
+pub use memory_disk::MemoryDisk;
+pub use recovery::{Unplayed, recover};

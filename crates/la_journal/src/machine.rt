@@ -1,0 +1,64 @@
+// A machine that changes by calls alone, each of which is a line of text.
+ghost use Rattle.std.specs.Prelude.{◌≡◌, ◌⊎◌, ◌++◌, List, ℕ, Option, Some, None, IfOk, IfErr, OnOk, OnErr};
+ghost use Rattle.la_journal.specs.Lines.{IsClean};
+ghost use Rattle.la_journal.specs.Machine.{IsNamed};
+
+use std::alloc::{AllocError, Global};
+
+pub trait Machine: Drop {
+    /// What it is given.
+    type Input: Drop;
+    /// What a call answers.
+    type Output: Drop;
+    /// Why it takes no step, want of memory among it.
+    type Refusal: Drop;
+
+    /// What it keeps.
+    ghost State: { Type 0 };
+
+    ghost state: { Self → State };
+
+    /// What an input asks.
+    ghost Call: { Type 0 };
+
+    ghost call: { Self.Input → Call };
+
+    /// One step; none where the call is refused.
+    ghost step: { State → Call → Option State };
+
+    /// What a call answers, by the state before it.
+    ghost Answer: { Type 0 };
+
+    ghost answer: { Self.Output → Answer };
+
+    ghost answers: { State → Call → Answer };
+
+    /// A call as a line, and what a line asks.
+    ghost text: { Call → List ℕ };
+
+    ghost named: { List ℕ → Option Call };
+
+    /// Whether a refusal is for want of memory.
+    ghost lacks_memory: { Self.Refusal → Type 0 };
+
+    /// Takes a step, or is as before: where there is memory, it is refused exactly where there is no step.
+    fn apply(&mut self, input: &Self::Input) -> Result<Self::Output, Self::Refusal>
+        ensures step { OnOk result (step (state self.old) (call input.now) ≡ Some (state self.new)) }
+        ensures answer { IfOk result (λ output. answer output ≡ answers (state self.old) (call input.now)) }
+        ensures refusal { IfErr result (λ refusal. lacks_memory refusal ⊎ (step (state self.old) (call input.now) ≡ None)) }
+        ensures err { OnErr result (state self.new ≡ state self.old) };
+
+    /// The input's line, without the line's end.
+    fn write(alloc: Global, input: &Self::Input) -> Result<Vec<u8>, AllocError>
+        ensures { IfOk result (λ line. line.items ≡ text (call input.now)) };
+
+    /// What a line asks; `None` where it asks nothing.
+    fn read(alloc: Global, line: &[u8]) -> Result<Option<Self::Input>, AllocError>
+        ensures { IfOk result (λ read. IsNamed call (named line.now) read) };
+
+    /// What was written is read back.
+    ghost round_trip: { (c : Call) → named (text c) ≡ Some c };
+
+    /// A line has no line's end within, and no 0.
+    ghost clean: { (c : Call) → IsClean (text c) };
+}

@@ -1,0 +1,141 @@
+// A journal played from its first line on.
+ghost use Rattle.std.specs.Prelude.{◌≡◌, ◌++◌, ◌∷◌, [], ◌+◌, ◌-◌, ◌<◌, ◌≤◌, ◌↔◌, false, Some, None, length, take, drop, Contains, IfOk, IfErr, OnOk, IfSome, IsTrue};
+ghost use Rattle.la_journal.specs.declared.disk.DiskError.TheVariants.{Memory, Failed};
+ghost use Rattle.la_journal.specs.declared.recovery.Unplayed.TheVariants.{Memory as UnplayedMemory, Disk as UnplayedDisk};
+ghost use Rattle.la_journal.specs.Disk.{LeavesOnly};
+ghost use Rattle.la_journal.specs.Lines.{lines, file_of, IsDamaged};
+ghost use Rattle.la_journal.specs.Machine.{after};
+ghost use Rattle.la_journal.specs.Durable.{IsSettled, IsSameOr, IsCauseOf};
+
+use crate::{Disk, DiskError, Durable, Machine};
+use std::alloc::Global;
+
+/// Why a journal was not played. The file is as it was, or a file of the same lines. Places are
+/// those of bytes.
+#[derive(Debug, Drop)]
+pub enum Unplayed<R> {
+    /// A growth was refused.
+    Memory,
+
+    /// The disk failed.
+    Disk,
+
+    /// The line that begins here is no call.
+    NoCall(usize),
+
+    /// The machine refused the line that begins here.
+    Refused(usize, R),
+
+    /// Behind the whole lines, which end here, a line stands behind a byte that is 0.
+    Damaged(usize),
+}
+
+/// Plays a journal that a crash may have left, on a machine as it was before the first line, and cuts
+/// what it left of a last line. It may crash too. It writes the whole lines anew, so that what was
+/// played is on the disk: linear in the journal. After a refusal the disk comes back.
+pub fn recover<M: Machine, D: Disk>(
+    alloc: Global,
+    start: M,
+    disk: D,
+) -> Result<Durable<M, D>, (Unplayed<M::Refusal>, D)>
+    ensures state { IfOk result (λ durable. after M.named M.step (lines (D.seen disk)) (M.state start) ≡ Some (M.state durable.machine)) }
+    ensures settled { IfOk result (λ durable. (durable.closed ≡ false) × IsSettled D.seen D.may_leave durable.disk) }
+    ensures same { IfOk result (λ durable. lines (D.seen durable.disk) ≡ lines (D.seen disk)) }
+    ensures sound { IfOk result (λ _. ¬ IsDamaged (D.seen disk)) }
+
+    // A crash at any moment leaves what might have been left before, or a file of the same lines.
+    ensures any_moment { IfOk result (λ durable. LeavesOnly D.moment D.left_since disk durable.disk
+        (IsSameOr (D.may_leave disk) (lines (D.seen disk)))) }
+    ensures any_moment_err { IfErr result (λ e. LeavesOnly D.moment D.left_since disk e.1
+        (IsSameOr (D.may_leave disk) (lines (D.seen disk)))) }
+
+    ensures cause { IfErr result (λ e. IsCauseOf M.lacks_memory (D.faults disk) (D.faults e.1) (D.seen disk)
+        (after M.named M.step (lines (D.seen disk)) (M.state start)) e.0) }
+{
+    let mut machine = start;
+    let mut disk = disk;
+    let bytes = match disk.read(alloc) {
+        Ok(bytes) => bytes,
+        Err(why) => return Err((by_disk(why), disk)),
+    };
+    let end = match play(alloc, &mut machine, &bytes) {
+        Ok(end) => end,
+        Err(why) => return Err((why, disk)),
+    };
+    if ends_within(&bytes[end..]) {
+        return Err((Unplayed::Damaged(end), disk));
+    }
+    match disk.replace(&bytes[..end]) {
+        Ok(()) => Ok(Durable {
+            machine,
+            disk,
+            closed: false,
+        }),
+        Err(why) => Err((by_disk(why), disk)),
+    }
+}
+
+/// A disk's error as a refusal.
+fn by_disk<R>(why: DiskError) -> Unplayed<R>
+    ensures memory { why ≡ Memory → result ≡ UnplayedMemory }
+    ensures failed { why ≡ Failed → result ≡ UnplayedDisk }
+{
+    match why {
+        DiskError::Memory => Unplayed::Memory,
+        DiskError::Failed => Unplayed::Disk,
+    }
+}
+
+/// Whether a line's end stands before the last byte.
+fn ends_within(tail: &[u8]) -> bool
+    ensures { IsTrue result ↔ Contains (take (length tail.now - 1) tail.now) 10 }
+{
+    match tail.split_last() {
+        Some((_, front)) => front.contains(&b'\n'),
+        None => false,
+    }
+}
+
+/// Plays the whole lines, and answers how many bytes they are.
+fn play<M: Machine>(
+    alloc: Global,
+    machine: &mut M,
+    bytes: &[u8],
+) -> Result<usize, Unplayed<M::Refusal>>
+    ensures state { OnOk result (after M.named M.step (lines bytes.now) (M.state machine.old) ≡ Some (M.state machine.new)) }
+    ensures end { IfOk result (λ end. (end ≤ length bytes.now) × (end ≡ length (file_of (lines bytes.now)))) }
+    ensures cause { IfErr result (IsCauseOf M.lacks_memory 0 0 [] (after M.named M.step (lines bytes.now) (M.state machine.old))) }
+{
+    let mut rest = bytes;
+    while let Some(n) = first_end(rest) {
+        let Ok(read) = M::read(alloc, &rest[..n]) else {
+            return Err(Unplayed::Memory);
+        };
+        let Some(input) = read else {
+            return Err(Unplayed::NoCall(bytes.len() - rest.len()));
+        };
+        if let Err(refusal) = machine.apply(&input) {
+            return Err(Unplayed::Refused(bytes.len() - rest.len(), refusal));
+        }
+        rest = &rest[n + 1..];
+    }
+    Ok(bytes.len() - rest.len())
+}
+
+/// Where the first line ends; `None` where no whole line is first.
+pub(crate) fn first_end(bytes: &[u8]) -> Option<usize>
+    ensures within { IfSome result (λ n. n < length bytes.now) }
+    ensures split { IfSome result (λ n. bytes.now ≡ take n bytes.now ++ 10 ∷ drop (n + 1) bytes.now) }
+    ensures line { IfSome result (λ n. lines bytes.now ≡ take n bytes.now ∷ lines (drop (n + 1) bytes.now)) }
+    ensures none { result ≡ None → lines bytes.now ≡ [] }
+{
+    for n in 0..bytes.len() {
+        if bytes[n] == b'\n' {
+            return Some(n);
+        }
+        if bytes[n] == 0 {
+            return None;
+        }
+    }
+    None
+}

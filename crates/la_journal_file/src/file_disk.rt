@@ -1,0 +1,122 @@
+// A real file as a disk.
+ghost use Rattle.std.specs.Prelude.{◌≡◌};
+ghost use Rattle.std.proofs.Common.{inl};
+ghost use Rattle.la_journal.specs.Held.{bytes_of, room_of, faults_of, moment_of, may_leave_of, left_since_of, only_now_of};
+
+use crate::FolderLock;
+use crate::folder_lock::path_of;
+use la_journal::{Contents, Disk, DiskError, DiskFault};
+use std::alloc::{AllocError, Global};
+use std::fs::{OpenFile, OpenOptions};
+use std::io::{self, Read, Write};
+use std::rt::Files;
+
+/// The journal of a folder. It holds in memory what the file held and what was put behind it since.
+///
+/// That the file does what this notes is trusted, and is nothing that a contract says.
+#[derive(Drop)]
+pub struct FileDisk<R: Files + Drop> {
+    rt: R,
+    alloc: Global,
+    file: R::File,
+    contents: Contents,
+    path: String,
+    next: String,
+    lock: FolderLock,
+}
+
+impl<R: Files + Drop> FileDisk<R> {
+    /// Reads the journal of a folder that this process has, and makes one where there is none. What it
+    /// read need not be on the disk: [`recover`](la_journal::recover) puts it there. Linear in the
+    /// journal.
+    pub fn open(rt: R, alloc: Global, lock: FolderLock) -> io::Result<FileDisk<R>> {
+        let path = path_of(alloc, lock.folder(), "/journal")?;
+        let mut file = OpenOptions::new()
+            .read(true)
+            .append(true)
+            .create(true)
+            .open(&rt, path.as_str())?;
+        let next = path_of(alloc, lock.folder(), "/journal.new")?;
+        let mut bytes = Vec::new(alloc);
+        file.read_to_end(&mut bytes)?;
+        Ok(FileDisk {
+            rt,
+            alloc,
+            file,
+            contents: Contents::found(bytes),
+            path,
+            next,
+            lock,
+        })
+    }
+
+    // Writes the bytes into a new file, and puts that in the journal's place.
+    fn put(&mut self, bytes: &[u8]) -> io::Result<()>
+        ensures { self.new.contents ≡ self.old.contents }
+    {
+        let mut file = OpenOptions::new()
+            .write(true)
+            .truncate(true)
+            .create(true)
+            .open(&self.rt, self.next.as_str())?;
+        file.write_all(bytes)?;
+        file.sync_all()?;
+        std::fs::rename(&self.rt, self.next.as_str(), self.path.as_str())?;
+        self.file = file;
+        std::fs::open(&self.rt, self.lock.folder())?.sync_all()
+    }
+}
+
+impl<R: Files + Drop> Disk for FileDisk<R> {
+    ghost seen = { λ d. bytes_of d.contents };
+
+    ghost may_leave = { λ d c. may_leave_of d.contents c };
+
+    ghost moment = { λ d. moment_of d.contents };
+
+    ghost left_since = { λ d t c. left_since_of d.contents t c };
+
+    ghost faults = { λ d. faults_of d.contents };
+
+    ghost room = { λ d. room_of d.contents };
+
+    ghost counts_now = { λ _ _ _ _ now. inl now };
+
+    ghost only_now = { λ d c left. only_now_of d.contents c left };
+
+    fn read(&mut self, alloc: Global) -> Result<Vec<u8>, DiskError> {
+        Ok(self.contents.bytes().to_vec(alloc)?)
+    }
+
+    fn reserve(&mut self, more: usize) -> Result<(), AllocError> {
+        self.contents.reserve(more)
+    }
+
+    fn append(&mut self, bytes: &[u8]) -> Result<(), DiskFault> {
+        self.contents.append(bytes);
+        if self.file.write_all(bytes).is_err() {
+            self.contents.fail();
+            return Err(DiskFault);
+        }
+        Ok(())
+    }
+
+    fn sync(&mut self) -> Result<(), DiskFault> {
+        if self.file.sync_data().is_err() {
+            self.contents.fail();
+            return Err(DiskFault);
+        }
+        self.contents.sync();
+        Ok(())
+    }
+
+    fn replace(&mut self, bytes: &[u8]) -> Result<(), DiskError> {
+        let copy = bytes.to_vec(self.alloc)?;
+        if self.put(bytes).is_err() {
+            self.contents.fail();
+            return Err(DiskError::Failed);
+        }
+        self.contents.replace(copy);
+        Ok(())
+    }
+}

@@ -1,0 +1,11 @@
+//! A journal in a folder of the operating system, as a [`Disk`](la_journal::Disk).
+//!
+//! A folder has the file `journal`, whole lines of text; `journal.new`, which a recovery writes and puts
+//! in its place; and `lock`, which one process holds at a time.
+#![tactic(auto)]
+
+mod file_disk;
+mod folder_lock;
+
+pub use file_disk::FileDisk;
+pub use folder_lock::FolderLock;
