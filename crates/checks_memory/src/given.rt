@@ -1,0 +1,151 @@
+// What came of a call whose memory may be refused, and updates from tables.
+use la_set::{Op, Tags, Update, UpdateId, UpdateSet};
+use std::alloc::Global;
+use std::process::Abort;
+
+/// Whether a call answered as it is stored, and all is as it must be then; `None` where memory was refused and
+/// what it was called on stands.
+pub type Came = Option<bool>;
+
+/// What came of a call that was refused, where all stands or does not.
+pub fn refused(stands: bool) -> Came {
+    if stands { None } else { Some(false) }
+}
+
+/// Whether a call that was made again ends well: it may be refused again only where there is no memory.
+pub fn ends(alloc: Global, came: Came) -> bool {
+    match came {
+        Some(well) => well,
+        None => Box::new(alloc, 0u8).is_err(),
+    }
+}
+
+/// Stops a test whose scenes did not end well.
+pub fn holds(rt: &impl Abort, found: bool) {
+    assert!(rt; found, "a scene");
+}
+
+/// What an update of a table does.
+#[derive(Clone, Copy)]
+pub enum Does {
+    Inc(u32),
+    Put(u64),
+    /// Removes the tags 7.1 to this number of them: more than two take memory.
+    Remove(u32),
+    Vote(u64),
+}
+
+/// The object, the replica, the number, and what is done.
+pub type Row = (u16, u8, u32, Does);
+
+pub fn id(replica: u8, number: u32) -> UpdateId {
+    UpdateId { replica, number }
+}
+
+/// The tags 7.1 to this number of them.
+pub fn tags_of(alloc: Global, count: u32) -> Option<Tags> {
+    let mut tags = Tags::new(alloc);
+    for below in 0..count {
+        tags.push(id(7, count - below)).ok()?;
+    }
+    Some(tags)
+}
+
+pub fn op_of(alloc: Global, does: Does) -> Option<Op> {
+    Some(match does {
+        Does::Inc(by) => Op::Inc(by),
+        Does::Put(element) => Op::Put(element),
+        Does::Remove(count) => Op::Remove(tags_of(alloc, count)?),
+        Does::Vote(value) => Op::Vote { value, sole: false },
+    })
+}
+
+pub fn update_of(alloc: Global, row: &Row) -> Option<Update> {
+    let (object, replica, number, does) = *row;
+    Some(Update {
+        id: id(replica, number),
+        object,
+        op: op_of(alloc, does)?,
+    })
+}
+
+fn pushes(alloc: Global, set: &mut UpdateSet, row: &Row) -> bool {
+    match update_of(alloc, row) {
+        Some(update) => set.push(update).is_ok(),
+        None => false,
+    }
+}
+
+fn fills(alloc: Global, set: &mut UpdateSet, rows: &[Row]) -> bool {
+    for row in rows {
+        if !pushes(alloc, set, row) && !pushes(alloc, set, row) {
+            return false;
+        }
+    }
+    true
+}
+
+/// The set of these updates.
+pub fn set_of(alloc: Global, rows: &[Row]) -> Option<UpdateSet> {
+    let mut set = UpdateSet::new(alloc);
+    if fills(alloc, &mut set, rows) {
+        Some(set)
+    } else {
+        None
+    }
+}
+
+/// Whether these are the tags 7.1 to this number of them.
+pub fn are_tags(tags: &Tags, count: u32) -> bool {
+    for number in 1..=count {
+        if !tags.has(id(7, number)) {
+            return false;
+        }
+    }
+    tags.len() == count as usize
+}
+
+pub fn is_done(op: &Op, does: Does) -> bool {
+    match (op, does) {
+        (Op::Inc(it), Does::Inc(by)) => *it == by,
+        (Op::Put(it), Does::Put(element)) => *it == element,
+        (Op::Remove(it), Does::Remove(count)) => are_tags(it, count),
+        (Op::Vote { value, sole }, Does::Vote(it)) => *value == it && !*sole,
+        _ => false,
+    }
+}
+
+pub fn is_row(update: &Update, row: &Row) -> bool {
+    let (object, replica, number, does) = *row;
+    update.id == id(replica, number) && update.object == object && is_done(&update.op, does)
+}
+
+/// Whether a list has these updates, in their order.
+pub fn are_rows(updates: &[Update], rows: &[Row]) -> bool {
+    if updates.len() != rows.len() {
+        return false;
+    }
+    for (update, row) in updates.iter().zip(rows) {
+        if !is_row(update, row) {
+            return false;
+        }
+    }
+    true
+}
+
+fn has_at(set: &UpdateSet, place: usize, row: &Row) -> bool {
+    match set.at(place) {
+        Some(update) => is_row(update, row),
+        None => false,
+    }
+}
+
+/// Whether a set has these updates, in their order, and no others.
+pub fn is_of(set: &UpdateSet, rows: &[Row]) -> bool {
+    for (place, row) in rows.iter().enumerate() {
+        if !has_at(set, place, row) {
+            return false;
+        }
+    }
+    set.len() == rows.len()
+}
