@@ -12,17 +12,31 @@ pub fn refused(stands: bool) -> Came {
     if stands { None } else { Some(false) }
 }
 
-/// Whether a call that was made again ends well: it may be refused again only where there is no memory.
-pub fn ends(alloc: Global, came: Came) -> bool {
-    match came {
-        Some(well) => well,
-        None => Box::new(alloc, 0u8).is_err(),
+/// Makes a call, and once more where memory was refused: what came of it then, `None` where there is no memory.
+macro_rules! again {
+    ($alloc:expr, $call:expr) => {
+        match $call {
+            Some(well) => Some(well),
+            None => $crate::given::second($alloc, $call),
+        }
+    };
+}
+
+pub(crate) use again;
+
+/// What comes of a call that was made again, where this came: it may be refused again only where there is no
+/// memory.
+pub fn second(alloc: Global, came: Came) -> Came {
+    if came.is_none() && Box::new(alloc, 0u8).is_ok() {
+        Some(false)
+    } else {
+        came
     }
 }
 
 /// Stops a test whose scenes did not end well.
-pub fn holds(rt: &impl Abort, found: bool) {
-    assert!(rt; found, "a scene");
+pub fn holds(rt: &impl Abort, came: Came) {
+    assert!(rt; came != Some(false), "a scene");
 }
 
 /// What an update of a table does.

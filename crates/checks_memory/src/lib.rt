@@ -3,6 +3,18 @@
 #![tactic(auto)]
 
 #[cfg(test)]
+mod acceptors;
+#[cfg(test)]
+mod counted;
+#[cfg(test)]
 mod given;
+#[cfg(test)]
+mod objects;
+#[cfg(test)]
+mod orsets;
+#[cfg(test)]
+mod proposers;
+#[cfg(test)]
+mod replicas;
 #[cfg(test)]
 mod sets;

@@ -1,15 +1,15 @@
-// la_set: sets, deltas, tags, lists and copies.
+// la_set: sets, deltas, lists and tags.
 use crate::given::{
-    Came, Does, Row, are_rows, are_tags, ends, holds, id, is_done, is_of, is_row, refused, set_of,
-    tags_of, update_of,
+    Came, Does, Row, again, are_rows, are_tags, holds, id, is_of, is_row, refused, set_of, tags_of,
+    update_of,
 };
-use la_set::{Counts, Delta, SetError, Tags, Update, UpdateSet, Updates};
-use std::alloc::Global;
+use la_set::{Counts, Delta, Op, SetError, Tags, Update, UpdateSet, Updates};
+use std::alloc::{AllocError, Global};
 
 const FIRST: &[Row] = &[
     (1, 0, 1, Does::Inc(5)),
     (1, 2, 1, Does::Remove(5)),
-    (1, 2, 2, Does::Put(4)),
+    (1, 2, 2, Does::Remove(6)),
 ];
 
 const OTHER: &[Row] = &[
@@ -22,55 +22,61 @@ const BOTH: &[Row] = &[
     (1, 0, 1, Does::Inc(5)),
     (1, 0, 2, Does::Remove(4)),
     (1, 2, 1, Does::Remove(5)),
-    (1, 2, 2, Does::Put(4)),
+    (1, 2, 2, Does::Remove(6)),
     (1, 5, 1, Does::Remove(3)),
 ];
 
-const NEXT: Row = (1, 2, 3, Does::Remove(6));
+const NEXT: Row = (1, 2, 3, Does::Put(9));
 
 const PUSHED: &[Row] = &[
     (1, 0, 1, Does::Inc(5)),
     (1, 2, 1, Does::Remove(5)),
-    (1, 2, 2, Does::Put(4)),
-    (1, 2, 3, Does::Remove(6)),
+    (1, 2, 2, Does::Remove(6)),
+    NEXT,
 ];
 
 const CUT: &[Row] = &[(1, 0, 1, Does::Inc(5)), (1, 2, 1, Does::Remove(5))];
 
-const CUT_TWICE: &[Row] = &[(1, 0, 1, Does::Inc(5))];
-
-// What there is over a base of one update of replica 0.
+// What the other has over the base, and beyond the first.
 const BEYOND: &[Row] = &[(1, 0, 2, Does::Remove(4)), (1, 5, 1, Does::Remove(3))];
 
 #[derive(Drop)]
 struct Sets {
     set: UpdateSet,
     other: UpdateSet,
-    // What the other has over a base of one update of replica 0, as a list.
     listed: Delta,
 }
 
-fn list_of(alloc: Global, rows: &[Row]) -> Option<Updates> {
-    let mut list = Updates::new(alloc);
-    for row in rows {
-        list.push(update_of(alloc, row)?).ok()?;
-    }
-    Some(list)
-}
-
+// One update of replica 0.
 fn base() -> Counts {
     Counts::from([1, 0, 0, 0, 0, 0, 0, 0])
 }
 
-fn made(alloc: Global) -> Option<Sets> {
-    Some(Sets {
-        set: set_of(alloc, FIRST)?,
-        other: set_of(alloc, OTHER)?,
-        listed: Delta::new(base(), list_of(alloc, BEYOND)?),
-    })
+fn fills(list: &mut Updates, alloc: Global, rows: &[Row]) -> Came {
+    for row in rows {
+        list.push(update_of(alloc, row)?).ok()?;
+    }
+    Some(true)
 }
 
-// ## Calls that change a set
+fn listed(alloc: Global) -> Option<Delta> {
+    let mut list = Updates::new(alloc);
+    fills(&mut list, alloc, BEYOND)?;
+    Some(Delta::new(base(), list))
+}
+
+fn made(alloc: Global) -> Option<Sets> {
+    let set = set_of(alloc, FIRST)?;
+    let other = set_of(alloc, OTHER)?;
+    let listed = listed(alloc)?;
+    Some(Sets { set, other, listed })
+}
+
+fn stand(made: &Sets) -> bool {
+    is_of(&made.set, FIRST) && is_of(&made.other, OTHER) && made.listed.len() == 2
+}
+
+// ## Changes of a set
 
 #[derive(Clone, Copy)]
 enum Changing {
@@ -82,42 +88,20 @@ enum Changing {
     Truncate,
 }
 
-fn join(set: &mut UpdateSet, made: &Sets) -> Came {
-    match set.join(&made.other) {
-        Ok(()) => Some(is_of(set, BOTH)),
-        Err(_) => refused(is_of(set, FIRST)),
-    }
-}
+// The call, and the set then.
+const CHANGES: [(Changing, &[Row]); 6] = [
+    (Changing::Join, BOTH),
+    (Changing::JoinCompatible, BOTH),
+    (Changing::Union, BOTH),
+    (Changing::Push, PUSHED),
+    (Changing::Pop, CUT),
+    (Changing::Truncate, CUT),
+];
 
-fn join_compatible(set: &mut UpdateSet, made: &Sets) -> Came {
-    if set.first_clash(&made.other).is_some() {
-        return Some(false);
-    }
-    match set.join_compatible(&made.other) {
-        Ok(()) => Some(is_of(set, BOTH)),
-        Err(_) => refused(is_of(set, FIRST)),
-    }
-}
-
-fn union(set: &mut UpdateSet, made: &Sets) -> Came {
-    match set.union(&made.other) {
-        Ok(()) => Some(is_of(set, BOTH)),
-        Err(it) => refused(it == SetError::Memory && is_of(set, FIRST)),
-    }
-}
-
-fn push(set: &mut UpdateSet, alloc: Global) -> Came {
-    let next = update_of(alloc, &NEXT)?;
-    match set.push(next) {
-        Ok(()) => Some(is_of(set, PUSHED)),
-        Err(it) => refused(it == SetError::Memory && is_of(set, FIRST)),
-    }
-}
-
-fn pop(set: &mut UpdateSet) -> Came {
-    match set.pop(2) {
-        Ok(last) => Some(is_last(&last) && is_of(set, CUT)),
-        Err(_) => refused(is_of(set, FIRST)),
+fn join_compatible(set: &mut UpdateSet, other: &UpdateSet) -> Result<(), SetError> {
+    match set.first_clash(other) {
+        None => Ok(set.join_compatible(other)?),
+        Some(id) => Err(SetError::Clash(id)),
     }
 }
 
@@ -128,184 +112,233 @@ fn is_last(last: &Option<Update>) -> bool {
     }
 }
 
-fn truncate(set: &mut UpdateSet) -> Came {
-    match set.truncate(2, 0) {
-        Ok(()) => Some(is_of(set, CUT_TWICE)),
-        Err(_) => refused(is_of(set, FIRST)),
+fn pop(set: &mut UpdateSet) -> Result<(), SetError> {
+    let last = set.pop(2)?;
+    if is_last(&last) {
+        Ok(())
+    } else {
+        Err(SetError::Gap)
     }
 }
 
-fn change(set: &mut UpdateSet, made: &Sets, alloc: Global, call: Changing) -> Came {
+fn change(set: &mut UpdateSet, made: &Sets, call: Changing) -> Result<(), SetError> {
     match call {
-        Changing::Join => join(set, made),
-        Changing::JoinCompatible => join_compatible(set, made),
-        Changing::Union => union(set, made),
-        Changing::Push => push(set, alloc),
+        Changing::Join => Ok(set.join(&made.other)?),
+        Changing::JoinCompatible => join_compatible(set, &made.other),
+        Changing::Union => set.union(&made.other),
+        Changing::Push => set.push(next()),
         Changing::Pop => pop(set),
-        Changing::Truncate => truncate(set),
+        Changing::Truncate => Ok(set.truncate(2, 1)?),
     }
 }
 
-fn changes(set: &mut UpdateSet, made: &Sets, alloc: Global, call: Changing) -> bool {
-    match change(set, made, alloc, call) {
-        Some(well) => well,
-        None => ends(alloc, change(set, made, alloc, call)),
+// An update that comes next.
+fn next() -> Update {
+    Update {
+        id: id(2, 3),
+        object: 1,
+        op: Op::Put(9),
     }
 }
 
-fn changes_a_copy(made: &Sets, alloc: Global, call: Changing) -> bool {
-    match made.set.copy() {
-        Ok(mut set) => changes(&mut set, made, alloc, call) && is_of(&made.set, FIRST),
-        Err(_) => true,
+fn changes(set: &mut UpdateSet, made: &Sets, call: Changing, rows: &[Row]) -> Came {
+    match change(set, made, call) {
+        Ok(()) => Some(is_of(set, rows)),
+        Err(it) => refused(it == SetError::Memory && is_of(set, FIRST)),
     }
 }
 
-fn all_changes(made: &Sets, alloc: Global) -> bool {
-    for call in [
-        Changing::Join,
-        Changing::JoinCompatible,
-        Changing::Union,
-        Changing::Push,
-        Changing::Pop,
-        Changing::Truncate,
-    ] {
-        if !changes_a_copy(made, alloc, call) {
-            return false;
+fn changes_a_copy(made: &Sets, alloc: Global, call: Changing, rows: &[Row]) -> Came {
+    let mut set = made.set.copy().ok()?;
+    again!(alloc, changes(&mut set, made, call, rows))
+}
+
+fn all_changes(made: &Sets, alloc: Global) -> Came {
+    for (call, rows) in &CHANGES {
+        let came = again!(alloc, changes_a_copy(made, alloc, *call, rows));
+        if came != Some(true) || !stand(made) {
+            return came;
         }
     }
-    true
+    Some(true)
 }
 
-// ## Calls that answer
+// ## Sets that are made
 
 #[derive(Clone, Copy)]
-enum Question {
+enum MadeBy {
     Copy,
-    CopyUpdate,
-    CopyTags,
+    With,
+    WithAgreeing,
+}
+
+const MADE: [(MadeBy, &[Row]); 3] = [
+    (MadeBy::Copy, FIRST),
+    (MadeBy::With, OTHER),
+    (MadeBy::WithAgreeing, OTHER),
+];
+
+// A delta that was made of a list, and so agrees with any set.
+fn agreeing(set: &UpdateSet, more: Updates) -> Result<UpdateSet, SetError> {
+    let delta = Delta::new(base(), more);
+    let _is_over = set.with(&delta)?;
+    Ok(set.with_agreeing(&delta)?)
+}
+
+fn set_by(made: &Sets, call: MadeBy) -> Result<UpdateSet, SetError> {
+    match call {
+        MadeBy::Copy => Ok(made.set.copy()?),
+        MadeBy::With => made.set.with(&made.listed),
+        MadeBy::WithAgreeing => agreeing(&made.set, made.listed.more()?),
+    }
+}
+
+fn makes(made: &Sets, call: MadeBy, rows: &[Row]) -> Came {
+    match set_by(made, call) {
+        Ok(set) => Some(is_of(&set, rows) && stand(made)),
+        Err(it) => refused(it == SetError::Memory && stand(made)),
+    }
+}
+
+fn all_made(made: &Sets, alloc: Global) -> Came {
+    for (call, rows) in &MADE {
+        let came = again!(alloc, makes(made, *call, rows));
+        if came != Some(true) {
+            return came;
+        }
+    }
+    Some(true)
+}
+
+// ## Lists and deltas
+
+#[derive(Clone, Copy)]
+enum Other {
+    More,
     Beyond,
     Over,
-    With,
-    More,
     CopyDelta,
 }
 
-fn copy(made: &Sets) -> Came {
-    match made.set.copy() {
-        Ok(copy) => Some(is_of(&copy, FIRST)),
-        Err(_) => None,
-    }
-}
-
-fn copy_update(made: &Sets) -> Came {
-    match made.set.at(1)?.copy() {
-        Ok(copy) => Some(is_row(&copy, &FIRST[1])),
-        Err(_) => None,
-    }
-}
-
-fn copy_tags(alloc: Global) -> Came {
-    let tags = tags_of(alloc, 5)?;
-    match tags.copy() {
-        Ok(copy) => Some(are_tags(&copy, 5)),
-        Err(_) => refused(are_tags(&tags, 5)),
-    }
-}
-
-fn beyond(made: &Sets) -> Came {
-    match made.other.beyond(&made.set) {
+fn is_list(list: Result<Updates, AllocError>, made: &Sets) -> Came {
+    match list {
         Ok(updates) => Some(are_rows(updates.all(), BEYOND)),
-        Err(_) => None,
+        Err(_) => refused(stand(made)),
     }
 }
 
-fn over(made: &Sets) -> Came {
-    if !made.other.has_counts(base()) {
-        return Some(false);
+fn over(made: &Sets) -> Result<Delta, AllocError> {
+    let base = base();
+    if made.other.has_counts(base) {
+        made.other.over(base)
+    } else {
+        made.listed.copy()
     }
-    match made.other.over(base()) {
+}
+
+fn is_delta(delta: Result<Delta, AllocError>, made: &Sets) -> Came {
+    match delta {
         Ok(delta) => Some(delta.same(&made.listed)),
-        Err(_) => None,
+        Err(_) => refused(stand(made)),
     }
 }
 
-fn with(made: &Sets) -> Came {
-    match made.set.with(&made.listed) {
-        Ok(set) => Some(is_of(&set, OTHER)),
-        Err(it) => refused(it == SetError::Memory),
-    }
-}
-
-fn more(made: &Sets) -> Came {
-    match made.listed.more() {
-        Ok(updates) => Some(are_rows(updates.all(), BEYOND)),
-        Err(_) => None,
-    }
-}
-
-fn copy_delta(made: &Sets) -> Came {
-    match made.listed.copy() {
-        Ok(copy) => Some(copy.same(&made.listed)),
-        Err(_) => None,
-    }
-}
-
-fn answer(made: &Sets, alloc: Global, call: Question) -> Came {
+fn other_of(made: &Sets, call: Other) -> Came {
     match call {
-        Question::Copy => copy(made),
-        Question::CopyUpdate => copy_update(made),
-        Question::CopyTags => copy_tags(alloc),
-        Question::Beyond => beyond(made),
-        Question::Over => over(made),
-        Question::With => with(made),
-        Question::More => more(made),
-        Question::CopyDelta => copy_delta(made),
+        Other::More => is_list(made.listed.more(), made),
+        Other::Beyond => is_list(made.other.beyond(&made.set), made),
+        Other::Over => is_delta(over(made), made),
+        Other::CopyDelta => is_delta(made.listed.copy(), made),
     }
 }
 
-fn stands(made: &Sets) -> bool {
-    is_of(&made.set, FIRST) && is_of(&made.other, OTHER) && made.listed.len() == 2
-}
-
-fn answers(made: &Sets, alloc: Global, call: Question) -> bool {
-    match answer(made, alloc, call) {
-        Some(well) => well,
-        None => stands(made) && ends(alloc, answer(made, alloc, call)),
-    }
-}
-
-fn all_answers(made: &Sets, alloc: Global) -> bool {
-    for call in [
-        Question::Copy,
-        Question::CopyUpdate,
-        Question::CopyTags,
-        Question::Beyond,
-        Question::Over,
-        Question::With,
-        Question::More,
-        Question::CopyDelta,
-    ] {
-        if !answers(made, alloc, call) {
-            return false;
+fn all_others(made: &Sets, alloc: Global) -> Came {
+    for call in [Other::More, Other::Beyond, Other::Over, Other::CopyDelta] {
+        let came = again!(alloc, other_of(made, call));
+        if came != Some(true) {
+            return came;
         }
     }
-    true
+    Some(true)
+}
+
+// ## Tags, updates and lists alone
+
+fn copy_tags(tags: &Tags) -> Came {
+    match tags.copy() {
+        Ok(copy) => Some(are_tags(&copy, 5)),
+        Err(_) => refused(are_tags(tags, 5)),
+    }
+}
+
+fn push_tag(tags: &mut Tags) -> Came {
+    match tags.push(id(7, 6)) {
+        Ok(new) => Some(new && are_tags(tags, 6)),
+        Err(it) => refused(it == SetError::Memory && are_tags(tags, 5)),
+    }
+}
+
+fn tags_go_on(alloc: Global) -> Came {
+    let mut tags = tags_of(alloc, 5)?;
+    on_tags(&mut tags, alloc)
+}
+
+fn on_tags(tags: &mut Tags, alloc: Global) -> Came {
+    Some(again!(alloc, copy_tags(tags))? && again!(alloc, push_tag(tags))?)
+}
+
+fn copy_update(update: &Update) -> Came {
+    match update.copy() {
+        Ok(copy) => Some(is_row(&copy, &FIRST[1])),
+        Err(_) => refused(is_row(update, &FIRST[1])),
+    }
+}
+
+fn copy_op(update: &Update) -> Came {
+    match update.op.copy() {
+        Ok(copy) => Some(copy.same(&update.op)),
+        Err(_) => refused(is_row(update, &FIRST[1])),
+    }
+}
+
+fn updates_go_on(alloc: Global) -> Came {
+    let update = update_of(alloc, &FIRST[1])?;
+    on_update(&update, alloc)
+}
+
+fn on_update(update: &Update, alloc: Global) -> Came {
+    Some(again!(alloc, copy_update(update))? && again!(alloc, copy_op(update))?)
+}
+
+fn push_last(list: &mut Updates) -> Came {
+    match list.push(next()) {
+        Ok(()) => Some(are_rows(list.all(), &[NEXT])),
+        Err(_) => refused(list.len() == 0),
+    }
+}
+
+fn a_list_goes_on(alloc: Global) -> Came {
+    let mut list = Updates::new(alloc);
+    again!(alloc, push_last(&mut list))
+}
+
+fn on_sets(made: &Sets, alloc: Global) -> Came {
+    Some(all_changes(made, alloc)? && all_made(made, alloc)? && all_others(made, alloc)?)
+}
+
+fn sets_go_on(alloc: Global) -> Came {
+    let made = made(alloc)?;
+    on_sets(&made, alloc)
 }
 
 fn scenes(alloc: Global) -> Came {
-    let made = made(alloc)?;
-    Some(all_changes(&made, alloc) && all_answers(&made, alloc))
-}
-
-// Where the fixture can't be made it is tried again.
-fn is_played(alloc: Global) -> bool {
-    match scenes(alloc) {
-        Some(well) => well,
-        None => ends(alloc, scenes(alloc)),
-    }
+    Some(
+        sets_go_on(alloc)? && tags_go_on(alloc)? && updates_go_on(alloc)? && a_list_goes_on(alloc)?,
+    )
 }
 
 #[test]
 fn all_of_sets(rt: HostRuntime) {
-    holds(&rt, is_played(rt.alloc()));
+    let alloc = rt.alloc();
+    holds(&rt, again!(alloc, scenes(alloc)));
 }
