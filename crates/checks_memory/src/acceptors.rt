@@ -1,5 +1,5 @@
-// la_acceptor: offers that are refused by a set, and copies.
-use crate::given::{Came, Does, Row, again, holds, is_of, refused, set_of};
+// la_acceptor: offers that are answered by a refusal.
+use crate::given::{Came, Does, Row, again, holds, is_no, is_of, refused, set_of};
 use la_acceptor::{Acceptor, AcceptorError, Reply};
 use la_set::UpdateSet;
 use std::alloc::Global;
@@ -13,13 +13,6 @@ const BOTH: &[Row] = &[
     (1, 0, 2, Does::Remove(4)),
     (1, 2, 1, Does::Remove(5)),
 ];
-
-fn is_refusal(reply: &Reply) -> bool {
-    match reply {
-        Reply::No(set) => is_of(set, BOTH),
-        Reply::Yes => false,
-    }
-}
 
 // An offer in its parts.
 fn prepare(acceptor: &mut Acceptor, offered: &UpdateSet) -> Result<Reply, AcceptorError> {
@@ -36,22 +29,8 @@ fn offer(acceptor: &mut Acceptor, offered: &UpdateSet, in_parts: bool) -> Came {
         acceptor.offer(offered)
     };
     match came {
-        Ok(reply) => Some(is_refusal(&reply) && is_of(acceptor.accepted(), BOTH)),
+        Ok(reply) => Some(is_no(&reply, BOTH) && is_of(acceptor.accepted(), BOTH)),
         Err(it) => refused(it == AcceptorError::Memory && is_of(acceptor.accepted(), ACCEPTED)),
-    }
-}
-
-fn copy(acceptor: &Acceptor) -> Came {
-    match acceptor.copy() {
-        Ok(copy) => Some(is_of(copy.accepted(), BOTH)),
-        Err(_) => refused(is_of(acceptor.accepted(), BOTH)),
-    }
-}
-
-fn copy_reply(reply: &Reply) -> Came {
-    match reply.copy() {
-        Ok(copy) => Some(is_refusal(&copy)),
-        Err(_) => refused(is_refusal(reply)),
     }
 }
 
@@ -62,13 +41,9 @@ fn accepting(alloc: Global) -> Option<Acceptor> {
     Some(acceptor)
 }
 
-fn goes_on(acceptor: &mut Acceptor, alloc: Global, offered: &UpdateSet, in_parts: bool) -> Came {
-    Some(again!(alloc, offer(acceptor, offered, in_parts))? && again!(alloc, copy(acceptor))?)
-}
-
 fn an_acceptor(alloc: Global, offered: &UpdateSet, in_parts: bool) -> Came {
     let mut acceptor = accepting(alloc)?;
-    goes_on(&mut acceptor, alloc, offered, in_parts)
+    again!(alloc, offer(&mut acceptor, offered, in_parts))
 }
 
 fn acceptors(alloc: Global, offered: &UpdateSet) -> Came {
@@ -80,17 +55,8 @@ fn offers(alloc: Global) -> Came {
     acceptors(alloc, &offered)
 }
 
-fn copies(alloc: Global) -> Came {
-    let reply = Reply::No(set_of(alloc, BOTH)?);
-    again!(alloc, copy_reply(&reply))
-}
-
-fn scenes(alloc: Global) -> Came {
-    Some(offers(alloc)? && copies(alloc)?)
-}
-
 #[test]
 fn all_of_acceptors(rt: HostRuntime) {
     let alloc = rt.alloc();
-    holds(&rt, again!(alloc, scenes(alloc)));
+    holds(&rt, again!(alloc, offers(alloc)));
 }

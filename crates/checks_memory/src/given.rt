@@ -1,4 +1,5 @@
 // What came of a call whose memory may be refused, and updates from tables.
+use la_acceptor::Reply;
 use la_set::{Op, Tags, Update, UpdateId, UpdateSet};
 use std::alloc::Global;
 use std::process::Abort;
@@ -46,7 +47,6 @@ pub enum Does {
     Put(u64),
     /// Removes the tags 7.1 to this number of them: more than two take memory.
     Remove(u32),
-    Vote(u64),
 }
 
 /// The object, the replica, the number, and what is done.
@@ -70,7 +70,6 @@ pub fn op_of(alloc: Global, does: Does) -> Option<Op> {
         Does::Inc(by) => Op::Inc(by),
         Does::Put(element) => Op::Put(element),
         Does::Remove(count) => Op::Remove(tags_of(alloc, count)?),
-        Does::Vote(value) => Op::Vote { value, sole: false },
     })
 }
 
@@ -124,7 +123,6 @@ pub fn is_done(op: &Op, does: Does) -> bool {
         (Op::Inc(it), Does::Inc(by)) => *it == by,
         (Op::Put(it), Does::Put(element)) => *it == element,
         (Op::Remove(it), Does::Remove(count)) => are_tags(it, count),
-        (Op::Vote { value, sole }, Does::Vote(it)) => *value == it && !*sole,
         _ => false,
     }
 }
@@ -162,4 +160,12 @@ pub fn is_of(set: &UpdateSet, rows: &[Row]) -> bool {
         }
     }
     set.len() == rows.len()
+}
+
+/// Whether a reply refuses by these updates.
+pub fn is_no(reply: &Reply, rows: &[Row]) -> bool {
+    match reply {
+        Reply::No(set) => is_of(set, rows),
+        Reply::Yes => false,
+    }
 }

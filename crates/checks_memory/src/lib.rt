@@ -9,12 +9,26 @@ mod counted;
 #[cfg(test)]
 mod given;
 #[cfg(test)]
+mod journals;
+#[cfg(test)]
+mod nodes;
+#[cfg(test)]
 mod objects;
 #[cfg(test)]
 mod orsets;
+#[cfg(test)]
+mod programs;
 #[cfg(test)]
 mod proposers;
 #[cfg(test)]
 mod replicas;
 #[cfg(test)]
+mod runners;
+#[cfg(test)]
+mod scripts;
+#[cfg(test)]
 mod sets;
+#[cfg(test)]
+mod texts;
+#[cfg(test)]
+mod worlds;

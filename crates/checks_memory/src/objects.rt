@@ -238,83 +238,111 @@ fn on_shelves(alloc: Global) -> Came {
     all_on_shelves(&made, alloc)
 }
 
-// ## Ids and elements
+// ## Ids and elements: so many that their maps grow more than once
 
-// Whether these are the ids 7.1 to 7.4 alone, of which 7.5 is not one.
-fn are_four(ids: &Ids) -> bool {
-    ids.has(id(7, 1)) && ids.has(id(7, 2)) && ids.has(id(7, 4)) && !ids.has(id(7, 5))
+const MANY: u32 = 20;
+
+// Whether these are the ids 7.1 to this number, and no further one.
+fn are_ids(ids: &Ids, count: u32) -> bool {
+    for number in 1..=count {
+        if !ids.has(id(7, number)) {
+            return false;
+        }
+    }
+    !ids.has(id(7, count.saturating_add(1)))
 }
 
-fn insert(ids: &mut Ids) -> Came {
-    match ids.insert(id(7, 5)) {
-        Ok(new) => Some(new && ids.has(id(7, 5)) && !ids.has(id(7, 4))),
-        Err(_) => refused(ids.is_empty()),
+fn insert(ids: &mut Ids, number: u32) -> Came {
+    match ids.insert(id(7, number)) {
+        Ok(new) => Some(new && are_ids(ids, number)),
+        Err(_) => refused(are_ids(ids, number.saturating_sub(1))),
+    }
+}
+
+fn insert_each(ids: &mut Ids, alloc: Global) -> Came {
+    for number in 1..=MANY {
+        let came = again!(alloc, insert(ids, number));
+        if came != Some(true) {
+            return came;
+        }
+    }
+    again!(alloc, copy_ids(ids, alloc))
+}
+
+fn copy_ids(ids: &Ids, alloc: Global) -> Came {
+    match ids.copy(alloc) {
+        Ok(copy) => Some(are_ids(&copy, MANY)),
+        Err(_) => refused(are_ids(ids, MANY)),
     }
 }
 
 fn insert_all(ids: &mut Ids, tags: &Tags) -> Came {
     match ids.insert_all(tags) {
-        Ok(()) => Some(are_four(ids)),
+        Ok(()) => Some(are_ids(ids, MANY)),
         Err(_) => refused(ids.is_empty()),
     }
 }
 
-fn copy_ids(ids: &Ids, alloc: Global) -> Came {
-    match ids.copy(alloc) {
-        Ok(copy) => Some(are_four(&copy)),
-        Err(_) => refused(are_four(ids)),
+fn one_by_one(alloc: Global) -> Came {
+    let mut ids = Ids::new(alloc);
+    insert_each(&mut ids, alloc)
+}
+
+fn at_once(alloc: Global) -> Came {
+    let tags = tags_of(alloc, MANY)?;
+    let mut ids = Ids::new(alloc);
+    again!(alloc, insert_all(&mut ids, &tags))
+}
+
+fn are_elements(adds: &Adds, count: u32) -> bool {
+    for number in 1..=count {
+        if adds.get(id(0, number)) != Some(&7) {
+            return false;
+        }
     }
+    !adds.has(id(0, count.saturating_add(1)))
 }
 
-fn one_id(alloc: Global) -> Came {
-    let mut ids = Ids::new(alloc);
-    again!(alloc, insert(&mut ids))
-}
-
-fn many_ids(alloc: Global) -> Came {
-    let tags = tags_of(alloc, 4)?;
-    let mut ids = Ids::new(alloc);
-    on_ids(&mut ids, &tags, alloc)
-}
-
-fn on_ids(ids: &mut Ids, tags: &Tags, alloc: Global) -> Came {
-    Some(again!(alloc, insert_all(ids, tags))? && again!(alloc, copy_ids(ids, alloc))?)
-}
-
-fn put(adds: &mut Adds, is_new: bool) -> Came {
-    let came = if is_new {
-        adds.insert_new(id(0, 1), 7).is_ok()
+fn put(adds: &mut Adds, number: u32, is_new: bool) -> Came {
+    let is_there = if is_new {
+        adds.insert_new(id(0, number), 7).is_ok()
     } else {
-        adds.insert(id(0, 1), 7).is_ok()
+        adds.insert(id(0, number), 7).is_ok()
     };
-    if came {
-        Some(adds.get(id(0, 1)) == Some(&7))
+    if is_there {
+        Some(are_elements(adds, number))
     } else {
-        refused(adds.is_empty())
+        refused(are_elements(adds, number.saturating_sub(1)))
     }
+}
+
+fn put_each(adds: &mut Adds, alloc: Global, is_new: bool) -> Came {
+    for number in 1..=MANY {
+        let came = again!(alloc, put(adds, number, is_new));
+        if came != Some(true) {
+            return came;
+        }
+    }
+    again!(alloc, copy_adds(adds, alloc))
 }
 
 fn copy_adds(adds: &Adds, alloc: Global) -> Came {
     match adds.copy(alloc) {
-        Ok(copy) => Some(copy.get(id(0, 1)) == Some(&7)),
-        Err(_) => refused(adds.get(id(0, 1)) == Some(&7)),
+        Ok(copy) => Some(are_elements(&copy, MANY)),
+        Err(_) => refused(are_elements(adds, MANY)),
     }
 }
 
 fn elements(alloc: Global, is_new: bool) -> Came {
     let mut adds = Adds::new(alloc);
-    on_elements(&mut adds, alloc, is_new)
-}
-
-fn on_elements(adds: &mut Adds, alloc: Global, is_new: bool) -> Came {
-    Some(again!(alloc, put(adds, is_new))? && again!(alloc, copy_adds(adds, alloc))?)
+    put_each(&mut adds, alloc, is_new)
 }
 
 fn scenes(alloc: Global) -> Came {
     Some(
         on_shelves(alloc)?
-            && one_id(alloc)?
-            && many_ids(alloc)?
+            && one_by_one(alloc)?
+            && at_once(alloc)?
             && elements(alloc, true)?
             && elements(alloc, false)?,
     )

@@ -126,16 +126,16 @@ fn change(set: &mut UpdateSet, made: &Sets, call: Changing) -> Result<(), SetErr
         Changing::Join => Ok(set.join(&made.other)?),
         Changing::JoinCompatible => join_compatible(set, &made.other),
         Changing::Union => set.union(&made.other),
-        Changing::Push => set.push(next()),
+        Changing::Push => set.push(numbered(3)),
         Changing::Pop => pop(set),
         Changing::Truncate => Ok(set.truncate(2, 1)?),
     }
 }
 
-// An update that comes next.
-fn next() -> Update {
+// An update of replica 2.
+fn numbered(number: u32) -> Update {
     Update {
-        id: id(2, 3),
+        id: id(2, number),
         object: 1,
         op: Op::Put(9),
     }
@@ -165,49 +165,23 @@ fn all_changes(made: &Sets, alloc: Global) -> Came {
 
 // ## Sets that are made
 
-#[derive(Clone, Copy)]
-enum MadeBy {
-    Copy,
-    With,
-    WithAgreeing,
-}
-
-const MADE: [(MadeBy, &[Row]); 3] = [
-    (MadeBy::Copy, FIRST),
-    (MadeBy::With, OTHER),
-    (MadeBy::WithAgreeing, OTHER),
-];
-
 // A delta that was made of a list, and so agrees with any set.
-fn agreeing(set: &UpdateSet, more: Updates) -> Result<UpdateSet, SetError> {
-    let delta = Delta::new(base(), more);
-    let _is_over = set.with(&delta)?;
-    Ok(set.with_agreeing(&delta)?)
+fn agreeing(made: &Sets) -> Result<UpdateSet, SetError> {
+    let delta = Delta::new(base(), made.listed.more()?);
+    let _is_over = made.set.with(&delta)?;
+    Ok(made.set.with_agreeing(&delta)?)
 }
 
-fn set_by(made: &Sets, call: MadeBy) -> Result<UpdateSet, SetError> {
-    match call {
-        MadeBy::Copy => Ok(made.set.copy()?),
-        MadeBy::With => made.set.with(&made.listed),
-        MadeBy::WithAgreeing => agreeing(&made.set, made.listed.more()?),
-    }
-}
-
-fn makes(made: &Sets, call: MadeBy, rows: &[Row]) -> Came {
-    match set_by(made, call) {
-        Ok(set) => Some(is_of(&set, rows) && stand(made)),
+fn makes(made: &Sets, is_agreeing: bool) -> Came {
+    let came = if is_agreeing {
+        agreeing(made)
+    } else {
+        made.set.with(&made.listed)
+    };
+    match came {
+        Ok(set) => Some(is_of(&set, OTHER) && stand(made)),
         Err(it) => refused(it == SetError::Memory && stand(made)),
     }
-}
-
-fn all_made(made: &Sets, alloc: Global) -> Came {
-    for (call, rows) in &MADE {
-        let came = again!(alloc, makes(made, *call, rows));
-        if came != Some(true) {
-            return came;
-        }
-    }
-    Some(true)
 }
 
 // ## Lists and deltas
@@ -216,7 +190,6 @@ fn all_made(made: &Sets, alloc: Global) -> Came {
 enum Other {
     More,
     Beyond,
-    Over,
     CopyDelta,
 }
 
@@ -224,15 +197,6 @@ fn is_list(list: Result<Updates, AllocError>, made: &Sets) -> Came {
     match list {
         Ok(updates) => Some(are_rows(updates.all(), BEYOND)),
         Err(_) => refused(stand(made)),
-    }
-}
-
-fn over(made: &Sets) -> Result<Delta, AllocError> {
-    let base = base();
-    if made.other.has_counts(base) {
-        made.other.over(base)
-    } else {
-        made.listed.copy()
     }
 }
 
@@ -247,13 +211,12 @@ fn other_of(made: &Sets, call: Other) -> Came {
     match call {
         Other::More => is_list(made.listed.more(), made),
         Other::Beyond => is_list(made.other.beyond(&made.set), made),
-        Other::Over => is_delta(over(made), made),
         Other::CopyDelta => is_delta(made.listed.copy(), made),
     }
 }
 
 fn all_others(made: &Sets, alloc: Global) -> Came {
-    for call in [Other::More, Other::Beyond, Other::Over, Other::CopyDelta] {
+    for call in [Other::More, Other::Beyond, Other::CopyDelta] {
         let came = again!(alloc, other_of(made, call));
         if came != Some(true) {
             return came;
@@ -266,15 +229,15 @@ fn all_others(made: &Sets, alloc: Global) -> Came {
 
 fn copy_tags(tags: &Tags) -> Came {
     match tags.copy() {
-        Ok(copy) => Some(are_tags(&copy, 5)),
-        Err(_) => refused(are_tags(tags, 5)),
+        Ok(copy) => Some(are_tags(&copy, 9)),
+        Err(_) => refused(are_tags(tags, 9)),
     }
 }
 
-fn push_tag(tags: &mut Tags) -> Came {
-    match tags.push(id(7, 6)) {
-        Ok(new) => Some(new && are_tags(tags, 6)),
-        Err(it) => refused(it == SetError::Memory && are_tags(tags, 5)),
+fn push_tag(tags: &mut Tags, number: u32) -> Came {
+    match tags.push(id(7, number)) {
+        Ok(new) => Some(new && are_tags(tags, number)),
+        Err(it) => refused(it == SetError::Memory && are_tags(tags, number.saturating_sub(1))),
     }
 }
 
@@ -283,8 +246,15 @@ fn tags_go_on(alloc: Global) -> Came {
     on_tags(&mut tags, alloc)
 }
 
+// There is room for eight, and then for more.
 fn on_tags(tags: &mut Tags, alloc: Global) -> Came {
-    Some(again!(alloc, copy_tags(tags))? && again!(alloc, push_tag(tags))?)
+    for number in 6..=9u32 {
+        let came = again!(alloc, push_tag(tags, number));
+        if came != Some(true) {
+            return came;
+        }
+    }
+    again!(alloc, copy_tags(tags))
 }
 
 fn copy_update(update: &Update) -> Came {
@@ -310,20 +280,46 @@ fn on_update(update: &Update, alloc: Global) -> Came {
     Some(again!(alloc, copy_update(update))? && again!(alloc, copy_op(update))?)
 }
 
-fn push_last(list: &mut Updates) -> Came {
-    match list.push(next()) {
-        Ok(()) => Some(are_rows(list.all(), &[NEXT])),
-        Err(_) => refused(list.len() == 0),
+// Whether a list has so many updates, of these numbers.
+fn is_list_of(list: &Updates, count: u32) -> bool {
+    for number in 1..=count {
+        if !matches!(list.at(number as usize - 1), Some(it) if it.id == id(2, number)) {
+            return false;
+        }
     }
+    list.len() == count as usize
+}
+
+fn push_last(list: &mut Updates, number: u32) -> Came {
+    match list.push(numbered(number)) {
+        Ok(()) => Some(is_list_of(list, number)),
+        Err(_) => refused(is_list_of(list, number.saturating_sub(1))),
+    }
+}
+
+// It grows at the first, and again at later ones.
+fn on_list(list: &mut Updates, alloc: Global) -> Came {
+    for number in 1..=9u32 {
+        let came = again!(alloc, push_last(list, number));
+        if came != Some(true) {
+            return came;
+        }
+    }
+    Some(true)
 }
 
 fn a_list_goes_on(alloc: Global) -> Came {
     let mut list = Updates::new(alloc);
-    again!(alloc, push_last(&mut list))
+    on_list(&mut list, alloc)
 }
 
 fn on_sets(made: &Sets, alloc: Global) -> Came {
-    Some(all_changes(made, alloc)? && all_made(made, alloc)? && all_others(made, alloc)?)
+    Some(
+        all_changes(made, alloc)?
+            && again!(alloc, makes(made, false))?
+            && again!(alloc, makes(made, true))?
+            && all_others(made, alloc)?,
+    )
 }
 
 fn sets_go_on(alloc: Global) -> Came {
