@@ -29,26 +29,6 @@ const SECOND: &[Row] = &[
     (2, 6, 1, Does::Put(6)),
 ];
 
-// The second set is absorbed in the order of ids.
-const SIX: &[Row] = &[
-    (1, 0, 1, Does::Put(7)),
-    (2, 0, 2, Does::Put(5)),
-    (1, 0, 3, Does::Remove(4)),
-    (1, 1, 1, Does::Put(7)),
-    (1, 2, 1, Does::Put(7)),
-    (1, 3, 1, Does::Put(8)),
-];
-
-const SEVEN: &[Row] = &[
-    (1, 0, 1, Does::Put(7)),
-    (2, 0, 2, Does::Put(5)),
-    (1, 0, 3, Does::Remove(4)),
-    (1, 1, 1, Does::Put(7)),
-    (1, 2, 1, Does::Put(7)),
-    (1, 3, 1, Does::Put(8)),
-    (1, 3, 2, Does::Put(9)),
-];
-
 #[derive(Drop)]
 struct Objects {
     all: Arc<()>,
@@ -111,14 +91,19 @@ fn add(shelf: &mut Shelved, made: &Objects, alloc: Global) -> Came {
     }
 }
 
-// Whether the view has so many updates, and the set what they say.
+// Whether the shelf has so much of the second set, of which an update of replica 0 comes next, then one of
+// replica 3, and what it says.
 fn shows_between(shelf: &Shelved, made: &Objects) -> bool {
-    match shelf.view().len() {
-        5 => shows(shelf, made, FIRST, 2),
-        6 => shows(shelf, made, SIX, 2),
-        7 => shows(shelf, made, SEVEN, 3),
-        _ => false,
-    }
+    let (of_0, size) = match shelf.view().len() {
+        5 => (2, 2),
+        6 => (3, 2),
+        7 => (3, 3),
+        _ => return false,
+    };
+    made.second.contains_all(shelf.view())
+        && shelf.view().count_of(0) == of_0
+        && has_size(shelf, 1, size)
+        && are_alive(&made.all, 1)
 }
 
 fn is_at(shelf: &Shelved, before: usize, done: u64) -> bool {
