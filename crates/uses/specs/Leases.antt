@@ -1,7 +1,7 @@
 -- A lease that one holder has at a time, by lines of text.
 use Rattle.std.specs.Prelude.{◌≡◌, ℕ, Bool, true, false, List, [], ◌∷◌, Option, Some, None, if◌then◌else◌, ◌==◌, refl}
 use Rattle.std.proofs.Common.{arith}
-use Rattle.la_journal.specs.Lines.{IsClean}
+use Rattle.la_journal.specs.Journal.{IsCallLine}
 use Rattle.uses.specs.declared.journals.Ask.{Ask}
 use Rattle.uses.specs.declared.journals.Ask.TheVariants.{Take, Release}
 
@@ -25,6 +25,12 @@ pub round_trip : (ask : Ask) → named (text ask) ≡ Some ask
 round_trip Take = refl
 round_trip Release = refl
 
-pub clean : (ask : Ask) → IsClean (text ask)
-clean Take = (omega arith, omega arith, tt)
-clean Release = (omega arith, omega arith, tt)
+pub clean : (ask : Ask) → IsCallLine (text ask)
+clean Take = ((omega arith, omega arith, tt), refl)
+clean Release = ((omega arith, omega arith, tt), refl)
+
+-- the state as a text
+abbrev pub taken_in : List ℕ → Option Bool
+taken_in [] = None
+taken_in (b ∷ []) = if b == 116 then Some true else (if b == 102 then Some false else None)
+taken_in (b ∷ c ∷ bytes) = None

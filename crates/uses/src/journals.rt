@@ -1,6 +1,6 @@
 ghost use Rattle.std.specs.Prelude.{◌≡◌, ◌++◌, ◌∷◌, [], Bool, Option, false, true, Some, None, IfOk, OnOk};
 
-use la_journal::Machine;
+use la_journal::{Machine, Snapshot};
 use std::alloc::{AllocError, Global};
 use thiserror::Error;
 
@@ -24,7 +24,7 @@ pub struct Lease {
 
 impl Machine for Lease {
     ghost use Rattle.uses.specs.declared.journals.Ask.{Ask};
-    ghost use Rattle.uses.specs.Leases.{taken_after, text, named, round_trip, clean};
+    ghost use Rattle.uses.specs.Leases.{taken_after, text, named, taken_in, round_trip, clean};
 
     type Input = Ask;
 
@@ -51,6 +51,8 @@ impl Machine for Lease {
     ghost text = { text };
 
     ghost named = { named };
+
+    ghost named_state = { taken_in };
 
     ghost lacks_memory = { λ _. ⊥ };
 
@@ -83,18 +85,35 @@ impl Machine for Lease {
             _ => None,
         })
     }
+
+    fn read_state(&mut self, _alloc: Global, bytes: &[u8]) -> Result<bool, AllocError> {
+        match bytes {
+            [b't'] => self.taken = true,
+            [b'f'] => self.taken = false,
+            _ => return Ok(false),
+        }
+        Ok(true)
+    }
+}
+
+impl Snapshot for Lease {
+    fn write_state(&self, alloc: Global) -> Result<Vec<u8>, AllocError> {
+        let mut text = Vec::new(alloc);
+        text.push(if self.taken { b't' } else { b'f' })?;
+        Ok(text)
+    }
 }
 
 // ---- callers
-ghost use Rattle.std.specs.Prelude.{IfSome, IfErr, OnErr, length, take, drop, ◌≤◌, ◌-◌, ◌⊎◌, List, ℕ};
+ghost use Rattle.std.specs.Prelude.{IfSome, List, ℕ, Err};
 ghost use Rattle.la_journal.specs.Disk.{Only};
-ghost use Rattle.la_journal.specs.Lines.{lines, IsSomeOf};
-ghost use Rattle.la_journal.specs.Machine.{after, calls, texts, steps};
+ghost use Rattle.la_journal.specs.Lines.{lines};
+ghost use Rattle.la_journal.specs.Machine.{after, calls, LeadsToSome};
 ghost use Rattle.la_journal.specs.Durable.{IsSettled};
 ghost use Rattle.la_journal.specs.Starts.{IsStart};
 ghost use Rattle.la_journal.specs.declared.durable.Refused.TheVariants.{Machine as ByMachine};
 
-use la_journal::{Disk, Durable, Refused, Unplayed, recover};
+use la_journal::{Disk, Durable, MemoryDisk, Refused, Unplayed, laws, recover};
 use la_journal_file::{FileDisk, FolderLock};
 use std::io;
 
@@ -105,9 +124,10 @@ pub fn start<M: Machine, D: Disk>(
     machine: M,
     disk: D,
 ) -> Result<Durable<M, D>, Unplayed<M::Refusal>>
-    ensures state { IfOk result (λ node. after M.named M.step (lines (D.seen disk)) (M.state machine)
+    ensures state { IfOk result (λ node. after M.named_state M.named M.step (M.state machine) (D.seen disk)
         ≡ Some (M.state node.machine)) }
-    ensures lines { IfOk result (λ node. lines (D.seen node.disk) ≡ lines (D.seen disk)) }
+    ensures leads { IfOk result (λ node. after M.named_state M.named M.step (M.state machine) (D.seen node.disk)
+        ≡ Some (M.state node.machine)) }
     ensures ready { IfOk result (λ node. (node.closed ≡ false)
         × IsSettled D.seen D.may_leave node.disk) }
 {
@@ -142,8 +162,8 @@ pub fn answer<M: Machine, D: Disk>(
     }
 }
 
-/// Takes all of these, with one sync. Whoever starts on what a crash at any moment of that left finds
-/// the lines of before and those of the first some, none skipped and none in part.
+/// Takes all of these, with one sync. Who starts on what a crash at any moment of that left comes to
+/// where the first some of them lead, none skipped and none in part.
 pub fn take_all<M: Machine, D: Disk>(
     node: &mut Durable<M, D>,
     alloc: Global,
@@ -151,14 +171,63 @@ pub fn take_all<M: Machine, D: Disk>(
     answers: &mut Vec<M::Output>,
 ) -> Result<(), Refused<M::Refusal>>
     requires { (node.old.closed ≡ false) × IsSettled D.seen D.may_leave node.old.disk }
-    ensures all { OnOk result (lines (D.seen node.new.disk)
-        ≡ lines (D.seen node.old.disk) ++ texts M.call M.text inputs.now) }
-    ensures crash { (found : D)
+    ensures crash { (start : M.State) (found : D)
+        → after M.named_state M.named M.step start (D.seen node.old.disk) ≡ Some (M.state node.old.machine)
         → IsStart D.seen D.may_leave (D.left_since node.new.disk (D.moment node.old.disk)) found
-        → IsSomeOf (lines (D.seen node.old.disk)) (texts M.call M.text inputs.now) (D.seen found) }
+        → LeadsToSome (after M.named_state M.named M.step start) M.step
+        (calls M.call inputs.now) (M.state node.old.machine) (D.seen found) }
     ensures ready { node.new.closed ≡ false → IsSettled D.seen D.may_leave node.new.disk }
 {
     node.handle_all(alloc, inputs, answers)
+}
+
+/// Answers a line of text as `answer` does, and then lets one line stand for the whole journal. Who starts
+/// on what a crash at any moment of either left comes to the state of before, or to that of after.
+pub fn answer_and_compact<M: Snapshot, D: Disk>(
+    node: &mut Durable<M, D>,
+    alloc: Global,
+    input: &M::Input,
+) -> Result<M::Output, Refused<M::Refusal>>
+    requires { (node.old.closed ≡ false) × IsSettled D.seen D.may_leave node.old.disk }
+    ensures crash { (start : M.State) (found : D)
+        → after M.named_state M.named M.step start (D.seen node.old.disk) ≡ Some (M.state node.old.machine)
+        → IsStart D.seen D.may_leave (D.left_since node.new.disk (D.moment node.old.disk)) found
+        → LeadsToSome (after M.named_state M.named M.step start) M.step
+        (M.call input.now ∷ []) (M.state node.old.machine) (D.seen found) }
+    ensures answered { OnOk result (M.step (M.state node.old.machine) (M.call input.now)
+        ≡ Some (M.state node.new.machine)) }
+    ensures ready { node.new.closed ≡ false → IsSettled D.seen D.may_leave node.new.disk }
+{
+    laws::calls_follow_one_another::<M, D>();
+    let output = node.handle(alloc, input)?;
+    let _as_before_where_refused = node.compact(alloc);
+    Ok(output)
+}
+
+/// Takes a lease, and then the power fails: so many of the bytes that were not on the disk were
+/// written, and so many 0 in place of the next. The machine that starts then finds it taken.
+pub fn taken_for_good(
+    alloc: Global,
+    journal: Vec<u8>,
+    written: usize,
+    zeros: usize,
+) -> Option<Durable<Lease, MemoryDisk>>
+    ensures { IfSome result (λ lease. lease.machine.taken ≡ true) }
+{
+    let free = Lease { taken: false };
+    let Ok(mut lease) = start(alloc, free, MemoryDisk::new(alloc, journal)) else {
+        return None;
+    };
+    let Ok(_) = lease.handle(alloc, &Ask::Take) else {
+        return None;
+    };
+    let Ok(left) = lease.disk.crash(written, zeros) else {
+        return None;
+    };
+    match start(alloc, Lease { taken: false }, left) {
+        Ok(lease) => Some(lease),
+        Err(_) => None,
+    }
 }
 
 /// A lease over the journal of a folder that exists. `WouldBlock` comes where another process has it.
