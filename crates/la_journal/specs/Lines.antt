@@ -1,5 +1,5 @@
 -- What a file of lines stands for.
-use Rattle.std.specs.Prelude.{◌≡◌, ◌≢◌, ◌⊎◌, ⊤, ℕ, List, [], ◌∷◌, ◌++◌, if◌then◌else◌, ◌==◌, ◌≤◌, ◌-◌, length, take, drop, Contains}
+use Rattle.std.specs.Prelude.{◌≢◌, ⊤, ℕ, List, [], ◌∷◌, ◌++◌, if◌then◌else◌, ◌==◌, length, drop}
 
 -- the whole lines of these bytes, where the first line begins with what was got of it
 abbrev pub lines_from : List ℕ → List ℕ → List (List ℕ)

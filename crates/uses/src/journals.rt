@@ -170,8 +170,8 @@ pub fn take_all<M: Machine, D: Disk>(
     inputs: &[M::Input],
     answers: &mut Vec<M::Output>,
 ) -> Result<(), Refused<M::Refusal>>
-    requires { (node.old.closed ≡ false) × IsSettled D.seen D.may_leave node.old.disk }
-    ensures crash { (start : M.State) (found : D)
+    requires { node.old.closed ≡ false → IsSettled D.seen D.may_leave node.old.disk }
+    ensures crash { (start : M.State) (found : D) → node.old.closed ≡ false
         → after M.named_state M.named M.step start (D.seen node.old.disk) ≡ Some (M.state node.old.machine)
         → IsStart D.seen D.may_leave (D.left_since node.new.disk (D.moment node.old.disk)) found
         → LeadsToSome (after M.named_state M.named M.step start) M.step
@@ -188,8 +188,8 @@ pub fn answer_and_compact<M: Snapshot, D: Disk>(
     alloc: Global,
     input: &M::Input,
 ) -> Result<M::Output, Refused<M::Refusal>>
-    requires { (node.old.closed ≡ false) × IsSettled D.seen D.may_leave node.old.disk }
-    ensures crash { (start : M.State) (found : D)
+    requires { node.old.closed ≡ false → IsSettled D.seen D.may_leave node.old.disk }
+    ensures crash { (start : M.State) (found : D) → node.old.closed ≡ false
         → after M.named_state M.named M.step start (D.seen node.old.disk) ≡ Some (M.state node.old.machine)
         → IsStart D.seen D.may_leave (D.left_since node.new.disk (D.moment node.old.disk)) found
         → LeadsToSome (after M.named_state M.named M.step start) M.step
