@@ -181,7 +181,7 @@ pub fn take_all<M: Machine, D: Disk>(
     node.handle_all(alloc, inputs, answers)
 }
 
-/// Answers a line of text as `answer` does, and then lets one line stand for the whole journal. Who starts
+/// Takes an input, and then lets one line stand for the whole journal, if that is not refused. Who starts
 /// on what a crash at any moment of either left comes to the state of before, or to that of after.
 pub fn answer_and_compact<M: Snapshot, D: Disk>(
     node: &mut Durable<M, D>,
