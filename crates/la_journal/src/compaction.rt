@@ -1,5 +1,5 @@
 // A journal that grew, with a state in its place.
-ghost use Rattle.std.specs.Prelude.{◌≡◌, ◌++◌, ◌∷◌, [], false, true, Some, IfOk, IfErr, OnOk, OnErr};
+ghost use Rattle.std.specs.Prelude.{◌≡◌, [], false, true, Some, IfOk, IfErr, OnOk, OnErr};
 ghost use Rattle.la_journal.specs.Disk.{LeavesOnly};
 ghost use Rattle.la_journal.specs.Machine.{after, LeadsToSome, SaysState};
 ghost use Rattle.la_journal.specs.Durable.{IsSettled, IsNotCompacted};

@@ -1,5 +1,5 @@
 // What holds over a crash and a new start: laws over all disks and files, which no code runs.
-ghost use Rattle.std.specs.Prelude.{◌≡◌, ◌++◌, ℕ, List, Some};
+ghost use Rattle.std.specs.Prelude.{◌≡◌, ◌++◌, ℕ, List, Some, take};
 ghost use Rattle.la_journal.specs.Disk.{LeavesOnly};
 ghost use Rattle.la_journal.specs.Lines.{lines};
 ghost use Rattle.la_journal.specs.Machine.{after, steps, LeadsToSome};
@@ -34,11 +34,12 @@ pub fn a_start_has_what_was_answered<M: Machine, D: Disk>()
 {}
 
 /// What was answered before one crash is there after the next: where a file leads from the state `first` by
-/// some calls, and a later one by some more from where that led, this leads by calls from `first` on.
+/// the first some of these calls, and a later file from there by the first some of the later ones, this leads
+/// from `first` by the ones and then the others.
 pub fn lives_follow_one_another<M: Machine>()
     ensures { (start first next : M.State) (calls later : List M.Call) (c d : List ℕ)
         → LeadsToSome (after M.named_state M.named M.step start) M.step calls first c
         → after M.named_state M.named M.step start c ≡ Some next
         → LeadsToSome (after M.named_state M.named M.step start) M.step later next d
-        → (all : List M.Call) × (after M.named_state M.named M.step start d ≡ steps M.step all first) }
+        → (n : ℕ) × (m : ℕ) × (after M.named_state M.named M.step start d ≡ steps M.step (take n calls ++ take m later) first) }
 {}

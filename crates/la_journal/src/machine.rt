@@ -1,5 +1,5 @@
 // A machine that changes by calls alone, each of which is a line of text.
-ghost use Rattle.std.specs.Prelude.{◌≡◌, ◌⊎◌, ◌++◌, List, ℕ, Option, Some, None, IfOk, IfErr, OnOk, OnErr};
+ghost use Rattle.std.specs.Prelude.{◌≡◌, ◌⊎◌, List, ℕ, Option, Some, None, IfOk, IfErr, OnOk, OnErr};
 ghost use Rattle.la_journal.specs.Lines.{IsClean};
 ghost use Rattle.la_journal.specs.Journal.{IsCallLine};
 ghost use Rattle.la_journal.specs.Machine.{IsNamed, IsTaken};

@@ -105,7 +105,7 @@ impl Snapshot for Lease {
 }
 
 // ---- callers
-ghost use Rattle.std.specs.Prelude.{IfSome, List, ℕ, Err};
+ghost use Rattle.std.specs.Prelude.{IfSome, Err};
 ghost use Rattle.la_journal.specs.Disk.{Only};
 ghost use Rattle.la_journal.specs.Lines.{lines};
 ghost use Rattle.la_journal.specs.Machine.{after, calls, LeadsToSome};
