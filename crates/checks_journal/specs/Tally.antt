@@ -1,7 +1,7 @@
 -- A number that goes up and down, by lines of text.
 use Rattle.std.specs.Prelude.{◌≡◌, ℕ, suc, zero, ◌+◌, List, [], ◌∷◌, Option, Some, None, if◌then◌else◌, ◌==◌, refl}
 use Rattle.std.proofs.Common.{arith}
-use Rattle.la_journal.specs.Lines.{IsClean}
+use Rattle.la_journal.specs.Journal.{IsCallLine}
 use Rattle.checks_journal.specs.declared.tally.Move.{Move}
 use Rattle.checks_journal.specs.declared.tally.Move.TheVariants.{Up, Down}
 
@@ -27,6 +27,14 @@ pub round_trip : (m : Move) → named (text m) ≡ Some m
 round_trip Up = refl
 round_trip Down = refl
 
-pub clean : (m : Move) → IsClean (text m)
-clean Up = (omega arith, omega arith, tt)
-clean Down = (omega arith, omega arith, tt)
+-- a number as a text: as many 'u' as it is
+abbrev pub ups_from : ℕ → List ℕ → Option ℕ
+ups_from n [] = Some n
+ups_from n (b ∷ bytes) = if b == 117 then ups_from (n + 1) bytes else None
+
+abbrev pub number_in : List ℕ → Option ℕ
+number_in bytes = ups_from 0 bytes
+
+pub clean : (m : Move) → IsCallLine (text m)
+clean Up = ((omega arith, omega arith, tt), refl)
+clean Down = ((omega arith, omega arith, tt), refl)

@@ -1,6 +1,8 @@
 // Journals as text, and what a start on them comes to.
+ghost use Rattle.la_journal.specs.Durable.{IsSettled};
+
 use crate::Tally;
-use la_journal::{Disk, MemoryDisk, Unplayed, recover};
+use la_journal::{Disk, Durable, MemoryDisk, Unplayed, recover};
 use std::alloc::Global;
 use std::process::Abort;
 
@@ -17,16 +19,34 @@ pub fn disk_of(rt: &impl Abort, alloc: Global, text: &str) -> MemoryDisk {
     MemoryDisk::new(alloc, bytes)
 }
 
+/// A tally over a disk; where memory is refused once, the second start has it.
+pub fn tally_over(rt: &impl Abort, alloc: Global, disk: MemoryDisk) -> Durable<Tally, MemoryDisk>
+    ensures { IsSettled ⟦<MemoryDisk as Disk>⟧.seen ⟦<MemoryDisk as Disk>⟧.may_leave result.disk }
+{
+    let disk = match recover(alloc, Tally { total: 0 }, disk) {
+        Ok(node) => return node,
+        Err((_, disk)) => disk,
+    };
+    let Ok(node) = recover(alloc, Tally { total: 0 }, disk) else {
+        panic!(rt; "no start");
+    };
+    node
+}
+
 /// What a start comes to.
 #[derive(Clone, Copy, Debug, PartialEq, Eq)]
 pub enum Start {
     /// A tally at this number.
     At(u64),
+    /// The machine reads no state from the first line.
+    NoState,
+    /// The line at this byte is a state's.
+    Misplaced(usize),
     /// The line at this byte is no call.
     NoCall(usize),
     /// The line at this byte is refused.
     Refused(usize),
-    /// A line stands behind a 0 after the lines that end at this byte.
+    /// After the lines that end at this byte is what no crash leaves.
     Damaged(usize),
     /// There is no memory, or the disk failed.
     Failed,
@@ -42,6 +62,8 @@ pub fn started<D: Disk>(alloc: Global, disk: D) -> Start {
 
 fn refusal<R: Drop>(why: Unplayed<R>) -> Start {
     match why {
+        Unplayed::NoState => Start::NoState,
+        Unplayed::Misplaced(place) => Start::Misplaced(place),
         Unplayed::NoCall(place) => Start::NoCall(place),
         Unplayed::Refused(place, _) => Start::Refused(place),
         Unplayed::Damaged(place) => Start::Damaged(place),

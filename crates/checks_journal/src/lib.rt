@@ -2,6 +2,8 @@
 #![tactic(auto)]
 
 #[cfg(test)]
+mod compactions;
+#[cfg(test)]
 mod crashes;
 #[cfg(test)]
 mod folders;

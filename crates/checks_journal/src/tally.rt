@@ -1,11 +1,11 @@
 // A number that goes up and down, one line a move.
-ghost use Rattle.std.specs.Prelude.{◌≡◌, ◌++◌, ◌∷◌, [], ℕ, Option, Some, IfOk};
+ghost use Rattle.std.specs.Prelude.{◌≡◌, ◌++◌, ◌∷◌, [], ℕ, Option, Some, None, IfOk, IfSome, IfNone};
 ghost use Rattle.la_journal.specs.Disk.{Only};
 ghost use Rattle.la_journal.specs.Lines.{lines};
 ghost use Rattle.checks_journal.specs.declared.tally.Move.TheVariants.{Up};
-ghost use Rattle.checks_journal.specs.Tally.{text};
+ghost use Rattle.checks_journal.specs.Tally.{text, number_in};
 
-use la_journal::{Disk, Machine, recover};
+use la_journal::{Disk, Machine, Snapshot, recover};
 use std::alloc::{AllocError, Global};
 use thiserror::Error;
 
@@ -36,7 +36,7 @@ pub struct Tally {
 
 impl Machine for Tally {
     ghost use Rattle.checks_journal.specs.declared.tally.Move.{Move};
-    ghost use Rattle.checks_journal.specs.Tally.{moved, text, named, round_trip, clean};
+    ghost use Rattle.checks_journal.specs.Tally.{moved, text, named, number_in, round_trip, clean};
 
     type Input = Move;
 
@@ -63,6 +63,8 @@ impl Machine for Tally {
     ghost text = { text };
 
     ghost named = { named };
+
+    ghost named_state = { number_in };
 
     ghost lacks_memory = { λ _. ⊥ };
 
@@ -104,6 +106,39 @@ impl Machine for Tally {
             _ => None,
         })
     }
+
+    fn read_state(&mut self, _alloc: Global, bytes: &[u8]) -> Result<bool, AllocError> {
+        if let Some(total) = ups_in(bytes) {
+            self.total = total;
+            return Ok(true);
+        }
+        Ok(false)
+    }
+}
+
+impl Snapshot for Tally {
+    fn write_state(&self, alloc: Global) -> Result<Vec<u8>, AllocError> {
+        let mut text = Vec::new(alloc);
+        for _up in 0..self.total {
+            text.push(b'u')?;
+        }
+        Ok(text)
+    }
+}
+
+// The number that is told by as many `u`.
+fn ups_in(bytes: &[u8]) -> Option<u64>
+    ensures some { IfSome result (λ total. number_in bytes.now ≡ Some total) }
+    ensures none { IfNone result (number_in bytes.now ≡ None) }
+{
+    let mut total = 0;
+    for byte in bytes {
+        if *byte != b'u' {
+            return None;
+        }
+        total += 1;
+    }
+    Some(total)
 }
 
 /// Why nothing was counted.

@@ -1,9 +1,9 @@
 -- How what a crash may leave goes on.
-use Rattle.std.proofs.Common.{◌≡◌, ◌⊎◌, inl, inr, ⊎_elim, ℕ, zero, suc, ◌+◌, ◌≤◌, List, [], ◌∷◌, ◌++◌, length, take, drop, refl, sym, ◌∙◌, ap, subst, arith, append_assoc, take-append-drop}
+use Rattle.std.proofs.Common.{◌≡◌, ◌⊎◌, inl, inr, ⊎_elim, ℕ, zero, suc, ◌≤◌, List, [], ◌∷◌, ◌++◌, length, take, drop, refl, sym, ◌∙◌, ap, subst, arith, append_assoc, take-append-drop}
 use Rattle.std.proofs.lemmas.List.{append-nil, take_all, drop_all}
 use Rattle.la_journal.specs.Disk.{IsTorn, Torn, Elapses}
 use Rattle.la_journal.specs.Note.{Event}
-use Rattle.la_journal.specs.Outcomes.{LeftOf, HadBeenSince, LeftSince}
+use Rattle.la_journal.specs.Outcomes.{LeftOf, LeftSince}
 
 -- no time
 pub stays : (past : List Event) (kept : ℕ) (bytes : List ℕ) → Elapses (length past) (length past) (LeftSince past kept bytes) (LeftSince past kept bytes) (LeftOf kept bytes)

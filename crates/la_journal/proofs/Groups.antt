@@ -1,11 +1,11 @@
 -- Lines put behind a settled file at once.
-use Rattle.std.proofs.Common.{◌≡◌, ℕ, zero, suc, ◌+◌, ◌-◌, ◌≤◌, ◌<◌, List, [], ◌∷◌, ◌++◌, map, length, take, drop, refl, sym, ◌∙◌, ap, subst, arith, append_assoc}
+use Rattle.std.proofs.Common.{◌≡◌, ℕ, zero, suc, ◌-◌, ◌≤◌, ◌<◌, List, [], ◌∷◌, ◌++◌, length, take, drop, refl, sym, ◌∙◌, ap, subst, arith, append_assoc}
 use Rattle.std.proofs.lemmas.List.{append-nil, take_at, take_all, length-append, length-drop}
 use Rattle.la_journal.specs.Disk.{MayBeTorn, Only, IsTorn}
-use Rattle.la_journal.specs.Lines.{lines, file_of, IsClean, IsSomeOf}
+use Rattle.la_journal.specs.Lines.{lines, file_of, IsClean}
 use Rattle.la_journal.specs.Machine.{texts}
 use Rattle.la_journal.specs.Durable.{IsSettled}
-use Rattle.la_journal.proofs.Whole.{AreClean, lines_clean, lines_file_of}
+use Rattle.la_journal.proofs.Whole.{AreClean, lines_clean, lines_file_of, IsSomeOf}
 use Rattle.la_journal.proofs.TornLines.{torn_lines}
 
 pub lines_of : (ls : List (List ℕ)) → AreClean ls → lines (file_of ls) ≡ ls

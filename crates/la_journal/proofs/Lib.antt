@@ -1,6 +1,8 @@
 mod Goes
 mod TornLines
 mod Groups
+mod Leading
+mod Compacting
 mod Moments
 mod Reserved
 mod StepsMore

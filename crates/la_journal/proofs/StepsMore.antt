@@ -1,5 +1,5 @@
 -- One call more.
-use Rattle.std.proofs.Common.{◌≡◌, ℕ, zero, suc, ◌+◌, ◌<◌, List, [], ◌∷◌, ◌++◌, Option, Some, None, map, length, take, get_or, refl, sym, ◌∙◌, ap, subst, arith}
+use Rattle.std.proofs.Common.{◌≡◌, ℕ, zero, suc, ◌+◌, ◌<◌, List, [], ◌∷◌, ◌++◌, Option, Some, None, map, length, take, get_or, refl, sym, ◌∙◌, ap, subst}
 use Rattle.std.proofs.lemmas.List.{take_more, length-map}
 use Rattle.std.proofs.lemmas.Option.{none-some}
 use Rattle.la_journal.specs.Machine.{goes_on, steps_from, replies_from}
@@ -8,19 +8,23 @@ abbrev value_or : {S : Type 0} → S → Option S → S
 value_or state None = state
 value_or state (Some now) = now
 
+pub from_append : {S C : Type 0} (step : S → C → Option S) (xs ys : List C) (state : Option S) → steps_from step (xs ++ ys) state ≡ steps_from step ys (steps_from step xs state)
+from_append step [] ys state = refl
+from_append step (x ∷ xs) ys state = from_append step xs ys (goes_on step state x)
+
+pub none_stays : {S C : Type 0} (step : S → C → Option S) (calls : List C) → steps_from step calls None ≡ None
+none_stays step [] = refl
+none_stays step (c ∷ calls) = none_stays step calls
+
 module _ {S C A : Type 0} (step : S → C → Option S) (answers : S → C → A) where
   pub from_push : (calls : List C) (state : Option S) (call : C) → steps_from step (calls ++ call ∷ []) state ≡ goes_on step (steps_from step calls state) call
   from_push [] state call = refl
   from_push (c ∷ calls) state call = from_push calls (goes_on step state c) call
 
-  none_stays : (calls : List C) → steps_from step calls None ≡ None
-  none_stays [] = refl
-  none_stays (c ∷ calls) = none_stays calls
-
   pub replies_push : (calls : List C) (state : Option S) (call : C) (now : S) → steps_from step calls state ≡ Some now → replies_from step answers (calls ++ call ∷ []) state ≡ replies_from step answers calls state ++ answers now call ∷ []
   replies_push [] None call now is = absurd (none-some now is)
   replies_push [] (Some state) call now is = ap (λ (s : S). answers s call ∷ []) (ap (value_or state) is)
-  replies_push (c ∷ calls) None call now is = absurd (none-some now (sym (none_stays calls) ∙ is))
+  replies_push (c ∷ calls) None call now is = absurd (none-some now (sym (none_stays step calls) ∙ is))
   replies_push (c ∷ calls) (Some state) call now is = ap (λ (l : List A). answers state c ∷ l) (replies_push calls (step state c) call now is)
 
 pub at_map : {I J : Type 0} (f : I → J) (xs : List I) (k : ℕ) (d : I) → get_or (map f xs) k (f d) ≡ f (get_or xs k d)

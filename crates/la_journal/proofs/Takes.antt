@@ -1,11 +1,10 @@
 -- What a crash leaves while a line is put behind a settled file.
 use Rattle.std.proofs.Common.{◌≡◌, inl, inr, ⊎_elim, ℕ, List, [], ◌∷◌, ◌++◌, sym, ◌∙◌, ap, subst}
 use Rattle.std.proofs.lemmas.List.{append-nil}
-use Rattle.la_journal.specs.Disk.{LeavesOnly, MayBeTorn, Elapses, Follows, Torn, Only, IsTorn}
-use Rattle.la_journal.specs.Lines.{lines, file_of, IsClean, IsBeforeOrAfter}
+use Rattle.la_journal.specs.Disk.{LeavesOnly, MayBeTorn, Only, IsTorn}
+use Rattle.la_journal.specs.Lines.{lines, file_of, IsClean}
 use Rattle.la_journal.specs.Durable.{IsSettled}
-use Rattle.la_journal.proofs.Moments.{started, goes_on}
-use Rattle.la_journal.proofs.Whole.{appended, still_settled, torn_keeps}
+use Rattle.la_journal.proofs.Whole.{appended, still_settled, torn_keeps, IsBeforeOrAfter}
 
 -- nothing of it
 pub untorn : (bytes : List ℕ) (before : List ℕ → Type 0) (c : List ℕ) → before c → MayBeTorn bytes before c

@@ -1,8 +1,8 @@
 -- Many lines put behind a file at once, of which a crash keeps some.
-use Rattle.std.proofs.Common.{◌≡◌, ◌≢◌, ◌⊎◌, inl, inr, ℕ, suc, ◌≤◌, List, [], ◌∷◌, ◌++◌, length, take, refl, sym, ◌∙◌, ap, arith}
+use Rattle.std.proofs.Common.{◌≡◌, ◌⊎◌, inl, inr, ℕ, suc, ◌≤◌, List, [], ◌∷◌, ◌++◌, length, take, refl, sym, ◌∙◌, ap, arith}
 use Rattle.la_journal.specs.Disk.{IsTorn}
 use Rattle.la_journal.specs.Lines.{lines, lines_from, file_of, IsClean}
-use Rattle.la_journal.proofs.Whole.{step_end, step_cut, step_byte, first_line, AreClean}
+use Rattle.la_journal.proofs.Whole.{step_cut, step_byte, first_line, AreClean}
 
 -- of the first line nothing is read, or it is whole
 pub first_torn : (got line more torn : List ℕ) → IsClean line → IsTorn (line ++ 10 ∷ more) torn → (lines_from got torn ≡ []) ⊎ ((rest : List ℕ) × IsTorn more rest × (torn ≡ line ++ 10 ∷ rest))

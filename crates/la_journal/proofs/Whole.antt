@@ -1,11 +1,19 @@
 -- What bytes of lines stand for.
-use Rattle.std.proofs.Common.{◌≡◌, ◌≢◌, ◌⊎◌, inl, inr, ℕ, List, [], ◌∷◌, ◌++◌, ◌+◌, ◌<◌, length, take, drop, get_or, refl, sym, ◌∙◌, ap, subst, arith, append_assoc, take-append-drop}
+use Rattle.std.proofs.Common.{◌≡◌, ◌≢◌, ◌⊎◌, inl, inr, ℕ, List, [], ◌∷◌, ◌++◌, ◌+◌, ◌<◌, ◌≤◌, length, take, drop, get_or, refl, sym, ◌∙◌, ap, subst, arith, append_assoc, take-append-drop}
 use Rattle.std.specs.Prelude.{⊤}
 use Rattle.std.proofs.lemmas.List.{append-nil, take_at, take_more, drop_more}
 use Rattle.std.proofs.lemmas.Bool.{cases_eq}
 use Rattle.std.proofs.lemmas.Bool.Decides.{nat_tests}
 use Rattle.la_journal.specs.Disk.{IsTorn}
-use Rattle.la_journal.specs.Lines.{lines, lines_from, file_of, IsClean, IsBeforeOrAfter}
+use Rattle.la_journal.specs.Lines.{lines, lines_from, file_of, IsClean}
+
+-- the file stands for the lines, with one more or without it
+abbrev pub IsBeforeOrAfter : List (List ℕ) → List ℕ → List ℕ → Type 0
+IsBeforeOrAfter before line file = (lines file ≡ before) ⊎ (lines file ≡ before ++ line ∷ [])
+
+-- the lines of a file with the first some of these behind them
+abbrev pub IsSomeOf : List (List ℕ) → List (List ℕ) → List ℕ → Type 0
+IsSomeOf before more file = (n : ℕ) × (n ≤ length more) × (lines file ≡ before ++ take n more)
 
 pub step_end : (got bytes : List ℕ) (b : ℕ) → b ≡ 10 → lines_from got (b ∷ bytes) ≡ got ∷ lines_from [] bytes
 step_end got bytes b is = grind (arith, nat_tests)

@@ -1,6 +1,6 @@
 -- What is known of a file, as a disk sees it: each by the bytes, by how many of them are on the disk,
 -- and by what is noted of the past.
-use Rattle.std.specs.Prelude.{ℕ, ◌-◌, List, length, vec_len, vec_capacity, ◌⊎◌}
+use Rattle.std.specs.Prelude.{ℕ, ◌-◌, List, length, vec_len, vec_capacity}
 use Rattle.la_journal.specs.declared.contents.Contents.{Contents}
 use Rattle.la_journal.specs.Outcomes.{LeftOf, LeftSince, only_left}
 

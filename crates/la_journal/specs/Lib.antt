@@ -1,8 +1,10 @@
 pub mod Disk
 pub mod Lines
+pub mod Journal
 pub mod Machine
 pub mod Durable
 pub mod Note
 pub mod Outcomes
 pub mod Held
 pub mod Starts
+pub mod Snapshots

@@ -1,5 +1,5 @@
 -- What a file of lines stands for.
-use Rattle.std.specs.Prelude.{◌≡◌, ◌≢◌, ◌⊎◌, ⊤, ℕ, List, [], ◌∷◌, ◌++◌, if◌then◌else◌, ◌==◌, ◌≤◌, ◌-◌, length, take, drop, Contains}
+use Rattle.std.specs.Prelude.{◌≢◌, ⊤, ℕ, List, [], ◌∷◌, ◌++◌, if◌then◌else◌, ◌==◌, length, drop}
 
 -- the whole lines of these bytes, where the first line begins with what was got of it
 abbrev pub lines_from : List ℕ → List ℕ → List (List ℕ)
@@ -19,20 +19,7 @@ file_of (line ∷ rest) = line ++ 10 ∷ file_of rest
 abbrev pub tail_of : List ℕ → List ℕ
 tail_of file = drop (length (file_of (lines file))) file
 
--- Behind the whole lines a line's end stands before the last byte, so there is a line behind a byte that
--- is 0. A crash while one line is put behind a file does not leave that.
-abbrev pub IsDamaged : List ℕ → Type 0
-IsDamaged file = Contains (take (length (tail_of file) - 1) (tail_of file)) 10
-
 -- no byte is 0 or a line's end
 abbrev pub IsClean : List ℕ → Type 0
 IsClean [] = ⊤
 IsClean (b ∷ bytes) = (b ≢ 0) × (b ≢ 10) × IsClean bytes
-
--- the file stands for the lines, with one more or without it
-abbrev pub IsBeforeOrAfter : List (List ℕ) → List ℕ → List ℕ → Type 0
-IsBeforeOrAfter before line file = (lines file ≡ before) ⊎ (lines file ≡ before ++ line ∷ [])
-
--- the lines of a file with the first some of these behind them
-abbrev pub IsSomeOf : List (List ℕ) → List (List ℕ) → List ℕ → Type 0
-IsSomeOf before more file = (n : ℕ) × (n ≤ length more) × (lines file ≡ before ++ take n more)

@@ -1,20 +1,6 @@
--- What a machine comes to by the lines of a journal.
-use Rattle.std.specs.Prelude.{◌≡◌, List, [], ◌∷◌, ℕ, Option, Some, None, map}
-
--- one line played: none where it says no call, or one that the machine refuses
-abbrev pub plays : {S C : Type 0} (named : List ℕ → Option C) (step : S → C → Option S) → List ℕ → S → Option S
-plays named step line state = elim (named line) [
-  | Some call ↦ step state call
-  | None ↦ None
-]
-
--- the state after these lines, from the first on
-abbrev pub after : {S C : Type 0} (named : List ℕ → Option C) (step : S → C → Option S) → List (List ℕ) → S → Option S
-after named step [] state = Some state
-after named step (line ∷ rest) state = elim (plays named step line state) [
-  | Some next ↦ after named step rest next
-  | None ↦ None
-]
+-- What a machine comes to by calls, and by what a journal says.
+use Rattle.std.specs.Prelude.{◌≡◌, List, [], ◌∷◌, ℕ, ◌≤◌, Bool, true, false, Option, Some, None, map, length, take}
+use Rattle.la_journal.specs.Journal.{state_in, says}
 
 -- the input that was read is the one that the line names
 abbrev pub IsNamed : {I C : Type 0} (call : I → C) → Option C → Option I → Type 0
@@ -50,3 +36,41 @@ replies_from step answers (call ∷ rest) (Some state) = answers state call ∷ 
 
 abbrev pub replies : {S C A : Type 0} (step : S → C → Option S) (answers : S → C → A) → List C → S → List A
 replies step answers calls state = replies_from step answers calls (Some state)
+
+-- the call that a line says: none where it is a state's
+abbrev pub call_unless : {C : Type 0} → Option (List ℕ) → Option C → Option C
+call_unless (Some state) call = None
+call_unless None call = call
+
+abbrev pub step_by : {S C : Type 0} (step : S → C → Option S) → S → Option C → Option S
+step_by step state (Some call) = step state call
+step_by step state None = None
+
+-- one line played: none where it says no call, or one that the machine refuses
+abbrev pub plays : {S C : Type 0} (named : List ℕ → Option C) (step : S → C → Option S) → S → List ℕ → Option S
+plays named step state line = step_by step state (call_unless (state_in line) (named line))
+
+-- the state that a journal begins with, and else the one of a start
+abbrev pub begins : {S : Type 0} (named_state : List ℕ → Option S) → Option (List ℕ) → S → Option S
+begins named_state None start = Some start
+begins named_state (Some text) start = named_state text
+
+-- where a file leads a machine: from the state that it begins with, by its calls
+abbrev pub after : {S C : Type 0} (named_state : List ℕ → Option S) (named : List ℕ → Option C) (step : S → C → Option S) → S → List ℕ → Option S
+after named_state named step start file = steps_from (plays named step) (says file).calls (begins named_state (says file).state start)
+
+-- the state is the one that a text says, where one was taken from it
+abbrev pub IsTaken : {S : Type 0} → Option S → S → Bool → Type 0
+IsTaken named state true = named ≡ Some state
+IsTaken named state false = named ≡ None
+
+-- The file leads to where the first some of these calls lead from a state: each is there whole, and none is
+-- skipped.
+abbrev pub LeadsToSome : {S C : Type 0} (leads : List ℕ → Option S) (step : S → C → Option S) → List C → S → List ℕ → Type 0
+LeadsToSome leads step calls state file = (n : ℕ) × (n ≤ length calls) × (leads file ≡ steps step (take n calls) state)
+
+-- the file says one state, and no call
+pub record SaysState {S : Type 0} (named_state : List ℕ → Option S) (state : S) (file : List ℕ) : Type 0 where
+  pub text : List ℕ
+  pub names : named_state text ≡ Some state
+  pub alone : says file ≡ record { state = Some text; calls = [] }

@@ -101,6 +101,8 @@ pub trait Disk: Drop {
         ensures written { OnOk result (seen self.new ≡ bytes.now) }
         ensures durable { OnOk result (Only bytes.now (may_leave self.new)) }
         ensures crash { (c : List ℕ) → may_leave self.new c → may_leave self.old c ⊎ (c ≡ bytes.now) }
+        ensures refused { IsErrOf result Memory → seen self.new ≡ seen self.old }
+        ensures refused_crash { IsErrOf result Memory → (c : List ℕ) → may_leave self.new c → may_leave self.old c }
         ensures time { Elapses (moment self.old) (moment self.new) (left_since self.old) (left_since self.new) (may_leave self.new) }
         ensures later { faults self.old ≤ faults self.new }
         ensures failed { IsErrOf result Failed → faults self.old < faults self.new };

@@ -1,7 +1,8 @@
 // A machine over its journal.
 ghost use Rattle.std.specs.Prelude.{◌≡◌, ◌++◌, ◌∷◌, [], ◌<◌, ◌≤◌, length, true, false, Some, IfOk, IfErr, OnOk, OnErr};
 ghost use Rattle.la_journal.specs.Disk.{LeavesOnly, Only, MayBeTorn};
-ghost use Rattle.la_journal.specs.Lines.{lines, IsBeforeOrAfter};
+ghost use Rattle.la_journal.specs.Lines.{lines};
+ghost use Rattle.la_journal.specs.Machine.{after, LeadsToSome};
 ghost use Rattle.la_journal.specs.Durable.{IsSettled, IsRefusal};
 
 use crate::{Disk, DiskFault, Machine};
@@ -50,9 +51,17 @@ impl<M: Machine, D: Disk> Durable<M, D> {
             × (M.step (M.state self.old.machine) (M.call input.now) ≡ Some (M.state self.new.machine))) }
         ensures answer { IfOk result (λ output. M.answer output ≡ M.answers (M.state self.old.machine) (M.call input.now)) }
 
-        // A crash at any moment of the call leaves the lines from before it, with the new one or without.
-        ensures any_moment { self.old.closed ≡ false → LeavesOnly D.moment D.left_since self.old.disk self.new.disk
-            (IsBeforeOrAfter (lines (D.seen self.old.disk)) (M.text (M.call input.now))) }
+        // Where the journal led to the machine's state it does so again.
+        ensures leads { self.new.closed ≡ false → (start : M.State)
+            → after M.named_state M.named M.step start (D.seen self.old.disk) ≡ Some (M.state self.old.machine)
+            → after M.named_state M.named M.step start (D.seen self.new.disk) ≡ Some (M.state self.new.machine) }
+
+        // And a crash at any moment of the call leaves a file that leads to the state from before it, or to
+        // that after this one call.
+        ensures any_moment { self.old.closed ≡ false → (start : M.State)
+            → after M.named_state M.named M.step start (D.seen self.old.disk) ≡ Some (M.state self.old.machine)
+            → LeavesOnly D.moment D.left_since self.old.disk self.new.disk
+            (LeadsToSome (after M.named_state M.named M.step start) M.step (M.call input.now ∷ []) (M.state self.old.machine)) }
 
         ensures open { self.new.closed ≡ false → IsSettled D.seen D.may_leave self.new.disk }
         ensures same { OnErr result (self.new.closed ≡ false → (D.seen self.new.disk ≡ D.seen self.old.disk)

@@ -1,8 +1,8 @@
 // Many inputs at once, with one append and one sync.
 ghost use Rattle.std.specs.Prelude.{◌≡◌, ◌⊎◌, ◌++◌, ◌∷◌, [], ◌+◌, ◌-◌, ◌<◌, ◌≤◌, true, false, length, take, drop, map, vec_len, vec_capacity, Some, None, IsOk, IfOk, IfErr, OnOk, OnErr};
 ghost use Rattle.la_journal.specs.Disk.{LeavesOnly};
-ghost use Rattle.la_journal.specs.Lines.{lines, file_of, IsSomeOf};
-ghost use Rattle.la_journal.specs.Machine.{calls, texts, steps, replies};
+ghost use Rattle.la_journal.specs.Lines.{lines, file_of};
+ghost use Rattle.la_journal.specs.Machine.{calls, texts, steps, replies, after, LeadsToSome};
 ghost use Rattle.la_journal.specs.Durable.{IsSettled, IsStop};
 
 use crate::durable::{encode, keep};
@@ -41,10 +41,17 @@ impl<M: Machine, D: Disk> Durable<M, D> {
 
         ensures open { self.new.closed ≡ false → IsSettled D.seen D.may_leave self.new.disk }
 
-        // A crash at any moment leaves the lines from before it and those of some of the inputs, the
-        // first ones, none skipped and none in part.
-        ensures any_moment { self.old.closed ≡ false → LeavesOnly D.moment D.left_since self.old.disk self.new.disk
-            (IsSomeOf (lines (D.seen self.old.disk)) (texts M.call M.text inputs.now)) }
+        // Where the journal led to the machine's state it does so again.
+        ensures leads { self.new.closed ≡ false → (start : M.State)
+            → after M.named_state M.named M.step start (D.seen self.old.disk) ≡ Some (M.state self.old.machine)
+            → after M.named_state M.named M.step start (D.seen self.new.disk) ≡ Some (M.state self.new.machine) }
+
+        // And a crash at any moment leaves a file that leads to where some of the inputs lead from the state
+        // of before, the first ones, none skipped and none in part.
+        ensures any_moment { self.old.closed ≡ false → (start : M.State)
+            → after M.named_state M.named M.step start (D.seen self.old.disk) ≡ Some (M.state self.old.machine)
+            → LeavesOnly D.moment D.left_since self.old.disk self.new.disk
+            (LeadsToSome (after M.named_state M.named M.step start) M.step (calls M.call inputs.now) (M.state self.old.machine)) }
         ensures still { self.old.closed ≡ true → self.new ≡ self.old }
     {
         if self.closed {

@@ -1,30 +1,45 @@
 // What holds over a crash and a new start: laws over all disks and files, which no code runs.
-ghost use Rattle.std.specs.Prelude.{◌≡◌, ◌++◌, ℕ, List};
+ghost use Rattle.std.specs.Prelude.{◌≡◌, ◌++◌, ℕ, List, Some, take};
 ghost use Rattle.la_journal.specs.Disk.{LeavesOnly};
-ghost use Rattle.la_journal.specs.Lines.{lines, IsSomeOf};
+ghost use Rattle.la_journal.specs.Lines.{lines};
+ghost use Rattle.la_journal.specs.Machine.{after, steps, LeadsToSome};
 ghost use Rattle.la_journal.specs.Durable.{IsSameOr};
 ghost use Rattle.la_journal.specs.Starts.{IsStart};
 
-use crate::Disk;
+use crate::{Disk, Machine};
 
-/// A process died at some moment from `t` on, of which it is known that a crash left the lines
-/// `before`, each of which may have been answered, and the first some of `more`. Another one starts on
-/// what it left (`IsStart`, the one premise). Then that plays the lines `before` and the first some of
-/// `more`, and so does whoever starts after a crash at any moment of its recovery, whose clause
-/// `any_moment` is the premise `recovered`.
-pub fn a_start_has_what_was_answered<D: Disk>()
-    ensures { (dead found recovered : D) (t : ℕ) (before more : List (List ℕ))
-        → ((c : List ℕ) → D.left_since dead t c → IsSomeOf before more c)
-        → IsStart D.seen D.may_leave (D.left_since dead t) found
-        → LeavesOnly D.moment D.left_since found recovered (IsSameOr (D.may_leave found) (lines (D.seen found)))
-        → IsSomeOf before more (D.seen found)
-        × ((c : List ℕ) → D.left_since recovered (D.moment found) c → IsSomeOf before more c) }
+/// A run of calls of one life, a `compact` among them or not: what a crash leaves at any moment of the
+/// first ones, and then of those that follow, is what it leaves at any moment of all. Of the first ones the
+/// calls `taken` led to the next state.
+pub fn calls_follow_one_another<M: Machine, D: Disk>()
+    ensures { (old mid new : D) (start first next : M.State) (taken later : List M.Call)
+        → LeavesOnly D.moment D.left_since old mid (LeadsToSome (after M.named_state M.named M.step start) M.step taken first)
+        → steps M.step taken first ≡ Some next
+        → LeavesOnly D.moment D.left_since mid new (LeadsToSome (after M.named_state M.named M.step start) M.step later next)
+        → LeavesOnly D.moment D.left_since old new (LeadsToSome (after M.named_state M.named M.step start) M.step (taken ++ later) first) }
 {}
 
-/// What was answered before one crash is there after the next: a file that has the lines of an earlier
-/// one and some more has the first lines of that.
-pub fn lives_follow_one_another()
-    ensures { (before more later : List (List ℕ)) (c d : List ℕ)
-        → IsSomeOf before more c → IsSomeOf (lines c) later d
-        → (rest : List (List ℕ)) × (lines d ≡ before ++ rest) }
+/// A process died at some moment from `t` on, of which it is known that a crash left a file that leads from
+/// the state `first`, to which all led that was answered before `t`, by some of the calls behind that.
+/// Another one starts on what it left (`IsStart`, the one premise). Then this comes to such a state, and so
+/// does whoever starts after a crash at any moment of its recovery, whose clause `any_moment` is the premise
+/// on `recovered`.
+pub fn a_start_has_what_was_answered<M: Machine, D: Disk>()
+    ensures { (dead found recovered : D) (t : ℕ) (start first : M.State) (calls : List M.Call)
+        → ((c : List ℕ) → D.left_since dead t c → LeadsToSome (after M.named_state M.named M.step start) M.step calls first c)
+        → IsStart D.seen D.may_leave (D.left_since dead t) found
+        → LeavesOnly D.moment D.left_since found recovered (IsSameOr (D.may_leave found) (lines (D.seen found)))
+        → LeadsToSome (after M.named_state M.named M.step start) M.step calls first (D.seen found)
+        × ((c : List ℕ) → D.left_since recovered (D.moment found) c → LeadsToSome (after M.named_state M.named M.step start) M.step calls first c) }
+{}
+
+/// What was answered before one crash is there after the next: where a file leads from the state `first` by
+/// the first some of these calls, and a later file from there by the first some of the later ones, this leads
+/// from `first` by the ones and then the others.
+pub fn lives_follow_one_another<M: Machine>()
+    ensures { (start first next : M.State) (calls later : List M.Call) (c d : List ℕ)
+        → LeadsToSome (after M.named_state M.named M.step start) M.step calls first c
+        → after M.named_state M.named M.step start c ≡ Some next
+        → LeadsToSome (after M.named_state M.named M.step start) M.step later next d
+        → (n : ℕ) × (m : ℕ) × (after M.named_state M.named M.step start d ≡ steps M.step (take n calls ++ take m later) first) }
 {}

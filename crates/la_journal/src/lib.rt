@@ -2,14 +2,16 @@
 //! is answered.
 //!
 //! A [`Machine`] changes by calls alone, each of which is a line of text. [`Durable`] puts the line of
-//! each call behind a [`Disk`]'s file, and [`recover`] plays these lines, from the first one on.
+//! each call behind a [`Disk`]'s file, and [`recover`] plays these lines, from the first one on. One line
+//! of a [`Snapshot`]'s state takes the place of all before it.
 //!
-//! `specs/` has the definitions: `Lines` (what a file stands for), `Machine` (what lines lead to),
+//! `specs/` has the definitions: `Lines` and `Journal` (what a file says), `Machine` (where it leads),
 //! `Disk` (what a crash may leave), `Durable` (when a machine stands on its journal, and why a call
 //! is refused), `Outcomes` (what was written of a file's [`Contents`]), `Starts`; [`laws`] has what
 //! holds over a crash and a new start.
 #![tactic(auto)]
 
+mod compaction;
 mod contents;
 mod disk;
 mod durable;
@@ -21,9 +23,10 @@ mod memory_disk;
 mod record;
 mod recovery;
 
+pub use compaction::Uncompacted;
 pub use contents::Contents;
 pub use disk::{Disk, DiskError, DiskFault};
 pub use durable::{Durable, Refused};
-pub use machine::Machine;
+pub use machine::{Machine, Snapshot};
 pub use memory_disk::MemoryDisk;
 pub use recovery::{Unplayed, recover};

@@ -1,7 +1,8 @@
 // A machine that changes by calls alone, each of which is a line of text.
-ghost use Rattle.std.specs.Prelude.{◌≡◌, ◌⊎◌, ◌++◌, List, ℕ, Option, Some, None, IfOk, IfErr, OnOk, OnErr};
+ghost use Rattle.std.specs.Prelude.{◌≡◌, ◌⊎◌, List, ℕ, Option, Some, None, IfOk, IfErr, OnOk, OnErr};
 ghost use Rattle.la_journal.specs.Lines.{IsClean};
-ghost use Rattle.la_journal.specs.Machine.{IsNamed};
+ghost use Rattle.la_journal.specs.Journal.{IsCallLine};
+ghost use Rattle.la_journal.specs.Machine.{IsNamed, IsTaken};
 
 use std::alloc::{AllocError, Global};
 
@@ -38,6 +39,9 @@ pub trait Machine: Drop {
 
     ghost named: { List ℕ → Option Call };
 
+    /// The state that a text says. Where no journal of the machine is compacted, no text says one.
+    ghost named_state: { List ℕ → Option State };
+
     /// Whether a refusal is for want of memory.
     ghost lacks_memory: { Self.Refusal → Type 0 };
 
@@ -56,9 +60,21 @@ pub trait Machine: Drop {
     fn read(alloc: Global, line: &[u8]) -> Result<Option<Self::Input>, AllocError>
         ensures { IfOk result (λ read. IsNamed call (named line.now) read) };
 
+    /// Takes the state that a text says; `false` where it says none.
+    fn read_state(&mut self, alloc: Global, bytes: &[u8]) -> Result<bool, AllocError>
+        ensures { IfOk result (λ taken. IsTaken (named_state bytes.now) (state self.new) taken) };
+
     /// What was written is read back.
     ghost round_trip: { (c : Call) → named (text c) ≡ Some c };
 
-    /// A line has no line's end within, and no 0.
-    ghost clean: { (c : Call) → IsClean (text c) };
+    /// A line has no line's end within, and no 0, and does not begin with `=`, as a state's does.
+    ghost clean: { (c : Call) → IsCallLine (text c) };
+}
+
+/// A machine whose journals can be compacted: it writes its state as a text.
+pub trait Snapshot: Machine {
+    /// A text of the state, without a line's end.
+    fn write_state(&self, alloc: Global) -> Result<Vec<u8>, AllocError>
+        ensures read_back { IfOk result (λ text. Self.named_state text.items ≡ Some (Self.state self.now)) }
+        ensures clean { IfOk result (λ text. IsClean text.items) };
 }

@@ -3,8 +3,9 @@ ghost use Rattle.std.specs.Prelude.{◌≡◌, ◌++◌, ◌∷◌, [], ◌+◌,
 ghost use Rattle.la_journal.specs.declared.disk.DiskError.TheVariants.{Memory, Failed};
 ghost use Rattle.la_journal.specs.declared.recovery.Unplayed.TheVariants.{Memory as UnplayedMemory, Disk as UnplayedDisk};
 ghost use Rattle.la_journal.specs.Disk.{LeavesOnly};
-ghost use Rattle.la_journal.specs.Lines.{lines, file_of, IsDamaged};
-ghost use Rattle.la_journal.specs.Machine.{after};
+ghost use Rattle.la_journal.specs.Lines.{lines, file_of};
+ghost use Rattle.la_journal.specs.Journal.{says, state_in, IsDamage, IsDamaged};
+ghost use Rattle.la_journal.specs.Machine.{begins, after};
 ghost use Rattle.la_journal.specs.Durable.{IsSettled, IsSameOr, IsCauseOf};
 
 use crate::{Disk, DiskError, Durable, Machine};
@@ -20,25 +21,34 @@ pub enum Unplayed<R> {
     /// The disk failed.
     Disk,
 
+    /// The first line is a state's, and the machine reads none from it.
+    NoState,
+
     /// The line that begins here is no call.
     NoCall(usize),
+
+    /// The line that begins here is a state's, and is not the first: the journal is damaged.
+    Misplaced(usize),
 
     /// The machine refused the line that begins here.
     Refused(usize, R),
 
-    /// Behind the whole lines, which end here, a line stands behind a byte that is 0.
+    /// Behind the whole lines, which end here, a line stands behind a byte that is 0, or a state's line
+    /// begins.
     Damaged(usize),
 }
 
-/// Plays a journal that a crash may have left, on a machine as it was before the first line, and cuts
-/// what it left of a last line. It may crash too. It writes the whole lines anew, so that what was
-/// played is on the disk: linear in the journal. After a refusal the disk comes back.
+/// Plays a journal that a crash may have left, on a machine as it was before the first call of all, and
+/// cuts what it left of a last line. Where the first line is a state's, the machine takes that. It may
+/// crash too. It writes the whole lines anew, so that what was played is on the disk: linear in the
+/// journal. After a refusal the disk comes back.
 pub fn recover<M: Machine, D: Disk>(
     alloc: Global,
     start: M,
     disk: D,
 ) -> Result<Durable<M, D>, (Unplayed<M::Refusal>, D)>
-    ensures state { IfOk result (λ durable. after M.named M.step (lines (D.seen disk)) (M.state start) ≡ Some (M.state durable.machine)) }
+    ensures state { IfOk result (λ durable. after M.named_state M.named M.step (M.state start) (D.seen disk) ≡ Some (M.state durable.machine)) }
+    ensures leads { IfOk result (λ durable. after M.named_state M.named M.step (M.state start) (D.seen durable.disk) ≡ Some (M.state durable.machine)) }
     ensures settled { IfOk result (λ durable. (durable.closed ≡ false) × IsSettled D.seen D.may_leave durable.disk) }
     ensures same { IfOk result (λ durable. lines (D.seen durable.disk) ≡ lines (D.seen disk)) }
     ensures sound { IfOk result (λ _. ¬ IsDamaged (D.seen disk)) }
@@ -50,7 +60,7 @@ pub fn recover<M: Machine, D: Disk>(
         (IsSameOr (D.may_leave disk) (lines (D.seen disk)))) }
 
     ensures cause { IfErr result (λ e. IsCauseOf M.lacks_memory (D.faults disk) (D.faults e.1) (D.seen disk)
-        (after M.named M.step (lines (D.seen disk)) (M.state start)) e.0) }
+        (after M.named_state M.named M.step (M.state start) (D.seen disk)) e.0) }
 {
     let mut machine = start;
     let mut disk = disk;
@@ -62,7 +72,7 @@ pub fn recover<M: Machine, D: Disk>(
         Ok(end) => end,
         Err(why) => return Err((why, disk)),
     };
-    if ends_within(&bytes[end..]) {
+    if is_damage(&bytes[end..]) {
         return Err((Unplayed::Damaged(end), disk));
     }
     match disk.replace(&bytes[..end]) {
@@ -86,6 +96,13 @@ fn by_disk<R>(why: DiskError) -> Unplayed<R>
     }
 }
 
+/// Whether this is behind the whole lines, and no crash leaves it while one call is under way.
+fn is_damage(tail: &[u8]) -> bool
+    ensures { IsTrue result ↔ IsDamage tail.now }
+{
+    ends_within(tail) || state_in(tail).is_some()
+}
+
 /// Whether a line's end stands before the last byte.
 fn ends_within(tail: &[u8]) -> bool
     ensures { IsTrue result ↔ Contains (take (length tail.now - 1) tail.now) 10 }
@@ -102,12 +119,19 @@ fn play<M: Machine>(
     machine: &mut M,
     bytes: &[u8],
 ) -> Result<usize, Unplayed<M::Refusal>>
-    ensures state { OnOk result (after M.named M.step (lines bytes.now) (M.state machine.old) ≡ Some (M.state machine.new)) }
+    ensures state { OnOk result (after M.named_state M.named M.step (M.state machine.old) bytes.now ≡ Some (M.state machine.new)) }
     ensures end { IfOk result (λ end. (end ≤ length bytes.now) × (end ≡ length (file_of (lines bytes.now)))) }
-    ensures cause { IfErr result (IsCauseOf M.lacks_memory 0 0 [] (after M.named M.step (lines bytes.now) (M.state machine.old))) }
+    ensures cause { IfErr result (IsCauseOf M.lacks_memory 0 0 [] (after M.named_state M.named M.step (M.state machine.old) bytes.now)) }
 {
-    let mut rest = bytes;
+    let begun = match begin(alloc, machine, bytes) {
+        Ok(begun) => begun,
+        Err(why) => return Err(why),
+    };
+    let mut rest = &bytes[begun..];
     while let Some(n) = first_end(rest) {
+        if let Some(_state) = state_in(&rest[..n]) {
+            return Err(Unplayed::Misplaced(bytes.len() - rest.len()));
+        }
         let Ok(read) = M::read(alloc, &rest[..n]) else {
             return Err(Unplayed::Memory);
         };
@@ -120,6 +144,42 @@ fn play<M: Machine>(
         rest = &rest[n + 1..];
     }
     Ok(bytes.len() - rest.len())
+}
+
+/// Takes the state that the first line says, where it is a state's, and answers where the calls begin.
+fn begin<M: Machine>(
+    alloc: Global,
+    machine: &mut M,
+    bytes: &[u8],
+) -> Result<usize, Unplayed<M::Refusal>>
+    ensures within { IfOk result (λ begun. begun ≤ length bytes.now) }
+    ensures calls { IfOk result (λ begun. lines (drop begun bytes.now) ≡ (says bytes.now).calls) }
+    ensures place { IfOk result (λ begun. length (file_of (lines bytes.now)) ≡ begun + length (file_of (lines (drop begun bytes.now)))) }
+    ensures state { OnOk result (begins M.named_state (says bytes.now).state (M.state machine.old) ≡ Some (M.state machine.new)) }
+    ensures cause { IfErr result (IsCauseOf M.lacks_memory 0 0 [] (begins M.named_state (says bytes.now).state (M.state machine.old))) }
+{
+    let Some(n) = first_end(bytes) else {
+        return Ok(0);
+    };
+    let Some(text) = state_in(&bytes[..n]) else {
+        return Ok(0);
+    };
+    match machine.read_state(alloc, text) {
+        Ok(true) => Ok(n + 1),
+        Ok(false) => Err(Unplayed::NoState),
+        Err(_) => Err(Unplayed::Memory),
+    }
+}
+
+/// The text of the state that a line says, where it is no call's.
+fn state_in(line: &[u8]) -> Option<&[u8]>
+    ensures some { IfSome result (λ text. state_in line.now ≡ Some text.now) }
+    ensures none { result ≡ None → state_in line.now ≡ None }
+{
+    match line.split_first() {
+        Some((first, text)) if *first == b'=' => Some(text),
+        _ => None,
+    }
 }
 
 /// Where the first line ends; `None` where no whole line is first.

@@ -3,7 +3,7 @@ use std::fs::{File, OpenOptions};
 use std::io;
 
 /// A folder, for this process alone until this is released or dropped. The lock is a file of its own,
-/// since a recovery gives the journal a new one.
+/// since a recovery and a compaction give the journal a new one.
 #[derive(Drop)]
 pub struct FolderLock {
     file: File,

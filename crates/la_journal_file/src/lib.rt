@@ -1,7 +1,7 @@
 //! A journal in a folder of the operating system, as a [`Disk`](la_journal::Disk).
 //!
-//! A folder has the file `journal`, whole lines of text; `journal.new`, which a recovery writes and puts
-//! in its place; and `lock`, which one process holds at a time.
+//! A folder has the file `journal`, whole lines of text; `journal.new`, which a recovery or a compaction
+//! writes and puts in its place; and `lock`, which one process holds at a time.
 #![tactic(auto)]
 
 mod file_disk;

@@ -9,3 +9,4 @@ pub mod Later
 pub mod Numbers
 mod Mapped
 mod Together
+mod Leasing

@@ -4,3 +4,4 @@ pub mod Scripts
 pub mod Commits
 pub mod Kept
 pub mod Numbers
+pub mod Leases

@@ -6,6 +6,7 @@ pub mod acceptors;
 pub mod commits;
 pub mod deltas;
 pub mod groups;
+pub mod journals;
 pub mod kept;
 pub mod members;
 pub mod nodes;

@@ -1,4 +1,4 @@
-use Rattle.std.proofs.Common.{◌≡◌, ◌++◌, ◌∷◌, [], List, ℕ, take, sym, ◌∙◌, ap, arith}
+use Rattle.std.proofs.Common.{◌++◌, take, sym, ◌∙◌, ap, arith}
 use Rattle.la_journal.specs.Lines.{file_of}
 use Rattle.la_journal.specs.Machine.{texts}
 use Rattle.la_journal.proofs.Whole.{file_of_push}

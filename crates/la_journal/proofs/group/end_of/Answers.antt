@@ -1,4 +1,4 @@
-use Rattle.std.proofs.Common.{◌≡◌, ◌++◌, ◌+◌, suc, ◌∷◌, List, ℕ, length, take, drop, sym, ◌∙◌, ap, arith}
+use Rattle.std.proofs.Common.{◌≡◌, ◌++◌, ◌+◌, suc, List, ℕ, take, drop, sym, ◌∙◌, ap, arith}
 use Rattle.la_journal.specs.Lines.{lines, file_of}
 use Rattle.la_journal.proofs.Groups.{drop_next, drop_not_empty, tail_is, file_of_then}
 use Rattle.la_journal.proofs.group.end_of.Goals as goal

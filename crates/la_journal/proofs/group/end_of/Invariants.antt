@@ -1,4 +1,4 @@
-use Rattle.std.proofs.Common.{◌≡◌, ◌≤◌, ◌++◌, length, take, drop}
+use Rattle.std.proofs.Common.{◌≡◌, ◌≤◌, ◌++◌, take, drop}
 use Rattle.la_journal.specs.Lines.{lines, file_of}
 use Rattle.la_journal.proofs.group.end_of.Given as goal
 

@@ -1,4 +1,4 @@
-use Rattle.std.proofs.Common.{◌≡◌, ◌++◌, ◌∷◌, [], ◌+◌, ◌-◌, ◌≤◌, List, ℕ, Option, None, Some, length, take, drop, map, inl, inr, ⊎_elim, sym, ◌∙◌, ap, subst, arith}
+use Rattle.std.proofs.Common.{◌≡◌, ◌++◌, ◌∷◌, [], ◌+◌, ◌-◌, ◌≤◌, Some, length, take, drop, map, inl, inr, ⊎_elim, sym, ◌∙◌, ap, arith}
 use Rattle.std.proofs.lemmas.List.{length-append, take-append-le, drop-append-le, map_push}
 use Rattle.la_journal.specs.Machine.{calls, steps, steps_from, goes_on, replies_from}
 use Rattle.la_journal.proofs.StepsMore.{from_push, replies_push, next_of}

@@ -1,9 +1,12 @@
 use Rattle.std.proofs.Common.{⊎_elim, ◌∙◌}
+use Rattle.la_journal.proofs.Leading.{same_lines}
 use Rattle.la_journal.proofs.laws.a_start_has_what_was_answered.Goals as goal
 
 pub returns : goal.returns
-returns g c dead found recovered t before more known start leaves =
-    let read = known (g.D.Disk.seen found) start.read in (
+returns g c dead found recovered t start first calls known begun leaves =
+    let read = known (g.D.Disk.seen found) begun.read in (
       read,
-      λ c left. ⊎_elim (λ was. known c (start.crash c was)) (λ same. (read.0, read.1, same ∙ read.2)) (leaves.each c left),
+      λ c left. ⊎_elim (λ was. known c (begun.crash c was))
+          (λ same. (read.0, read.1, same_lines g.M.Machine.named_state g.M.Machine.named g.M.Machine.step start (g.D.Disk.seen found) c same ∙ read.2))
+          (leaves.each c left),
     )

@@ -1,4 +1,4 @@
-use Rattle.std.proofs.Common.{◌≤◌, length, subst, arith}
+use Rattle.std.proofs.Common.{subst, arith}
 use Rattle.std.proofs.lemmas.List.{take_all}
 use Rattle.la_journal.specs.Lines.{IsClean}
 use Rattle.la_journal.proofs.Whole.{line_at, cut_at, goes_at, none_whole}

@@ -3,6 +3,8 @@ use Rattle.la_journal.specs.Disk.{Only}
 use Rattle.la_journal.specs.Lines.{lines, file_of}
 use Rattle.la_journal.specs.Durable.{IsSameOr}
 use Rattle.la_journal.proofs.Moments.{started, goes_on}
+use Rattle.la_journal.specs.Machine.{after}
+use Rattle.la_journal.proofs.Leading.{same_lines}
 use Rattle.la_journal.proofs.Whole.{front, lines_alone}
 use Rattle.la_journal.proofs.recovery.recover.Goals as goal
 
@@ -29,6 +31,13 @@ returns-in-Ok-replace-clause-same g c =
     let end_is : c.in-Ok-play.end ≡ length (file_of (lines file)) = c.in-Ok-play.ensures.end.1 ∙ ap (λ (b : List ℕ). length (file_of (lines b))) read_are in
     let put_is : take c.in-Ok-play.end c.deref-3.result.now ≡ file_of (lines file) = (λ i. take (end_is i) (bytes_are i)) ∙ front file in
     ap lines (c.in-Ok-replace.ensures.written ∙ put_is) ∙ lines_alone file
+
+pub returns-in-Ok-replace-clause-leads : goal.returns-in-Ok-replace-clause-leads
+returns-in-Ok-replace-clause-leads g c =
+    let read_are = c.deref.ensures.value ∙ c.in-Ok.ensures.bytes in
+    same_lines g.M.Machine.named_state g.M.Machine.named g.M.Machine.step (g.M.Machine.state c.args.start) (g.D.Disk.seen c.args.disk) (g.D.Disk.seen c.replace.new.self) (returns-in-Ok-replace-clause-same g c)
+    ∙ ap (after g.M.Machine.named_state g.M.Machine.named g.M.Machine.step (g.M.Machine.state c.args.start)) (sym read_are)
+    ∙ c.in-Ok-play.ensures.state
 
 pub returns-in-Ok-replace-clause-any_moment : goal.returns-in-Ok-replace-clause-any_moment
 returns-in-Ok-replace-clause-any_moment g c =

@@ -1,4 +1,3 @@
-use Rattle.std.proofs.Common.{rules}
 use Rattle.la_journal.proofs.Torn.{front_of}
 use Rattle.la_journal.proofs.memory_disk.MemoryDiskDisk.append.Goals as goal
 

@@ -1,6 +1,5 @@
-use Rattle.std.proofs.Common.{◌≤◌, inl, inr, ⊎_elim, ℕ, List, sym, subst, arith}
-use Rattle.la_journal.specs.Disk.{Elapses}
-use Rattle.la_journal.specs.Held.{moment_of, may_leave_of, left_since_of}
+use Rattle.std.proofs.Common.{inl, inr, ⊎_elim, ℕ, List, sym, subst, arith}
+use Rattle.la_journal.specs.Held.{may_leave_of}
 use Rattle.la_journal.specs.Outcomes.{LeftOf}
 use Rattle.la_journal_file.proofs.file_disk.FileDiskDisk.append.Goals as goal
 

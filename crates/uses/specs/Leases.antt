@@ -1,0 +1,36 @@
+-- A lease that one holder has at a time, by lines of text.
+use Rattle.std.specs.Prelude.{◌≡◌, ℕ, Bool, true, false, List, [], ◌∷◌, Option, Some, None, if◌then◌else◌, ◌==◌, refl}
+use Rattle.std.proofs.Common.{arith}
+use Rattle.la_journal.specs.Journal.{IsCallLine}
+use Rattle.uses.specs.declared.journals.Ask.{Ask}
+use Rattle.uses.specs.declared.journals.Ask.TheVariants.{Take, Release}
+
+-- whether it is taken after this: who asks for one that is taken, or releases one that is free, is refused
+abbrev pub taken_after : (taken : Bool) → Ask → Option Bool
+taken_after false Take = Some true
+taken_after true Take = None
+taken_after true Release = Some false
+taken_after false Release = None
+
+abbrev pub text : Ask → List ℕ
+text Take = 116 ∷ []
+text Release = 114 ∷ []
+
+abbrev pub named : List ℕ → Option Ask
+named [] = None
+named (b ∷ []) = if b == 116 then Some Take else (if b == 114 then Some Release else None)
+named (b ∷ c ∷ bytes) = None
+
+pub round_trip : (ask : Ask) → named (text ask) ≡ Some ask
+round_trip Take = refl
+round_trip Release = refl
+
+pub clean : (ask : Ask) → IsCallLine (text ask)
+clean Take = ((omega arith, omega arith, tt), refl)
+clean Release = ((omega arith, omega arith, tt), refl)
+
+-- the state as a text
+abbrev pub taken_in : List ℕ → Option Bool
+taken_in [] = None
+taken_in (b ∷ []) = if b == 116 then Some true else (if b == 102 then Some false else None)
+taken_in (b ∷ c ∷ bytes) = None

@@ -1,0 +1,245 @@
+ghost use Rattle.std.specs.Prelude.{◌≡◌, ◌++◌, ◌∷◌, [], Bool, Option, false, true, Some, None, IfOk, OnOk};
+
+use la_journal::{Machine, Snapshot};
+use std::alloc::{AllocError, Global};
+use thiserror::Error;
+
+/// What a lease is asked.
+#[derive(Clone, Copy, Debug, PartialEq, Eq)]
+pub enum Ask {
+    Take,
+    Release,
+}
+
+/// Why a lease refuses: it is taken already, or free already.
+#[derive(Clone, Copy, Debug, PartialEq, Eq, Error)]
+#[error("the lease is so already")]
+pub struct SoAlready;
+
+/// A lease that one holder has at a time.
+#[derive(Drop)]
+pub struct Lease {
+    pub taken: bool,
+}
+
+impl Machine for Lease {
+    ghost use Rattle.uses.specs.declared.journals.Ask.{Ask};
+    ghost use Rattle.uses.specs.Leases.{taken_after, text, named, taken_in, round_trip, clean};
+
+    type Input = Ask;
+
+    type Output = bool;
+
+    type Refusal = SoAlready;
+
+    ghost State = { Bool };
+
+    ghost state = { λ lease. lease.taken };
+
+    ghost Call = { Ask };
+
+    ghost call = { λ ask. ask };
+
+    ghost step = { taken_after };
+
+    ghost Answer = { Option Bool };
+
+    ghost answer = { λ taken. Some taken };
+
+    ghost answers = { taken_after };
+
+    ghost text = { text };
+
+    ghost named = { named };
+
+    ghost named_state = { taken_in };
+
+    ghost lacks_memory = { λ _. ⊥ };
+
+    ghost round_trip = { round_trip };
+
+    ghost clean = { clean };
+
+    fn apply(&mut self, ask: &Ask) -> Result<bool, SoAlready> {
+        let take = matches!(ask, Ask::Take);
+        if self.taken == take {
+            return Err(SoAlready);
+        }
+        self.taken = take;
+        Ok(take)
+    }
+
+    fn write(alloc: Global, ask: &Ask) -> Result<Vec<u8>, AllocError> {
+        let mut line = Vec::new(alloc);
+        line.push(match ask {
+            Ask::Take => b't',
+            Ask::Release => b'r',
+        })?;
+        Ok(line)
+    }
+
+    fn read(_alloc: Global, line: &[u8]) -> Result<Option<Ask>, AllocError> {
+        Ok(match line {
+            [b't'] => Some(Ask::Take),
+            [b'r'] => Some(Ask::Release),
+            _ => None,
+        })
+    }
+
+    fn read_state(&mut self, _alloc: Global, bytes: &[u8]) -> Result<bool, AllocError> {
+        match bytes {
+            [b't'] => self.taken = true,
+            [b'f'] => self.taken = false,
+            _ => return Ok(false),
+        }
+        Ok(true)
+    }
+}
+
+impl Snapshot for Lease {
+    fn write_state(&self, alloc: Global) -> Result<Vec<u8>, AllocError> {
+        let mut text = Vec::new(alloc);
+        text.push(if self.taken { b't' } else { b'f' })?;
+        Ok(text)
+    }
+}
+
+// ---- callers
+ghost use Rattle.std.specs.Prelude.{IfSome, Err};
+ghost use Rattle.la_journal.specs.Disk.{Only};
+ghost use Rattle.la_journal.specs.Lines.{lines};
+ghost use Rattle.la_journal.specs.Machine.{after, calls, LeadsToSome};
+ghost use Rattle.la_journal.specs.Durable.{IsSettled};
+ghost use Rattle.la_journal.specs.Starts.{IsStart};
+ghost use Rattle.la_journal.specs.declared.durable.Refused.TheVariants.{Machine as ByMachine};
+
+use la_journal::{Disk, Durable, MemoryDisk, Refused, Unplayed, laws, recover};
+use la_journal_file::{FileDisk, FolderLock};
+use std::io;
+
+/// A machine as its journal says, ready to be asked: all that was answered before is played, and is on
+/// the disk.
+pub fn start<M: Machine, D: Disk>(
+    alloc: Global,
+    machine: M,
+    disk: D,
+) -> Result<Durable<M, D>, Unplayed<M::Refusal>>
+    ensures state { IfOk result (λ node. after M.named_state M.named M.step (M.state machine) (D.seen disk)
+        ≡ Some (M.state node.machine)) }
+    ensures leads { IfOk result (λ node. after M.named_state M.named M.step (M.state machine) (D.seen node.disk)
+        ≡ Some (M.state node.machine)) }
+    ensures ready { IfOk result (λ node. (node.closed ≡ false)
+        × IsSettled D.seen D.may_leave node.disk) }
+{
+    match recover(alloc, machine, disk) {
+        Ok(node) => Ok(node),
+        Err((why, _disk)) => Err(why),
+    }
+}
+
+/// Answers a line of text, or `None` where it is no call. Once it is answered, the call stands in the
+/// journal, and a crash leaves that. Refused by the machine, it changed nothing, and the next may come.
+pub fn answer<M: Machine, D: Disk>(
+    node: &mut Durable<M, D>,
+    alloc: Global,
+    line: &[u8],
+) -> Result<Option<M::Output>, Refused<M::Refusal>>
+    requires { node.old.closed ≡ false → IsSettled D.seen D.may_leave node.old.disk }
+    ensures answered { (call : M.Call) → M.named line.now ≡ Some call → OnOk result
+        ((lines (D.seen node.new.disk) ≡ lines (D.seen node.old.disk) ++ M.text call ∷ [])
+        × Only (D.seen node.new.disk) (D.may_leave node.new.disk)) }
+    ensures refused { (why : M.Refusal) → result ≡ Err (ByMachine why) → (node.new.closed ≡ false)
+        × (lines (D.seen node.new.disk) ≡ lines (D.seen node.old.disk))
+        × (M.state node.new.machine ≡ M.state node.old.machine) }
+    ensures ready { node.new.closed ≡ false → IsSettled D.seen D.may_leave node.new.disk }
+{
+    let Ok(read) = M::read(alloc, line) else {
+        return Err(Refused::Memory);
+    };
+    match read {
+        Some(input) => Ok(Some(node.handle(alloc, &input)?)),
+        None => Ok(None),
+    }
+}
+
+/// Takes all of these, with one sync. Who starts on what a crash at any moment of that left comes to
+/// where the first some of them lead, none skipped and none in part.
+pub fn take_all<M: Machine, D: Disk>(
+    node: &mut Durable<M, D>,
+    alloc: Global,
+    inputs: &[M::Input],
+    answers: &mut Vec<M::Output>,
+) -> Result<(), Refused<M::Refusal>>
+    requires { node.old.closed ≡ false → IsSettled D.seen D.may_leave node.old.disk }
+    ensures crash { (start : M.State) (found : D) → node.old.closed ≡ false
+        → after M.named_state M.named M.step start (D.seen node.old.disk) ≡ Some (M.state node.old.machine)
+        → IsStart D.seen D.may_leave (D.left_since node.new.disk (D.moment node.old.disk)) found
+        → LeadsToSome (after M.named_state M.named M.step start) M.step
+        (calls M.call inputs.now) (M.state node.old.machine) (D.seen found) }
+    ensures ready { node.new.closed ≡ false → IsSettled D.seen D.may_leave node.new.disk }
+{
+    node.handle_all(alloc, inputs, answers)
+}
+
+/// Takes an input, and then lets one line stand for the whole journal, if that is not refused. Who starts
+/// on what a crash at any moment of either left comes to the state of before, or to that of after.
+pub fn answer_and_compact<M: Snapshot, D: Disk>(
+    node: &mut Durable<M, D>,
+    alloc: Global,
+    input: &M::Input,
+) -> Result<M::Output, Refused<M::Refusal>>
+    requires { node.old.closed ≡ false → IsSettled D.seen D.may_leave node.old.disk }
+    ensures crash { (start : M.State) (found : D) → node.old.closed ≡ false
+        → after M.named_state M.named M.step start (D.seen node.old.disk) ≡ Some (M.state node.old.machine)
+        → IsStart D.seen D.may_leave (D.left_since node.new.disk (D.moment node.old.disk)) found
+        → LeadsToSome (after M.named_state M.named M.step start) M.step
+        (M.call input.now ∷ []) (M.state node.old.machine) (D.seen found) }
+    ensures answered { OnOk result (M.step (M.state node.old.machine) (M.call input.now)
+        ≡ Some (M.state node.new.machine)) }
+    ensures ready { node.new.closed ≡ false → IsSettled D.seen D.may_leave node.new.disk }
+{
+    laws::calls_follow_one_another::<M, D>();
+    let output = node.handle(alloc, input)?;
+    let _as_before_where_refused = node.compact(alloc);
+    Ok(output)
+}
+
+/// Takes a lease, and then the power fails: so many of the bytes that were not on the disk were
+/// written, and so many 0 in place of the next. The machine that starts then finds it taken.
+pub fn taken_for_good(
+    alloc: Global,
+    journal: Vec<u8>,
+    written: usize,
+    zeros: usize,
+) -> Option<Durable<Lease, MemoryDisk>>
+    ensures { IfSome result (λ lease. lease.machine.taken ≡ true) }
+{
+    let free = Lease { taken: false };
+    let Ok(mut lease) = start(alloc, free, MemoryDisk::new(alloc, journal)) else {
+        return None;
+    };
+    let Ok(_) = lease.handle(alloc, &Ask::Take) else {
+        return None;
+    };
+    let Ok(left) = lease.disk.crash(written, zeros) else {
+        return None;
+    };
+    match start(alloc, Lease { taken: false }, left) {
+        Ok(lease) => Some(lease),
+        Err(_) => None,
+    }
+}
+
+/// A lease over the journal of a folder that exists. `WouldBlock` comes where another process has it.
+pub fn lease_in(
+    rt: HostRuntime,
+    alloc: Global,
+    folder: String,
+) -> io::Result<Durable<Lease, FileDisk<HostRuntime>>> {
+    let lock = FolderLock::take(&rt, alloc, folder)?;
+    let disk = FileDisk::open(rt, alloc, lock)?;
+    match start(alloc, Lease { taken: false }, disk) {
+        Ok(lease) => Ok(lease),
+        Err(_) => Err(io::ErrorKind::Other.into()),
+    }
+}
