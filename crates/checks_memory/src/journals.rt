@@ -4,7 +4,9 @@ ghost use Rattle.la_journal.specs.Durable.{IsSettled};
 
 use crate::given::{Came, again, holds, refused, second};
 use checks_journal::{Move, Tally};
-use la_journal::{Contents, Disk, DiskError, Durable, MemoryDisk, Refused, Unplayed, recover};
+use la_journal::{
+    Contents, Disk, DiskError, Durable, MemoryDisk, Refused, Uncompacted, Unplayed, recover,
+};
 use std::alloc::Global;
 
 // Two whole lines, and a part of one.
@@ -75,6 +77,18 @@ fn handle_all<D: Disk>(node: &mut Durable<Tally, D>, alloc: Global, answers: &mu
     }
 }
 
+fn compact<D: Disk>(node: &mut Durable<Tally, D>, alloc: Global) -> Came
+    requires { node.old.closed ≡ false → IsSettled D.seen D.may_leave node.old.disk }
+    ensures { node.new.closed ≡ false → IsSettled D.seen D.may_leave node.new.disk }
+{
+    let came = node.compact(alloc);
+    match came {
+        Ok(()) => Some(node.machine.total == 2 && !node.closed),
+        Err(Uncompacted::Memory) => refused(node.machine.total == 2 && !node.closed),
+        Err(_) => Some(false),
+    }
+}
+
 // Whether the disk has what a call that came to this leaves.
 fn leaves(disk: &MemoryDisk, came: Came, text: &str) -> bool {
     is_text(disk, if came == None { WHOLE } else { text })
@@ -97,6 +111,17 @@ fn handles_all(alloc: Global) -> Came {
     let mut answers = Vec::new(alloc);
     let came = again!(alloc, handle_all(&mut node, alloc, &mut answers));
     if leaves(&node.disk, came, MORE) {
+        came
+    } else {
+        Some(false)
+    }
+}
+
+fn compacts(alloc: Global) -> Came {
+    let disk = disk_of(alloc, WHOLE)?;
+    let mut node = recover(alloc, Tally { total: 0 }, disk).ok()?;
+    let came = again!(alloc, compact(&mut node, alloc));
+    if leaves(&node.disk, came, "=uu\n") {
         came
     } else {
         Some(false)
@@ -165,6 +190,7 @@ fn scenes(alloc: Global) -> Came {
         recovers(alloc)?
             && handles(alloc)?
             && handles_all(alloc)?
+            && compacts(alloc)?
             && disks(alloc)?
             && has_contents(alloc)?,
     )
