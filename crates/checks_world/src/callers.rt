@@ -5,6 +5,7 @@ ghost use Rattle.std.specs.Prelude.{◌<◌};
 use crate::holds::holds;
 use la_acceptor::{Acceptor, Reply};
 use la_commit::{Outcome, Vote};
+use la_journal::MemoryDisk;
 use la_object::{Answer, Counter, Query, Replicated};
 use la_orset::OrSet;
 use la_proposer::{Proposer, Votes};
@@ -16,6 +17,7 @@ use uses::acceptors::acknowledges;
 use uses::commits::{Learner, finish_both};
 use uses::deltas::{read, written};
 use uses::groups::count_together;
+use uses::journals::{Ask, Lease, answer, answer_and_compact, start, taken_for_good};
 use uses::kept::{Kept, play_again};
 use uses::nodes::{join, three_nodes};
 use uses::orsets::{ask, follow_both, put, removal as removal_of};
@@ -285,6 +287,20 @@ fn kept_calls(alloc: Global) -> Option<bool> {
     Some(node.again().ok()?.len() == 3)
 }
 
+// A lease that is taken and released, whose journal then says its state alone.
+fn leases(alloc: Global) -> Option<bool> {
+    let disk = MemoryDisk::new(alloc, Vec::new(alloc));
+    let mut lease = start(alloc, Lease { taken: false }, disk).ok()?;
+    let taken = answer(&mut lease, alloc, b"t").ok()??;
+    let after = answer_and_compact(&mut lease, alloc, &Ask::Release).ok()?;
+    Some(taken && !after && matches!(lease.disk.bytes(), b"=f\n" | b"t\nr\n"))
+}
+
+fn leases_stay(alloc: Global) -> Option<bool> {
+    let lease = taken_for_good(alloc, Vec::new(alloc), 0, 0)?;
+    Some(lease.machine.taken)
+}
+
 // Each caller is called twice: of one of the calls memory may be refused.
 fn is_so(first: Option<bool>, again: Option<bool>) -> bool {
     match (first, again) {
@@ -317,6 +333,12 @@ fn callers_do_what_they_are_for(rt: HostRuntime) {
     holds(&rt, "nodes", is_so(nodes(alloc), nodes(alloc)));
     holds(&rt, "groups", is_so(groups(alloc), groups(alloc)));
     holds(&rt, "kept", is_so(kept_calls(alloc), kept_calls(alloc)));
+    holds(&rt, "leases", is_so(leases(alloc), leases(alloc)));
+    holds(
+        &rt,
+        "a lease over a crash",
+        is_so(leases_stay(alloc), leases_stay(alloc)),
+    );
     holds(&rt, "worlds", is_so(worlds(alloc), worlds(alloc)));
     holds(&rt, "questions", is_so(questions(alloc), questions(alloc)));
     holds(&rt, "scripts", is_so(scripts(alloc), scripts(alloc)));
