@@ -63,11 +63,18 @@ IsToldIn r offered m =
 abbrev pub AreToldIn : ReplicaState → (offered : Counts) → List code.Message → Type 0
 AreToldIn r offered mail = All (IsToldIn r offered) mail
 
--- and of mail that was prepared with a change, once that is committed
+-- and all of it is of one instance
+abbrev pub AreToldFrom :
+    ReplicaState → (instance : ℕ) → (offered : Counts) → List code.Message → Type 0
+AreToldFrom r i offered mail = All (λ m. (m.instance ≡ i) × IsToldIn r offered m) mail
+
+-- mail that was prepared with a change, once that is committed
 abbrev pub AreToldAfter : ReplicaState → Change → (offered : Counts) → List code.Message → Type 0
 AreToldAfter r c offered mail =
-    (after : ReplicaState) → after_commit r c ≡ Some after → AreToldIn after offered mail
+    (after : ReplicaState) → after_commit r c ≡ Some after
+    → AreToldFrom after c.instance offered mail
 
--- of a submission in an instance: from whatever state of this replica has the same there
+-- of a submission in an instance, which sends no refusal: from whatever state of this replica has the same there
 abbrev pub AreToldThere : ReplicaState → (instance : ℕ) → Change → List code.Message → Type 0
-AreToldThere r i c mail = (s : ReplicaState) → AreSameIn i r s → AreToldAfter s c zero_counts mail
+AreToldThere r i c mail =
+    (s : ReplicaState) (offered : Counts) → AreSameIn i r s → AreToldAfter s c offered mail

@@ -9,7 +9,7 @@ use Rattle.la_replica.specs.declared.message.Body as code_body
 use Rattle.la_replica.specs.declared.message.Body.TheVariants as body
 use Rattle.la_replica.specs.declared.instance.Instance.{Instance}
 use Rattle.la_replica.specs.declared.whole.Told as lent
-use Rattle.la_replica.specs.Whole.{Message, Body, Offer, Yes, No, Tell}
+use Rattle.la_replica.specs.Whole.{Message, Body, Offer, Yes, No, Tell, set_of}
 use Rattle.la_replica.specs.ReplicaState.{ReplicaState, InInstance}
 
 -- a delta that is looked at, and the set over which it is: that of an offer over what is accepted, and
@@ -100,6 +100,15 @@ StandsIn r m = InInstance r m.instance (λ x. StandsAt x m)
 
 abbrev pub AgreesIn : ReplicaState → code.Message → Type 0
 AgreesIn r m = InInstance r m.instance (λ x. AgreesAt x m)
+
+-- ## What it is where it came from
+
+-- what its delta stands for here is the set that it was made of
+abbrev pub IsCarried : Instance → code.Message → Type 0
+IsCarried x m = IfSome (told_at x m) (λ t. rebuilt_of t ≡ set_of t.delta)
+
+abbrev pub IsCarriedIn : ReplicaState → code.Message → Type 0
+IsCarriedIn r m = InInstance r m.instance (λ x. IsCarried x m)
 
 -- ## What needs no memory to be rebuilt
 

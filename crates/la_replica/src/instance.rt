@@ -3,7 +3,7 @@ ghost use Rattle.std.specs.Prelude.{IfErr, OnOk, OnErr, Some, None, if◌then◌
 ghost use Rattle.std.specs.Option.{option_copied};
 ghost use Rattle.la_set.specs.Histories.{Histories};
 ghost use Rattle.la_set.specs.Join.{IsCompatible};
-ghost use Rattle.la_set.specs.Counts.{HasCounts, counts_of, zero_counts};
+ghost use Rattle.la_set.specs.Counts.{HasCounts, counts_of};
 ghost use Rattle.la_acceptor.specs.declared.reply.Reply.TheVariants as replied;
 ghost use Rattle.la_acceptor.specs.Answer.{accepted_next};
 ghost use Rattle.la_proposer.specs.declared.proposer.TheConstants.{MAX_CAP};
@@ -33,7 +33,7 @@ use crate::whole::{Told, Whole, WholeBody};
 use crate::{Body, Change, Mail, Message, Out, ReplicaError, Said};
 use la_acceptor::{Acceptor, Reply};
 use la_proposer::{Ballot, Heard, Proposer, Verdict, Votes};
-use la_set::{Op, SetError, UpdateId, UpdateSet};
+use la_set::{Counts, Op, SetError, UpdateId, UpdateSet};
 use std::alloc::{AllocError, Global};
 
 /// What a replica keeps of one instance.
@@ -74,8 +74,8 @@ impl Instance {
             ≡ step_by self.now view (whole_out prepared.0) prepared.1) }
         ensures from { IfOk result (λ prepared.
             IsProposerFrom self.now.proposer prepared.1.proposer) }
-        ensures told { IfOk result (λ prepared. AreToldBy
-            (proposer_after self.now.proposer prepared.1.proposer) sender.now.instance zero_counts
+        ensures told { (offered : Counts) → IfOk result (λ prepared. AreToldBy
+            (proposer_after self.now.proposer prepared.1.proposer) sender.now.instance offered
             prepared.0.mail) }
         ensures instance { IfOk result (λ prepared. prepared.1.instance ≡ sender.now.instance) }
         ensures room { IfOk result (λ _. submitted self.now.proposer < self.now.proposer.cap) }
@@ -334,8 +334,8 @@ impl Instance {
             ≡ step_by self.now view (whole_out prepared.0) prepared.1) }
         ensures from { IfOk result (λ prepared.
             IsProposerFrom self.now.proposer prepared.1.proposer) }
-        ensures told { IfOk result (λ prepared. AreToldBy
-            (proposer_after self.now.proposer prepared.1.proposer) sender.now.instance zero_counts
+        ensures told { (offered : Counts) → IfOk result (λ prepared. AreToldBy
+            (proposer_after self.now.proposer prepared.1.proposer) sender.now.instance offered
             prepared.0.mail) }
         ensures instance { IfOk result (λ prepared. prepared.1.instance ≡ sender.now.instance) }
         ensures free { (view : Histories)
@@ -367,8 +367,8 @@ impl Instance {
     // has counted, and the tells of what was learnt last.
     pub fn again(&self, mail: &mut Mail, sender: &Sender) -> Result<(), AllocError>
         ensures ok { OnOk result (Adds mail.old mail.new (again_in sender.now self.now)) }
-        ensures told { OnOk result (AddsTold self.now.proposer sender.now.instance zero_counts
-            mail.old mail.new) }
+        ensures told { (offered : Counts) → OnOk result (AddsTold self.now.proposer
+            sender.now.instance offered mail.old mail.new) }
         ensures nothing { again_in sender.now self.now ≡ [] → IsOk result }
     {
         sender.offer_again(mail, &self.proposer)?;

@@ -5,11 +5,11 @@ ghost use Rattle.la_set.specs.Inclusion.{IsSubset};
 ghost use Rattle.la_proposer.specs.declared.proposer.TheConstants.{MAX_CAP};
 ghost use Rattle.la_proposer.specs.Majority.{votes_of};
 ghost use Rattle.la_proposer.specs.ProposerState.{op_on};
-ghost use Rattle.la_set.specs.Counts.{zero_counts};
 ghost use Rattle.la_replica.specs.Whole.{lent_message, lent_body, whole_out, whole_mail};
 ghost use Rattle.la_replica.specs.Received.{received_in, rebuilt_in, StandsIn, AgreesIn};
 ghost use Rattle.la_replica.specs.Received.{made_at, IsLentIn, IsNotToldIn};
-ghost use Rattle.la_replica.specs.Bases.{offered_by, AreToldIn, AreToldAfter, AreToldThere};
+ghost use Rattle.la_replica.specs.Bases.{offered_by, AreToldIn, AreToldFrom, AreToldAfter};
+ghost use Rattle.la_replica.specs.Bases.{AreToldThere};
 ghost use Rattle.la_replica.specs.ReplicaState.{ReplicaState, start, submits, receives, sender_of};
 ghost use Rattle.la_replica.specs.ReplicaState.{last_learnt, submitted_in, InInstance};
 ghost use Rattle.la_replica.specs.Invariant.{IsReplicaState};
@@ -29,7 +29,7 @@ use crate::whole::Whole;
 use crate::{Change, Mail, Message, Out, ReplicaError};
 use la_commit::MAX_COMMITS;
 use la_proposer::{Verdict, Votes};
-use la_set::{Op, UpdateSet};
+use la_set::{Counts, Op, UpdateSet};
 use std::alloc::{AllocError, Global};
 use std::marker::Model;
 
@@ -134,7 +134,8 @@ impl Replica {
     pub fn submit(&mut self, instance: u8, object: u16, op: Op) -> Result<Out, ReplicaError>
         ensures step { IfOk result (λ out.
             submits self.old instance (op_on object op) ≡ Some (whole_out out, self.new)) }
-        ensures told { IfOk result (λ out. AreToldIn self.new zero_counts out.mail) }
+        ensures told { (offered : Counts)
+            → IfOk result (λ out. AreToldFrom self.new instance offered out.mail) }
         ensures room { IfOk result (λ _. HasRoom self.old instance) }
         ensures spares { IfOk result (λ _. SubmittingSpares self.old instance) }
         ensures error { IfErr result (IsSubmitRefusal self.old instance) }
@@ -199,7 +200,7 @@ impl Replica {
             IsReceivable self.old (received_in self.old message.now)) }
         ensures spares { IfOk result (λ _.
             ReceivingSpares self.old (received_in self.old message.now)) }
-        ensures told { IfOk result (λ out. AreToldIn self.new
+        ensures told { IfOk result (λ out. AreToldFrom self.new message.now.instance
             (offered_by (received_in self.old message.now)) out.mail) }
         ensures free { IsNotToldIn self.old message.now
             → IsFree self.old (received_in self.old message.now) → IsOk result }
@@ -296,7 +297,7 @@ impl Replica {
     /// cost is that of a message for each, whose sets are shared.
     pub fn again(&self) -> Result<Mail, AllocError>
         ensures mail { IfOk result (λ mail. whole_mail mail ≡ again self.now) }
-        ensures told { IfOk result (AreToldIn self.now zero_counts) }
+        ensures told { (offered : Counts) → IfOk result (AreToldIn self.now offered) }
         ensures nothing { again self.now ≡ [] → IsOk result }
     {
         let mut mail = Mail::new(*self.instances.allocator());

@@ -95,9 +95,9 @@ told_accepted g t h m (No s) c j w before b = w
 told_accepted g t h m (Offer s) c j w before b = b
 told_accepted g t h m (Tell s) c j w before b = b
 
-record AreAccepted (g : Group) (t : Trace) : Type 0 where
-  refusals : AllIn (IsAcceptedMessage t) (sent (replicas g) t)
-  reports : (i r a : ℕ) → IsSubset (reported t i r a) (accepted t i a)
+pub record AreAccepted (g : Group) (t : Trace) : Type 0 where
+  pub refusals : AllIn (IsAcceptedMessage t) (sent (replicas g) t)
+  pub reports : (i r a : ℕ) → IsSubset (reported t i r a) (accepted t i a)
 
 module _ (g : Group) (t : Trace) (h : Holds g t) (are : AreAccepted g t) where
   heard_accepted : (i r a : ℕ) (o : Option Message) → ((m : Message) → o ≡ Some m → IsIn m (sent (replicas g) t))
@@ -122,11 +122,11 @@ module _ (g : Group) (t : Trace) (h : Holds g t) (are : AreAccepted g t) where
           subst (λ j. Goal j r a) (eqb-true m.instance i p.0) (subst₂ (λ j k. Goal m.instance j k) (eqb-true m.to r q.0) (eqb-true m.from a s.0) (here s.1))
       go false e = are.reports i r a
 
-accepted_start : (g : Group) → AreAccepted g []
+pub accepted_start : (g : Group) → AreAccepted g []
 unfolding sent reported
 accepted_start g = record { refusals = tt; reports = λ i r a. empty_least (accepted [] i a) }
 
-accepted_kept : (g : Group) (t : Trace) (x : Entry) → Step g t x → Holds g t → AreAccepted g t → AreAccepted g (x ∷ t)
+pub accepted_kept : (g : Group) (t : Trace) (x : Entry) → Step g t x → Holds g t → AreAccepted g t → AreAccepted g (x ∷ t)
 unfolding sent reported
 accepted_kept g t x step h are = record {
   refusals = AllIn-append (IsAcceptedMessage (x ∷ t)) (sent (replicas g) t) (sent_by (replicas g) x.delivered x.did)

@@ -23,6 +23,8 @@ pub mod Allowing
 pub mod InGroup
 pub mod Traces
 pub mod Hearing
+pub mod Tellings
+pub mod ToldMail
 pub mod Once
 pub mod Taking
 pub mod SubmissionEvents

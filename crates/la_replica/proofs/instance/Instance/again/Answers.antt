@@ -19,7 +19,7 @@ returns-clause-nothing c = λ none.
     c.tell_again.ensures.nothing (none_second (offers_again s x.proposer) (tells_again s x.learnt) none)
 
 pub returns-clause-told : goal.returns-clause-told
-returns-clause-told c =
+returns-clause-told c = λ offered.
     let p = c.args.self.now.proposer in let i = c.args.sender.now.instance in
     let first = c.args.mail.now in let mid = c.offer_again.new.mail in let after = c.tell_again.new.mail in
-    on_ok c.tell_again.result (told_both p i first mid after c.in_ok-offer_again.ensures.told) (c.tell_again.ensures.told p)
+    on_ok c.tell_again.result (told_both p i offered first mid after (c.in_ok-offer_again.ensures.told offered)) (c.tell_again.ensures.told p offered)
