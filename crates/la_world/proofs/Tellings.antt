@@ -1,5 +1,5 @@
 -- What was sent, as it is told: it carries what was sent, and stands on what its receiver has.
-use Rattle.std.proofs.Common.{◌≡◌, ℕ, ◌≤◌, Bool, true, false, cond, min, List, [], ◌∷◌, ◌++◌, map, slice_get, Option, Some, None, refl, sym, ◌∙◌, ap, ap₂, subst, arith}
+use Rattle.std.proofs.Common.{◌≡◌, ℕ, ◌<◌, ◌≤◌, Bool, true, false, cond, min, List, [], ◌∷◌, ◌++◌, map, slice_get, Option, Some, None, refl, sym, ◌∙◌, ap, ap₂, subst, arith}
 use Rattle.std.proofs.lemmas.List.{map-append}
 use Rattle.la_set.specs.declared.counts.Counts.{Counts}
 use Rattle.la_set.specs.Histories.{Histories, count}
@@ -25,15 +25,15 @@ use Rattle.la_world.specs.Sent.{sender_for, ballot_of, offers_for, offers_for_ne
 use Rattle.la_world.specs.Acceptors.{accepted}
 use Rattle.la_world.specs.Ballots.{ballots, round}
 use Rattle.la_world.specs.Hearing.{reported}
-use Rattle.la_world.specs.Playing.{trace}
-use Rattle.la_world.specs.Told.{told_body, told_over, base_in, base_of, offered_to, told_at, told}
-use Rattle.la_world.proofs.Lists.{IsIn, AllIn, AllIn-append, AllIn-each, AllIn-map, AllIn-made, AllIn_at}
+use Rattle.la_world.specs.Playing.{counts, trace}
+use Rattle.la_world.specs.Told.{told_body, told_over, base_in, base_of, offered_to, told_at, told, StandsBody, ToldMessagesStand}
+use Rattle.la_world.proofs.Lists.{IsIn, IsIn_get, AllIn, AllIn-append, AllIn-each, AllIn-map, AllIn-made, AllIn_at}
 use Rattle.la_world.proofs.Accepted.{accepted_more}
 use Rattle.la_world.proofs.EventCases.{EventCases, silent, opens, answers_offer, refines, learns, Step}
-use Rattle.la_world.proofs.Quorum.{tells_all, ballots_more, IsOffered, IsJustified, IsJustifiedMessage}
+use Rattle.la_world.proofs.Quorum.{same_number, counts_is, open_in, tells_all, ballots_more, IsOffered, IsJustified, IsJustifiedMessage}
 use Rattle.la_world.proofs.OwnBound.{own_bound}
 use Rattle.la_world.proofs.Within.{set_in}
-use Rattle.la_world.proofs.Traces.{Holds, always, stands, message_known}
+use Rattle.la_world.proofs.Traces.{Holds, holds, always, stands, message_known}
 use Rattle.la_world.proofs.Hearing.{AreAccepted, accepted_start, accepted_kept}
 
 -- ## It carries what was sent
@@ -177,3 +177,21 @@ standing_kept g t x step h are =
 
 pub standing : (g : Group) (events : List Event) → AreStanding g (trace g events)
 standing g events = always g (AreStanding g) (standing_start g) (standing_kept g) events
+
+-- ## What its receiver has
+
+body_stands : (g : Group) (t : Trace) → Holds g t → (m : Message) (base : Counts) (b : Body) → Stands t m base b → StandsBody t (told_over base m) (told_body base b)
+body_stands g t h m base (Offer s) st = st.1
+body_stands g t h m base Yes st = tt
+body_stands g t h m base (No s) st = λ heeded.
+    let is = counts_is t m (ap (counts t) (sym (told_whole base m)) ∙ heeded) in
+    let last = round t m.instance m.to in
+    let same : st.1.ballot ≡ last = same_number (ballots t m.instance m.to) st.1.ballot last (h.quorum.numbered m.instance m.to) st.1.opened (open_in t m.instance m.to is.0) (st.1.is_number ∙ is.1) in
+    st.1.counts ∙ ap (λ (o : Opening). counts_of o.updates) same
+body_stands g t h m base (Tell s) st = tt
+
+pub told_messages_stand : ToldMessagesStand
+told_messages_stand g events k c at =
+    let t = trace g events in
+    let st = AllIn_at (StandsMessage t) (told (replicas g) t) c (standing g events).messages (IsIn_get (told (replicas g) t) k c at) in
+    subst (λ m. StandsBody t m m.body) (sym st.is) (body_stands g t (holds g events) st.whole st.base st.whole.body st.stands)

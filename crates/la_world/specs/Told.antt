@@ -1,15 +1,20 @@
 -- How what was sent is told: over what its receiver has, as the mail of `la_replica`'s steps is.
-use Rattle.std.specs.Prelude.{ℕ, List, [], ◌∷◌, ◌++◌, map, Option, Some, None}
+use Rattle.std.specs.Prelude.{◌≡◌, ℕ, true, List, [], ◌∷◌, ◌++◌, map, slice_get, Option, Some, None}
 use Rattle.la_set.specs.declared.counts.Counts.{Counts}
-use Rattle.la_set.specs.Counts.{counts_of, zero_counts}
+use Rattle.la_set.specs.Counts.{counts_of, zero_counts, HasCounts}
 use Rattle.la_set.specs.Deltas.{delta_over}
 use Rattle.la_replica.specs.declared.message.Message as code
 use Rattle.la_replica.specs.declared.message.Body as code_body
 use Rattle.la_replica.specs.declared.message.Body.TheVariants as body
-use Rattle.la_replica.specs.Whole.{Message, Body, Offer, Yes, No, Tell}
+use Rattle.la_replica.specs.Whole.{Message, Body, Offer, Yes, No, Tell, whole_of}
 use Rattle.la_replica.specs.Bases.{smaller, offered_by}
+use Rattle.la_world.specs.Groups.{Group, replicas}
+use Rattle.la_world.specs.Events.{Past}
 use Rattle.la_world.specs.Trace.{Entry, Trace}
 use Rattle.la_world.specs.Sent.{sent_at}
+use Rattle.la_world.specs.Acceptors.{accepted}
+use Rattle.la_world.specs.Ballots.{round}
+use Rattle.la_world.specs.Playing.{counts, trace}
 use Rattle.la_world.specs.Hearing.{reported}
 
 -- a message, with its set told over this base
@@ -54,3 +59,19 @@ told_at n x t =
 unfoldable pub told : (n : ℕ) → Trace → List code.Message
 told n [] = []
 told n (x ∷ t) = told n t ++ told_at n x t
+
+-- ## What its receiver has
+
+-- the base of an offer lies in what its receiver has accepted; that of a refusal which counts is what
+-- the open ballot's set has
+abbrev pub StandsBody : Trace → code.Message → code_body.Body → Type 0
+StandsBody t m (body.Offer d) = HasCounts (accepted t m.instance m.to) d.base
+StandsBody t m body.Yes = Unit {0}
+StandsBody t m (body.No d) =
+    counts t (whole_of m) ≡ true → d.base ≡ counts_of (round t m.instance m.to).updates
+StandsBody t m (body.Tell told) = Unit {0}
+
+-- so it is of all that was sent
+abbrev pub ToldMessagesStand : Type 0
+ToldMessagesStand = (g : Group) (events : Past) (k : ℕ) (m : code.Message) →
+    let t = trace g events in slice_get (told (replicas g) t) k ≡ Some m → StandsBody t m m.body
