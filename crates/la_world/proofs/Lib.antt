@@ -25,6 +25,7 @@ pub mod Traces
 pub mod Hearing
 pub mod Tellings
 pub mod ToldMail
+pub mod Deliverable
 pub mod Once
 pub mod Taking
 pub mod SubmissionEvents

@@ -181,13 +181,13 @@ standing g events = always g (AreStanding g) (standing_start g) (standing_kept g
 -- ## What its receiver has
 
 body_stands : (g : Group) (t : Trace) → Holds g t → (m : Message) (base : Counts) (b : Body) → Stands t m base b → StandsBody t (told_over base m) (told_body base b)
-body_stands g t h m base (Offer s) st = st.1
+body_stands g t h m base (Offer s) st = st
 body_stands g t h m base Yes st = tt
-body_stands g t h m base (No s) st = λ heeded.
+body_stands g t h m base (No s) st = (st.0, λ heeded.
     let is = counts_is t m (ap (counts t) (sym (told_whole base m)) ∙ heeded) in
     let last = round t m.instance m.to in
     let same : st.1.ballot ≡ last = same_number (ballots t m.instance m.to) st.1.ballot last (h.quorum.numbered m.instance m.to) st.1.opened (open_in t m.instance m.to is.0) (st.1.is_number ∙ is.1) in
-    st.1.counts ∙ ap (λ (o : Opening). counts_of o.updates) same
+    st.1.counts ∙ ap (λ (o : Opening). counts_of o.updates) same)
 body_stands g t h m base (Tell s) st = tt
 
 pub told_messages_stand : ToldMessagesStand

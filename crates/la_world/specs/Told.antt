@@ -6,7 +6,7 @@ use Rattle.la_set.specs.Deltas.{delta_over}
 use Rattle.la_replica.specs.declared.message.Message as code
 use Rattle.la_replica.specs.declared.message.Body as code_body
 use Rattle.la_replica.specs.declared.message.Body.TheVariants as body
-use Rattle.la_replica.specs.Whole.{Message, Body, Offer, Yes, No, Tell, whole_of}
+use Rattle.la_replica.specs.Whole.{Message, Body, Offer, Yes, No, Tell, set_of, whole_of}
 use Rattle.la_replica.specs.Bases.{smaller, offered_by}
 use Rattle.la_world.specs.Groups.{Group, replicas}
 use Rattle.la_world.specs.Events.{Past}
@@ -60,15 +60,27 @@ unfoldable pub told : (n : ℕ) → Trace → List code.Message
 told n [] = []
 told n (x ∷ t) = told n t ++ told_at n x t
 
+-- a delta was made of a set
+abbrev pub IsMadeBody : code_body.Body → Type 0
+IsMadeBody (body.Offer d) = d ≡ delta_over (set_of d) d.base
+IsMadeBody body.Yes = Unit {0}
+IsMadeBody (body.No d) = d ≡ delta_over (set_of d) d.base
+IsMadeBody (body.Tell told) = Unit {0}
+
+abbrev pub IsMade : code.Message → Type 0
+IsMade m = IsMadeBody m.body
+
 -- ## What its receiver has
 
--- the base of an offer lies in what its receiver has accepted; that of a refusal which counts is what
--- the open ballot's set has
+-- the set that it was made of has its base; that of an offer lies in what its receiver has accepted,
+-- and that of a refusal which counts is what the open ballot's set has
 abbrev pub StandsBody : Trace → code.Message → code_body.Body → Type 0
-StandsBody t m (body.Offer d) = HasCounts (accepted t m.instance m.to) d.base
+StandsBody t m (body.Offer d) =
+    HasCounts (set_of d) d.base × HasCounts (accepted t m.instance m.to) d.base
 StandsBody t m body.Yes = Unit {0}
 StandsBody t m (body.No d) =
-    counts t (whole_of m) ≡ true → d.base ≡ counts_of (round t m.instance m.to).updates
+    HasCounts (set_of d) d.base
+    × (counts t (whole_of m) ≡ true → d.base ≡ counts_of (round t m.instance m.to).updates)
 StandsBody t m (body.Tell told) = Unit {0}
 
 -- so it is of all that was sent
