@@ -262,7 +262,7 @@ module _ (g : Group) (t : Trace) (m : Message) (h : Holds g t) (was_sent : IsIn 
 -- ## Every legal list
 
 -- a group's caps are small
-cap_small : (g : Group) (i : ℕ) → g.cap ≤ 1000000 → cap_of g i ≤ 1000000
+pub cap_small : (g : Group) (i : ℕ) → g.cap ≤ 1000000 → cap_of g i ≤ 1000000
 cap_small g i small = cond_both (i == 0) g.cap 1 (λ n. n ≤ 1000000) (λ e. small) (λ e. omega arith)
 
 pub delivery_fits : DeliveriesFit

@@ -1,7 +1,8 @@
 -- How the mail of a step is told, and of two steps one after the other in different instances.
-use Rattle.std.proofs.Common.{◌≡◌, ◌≢◌, ℕ, ◌<◌, ◌≤◌, List, [], ◌∷◌, ◌++◌, map, slice_get, slice_index_or, Option, Some, None, IsSomeAnd, All, refl, sym, ap, ap₂, subst, ◌∙◌, arith}
+use Rattle.std.proofs.Common.{◌≡◌, ◌≢◌, ℕ, ◌+◌, ◌<◌, ◌≤◌, List, [], ◌∷◌, ◌++◌, map, slice_get, slice_index_or, Option, Some, None, IsSomeAnd, All, refl, sym, ap, ap₂, subst, ◌∙◌, arith}
 use Rattle.std.proofs.lemmas.List.Elements.{All-append, All-weaker, All-head, All-tail}
 use Rattle.std.proofs.lemmas.Option.{get_or_from_slice_get}
+use Rattle.std.specs.List.{range_with_len}
 use Rattle.la_set.specs.declared.counts.Counts.{Counts}
 use Rattle.la_proposer.specs.ProposerState.{reported}
 use Rattle.la_replica.specs.declared.change.Change.{Change}
@@ -73,18 +74,18 @@ told_made r offered mail told = All-weaker (IsToldIn r offered) IsMade (λ m. go
 -- what has been reported to a replica is what it keeps
 reports_at : (t : Trace) (i r a : ℕ) → a < 8 → slice_index_or (reports t i r) a zero_counts ≡ counts_of (hearing.reported t i r a)
 unfolding reports
-reports_at t i r a lt = get_or_from_slice_get (reports t i r) a zero_counts (counts_of (hearing.reported t i r a)) (get_made (λ q. counts_of (hearing.reported t i r q)) 0 8 a a lt (omega arith))
+reports_at t i r a lt = get_or_from_slice_get (map (λ q. counts_of (hearing.reported t i r q)) (range_with_len 0 8)) a (counts_of (hearing.reported t i r a)) zero_counts (get_made (λ q. counts_of (hearing.reported t i r q)) 0 8 a a lt (omega arith))
 
 module _ (g : Group) (t : Trace) (r : ℕ) (offered : Counts) where
   told_so : (c : code.Message) → c.from ≡ r → c.to < 8 → IsToldIn (replica_state g t r) offered c → c ≡ told_over (base_of t offered (whole_of c)) (whole_of c)
-  unfolding replica_state
+  unfolding replica_state instance_of proposer_state
   told_so c from lt told = go (slice_get (replica_state g t r).instances c.instance) refl told
     where
       go : (o : Option Instance) → slice_get (replica_state g t r).instances c.instance ≡ o → IsSomeAnd o (λ x. IsToldBody (reported x.proposer c.to) offered c.body) → c ≡ told_over (base_of t offered (whole_of c)) (whole_of c)
-      unfolding instance_of proposer_state
       go None e h = absurd h
       go (Some x) e h =
-          let is : instance_of g t r c.instance ≡ x = made_at (instance_of g t r) 0 (instances g) c.instance x e in
+          let zero : 0 + c.instance ≡ c.instance = omega arith in
+          let is : instance_of g t r c.instance ≡ x = ap (instance_of g t r) (sym zero) ∙ made_at (instance_of g t r) 0 (instances g) c.instance x e in
           let here = subst (λ (y : Instance). IsToldBody (reported y.proposer c.to) offered c.body) (sym is) h in
           let same : reported (instance_of g t r c.instance).proposer c.to ≡ counts_of (hearing.reported t c.instance c.from c.to) =
           reports_at t c.instance r c.to lt ∙ ap (λ q. counts_of (hearing.reported t c.instance q c.to)) (sym from) in

@@ -19,6 +19,8 @@ use Rattle.la_replica.specs.Steps.{receives_body, hears, hears_as}
 use Rattle.la_replica.specs.ReplicaState.{ReplicaState, InInstance, sender_of, receives, after_step}
 use Rattle.la_replica.specs.Refusals.{FitsBody, SparesBody, IsFor}
 use Rattle.la_replica.specs.Fitting.{FitsViewBody, FitsReceiver}
+use Rattle.la_set.specs.Counts.{counts_of, zero_counts}
+use Rattle.la_replica.specs.Bases.{offered_in, offered_by}
 
 -- its body, where it is received
 abbrev received_body : Instance → (from ballot : ℕ) → code_body.Body → Body
@@ -110,3 +112,20 @@ module _ (r : ReplicaState) (c : code.Message) where
       views : (o : Option Instance) → IsSomeAnd o (λ x. FitsViewBody x r.view (whole_of c) (whole_body c.body)) → IsSomeAnd o (λ x. FitsViewBody x r.view (received_in r c) (received_by o))
       views None b = b
       views (Some x) b = view_fits x r.view (whole_of c) c.body b
+
+  pub carried_offers : IsCarriedIn r c → offered_by (received_in r c) ≡ offered_by (whole_of c)
+  carried_offers carried = go (slice_get r.instances c.instance) carried
+    where
+      body_offers : (x : Instance) (b : code_body.Body) → IsCarriedBody x c.from c.ballot b → offered_in (received_body x c.from c.ballot b) ≡ offered_in (whole_body b)
+      body_offers x (body.Offer d) same = ap counts_of same
+      body_offers x body.Yes same = refl
+      body_offers x (body.No d) same = refused (counts x.proposer c.from c.ballot)
+        where
+          refused : (v : Bool) → offered_in (with_refused (option_map rebuilt_of (refusal_over v x.proposer.updates d))) ≡ zero_counts
+          refused true = refl
+          refused false = refl
+      body_offers x (body.Tell told) same = refl
+
+      go : (o : Option Instance) → IsSomeAnd o (λ x. IsCarried x c) → offered_in (received_by o) ≡ offered_in (whole_body c.body)
+      go None h = absurd h
+      go (Some x) h = body_offers x c.body h
