@@ -1,24 +1,20 @@
 -- A message that was sent stands at its receiver for what was sent. Each part of what that needs may be
 -- shown from any list of events that leads to a world: it is a comparison of numbers, or of updates.
-use Rattle.std.proofs.Common.{◌≡◌, ℕ, ◌<◌, ◌≤◌, Bool, true, false, Option, Some, None, IfSome, IsSomeAnd, slice_get, length, refl, sym, ap, subst, ◌∙◌, arith}
+use Rattle.std.proofs.Common.{◌≡◌, ℕ, Bool, true, false, Option, Some, None, IfSome, IsSomeAnd, slice_get, sym, ap, subst, ◌∙◌}
 use Rattle.std.proofs.Math.Logic.{∥∥₁_elim}
 use Rattle.std.proofs.Math.Bridge.{le_prop}
 use Rattle.std.proofs.lemmas.Option.{same_Some}
-use Rattle.la_set.specs.declared.counts.Counts.{Counts}
-use Rattle.la_set.specs.Histories.{Histories, count, IsWithinLimit}
-use Rattle.la_set.specs.Inclusion.{IsSubset}
+use Rattle.la_set.specs.Histories.{IsWithinLimit}
 use Rattle.la_set.specs.Join.{IsCompatible}
-use Rattle.la_set.specs.Counts.{count_in, counts_of, HasCounts, within}
+use Rattle.la_set.specs.Counts.{HasCounts, within}
 use Rattle.la_set.specs.Deltas.{DeltaState, delta_over, rebuilt, IsOver, AgreesWithin}
-use Rattle.la_set.proofs.lemmas.Counting.{count_in-counts_of}
-use Rattle.la_set.proofs.lemmas.Inclusions.{subset-count, compatible-within}
 use Rattle.la_set.proofs.lemmas.Theorems.{rebuilt-over, stands-over, same-within}
 use Rattle.la_proposer.specs.ProposerState as proposer
 use Rattle.la_replica.specs.declared.instance.Instance.{Instance}
 use Rattle.la_replica.specs.declared.message.Message as code
 use Rattle.la_replica.specs.declared.message.Body as code_body
 use Rattle.la_replica.specs.declared.message.Body.TheVariants as body
-use Rattle.la_replica.specs.Whole.{Message, set_of, whole_of}
+use Rattle.la_replica.specs.Whole.{set_of}
 use Rattle.la_replica.specs.ReplicaState.{ReplicaState}
 use Rattle.la_replica.specs.Received.{Told, refusal_over, told_in_body, told_at, rebuilt_of, StandsAt, AgreesAt, IsCarried, StandsIn, AgreesIn, IsCarriedIn}
 use Rattle.la_world.specs.Told.{IsMadeBody, IsMade}

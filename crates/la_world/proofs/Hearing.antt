@@ -1,15 +1,14 @@
 -- What an acceptor has reported lies in what it has accepted, and stays in it.
-use Rattle.std.proofs.Common.{◌≡◌, ℕ, Bool, true, false, cond, ◌&&◌, ◌==◌, List, [], ◌∷◌, ◌++◌, Option, Some, None, refl, sym, ◌∙◌, ap, subst, subst₂, eqb-true, eq-eqb, unwrap_or}
+use Rattle.std.proofs.Common.{◌≡◌, ℕ, Bool, true, false, cond, ◌&&◌, ◌==◌, [], ◌∷◌, ◌++◌, Option, Some, None, refl, sym, ◌∙◌, ap, subst, subst₂, eqb-true, eq-eqb, unwrap_or}
 use Rattle.std.proofs.lemmas.Bool.{and_parts, and_from, cond-true}
 use Rattle.la_set.specs.Histories.{Histories}
 use Rattle.la_set.specs.Inclusion.{IsSubset, is_subset}
 use Rattle.la_set.specs.Join.{join}
 use Rattle.la_set.proofs.lemmas.Inclusions.{subset-refl, subset-trans}
-use Rattle.la_acceptor.specs.declared.reply.Reply.{Reply}
 use Rattle.la_acceptor.specs.declared.reply.Reply.TheVariants as replied
 use Rattle.la_acceptor.specs.Answer.{answer}
 use Rattle.la_replica.specs.Whole.{Message, Body, Offer, Yes, No, Tell}
-use Rattle.la_replica.specs.Messages.{group, offer_to, tell_to, body_of, reply_to}
+use Rattle.la_replica.specs.Messages.{group, offer_to, body_of, reply_to}
 use Rattle.la_world.specs.declared.step.Opening.{Opening}
 use Rattle.la_world.specs.Groups.{Group, replicas}
 use Rattle.la_world.specs.Events.{Event}
@@ -23,7 +22,7 @@ use Rattle.la_world.specs.Laws.{ReportsAreAccepted}
 use Rattle.la_world.proofs.Lists.{IsIn, AllIn, AllIn-append, AllIn-each, AllIn-map, AllIn_at}
 use Rattle.la_world.proofs.Accepted.{accepted_more, accepted_offer, accepted_earlier}
 use Rattle.la_world.proofs.EventCases.{EventCases, silent, opens, answers_offer, refines, learns, Step}
-use Rattle.la_world.proofs.Quorum.{same_number, tells_all, IsBacked, IsJustified, IsJustifiedMessage, counts_is, open_in}
+use Rattle.la_world.proofs.Quorum.{same_number, tells_all, IsBacked, IsJustified, counts_is, open_in}
 use Rattle.la_world.proofs.LargestViews.{empty_least}
 use Rattle.la_world.proofs.Traces.{Holds, always, stands}
 

@@ -1,5 +1,5 @@
 -- A group of live replicas stands for the events that its calls are, and so keeps what they promise.
-use Rattle.std.proofs.Common.{◌≡◌, ◌≢◌, ◌⊎◌, inl, inr, ℕ, ◌+◌, ◌<◌, ◌≤◌, Bool, true, false, List, [], ◌∷◌, ◌++◌, length, map, drop, slice_get, slice_set, Contains, Option, Some, None, IsSomeAnd, option_map, option_and_then, refl, ap, ap₂, sym, ◌∙◌, append-nil, subst, subst₂, arith}
+use Rattle.std.proofs.Common.{◌≡◌, ◌≢◌, inl, inr, ℕ, ◌+◌, ◌<◌, ◌≤◌, Bool, true, false, List, [], ◌∷◌, ◌++◌, length, map, drop, slice_get, slice_set, Contains, Option, Some, None, IsSomeAnd, option_map, option_and_then, refl, ap, ap₂, sym, ◌∙◌, append-nil, subst, subst₂, arith}
 use Rattle.std.specs.Prelude.{flat_map}
 use Rattle.std.specs.List.{cons_option, range_with_len}
 use Rattle.std.proofs.Math.Logic.{∥∥₁_elim, ∥∥₁_map}
@@ -53,7 +53,7 @@ use Rattle.la_world.proofs.LargestViews.{views_comparable}
 use Rattle.la_world.proofs.Allowing.{submission_allowed, delivery_allowed}
 use Rattle.la_world.proofs.Proposals.{tested_in_order}
 use Rattle.la_world.proofs.SubmissionEvents.{submission_entry}
-use Rattle.la_world.proofs.OneReplicaSteps.{get_instance, replica_states-set}
+use Rattle.la_world.proofs.OneReplicaSteps.{get_instance}
 use Rattle.la_world.proofs.RefusedForMemory.{submitted_is}
 use Rattle.la_world.proofs.Legal.{submission_steps, proposal_steps, delivery_steps, delivery_placed, entry_delivers}
 use Rattle.la_world.proofs.WorldSteps.{few_of, states_at_start, led_at_start, led_on, submits_learns, learnt_said}

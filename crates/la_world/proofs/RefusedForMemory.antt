@@ -1,6 +1,6 @@
 -- A message of a legal list is refused for want of memory alone, and a submission that the world does
 -- not refuse likewise: every set lies within what was submitted, and ballots' numbers stay small.
-use Rattle.std.proofs.Common.{◌≡◌, ◌≢◌, ◌⊎◌, ℕ, ◌*◌, ◌<◌, ◌≤◌, Bool, true, false, not, ◌&&◌, ◌==◌, cond, List, [], ◌∷◌, length, slice_get, None, refl, ap, sym, ◌∙◌, subst, arith, inl, inr}
+use Rattle.std.proofs.Common.{◌≡◌, ◌⊎◌, ℕ, ◌*◌, ◌<◌, ◌≤◌, Bool, true, false, not, ◌&&◌, ◌==◌, cond, List, [], ◌∷◌, length, slice_get, None, refl, ap, sym, ◌∙◌, subst, arith, inl, inr}
 use Rattle.std.specs.Prelude.{IsSome, IsSomeAnd}
 use Rattle.std.proofs.lemmas.Bool.{cond_both, true≢false, not-true}
 use Rattle.std.proofs.lemmas.List.{length-drop}

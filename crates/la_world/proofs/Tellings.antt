@@ -1,21 +1,19 @@
 -- What was sent, as it is told: it carries what was sent, and stands on what its receiver has.
-use Rattle.std.proofs.Common.{◌≡◌, ℕ, ◌<◌, ◌≤◌, Bool, true, false, cond, min, List, [], ◌∷◌, ◌++◌, map, slice_get, Option, Some, None, refl, sym, ◌∙◌, ap, ap₂, subst, arith}
+use Rattle.std.proofs.Common.{◌≡◌, ℕ, ◌<◌, Bool, true, false, cond, min, List, [], ◌∷◌, ◌++◌, map, Option, Some, None, refl, sym, ◌∙◌, ap, ap₂, subst, arith}
 use Rattle.std.proofs.lemmas.List.{map-append}
 use Rattle.la_set.specs.declared.counts.Counts.{Counts}
-use Rattle.la_set.specs.Histories.{Histories, count}
+use Rattle.la_set.specs.Histories.{Histories}
 use Rattle.la_set.specs.Inclusion.{IsSubset, is_subset}
 use Rattle.la_set.specs.Join.{join, IsCompatible}
-use Rattle.la_set.specs.Counts.{count_in, counts_of, from_counts, HasCounts}
+use Rattle.la_set.specs.Counts.{count_in, counts_of, HasCounts}
 use Rattle.la_set.proofs.lemmas.Counting.{HasCounts-known, count_in-from_counts, count_in-counts_of}
 use Rattle.la_set.proofs.lemmas.Inclusions.{subset-count, compatible-within}
 use Rattle.la_set.proofs.lemmas.Joins.{subset-join_right}
-use Rattle.la_acceptor.specs.declared.reply.Reply.{Reply}
 use Rattle.la_acceptor.specs.declared.reply.Reply.TheVariants as replied
 use Rattle.la_acceptor.specs.Answer.{answer}
 use Rattle.la_replica.specs.declared.message.Message as code
-use Rattle.la_replica.specs.declared.message.Body as code_body
 use Rattle.la_replica.specs.Whole.{Message, Body, Offer, Yes, No, Tell, whole_body, whole_of, whole_mail, CarryAll}
-use Rattle.la_replica.specs.Messages.{group, offer_to, body_of, reply_to}
+use Rattle.la_replica.specs.Messages.{group, offer_to, reply_to}
 use Rattle.la_replica.specs.Bases.{smaller, offered_in, offered_by}
 use Rattle.la_world.specs.declared.step.Opening.{Opening}
 use Rattle.la_world.specs.Groups.{Group, replicas}
@@ -26,11 +24,11 @@ use Rattle.la_world.specs.Acceptors.{accepted}
 use Rattle.la_world.specs.Ballots.{ballots, round}
 use Rattle.la_world.specs.Hearing.{reported}
 use Rattle.la_world.specs.Playing.{counts, trace}
-use Rattle.la_world.specs.Told.{told_body, told_over, base_in, base_of, offered_to, told_at, told, StandsBody, ToldMessagesStand}
+use Rattle.la_world.specs.Told.{told_body, told_over, base_of, offered_to, told_at, told, StandsBody, ToldMessagesStand}
 use Rattle.la_world.proofs.Lists.{IsIn, IsIn_get, AllIn, AllIn-append, AllIn-each, AllIn-map, AllIn-made, AllIn_at}
 use Rattle.la_world.proofs.Accepted.{accepted_more}
 use Rattle.la_world.proofs.EventCases.{EventCases, silent, opens, answers_offer, refines, learns, Step}
-use Rattle.la_world.proofs.Quorum.{same_number, counts_is, open_in, tells_all, ballots_more, IsOffered, IsJustified, IsJustifiedMessage}
+use Rattle.la_world.proofs.Quorum.{same_number, counts_is, open_in, tells_all, ballots_more, IsOffered, IsJustified}
 use Rattle.la_world.proofs.OwnBound.{own_bound}
 use Rattle.la_world.proofs.Within.{set_in}
 use Rattle.la_world.proofs.Traces.{Holds, holds, always, stands, message_known}

@@ -1,7 +1,7 @@
 -- A group of live replicas over any transport: what each node keeps, and all that was ever sent. A
 -- node takes calls, and receives any message that was ever sent to it: late, again, or never. A
 -- refused call changes nothing, and is none of these.
-use Rattle.std.specs.Prelude.{◌≡◌, ℕ, List, [], ◌∷◌, ◌++◌, length, map, slice_get, slice_set, filter_map, flat_map, Contains, Option, Some, None, IsSomeAnd, option_map, option_and_then}
+use Rattle.std.specs.Prelude.{◌≡◌, ℕ, List, [], ◌∷◌, ◌++◌, map, slice_get, slice_set, filter_map, flat_map, Contains, Option, Some, None, IsSomeAnd, option_map, option_and_then}
 use Rattle.std.specs.List.{range_with_len}
 use Rattle.la_set.specs.ObjectOps.{ObjectOp}
 use Rattle.la_set.specs.Histories.{Histories}
