@@ -26,6 +26,7 @@ pub mod Hearing
 pub mod Tellings
 pub mod ToldMail
 pub mod Deliverable
+pub mod Delivered
 pub mod Once
 pub mod Taking
 pub mod SubmissionEvents

@@ -17,14 +17,14 @@ use Rattle.la_replica.specs.Messages.{group, offer_to, reply_to}
 use Rattle.la_replica.specs.Bases.{smaller, offered_in, offered_by}
 use Rattle.la_world.specs.declared.step.Opening.{Opening}
 use Rattle.la_world.specs.Groups.{Group, replicas}
-use Rattle.la_world.specs.Events.{Event}
+use Rattle.la_world.specs.Events.{Event, Past}
 use Rattle.la_world.specs.Trace.{Did, Entry, Trace}
 use Rattle.la_world.specs.Sent.{sender_for, ballot_of, offers_for, offers_for_next, tells_for, sent_by, sent_at, sent}
 use Rattle.la_world.specs.Acceptors.{accepted}
 use Rattle.la_world.specs.Ballots.{ballots, round}
 use Rattle.la_world.specs.Hearing.{reported}
 use Rattle.la_world.specs.Playing.{counts, trace}
-use Rattle.la_world.specs.Told.{told_body, told_over, base_of, offered_to, told_at, told, StandsBody, ToldMessagesStand}
+use Rattle.la_world.specs.Told.{told_body, told_over, base_of, offered_to, told_at, told, IsMadeBody, IsMade, StandsBody, ToldMessagesStand}
 use Rattle.la_world.proofs.Lists.{IsIn, IsIn_get, AllIn, AllIn-append, AllIn-each, AllIn-map, AllIn-made, AllIn_at}
 use Rattle.la_world.proofs.Accepted.{accepted_more}
 use Rattle.la_world.proofs.EventCases.{EventCases, silent, opens, answers_offer, refines, learns, Step}
@@ -193,3 +193,15 @@ told_messages_stand g events k c at =
     let t = trace g events in
     let st = AllIn_at (StandsMessage t) (told (replicas g) t) c (standing g events).messages (IsIn_get (told (replicas g) t) k c at) in
     subst (λ m. StandsBody t m m.body) (sym st.is) (body_stands g t (holds g events) st.whole st.base st.whole.body st.stands)
+
+-- ## Its deltas were made of sets
+
+over_made : (base : Counts) (b : Body) → IsMadeBody (told_body base b)
+over_made base (Offer s) = refl
+over_made base Yes = tt
+over_made base (No s) = refl
+over_made base (Tell s) = tt
+
+pub told_are_made : (g : Group) (events : Past) → AllIn IsMade (told (replicas g) (trace g events))
+told_are_made g events =
+    AllIn-each (StandsMessage (trace g events)) IsMade (λ c st. subst IsMade (sym st.is) (over_made st.base st.whole.body)) (told (replicas g) (trace g events)) (standing g events).messages

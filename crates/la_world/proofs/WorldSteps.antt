@@ -38,7 +38,8 @@ use Rattle.la_world.specs.Calls.{IsGroup, replica_states_at_start, IsSubmission}
 use Rattle.la_world.proofs.Lists.{AllIn, get_made}
 use Rattle.la_world.proofs.Tellings.{told_at_carries, told_messages_stand}
 use Rattle.la_world.proofs.ToldMail.{sent_sides}
-use Rattle.la_world.proofs.Deliverable.{IsDeliverable, IsDeliverableAt}
+use Rattle.la_world.proofs.Deliverable.{IsDeliverableAt}
+use Rattle.la_world.proofs.Delivered.{told_deliverable}
 use Rattle.la_set.specs.Histories.{count, IsWithinLimit}
 use Rattle.la_set.specs.Counts.{count_in}
 use Rattle.la_set.proofs.lemmas.Counting.{count_in-counts_of}
@@ -301,43 +302,5 @@ module _ (w : World) (events : List Event) (stands : StandsFor w events) where
   message_fits k m stored = (delivery_fits g events k (whole_of m) few stands.config.group.cap_most stands.led.legal (get_message k m stored)).0
 
   -- a kept message stands at its receiver for what was sent
-  module _ (k : ℕ) (m : code.Message) (stored : slice_get w.messages k ≡ Some m) where
-    abbrev at : Instance
-    at = instance_of g t m.to m.instance
-
-    was_sent : IsIn (whole_of m) (sent (replicas g) t)
-    was_sent = IsIn_get (sent (replicas g) t) k (whole_of m) (get_message k m stored)
-
-    known : (b : code_body.Body) → m.body ≡ b → IsSubset (set_in (whole_body b)) (own_bound t m.instance)
-    known b is = subst (λ c. IsSubset (set_in (whole_body c)) (own_bound t m.instance)) is (message_known g t (holds g events) (whole_of m) was_sent)
-
-    within_limit : (s : Histories) → IsSubset s (own_bound t m.instance) → IsWithinLimit s
-    within_limit s sub q =
-        let counted : count (own_bound t m.instance) q ≤ count (round t m.instance q).updates q = omega (arith, ap length (history-own_bound t m.instance q)) in
-        omega (arith, subset-count s (own_bound t m.instance) sub q, counted, own_count g t (holds g events) m.instance q, submitted_most g events stands.led.legal m.instance q, cap_small g m.instance stands.config.group.cap_most)
-
-    body_deliverable : (b : code_body.Body) → m.body ≡ b → StandsBody t m b → IfSome (told_in_body at m.from m.ballot b) IsDeliverable
-    unfolding instance_of proposer_state
-    body_deliverable (body.Offer d) is st =
-        let sub = known (body.Offer d) is in
-        record {
-          mine = st.1;
-          theirs = st.0;
-          few = within_limit (set_of d) sub;
-          fits = compatible-within (accepted t m.instance m.to) (set_of d) (own_bound t m.instance) ((holds g events).within.acceptor m.instance m.to) sub;
-        }
-    body_deliverable body.Yes is st = tt
-    body_deliverable (body.No d) is st = go (proposer.counts (proposer_state g t m.instance m.to) m.from m.ballot) refl
-      where
-        go : (v : Bool) → proposer.counts (proposer_state g t m.instance m.to) m.from m.ballot ≡ v → IfSome (refusal_over v (round t m.instance m.to).updates d) IsDeliverable
-        go true e = record {
-          mine = λ q. omega (arith, ap (λ c. count_in c q) (st.1 (sym (same_counts g t k (whole_of m) (replied.No (set_of d)) (ap whole_body is) (holds g events) was_sent) ∙ e)), count_in-counts_of (round t m.instance m.to).updates q);
-          theirs = st.0;
-          few = within_limit (set_of d) (known (body.No d) is);
-          fits = compatible-within (round t m.instance m.to).updates (set_of d) (own_bound t m.instance) (round_known g t (holds g events) m.instance m.to) (known (body.No d) is);
-        }
-        go false e = tt
-    body_deliverable (body.Tell set) is st = tt
-
-    pub deliverable : IsDeliverableAt at m
-    deliverable = body_deliverable m.body refl (told_messages_stand g events k m (get_told k m stored))
+  pub deliverable : (k : ℕ) (m : code.Message) → slice_get w.messages k ≡ Some m → IsDeliverableAt (instance_of g t m.to m.instance) m
+  deliverable k m stored = told_deliverable g events stands.led.legal stands.config.group.cap_most k m (get_told k m stored)
