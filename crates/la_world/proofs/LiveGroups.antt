@@ -55,7 +55,7 @@ use Rattle.la_world.specs.Laws.{IsAdoptCommit}
 use Rattle.la_world.specs.Promises.{KeepsPromises}
 use Rattle.la_world.specs.LiveGroups.{LearntSet, LiveGroup, Call, Submitted, Proposed, Received, Looked, silence, submission, makes, MayAccept, learnt_from, learnt_by_call, IsStep, IsStart, Reaches, IsReached, IsAmong, told_by_calls, replicas_of, event_of, events_of, live_group_of, learnt_set_of, StandsForEvents, decisions_of}
 use Rattle.la_world.specs.LiveGroups.{LiveGroupsStandForEvents, LiveGroupsKeepAll, LiveLearntAreComparable, LiveViewsAreComparable, LiveNodesAreOneHistory, NewNodesAreLive, NetworksMayLose, SubmissionsKeepLive, ProposalsKeepLive, ReceiptsKeepLive, LooksKeepLive}
-use Rattle.la_world.proofs.Lists.{AllIn, AllIn_at, IsIn_get, contains_IsIn, IsIn_contains, IsIn_mapped, IsIn_image, IsIn_place, get_mapped, made_at}
+use Rattle.la_world.proofs.Lists.{AllIn, AllIn_at, IsIn_get, contains_IsIn, IsIn_contains, IsIn_mapped, IsIn_place, get_mapped, made_at}
 use Rattle.la_world.proofs.Openings.{IsOf}
 use Rattle.la_world.proofs.Traces.{holds}
 use Rattle.la_world.proofs.Chains.{learnt_comparable}

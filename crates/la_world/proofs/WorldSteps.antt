@@ -1,5 +1,5 @@
 -- A world that stands for a list of events, and the world after one event more.
-use Rattle.std.proofs.Common.{◌≡◌, ◌≢◌, ℕ, ◌+◌, ◌<◌, ◌≤◌, false, cond, List, [], ◌∷◌, ◌++◌, length, map, slice_get, slice_set, All, Option, Some, None, option_map, option_and_then, IfSome, Bool, true, refl, ap, ap₂, sym, ◌∙◌, subst, arith}
+use Rattle.std.proofs.Common.{◌≡◌, ◌≢◌, ℕ, ◌+◌, ◌<◌, ◌≤◌, false, cond, List, [], ◌∷◌, ◌++◌, length, map, slice_get, slice_set, All, Option, Some, None, option_map, option_and_then, refl, ap, ap₂, sym, ◌∙◌, subst, arith}
 use Rattle.std.proofs.lemmas.Option.{same_Some, none-some, slice_get_within, get_or_from_slice_get}
 use Rattle.std.proofs.lemmas.List.{map-append}
 use Rattle.la_set.specs.ObjectOps.{ObjectOp}
@@ -36,31 +36,11 @@ use Rattle.la_world.specs.StandsFor.{World, kinds_of, group_in, AreBehind, Event
 use Rattle.la_world.specs.LiveGroups.{submission}
 use Rattle.la_world.specs.Calls.{IsGroup, replica_states_at_start, IsSubmission}
 use Rattle.la_world.proofs.Lists.{AllIn, get_made}
-use Rattle.la_world.proofs.Tellings.{told_at_carries, told_messages_stand}
+use Rattle.la_world.proofs.Tellings.{told_at_carries}
 use Rattle.la_world.proofs.ToldMail.{sent_sides}
 use Rattle.la_world.proofs.Deliverable.{IsDeliverableAt}
 use Rattle.la_world.proofs.Delivered.{told_deliverable}
-use Rattle.la_set.specs.Histories.{count, IsWithinLimit}
-use Rattle.la_set.specs.Counts.{count_in}
-use Rattle.la_set.proofs.lemmas.Counting.{count_in-counts_of}
-use Rattle.la_set.proofs.lemmas.Inclusions.{subset-count, compatible-within}
-use Rattle.la_acceptor.specs.declared.reply.Reply.TheVariants as replied
-use Rattle.la_proposer.specs.ProposerState as proposer
-use Rattle.la_replica.specs.declared.instance.Instance.{Instance}
-use Rattle.la_replica.specs.declared.message.Body as code_body
-use Rattle.la_replica.specs.declared.message.Body.TheVariants as body
-use Rattle.la_replica.specs.Whole.{set_of, whole_body}
-use Rattle.la_replica.specs.Received.{told_in_body, refusal_over}
-use Rattle.la_world.specs.Acceptors.{accepted}
-use Rattle.la_world.specs.ReplicaStates.{proposer_state, instance_of}
-use Rattle.la_world.specs.Told.{StandsBody}
-use Rattle.la_world.proofs.Lists.{IsIn, IsIn_get}
-use Rattle.la_world.proofs.Within.{set_in}
-use Rattle.la_world.proofs.OwnBound.{own_bound, history-own_bound}
-use Rattle.la_world.proofs.Once.{submitted_most}
-use Rattle.la_world.proofs.Replying.{counts_is as same_counts}
-use Rattle.la_world.proofs.RefusedForMemory.{cap_small}
-use Rattle.la_world.proofs.Traces.{holds, message_known, round_known, own_count}
+use Rattle.la_world.specs.ReplicaStates.{instance_of}
 use Rattle.la_world.proofs.GrowingViews.{view_more}
 use Rattle.la_world.proofs.LargestViews.{empty_least}
 use Rattle.la_world.proofs.OneReplicaSteps.{replica_state-else, replica_states-set}
