@@ -27,11 +27,16 @@ impl<M: Machine, D: Disk> Durable<M, D> {
         ensures front { take (length answers.old.items) answers.new.items ≡ answers.old.items }
         ensures no_fewer { length answers.old.items ≤ length answers.new.items }
         ensures answers { map M.answer (drop (length answers.old.items) answers.new.items)
-            ≡ replies M.step M.answers (take (length answers.new.items - length answers.old.items) (calls M.call inputs.now)) (M.state self.old.machine) }
+            ≡ replies M.step M.answers
+            (take (length answers.new.items - length answers.old.items) (calls M.call inputs.now))
+            (M.state self.old.machine) }
         ensures lines { self.new.closed ≡ false → lines (D.seen self.new.disk) ≡ lines (D.seen self.old.disk)
             ++ take (length answers.new.items - length answers.old.items) (texts M.call M.text inputs.now) }
         ensures state { self.new.closed ≡ false
-            → steps M.step (take (length answers.new.items - length answers.old.items) (calls M.call inputs.now)) (M.state self.old.machine) ≡ Some (M.state self.new.machine) }
+            → steps M.step
+            (take (length answers.new.items - length answers.old.items) (calls M.call inputs.now))
+            (M.state self.old.machine)
+            ≡ Some (M.state self.new.machine) }
 
         ensures all { OnOk result ((self.new.closed ≡ false) × (length answers.new.items ≡ length answers.old.items + length inputs.now)) }
         ensures cause { IfErr result (IsStop M.lacks_memory self.old.closed self.new.closed
@@ -103,11 +108,18 @@ fn step_all<M: Machine>(
     ensures no_fewer { length answers.old.items ≤ length answers.new.items }
     ensures no_more { length answers.new.items ≤ length answers.old.items + length inputs.now }
     ensures answers { map M.answer (drop (length answers.old.items) answers.new.items)
-        ≡ replies M.step M.answers (take (length answers.new.items - length answers.old.items) (calls M.call inputs.now)) (M.state machine.old) }
-    ensures state { steps M.step (take (length answers.new.items - length answers.old.items) (calls M.call inputs.now)) (M.state machine.old) ≡ Some (M.state machine.new) }
+        ≡ replies M.step M.answers
+        (take (length answers.new.items - length answers.old.items) (calls M.call inputs.now))
+        (M.state machine.old) }
+    ensures state { steps M.step
+        (take (length answers.new.items - length answers.old.items) (calls M.call inputs.now))
+        (M.state machine.old)
+        ≡ Some (M.state machine.new) }
     ensures all { OnOk result (length answers.new.items ≡ length answers.old.items + length inputs.now) }
     ensures refusal { IfErr result (λ refusal. (length answers.new.items < length answers.old.items + length inputs.now)
-        × (M.lacks_memory refusal ⊎ (steps M.step (take (length answers.new.items - length answers.old.items + 1) (calls M.call inputs.now)) (M.state machine.old) ≡ None))) }
+        × (M.lacks_memory refusal ⊎ (steps M.step
+        (take (length answers.new.items - length answers.old.items + 1) (calls M.call inputs.now))
+        (M.state machine.old) ≡ None))) }
 {
     for input in inputs {
         match machine.apply(input) {

@@ -30,7 +30,8 @@ pub fn a_start_has_what_was_answered<M: Machine, D: Disk>()
         → IsStart D.seen D.may_leave (D.left_since dead t) found
         → LeavesOnly D.moment D.left_since found recovered (IsSameOr (D.may_leave found) (lines (D.seen found)))
         → LeadsToSome (after M.named_state M.named M.step start) M.step calls first (D.seen found)
-        × ((c : List ℕ) → D.left_since recovered (D.moment found) c → LeadsToSome (after M.named_state M.named M.step start) M.step calls first c) }
+        × ((c : List ℕ) → D.left_since recovered (D.moment found) c
+        → LeadsToSome (after M.named_state M.named M.step start) M.step calls first c) }
 {}
 
 /// What was answered before one crash is there after the next: where a file leads from the state `first` by

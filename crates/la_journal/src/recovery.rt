@@ -47,8 +47,12 @@ pub fn recover<M: Machine, D: Disk>(
     start: M,
     disk: D,
 ) -> Result<Durable<M, D>, (Unplayed<M::Refusal>, D)>
-    ensures state { IfOk result (λ durable. after M.named_state M.named M.step (M.state start) (D.seen disk) ≡ Some (M.state durable.machine)) }
-    ensures leads { IfOk result (λ durable. after M.named_state M.named M.step (M.state start) (D.seen durable.disk) ≡ Some (M.state durable.machine)) }
+    ensures state { IfOk result (λ durable.
+        after M.named_state M.named M.step (M.state start) (D.seen disk)
+        ≡ Some (M.state durable.machine)) }
+    ensures leads { IfOk result (λ durable.
+        after M.named_state M.named M.step (M.state start) (D.seen durable.disk)
+        ≡ Some (M.state durable.machine)) }
     ensures settled { IfOk result (λ durable. (durable.closed ≡ false) × IsSettled D.seen D.may_leave durable.disk) }
     ensures same { IfOk result (λ durable. lines (D.seen durable.disk) ≡ lines (D.seen disk)) }
     ensures sound { IfOk result (λ _. ¬ IsDamaged (D.seen disk)) }
