@@ -1,11 +1,12 @@
 -- What a prepared change is to a proposer: what stands once it is committed, and when it was
 -- prepared from this very proposer.
-use Rattle.std.specs.Prelude.{◌<◌, Bool, true, false, List, [], ◌∷◌, ◌++◌, length, slice_set}
+use Rattle.std.specs.Prelude.{◌<◌, Bool, true, false, List, [], ◌∷◌, ◌++◌, length, slice_set, Option, Some, None}
 use Rattle.la_set.specs.declared.counts.Counts as numbers
 use Rattle.la_set.specs.Histories.{Histories}
 use Rattle.la_proposer.specs.declared.ballot.Ballot.{Ballot}
 use Rattle.la_proposer.specs.declared.change.Change.{Change}
 use Rattle.la_proposer.specs.declared.change.Change.TheVariants.{Nothing, Holds, Submits, Counts, Opens, Closes}
+use Rattle.la_proposer.specs.declared.change.Told.{Told}
 use Rattle.la_proposer.specs.declared.tally.Counted.{Counted}
 use Rattle.la_proposer.specs.ProposerState.{ProposerState, told_by}
 use Rattle.la_proposer.specs.Inputs.{all_submitted}
@@ -50,14 +51,22 @@ submissions_after p (Counts c) = alone p.own (all_submitted p)
 submissions_after p (Opens b told) = alone p.own (all_submitted p)
 submissions_after p (Closes told) = alone p.own (all_submitted p)
 
+-- what the reply tells that is counted by it, to a ballot with these updates
+abbrev pub told_in : (updates : Histories) → Change → Option Told
+told_in updates (Counts c) = Some (record { from = c.from; counts = told_by updates c.reply })
+told_in updates (Opens b told) = Some told
+told_in updates (Closes told) = Some told
+told_in updates Nothing = None
+told_in updates (Holds s) = None
+told_in updates (Submits b s) = None
+
+abbrev pub with_told : List numbers.Counts → Option Told → List numbers.Counts
+with_told reported None = reported
+with_told reported (Some told) = slice_set reported told.from told.counts
+
 -- how many updates each acceptor has told that it has
 abbrev pub reported_after : ProposerState → Change → List numbers.Counts
-reported_after p (Counts c) = slice_set p.reported c.from (told_by p.updates c.reply)
-reported_after p (Opens b told) = slice_set p.reported told.from told.counts
-reported_after p (Closes told) = slice_set p.reported told.from told.counts
-reported_after p Nothing = p.reported
-reported_after p (Holds s) = p.reported
-reported_after p (Submits b s) = p.reported
+reported_after p c = with_told p.reported (told_in p.updates c)
 
 -- what the proposer is once the change is committed
 unfoldable pub after_commit : ProposerState → Change → ProposerState

@@ -1,5 +1,6 @@
 ghost use Rattle.std.specs.Prelude.{◌≡◌};
 ghost use Rattle.la_proposer.specs.ProposerState.{told_by};
+ghost use Rattle.la_proposer.specs.Changes.{told_in};
 
 use crate::Ballot;
 use crate::tally::Counted;
@@ -29,6 +30,19 @@ pub struct Told {
     pub from: u8,
     /// How many updates it has: of each replica so many, or more.
     pub counts: Counts,
+}
+
+impl Change {
+    // What the reply tells that is counted by it, to a ballot with these updates, if one is.
+    pub(crate) fn told(&self, updates: &UpdateSet) -> Option<Told>
+        ensures { result ≡ told_in updates.now self.now }
+    {
+        match self {
+            Change::Counts(counted) => Some(Told::by(counted.from, updates, &counted.reply)),
+            Change::Opens(_, told) | Change::Closes(told) => Some(*told),
+            Change::Nothing | Change::Holds(_) | Change::Submits(..) => None,
+        }
+    }
 }
 
 impl Told {

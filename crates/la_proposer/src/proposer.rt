@@ -6,6 +6,7 @@ ghost use Rattle.la_proposer.specs.Tally.{reply_carrying, has_counted};
 ghost use Rattle.la_proposer.specs.ProposerState.{start, submitted, op_on, status_of};
 ghost use Rattle.la_proposer.specs.ProposerState.{submission_opens, after_submission, counts};
 ghost use Rattle.la_proposer.specs.ProposerState.{heard_of, after_reply, reported};
+ghost use Rattle.la_proposer.specs.Changes.{after_commit, IsPreparedFrom};
 ghost use Rattle.la_proposer.specs.Refusals.{SubmissionSpends, IsSubmitRefusal, IsReplyRefusal};
 ghost use Rattle.la_proposer.specs.Refusals.{ReplySpares, IsVerdictOf, IsIgnored, OnlyCounts};
 ghost use Rattle.la_proposer.specs.Clashes.{ReplyFits};
@@ -15,7 +16,7 @@ mod admitting;
 mod preparing;
 
 use crate::tally::{self, Counted, Verdict};
-use crate::{Ballot, Heard, ProposerError, Status, Votes};
+use crate::{Ballot, Change, Heard, ProposerError, Status, Votes};
 use la_acceptor::Reply;
 use la_set::{Counts, Op, UpdateSet};
 use smallvec::SmallVec;
@@ -139,6 +140,20 @@ impl Proposer {
             Some(told) => *told,
             None => Counts::zero(),
         }
+    }
+
+    /// The same of the proposer that a prepared change leads to, at constant cost.
+    pub fn reported_after(&self, change: &Change, from: u8) -> Counts
+        requires { IsPreparedFrom self.now change.now }
+        ensures { result ≡ reported (after_commit self.now change.now) from }
+    {
+        let Some(told) = change.told(self.updates()) else {
+            return self.reported(from);
+        };
+        if told.from != from {
+            return self.reported(from);
+        }
+        told.counts
     }
 
     /// Submits an update for an object, under the proposer's next number. An idle proposer opens a

@@ -1,1 +1,3 @@
 pub mod Growing
+pub mod Carrying
+pub mod Alike

@@ -3,14 +3,19 @@ ghost use Rattle.std.specs.Prelude.{IfErr, OnOk, OnErr, Some, None, if◌then◌
 ghost use Rattle.std.specs.Option.{option_copied};
 ghost use Rattle.la_set.specs.Histories.{Histories};
 ghost use Rattle.la_set.specs.Join.{IsCompatible};
+ghost use Rattle.la_set.specs.Counts.{HasCounts, counts_of};
+ghost use Rattle.la_acceptor.specs.declared.reply.Reply.TheVariants as replied;
 ghost use Rattle.la_acceptor.specs.Answer.{accepted_next};
 ghost use Rattle.la_proposer.specs.declared.proposer.TheConstants.{MAX_CAP};
 ghost use Rattle.la_proposer.specs.Majority.{votes_of};
-ghost use Rattle.la_proposer.specs.ProposerState.{submitted, op_on};
+ghost use Rattle.la_proposer.specs.ProposerState.{ProposerState, submitted, op_on};
 ghost use Rattle.la_proposer.specs.Refusals.{SubmissionSpends, IsVerdictOf};
 ghost use Rattle.la_replica.specs.declared.instance.Instance.{Instance as InstanceOf};
 ghost use Rattle.la_replica.specs.declared.out.Said.TheVariants.{Answered};
-ghost use Rattle.la_replica.specs.Whole.{whole_of, whole_out, whole_body, Adds};
+ghost use Rattle.la_replica.specs.Whole.{lent_message, lent_body, whole_out, Adds};
+ghost use Rattle.la_replica.specs.Received.{lent_told, told_at, rebuilt_at, made_at, received_at};
+ghost use Rattle.la_replica.specs.Received.{StandsAt, AgreesAt, IsUnbuilt, IsLentAt};
+ghost use Rattle.la_replica.specs.Bases.{offered_by, AreToldBy, AddsTold};
 ghost use Rattle.la_replica.specs.Messages.{reply_of, reply_to};
 ghost use Rattle.la_replica.specs.Steps.{fresh, submits, answers, hears, is_told, receives};
 ghost use Rattle.la_replica.specs.Steps.{last_learnt_after};
@@ -24,10 +29,11 @@ ghost use Rattle.la_replica.specs.Changes.{IsVerdictOn};
 ghost use Rattle.la_replica.specs.Again.{again_in};
 
 use crate::sender::Sender;
+use crate::whole::{Told, Whole, WholeBody};
 use crate::{Body, Change, Mail, Message, Out, ReplicaError, Said};
 use la_acceptor::{Acceptor, Reply};
 use la_proposer::{Ballot, Heard, Proposer, Verdict, Votes};
-use la_set::{Op, UpdateId, UpdateSet};
+use la_set::{Counts, Op, SetError, UpdateId, UpdateSet};
 use std::alloc::{AllocError, Global};
 
 /// What a replica keeps of one instance.
@@ -68,6 +74,9 @@ impl Instance {
             ≡ step_by self.now view (whole_out prepared.0) prepared.1) }
         ensures from { IfOk result (λ prepared.
             IsProposerFrom self.now.proposer prepared.1.proposer) }
+        ensures told { (offered : Counts) → IfOk result (λ prepared. AreToldBy
+            (proposer_after self.now.proposer prepared.1.proposer) sender.now.instance offered
+            prepared.0.mail) }
         ensures instance { IfOk result (λ prepared. prepared.1.instance ≡ sender.now.instance) }
         ensures room { IfOk result (λ _. submitted self.now.proposer < self.now.proposer.cap) }
         ensures spares { IfOk result (λ _. ¬ SubmissionSpends self.now.proposer) }
@@ -76,7 +85,7 @@ impl Instance {
         let _state = self.proposer.status();
         let (opened, change) = self.proposer.prepare_submission(object, op)?;
         let mut mail = Mail::new(alloc);
-        sender.offer_next(&mut mail, &opened)?;
+        sender.offer_next(&mut mail, &opened, &self.proposer, &change)?;
         let said = match opened {
             Some(ballot) => Said::Opened(ballot),
             None => Said::Held(UpdateId {
@@ -92,39 +101,107 @@ impl Instance {
         Ok((Out { said, mail }, change))
     }
 
-    // Whether what a message to this instance asks for would be done, memory apart; and where it is
-    // a reply, the verdict on it.
-    pub fn admit_message(&self, message: &Message) -> Result<Option<Verdict>, ReplicaError>
-        requires { message.now.from < length self.now.proposer.votes }
-        ensures verdict { IfOk result (λ verdict. IsVerdictOn self.now (whole_of message.now)
-            verdict (whole_body message.now.body)) }
-        ensures fits { IfOk result (λ _. FitsMessage self.now (whole_of message.now)) }
-        ensures spares { IfOk result (λ _. SparesMessage self.now (whole_of message.now)) }
-        ensures error { (view : Histories)
-            → IfErr result (IsMessageRefusal self.now view (whole_of message.now)) }
-        ensures memory { result ≢ Err ReplicaError.Memory }
+    // The delta of a message that is looked at, and the set over which it is.
+    fn told<'a>(&'a self, message: &'a Message) -> Option<Told<'a>>
+        ensures { lent_told result ≡ told_at self.now message.now }
     {
         match &message.body {
-            Body::Offer(offered) => {
+            Body::Offer(delta) => Some(Told {
+                over: self.acceptor.accepted(),
+                delta,
+            }),
+            Body::No(delta) => {
+                if !self.proposer.counts(message.from, message.ballot) {
+                    return None;
+                }
+                Some(Told {
+                    over: self.proposer.updates(),
+                    delta,
+                })
+            }
+            Body::Yes | Body::Tell(_) => None,
+        }
+    }
+
+    // What that delta stands for.
+    pub fn rebuilt(&self, message: &Message) -> Result<Option<UpdateSet>, SetError>
+        ensures ok { IfOk result (λ set. set ≡ rebuilt_at self.now message.now) }
+        ensures stands { IfOk result (λ _. StandsAt self.now message.now) }
+        ensures free { told_at self.now message.now ≡ None → IsOk result }
+        ensures error { IfErr result (IsUnbuilt self.now message.now) }
+    {
+        match self.told(message) {
+            Some(told) => Ok(Some(told.over.with(told.delta)?)),
+            None => Ok(None),
+        }
+    }
+
+    // The same of a message that is known to stand and to agree here, where its delta was made from a
+    // list: else the delta lends it.
+    pub fn made(&self, message: &Message) -> Result<Option<UpdateSet>, AllocError>
+        requires stands { StandsAt self.now message.now }
+        requires agrees { AgreesAt self.now message.now }
+        ensures ok { IfOk result (λ set. set ≡ made_at self.now message.now) }
+        ensures free { IsLentAt self.now message.now → IsOk result }
+    {
+        let Some(told) = self.told(message) else {
+            return Ok(None);
+        };
+        if told.over.lent_by(told.delta).is_some() {
+            return Ok(None);
+        }
+        Ok(Some(told.over.with_agreeing(told.delta)?))
+    }
+
+    // The message with its whole set: what its delta lends, or this, which was made.
+    pub fn whole<'a>(&'a self, message: &'a Message, made: Option<&'a UpdateSet>) -> Whole<'a>
+        requires stands { StandsAt self.now message.now }
+        requires agrees { AgreesAt self.now message.now }
+        requires made { option_copied made ≡ made_at self.now message.now }
+        ensures { lent_message result ≡ received_at self.now message.now }
+    {
+        let Some(told) = self.told(message) else {
+            return Whole::of(message, None);
+        };
+        match told.over.lent_by(told.delta) {
+            Some(lent) => Whole::of(message, Some(lent)),
+            None => Whole::of(message, made),
+        }
+    }
+
+    // Whether what a message to this instance asks for would be done, memory apart; and where it is
+    // a reply, the verdict on it.
+    pub fn admit_message(&self, message: Whole<'_>) -> Result<Option<Verdict>, ReplicaError>
+        requires { message.from < length self.now.proposer.votes }
+        ensures verdict { IfOk result (λ verdict. IsVerdictOn self.now (lent_message message.entry)
+            verdict (lent_body message.entry.body)) }
+        ensures fits { IfOk result (λ _. FitsMessage self.now (lent_message message.entry)) }
+        ensures spares { IfOk result (λ _. SparesMessage self.now (lent_message message.entry)) }
+        ensures error { (view : Histories)
+            → IfErr result (IsMessageRefusal self.now view (lent_message message.entry)) }
+        ensures memory { result ≢ Err ReplicaError.Memory }
+    {
+        match message.body {
+            WholeBody::Offer(offered) => {
                 self.acceptor.admit_offer(offered)?;
                 Ok(None)
             }
-            Body::Yes | Body::No(_) => self.admit_reply(message),
-            Body::Tell(_) => Ok(None),
+            WholeBody::Yes | WholeBody::No(_) => self.admit_reply(message),
+            WholeBody::Tell(_) => Ok(None),
         }
     }
 
     // Whether a reply would be heard, memory apart, and the verdict on it.
-    fn admit_reply(&self, message: &Message) -> Result<Option<Verdict>, ReplicaError>
-        requires { message.now.from < length self.now.proposer.votes }
-        ensures verdict { IfOk result (IsVerdictOf self.now.proposer message.now.from
-            message.now.ballot (reply_of (whole_of message.now))) }
+    fn admit_reply(&self, message: Whole<'_>) -> Result<Option<Verdict>, ReplicaError>
+        requires { message.from < length self.now.proposer.votes }
+        ensures verdict { IfOk result (IsVerdictOf self.now.proposer message.entry.from
+            message.entry.ballot (reply_of (lent_message message.entry))) }
         ensures fits { IfOk result (λ _.
-            HearingFits self.now.proposer (whole_of message.now)) }
+            HearingFits self.now.proposer (lent_message message.entry)) }
         ensures spares { IfOk result (λ _.
-            HearingSpares self.now.proposer (whole_of message.now)) }
-        ensures error { IfErr result (IsHearingRefusal self.now.proposer (whole_of message.now)
-            (reply_of (whole_of message.now))) }
+            HearingSpares self.now.proposer (lent_message message.entry)) }
+        ensures error { IfErr result (IsHearingRefusal self.now.proposer (lent_message message.entry)
+            (reply_of (lent_message message.entry))) }
         ensures memory { result ≢ Err ReplicaError.Memory }
     {
         let (from, ballot) = (message.from, message.ballot);
@@ -132,13 +209,13 @@ impl Instance {
     }
 
     // The verdict on a message, where it is a reply.
-    pub fn verdict(&self, message: &Message) -> Option<Verdict>
-        ensures { IsVerdictOn self.now (whole_of message.now) result
-            (whole_body message.now.body) }
+    pub fn verdict(&self, message: Whole<'_>) -> Option<Verdict>
+        ensures { IsVerdictOn self.now (lent_message message.entry) result
+            (lent_body message.entry.body) }
     {
-        match &message.body {
-            Body::Offer(_) | Body::Tell(_) => None,
-            Body::Yes | Body::No(_) => {
+        match message.body {
+            WholeBody::Offer(_) | WholeBody::Tell(_) => None,
+            WholeBody::Yes | WholeBody::No(_) => {
                 let (from, ballot) = (message.from, message.ballot);
                 self.proposer.verdict(from, ballot, message.refusal())
             }
@@ -149,20 +226,20 @@ impl Instance {
     pub fn candidate<'a>(
         &'a self,
         verdict: Option<Verdict>,
-        message: &'a Message,
+        message: Whole<'a>,
     ) -> Option<&'a UpdateSet>
-        ensures { option_copied result ≡ candidate self.now verdict (whole_of message.now) }
+        ensures { option_copied result ≡ candidate self.now verdict (lent_message message.entry) }
     {
         if message.instance != 0 {
             return None;
         }
-        match &message.body {
-            Body::Offer(_) => None,
-            Body::Yes | Body::No(_) => match verdict {
+        match message.body {
+            WholeBody::Offer(_) => None,
+            WholeBody::Yes | WholeBody::No(_) => match verdict {
                 Some(Verdict::Learns) => Some(self.proposer.updates()),
                 _ => None,
             },
-            Body::Tell(told) => Some(told),
+            WholeBody::Tell(told) => Some(told),
         }
     }
 
@@ -172,34 +249,37 @@ impl Instance {
         &self,
         alloc: Global,
         sender: &Sender,
-        message: &Message,
+        message: Whole<'_>,
         verdict: Option<Verdict>,
         taken: bool,
     ) -> Result<(Out, Change), AllocError>
-        requires known { message.now.from < length self.now.proposer.votes }
-        requires instance { sender.now.instance ≡ message.now.instance }
-        requires verdict { IsVerdictOn self.now (whole_of message.now) verdict
-            (whole_body message.now.body) }
-        requires fits { FitsMessage self.now (whole_of message.now) }
-        requires spares { SparesMessage self.now (whole_of message.now) }
+        requires known { message.from < length self.now.proposer.votes }
+        requires instance { sender.now.instance ≡ message.instance }
+        requires verdict { IsVerdictOn self.now (lent_message message) verdict
+            (lent_body message.body) }
+        requires fits { FitsMessage self.now (lent_message message) }
+        requires spares { SparesMessage self.now (lent_message message) }
         ensures step { IfOk result (λ prepared. (view : Histories)
-            → taken ≡ is_taken view (candidate self.now verdict (whole_of message.now))
-            → receives sender.now self.now view (whole_of message.now)
+            → taken ≡ is_taken view (candidate self.now verdict (lent_message message.entry))
+            → receives sender.now self.now view (lent_message message.entry)
             ≡ step_by self.now view (whole_out prepared.0) prepared.1) }
         ensures from { IfOk result (λ prepared.
             IsProposerFrom self.now.proposer prepared.1.proposer) }
+        ensures told { IfOk result (λ prepared. AreToldBy
+            (proposer_after self.now.proposer prepared.1.proposer) message.entry.instance
+            (offered_by (lent_message message.entry)) prepared.0.mail) }
         ensures instance { IfOk result (λ prepared.
-            prepared.1.instance ≡ message.now.instance) }
+            prepared.1.instance ≡ message.entry.instance) }
         ensures free { (view : Histories)
-            → taken ≡ is_taken view (candidate self.now verdict (whole_of message.now))
-            → IsFreeMessage self.now view (whole_of message.now) → IsOk result }
+            → taken ≡ is_taken view (candidate self.now verdict (lent_message message.entry))
+            → IsFreeMessage self.now view (lent_message message.entry) → IsOk result }
     {
-        match &message.body {
-            Body::Offer(offered) => self.prepare_answer(alloc, message, offered),
-            Body::Yes | Body::No(_) => {
+        match message.body {
+            WholeBody::Offer(offered) => self.prepare_answer(alloc, message, offered),
+            WholeBody::Yes | WholeBody::No(_) => {
                 self.prepare_hearing(alloc, sender, message, verdict, taken)
             }
-            Body::Tell(told) => prepare_tell(alloc, sender, told, taken),
+            WholeBody::Tell(told) => prepare_tell(alloc, sender, told, taken),
         }
     }
 
@@ -207,20 +287,22 @@ impl Instance {
     fn prepare_answer(
         &self,
         alloc: Global,
-        message: &Message,
+        message: Whole<'_>,
         offered: &UpdateSet,
     ) -> Result<(Out, Change), AllocError>
         requires { IsCompatible self.now.acceptor offered.now }
         ensures step { IfOk result (λ prepared. (view : Histories)
-            → answers self.now view (whole_of message.now) offered.now
+            → answers self.now view (lent_message message.entry) offered.now
             ≡ step_by self.now view (whole_out prepared.0) prepared.1) }
         ensures from { IfOk result (λ prepared. prepared.1.proposer ≡ None) }
+        ensures told { (p : ProposerState) → IfOk result (λ prepared.
+            AreToldBy p message.entry.instance (counts_of offered.now) prepared.0.mail) }
         ensures instance { IfOk result (λ prepared.
-            prepared.1.instance ≡ message.now.instance) }
+            prepared.1.instance ≡ message.entry.instance) }
         ensures free { offered.now ≡ self.now.acceptor → IsOk result }
     {
         let (reply, accepted) = self.acceptor.prepare_offer(offered)?;
-        let out = answered(alloc, message, reply)?;
+        let out = answered(alloc, message, offered, reply)?;
         let nothing = Change::nothing(message.instance);
         Ok((
             out,
@@ -236,27 +318,30 @@ impl Instance {
         &self,
         alloc: Global,
         sender: &Sender,
-        message: &Message,
+        message: Whole<'_>,
         verdict: Option<Verdict>,
         taken: bool,
     ) -> Result<(Out, Change), AllocError>
-        requires known { message.now.from < length self.now.proposer.votes }
-        requires verdict { IsVerdictOf self.now.proposer message.now.from
-            message.now.ballot (reply_of (whole_of message.now)) verdict }
-        requires fits { HearingFits self.now.proposer (whole_of message.now) }
-        requires spares { HearingSpares self.now.proposer (whole_of message.now) }
+        requires known { message.from < length self.now.proposer.votes }
+        requires verdict { IsVerdictOf self.now.proposer message.from
+            message.ballot (reply_of (lent_message message)) verdict }
+        requires fits { HearingFits self.now.proposer (lent_message message) }
+        requires spares { HearingSpares self.now.proposer (lent_message message) }
         ensures step { IfOk result (λ prepared. (view : Histories)
             → taken ≡ is_taken view (learnt_in_view sender.now.instance self.now.proposer verdict)
-            → hears sender.now self.now view (whole_of message.now)
-            (reply_of (whole_of message.now))
+            → hears sender.now self.now view (lent_message message.entry)
+            (reply_of (lent_message message.entry))
             ≡ step_by self.now view (whole_out prepared.0) prepared.1) }
         ensures from { IfOk result (λ prepared.
             IsProposerFrom self.now.proposer prepared.1.proposer) }
+        ensures told { (offered : Counts) → IfOk result (λ prepared. AreToldBy
+            (proposer_after self.now.proposer prepared.1.proposer) sender.now.instance offered
+            prepared.0.mail) }
         ensures instance { IfOk result (λ prepared. prepared.1.instance ≡ sender.now.instance) }
         ensures free { (view : Histories)
             → taken ≡ is_taken view (learnt_in_view sender.now.instance self.now.proposer verdict)
-            → IsFreeReply self.now.proposer (whole_of message.now)
-            (reply_of (whole_of message.now)) → IsOk result }
+            → IsFreeReply self.now.proposer (lent_message message.entry)
+            (reply_of (lent_message message.entry)) → IsOk result }
     {
         if verdict.is_none() {
             let silent = Out::silent(alloc, Said::Ignored);
@@ -265,7 +350,7 @@ impl Instance {
         let reply = message.reply()?;
         let (from, ballot) = (message.from, message.ballot);
         let (heard, change) = self.proposer.prepare_reply(verdict, from, ballot, reply)?;
-        let mail = sender.mail(alloc, ballot, &heard)?;
+        let mail = sender.mail(alloc, ballot, &heard, &self.proposer, &change)?;
         let learnt = learnt_copy(ballot, &heard)?;
         let view = set_if(taken, self.proposer.updates())?;
         let said = Said::from(heard);
@@ -282,6 +367,8 @@ impl Instance {
     // has counted, and the tells of what was learnt last.
     pub fn again(&self, mail: &mut Mail, sender: &Sender) -> Result<(), AllocError>
         ensures ok { OnOk result (Adds mail.old mail.new (again_in sender.now self.now)) }
+        ensures told { (offered : Counts) → OnOk result (AddsTold self.now.proposer
+            sender.now.instance offered mail.old mail.new) }
         ensures nothing { again_in sender.now self.now ≡ [] → IsOk result }
     {
         sender.offer_again(mail, &self.proposer)?;
@@ -339,15 +426,24 @@ fn set_if(taken: bool, set: &UpdateSet) -> Result<Option<UpdateSet>, AllocError>
 }
 
 // The answer to an offer: the reply is said, and a copy goes back.
-fn answered(alloc: Global, message: &Message, reply: Reply) -> Result<Out, AllocError>
+fn answered(
+    alloc: Global,
+    message: Whole<'_>,
+    offered: &UpdateSet,
+    reply: Reply,
+) -> Result<Out, AllocError>
+    requires { (accepted : Histories) → reply ≡ replied.No accepted
+        → HasCounts accepted (counts_of offered.now) }
     ensures ok { IfOk result (λ out. whole_out out
-        ≡ record { said = Answered reply; mail = reply_to (whole_of message.now) reply ∷ [] }) }
+        ≡ record { said = Answered reply; mail = reply_to (lent_message message.entry) reply ∷ [] }) }
+    ensures told { (p : ProposerState) → IfOk result (λ out.
+        AreToldBy p message.entry.instance (counts_of offered.now) out.mail) }
     ensures free { reply ≡ Reply.Yes → IsOk result }
 {
-    let sent = reply.copy()?;
+    let sent = message.answered(offered.counts(), &reply)?;
     Ok(Out {
         said: Said::Answered(reply),
-        mail: Mail::one(alloc, message.answered(sent)),
+        mail: Mail::one(alloc, sent),
     })
 }
 
@@ -363,6 +459,7 @@ fn prepare_tell(
         → is_told sender.now x view told.now
         ≡ step_by x view (whole_out prepared.0) prepared.1) }
     ensures from { IfOk result (λ prepared. prepared.1.proposer ≡ None) }
+    ensures told { IfOk result (λ prepared. prepared.0.mail ≡ []) }
     ensures instance { IfOk result (λ prepared. prepared.1.instance ≡ sender.now.instance) }
     ensures free { taken ≡ false → IsOk result }
 {

@@ -5,11 +5,16 @@ ghost use Rattle.la_set.specs.Inclusion.{IsSubset};
 ghost use Rattle.la_proposer.specs.declared.proposer.TheConstants.{MAX_CAP};
 ghost use Rattle.la_proposer.specs.Majority.{votes_of};
 ghost use Rattle.la_proposer.specs.ProposerState.{op_on};
-ghost use Rattle.la_replica.specs.Whole.{whole_of, whole_out, whole_body, whole_mail};
+ghost use Rattle.la_replica.specs.Whole.{lent_message, lent_body, whole_out, whole_mail};
+ghost use Rattle.la_replica.specs.Received.{received_in, rebuilt_in, StandsIn, AgreesIn};
+ghost use Rattle.la_replica.specs.Received.{made_at, IsLentIn, IsNotToldIn};
+ghost use Rattle.la_replica.specs.Bases.{offered_by, AreToldIn, AreToldFrom, AreToldAfter};
+ghost use Rattle.la_replica.specs.Bases.{AreToldThere};
 ghost use Rattle.la_replica.specs.ReplicaState.{ReplicaState, start, submits, receives, sender_of};
 ghost use Rattle.la_replica.specs.ReplicaState.{last_learnt, submitted_in, InInstance};
 ghost use Rattle.la_replica.specs.Invariant.{IsReplicaState};
-ghost use Rattle.la_replica.specs.Refusals.{IsSubmitRefusal, IsReceiveRefusal, IsReceivable};
+ghost use Rattle.la_replica.specs.Refusals.{IsSubmitRefusal, IsReceiveRefusal, IsReceiptRefusal};
+ghost use Rattle.la_replica.specs.Refusals.{IsFor, IsReceivable};
 ghost use Rattle.la_replica.specs.Refusals.{HasRoom, SubmittingSpares, ReceivingSpares};
 ghost use Rattle.la_replica.specs.Fitting.{FitsReceiver};
 ghost use Rattle.la_replica.specs.Memory.{IsFree};
@@ -20,10 +25,11 @@ ghost use Rattle.la_replica.specs.Again.{again};
 use crate::instance::Instance;
 use crate::sender::Sender;
 use crate::view::{is_taken, is_taken_fitting};
+use crate::whole::Whole;
 use crate::{Change, Mail, Message, Out, ReplicaError};
 use la_commit::MAX_COMMITS;
 use la_proposer::{Verdict, Votes};
-use la_set::{Op, UpdateSet};
+use la_set::{Counts, Op, UpdateSet};
 use std::alloc::{AllocError, Global};
 use std::marker::Model;
 
@@ -128,6 +134,8 @@ impl Replica {
     pub fn submit(&mut self, instance: u8, object: u16, op: Op) -> Result<Out, ReplicaError>
         ensures step { IfOk result (λ out.
             submits self.old instance (op_on object op) ≡ Some (whole_out out, self.new)) }
+        ensures told { (offered : Counts)
+            → IfOk result (λ out. AreToldFrom self.new instance offered out.mail) }
         ensures room { IfOk result (λ _. HasRoom self.old instance) }
         ensures spares { IfOk result (λ _. SubmittingSpares self.old instance) }
         ensures error { IfErr result (IsSubmitRefusal self.old instance) }
@@ -149,6 +157,8 @@ impl Replica {
     ) -> Result<(Out, Change), ReplicaError>
         ensures leads { IfOk result (λ prepared. LeadsThere self.now instance
             (op_on object op) (whole_out prepared.0) prepared.1) }
+        ensures told { IfOk result (λ prepared.
+            AreToldThere self.now instance prepared.1 prepared.0.mail) }
         ensures instance { IfOk result (λ prepared. prepared.1.instance ≡ instance) }
         ensures room { IfOk result (λ _. HasRoom self.now instance) }
         ensures spares { IfOk result (λ _. SubmittingSpares self.now instance) }
@@ -162,30 +172,39 @@ impl Replica {
         }
     }
 
-    /// Receives a message, honest or not. An offer is answered, and the reply goes back. A reply is
-    /// heard by the proposer: a ballot that is refined or learnt is followed by tells of what was
-    /// learnt, in instance 0 alone, and then by the offers of the ballot that opens. A told set of
+    /// Receives a message, honest or not. Of an offer and a refusal that counts the set is rebuilt
+    /// over what is known here ([`UpdateSet::with`]). An offer is answered, and the reply goes back. A
+    /// reply is heard by the proposer: a ballot that is refined or learnt is followed by tells of what
+    /// was learnt, in instance 0 alone, and then by the offers of the ballot that opens. A told set of
     /// instance 0 is taken as the view where it is strictly larger; so is a newly learnt one. The
     /// view only grows.
     ///
     /// In this order: `NoSuchReplica` where the message is from out of the group, or to another
-    /// replica; `NoSuchInstance`; `Clash` for an offer that clashes with the accepted set, and for
-    /// a counting reply that does not fit what the proposer knows, with the least id;
-    /// `BallotsSpent` where a reply would open a ballot with a number over 8,000,000; `Memory`.
-    /// After each the replica is as before. A reply that does not count is answered `Ignored`
-    /// before its set is looked at. No memory is taken by an offer of exactly what is accepted, by
-    /// a reply that does not count, by an acknowledgement that only counts, and by a told set that
-    /// is not taken as the view: these succeed.
+    /// replica; `NoSuchInstance`; `NoBase` where what is accepted, or of a counting refusal the open
+    /// ballot's set, has less than its delta stands on; `Gap` where an update of that delta does not
+    /// come next; `Memory`, for the set that it stands for; `Clash` for an offer that clashes with the
+    /// accepted set, and for a counting reply that does not fit what the proposer knows, with the
+    /// least id; `BallotsSpent` where a reply would open a ballot with a number over 8,000,000;
+    /// `Memory`. After each the replica is as before. A reply that does not count is answered
+    /// `Ignored` before its delta is looked at. No memory is taken by a reply that does not count, by
+    /// an acknowledgement that only counts, and by a told set that is not taken as the view: these
+    /// succeed.
     ///
-    /// It is [`Replica::prepare`] and then [`Replica::commit`]. The cost is that of comparing the
-    /// sets at hand.
+    /// It is [`Replica::prepare`] and then [`Replica::commit`]. The cost is that of what the message
+    /// carries, and of comparing the sets at hand from where they differ in memory.
     pub fn receive(&mut self, message: &Message) -> Result<Out, ReplicaError>
-        ensures step { IfOk result (λ out.
-            receives self.old (whole_of message.now) ≡ Some (whole_out out, self.new)) }
-        ensures fits { IfOk result (λ _. IsReceivable self.old (whole_of message.now)) }
-        ensures spares { IfOk result (λ _. ReceivingSpares self.old (whole_of message.now)) }
-        ensures free { IsFree self.old (whole_of message.now) → IsOk result }
-        ensures error { IfErr result (IsReceiveRefusal self.old (whole_of message.now)) }
+        ensures step { IfOk result (λ out. receives self.old (received_in self.old message.now)
+            ≡ Some (whole_out out, self.new)) }
+        ensures stands { IfOk result (λ _. StandsIn self.old message.now) }
+        ensures fits { IfOk result (λ _.
+            IsReceivable self.old (received_in self.old message.now)) }
+        ensures spares { IfOk result (λ _.
+            ReceivingSpares self.old (received_in self.old message.now)) }
+        ensures told { IfOk result (λ out. AreToldFrom self.new message.now.instance
+            (offered_by (received_in self.old message.now)) out.mail) }
+        ensures free { IsNotToldIn self.old message.now
+            → IsFree self.old (received_in self.old message.now) → IsOk result }
+        ensures error { IfErr result (IsReceiptRefusal self.old message.now) }
         ensures err { OnErr result (self.new ≡ self.old) }
         ensures grows { IsSubset self.old.view self.new.view }
     {
@@ -198,39 +217,53 @@ impl Replica {
     /// said and sent, and the change. A caller reads what is said, and may prepare a submission in
     /// another instance beside it, before either is committed.
     pub fn prepare(&self, message: &Message) -> Result<(Out, Change), ReplicaError>
-        ensures step { IfOk result (λ prepared. receives self.now (whole_of message.now)
+        ensures step { IfOk result (λ prepared. receives self.now (received_in self.now message.now)
             ≡ led self.now (whole_out prepared.0) prepared.1) }
         ensures from { IfOk result (λ prepared. IsPreparedFrom self.now prepared.1) }
+        ensures told { IfOk result (λ prepared. AreToldAfter self.now prepared.1
+            (offered_by (received_in self.now message.now)) prepared.0.mail) }
         ensures instance { IfOk result (λ prepared.
             prepared.1.instance ≡ message.now.instance) }
-        ensures fits { IfOk result (λ _. IsReceivable self.now (whole_of message.now)) }
-        ensures spares { IfOk result (λ _. ReceivingSpares self.now (whole_of message.now)) }
-        ensures free { IsFree self.now (whole_of message.now) → IsOk result }
-        ensures error { IfErr result (IsReceiveRefusal self.now (whole_of message.now)) }
+        ensures stands { IfOk result (λ _. StandsIn self.now message.now) }
+        ensures fits { IfOk result (λ _.
+            IsReceivable self.now (received_in self.now message.now)) }
+        ensures spares { IfOk result (λ _.
+            ReceivingSpares self.now (received_in self.now message.now)) }
+        ensures free { IsNotToldIn self.now message.now
+            → IsFree self.now (received_in self.now message.now) → IsOk result }
+        ensures error { IfErr result (IsReceiptRefusal self.now message.now) }
     {
-        let verdict = self.admit_message(message)?;
-        let taken = is_taken(&self.view, self.candidate(verdict, message));
-        Ok(self.prepare_as(message, verdict, taken)?)
+        let set = self.rebuilt(message)?;
+        let whole = Whole::of(message, set.as_ref());
+        let verdict = self.admit_message(whole)?;
+        let taken = is_taken(&self.view, self.candidate(verdict, whole));
+        Ok(self.prepare_as(whole, verdict, taken)?)
     }
 
-    /// Prepares to receive a message that fits all that the replica knows. It is refused for want of
-    /// memory alone. The same messages as for [`Replica::receive`] take none.
+    /// Prepares to receive a message whose delta is known to stand for something here, and which
+    /// fits all that the replica knows. It is refused for want of memory alone. The same messages as
+    /// for [`Replica::receive`] take none, nor does an offer of exactly what is accepted, where its
+    /// delta was made of a set.
     ///
     /// No updates are compared: the counts of sets that fit tell which contains which. The cost is
     /// that of the acceptor's or the proposer's step, and of a copy of each set that is said, sent
-    /// or kept, which share it.
+    /// or kept, which share it; and of a delta that was made from a list, that of the list.
     pub fn prepare_fitting(&self, message: &Message) -> Result<(Out, Change), AllocError>
-        requires { FitsReceiver self.now (whole_of message.now) }
-        ensures step { IfOk result (λ prepared. receives self.now (whole_of message.now)
+        requires fits { FitsReceiver self.now (received_in self.now message.now) }
+        requires stands { StandsIn self.now message.now }
+        requires agrees { AgreesIn self.now message.now }
+        ensures step { IfOk result (λ prepared. receives self.now (received_in self.now message.now)
             ≡ led self.now (whole_out prepared.0) prepared.1) }
         ensures from { IfOk result (λ prepared. IsPreparedFrom self.now prepared.1) }
+        ensures told { IfOk result (λ prepared. AreToldAfter self.now prepared.1
+            (offered_by (received_in self.now message.now)) prepared.0.mail) }
         ensures instance { IfOk result (λ prepared.
             prepared.1.instance ≡ message.now.instance) }
-        ensures free { IsFree self.now (whole_of message.now) → IsOk result }
+        ensures free { IsLentIn self.now message.now
+            → IsFree self.now (received_in self.now message.now) → IsOk result }
     {
-        let verdict = self.verdict(message);
-        let taken = is_taken_fitting(&self.view, self.candidate(verdict, message));
-        self.prepare_as(message, verdict, taken)
+        let made = self.instances[message.instance as usize].made(message)?;
+        self.prepare_whole(self.whole(message, made.as_ref()))
     }
 
     /// Does what was prepared from this very replica, at constant cost. It takes no memory. What was
@@ -255,28 +288,6 @@ impl Replica {
         }
     }
 
-    /// Whether a message would be received, memory apart: with the errors of [`Replica::receive`],
-    /// in its order; and the verdict on it, where it is a reply. It takes no memory, and `Memory`
-    /// never comes. The cost is that of comparing an offered set with what is accepted, or a refused
-    /// one that counts with what the proposer knows.
-    pub fn admit_message(&self, message: &Message) -> Result<Option<Verdict>, ReplicaError>
-        ensures verdict { IfOk result (λ verdict. InInstance self.now message.now.instance
-            (λ x. IsVerdictOn x (whole_of message.now) verdict (whole_body message.now.body))) }
-        ensures receivable { IfOk result (λ _.
-            IsReceivable self.now (whole_of message.now)) }
-        ensures spares { IfOk result (λ _. ReceivingSpares self.now (whole_of message.now)) }
-        ensures error { IfErr result (IsReceiveRefusal self.now (whole_of message.now)) }
-        ensures memory { result ≢ Err ReplicaError.Memory }
-    {
-        if message.from as usize >= self.votes.len() || message.to != self.own {
-            return Err(ReplicaError::NoSuchReplica);
-        }
-        match self.instances.get(message.instance as usize) {
-            Some(at) => at.admit_message(message),
-            None => Err(ReplicaError::NoSuchInstance),
-        }
-    }
-
     /// What a timer should send once more where answers stay away. Of each instance, in order: while
     /// a ballot is open, its offer to each replica of the group, itself among them, of which no reply
     /// has counted there; then, in instance 0, the tells of the set that was learnt last. Nothing
@@ -286,6 +297,7 @@ impl Replica {
     /// cost is that of a message for each, whose sets are shared.
     pub fn again(&self) -> Result<Mail, AllocError>
         ensures mail { IfOk result (λ mail. whole_mail mail ≡ again self.now) }
+        ensures told { (offered : Counts) → IfOk result (AreToldIn self.now offered) }
         ensures nothing { again self.now ≡ [] → IsOk result }
     {
         let mut mail = Mail::new(*self.instances.allocator());
@@ -296,11 +308,77 @@ impl Replica {
         Ok(mail)
     }
 
+    // What the delta of a message to this replica stands for, where it is looked at.
+    fn rebuilt(&self, message: &Message) -> Result<Option<UpdateSet>, ReplicaError>
+        ensures ok { IfOk result (λ set. set ≡ rebuilt_in self.now message.now) }
+        ensures addressed { IfOk result (λ _. IsFor self.now (received_in self.now message.now)) }
+        ensures there { IfOk result (λ _.
+            message.now.instance < length self.now.instances) }
+        ensures stands { IfOk result (λ _. StandsIn self.now message.now) }
+        ensures free { IsNotToldIn self.now message.now
+            → IsFor self.now (received_in self.now message.now) → IsOk result }
+        ensures error { IfErr result (IsReceiptRefusal self.now message.now) }
+    {
+        if message.from as usize >= self.votes.len() || message.to != self.own {
+            return Err(ReplicaError::NoSuchReplica);
+        }
+        match self.instances.get(message.instance as usize) {
+            Some(at) => Ok(at.rebuilt(message)?),
+            None => Err(ReplicaError::NoSuchInstance),
+        }
+    }
+
+    // A message that stands and agrees here, with its whole set: what its delta lends, or this, which
+    // was made.
+    fn whole<'a>(&'a self, message: &'a Message, made: Option<&'a UpdateSet>) -> Whole<'a>
+        requires stands { StandsIn self.now message.now }
+        requires agrees { AgreesIn self.now message.now }
+        requires made { InInstance self.now message.now.instance
+            (λ x. option_copied made ≡ made_at x message.now) }
+        ensures { lent_message result ≡ received_in self.now message.now }
+    {
+        self.instances[message.instance as usize].whole(message, made)
+    }
+
+    // Whether a message to this replica would be received, memory apart, and the verdict on it, where
+    // it is a reply.
+    fn admit_message(&self, message: Whole<'_>) -> Result<Option<Verdict>, ReplicaError>
+        requires addressed { IsFor self.now (lent_message message) }
+        requires there { message.instance < length self.now.instances }
+        ensures verdict { IfOk result (λ verdict. InInstance self.now message.entry.instance
+            (λ x. IsVerdictOn x (lent_message message.entry) verdict
+            (lent_body message.entry.body))) }
+        ensures receivable { IfOk result (λ _.
+            IsReceivable self.now (lent_message message.entry)) }
+        ensures spares { IfOk result (λ _. ReceivingSpares self.now (lent_message message.entry)) }
+        ensures error { IfErr result (IsReceiveRefusal self.now (lent_message message.entry)) }
+        ensures memory { result ≢ Err ReplicaError.Memory }
+    {
+        self.instances[message.instance as usize].admit_message(message)
+    }
+
+    // Prepares to receive a message that fits all that the replica knows.
+    fn prepare_whole(&self, message: Whole<'_>) -> Result<(Out, Change), AllocError>
+        requires { FitsReceiver self.now (lent_message message) }
+        ensures step { IfOk result (λ prepared. receives self.now (lent_message message.entry)
+            ≡ led self.now (whole_out prepared.0) prepared.1) }
+        ensures from { IfOk result (λ prepared. IsPreparedFrom self.now prepared.1) }
+        ensures told { IfOk result (λ prepared. AreToldAfter self.now prepared.1
+            (offered_by (lent_message message.entry)) prepared.0.mail) }
+        ensures instance { IfOk result (λ prepared.
+            prepared.1.instance ≡ message.entry.instance) }
+        ensures free { IsFree self.now (lent_message message.entry) → IsOk result }
+    {
+        let verdict = self.verdict(message);
+        let taken = is_taken_fitting(&self.view, self.candidate(verdict, message));
+        self.prepare_as(message, verdict, taken)
+    }
+
     // The verdict on a message, where it is a reply.
-    fn verdict(&self, message: &Message) -> Option<Verdict>
-        requires { message.now.instance < length self.now.instances }
-        ensures { InInstance self.now message.now.instance
-            (λ x. IsVerdictOn x (whole_of message.now) result (whole_body message.now.body)) }
+    fn verdict(&self, message: Whole<'_>) -> Option<Verdict>
+        requires { message.instance < length self.now.instances }
+        ensures { InInstance self.now message.entry.instance (λ x.
+            IsVerdictOn x (lent_message message.entry) result (lent_body message.entry.body)) }
     {
         self.instances[message.instance as usize].verdict(message)
     }
@@ -309,11 +387,11 @@ impl Replica {
     fn candidate<'a>(
         &'a self,
         verdict: Option<Verdict>,
-        message: &'a Message,
+        message: Whole<'a>,
     ) -> Option<&'a UpdateSet>
-        requires { message.now.instance < length self.now.instances }
-        ensures { InInstance self.now message.now.instance (λ x.
-            option_copied result ≡ candidate x verdict (whole_of message.now)) }
+        requires { message.instance < length self.now.instances }
+        ensures { InInstance self.now message.entry.instance (λ x.
+            option_copied result ≡ candidate x verdict (lent_message message.entry)) }
     {
         self.instances[message.instance as usize].candidate(verdict, message)
     }
@@ -322,22 +400,24 @@ impl Replica {
     // or not.
     fn prepare_as(
         &self,
-        message: &Message,
+        message: Whole<'_>,
         verdict: Option<Verdict>,
         taken: bool,
     ) -> Result<(Out, Change), AllocError>
-        requires receivable { IsReceivable self.now (whole_of message.now) }
-        requires spares { ReceivingSpares self.now (whole_of message.now) }
-        requires verdict { InInstance self.now message.now.instance
-            (λ x. IsVerdictOn x (whole_of message.now) verdict (whole_body message.now.body)) }
-        requires taken { InInstance self.now message.now.instance
-            (λ x. taken ≡ is_taken self.now.view (candidate x verdict (whole_of message.now))) }
-        ensures step { IfOk result (λ prepared. receives self.now (whole_of message.now)
+        requires receivable { IsReceivable self.now (lent_message message) }
+        requires spares { ReceivingSpares self.now (lent_message message) }
+        requires verdict { InInstance self.now message.instance
+            (λ x. IsVerdictOn x (lent_message message) verdict (lent_body message.body)) }
+        requires taken { InInstance self.now message.instance
+            (λ x. taken ≡ is_taken self.now.view (candidate x verdict (lent_message message))) }
+        ensures step { IfOk result (λ prepared. receives self.now (lent_message message.entry)
             ≡ led self.now (whole_out prepared.0) prepared.1) }
         ensures from { IfOk result (λ prepared. IsPreparedFrom self.now prepared.1) }
+        ensures told { IfOk result (λ prepared. AreToldAfter self.now prepared.1
+            (offered_by (lent_message message.entry)) prepared.0.mail) }
         ensures instance { IfOk result (λ prepared.
-            prepared.1.instance ≡ message.now.instance) }
-        ensures free { IsFree self.now (whole_of message.now) → IsOk result }
+            prepared.1.instance ≡ message.entry.instance) }
+        ensures free { IsFree self.now (lent_message message.entry) → IsOk result }
     {
         let alloc = *self.instances.allocator();
         let sender = self.sender(message.instance);

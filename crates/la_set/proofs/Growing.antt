@@ -13,7 +13,7 @@ use Rattle.la_set.specs.Counts.{count_in, within}
 use Rattle.la_set.proofs.lemmas.NumberedLists.{length-numbered, take-numbered, object_ops-numbered}
 use Rattle.la_set.proofs.Representation.{list_at, pushed-list, numbered-object_ops, represented-edited, IsRepresentation-edited}
 use Rattle.la_set.proofs.lemmas.SetHistories.{history-with_same, history-with_other}
-use Rattle.la_set.proofs.Counting.{history-within}
+use Rattle.la_set.proofs.lemmas.Counting.{history-within}
 
 -- a front, with the item that comes next in the whole
 pub next-front : (list all : List Update) (n : ℕ) (u : Update) → n ≡ length list → IsFront list all → slice_get all n ≡ Some u → take (n + 1) all ≡ list ++ u ∷ []

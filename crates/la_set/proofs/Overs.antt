@@ -16,7 +16,7 @@ use Rattle.la_set.proofs.lemmas.NumberedLists.{length-numbered, drop-numbered, s
 use Rattle.la_set.proofs.lemmas.Joins.{slice_get-drop}
 use Rattle.la_set.proofs.lemmas.Inclusions.{prefix-subset}
 use Rattle.la_set.proofs.lemmas.Differences.{new_part-drop, beyond-pushes}
-use Rattle.la_set.proofs.Counting.{history-within, count-within}
+use Rattle.la_set.proofs.lemmas.Counting.{history-within, count-within}
 
 -- of one replica's updates, those over its count are what comes after so many
 all_over : (c : Counts) (r m : ℕ) (ds : List ObjectOp) → count_in c r < m → filter (is_over c) (numbered r m ds) ≡ numbered r m ds

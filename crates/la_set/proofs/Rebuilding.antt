@@ -11,7 +11,7 @@ use Rattle.la_set.proofs.Pushing.{pushed-PushesTo, next-PushesTo}
 use Rattle.la_set.proofs.Overs.{over-pushes}
 use Rattle.la_set.proofs.lemmas.SetHistories.{same_histories}
 use Rattle.la_set.proofs.lemmas.Inclusions.{compatible-agree}
-use Rattle.la_set.proofs.Counting.{history-within}
+use Rattle.la_set.proofs.lemmas.Counting.{history-within}
 
 module _ (x s : Histories) (base : Counts) (mine : HasCounts x base) (theirs : HasCounts s base) (few : IsWithinLimit s) (same : within x base ≡ within s base) where
   -- a set's delta stands for the set, over each that has the base and the same within it

@@ -14,3 +14,4 @@ pub mod Differences
 pub mod Agreements
 pub mod Theorems
 pub mod Crossing
+pub mod Counting

@@ -1,5 +1,5 @@
 ghost use Rattle.std.specs.Prelude.{◌≡◌, ◌+◌, ◌≤◌, ◌<◌, ◌++◌, [], ◌∷◌, length, slice_get, drop, reverse};
-ghost use Rattle.std.specs.Prelude.{IsOk, IfOk, IfErr, OnOk, OnErr, Some, None, IsTrue, ◌↔◌, take};
+ghost use Rattle.std.specs.Prelude.{IsOk, IfOk, IfErr, IfSome, OnOk, OnErr, Some, None, IsTrue, ◌↔◌, take};
 ghost use Rattle.std.specs.Option.{option_copied};
 ghost use Rattle.la_set.specs.Links.{lent_items};
 ghost use Rattle.la_set.specs.Histories.{history, updates_of, push, IsNext, IsWithinLimit};
@@ -205,13 +205,26 @@ impl UpdateSet {
         requires agrees { AgreesWithin self.now delta.now }
         ensures { IfOk result (λ set. set ≡ rebuilt self.now delta.now) }
     {
+        match self.lent_by(delta) {
+            Some(set) => set.copy(),
+            None => self.rebuilt(delta),
+        }
+    }
+
+    /// The same as it lies in the delta, without a copy: `None` where the delta was made from a list.
+    pub fn lent_by<'a>(&self, delta: &'a Delta) -> Option<&'a UpdateSet>
+        requires stands { IsOver self.now delta.now }
+        requires agrees { AgreesWithin self.now delta.now }
+        ensures whose { option_copied result ≡ delta.now.made_of }
+        ensures rebuilt { IfSome (option_copied result) (λ set. set ≡ rebuilt self.now delta.now) }
+    {
         match &delta.more {
             More::Whole(set) => {
                 // a hint to the prover: no number is over the limit
                 let _ = set.allocator();
-                set.copy()
+                Some(set)
             }
-            More::Listed(_) => self.rebuilt(delta),
+            More::Listed(_) => None,
         }
     }
 

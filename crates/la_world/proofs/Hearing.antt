@@ -1,15 +1,14 @@
 -- What an acceptor has reported lies in what it has accepted, and stays in it.
-use Rattle.std.proofs.Common.{◌≡◌, ℕ, Bool, true, false, cond, ◌&&◌, ◌==◌, List, [], ◌∷◌, ◌++◌, Option, Some, None, refl, sym, ◌∙◌, ap, subst, subst₂, eqb-true, eq-eqb, unwrap_or}
+use Rattle.std.proofs.Common.{◌≡◌, ℕ, Bool, true, false, cond, ◌&&◌, ◌==◌, [], ◌∷◌, ◌++◌, Option, Some, None, refl, sym, ◌∙◌, ap, subst, subst₂, eqb-true, eq-eqb, unwrap_or}
 use Rattle.std.proofs.lemmas.Bool.{and_parts, and_from, cond-true}
 use Rattle.la_set.specs.Histories.{Histories}
 use Rattle.la_set.specs.Inclusion.{IsSubset, is_subset}
 use Rattle.la_set.specs.Join.{join}
 use Rattle.la_set.proofs.lemmas.Inclusions.{subset-refl, subset-trans}
-use Rattle.la_acceptor.specs.declared.reply.Reply.{Reply}
 use Rattle.la_acceptor.specs.declared.reply.Reply.TheVariants as replied
 use Rattle.la_acceptor.specs.Answer.{answer}
 use Rattle.la_replica.specs.Whole.{Message, Body, Offer, Yes, No, Tell}
-use Rattle.la_replica.specs.Messages.{group, offer_to, tell_to, body_of, reply_to}
+use Rattle.la_replica.specs.Messages.{group, offer_to, body_of, reply_to}
 use Rattle.la_world.specs.declared.step.Opening.{Opening}
 use Rattle.la_world.specs.Groups.{Group, replicas}
 use Rattle.la_world.specs.Events.{Event}
@@ -23,7 +22,7 @@ use Rattle.la_world.specs.Laws.{ReportsAreAccepted}
 use Rattle.la_world.proofs.Lists.{IsIn, AllIn, AllIn-append, AllIn-each, AllIn-map, AllIn_at}
 use Rattle.la_world.proofs.Accepted.{accepted_more, accepted_offer, accepted_earlier}
 use Rattle.la_world.proofs.EventCases.{EventCases, silent, opens, answers_offer, refines, learns, Step}
-use Rattle.la_world.proofs.Quorum.{same_number, tells_all, IsBacked, IsJustified, IsJustifiedMessage, counts_is, open_in}
+use Rattle.la_world.proofs.Quorum.{same_number, tells_all, IsBacked, IsJustified, counts_is, open_in}
 use Rattle.la_world.proofs.LargestViews.{empty_least}
 use Rattle.la_world.proofs.Traces.{Holds, always, stands}
 
@@ -95,9 +94,9 @@ told_accepted g t h m (No s) c j w before b = w
 told_accepted g t h m (Offer s) c j w before b = b
 told_accepted g t h m (Tell s) c j w before b = b
 
-record AreAccepted (g : Group) (t : Trace) : Type 0 where
-  refusals : AllIn (IsAcceptedMessage t) (sent (replicas g) t)
-  reports : (i r a : ℕ) → IsSubset (reported t i r a) (accepted t i a)
+pub record AreAccepted (g : Group) (t : Trace) : Type 0 where
+  pub refusals : AllIn (IsAcceptedMessage t) (sent (replicas g) t)
+  pub reports : (i r a : ℕ) → IsSubset (reported t i r a) (accepted t i a)
 
 module _ (g : Group) (t : Trace) (h : Holds g t) (are : AreAccepted g t) where
   heard_accepted : (i r a : ℕ) (o : Option Message) → ((m : Message) → o ≡ Some m → IsIn m (sent (replicas g) t))
@@ -122,11 +121,11 @@ module _ (g : Group) (t : Trace) (h : Holds g t) (are : AreAccepted g t) where
           subst (λ j. Goal j r a) (eqb-true m.instance i p.0) (subst₂ (λ j k. Goal m.instance j k) (eqb-true m.to r q.0) (eqb-true m.from a s.0) (here s.1))
       go false e = are.reports i r a
 
-accepted_start : (g : Group) → AreAccepted g []
+pub accepted_start : (g : Group) → AreAccepted g []
 unfolding sent reported
 accepted_start g = record { refusals = tt; reports = λ i r a. empty_least (accepted [] i a) }
 
-accepted_kept : (g : Group) (t : Trace) (x : Entry) → Step g t x → Holds g t → AreAccepted g t → AreAccepted g (x ∷ t)
+pub accepted_kept : (g : Group) (t : Trace) (x : Entry) → Step g t x → Holds g t → AreAccepted g t → AreAccepted g (x ∷ t)
 unfolding sent reported
 accepted_kept g t x step h are = record {
   refusals = AllIn-append (IsAcceptedMessage (x ∷ t)) (sent (replicas g) t) (sent_by (replicas g) x.delivered x.did)

@@ -1,5 +1,5 @@
 -- A replica is what the calls lead to that its node accepted.
-use Rattle.std.proofs.Common.{◌≡◌, List, [], ◌∷◌, ◌++◌, fold, Option, Some, None, option_and_then, refl, ap, sym, ◌∙◌}
+use Rattle.std.proofs.Common.{◌≡◌, List, [], ◌∷◌, ◌++◌, fold, Option, Some, option_and_then, refl, ap, ◌∙◌}
 use Rattle.la_replica.specs.ReplicaState.{ReplicaState}
 use Rattle.la_world.specs.Kept.{KeptCall, after_call, KeptListsLeadOn, KeptListsArePlayedAgain}
 

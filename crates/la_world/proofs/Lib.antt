@@ -23,6 +23,10 @@ pub mod Allowing
 pub mod InGroup
 pub mod Traces
 pub mod Hearing
+pub mod Tellings
+pub mod ToldMail
+pub mod Deliverable
+pub mod Delivered
 pub mod Once
 pub mod Taking
 pub mod SubmissionEvents

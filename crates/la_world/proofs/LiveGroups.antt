@@ -1,5 +1,5 @@
 -- A group of live replicas stands for the events that its calls are, and so keeps what they promise.
-use Rattle.std.proofs.Common.{◌≡◌, ◌≢◌, ◌⊎◌, inl, inr, ℕ, ◌+◌, ◌<◌, ◌≤◌, Bool, true, false, List, [], ◌∷◌, ◌++◌, length, map, drop, slice_get, slice_set, Contains, Option, Some, None, IsSomeAnd, option_map, option_and_then, refl, ap, ap₂, sym, ◌∙◌, append-nil, subst, subst₂, arith}
+use Rattle.std.proofs.Common.{◌≡◌, ◌≢◌, inl, inr, ℕ, ◌+◌, ◌<◌, ◌≤◌, Bool, true, false, List, [], ◌∷◌, ◌++◌, length, map, drop, slice_get, slice_set, Contains, Option, Some, None, IsSomeAnd, option_map, option_and_then, refl, ap, ap₂, sym, ◌∙◌, append-nil, subst, subst₂, arith}
 use Rattle.std.specs.Prelude.{flat_map}
 use Rattle.std.specs.List.{cons_option, range_with_len}
 use Rattle.std.proofs.Math.Logic.{∥∥₁_elim, ∥∥₁_map}
@@ -18,7 +18,17 @@ use Rattle.la_commit.specs.Instances.{first_instance}
 use Rattle.la_commit.specs.Votes.{first_vote}
 use Rattle.la_replica.specs.declared.instance.Instance.{Instance}
 use Rattle.la_replica.specs.declared.message.Message as code
-use Rattle.la_replica.specs.Whole.{Message, whole_of, whole_out}
+use Rattle.la_set.specs.declared.counts.Counts.{Counts}
+use Rattle.la_replica.specs.Whole.{Message, Out, whole_of, whole_out}
+use Rattle.la_replica.specs.Received.{received_in, IsCarriedIn}
+use Rattle.la_replica.specs.Bases.{offered_by, AreToldIn, AreToldFrom}
+use Rattle.la_replica.proofs.lemmas.Carrying.{carried_received, carried_offers}
+use Rattle.la_replica.proofs.lemmas.Alike.{alike_refl, alike_trans, alike_received}
+use Rattle.la_world.specs.Told.{offered_to, told_at, told, IsMade}
+use Rattle.la_world.proofs.Tellings.{told_are_made}
+use Rattle.la_world.proofs.ToldMail.{told_of, told_as, sent_sides}
+use Rattle.la_world.proofs.Deliverable.{IsDeliverableAt, deliverable_carried}
+use Rattle.la_world.proofs.Delivered.{told_sent, told_deliverable}
 use Rattle.la_replica.specs.Steps.{learnt_in}
 use Rattle.la_replica.specs.Refusals.{HasRoom}
 use Rattle.la_replica.specs.ReplicaState as acting
@@ -27,25 +37,25 @@ use Rattle.la_world.specs.declared.config.Config.{Config}
 use Rattle.la_world.specs.declared.step.Opening.{Opening}
 use Rattle.la_world.specs.Groups.{Group, replicas, instances}
 use Rattle.la_world.specs.Events.{Event, Past, Submit, Deliver, Decide}
-use Rattle.la_world.specs.Trace.{Trace}
+use Rattle.la_world.specs.Trace.{Did, Entry, Trace}
 use Rattle.la_world.specs.Sent.{sent_at, sent}
 use Rattle.la_world.specs.Ballots.{learnt_by}
-use Rattle.la_world.specs.Submissions.{submitted}
+use Rattle.la_world.specs.Submissions.{submission_by, submitted}
 use Rattle.la_world.specs.Views.{view}
-use Rattle.la_world.specs.Playing.{receives, entry, trace}
+use Rattle.la_world.specs.Playing.{submits, receives, entry, trace}
 use Rattle.la_world.specs.Learnings.{learning_of, learnt}
 use Rattle.la_world.specs.Outcomes.{decisions}
 use Rattle.la_world.specs.Report.{refused, views}
 use Rattle.la_world.specs.ReplicaStates.{instance_of, proposer_state, replica_state, replica_states}
-use Rattle.la_world.specs.Following.{Taken, without_vote, takes, whole_done}
+use Rattle.la_world.specs.Following.{Taken, without_vote, vote_due, then_votes, takes, whole_done}
 use Rattle.la_world.specs.StandsFor.{EventsLeadTo}
 use Rattle.la_world.specs.Nodes.{NodeState}
 use Rattle.la_world.specs.Calls.{views_of, decisions_at}
 use Rattle.la_world.specs.Laws.{IsAdoptCommit}
 use Rattle.la_world.specs.Promises.{KeepsPromises}
-use Rattle.la_world.specs.LiveGroups.{LearntSet, LiveGroup, Call, Submitted, Proposed, Received, Looked, silence, submission, makes, MayAccept, learnt_from, learnt_by_call, IsStep, IsStart, Reaches, IsReached, replicas_of, event_of, events_of, live_group_of, learnt_set_of, StandsForEvents, decisions_of}
+use Rattle.la_world.specs.LiveGroups.{LearntSet, LiveGroup, Call, Submitted, Proposed, Received, Looked, silence, submission, makes, MayAccept, learnt_from, learnt_by_call, IsStep, IsStart, Reaches, IsReached, IsAmong, told_by_calls, replicas_of, event_of, events_of, live_group_of, learnt_set_of, StandsForEvents, decisions_of}
 use Rattle.la_world.specs.LiveGroups.{LiveGroupsStandForEvents, LiveGroupsKeepAll, LiveLearntAreComparable, LiveViewsAreComparable, LiveNodesAreOneHistory, NewNodesAreLive, NetworksMayLose, SubmissionsKeepLive, ProposalsKeepLive, ReceiptsKeepLive, LooksKeepLive}
-use Rattle.la_world.proofs.Lists.{contains_IsIn, IsIn_contains, IsIn_mapped, IsIn_image, IsIn_place, get_mapped, made_at}
+use Rattle.la_world.proofs.Lists.{AllIn, AllIn_at, IsIn_get, contains_IsIn, IsIn_contains, IsIn_mapped, IsIn_place, get_mapped, made_at}
 use Rattle.la_world.proofs.Openings.{IsOf}
 use Rattle.la_world.proofs.Traces.{holds}
 use Rattle.la_world.proofs.Chains.{learnt_comparable}
@@ -53,9 +63,9 @@ use Rattle.la_world.proofs.LargestViews.{views_comparable}
 use Rattle.la_world.proofs.Allowing.{submission_allowed, delivery_allowed}
 use Rattle.la_world.proofs.Proposals.{tested_in_order}
 use Rattle.la_world.proofs.SubmissionEvents.{submission_entry}
-use Rattle.la_world.proofs.OneReplicaSteps.{get_instance, replica_states-set}
+use Rattle.la_world.proofs.OneReplicaSteps.{get_instance}
 use Rattle.la_world.proofs.RefusedForMemory.{submitted_is}
-use Rattle.la_world.proofs.Legal.{submission_steps, proposal_steps, delivery_steps, delivery_placed, entry_delivers}
+use Rattle.la_world.proofs.Legal.{legal_submits, legal_between, submission_steps, proposal_steps, delivery_steps, delivery_placed, entry_delivers}
 use Rattle.la_world.proofs.WorldSteps.{few_of, states_at_start, led_at_start, led_on, submits_learns, learnt_said}
 use Rattle.la_world.proofs.Worlds.{set_same, views_made}
 use Rattle.la_world.proofs.Returned.{decisions_made}
@@ -191,6 +201,55 @@ module _ (c : Config) (group : LiveGroup) (events : Past) (stands : StandsForEve
           learnt = learns ∙ append-nil group.learnt ∙ stands.learnt;
         }
 
+    -- ### How it is told
+
+    -- by a submission
+    submission_told : (e : Event) (i : ℕ) (d : ObjectOp) (by : (did : Did) → submission_by e did ≡ Some (record { instance = i; replica = r; object_op = d })) → i < instances g
+        → (made : NodeState) (mail : List code.Message) → made.replica ≡ replica_state g (entry g t e ∷ t) r → map whole_of mail ≡ sent_at (replicas g) (entry g t e)
+        → ((offered : Counts) → AreToldFrom made.replica i offered mail) → mail ≡ told_at (replicas g) (entry g t e) t
+    submission_told e i d by there made mail is carry told =
+        let x = entry g t e in
+        let h = legal_submits g events stands.led.legal few e i r d by there known in
+        let none = submits_learns t i r d in
+        let sides : AllIn (λ (m : Message). (m.from ≡ r) × (m.to < 8)) (sent_at (replicas g) x) =
+        subst (λ (y : Entry). AllIn (λ (m : Message). (m.from ≡ r) × (m.to < 8)) (sent_at (replicas g) y)) (sym (submission_entry g t i r d e by))
+        (sent_sides (replicas g) r None (submits t i r d) few (λ b f. (h.concerns.opened b f).replica) (λ b f. absurd (none-some b (sym none ∙ f))) (λ m f. absurd (none-some m f))) in
+        told_as g t x r mail carry sides (subst (λ q. AreToldIn q (offered_to x.delivered) mail) is (told_of made.replica i (offered_to x.delivered) mail (told (offered_to x.delivered))))
+
+    pub update_told : (d : ObjectOp) (made : NodeState) (mail : List code.Message) (taken : Taken) → HasRoom node.replica 0 → submission (acting.submits node.replica 0 d) ≡ Some (taken, made.replica) → map whole_of mail ≡ taken.mail
+        → ((offered : Counts) → AreToldFrom made.replica 0 offered mail) → mail ≡ told_at (replicas g) (entry g t (Submit r d)) t
+    update_told d made mail taken room does carry told =
+        let f = submission_steps g events r d few stands.led.legal (submission_allowed g t r d known (has_room room)) in
+        let both = same_Some _ _ (sym does ∙ ap (λ m. submission (acting.submits m 0 d)) is_state ∙ ap submission f.step) in
+        submission_told (Submit r d) 0 d (λ did. refl) (omega arith) made mail (ap (λ p. p.1) both) (carry ∙ ap (λ p. p.0.mail) both) told
+
+    pub proposal_told : (k value : ℕ) (made : NodeState) (mail : List code.Message) (taken : Taken) → submitted_in node.replica (first_instance k) ≡ Some 0 → submission (acting.submits node.replica (first_instance k) (first_vote k value)) ≡ Some (taken, made.replica) → map whole_of mail ≡ taken.mail
+        → ((offered : Counts) → AreToldFrom made.replica (first_instance k) offered mail) → mail ≡ told_at (replicas g) (entry g t (Decide r k value)) t
+    proposal_told k value made mail taken first does carry told =
+        let i = first_instance k in
+        let there = object_known k first in
+        let none_yet = same_Some _ _ (sym (count_is i there) ∙ first) in
+        let allowed = (tested_in_order g events r k value).first known (omega (arith, there)) (omega (arith, none_yet)) in
+        let f = proposal_steps g events r k value few stands.led.legal allowed in
+        let both = same_Some _ _ (sym does ∙ ap (λ m. submission (acting.submits m i (first_vote k value))) is_state ∙ ap submission f.step) in
+        submission_told (Decide r k value) i (first_vote k value) (λ did. refl) there made mail (ap (λ p. p.1) both) (carry ∙ ap (λ p. p.0.mail) both) told
+
+    -- by a receipt
+    pub receipt_told : (number : ℕ) (m : Message) (made : NodeState) (mail : List code.Message) (taken : Taken) → slice_get (sent (replicas g) t) number ≡ Some m → m.to ≡ r → takes node.replica m ≡ Some (taken, made.replica) → map whole_of mail ≡ taken.mail
+        → AreToldIn made.replica (offered_by m) mail → mail ≡ told_at (replicas g) (entry g t (Deliver number)) t
+    receipt_told number m made mail taken was to does carry told =
+        let x = entry g t (Deliver number) in
+        let f = delivery_steps g events number m few stands.led.legal was in
+        let both = same_Some _ _ (sym does ∙ ap (λ s. takes s m) (is_state ∙ ap (replica_state g t) (sym to)) ∙ f.step) in
+        let placed = delivery_placed g events stands.led.legal few number m was in
+        let sides : AllIn (λ (w : Message). (w.from ≡ m.to) × (w.to < 8)) (sent_at (replicas g) x) =
+        subst (λ (y : Entry). AllIn (λ (w : Message). (w.from ≡ m.to) × (w.to < 8)) (sent_at (replicas g) y)) (sym (entry_delivers g t number m was))
+        (sent_sides (replicas g) m.to (Some m) (receives g t (Some m)) few (λ b h. (placed.opened b h).replica) (λ b h. (placed.learnt b h).replica)
+         (λ n h. let one = same_Some m n h in (ap (λ (z : Message). z.to) (sym one), subst (λ (z : Message). z.from < replicas g) one (legal_between g events stands.led.legal number m was).from))) in
+        let offers : offered_by m ≡ offered_to x.delivered = sym (ap offered_to was) in
+        told_as g t x m.to mail (carry ∙ ap (λ p. p.0.mail) both) sides
+        (subst₂ (λ q counts. AreToldIn q counts mail) (ap (λ p. p.1) both) offers told)
+
   -- by whatever call
   pub step_stands : (r : ℕ) (call : Call) (after : LiveGroup) → IsStep group r call after → StandsForEvents c after (cons_option (event_of r call) events)
   step_stands r (Submitted d) after s = submitted_stands r s.node s.is_at d s.taken s.made after s.accepts s.does s.nodes s.sent s.learnt
@@ -289,14 +348,30 @@ loses_live nodes network left live within = ∥∥₁_map live (λ is. record {
   group = is.group;
   reached = is.reached;
   nodes_are = is.nodes_are;
-  sent = λ m has. is.sent m (within m has);
+  sent = λ m has. let near = within m has in let far = is.sent near.0 near.1 in (far.0, far.1, alike_trans m near.0 far.0 near.2 far.2);
 })
+
+-- what was told before a call was told after it
+still_among : (c : Config) (r : ℕ) (call : Call) (calls : List (ℕ × Call)) (m : code.Message) → IsAmong m (told_by_calls c calls) → IsAmong m (told_by_calls c ((r, call) ∷ calls))
+unfolding trace told
+still_among c r (Submitted d) calls m a = (a.0, Contains-append_left (told_by_calls c calls) _ a.0 a.1, a.2)
+still_among c r (Proposed k value) calls m a = (a.0, Contains-append_left (told_by_calls c calls) _ a.0 a.1, a.2)
+still_among c r (Received number) calls m a = (a.0, Contains-append_left (told_by_calls c calls) _ a.0 a.1, a.2)
+still_among c r Looked calls m a = a
+
+-- and so is what it tells
+newly_among : (c : Config) (events : Past) (e : Event) (mail : List code.Message) → let g = live_group_of c in let t = trace g events in mail ≡ told_at (replicas g) (entry g t e) t
+    → (m : code.Message) → Contains mail m → IsAmong m (told (replicas g) (trace g (e ∷ events)))
+unfolding trace told
+newly_among c events e mail is m has =
+    let g = live_group_of c in let t = trace g events in
+    (m, Contains-append_right (told (replicas g) t) (told_at (replicas g) (entry g t e) t) m (subst (λ ms. Contains ms m) is has), alike_refl m)
 
 -- one call more, by which this is sent
 module _ (nodes : List NodeState) (network mail : List code.Message) (r : ℕ) (node made : NodeState) (at : slice_get nodes r ≡ Some node) where
-  reached_on : (is : IsReached nodes network) (call : Call) (taken : Taken) → MayAccept is.group.sent r node.replica call → makes is.group.sent node.replica call ≡ Some (taken, made.replica) → taken.mail ≡ map whole_of mail → IsReached (slice_set nodes r made) (network ++ mail)
+  reached_on : (is : IsReached nodes network) (call : Call) (taken : Taken) → MayAccept is.group.sent r node.replica call → makes is.group.sent node.replica call ≡ Some (taken, made.replica) → ((m : code.Message) → Contains mail m → IsAmong m (told_by_calls is.config ((r, call) ∷ is.calls))) → IsReached (slice_set nodes r made) (network ++ mail)
   unfolding Reaches
-  reached_on is call taken accepts does wholes =
+  reached_on is call taken accepts does fresh =
       let before = is.group in
       let after : LiveGroup = record { nodes = slice_set before.nodes r made; sent = before.sent ++ taken.mail; learnt = before.learnt ++ learnt_by_call before.sent r call taken.said } in
       record {
@@ -320,21 +395,62 @@ module _ (nodes : List NodeState) (network mail : List code.Message) (r : ℕ) (
         );
         nodes_are = ap (λ ns. slice_set ns r made) is.nodes_are;
         sent = λ m has. elim (Contains-append_cases network mail m has) [
-          | inl was ↦ Contains-append_left before.sent taken.mail (whole_of m) (is.sent m was)
-          | inr new ↦ Contains-append_right before.sent taken.mail (whole_of m) (subst (λ ms. Contains ms (whole_of m)) (sym wholes) (IsIn_contains (map whole_of mail) (whole_of m) (IsIn_image whole_of mail m (contains_IsIn mail m new))))
+          | inl was ↦ still_among is.config r call is.calls m (is.sent m was)
+          | inr new ↦ fresh m new
         ];
       }
 
 pub submissions_live : SubmissionsKeepLive
-submissions_live nodes network r node made d out live at room step = ∥∥₁_map live (λ is. reached_on nodes network out.mail r node made at is (Submitted d) (without_vote (whole_out out)) room (ap submission step) refl)
+submissions_live nodes network r node made d out live at room step told = ∥∥₁_map live (λ is.
+    let stands = groups_stand is.config is.calls is.group is.reached in
+    let found = ap (λ ns. slice_get ns r) is.nodes_are ∙ at in
+    reached_on nodes network out.mail r node made at is (Submitted d) (without_vote (whole_out out)) room (ap submission step)
+    (newly_among is.config (events_of is.calls) (Submit r d) out.mail (update_told is.config is.group (events_of is.calls) stands r node found d made out.mail (without_vote (whole_out out)) room (ap submission step) refl told)))
 
 pub proposals_live : ProposalsKeepLive
-proposals_live nodes network r node made k value out live at first step = ∥∥₁_map live (λ is. reached_on nodes network out.mail r node made at is (Proposed k value) (without_vote (whole_out out)) first (ap submission step) refl)
+proposals_live nodes network r node made k value out live at first step told = ∥∥₁_map live (λ is.
+    let stands = groups_stand is.config is.calls is.group is.reached in
+    let found = ap (λ ns. slice_get ns r) is.nodes_are ∙ at in
+    reached_on nodes network out.mail r node made at is (Proposed k value) (without_vote (whole_out out)) first (ap submission step)
+    (newly_among is.config (events_of is.calls) (Decide r k value) out.mail (proposal_told is.config is.group (events_of is.calls) stands r node found k value made out.mail (without_vote (whole_out out)) first (ap submission step) refl told)))
+
+-- a message on the network is received as the one that was sent
+module _ (c : Config) (group : LiveGroup) (events : Past) (stands : StandsForEvents c group events) (r : ℕ) (node : NodeState) (found : slice_get group.nodes r ≡ Some node) (place : ℕ) (n : code.Message)
+    (at : slice_get (told (replicas (live_group_of c)) (trace (live_group_of c) events)) place ≡ Some n) (to : n.to ≡ r) where
+  sent_there : slice_get group.sent place ≡ Some (whole_of n)
+  sent_there = ap (λ ms. slice_get ms place) stands.led.sent ∙ told_sent (live_group_of c) events stands.led.legal stands.config.group.cap_most place n at
+
+  n_carried : IsCarriedIn node.replica n
+  n_carried =
+      let g = live_group_of c in let t = trace g events in
+      let there = get_instance g t n.to n.instance (legal_between g events stands.led.legal place (whole_of n) (told_sent g events stands.led.legal stands.config.group.cap_most place n at)).instance in
+      let deliverable = told_deliverable g events stands.led.legal stands.config.group.cap_most place n at in
+      subst (λ q. IsCarriedIn q n) (ap (replica_state g t) to ∙ sym (is_state c group events stands r node found))
+      (deliverable_carried (replica_state g t n.to) n (AllIn_at IsMade (told (replicas g) t) n (told_are_made g events) (IsIn_get (told (replicas g) t) place n at)) (subst (λ o. IsSomeAnd o (λ x. IsDeliverableAt x n)) (sym there) deliverable))
+
+  takes_sent : takes node.replica (received_in node.replica n) ≡ takes node.replica (whole_of n)
+  takes_sent =
+      ap (option_and_then (λ (made : Out × ReplicaState). then_votes made (vote_due n.instance node.replica.own made.0.said)))
+      (carried_received node.replica n n_carried)
+
+  offers_sent : offered_by (received_in node.replica n) ≡ offered_by (whole_of n)
+  offers_sent = carried_offers node.replica n n_carried
 
 pub receipts_live : ReceiptsKeepLive
-receipts_live nodes network r node made m done live at has to step = ∥∥₁_map live (λ is.
-    let p = IsIn_place is.group.sent (whole_of m) (contains_IsIn is.group.sent (whole_of m) (is.sent m has)) in
-    reached_on nodes network done.mail r node made at is (Received p.0) (whole_done done) (subst (λ o. IsSomeAnd o (λ k. k.to ≡ r)) (sym p.1) to) (ap (option_and_then (takes node.replica)) p.1 ∙ step) refl)
+receipts_live nodes network r node made m done live at has to step told = ∥∥₁_map live (λ is.
+    let c = is.config in let events = events_of is.calls in let group = is.group in
+    let stands = groups_stand c is.calls group is.reached in
+    let found = ap (λ ns. slice_get ns r) is.nodes_are ∙ at in
+    let n = (is.sent m has).0 in
+    let alike = (is.sent m has).2 in
+    let p = IsIn_place (told_by_calls c is.calls) n (contains_IsIn (told_by_calls c is.calls) n (is.sent m has).1) in
+    let n_to : n.to ≡ r = sym alike.to ∙ to in
+    let same = alike_received node.replica m n alike in
+    let does : takes node.replica (whole_of n) ≡ Some (whole_done done, made.replica) = sym (takes_sent c group events stands r node found p.0 n p.1 n_to) ∙ sym (ap (takes node.replica) same) ∙ step in
+    let offers = sym (sym (ap offered_by same)) ∙ offers_sent c group events stands r node found p.0 n p.1 n_to in
+    let there = sent_there c group events stands r node found p.0 n p.1 n_to in
+    reached_on nodes network done.mail r node made at is (Received p.0) (whole_done done) (subst (λ o. IsSomeAnd o (λ k. k.to ≡ r)) (sym there) n_to) (ap (option_and_then (takes node.replica)) there ∙ does)
+    (newly_among c events (Deliver p.0) done.mail (receipt_told c group events stands r node found p.0 (whole_of n) made done.mail (whole_done done) (ap (λ ms. slice_get ms p.0) (sym stands.led.sent) ∙ there) n_to does refl (subst (λ counts. AreToldIn made.replica counts done.mail) offers told))))
 
 pub looks_live : LooksKeepLive
-looks_live nodes network r node made live at same = ∥∥₁_map live (λ is. subst (IsReached (slice_set nodes r made)) (append-nil network) (reached_on nodes network [] r node made at is Looked silence tt (ap (λ (s : ReplicaState). Some (silence, s)) (sym same)) refl))
+looks_live nodes network r node made live at same = ∥∥₁_map live (λ is. subst (IsReached (slice_set nodes r made)) (append-nil network) (reached_on nodes network [] r node made at is Looked silence tt (ap (λ (s : ReplicaState). Some (silence, s)) (sym same)) (λ m has. absurd (Contains-none m has))))

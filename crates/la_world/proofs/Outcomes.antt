@@ -22,7 +22,7 @@ use Rattle.la_world.specs.declared.step.Did.TheVariants as shown
 use Rattle.la_world.specs.declared.step.Learnt.{Learnt}
 use Rattle.la_world.specs.declared.step.Opening.{Opening}
 use Rattle.la_world.specs.declared.step.Step.{Step}
-use Rattle.la_world.specs.Groups.{Group, replicas, instances}
+use Rattle.la_world.specs.Groups.{Group, replicas}
 use Rattle.la_world.specs.Events.{Event, Past, Submit, Deliver, Decide, Ask}
 use Rattle.la_world.specs.Trace as did
 use Rattle.la_world.specs.Trace.{Did, Entry, Trace}
@@ -30,7 +30,7 @@ use Rattle.la_world.specs.Sent.{sent}
 use Rattle.la_world.specs.Ballots.{opened_by, learnt_by, only, round, is_open}
 use Rattle.la_world.specs.Votes.{Submission, second_vote_of, second_vote}
 use Rattle.la_world.specs.Submissions.{submitted, second_vote_after}
-use Rattle.la_world.specs.Playing.{submits, opens_or_waits, opens_for, receives, delivered, entry, trace}
+use Rattle.la_world.specs.Playing.{submits, opens_or_waits, opens_for, receives, entry, trace}
 use Rattle.la_world.specs.Learnings.{learning, learnt}
 use Rattle.la_world.specs.Outcomes.{outcome_by, returned, decision_of, decisions}
 use Rattle.la_world.specs.Report.{shown_as, line_of, lines, trace_of}

@@ -1,5 +1,5 @@
 -- Questions to a world: a shelf follows its replica's view, and then answers by it.
-use Rattle.std.proofs.Common.{◌≡◌, ℕ, zero, suc, ◌+◌, ◌<◌, ◌≤◌, ◌⊎◌, inl, inr, List, [], ◌∷◌, length, get_or, slice_get, slice_set, unwrap_or, append-nil, Option, Some, None, IsSome, IsSomeAnd, option_map, refl, ap, ap₂, sym, ◌∙◌, subst, subst₂, arith}
+use Rattle.std.proofs.Common.{◌≡◌, ℕ, zero, suc, ◌+◌, ◌<◌, ◌≤◌, ◌⊎◌, inl, inr, List, [], ◌∷◌, length, get_or, slice_get, slice_set, unwrap_or, append-nil, Option, Some, None, IsSome, IsSomeAnd, option_map, refl, ap, ap₂, sym, ◌∙◌, subst, subst₂, arith, All}
 use Rattle.std.specs.Prelude.{nat_le, nat_lt}
 use Rattle.std.specs.List.{AllWithin}
 use Rattle.std.proofs.Math.Logic.{∥∥₁_map}
@@ -32,6 +32,7 @@ use Rattle.la_world.specs.Groups.{Group, group_of, replicas, kinds_on, IsConfig}
 use Rattle.la_world.specs.Events.{Event, Ask}
 use Rattle.la_world.specs.Trace.{Trace}
 use Rattle.la_world.specs.Sent.{sent}
+use Rattle.la_world.specs.Told.{told, IsMade}
 use Rattle.la_world.specs.Views.{view}
 use Rattle.la_world.specs.Playing.{answer_of, shelf_of, entry, trace}
 use Rattle.la_world.specs.Learnings.{learnt}
@@ -56,6 +57,7 @@ pub kept_invariant : (w after : World) → Keeps w after → HoldsInvariant w �
 kept_invariant w after k h = record {
   config = subst IsConfig (sym k.config) h.config;
   reached = ∥∥₁_map h.reached (λ p. (p.0, k.stands p.0 p.1));
+  made = subst (All IsMade) (sym k.messages) h.made;
 }
 
 -- what is played after nothing has happened is played before it
@@ -140,7 +142,7 @@ module _ (w : World) (events : List Event) (stands : StandsFor w events) where
 
   -- the world after a question stands for the events with it
   asked_stands : (r object : ℕ) (query : Query) → refused g t (Ask r object query) ≡ None → StandsFor (record w { count = w.count + 1 }) (Ask r object query ∷ events)
-  unfolding trace sent learnt
+  unfolding trace sent told learnt
   asked_stands r object query allowed =
       let x = entry g t (Ask r object query) in
       record {
@@ -150,6 +152,7 @@ module _ (w : World) (events : List Event) (stands : StandsFor w events) where
           replica_states = stands.led.replica_states ∙ replicas_stay g t r object query;
           sent = stands.led.sent ∙ sym (append-nil (sent (replicas g) t));
         };
+        told = stands.told ∙ sym (append-nil (told (replicas g) t));
         shelves = stands.shelves;
         absorbed = λ q s found u has. view_more x t q u (stands.absorbed q s found u has);
         learnt = stands.learnt ∙ sym (append-nil (learnt t));
@@ -231,12 +234,14 @@ module _ {w : World} {r : ℕ} {at : ReplicaState} {s : ShelfState} (is : IsShel
     keeps = record {
       config = refl;
       kinds = kinds_stay;
+      messages = refl;
       count = refl;
       stands = λ events stands.
           let same : group_of w.config (kinds_of w.shelves) ≡ group_of w.config (kinds_of (slice_set w.shelves r new)) = ap (group_of w.config) (sym kinds_stay) in
           record {
             config = stands.config;
             led = subst (λ (g : Group). EventsLeadTo g events w.replica_states (whole_mail w.messages)) same stands.led;
+            told = subst (λ (g : Group). w.messages ≡ told (replicas g) (trace g events)) same stands.told;
             shelves = length-set w.shelves r new ∙ stands.shelves;
             absorbed = subst (λ (g : Group). AreBehind (slice_set w.shelves r new) (trace g events)) same (behind events stands);
             learnt = subst (λ (g : Group). w.learnt ≡ learnt (trace g events)) same stands.learnt;
@@ -292,7 +297,7 @@ module _ (w : World) (r object : ℕ) (query : Query) (s : ShelfState) (answer :
       (question_plays w events stands r object query s answer found (some_and (slice_get w.shelves r) (λ (z : ShelfState). view_in w r ≡ Some z.view) s following found) there is)
 
   pub question_invariant : HoldsInvariant w → HoldsInvariant noted
-  question_invariant h = record { config = h.config; reached = ∥∥₁_map h.reached (λ p. (Ask r object query ∷ p.0, (question_played p.0 p.1).stands)) }
+  question_invariant h = record { config = h.config; reached = ∥∥₁_map h.reached (λ p. (Ask r object query ∷ p.0, (question_played p.0 p.1).stands)); made = subst (λ (v : World). All IsMade v.messages) (sym noted_is) h.made }
 
 -- ## The tags that are observed
 

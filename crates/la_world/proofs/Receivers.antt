@@ -19,7 +19,7 @@ module _ {A : Type 0} (some : ∥ A ∥₁) where
   never : (A → ⊥) → ⊥
   never f = ∥∥₁_elim some (hlevel) f
 
-  compatible_from : (a b : Histories) → (A → IsCompatible a b) → IsCompatible a b
+  pub compatible_from : (a b : Histories) → (A → IsCompatible a b) → IsCompatible a b
   compatible_from a b h u v p q e = go (update_eq u v) refl
     where
       go : (w : Bool) → update_eq u v ≡ w → u ≡ v

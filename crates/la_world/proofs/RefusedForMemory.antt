@@ -1,6 +1,6 @@
 -- A message of a legal list is refused for want of memory alone, and a submission that the world does
 -- not refuse likewise: every set lies within what was submitted, and ballots' numbers stay small.
-use Rattle.std.proofs.Common.{◌≡◌, ◌≢◌, ◌⊎◌, ℕ, ◌*◌, ◌<◌, ◌≤◌, Bool, true, false, not, ◌&&◌, ◌==◌, cond, List, [], ◌∷◌, length, slice_get, None, refl, ap, sym, ◌∙◌, subst, arith, inl, inr}
+use Rattle.std.proofs.Common.{◌≡◌, ◌⊎◌, ℕ, ◌*◌, ◌<◌, ◌≤◌, Bool, true, false, not, ◌&&◌, ◌==◌, cond, List, [], ◌∷◌, length, slice_get, None, refl, ap, sym, ◌∙◌, subst, arith, inl, inr}
 use Rattle.std.specs.Prelude.{IsSome, IsSomeAnd}
 use Rattle.std.proofs.lemmas.Bool.{cond_both, true≢false, not-true}
 use Rattle.std.proofs.lemmas.List.{length-drop}
@@ -24,7 +24,7 @@ use Rattle.la_proposer.specs.Clashes.{ClashesWith, ClashesInTally, Fits}
 use Rattle.la_proposer.specs.Refusals.{opens_by, SubmissionSpends, ReplySpends}
 use Rattle.la_proposer.proofs.lemmas.LeastIds.{least-clash, get-some, some-get}
 use Rattle.la_replica.specs.declared.error.ReplicaError.{ReplicaError}
-use Rattle.la_replica.specs.declared.error.ReplicaError.TheVariants.{NoSuchReplica, NoSuchInstance, Full, Clash, BallotsSpent, Memory}
+use Rattle.la_replica.specs.declared.error.ReplicaError.TheVariants.{NoSuchReplica, NoSuchInstance, Full, NoBase, Gap, Clash, BallotsSpent, Memory}
 use Rattle.la_replica.specs.Whole.{Message, Body, Offer, Yes, No, Tell}
 use Rattle.la_replica.specs.Messages.{body_of}
 use Rattle.la_replica.specs.declared.instance.Instance.{Instance}
@@ -184,6 +184,8 @@ module _ (g : Group) (t : Trace) (m : Message) (h : Holds g t) (was_sent : IsIn 
       hearing_refusal reply is NoSuchReplica w = absurd w
       hearing_refusal reply is NoSuchInstance w = absurd w
       hearing_refusal reply is Full w = absurd w
+      hearing_refusal reply is NoBase w = absurd w
+      hearing_refusal reply is Gap w = absurd w
 
       body_refusal : (b : Body) → m.body ≡ b → (e : ReplicaError) → IsBodyRefusal (instance_of g t r i) (view t r) m b e → e ≡ Memory
       unfolding instance_of
@@ -193,6 +195,8 @@ module _ (g : Group) (t : Trace) (m : Message) (h : Holds g t) (was_sent : IsIn 
       body_refusal (Offer s) is NoSuchReplica w = absurd w
       body_refusal (Offer s) is NoSuchInstance w = absurd w
       body_refusal (Offer s) is Full w = absurd w
+      body_refusal (Offer s) is NoBase w = absurd w
+      body_refusal (Offer s) is Gap w = absurd w
       body_refusal Yes is e w = hearing_refusal replied.Yes is e w
       body_refusal (No s) is e w = hearing_refusal (replied.No s) is e w
       body_refusal (Tell s) is (Clash id) w = absurd w
@@ -201,6 +205,8 @@ module _ (g : Group) (t : Trace) (m : Message) (h : Holds g t) (was_sent : IsIn 
       body_refusal (Tell s) is NoSuchReplica w = absurd w
       body_refusal (Tell s) is NoSuchInstance w = absurd w
       body_refusal (Tell s) is Full w = absurd w
+      body_refusal (Tell s) is NoBase w = absurd w
+      body_refusal (Tell s) is Gap w = absurd w
 
       there : (e : ReplicaError) → IsSomeAnd (slice_get (replica_state g t r).instances i) (λ x. IsBodyRefusal x (replica_state g t r).view m m.body e) → IsBodyRefusal (instance_of g t r i) (view t r) m m.body e
       unfolding replica_state
@@ -212,6 +218,8 @@ module _ (g : Group) (t : Trace) (m : Message) (h : Holds g t) (was_sent : IsIn 
       message_refusal NoSuchReplica (inr ne) = absurd (ne refl)
       message_refusal NoSuchInstance w = let lt = between.instance in let le = w.1 in absurd (omega (arith, length-map-range_with_len (instance_of g t r) 0 (instances g)))
       message_refusal Full w = body_refusal m.body refl Full (there Full w.1)
+      message_refusal NoBase w = body_refusal m.body refl NoBase (there NoBase w.1)
+      message_refusal Gap w = body_refusal m.body refl Gap (there Gap w.1)
       message_refusal (Clash id) w = body_refusal m.body refl (Clash id) (there (Clash id) w.1)
       message_refusal BallotsSpent w = body_refusal m.body refl BallotsSpent (there BallotsSpent w.1)
       message_refusal Memory w = refl
@@ -254,7 +262,7 @@ module _ (g : Group) (t : Trace) (m : Message) (h : Holds g t) (was_sent : IsIn 
 -- ## Every legal list
 
 -- a group's caps are small
-cap_small : (g : Group) (i : ℕ) → g.cap ≤ 1000000 → cap_of g i ≤ 1000000
+pub cap_small : (g : Group) (i : ℕ) → g.cap ≤ 1000000 → cap_of g i ≤ 1000000
 cap_small g i small = cond_both (i == 0) g.cap 1 (λ n. n ≤ 1000000) (λ e. small) (λ e. omega arith)
 
 pub delivery_fits : DeliveriesFit
@@ -293,6 +301,8 @@ module _ (g : Group) (t : Trace) (r i : ℕ) (h : Holds g t) (caps : (q : ℕ) �
   proposers_refusal BallotsSpent w = absurd (spares (subst (λ z. z < cap_of g i) (submitted_is g t i r h) w.0) w.1)
   proposers_refusal NoSuchReplica w = absurd w
   proposers_refusal NoSuchInstance w = absurd w
+  proposers_refusal NoBase w = absurd w
+  proposers_refusal Gap w = absurd w
   proposers_refusal (Clash id) w = absurd w
 
   proposer_there : (e : ReplicaError) → IsSomeAnd (slice_get (replica_state g t r).instances i) (λ x. IsSubmissionRefusal x.proposer e) → IsSubmittersRefusal (cap_of g i) (submitted t i r) e
@@ -306,6 +316,8 @@ module _ (g : Group) (t : Trace) (r i : ℕ) (h : Holds g t) (caps : (q : ℕ) �
   submitters_refusal Memory w = proposer_there Memory w
   submitters_refusal BallotsSpent w = proposer_there BallotsSpent w
   submitters_refusal NoSuchReplica w = proposer_there NoSuchReplica w
+  submitters_refusal NoBase w = proposer_there NoBase w
+  submitters_refusal Gap w = proposer_there Gap w
   submitters_refusal (Clash id) w = proposer_there (Clash id) w
 
 pub submission_refusal : SubmissionsFit

@@ -1,6 +1,6 @@
 -- What acceptors have reported, event by event: a reply that counts is what its acceptor reports, and
 -- nothing else changes it.
-use Rattle.std.proofs.Common.{◌≡◌, ◌≢◌, ℕ, ◌+◌, ◌==◌, ◌&&◌, Bool, true, false, cond, [], ◌∷◌, slice_set, Option, Some, None, unwrap_or, refl, ap, sym, ◌∙◌, arith, eq-eqb, ne_eqb}
+use Rattle.std.proofs.Common.{◌≡◌, ◌≢◌, ℕ, ◌==◌, ◌&&◌, Bool, true, false, cond, [], ◌∷◌, slice_set, Option, Some, None, unwrap_or, refl, ap, sym, ◌∙◌, arith, eq-eqb, ne_eqb}
 use Rattle.std.proofs.lemmas.Bool.{cond-true, cond-false, and_from}
 use Rattle.la_set.specs.Histories.{Histories}
 use Rattle.la_set.specs.Counts.{counts_of}

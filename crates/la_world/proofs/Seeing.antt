@@ -1,12 +1,11 @@
 -- What a replica saw, by the lines that show it: what it learnt, and the tells that were delivered
 -- to it, each of which a learning sent.
-use Rattle.std.proofs.Common.{◌≡◌, ◌⊎◌, ℕ, zero, suc, ◌+◌, ◌-◌, ◌<◌, ◌≤◌, ◌==◌, ◌&&◌, Bool, true, false, cond, List, [], ◌∷◌, ◌++◌, length, map, filter, take, reverse, slice_get, Option, Some, None, option_map, Contains, refl, ap, sym, ◌∙◌, subst, subst₂, arith, inl, inr}
+use Rattle.std.proofs.Common.{◌≡◌, ℕ, ◌+◌, ◌-◌, ◌<◌, ◌≤◌, ◌==◌, ◌&&◌, Bool, true, false, cond, List, [], ◌∷◌, ◌++◌, length, map, filter, take, reverse, slice_get, Option, Some, None, option_map, refl, ap, sym, ◌∙◌, subst, subst₂, arith, inl, inr}
 use Rattle.std.specs.Prelude.{nat_le}
 use Rattle.std.proofs.lemmas.Bool.{cases_lt, and_parts, cond-true, eq-eqb, eqb-true, leb-false}
 use Rattle.std.proofs.lemmas.List.{length-append, reverse-append, reverse-reverse, length-reverse}
 use Rattle.std.proofs.lemmas.Option.{same_Some, none-some, slice_get_within}
-use Rattle.la_set.specs.Histories.{Histories, empty}
-use Rattle.la_set.specs.Inclusion.{IsSubset}
+use Rattle.la_set.specs.Histories.{Histories}
 use Rattle.la_set.proofs.lemmas.NumberedLists.{slice_get-append_left, slice_get-append_right}
 use Rattle.la_acceptor.specs.declared.reply.Reply.{Reply}
 use Rattle.la_acceptor.specs.declared.reply.Reply.TheVariants as replied
@@ -29,11 +28,11 @@ use Rattle.la_world.specs.Views.{told, told_to, set_of, seen_at, seen}
 use Rattle.la_world.specs.Playing.{delivered, entry, trace}
 use Rattle.la_world.specs.Learnings.{learning, learning_of, learnt}
 use Rattle.la_world.specs.Report.{Run, refused, shown_as, line_of, runs, runs_on, lines, trace_of, views}
-use Rattle.la_world.specs.Promises.{learnt_in, IsLearntAt, place_beside, IsToldAt, LearnsAt, IsSeenAt, WasSeen, IsLargestSeen, AreLargestSeen}
+use Rattle.la_world.specs.Promises.{learnt_in, place_beside, IsToldAt, IsSeenAt, WasSeen, AreLargestSeen}
 use Rattle.la_world.proofs.Allowing.{none_from_cond}
 use Rattle.la_world.proofs.Asking.{done_by}
 use Rattle.la_world.proofs.Lists.{IsIn, AllIn, AllIn-map, AllIn_at, IsIn_get, IsIn-left, IsIn-right, in_either, IsIn_contains, contains_IsIn}
-use Rattle.la_world.proofs.Openings.{only_is, only_same, both_at}
+use Rattle.la_world.proofs.Openings.{only_is, both_at}
 use Rattle.la_world.proofs.Places.{accepted_of, accepted_before, accepted_between, accepted_next, handed_in_at, was_done, learnt_at_end}
 use Rattle.la_world.proofs.Promised.{trace_keeps}
 use Rattle.la_world.proofs.Safe.{line_each}

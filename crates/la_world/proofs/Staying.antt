@@ -1,6 +1,6 @@
 -- What a participant returned from an object it returns for good: once it has learnt a set in one of the
 -- object's instances, no ballot of its own opens there again.
-use Rattle.std.proofs.Common.{◌≡◌, ℕ, ◌≤◌, true, false, List, [], ◌∷◌, ◌++◌, length, Option, Some, None, option_map, option_and_then, refl, sym, ◌∙◌, ap, subst, subst₂, arith}
+use Rattle.std.proofs.Common.{◌≡◌, ℕ, ◌≤◌, true, List, [], ◌∷◌, ◌++◌, length, Option, Some, None, option_map, option_and_then, refl, sym, ◌∙◌, ap, subst, subst₂, arith}
 use Rattle.std.proofs.lemmas.Bool.{true≢false}
 use Rattle.std.proofs.lemmas.Option.{none-some}
 use Rattle.la_set.specs.Histories.{count}
@@ -16,7 +16,6 @@ use Rattle.la_world.specs.Ballots.{learnt_by, only, ballots, is_open}
 use Rattle.la_world.specs.Submissions.{submitted}
 use Rattle.la_world.specs.Playing.{entry, trace}
 use Rattle.la_world.specs.Learnings.{last_learnt_ballot}
-use Rattle.la_world.specs.Outcomes.{returned}
 use Rattle.la_world.specs.StandsFor.{IsLegal}
 use Rattle.la_world.specs.Laws.{OutcomesStay}
 use Rattle.la_world.proofs.Lists.{IsIn}

@@ -1,6 +1,6 @@
 -- A world that stands for a list of events, and the world after one event more.
 use Rattle.std.proofs.Common.{◌≡◌, ◌≢◌, ℕ, ◌+◌, ◌<◌, ◌≤◌, false, cond, List, [], ◌∷◌, ◌++◌, length, map, slice_get, slice_set, All, Option, Some, None, option_map, option_and_then, refl, ap, ap₂, sym, ◌∙◌, subst, arith}
-use Rattle.std.proofs.lemmas.Option.{none-some, slice_get_within, get_or_from_slice_get}
+use Rattle.std.proofs.lemmas.Option.{same_Some, none-some, slice_get_within, get_or_from_slice_get}
 use Rattle.std.proofs.lemmas.List.{map-append}
 use Rattle.la_set.specs.ObjectOps.{ObjectOp}
 use Rattle.la_set.specs.Histories.{Histories, empty}
@@ -22,6 +22,7 @@ use Rattle.la_world.specs.Events.{Event, Deliver}
 use Rattle.la_world.specs.Trace as did
 use Rattle.la_world.specs.Trace.{Did, Entry, Trace}
 use Rattle.la_world.specs.Sent.{sent_at, sent}
+use Rattle.la_world.specs.Told.{told_at, told}
 use Rattle.la_world.specs.Ballots.{opened_by, learnt_by, round, is_open}
 use Rattle.la_world.specs.Submissions.{submitted, second_vote_after}
 use Rattle.la_world.specs.Outcomes.{outcome_in, outcome_by}
@@ -34,7 +35,12 @@ use Rattle.la_world.specs.Views.{view}
 use Rattle.la_world.specs.StandsFor.{World, kinds_of, group_in, AreBehind, EventsLeadTo, StandsFor}
 use Rattle.la_world.specs.LiveGroups.{submission}
 use Rattle.la_world.specs.Calls.{IsGroup, replica_states_at_start, IsSubmission}
-use Rattle.la_world.proofs.Lists.{get_made}
+use Rattle.la_world.proofs.Lists.{AllIn, get_made}
+use Rattle.la_world.proofs.Tellings.{told_at_carries}
+use Rattle.la_world.proofs.ToldMail.{sent_sides}
+use Rattle.la_world.proofs.Deliverable.{IsDeliverableAt}
+use Rattle.la_world.proofs.Delivered.{told_deliverable}
+use Rattle.la_world.specs.ReplicaStates.{instance_of}
 use Rattle.la_world.proofs.GrowingViews.{view_more}
 use Rattle.la_world.proofs.LargestViews.{empty_least}
 use Rattle.la_world.proofs.OneReplicaSteps.{replica_state-else, replica_states-set}
@@ -72,9 +78,10 @@ unfolding trace sent
 led_at_start g states messages are none = record { legal = tt; replica_states = are; sent = none }
 
 pub stands_at_start : (c : Config) (shelves : List ShelfState) → IsGroup c shelves → StandsFor (world_at_start c shelves) []
-unfolding trace sent learnt
+unfolding trace sent told learnt
 stands_at_start c shelves is = record {
   config = is.config;
+  told = refl;
   led = led_at_start (group_of c (kinds_of shelves)) _ [] (states_at_start c (kinds_of shelves)) refl;
   shelves = is.one_each;
   absorbed = unused_behind shelves [] is.unused;
@@ -154,14 +161,20 @@ module _ (w : World) (events : List Event) (stands : StandsFor w events) where
   pub get_message : (k : ℕ) (m : code.Message) → slice_get w.messages k ≡ Some m → slice_get (sent (replicas g) t) k ≡ Some (whole_of m)
   get_message k m stored = sym (message_at w.messages (sent (replicas g) t) k stands.led.sent) ∙ ap (option_map whole_of) stored
 
-  pub stands_after : (e : Event) (r : ℕ) → refused g t e ≡ None → ((q : ℕ) → q ≢ r → replica_state g (entry g t e ∷ t) q ≡ replica_state g t q) → r < replicas g → (mail : List code.Message) → CarryAll mail (sent_at (replicas g) (entry g t e)) → StandsFor (world_after w r (replica_state g (entry g t e ∷ t) r) mail (entry g t e).did) (e ∷ events)
-  unfolding trace learnt
-  stands_after e r allowed others lt mail carry =
+  -- and is told as the trace says
+  pub get_told : (k : ℕ) (m : code.Message) → slice_get w.messages k ≡ Some m → slice_get (told (replicas g) t) k ≡ Some m
+  get_told k m stored = sym (ap (λ ms. slice_get ms k) stands.told) ∙ stored
+
+  pub stands_after : (e : Event) (r : ℕ) → refused g t e ≡ None → ((q : ℕ) → q ≢ r → replica_state g (entry g t e ∷ t) q ≡ replica_state g t q) → r < replicas g → (mail : List code.Message) → mail ≡ told_at (replicas g) (entry g t e) t → StandsFor (world_after w r (replica_state g (entry g t e ∷ t) r) mail (entry g t e).did) (e ∷ events)
+  unfolding trace told learnt
+  stands_after e r allowed others lt mail is =
       let x = entry g t e in
+      let carry : CarryAll mail (sent_at (replicas g) x) = ap whole_mail is ∙ told_at_carries (replicas g) x t in
       let states = slice_set w.replica_states r (replica_state g (x ∷ t) r) in
       record {
         config = stands.config;
         led = subst (EventsLeadTo g (e ∷ events) states) (sym (map-append whole_of w.messages mail)) (led_on g events w.replica_states (whole_mail w.messages) stands.led e r _ (whole_mail mail) allowed others lt refl carry);
+        told = ap₂ (λ xs ys. xs ++ ys) stands.told is;
         shelves = stands.shelves;
         absorbed = λ q s found. subset-trans s.view (view t q) (view (x ∷ t) q) (stands.absorbed q s found) (view_more x t q);
         learnt = ap₂ (λ ls n. ls ++ learning_of n (learnt_by x.did)) stands.learnt count_is;
@@ -176,7 +189,8 @@ module _ (w : World) (events : List Event) (stands : StandsFor w events) where
     pub in_group : by.replica < replicas g
     pub step : made ≡ Some (taken_at (replicas g) (entry g t e), replica_state g (entry g t e ∷ t) by.replica)
     pub shown : shown_by by w.count (said_by (entry g t e).did) (voted_by (entry g t e).did) ≡ shown_as (replicas g) (length t) (entry g t e).did
-    pub after : (mail : List code.Message) → CarryAll mail (sent_at (replicas g) (entry g t e)) → StandsFor (world_after w by.replica (replica_state g (entry g t e ∷ t) by.replica) mail (entry g t e).did) (e ∷ events)
+    pub sides : AllIn (λ (m : Message). (m.from ≡ by.replica) × (m.to < 8)) (sent_at (replicas g) (entry g t e))
+    pub after : (mail : List code.Message) → mail ≡ told_at (replicas g) (entry g t e) t → StandsFor (world_after w by.replica (replica_state g (entry g t e ∷ t) by.replica) mail (entry g t e).did) (e ∷ events)
 
   -- a speaker of this world that speaks of an event
   shown_so : (by : Speaker) (d : Did) → by.replicas ≡ w.config.replicas → SpeaksOf by d → shown_by by w.count (said_by d) (voted_by d) ≡ shown_as (replicas g) (length t) d
@@ -213,6 +227,8 @@ module _ (w : World) (events : List Event) (stands : StandsFor w events) where
               outcome = λ b f. absurd (none-some b (sym none ∙ f));
               no_answer = submits_plain i r object_op;
             }));
+        sides = subst (λ (y : Entry). AllIn (λ (m : Message). (m.from ≡ r) × (m.to < 8)) (sent_at (replicas g) y)) (sym same)
+            (sent_sides (replicas g) r None d few (λ b f. (h.concerns.opened b f).replica) (λ b f. absurd (none-some b (sym none ∙ f))) (λ m f. absurd (none-some m f)));
         after = stands_after e r allowed others lt;
       }
 
@@ -249,6 +265,9 @@ module _ (w : World) (events : List Event) (stands : StandsFor w events) where
               outcome = λ b f. outcome_so m copy d placed learnt_copy b f;
               no_answer = placed.no_answer;
             }));
+        sides = subst (λ (y : Entry). AllIn (λ (n : Message). (n.from ≡ m.to) × (n.to < 8)) (sent_at (replicas g) y)) (sym (entry_delivers g t k v is))
+            (sent_sides (replicas g) m.to (Some v) d few (λ b f. (placed.opened b f).replica) (λ b f. (placed.learnt b f).replica)
+             (λ n f. let one = same_Some v n f in (ap (λ (z : Message). z.to) (sym one), subst (λ (z : Message). z.from < replicas g) one (legal_between g events stands.led.legal k v is).from)));
         after = stands_after (Deliver k) m.to allowed h.others lt;
       }
     where
@@ -261,3 +280,7 @@ module _ (w : World) (events : List Event) (stands : StandsFor w events) where
   -- a kept message fits its receiver
   pub message_fits : (k : ℕ) (m : code.Message) → slice_get w.messages k ≡ Some m → FitsReceiver (replica_state g t m.to) (whole_of m)
   message_fits k m stored = (delivery_fits g events k (whole_of m) few stands.config.group.cap_most stands.led.legal (get_message k m stored)).0
+
+  -- a kept message stands at its receiver for what was sent
+  pub deliverable : (k : ℕ) (m : code.Message) → slice_get w.messages k ≡ Some m → IsDeliverableAt (instance_of g t m.to m.instance) m
+  deliverable k m stored = told_deliverable g events stands.led.legal stands.config.group.cap_most k m (get_told k m stored)

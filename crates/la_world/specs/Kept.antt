@@ -4,10 +4,7 @@ use Rattle.std.specs.Prelude.{◌≡◌, ℕ, List, [], ◌∷◌, ◌++◌, fol
 use Rattle.la_set.specs.ObjectOps.{ObjectOp}
 use Rattle.la_commit.specs.Instances.{first_instance}
 use Rattle.la_commit.specs.Votes.{first_vote}
-use Rattle.la_replica.specs.declared.error.ReplicaError.{ReplicaError}
-use Rattle.la_replica.specs.declared.error.ReplicaError.TheVariants.{Memory}
 use Rattle.la_replica.specs.Whole.{Message, Out}
-use Rattle.la_replica.specs.Refusals.{IsSubmitRefusal, IsReceiveRefusal, HasRoom, SubmittingSpares, IsReceivable, ReceivingSpares}
 use Rattle.la_replica.specs.ReplicaState.{ReplicaState, submits}
 use Rattle.la_world.specs.Following.{Taken, takes}
 

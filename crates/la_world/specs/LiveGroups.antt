@@ -1,7 +1,7 @@
 -- A group of live replicas over any transport: what each node keeps, and all that was ever sent. A
 -- node takes calls, and receives any message that was ever sent to it: late, again, or never. A
 -- refused call changes nothing, and is none of these.
-use Rattle.std.specs.Prelude.{◌≡◌, ℕ, List, [], ◌∷◌, ◌++◌, length, map, slice_get, slice_set, filter_map, flat_map, Contains, Option, Some, None, IsSomeAnd, option_map, option_and_then}
+use Rattle.std.specs.Prelude.{◌≡◌, ℕ, List, [], ◌∷◌, ◌++◌, map, slice_get, slice_set, filter_map, flat_map, Contains, Option, Some, None, IsSomeAnd, option_map, option_and_then}
 use Rattle.std.specs.List.{range_with_len}
 use Rattle.la_set.specs.ObjectOps.{ObjectOp}
 use Rattle.la_set.specs.Histories.{Histories}
@@ -12,7 +12,11 @@ use Rattle.la_replica.specs.declared.out.Said.{Said}
 use Rattle.la_replica.specs.declared.out.Said.TheVariants.{Ignored}
 use Rattle.la_replica.specs.declared.message.Message as code
 use Rattle.la_replica.specs.declared.out.Out as code_out
-use Rattle.la_replica.specs.Whole.{Message, Out, whole_of, whole_out}
+use Rattle.la_set.specs.declared.counts.Counts.{Counts}
+use Rattle.la_replica.specs.Alike.{AreAlike}
+use Rattle.la_replica.specs.Received.{received_in}
+use Rattle.la_replica.specs.Bases.{offered_by, AreToldIn, AreToldFrom}
+use Rattle.la_replica.specs.Whole.{Message, Out, whole_out}
 use Rattle.la_replica.specs.Steps.{learnt_in}
 use Rattle.la_replica.specs.Refusals.{HasRoom}
 use Rattle.la_replica.specs.ReplicaState.{ReplicaState, submits, submitted_in}
@@ -20,7 +24,8 @@ use Rattle.la_world.specs.declared.config.Config.{Config}
 use Rattle.la_world.specs.declared.done.Done.{Done}
 use Rattle.la_world.specs.declared.report.Decision.{Decision}
 use Rattle.la_world.specs.declared.step.Learnt.{Learnt}
-use Rattle.la_world.specs.Groups.{Group, group_of, IsConfig}
+use Rattle.la_world.specs.Groups.{Group, group_of, replicas, IsConfig}
+use Rattle.la_world.specs.Told.{told}
 use Rattle.la_world.specs.Events.{Event, Past, Submit, Deliver, Decide}
 use Rattle.la_world.specs.Playing.{trace}
 use Rattle.la_world.specs.Learnings.{learnt}
@@ -124,21 +129,6 @@ Reaches c [] group = IsStart c group
 Reaches c (call ∷ calls) group =
     (before : LiveGroup) × Reaches c calls before × IsStep before call.0 call.1 group
 
--- ## What a program holds
-
--- nodes, and messages on a network: some calls led to these nodes, and sent each of the messages.
--- Others that they sent are lost
-pub record IsReached (nodes : List NodeState) (network : List code.Message) : Type 0 where
-  pub config : Config
-  pub calls : List (ℕ × Call)
-  pub group : LiveGroup
-  pub reached : Reaches config calls group
-  pub nodes_are : group.nodes ≡ nodes
-  pub sent : (m : code.Message) → Contains network m → Contains group.sent (whole_of m)
-
-abbrev pub AreLive : (nodes : List NodeState) → (network : List code.Message) → Type 0
-AreLive nodes network = ∥ IsReached nodes network ∥₁
-
 -- ## Events
 
 -- a call of node r as an event of its group; looking is none
@@ -154,6 +144,30 @@ events_of calls = filter_map (λ (call : ℕ × Call). event_of call.0 call.1) c
 -- in which nothing is said of shelves
 abbrev pub live_group_of : Config → Group
 live_group_of c = group_of c []
+
+-- ## What a program holds
+
+-- what calls sent, as it is told
+abbrev pub told_by_calls : Config → (calls : List (ℕ × Call)) → List code.Message
+told_by_calls c calls =
+    told (replicas (live_group_of c)) (trace (live_group_of c) (events_of calls))
+
+-- a message says the same as one of these, whatever their deltas were made of
+abbrev pub IsAmong : code.Message → List code.Message → Type 0
+IsAmong m ms = (n : code.Message) × Contains ms n × AreAlike m n
+
+-- nodes, and messages on a network: some calls led to these nodes, and sent each of the messages, if
+-- not with this delta then with one that says the same. Others that they sent are lost
+pub record IsReached (nodes : List NodeState) (network : List code.Message) : Type 0 where
+  pub config : Config
+  pub calls : List (ℕ × Call)
+  pub group : LiveGroup
+  pub reached : Reaches config calls group
+  pub nodes_are : group.nodes ≡ nodes
+  pub sent : (m : code.Message) → Contains network m → IsAmong m (told_by_calls config calls)
+
+abbrev pub AreLive : (nodes : List NodeState) → (network : List code.Message) → Type 0
+AreLive nodes network = ∥ IsReached nodes network ∥₁
 
 abbrev pub learnt_set_of : Learnt → LearntSet
 learnt_set_of x = record { instance = x.instance; replica = x.replica; updates = x.updates }
@@ -217,10 +231,10 @@ abbrev pub NewNodesAreLive : Type 0
 NewNodesAreLive = (c : Config) (nodes : List NodeState) → IsConfig c →
     replicas_of nodes ≡ replica_states_at_start c → AreLive nodes []
 
--- and whatever the network loses, holds twice or brings late
+-- and whatever the network loses, holds twice or brings late, and whatever deltas it makes anew
 abbrev pub NetworksMayLose : Type 0
 NetworksMayLose = (nodes : List NodeState) (network left : List code.Message) →
-    AreLive nodes network → ((m : code.Message) → Contains left m → Contains network m) →
+    AreLive nodes network → ((m : code.Message) → Contains left m → IsAmong m network) →
     AreLive nodes left
 
 -- node r is live after a submission, with all that it sends on the network
@@ -229,6 +243,7 @@ SubmissionsKeepLive =
     (nodes : List NodeState) (network : List code.Message) (r : ℕ) (node made : NodeState)
     (d : ObjectOp) (out : code_out.Out) → AreLive nodes network → slice_get nodes r ≡ Some node →
     HasRoom node.replica 0 → submits node.replica 0 d ≡ Some (whole_out out, made.replica) →
+    ((offered : Counts) → AreToldFrom made.replica 0 offered out.mail) →
     AreLive (slice_set nodes r made) (network ++ out.mail)
 
 -- after a proposal
@@ -238,6 +253,7 @@ ProposalsKeepLive =
     (k value : ℕ) (out : code_out.Out) → AreLive nodes network → slice_get nodes r ≡ Some node →
     submitted_in node.replica (first_instance k) ≡ Some 0 →
     submits node.replica (first_instance k) (first_vote k value) ≡ Some (whole_out out, made.replica) →
+    ((offered : Counts) → AreToldFrom made.replica (first_instance k) offered out.mail) →
     AreLive (slice_set nodes r made) (network ++ out.mail)
 
 -- after the receipt of a message that is on the network, and stays there
@@ -246,7 +262,8 @@ ReceiptsKeepLive =
     (nodes : List NodeState) (network : List code.Message) (r : ℕ) (node made : NodeState)
     (m : code.Message) (done : Done) → AreLive nodes network → slice_get nodes r ≡ Some node →
     Contains network m → m.to ≡ r →
-    takes node.replica (whole_of m) ≡ Some (whole_done done, made.replica) →
+    takes node.replica (received_in node.replica m) ≡ Some (whole_done done, made.replica) →
+    AreToldIn made.replica (offered_by (received_in node.replica m)) done.mail →
     AreLive (slice_set nodes r made) (network ++ done.mail)
 
 -- and after a call that leaves its replica as it was

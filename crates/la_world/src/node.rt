@@ -9,9 +9,11 @@ ghost use Rattle.la_commit.specs.Votes.{first_vote};
 ghost use Rattle.la_object.specs.Objects.{kind_of};
 ghost use Rattle.la_object.specs.Shelves.{kind_at, answer_at, tags_at, state_at};
 ghost use Rattle.la_object.specs.Refusals.{IsAddRefusal, IsAskRefusal};
-ghost use Rattle.la_replica.specs.Whole.{whole_of, whole_out, whole_mail};
+ghost use Rattle.la_replica.specs.Whole.{whole_out, whole_mail};
+ghost use Rattle.la_replica.specs.Received.{received_in, StandsIn, AgreesIn};
+ghost use Rattle.la_replica.specs.Bases.{offered_by, AreToldIn, AreToldFrom};
 ghost use Rattle.la_replica.specs.ReplicaState.{submits, last_learnt, submitted_in};
-ghost use Rattle.la_replica.specs.Refusals.{IsSubmitRefusal, IsReceiveRefusal};
+ghost use Rattle.la_replica.specs.Refusals.{IsSubmitRefusal, IsReceiptRefusal};
 ghost use Rattle.la_replica.specs.Steps.{learnt_in};
 ghost use Rattle.la_replica.specs.Refusals.{HasRoom, SubmittingSpares};
 ghost use Rattle.la_replica.specs.Refusals.{IsReceivable, ReceivingSpares};
@@ -28,7 +30,7 @@ use crate::{Config, Done, WorldError};
 use la_commit::{Fresh, MAX_COMMITS, Outcome, first_instance};
 use la_object::{Answer, Query, Replicated, Shelf, ShelfError, State};
 use la_replica::{Mail, Message, Out, Replica, ReplicaError};
-use la_set::{Op, Tags, UpdateSet};
+use la_set::{Counts, Op, Tags, UpdateSet};
 use std::alloc::{AllocError, Global};
 use std::marker::Model;
 
@@ -145,6 +147,8 @@ impl<B: Replicated> Node<B> {
     /// What a timer should send once more where answers stay away, as [`Replica::again`] has it.
     pub fn again(&self) -> Result<Mail, AllocError>
         ensures mail { IfOk result (λ mail. whole_mail mail ≡ again self.now.replica) }
+        ensures told { (offered : Counts)
+            → IfOk result (AreToldIn self.now.replica offered) }
         ensures nothing { again self.now.replica ≡ [] → IsOk result }
     {
         self.replica.again()
@@ -155,6 +159,8 @@ impl<B: Replicated> Node<B> {
     pub fn submit(&mut self, object: u16, op: Op) -> Result<Out, ReplicaError>
         ensures step { IfOk result (λ out. submits self.old.replica 0 (op_on object op)
             ≡ Some (whole_out out, self.new.replica)) }
+        ensures told { (offered : Counts)
+            → IfOk result (λ out. AreToldFrom self.new.replica 0 offered out.mail) }
         ensures room { OnOk result (HasRoom self.old.replica 0) }
         ensures spares { OnOk result (SubmittingSpares self.old.replica 0) }
         ensures shelf { self.new.shelf ≡ self.old.shelf }
@@ -175,6 +181,8 @@ impl<B: Replicated> Node<B> {
         ensures step { IfOk result (λ out.
             submits self.old.replica (first_instance commit) (first_vote commit value)
             ≡ Some (whole_out out, self.new.replica)) }
+        ensures told { (offered : Counts) → IfOk result (λ out.
+            AreToldFrom self.new.replica (first_instance commit) offered out.mail) }
         ensures first { OnOk result
             (submitted_in self.old.replica (first_instance commit) ≡ Some 0) }
         ensures shelf { self.new.shelf ≡ self.old.shelf }
@@ -219,18 +227,24 @@ impl<B: Replicated> Node<B> {
     /// in the same step; both happen, or neither, and the vote is refused for want of memory alone.
     /// The cost is that of [`Replica::receive`], and of the vote's submission.
     pub fn receive(&mut self, message: &Message) -> Result<Received, ReplicaError>
-        ensures step { IfOk result (λ received. takes self.old.replica (whole_of message.now)
+        ensures step { IfOk result (λ received.
+            takes self.old.replica (received_in self.old.replica message.now)
             ≡ Some (whole_done received.done, self.new.replica)) }
         ensures outcome { IfOk result (λ received. received.outcome ≡ outcome_due
             message.now.instance self.old.replica.own received.done.said) }
         ensures returns { IfOk result (λ received.
             ReturnsIn message.now.instance received.outcome self.new.replica) }
-        ensures fits { OnOk result (IsReceivable self.old.replica (whole_of message.now)) }
-        ensures spares { OnOk result (ReceivingSpares self.old.replica (whole_of message.now)) }
+        ensures told { IfOk result (λ received. AreToldIn self.new.replica
+            (offered_by (received_in self.old.replica message.now)) received.done.mail) }
+        ensures stands { OnOk result (StandsIn self.old.replica message.now) }
+        ensures fits { OnOk result
+            (IsReceivable self.old.replica (received_in self.old.replica message.now)) }
+        ensures spares { OnOk result
+            (ReceivingSpares self.old.replica (received_in self.old.replica message.now)) }
         ensures shelf { self.new.shelf ≡ self.old.shelf }
         ensures grows { IsSubset self.old.replica.view self.new.replica.view }
         ensures stays { OutcomesStayIn self.old.replica self.new.replica }
-        ensures error { IfErr result (IsReceiveRefusal self.old.replica (whole_of message.now)) }
+        ensures error { IfErr result (IsReceiptRefusal self.old.replica message.now) }
         ensures err { OnErr result (self.new ≡ self.old) }
     {
         let own = self.replica.own();
@@ -244,11 +258,17 @@ impl<B: Replicated> Node<B> {
     /// ([`laws::deliveries_fit`](crate::laws::deliveries_fit)): no updates are compared. It is refused
     /// for want of memory alone, and then the node is as before.
     pub fn receive_fitting(&mut self, message: &Message) -> Result<Received, AllocError>
-        requires { FitsReceiver self.old.replica (whole_of message.now) }
-        ensures step { IfOk result (λ received. takes self.old.replica (whole_of message.now)
+        requires fits { FitsReceiver self.old.replica
+            (received_in self.old.replica message.now) }
+        requires stands { StandsIn self.old.replica message.now }
+        requires agrees { AgreesIn self.old.replica message.now }
+        ensures step { IfOk result (λ received.
+            takes self.old.replica (received_in self.old.replica message.now)
             ≡ Some (whole_done received.done, self.new.replica)) }
         ensures outcome { IfOk result (λ received. received.outcome ≡ outcome_due
             message.now.instance self.old.replica.own received.done.said) }
+        ensures told { IfOk result (λ received. AreToldIn self.new.replica
+            (offered_by (received_in self.old.replica message.now)) received.done.mail) }
         ensures returns { IfOk result (λ received.
             ReturnsIn message.now.instance received.outcome self.new.replica) }
         ensures shelf { self.new.shelf ≡ self.old.shelf }
@@ -267,9 +287,15 @@ impl<B: Replicated> Node<B> {
         &mut self,
         message: &Message,
     ) -> Result<(Done, Option<UpdateSet>), AllocError>
-        requires { FitsReceiver self.old.replica (whole_of message.now) }
-        ensures step { IfOk result (λ taken. takes self.old.replica (whole_of message.now)
+        requires fits { FitsReceiver self.old.replica
+            (received_in self.old.replica message.now) }
+        requires stands { StandsIn self.old.replica message.now }
+        requires agrees { AgreesIn self.old.replica message.now }
+        ensures step { IfOk result (λ taken.
+            takes self.old.replica (received_in self.old.replica message.now)
             ≡ Some (whole_done taken.0, self.new.replica)) }
+        ensures told { IfOk result (λ taken. AreToldIn self.new.replica
+            (offered_by (received_in self.old.replica message.now)) taken.0.mail) }
         ensures learnt { IfOk result (λ taken. taken.1 ≡ learnt_in taken.0.said) }
         ensures returns { IfOk result (λ taken. ReturnsIn message.now.instance
             (outcome_due message.now.instance self.old.replica.own taken.0.said)

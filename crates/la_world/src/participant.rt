@@ -8,7 +8,9 @@ ghost use Rattle.la_commit.specs.Instances.{is_first_instance, is_second_instanc
 ghost use Rattle.la_commit.specs.Votes.{casts};
 ghost use Rattle.la_commit.specs.Outcomes.{outcome_of};
 ghost use Rattle.la_replica.specs.Whole.{Message as MessageOf, Out as OutOf};
-ghost use Rattle.la_replica.specs.Whole.{whole_of, whole_mail, whole_out};
+ghost use Rattle.la_replica.specs.Whole.{whole_mail, whole_out};
+ghost use Rattle.la_replica.specs.Received.{received_in};
+ghost use Rattle.la_replica.specs.Bases.{offered_by, AreToldIn, AreToldAfter, AreToldThere};
 ghost use Rattle.la_replica.specs.ReplicaState.{ReplicaState, submits, receives};
 ghost use Rattle.la_replica.specs.Steps.{learnt_in};
 ghost use Rattle.la_replica.specs.Changes.{IsPreparedFrom, after_commit, led, LeadsThere};
@@ -24,7 +26,7 @@ use la_commit::{
     second_vote,
 };
 use la_replica::{Change, Mail, Message, Out, Replica, ReplicaError, Said};
-use la_set::{Op, UpdateSet};
+use la_set::{Counts, Op, UpdateSet};
 use std::alloc::AllocError;
 
 // The vote that a replica gives in an object's second instance, where it learns this set in the
@@ -67,14 +69,18 @@ pub fn take_prepared(
     out: Out,
     change: Change,
 ) -> Result<(Done, Option<UpdateSet>), AllocError>
-    requires step { receives receiver.old (whole_of message.now)
+    requires step { receives receiver.old (received_in receiver.old message.now)
         ≡ led receiver.old (whole_out out) change }
     requires prepared { IsPreparedFrom receiver.old change }
+    requires told { AreToldAfter receiver.old change
+        (offered_by (received_in receiver.old message.now)) out.mail }
     requires here { change.instance ≡ message.now.instance }
     requires few { message.now.instance ≤ 2 * MAX_COMMITS }
-    requires vote { VoteFits receiver.old (whole_of message.now) }
+    requires vote { VoteFits receiver.old (received_in receiver.old message.now) }
     ensures step { IfOk result (λ taken.
-        takes receiver.old (whole_of message.now) ≡ Some (whole_done taken.0, receiver.new)) }
+        takes receiver.old (received_in receiver.old message.now) ≡ Some (whole_done taken.0, receiver.new)) }
+    ensures told { IfOk result (λ taken. AreToldIn receiver.new
+        (offered_by (received_in receiver.old message.now)) taken.0.mail) }
     ensures learnt { IfOk result (λ taken. taken.1 ≡ learnt_in taken.0.said) }
     ensures learning { OnErr result (IsSome (learnt_in out.said)) }
     ensures err { OnErr result (receiver.new ≡ receiver.old) }
@@ -110,6 +116,8 @@ fn commit_both(
         × (submits then (instance + 1) (casts (commit_of instance) vote)
         ≡ Some (cast, receiver.new))
         × (whole_done done ≡ with_vote (whole_out out) (instance + 1) cast)) }
+    ensures told { (offered : Counts) → AreToldAfter receiver.old change offered out.mail
+        → IfOk result (λ done. AreToldIn receiver.new offered done.mail) }
     ensures said { IfOk result (λ done. done.said ≡ out.said) }
     ensures err { OnErr result (receiver.new ≡ receiver.old) }
 {
@@ -149,6 +157,9 @@ fn prepare_vote(
         × (whole_mail prepared.1 ≡ whole_mail mail ++ sent)
         × LeadsThere replica.now (instance + 1) (casts (commit_of instance) vote)
         (record { said = prepared.0.said; mail = sent }) prepared.2) }
+    ensures told { IfOk result (λ prepared. (added : List Message)
+        × (prepared.1 ≡ mail ++ added)
+        × AreToldThere replica.now (instance + 1) prepared.2 added) }
     ensures instance { IfOk result (λ prepared. prepared.0.instance ≡ instance + 1) }
     ensures change { IfOk result (λ prepared. prepared.2.instance ≡ instance + 1) }
 {
@@ -164,6 +175,8 @@ fn prepare_cast(replica: &Replica, instance: u8, vote: Vote) -> Result<(Out, Cha
     requires spares { SubmittingSpares replica.now (instance + 1) }
     ensures leads { IfOk result (λ prepared. LeadsThere replica.now (instance + 1)
         (casts (commit_of instance) vote) (whole_out prepared.0) prepared.1) }
+    ensures told { IfOk result (λ prepared.
+        AreToldThere replica.now (instance + 1) prepared.1 prepared.0.mail) }
     ensures change { IfOk result (λ prepared. prepared.1.instance ≡ instance + 1) }
 {
     let (second, commit) = (instance + 1, commit_of(instance) as u16);
@@ -175,8 +188,7 @@ fn prepare_cast(replica: &Replica, instance: u8, vote: Vote) -> Result<(Out, Cha
 
 // What was said of a vote in this instance, and its mail behind what is sent before.
 fn put_last(instance: u8, before: Mail, cast: Out) -> Result<(Voted, Mail), AllocError>
-    ensures mail { IfOk result (λ put.
-        whole_mail put.1 ≡ whole_mail before ++ whole_mail cast.mail) }
+    ensures mail { IfOk result (λ put. put.1 ≡ before ++ cast.mail) }
     ensures voted { IfOk result (λ put.
         put.0 ≡ record { instance = instance; said = cast.said }) }
 {

@@ -5,6 +5,10 @@ use Rattle.la_replica.specs.Whole.{whole_mail}
 use Rattle.la_replica.specs.ReplicaState.{ReplicaState, sender_of}
 use Rattle.la_replica.specs.Again.{again_in, again_at}
 use Rattle.la_replica.proofs.Calls.{again_there}
+use Rattle.la_set.specs.declared.counts.Counts.{Counts}
+use Rattle.la_replica.specs.declared.sender.Sender as sender
+use Rattle.la_replica.specs.Bases.{AddsTold}
+use Rattle.la_replica.proofs.Receiving.{there_now, more_told}
 use Rattle.la_replica.proofs.Sending.{one_instance_more, none_in_instance}
 use Rattle.la_replica.proofs.replica.Replica.again.Goals as goal
 
@@ -26,5 +30,8 @@ loop-instance-preserved c =
     let at : x ≡ get_or m.instances i x = search rules in
     let here : again_at q i ≡ again_in (sender_of q i) x = subst (λ r. again_at r i ≡ again_in (sender_of r i) x) c.self.view_is (again_there m i x lt at) in
     let before = whole_mail c.loop-instance.mail in
-    c.in_ok-again.ensures.ok ∙ ap (λ s. before ++ again_in s x) c.sender-sender.ensures
-    ∙ ap₂ (λ xs ys. xs ++ ys) c.loop-instance.invariant (sym here) ∙ sym (one_instance_more (again_at q) i)
+    let told : (offered : Counts) → AddsTold x.proposer i offered c.loop-instance.mail c.again.new.mail = λ offered. subst (λ (s : sender.Sender). AddsTold x.proposer s.instance offered c.loop-instance.mail c.again.new.mail) c.sender-sender.ensures (c.in_ok-again.ensures.told offered) in (
+      c.in_ok-again.ensures.ok ∙ ap (λ s. before ++ again_in s x) c.sender-sender.ensures
+          ∙ ap₂ (λ xs ys. xs ++ ys) c.loop-instance.invariant.0 (sym here) ∙ sym (one_instance_more (again_at q) i),
+      λ offered. more_told q i x offered (there_now m q c.self.view_is i x lt at) c.loop-instance.mail c.again.new.mail (told offered) (c.loop-instance.invariant.1 offered),
+    )

@@ -1,5 +1,5 @@
 use Rattle.std.proofs.Common.{sym}
-use Rattle.la_set.proofs.Counting.{count_in-known}
+use Rattle.la_set.proofs.lemmas.Counting.{count_in-known}
 use Rattle.la_set.proofs.counts.Counts.numbers.Goals as goal
 
 pub returns-clause-each : goal.returns-clause-each

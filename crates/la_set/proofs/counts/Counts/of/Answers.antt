@@ -1,5 +1,5 @@
 use Rattle.std.proofs.Common.{sym}
-use Rattle.la_set.proofs.Counting.{count_in-known, count_in-past}
+use Rattle.la_set.proofs.lemmas.Counting.{count_in-known, count_in-past}
 use Rattle.la_set.proofs.counts.Counts.of.Goals as goal
 
 pub returns-then-replica-ge-REPLICAS : goal.returns-then-replica-ge-REPLICAS

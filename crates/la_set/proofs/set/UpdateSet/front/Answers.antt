@@ -2,7 +2,7 @@ use Rattle.std.proofs.Common.{◌≡◌, length, take, ap, sym, subst, ◌∙◌
 use Rattle.la_set.specs.Histories.{history, numbered, updates_of}
 use Rattle.la_set.specs.Counts.{count_in}
 use Rattle.la_set.proofs.lemmas.NumberedLists.{length-numbered, take-numbered}
-use Rattle.la_set.proofs.Counting.{history-within}
+use Rattle.la_set.proofs.lemmas.Counting.{history-within}
 use Rattle.la_set.proofs.set.UpdateSet.front.Goals as goal
 
 pub front_of-requires : goal.front_of-requires

@@ -1,7 +1,7 @@
 use Rattle.std.proofs.Common.{refl, arith}
 use Rattle.la_set.specs.Counts.{within}
 use Rattle.la_set.proofs.Representation.{eight_each, represented-from, IsRepresentation-from}
-use Rattle.la_set.proofs.Counting.{count-within}
+use Rattle.la_set.proofs.lemmas.Counting.{count-within}
 use Rattle.la_set.proofs.set.UpdateSet.fronts.Goals as goal
 
 pub returns-clause-keeps : goal.returns-clause-keeps

@@ -2,7 +2,7 @@ use Rattle.std.proofs.Common.{ap, arith, inl, inr, refl}
 use Rattle.std.proofs.lemmas.Bool.{cases_eq}
 use Rattle.la_set.specs.Histories.{count}
 use Rattle.la_set.specs.Counts.{count_in}
-use Rattle.la_set.proofs.Counting.{HasCounts-known}
+use Rattle.la_set.proofs.lemmas.Counting.{HasCounts-known}
 use Rattle.la_set.proofs.set.UpdateSet.has_counts.Goals as goal
 
 pub loop-replica-init : goal.loop-replica-init

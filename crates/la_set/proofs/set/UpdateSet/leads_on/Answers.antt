@@ -4,7 +4,7 @@ use Rattle.std.proofs.lemmas.List.{length-set}
 use Rattle.la_set.specs.Histories.{count}
 use Rattle.la_set.specs.Counts.{count_in, within}
 use Rattle.la_set.specs.Deltas.{pushed}
-use Rattle.la_set.proofs.Counting.{count-within}
+use Rattle.la_set.proofs.lemmas.Counting.{count-within}
 use Rattle.la_set.proofs.Pushing.{next_at, next_more, pushed_more, pushed-limit}
 use Rattle.la_set.proofs.Growing.{counts-push}
 use Rattle.la_set.proofs.set.UpdateSet.leads_on.Goals.{then-replica-ge-REPLICAS-via-then-replica-ge-REPLICAS, then-replica-ge-REPLICAS-via-else-replica-ge-REPLICAS+then-number-gt-MAX_NUMBER}

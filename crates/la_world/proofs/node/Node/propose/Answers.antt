@@ -1,7 +1,8 @@
-use Rattle.std.proofs.Common.{◌≡◌, Some, subst, sym}
+use Rattle.std.proofs.Common.{◌≡◌, Some, IfOk, subst, sym}
 use Rattle.la_commit.specs.Instances.{first_instance}
 use Rattle.la_proposer.specs.ProposerState.{op_on}
 use Rattle.la_replica.specs.Whole.{whole_out}
+use Rattle.la_replica.specs.Bases.{AreToldFrom}
 use Rattle.la_replica.specs.ReplicaState.{ReplicaState, submitted_in}
 use Rattle.la_world.specs.Nodes.{NodeState, IsNode, OutcomesStayIn}
 use Rattle.la_world.proofs.Nodes.{with_replica, proposal_keeps}
@@ -25,3 +26,11 @@ returns-clause-stays g c =
       | in-Ok w ↦ submission_stays r c.in_ok-first.first (op_on c.args.commit c.from.result) (whole_out w.in-Ok.out) c.submit.new.self w.in-Ok.ensures.step
       | in-Err w ↦ subst (OutcomesStayIn r) (sym w.in-Err.ensures.err) (λ k o had. had)
     ])
+
+pub returns-clause-told : goal.returns-clause-told
+returns-clause-told g c = λ offered.
+    let after = c.submit.new.self in let first = first_instance c.args.commit in
+    elim c.match-submit.branch [
+      | in-Ok w ↦ subst (λ z. IfOk z (λ out. AreToldFrom after first offered out.mail)) (sym w.result-is) (subst (λ i. AreToldFrom after i offered w.in-Ok.out.mail) c.in_ok-first.ensures.instance (w.in-Ok.ensures.told offered))
+      | in-Err w ↦ subst (λ z. IfOk z (λ out. AreToldFrom after first offered out.mail)) (sym w.result-is) tt
+    ]

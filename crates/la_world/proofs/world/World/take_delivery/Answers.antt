@@ -3,7 +3,7 @@ use Rattle.la_world.specs.Outcomes.{outcome_in}
 use Rattle.la_world.specs.Events.{Deliver}
 use Rattle.la_world.specs.StandsFor.{StandsFor}
 use Rattle.la_world.specs.Calls.{HoldsInvariant, Plays}
-use Rattle.la_world.proofs.Worlds.{receiver_known, read_message, message_fits, delivery_known, delivery_few, delivery_is_named, delivery_played, delivery_invariant}
+use Rattle.la_world.proofs.Worlds.{receiver_known, read_message, message_fits, message_stands, message_agrees, delivery_known, delivery_few, delivery_is_named, delivery_played, delivery_invariant}
 use Rattle.la_world.proofs.WorldNodes.{node_known, read_node, receiver_at, stepped, unchanged}
 use Rattle.la_world.proofs.Noted.{holds_reserved, delivery_noted, noted_holds, noted_plays, noted_prints}
 use Rattle.la_world.proofs.world.World.take_delivery.Goals as goal
@@ -18,11 +18,23 @@ index_mut-requires g c =
     let known : to < length c.self.inside.nodes.items = node_known c.self.inside.nodes.items to (receiver_known c.self.invariant c.args.number is) in
     search rules
 
-pub take-requires-after_bounds : goal.take-requires-after_bounds
-take-requires-after_bounds g c κs live =
+pub take-requires-clause-fits : goal.take-requires-clause-fits
+take-requires-clause-fits g c κs live =
     let is = read_message c.self.view_is c.args.number c.requires.known c.reserve.ensures.messages c.index-message.ensures in
     let found = read_node c.self.inside.nodes.items c.index-message.result.now.to (receiver_known c.self.invariant c.args.number is) c.index_mut.ensures.value in
     message_fits (receiver_at c.self.inside.config c.self.inside.nodes.items c.self.inside.journal c.self.invariant c.args.number is found)
+
+pub take-requires-clause-stands : goal.take-requires-clause-stands
+take-requires-clause-stands g c κs live =
+    let is = read_message c.self.view_is c.args.number c.requires.known c.reserve.ensures.messages c.index-message.ensures in
+    let found = read_node c.self.inside.nodes.items c.index-message.result.now.to (receiver_known c.self.invariant c.args.number is) c.index_mut.ensures.value in
+    message_stands (receiver_at c.self.inside.config c.self.inside.nodes.items c.self.inside.journal c.self.invariant c.args.number is found)
+
+pub take-requires-clause-agrees : goal.take-requires-clause-agrees
+take-requires-clause-agrees g c κs live =
+    let is = read_message c.self.view_is c.args.number c.requires.known c.reserve.ensures.messages c.index-message.ensures in
+    let found = read_node c.self.inside.nodes.items c.index-message.result.now.to (receiver_known c.self.invariant c.args.number is) c.index_mut.ensures.value in
+    message_agrees (receiver_at c.self.inside.config c.self.inside.nodes.items c.self.inside.journal c.self.invariant c.args.number is found)
 
 pub invariant_of-self-in_err-done : goal.invariant_of-self-in_err-done
 invariant_of-self-in_err-done g c =
@@ -36,13 +48,13 @@ pub note-requires-clause-known : goal.note-requires-clause-known
 note-requires-clause-known g c =
     let is = read_message c.self.view_is c.args.number c.requires.known c.reserve.ensures.messages c.index-message.ensures in
     let found = read_node c.self.inside.nodes.items c.index-message.result.now.to (receiver_known c.self.invariant c.args.number is) c.index_mut.ensures.value in
-    delivery_known (receiver_at c.self.inside.config c.self.inside.nodes.items c.self.inside.journal c.self.invariant c.args.number is found) c.in_ok-done.done c.take.new.self.replica c.in_ok-done.ensures.learnt c.in_ok-done.ensures.step
+    delivery_known (receiver_at c.self.inside.config c.self.inside.nodes.items c.self.inside.journal c.self.invariant c.args.number is found) c.in_ok-done.done c.take.new.self.replica c.in_ok-done.ensures.learnt c.in_ok-done.ensures.step c.in_ok-done.ensures.told
 
 pub note-requires-clause-few : goal.note-requires-clause-few
 note-requires-clause-few g c =
     let is = read_message c.self.view_is c.args.number c.requires.known c.reserve.ensures.messages c.index-message.ensures in
     let found = read_node c.self.inside.nodes.items c.index-message.result.now.to (receiver_known c.self.invariant c.args.number is) c.index_mut.ensures.value in
-    delivery_few (receiver_at c.self.inside.config c.self.inside.nodes.items c.self.inside.journal c.self.invariant c.args.number is found) c.in_ok-done.done c.take.new.self.replica c.in_ok-done.ensures.learnt c.in_ok-done.ensures.step
+    delivery_few (receiver_at c.self.inside.config c.self.inside.nodes.items c.self.inside.journal c.self.invariant c.args.number is found) c.in_ok-done.done c.take.new.self.replica c.in_ok-done.ensures.learnt c.in_ok-done.ensures.step c.in_ok-done.ensures.told
 
 pub invariant_of-self-2 : goal.invariant_of-self-2
 invariant_of-self-2 g c =
@@ -54,7 +66,7 @@ invariant_of-self-2 g c =
     let n = delivery_noted d c.in_ok-done.learnt (c.outcome_by.ensures ∙ ap (option_and_then (outcome_in message.instance message.to)) c.as_ref.ensures.value) c.reserve.new.self c.note.new.self c.in_ok-done.done
     c.reserve.ensures.messages c.reserve.ensures.learnt c.reserve.ensures.count c.note.ensures.step c.note.ensures.messages c.note.ensures.learnt c.note.ensures.count c.note.ensures.numbers in
     subst HoldsInvariant (sym (stepped c.self.inside.nodes.items message.to c.index_mut.result.now found c.self.inside.config made c.note.new.self c.in_ok-done.ensures.shelf))
-    (noted_holds n message.to made.replica (delivery_invariant d c.in_ok-done.done made.replica c.in_ok-done.ensures.learnt c.in_ok-done.ensures.step))
+    (noted_holds n message.to made.replica (delivery_invariant d c.in_ok-done.done made.replica c.in_ok-done.ensures.learnt c.in_ok-done.ensures.step c.in_ok-done.ensures.told))
 
 pub returns-clause-step : goal.returns-clause-step
 returns-clause-step g c events stands =
@@ -67,7 +79,7 @@ returns-clause-step g c events stands =
     c.reserve.ensures.messages c.reserve.ensures.learnt c.reserve.ensures.count c.note.ensures.step c.note.ensures.messages c.note.ensures.learnt c.note.ensures.count c.note.ensures.numbers in
     subst (Plays c.args.self.now events (Deliver c.args.number) c.note.result) (sym (stepped c.self.inside.nodes.items message.to c.index_mut.result.now found c.self.inside.config made c.note.new.self c.in_ok-done.ensures.shelf))
     (noted_plays n message.to made.replica c.self.view_is events (Deliver c.args.number)
-    (delivery_played d c.in_ok-done.done made.replica c.in_ok-done.ensures.learnt c.in_ok-done.ensures.step events (subst (λ v. StandsFor v events) (sym c.self.view_is) stands)))
+    (delivery_played d c.in_ok-done.done made.replica c.in_ok-done.ensures.learnt c.in_ok-done.ensures.step c.in_ok-done.ensures.told events (subst (λ v. StandsFor v events) (sym c.self.view_is) stands)))
 
 pub returns-clause-printable : goal.returns-clause-printable
 returns-clause-printable g c =
@@ -77,4 +89,4 @@ returns-clause-printable g c =
     let d = receiver_at c.self.inside.config c.self.inside.nodes.items c.self.inside.journal c.self.invariant c.args.number is found in
     let n = delivery_noted d c.in_ok-done.learnt (c.outcome_by.ensures ∙ ap (option_and_then (outcome_in message.instance message.to)) c.as_ref.ensures.value) c.reserve.new.self c.note.new.self c.in_ok-done.done
     c.reserve.ensures.messages c.reserve.ensures.learnt c.reserve.ensures.count c.note.ensures.step c.note.ensures.messages c.note.ensures.learnt c.note.ensures.count c.note.ensures.numbers in
-    noted_prints n (delivery_is_named d c.in_ok-done.done c.take.new.self.replica c.in_ok-done.ensures.learnt c.in_ok-done.ensures.step)
+    noted_prints n (delivery_is_named d c.in_ok-done.done c.take.new.self.replica c.in_ok-done.ensures.learnt c.in_ok-done.ensures.step c.in_ok-done.ensures.told)

@@ -2,6 +2,8 @@ use Rattle.std.proofs.Common.{rules, ◌≡◌, ◌<◌, length, Some, ap, None,
 use Rattle.la_commit.specs.Votes.{first_vote}
 use Rattle.la_replica.specs.Whole.{whole_out}
 use Rattle.la_replica.specs.ReplicaState.{submits}
+use Rattle.la_set.specs.declared.counts.Counts.{Counts}
+use Rattle.la_replica.specs.Bases.{AreToldFrom}
 use Rattle.la_world.specs.Events.{Decide}
 use Rattle.la_world.specs.StandsFor.{StandsFor, refused_in}
 use Rattle.la_world.specs.Calls.{HoldsInvariant, IsSubmission, Plays}
@@ -35,7 +37,8 @@ note_submission-requires-clause-known g c =
     let event : IsSubmission e c.first_instance.result r (first_vote c.args.commit c.args.value) = λ did. ap (λ i. Some (record { instance = i; replica = r; object_op = first_vote c.args.commit c.args.value })) (sym c.first_instance.ensures) in
     let s = submitter_at c.self.inside.config c.self.inside.nodes.items c.self.inside.journal c.self.invariant c.self.view_is e c.first_instance.result r (first_vote c.args.commit c.args.value) event c.requires.allowed found in
     let is = subst (λ i. submits c.index_mut.result.now.replica i (first_vote c.args.commit c.args.value) ≡ Some (whole_out c.in-Ok.out, made.replica)) (sym c.first_instance.ensures) c.in-Ok.ensures.step in
-    submission_known s c.in-Ok.out made.replica is
+    let told : (offered : Counts) → AreToldFrom made.replica c.first_instance.result offered c.in-Ok.out.mail = λ offered. subst (λ j. AreToldFrom made.replica j offered c.in-Ok.out.mail) (sym c.first_instance.ensures) (c.in-Ok.ensures.told offered) in
+    submission_known s c.in-Ok.out made.replica is told
 
 pub note_submission-requires-clause-few : goal.note_submission-requires-clause-few
 note_submission-requires-clause-few g c =
@@ -47,7 +50,8 @@ note_submission-requires-clause-few g c =
     let event : IsSubmission e c.first_instance.result r (first_vote c.args.commit c.args.value) = λ did. ap (λ i. Some (record { instance = i; replica = r; object_op = first_vote c.args.commit c.args.value })) (sym c.first_instance.ensures) in
     let s = submitter_at c.self.inside.config c.self.inside.nodes.items c.self.inside.journal c.self.invariant c.self.view_is e c.first_instance.result r (first_vote c.args.commit c.args.value) event c.requires.allowed found in
     let is = subst (λ i. submits c.index_mut.result.now.replica i (first_vote c.args.commit c.args.value) ≡ Some (whole_out c.in-Ok.out, made.replica)) (sym c.first_instance.ensures) c.in-Ok.ensures.step in
-    submission_few s c.in-Ok.out made.replica is
+    let told : (offered : Counts) → AreToldFrom made.replica c.first_instance.result offered c.in-Ok.out.mail = λ offered. subst (λ j. AreToldFrom made.replica j offered c.in-Ok.out.mail) (sym c.first_instance.ensures) (c.in-Ok.ensures.told offered) in
+    submission_few s c.in-Ok.out made.replica is told
 
 pub invariant_of-self-2 : goal.invariant_of-self-2
 invariant_of-self-2 g c =
@@ -59,9 +63,10 @@ invariant_of-self-2 g c =
     let event : IsSubmission e c.first_instance.result r (first_vote c.args.commit c.args.value) = λ did. ap (λ i. Some (record { instance = i; replica = r; object_op = first_vote c.args.commit c.args.value })) (sym c.first_instance.ensures) in
     let s = submitter_at c.self.inside.config c.self.inside.nodes.items c.self.inside.journal c.self.invariant c.self.view_is e c.first_instance.result r (first_vote c.args.commit c.args.value) event c.requires.allowed found in
     let is = subst (λ i. submits c.index_mut.result.now.replica i (first_vote c.args.commit c.args.value) ≡ Some (whole_out c.in-Ok.out, made.replica)) (sym c.first_instance.ensures) c.in-Ok.ensures.step in
-    let n = submission_noted c.first_instance.result r c.reserve.new.self c.note_submission.new.journal (done_by s c.in-Ok.out made.replica is) c.self.invariant
+    let told : (offered : Counts) → AreToldFrom made.replica c.first_instance.result offered c.in-Ok.out.mail = λ offered. subst (λ j. AreToldFrom made.replica j offered c.in-Ok.out.mail) (sym c.first_instance.ensures) (c.in-Ok.ensures.told offered) in
+    let n = submission_noted c.first_instance.result r c.reserve.new.self c.note_submission.new.journal (done_by s c.in-Ok.out made.replica is told) c.self.invariant
     c.reserve.ensures.messages c.reserve.ensures.learnt c.reserve.ensures.count c.note_submission.ensures.step c.note_submission.ensures.messages c.note_submission.ensures.learnt c.note_submission.ensures.count c.note_submission.ensures.numbers in
-    subst HoldsInvariant (sym (stepped c.self.inside.nodes.items r c.index_mut.result.now found c.self.inside.config made c.note_submission.new.journal c.in-Ok.ensures.shelf)) (noted_holds n r made.replica (submission_invariant s c.in-Ok.out made.replica is))
+    subst HoldsInvariant (sym (stepped c.self.inside.nodes.items r c.index_mut.result.now found c.self.inside.config made c.note_submission.new.journal c.in-Ok.ensures.shelf)) (noted_holds n r made.replica (submission_invariant s c.in-Ok.out made.replica is told))
 
 pub returns-clause-step : goal.returns-clause-step
 returns-clause-step g c events stands =
@@ -73,11 +78,12 @@ returns-clause-step g c events stands =
     let event : IsSubmission e c.first_instance.result r (first_vote c.args.commit c.args.value) = λ did. ap (λ i. Some (record { instance = i; replica = r; object_op = first_vote c.args.commit c.args.value })) (sym c.first_instance.ensures) in
     let s = submitter_at c.self.inside.config c.self.inside.nodes.items c.self.inside.journal c.self.invariant c.self.view_is e c.first_instance.result r (first_vote c.args.commit c.args.value) event c.requires.allowed found in
     let is = subst (λ i. submits c.index_mut.result.now.replica i (first_vote c.args.commit c.args.value) ≡ Some (whole_out c.in-Ok.out, made.replica)) (sym c.first_instance.ensures) c.in-Ok.ensures.step in
-    let n = submission_noted c.first_instance.result r c.reserve.new.self c.note_submission.new.journal (done_by s c.in-Ok.out made.replica is) c.self.invariant
+    let told : (offered : Counts) → AreToldFrom made.replica c.first_instance.result offered c.in-Ok.out.mail = λ offered. subst (λ j. AreToldFrom made.replica j offered c.in-Ok.out.mail) (sym c.first_instance.ensures) (c.in-Ok.ensures.told offered) in
+    let n = submission_noted c.first_instance.result r c.reserve.new.self c.note_submission.new.journal (done_by s c.in-Ok.out made.replica is told) c.self.invariant
     c.reserve.ensures.messages c.reserve.ensures.learnt c.reserve.ensures.count c.note_submission.ensures.step c.note_submission.ensures.messages c.note_submission.ensures.learnt c.note_submission.ensures.count c.note_submission.ensures.numbers in
     subst (Plays c.args.self.now events e c.note_submission.result) (sym (stepped c.self.inside.nodes.items r c.index_mut.result.now found c.self.inside.config made c.note_submission.new.journal c.in-Ok.ensures.shelf))
     (noted_plays n r made.replica c.self.view_is events e
-    (submission_played s c.in-Ok.out made.replica is e event events (subst (λ v. refused_in v events e ≡ None) (sym c.self.view_is) (c.requires.allowed events stands)) (subst (λ v. StandsFor v events) (sym c.self.view_is) stands)))
+    (submission_played s c.in-Ok.out made.replica is told e event events (subst (λ v. refused_in v events e ≡ None) (sym c.self.view_is) (c.requires.allowed events stands)) (subst (λ v. StandsFor v events) (sym c.self.view_is) stands)))
 
 pub returns-clause-printable : goal.returns-clause-printable
 returns-clause-printable g c =
@@ -89,6 +95,7 @@ returns-clause-printable g c =
     let event : IsSubmission e c.first_instance.result r (first_vote c.args.commit c.args.value) = λ did. ap (λ i. Some (record { instance = i; replica = r; object_op = first_vote c.args.commit c.args.value })) (sym c.first_instance.ensures) in
     let s = submitter_at c.self.inside.config c.self.inside.nodes.items c.self.inside.journal c.self.invariant c.self.view_is e c.first_instance.result r (first_vote c.args.commit c.args.value) event c.requires.allowed found in
     let is = subst (λ i. submits c.index_mut.result.now.replica i (first_vote c.args.commit c.args.value) ≡ Some (whole_out c.in-Ok.out, made.replica)) (sym c.first_instance.ensures) c.in-Ok.ensures.step in
-    let n = submission_noted c.first_instance.result r c.reserve.new.self c.note_submission.new.journal (done_by s c.in-Ok.out made.replica is) c.self.invariant
+    let told : (offered : Counts) → AreToldFrom made.replica c.first_instance.result offered c.in-Ok.out.mail = λ offered. subst (λ j. AreToldFrom made.replica j offered c.in-Ok.out.mail) (sym c.first_instance.ensures) (c.in-Ok.ensures.told offered) in
+    let n = submission_noted c.first_instance.result r c.reserve.new.self c.note_submission.new.journal (done_by s c.in-Ok.out made.replica is told) c.self.invariant
     c.reserve.ensures.messages c.reserve.ensures.learnt c.reserve.ensures.count c.note_submission.ensures.step c.note_submission.ensures.messages c.note_submission.ensures.learnt c.note_submission.ensures.count c.note_submission.ensures.numbers in
-    noted_prints n (submission_is_named s c.in-Ok.out made.replica is)
+    noted_prints n (submission_is_named s c.in-Ok.out made.replica is told)

@@ -33,7 +33,7 @@ note_submission-requires-clause-known g c =
     let event : IsSubmission e 0 r (op_on c.args.object c.args.op) = λ did. refl in
     let s = submitter_at c.self.inside.config c.self.inside.nodes.items c.self.inside.journal c.self.invariant c.self.view_is e 0 r (op_on c.args.object c.args.op) event c.requires.allowed found in
     let is = c.in-Ok.ensures.step in
-    submission_known s c.in-Ok.out made.replica is
+    submission_known s c.in-Ok.out made.replica is c.in-Ok.ensures.told
 
 pub note_submission-requires-clause-few : goal.note_submission-requires-clause-few
 note_submission-requires-clause-few g c =
@@ -45,7 +45,7 @@ note_submission-requires-clause-few g c =
     let event : IsSubmission e 0 r (op_on c.args.object c.args.op) = λ did. refl in
     let s = submitter_at c.self.inside.config c.self.inside.nodes.items c.self.inside.journal c.self.invariant c.self.view_is e 0 r (op_on c.args.object c.args.op) event c.requires.allowed found in
     let is = c.in-Ok.ensures.step in
-    submission_few s c.in-Ok.out made.replica is
+    submission_few s c.in-Ok.out made.replica is c.in-Ok.ensures.told
 
 pub invariant_of-self-2 : goal.invariant_of-self-2
 invariant_of-self-2 g c =
@@ -57,9 +57,9 @@ invariant_of-self-2 g c =
     let event : IsSubmission e 0 r (op_on c.args.object c.args.op) = λ did. refl in
     let s = submitter_at c.self.inside.config c.self.inside.nodes.items c.self.inside.journal c.self.invariant c.self.view_is e 0 r (op_on c.args.object c.args.op) event c.requires.allowed found in
     let is = c.in-Ok.ensures.step in
-    let n = submission_noted 0 r c.reserve.new.self c.note_submission.new.journal (done_by s c.in-Ok.out made.replica is) c.self.invariant
+    let n = submission_noted 0 r c.reserve.new.self c.note_submission.new.journal (done_by s c.in-Ok.out made.replica is c.in-Ok.ensures.told) c.self.invariant
     c.reserve.ensures.messages c.reserve.ensures.learnt c.reserve.ensures.count c.note_submission.ensures.step c.note_submission.ensures.messages c.note_submission.ensures.learnt c.note_submission.ensures.count c.note_submission.ensures.numbers in
-    subst HoldsInvariant (sym (stepped c.self.inside.nodes.items r c.index_mut.result.now found c.self.inside.config made c.note_submission.new.journal c.in-Ok.ensures.shelf)) (noted_holds n r made.replica (submission_invariant s c.in-Ok.out made.replica is))
+    subst HoldsInvariant (sym (stepped c.self.inside.nodes.items r c.index_mut.result.now found c.self.inside.config made c.note_submission.new.journal c.in-Ok.ensures.shelf)) (noted_holds n r made.replica (submission_invariant s c.in-Ok.out made.replica is c.in-Ok.ensures.told))
 
 pub returns-clause-step : goal.returns-clause-step
 returns-clause-step g c events stands =
@@ -71,11 +71,11 @@ returns-clause-step g c events stands =
     let event : IsSubmission e 0 r (op_on c.args.object c.args.op) = λ did. refl in
     let s = submitter_at c.self.inside.config c.self.inside.nodes.items c.self.inside.journal c.self.invariant c.self.view_is e 0 r (op_on c.args.object c.args.op) event c.requires.allowed found in
     let is = c.in-Ok.ensures.step in
-    let n = submission_noted 0 r c.reserve.new.self c.note_submission.new.journal (done_by s c.in-Ok.out made.replica is) c.self.invariant
+    let n = submission_noted 0 r c.reserve.new.self c.note_submission.new.journal (done_by s c.in-Ok.out made.replica is c.in-Ok.ensures.told) c.self.invariant
     c.reserve.ensures.messages c.reserve.ensures.learnt c.reserve.ensures.count c.note_submission.ensures.step c.note_submission.ensures.messages c.note_submission.ensures.learnt c.note_submission.ensures.count c.note_submission.ensures.numbers in
     subst (Plays c.args.self.now events e c.note_submission.result) (sym (stepped c.self.inside.nodes.items r c.index_mut.result.now found c.self.inside.config made c.note_submission.new.journal c.in-Ok.ensures.shelf))
     (noted_plays n r made.replica c.self.view_is events e
-    (submission_played s c.in-Ok.out made.replica is e event events (subst (λ v. refused_in v events e ≡ None) (sym c.self.view_is) (c.requires.allowed events stands)) (subst (λ v. StandsFor v events) (sym c.self.view_is) stands)))
+    (submission_played s c.in-Ok.out made.replica is c.in-Ok.ensures.told e event events (subst (λ v. refused_in v events e ≡ None) (sym c.self.view_is) (c.requires.allowed events stands)) (subst (λ v. StandsFor v events) (sym c.self.view_is) stands)))
 
 pub returns-clause-printable : goal.returns-clause-printable
 returns-clause-printable g c =
@@ -87,6 +87,6 @@ returns-clause-printable g c =
     let event : IsSubmission e 0 r (op_on c.args.object c.args.op) = λ did. refl in
     let s = submitter_at c.self.inside.config c.self.inside.nodes.items c.self.inside.journal c.self.invariant c.self.view_is e 0 r (op_on c.args.object c.args.op) event c.requires.allowed found in
     let is = c.in-Ok.ensures.step in
-    let n = submission_noted 0 r c.reserve.new.self c.note_submission.new.journal (done_by s c.in-Ok.out made.replica is) c.self.invariant
+    let n = submission_noted 0 r c.reserve.new.self c.note_submission.new.journal (done_by s c.in-Ok.out made.replica is c.in-Ok.ensures.told) c.self.invariant
     c.reserve.ensures.messages c.reserve.ensures.learnt c.reserve.ensures.count c.note_submission.ensures.step c.note_submission.ensures.messages c.note_submission.ensures.learnt c.note_submission.ensures.count c.note_submission.ensures.numbers in
-    noted_prints n (submission_is_named s c.in-Ok.out made.replica is)
+    noted_prints n (submission_is_named s c.in-Ok.out made.replica is c.in-Ok.ensures.told)

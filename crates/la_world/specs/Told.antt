@@ -1,0 +1,89 @@
+-- How what was sent is told: over what its receiver has, as the mail of `la_replica`'s steps is.
+use Rattle.std.specs.Prelude.{◌≡◌, ℕ, true, List, [], ◌∷◌, ◌++◌, map, slice_get, Option, Some, None}
+use Rattle.la_set.specs.declared.counts.Counts.{Counts}
+use Rattle.la_set.specs.Counts.{counts_of, zero_counts, HasCounts}
+use Rattle.la_set.specs.Deltas.{delta_over}
+use Rattle.la_replica.specs.declared.message.Message as code
+use Rattle.la_replica.specs.declared.message.Body as code_body
+use Rattle.la_replica.specs.declared.message.Body.TheVariants as body
+use Rattle.la_replica.specs.Whole.{Message, Body, Offer, Yes, No, Tell, set_of, whole_of}
+use Rattle.la_replica.specs.Bases.{smaller, offered_by}
+use Rattle.la_world.specs.Groups.{Group, replicas}
+use Rattle.la_world.specs.Events.{Past}
+use Rattle.la_world.specs.Trace.{Entry, Trace}
+use Rattle.la_world.specs.Sent.{sent_at}
+use Rattle.la_world.specs.Acceptors.{accepted}
+use Rattle.la_world.specs.Ballots.{round}
+use Rattle.la_world.specs.Playing.{counts, trace}
+use Rattle.la_world.specs.Hearing.{reported}
+
+-- a message, with its set told over this base
+abbrev pub told_body : (base : Counts) → Body → code_body.Body
+told_body base (Offer s) = body.Offer (delta_over s base)
+told_body base Yes = body.Yes
+told_body base (No s) = body.No (delta_over s base)
+told_body base (Tell s) = body.Tell s
+
+abbrev pub told_over : (base : Counts) → Message → code.Message
+told_over base m = record {
+  instance = m.instance;
+  from = m.from;
+  to = m.to;
+  ballot = m.ballot;
+  body = told_body base m.body;
+}
+
+-- an offer is told over the smaller, of each replica, of what its receiver has reported and what the
+-- set has; a refusal over what was offered
+abbrev pub base_in : (reported offered : Counts) → Body → Counts
+base_in reported offered (Offer s) = smaller reported (counts_of s)
+base_in reported offered Yes = zero_counts
+base_in reported offered (No s) = offered
+base_in reported offered (Tell s) = zero_counts
+
+-- that of a message which was sent by the event that left this trace, and delivered what offers this
+abbrev pub base_of : Trace → (offered : Counts) → Message → Counts
+base_of t offered m =
+    base_in (counts_of (reported t m.instance m.from m.to)) offered m.body
+
+abbrev pub offered_to : Option Message → Counts
+offered_to None = zero_counts
+offered_to (Some m) = offered_by m
+
+-- what an event sent, as it is told
+abbrev pub told_at : (n : ℕ) → Entry → Trace → List code.Message
+told_at n x t =
+    map (λ m. told_over (base_of (x ∷ t) (offered_to x.delivered) m) m) (sent_at n x)
+
+-- all that was sent, as it is told
+unfoldable pub told : (n : ℕ) → Trace → List code.Message
+told n [] = []
+told n (x ∷ t) = told n t ++ told_at n x t
+
+-- a delta was made of a set
+abbrev pub IsMadeBody : code_body.Body → Type 0
+IsMadeBody (body.Offer d) = d ≡ delta_over (set_of d) d.base
+IsMadeBody body.Yes = Unit {0}
+IsMadeBody (body.No d) = d ≡ delta_over (set_of d) d.base
+IsMadeBody (body.Tell told) = Unit {0}
+
+abbrev pub IsMade : code.Message → Type 0
+IsMade m = IsMadeBody m.body
+
+-- ## What its receiver has
+
+-- the set that it was made of has its base; that of an offer lies in what its receiver has accepted,
+-- and that of a refusal which counts is what the open ballot's set has
+abbrev pub StandsBody : Trace → code.Message → code_body.Body → Type 0
+StandsBody t m (body.Offer d) =
+    HasCounts (set_of d) d.base × HasCounts (accepted t m.instance m.to) d.base
+StandsBody t m body.Yes = Unit {0}
+StandsBody t m (body.No d) =
+    HasCounts (set_of d) d.base
+    × (counts t (whole_of m) ≡ true → d.base ≡ counts_of (round t m.instance m.to).updates)
+StandsBody t m (body.Tell told) = Unit {0}
+
+-- so it is of all that was sent
+abbrev pub ToldMessagesStand : Type 0
+ToldMessagesStand = (g : Group) (events : Past) (k : ℕ) (m : code.Message) →
+    let t = trace g events in slice_get (told (replicas g) t) k ≡ Some m → StandsBody t m m.body
