@@ -1,6 +1,6 @@
 // Updates as tables give them.
 use crate::holds::holds;
-use la_set::{Op, Update, UpdateId, UpdateSet};
+use la_set::{Counts, Delta, Op, Update, UpdateId, UpdateSet, Updates};
 use std::alloc::Global;
 use std::process::Abort;
 
@@ -29,4 +29,19 @@ pub fn set_of(rt: &impl Abort, alloc: Global, updates: &[Given]) -> UpdateSet {
         holds(rt, "a push", pushes(&mut set, given));
     }
     set
+}
+
+/// These updates as a delta over nothing.
+pub fn delta_of(rt: &impl Abort, alloc: Global, updates: &[Given]) -> Delta {
+    delta_over(rt, alloc, Counts::zero(), updates)
+}
+
+/// These updates beyond a base. Where memory is refused a push is tried again.
+pub fn delta_over(rt: &impl Abort, alloc: Global, base: Counts, updates: &[Given]) -> Delta {
+    let mut more = Updates::new(alloc);
+    for given in updates {
+        let lists = more.push(update(given)).is_ok() || more.push(update(given)).is_ok();
+        holds(rt, "an update of a delta", lists);
+    }
+    Delta::new(base, more)
 }

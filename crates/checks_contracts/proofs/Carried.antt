@@ -1,53 +1,105 @@
--- A whole message is carried by one message alone.
-use Rattle.std.proofs.Common.{◌≡◌, List, [], ◌∷◌, Option, Some, refl, sym, ap, ap₂, ◌∙◌}
+-- A whole message is carried by one message alone, where it is told over what the same replica knows.
+use Rattle.std.proofs.Common.{◌≡◌, ℕ, List, [], ◌∷◌, All, slice_get, Option, Some, None, IsSomeAnd, refl, sym, ap, ap₂, subst, subst₂, ◌∙◌}
+use Rattle.std.proofs.lemmas.List.Elements.{All-weaker, All-head, All-tail}
 use Rattle.std.proofs.lemmas.Option.{same_Some}
 use Rattle.std.specs.Prelude.{Result, Ok, Err, IfOk}
+use Rattle.la_set.specs.declared.counts.Counts.{Counts}
+use Rattle.la_set.specs.Histories.{Histories}
+use Rattle.la_set.specs.Counts.{counts_of}
+use Rattle.la_set.specs.Deltas.{delta_over}
+use Rattle.la_proposer.specs.ProposerState.{reported}
+use Rattle.la_replica.specs.declared.instance.Instance.{Instance}
 use Rattle.la_replica.specs.declared.message.Message as code
 use Rattle.la_replica.specs.declared.message.Body as code_body
 use Rattle.la_replica.specs.declared.message.Body.TheVariants as body
 use Rattle.la_replica.specs.declared.out.Out as code_out
 use Rattle.la_replica.specs.ReplicaState.{ReplicaState}
-use Rattle.la_replica.specs.Whole.{Message, Out, whole_body, whole_of, whole_mail, whole_out}
+use Rattle.la_replica.specs.Bases.{smaller, IsToldBody, IsToldIn, AreToldIn, AreToldFrom}
+use Rattle.la_replica.specs.Whole.{Message, Out, set_of, whole_body, whole_of, whole_mail, whole_out}
+use Rattle.la_world.specs.declared.done.Done.{Done}
+use Rattle.la_world.specs.declared.node.Received.{Received}
+use Rattle.la_world.specs.Following.{Taken, whole_done}
 
-pub body_once : (b c : code_body.Body) → whole_body b ≡ whole_body c → b ≡ c
-body_once (body.Offer s) (body.Offer u) e = cc
-body_once (body.Offer s) body.Yes e = cc
-body_once (body.Offer s) (body.No u) e = cc
-body_once (body.Offer s) (body.Tell u) e = cc
-body_once body.Yes (body.Offer u) e = cc
-body_once body.Yes body.Yes e = refl
-body_once body.Yes (body.No u) e = cc
-body_once body.Yes (body.Tell u) e = cc
-body_once (body.No s) (body.Offer u) e = cc
-body_once (body.No s) body.Yes e = cc
-body_once (body.No s) (body.No u) e = cc
-body_once (body.No s) (body.Tell u) e = cc
-body_once (body.Tell s) (body.Offer u) e = cc
-body_once (body.Tell s) body.Yes e = cc
-body_once (body.Tell s) (body.No u) e = cc
-body_once (body.Tell s) (body.Tell u) e = cc
+body_once : (reported offered : Counts) (b c : code_body.Body) → IsToldBody reported offered b → IsToldBody reported offered c → whole_body b ≡ whole_body c → b ≡ c
+body_once reported offered (body.Offer d) (body.Offer e) p q same =
+    let sets : set_of d ≡ set_of e = cc in
+    ap body.Offer (p ∙ ap (λ s. delta_over s (smaller reported (counts_of s))) sets ∙ sym q)
+body_once reported offered (body.Offer d) body.Yes p q same = cc
+body_once reported offered (body.Offer d) (body.No e) p q same = cc
+body_once reported offered (body.Offer d) (body.Tell u) p q same = cc
+body_once reported offered body.Yes (body.Offer e) p q same = cc
+body_once reported offered body.Yes body.Yes p q same = refl
+body_once reported offered body.Yes (body.No e) p q same = cc
+body_once reported offered body.Yes (body.Tell u) p q same = cc
+body_once reported offered (body.No d) (body.Offer e) p q same = cc
+body_once reported offered (body.No d) body.Yes p q same = cc
+body_once reported offered (body.No d) (body.No e) p q same =
+    let sets : set_of d ≡ set_of e = cc in
+    ap body.No (p ∙ ap (λ s. delta_over s offered) sets ∙ sym q)
+body_once reported offered (body.No d) (body.Tell u) p q same = cc
+body_once reported offered (body.Tell s) (body.Offer e) p q same = cc
+body_once reported offered (body.Tell s) body.Yes p q same = cc
+body_once reported offered (body.Tell s) (body.No e) p q same = cc
+body_once reported offered (body.Tell s) (body.Tell u) p q same = cc
 
-message_once : (m n : code.Message) → whole_of m ≡ whole_of n → m ≡ n
-message_once m n e =
-    let same : m.body ≡ n.body = body_once m.body n.body (ap (λ (w : Message). w.body) e) in
-    λ j. record { instance = (e j).instance; from = (e j).from; to = (e j).to; ballot = (e j).ballot; body = same j }
+module _ (r : ReplicaState) (offered : Counts) where
+  message_once : (m n : code.Message) → IsToldIn r offered m → IsToldIn r offered n → whole_of m ≡ whole_of n → m ≡ n
+  message_once m n p q e =
+      let same = bodies (slice_get r.instances m.instance) p (subst₂ (λ i to. IsSomeAnd (slice_get r.instances i) (λ x. IsToldBody (reported x.proposer to) offered n.body)) (sym (ap (λ (w : Message). w.instance) e)) (sym (ap (λ (w : Message). w.to) e)) q) in
+      λ j. record { instance = (e j).instance; from = (e j).from; to = (e j).to; ballot = (e j).ballot; body = same j }
+    where
+      bodies : (o : Option Instance) → IsSomeAnd o (λ x. IsToldBody (reported x.proposer m.to) offered m.body) → IsSomeAnd o (λ x. IsToldBody (reported x.proposer m.to) offered n.body) → m.body ≡ n.body
+      bodies None h k = absurd h
+      bodies (Some x) h k = body_once (reported x.proposer m.to) offered m.body n.body h k (ap (λ (w : Message). w.body) e)
 
-pub mail_once : (ms ns : List code.Message) → whole_mail ms ≡ whole_mail ns → ms ≡ ns
-mail_once [] [] e = refl
-mail_once [] (n ∷ ns) e = cc
-mail_once (m ∷ ms) [] e = cc
-mail_once (m ∷ ms) (n ∷ ns) e =
-    let first : whole_of m ≡ whole_of n = cc in let rest : whole_mail ms ≡ whole_mail ns = cc in
-    ap₂ (λ x xs. x ∷ xs) (message_once m n first) (mail_once ms ns rest)
+  pub mail_once : (ms ns : List code.Message) → AreToldIn r offered ms → AreToldIn r offered ns → whole_mail ms ≡ whole_mail ns → ms ≡ ns
+  mail_once [] [] p q e = refl
+  mail_once [] (n ∷ ns) p q e = cc
+  mail_once (m ∷ ms) [] p q e = cc
+  mail_once (m ∷ ms) (n ∷ ns) p q e =
+      let first : whole_of m ≡ whole_of n = cc in let rest : whole_mail ms ≡ whole_mail ns = cc in
+      ap₂ (λ x xs. x ∷ xs) (message_once m n (All-head (IsToldIn r offered) m ms p) (All-head (IsToldIn r offered) n ns q) first)
+      (mail_once ms ns (All-tail (IsToldIn r offered) m ms p) (All-tail (IsToldIn r offered) n ns q) rest)
 
-out_once : (a b : code_out.Out) → whole_out a ≡ whole_out b → a ≡ b
-out_once a b e =
-    let same : a.mail ≡ b.mail = mail_once a.mail b.mail (ap (λ (o : Out). o.mail) e) in
-    λ j. record { said = (e j).said; mail = same j }
+  out_once : (a b : code_out.Out) → AreToldIn r offered a.mail → AreToldIn r offered b.mail → whole_out a ≡ whole_out b → a ≡ b
+  out_once a b p q e =
+      let same : a.mail ≡ b.mail = mail_once a.mail b.mail p q (ap (λ (o : Out). o.mail) e) in
+      λ j. record { said = (e j).said; mail = same j }
+
+  done_once : (a b : Done) → AreToldIn r offered a.mail → AreToldIn r offered b.mail → whole_done a ≡ whole_done b → a ≡ b
+  done_once a b p q e =
+      let same : a.mail ≡ b.mail = mail_once a.mail b.mail p q (ap (λ (o : Taken). o.mail) e) in
+      λ j. record { said = (e j).said; mail = same j; voted = (e j).voted }
+
+-- what is told in one instance is told
+pub told_in : {E : Type 0} (r : ReplicaState) (i : ℕ) (offered : Counts) (a : Result code_out.Out E) → IfOk a (λ o. AreToldFrom r i offered o.mail) → IfOk a (λ o. AreToldIn r offered o.mail)
+told_in r i offered (Ok o) told = All-weaker (λ (m : code.Message). (m.instance ≡ i) × IsToldIn r offered m) (IsToldIn r offered) (λ m h. h.1) o.mail told
+told_in r i offered (Err e) told = tt
 
 -- two calls that come to one step say and send the same
-pub outs_agree : {D E : Type 0} (x y : Option (Out × ReplicaState)) (a : Result code_out.Out D) (b : Result code_out.Out E) (m n : ReplicaState) → x ≡ y
-    → IfOk a (λ o. x ≡ Some (whole_out o, m)) → IfOk b (λ o. y ≡ Some (whole_out o, n)) → IfOk a (λ o. IfOk b (λ p. o ≡ p))
-outs_agree x y (Ok o) (Ok p) m n same h k = out_once o p (ap (λ (t : Out × ReplicaState). t.0) (same_Some (whole_out o, m) (whole_out p, n) (sym h ∙ same ∙ k)))
-outs_agree x y (Ok o) (Err e) m n same h k = tt
-outs_agree x y (Err d) b m n same h k = tt
+pub outs_agree : {D E : Type 0} (offered : Counts) (x y : Option (Out × ReplicaState)) (a : Result code_out.Out D) (b : Result code_out.Out E) (m n : ReplicaState) → x ≡ y
+    → IfOk a (λ o. x ≡ Some (whole_out o, m)) → IfOk b (λ o. y ≡ Some (whole_out o, n)) → IfOk a (λ o. AreToldIn m offered o.mail) → IfOk b (λ o. AreToldIn n offered o.mail) → IfOk a (λ o. IfOk b (λ p. o ≡ p))
+outs_agree offered x y (Ok o) (Ok p) m n same h k told also =
+    let one = same_Some (whole_out o, m) (whole_out p, n) (sym h ∙ same ∙ k) in
+    out_once m offered o p told (subst (λ s. AreToldIn s offered p.mail) (sym (ap (λ (t : Out × ReplicaState). t.1) one)) also) (ap (λ (t : Out × ReplicaState). t.0) one)
+outs_agree offered x y (Ok o) (Err e) m n same h k told also = tt
+outs_agree offered x y (Err d) b m n same h k told also = tt
+
+dones_agree : (offered : Counts) (x y : Option (Taken × ReplicaState)) (a b : Done) (m n : ReplicaState) → x ≡ y
+    → x ≡ Some (whole_done a, m) → y ≡ Some (whole_done b, n) → AreToldIn m offered a.mail → AreToldIn n offered b.mail → a ≡ b
+dones_agree offered x y a b m n same h k told also =
+    let one = same_Some (whole_done a, m) (whole_done b, n) (sym h ∙ same ∙ k) in
+    done_once m offered a b told (subst (λ s. AreToldIn s offered b.mail) (sym (ap (λ (t : Taken × ReplicaState). t.1) one)) also) (ap (λ (t : Taken × ReplicaState). t.0) one)
+
+pub receipts_agree : {D E : Type 0} (offered : Counts) (x y : Option (Taken × ReplicaState)) (a : Result Received D) (b : Result Received E) (m n : ReplicaState) → x ≡ y
+    → IfOk a (λ r. x ≡ Some (whole_done r.done, m)) → IfOk b (λ r. y ≡ Some (whole_done r.done, n)) → IfOk a (λ r. AreToldIn m offered r.done.mail) → IfOk b (λ r. AreToldIn n offered r.done.mail) → IfOk a (λ r. IfOk b (λ s. r.done ≡ s.done))
+receipts_agree offered x y (Ok r) (Ok s) m n same h k told also = dones_agree offered x y r.done s.done m n same h k told also
+receipts_agree offered x y (Ok r) (Err e) m n same h k told also = tt
+receipts_agree offered x y (Err d) b m n same h k told also = tt
+
+-- what is sent once more is one
+pub mails_agree : {E : Type 0} (r : ReplicaState) (offered : Counts) (a b : Result (List code.Message) E) {ms : List Message} → IfOk a (λ m. whole_mail m ≡ ms) → IfOk b (λ m. whole_mail m ≡ ms)
+    → IfOk a (AreToldIn r offered) → IfOk b (AreToldIn r offered) → IfOk a (λ m. IfOk b (λ n. m ≡ n))
+mails_agree r offered (Ok m) (Ok n) h k told also = mail_once r offered m n told also (h ∙ sym k)
+mails_agree r offered (Ok m) (Err e) h k told also = tt
+mails_agree r offered (Err d) b h k told also = tt

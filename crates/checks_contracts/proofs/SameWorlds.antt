@@ -20,15 +20,14 @@ use Rattle.la_world.specs.declared.step.Step.{Step}
 use Rattle.la_world.specs.Groups.{Group, group_of, replicas, kinds_on}
 use Rattle.la_world.specs.Events.{Event, Past, Submit, Deliver, Decide, Ask}
 use Rattle.la_world.specs.Trace.{Trace}
-use Rattle.la_world.specs.Sent.{sent}
 use Rattle.la_world.specs.Playing.{trace, shelf_of}
 use Rattle.la_world.specs.Views.{view}
 use Rattle.la_world.specs.Learnings.{learnt}
 use Rattle.la_world.specs.Report.{refused, line_of}
 use Rattle.la_world.specs.ReplicaStates.{replica_states}
 use Rattle.la_world.specs.StandsFor.{World, kinds_of, group_in, StandsFor}
+use Rattle.la_world.specs.Told.{told}
 use Rattle.la_world.specs.Calls.{IsMakingRefusal, IsPlayRefusal, Plays, Keeps, may_absorb, IsSameUnless, tags_of, IsTagsRefusal}
-use Rattle.checks_contracts.proofs.Carried.{mail_once}
 use Rattle.checks_contracts.specs.Alike.{AreAlike, AreOfOneGroup}
 
 -- ## Worlds
@@ -58,7 +57,7 @@ of_one_group : {A : Type 0} (f : Group → A) (w v : World) → AreOfOneGroup w 
 of_one_group f w v one = ap₂ (λ c ks. f (group_of c ks)) one.config one.kinds
 
 same_messages : (w v : World) (events : Past) → StandsFor w events → StandsFor v events → AreOfOneGroup w v → w.messages ≡ v.messages
-same_messages w v events h k one = mail_once w.messages v.messages (h.led.sent ∙ of_one_group (λ g. sent (replicas g) (trace g events)) w v one ∙ sym k.led.sent)
+same_messages w v events h k one = h.told ∙ of_one_group (λ g. told (replicas g) (trace g events)) w v one ∙ sym k.told
 
 alike : (w v : World) (events : Past) → StandsFor w events → StandsFor v events → AreOfOneGroup w v → AreAlike w v
 alike w v events h k one = record {

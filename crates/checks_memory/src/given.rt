@@ -1,6 +1,6 @@
 // What came of a call whose memory may be refused, and updates from tables.
 use la_acceptor::Reply;
-use la_set::{Op, Tags, Update, UpdateId, UpdateSet};
+use la_set::{Counts, Delta, Op, Tags, Update, UpdateId, UpdateSet, Updates};
 use std::alloc::Global;
 use std::process::Abort;
 
@@ -106,6 +106,24 @@ pub fn set_of(alloc: Global, rows: &[Row]) -> Option<UpdateSet> {
     } else {
         None
     }
+}
+
+fn lists(alloc: Global, list: &mut Updates, row: &Row) -> bool {
+    match update_of(alloc, row) {
+        Some(update) => list.push(update).is_ok(),
+        None => false,
+    }
+}
+
+/// These updates as a delta over nothing.
+pub fn delta_of(alloc: Global, rows: &[Row]) -> Option<Delta> {
+    let mut more = Updates::new(alloc);
+    for row in rows {
+        if !lists(alloc, &mut more, row) && !lists(alloc, &mut more, row) {
+            return None;
+        }
+    }
+    Some(Delta::new(Counts::zero(), more))
 }
 
 /// Whether these are the tags 7.1 to this number of them.

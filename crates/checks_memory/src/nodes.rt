@@ -1,6 +1,6 @@
 // la_world: a node of a group of one, from its start to the retirement of its object.
 use crate::counted::{Counted, are_alive, make_counted};
-use crate::given::{Came, Does, Row, again, holds, refused, set_of};
+use crate::given::{Came, Does, Row, again, delta_of, holds, refused};
 use crate::texts::{Shelved, shelf_of};
 use la_object::{Answer, Query, ShelfError, State};
 use la_orset::OrSet;
@@ -96,8 +96,8 @@ fn receive(node: &mut Alone, body: Body) -> Result<usize, AllocError> {
 }
 
 fn offer(node: &mut Alone, alloc: Global) -> Result<usize, AllocError> {
-    match set_of(alloc, ONE) {
-        Some(set) => receive(node, Body::Offer(set)),
+    match delta_of(alloc, ONE) {
+        Some(delta) => receive(node, Body::Offer(delta)),
         None => Err(AllocError),
     }
 }

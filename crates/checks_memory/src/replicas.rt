@@ -1,5 +1,5 @@
 // la_replica: one replica's way through submissions and messages; mail.
-use crate::given::{Came, Does, Row, again, holds, is_of, op_of, refused, set_of};
+use crate::given::{Came, Does, Row, again, delta_of, holds, is_of, op_of, refused, set_of};
 use la_acceptor::Reply;
 use la_proposer::Votes;
 use la_replica::{Body, Mail, Message, Out, Replica, ReplicaError, Said};
@@ -88,8 +88,8 @@ const STEPS: [(Input, Stand); 9] = [
 
 fn body_of(alloc: Global, says: Says) -> Option<Body> {
     Some(match says {
-        Says::Offer(rows) => Body::Offer(set_of(alloc, rows)?),
-        Says::No(rows) => Body::No(set_of(alloc, rows)?),
+        Says::Offer(rows) => Body::Offer(delta_of(alloc, rows)?),
+        Says::No(rows) => Body::No(delta_of(alloc, rows)?),
         Says::Yes => Body::Yes,
         Says::Tell(rows) => Body::Tell(set_of(alloc, rows)?),
     })

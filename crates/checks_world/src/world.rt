@@ -11,3 +11,4 @@ mod questions;
 mod runs;
 mod shelves;
 mod shown;
+mod told;

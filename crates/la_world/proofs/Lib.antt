@@ -38,6 +38,7 @@ pub mod SecondVotes
 pub mod Voting
 pub mod Legal
 pub mod RefusedForMemory
+pub mod Receipts
 pub mod lemmas
 pub mod StoredMessages
 pub mod Shown

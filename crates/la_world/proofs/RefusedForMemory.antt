@@ -1,6 +1,6 @@
 -- A message of a legal list is refused for want of memory alone, and a submission that the world does
 -- not refuse likewise: every set lies within what was submitted, and ballots' numbers stay small.
-use Rattle.std.proofs.Common.{◌≡◌, ◌⊎◌, ℕ, ◌*◌, ◌<◌, ◌≤◌, Bool, true, false, not, ◌&&◌, ◌==◌, cond, List, [], ◌∷◌, length, slice_get, None, refl, ap, sym, ◌∙◌, subst, arith, inl, inr}
+use Rattle.std.proofs.Common.{◌≡◌, ◌⊎◌, ℕ, ◌*◌, ◌<◌, ◌≤◌, Bool, true, false, not, ◌&&◌, ◌==◌, cond, List, [], ◌∷◌, length, slice_get, Some, None, refl, ap, sym, ◌∙◌, subst, arith, inl, inr}
 use Rattle.std.specs.Prelude.{IsSome, IsSomeAnd}
 use Rattle.std.proofs.lemmas.Bool.{cond_both, true≢false, not-true}
 use Rattle.std.proofs.lemmas.List.{length-drop}
@@ -37,11 +37,13 @@ use Rattle.la_world.specs.Acceptors.{accepted}
 use Rattle.la_world.specs.Ballots.{round, is_open}
 use Rattle.la_world.specs.Counting.{counted}
 use Rattle.la_world.specs.Submissions.{submitted}
+use Rattle.la_world.specs.Events.{Past}
 use Rattle.la_world.specs.Views.{view}
 use Rattle.la_world.specs.Playing.{counts, trace}
 use Rattle.la_world.specs.ReplicaStates.{proposer_state, instance_of, replica_state}
 use Rattle.la_replica.specs.Fitting.{FitsReceiver, FitsViewBody}
-use Rattle.la_world.specs.Following.{SubmissionsFit, DeliveriesFit}
+use Rattle.la_world.specs.StandsFor.{IsLegal}
+use Rattle.la_world.specs.Following.{SubmissionsFit}
 use Rattle.la_world.proofs.Lists.{IsIn, AllIn, IsIn_get}
 use Rattle.la_world.proofs.Sizes.{total, total_subset, total_most, total_below, total_strict}
 use Rattle.la_world.proofs.EventCases.{heard, refused_contains}
@@ -265,7 +267,8 @@ module _ (g : Group) (t : Trace) (m : Message) (h : Holds g t) (was_sent : IsIn 
 pub cap_small : (g : Group) (i : ℕ) → g.cap ≤ 1000000 → cap_of g i ≤ 1000000
 cap_small g i small = cond_both (i == 0) g.cap 1 (λ n. n ≤ 1000000) (λ e. small) (λ e. omega arith)
 
-pub delivery_fits : DeliveriesFit
+pub delivery_fits : (g : Group) (events : Past) (k : ℕ) (m : Message) → replicas g ≤ 8 → g.cap ≤ 1000000 → IsLegal g events → let t = trace g events in slice_get (sent (replicas g) t) k ≡ Some m
+    → FitsReceiver (replica_state g t m.to) m × ((e : ReplicaError) → IsReceiveRefusal (replica_state g t m.to) m e → e ≡ Memory)
 delivery_fits g events k m few small legal is =
     let t = trace g events in
     let h = holds g events in

@@ -4,7 +4,9 @@ use Rattle.std.specs.Prelude.{◌≡◌, ℕ, List, [], ◌∷◌, ◌++◌, fol
 use Rattle.la_set.specs.ObjectOps.{ObjectOp}
 use Rattle.la_commit.specs.Instances.{first_instance}
 use Rattle.la_commit.specs.Votes.{first_vote}
-use Rattle.la_replica.specs.Whole.{Message, Out}
+use Rattle.la_replica.specs.declared.message.Message.{Message}
+use Rattle.la_replica.specs.Whole.{Out}
+use Rattle.la_replica.specs.Received.{received_in}
 use Rattle.la_replica.specs.ReplicaState.{ReplicaState, submits}
 use Rattle.la_world.specs.Following.{Taken, takes}
 
@@ -13,7 +15,7 @@ pub data KeptCall : Type 0 where
   Submitted : ObjectOp → KeptCall
   -- a value, to an adopt-commit object
   Proposed : (commit value : ℕ) → KeptCall
-  -- a message
+  -- a message, as it came
   Received : Message → KeptCall
 
 -- the replica after a call
@@ -22,7 +24,8 @@ after_call r (Submitted d) = option_map (λ (made : Out × ReplicaState). made.1
 after_call r (Proposed k value) =
     option_map (λ (made : Out × ReplicaState). made.1)
     (submits r (first_instance k) (first_vote k value))
-after_call r (Received m) = option_map (λ (made : Taken × ReplicaState). made.1) (takes r m)
+after_call r (Received m) =
+    option_map (λ (made : Taken × ReplicaState). made.1) (takes r (received_in r m))
 
 -- and after all of them, one after another
 abbrev pub after_calls : ReplicaState → List KeptCall → Option ReplicaState

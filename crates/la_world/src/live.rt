@@ -40,7 +40,8 @@ pub fn new_nodes_are_live()
     ensures { NewNodesAreLive }
 {}
 
-/// They stay so whatever the network loses, holds twice or brings late.
+/// They stay so whatever the network loses, holds twice or brings late, and whatever deltas it makes
+/// anew: of a message one that says the same is left.
 pub fn networks_may_lose()
     ensures { NetworksMayLose }
 {}

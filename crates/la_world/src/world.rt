@@ -3,7 +3,7 @@ ghost use Rattle.std.specs.Prelude.{OnOk, OnErr};
 ghost use Rattle.std.specs.Option.{option_copied};
 ghost use Rattle.la_world.specs.Events.{Past, event_of};
 ghost use Rattle.la_world.specs.Printable.{IsPrintable};
-ghost use Rattle.la_world.specs.StandsFor.{StandsFor, group_in, trace_in, sent_in};
+ghost use Rattle.la_world.specs.StandsFor.{StandsFor, group_in, trace_in, sent_in, told_in};
 ghost use Rattle.la_world.specs.Nodes.{replicas_of, shelves_of};
 ghost use Rattle.la_world.specs.Calls.{IsGroup, IsMakingRefusal, replica_states_at_start, Keeps};
 ghost use Rattle.la_world.specs.Calls.{may_absorb, IsSameUnless, Plays, Refuses, StandsForMessage};
@@ -204,11 +204,13 @@ impl<B: Replicated> World<B> {
 
     /// The message with a number, from 0 in the order in which they were sent; `None` where fewer
     /// were sent.
-    #[tactic(auto, using(crate::proofs::Worlds::message_found))]
+    #[tactic(auto, using(crate::proofs::Worlds::message_found, crate::proofs::Worlds::message_told))]
     pub fn message(&self, number: u64) -> Option<&Message>
         ensures value { option_copied result ≡ slice_get self.now.messages number }
         ensures stands { (events : Past) → StandsFor self.now events →
             StandsForMessage (option_copied result) (slice_get (sent_in self.now events) number) }
+        ensures told { (events : Past) → StandsFor self.now events →
+            option_copied result ≡ slice_get (told_in self.now events) number }
     {
         self.stored_message(number)
     }

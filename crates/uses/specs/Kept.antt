@@ -1,6 +1,5 @@
 -- Kept calls, as the definitions have them.
 use Rattle.la_proposer.specs.ProposerState.{op_on}
-use Rattle.la_replica.specs.Whole.{whole_of}
 use Rattle.la_world.specs.Kept as calls
 use Rattle.la_world.specs.Kept.{KeptCall}
 use Rattle.uses.specs.declared.kept.Kept.{Kept}
@@ -9,4 +8,4 @@ use Rattle.uses.specs.declared.kept.Kept.TheVariants.{Update, Proposal, Message}
 abbrev pub call_of : Kept → KeptCall
 call_of (Update object op) = calls.Submitted (op_on object op)
 call_of (Proposal commit value) = calls.Proposed commit value
-call_of (Message message) = calls.Received (whole_of message)
+call_of (Message message) = calls.Received message

@@ -1,5 +1,6 @@
 ghost use Rattle.std.specs.Prelude.{◌≡◌, ◌<◌, [], ◌∷◌, length, Some, IfOk, OnErr};
-ghost use Rattle.la_replica.specs.Whole.{whole_of};
+ghost use Rattle.la_replica.specs.Bases.{offered_by, AreToldIn};
+ghost use Rattle.la_replica.specs.Received.{received_in};
 ghost use Rattle.la_world.specs.declared.done.Done.{Done as DoneOf};
 ghost use Rattle.la_world.specs.Following.{takes, whole_done};
 ghost use Rattle.la_world.specs.LiveGroups.{AreLive, AllViewsAreComparable};
@@ -84,8 +85,10 @@ fn deliver<B: Replicated>(
 // What a node sends by a message.
 fn mail_by<B: Replicated>(node: &mut Node<B>, message: &Message) -> Result<Mail, ReplicaError>
     ensures ok { IfOk result (λ mail. (done : DoneOf) × (done.mail ≡ mail)
-        × (takes node.old.replica (whole_of message.now)
+        × (takes node.old.replica (received_in node.old.replica message.now)
         ≡ Some (whole_done done, node.new.replica))) }
+    ensures told { IfOk result (AreToldIn node.new.replica
+        (offered_by (received_in node.old.replica message.now))) }
     ensures err { OnErr result (node.new ≡ node.old) }
 {
     let done = node.receive(message)?.done;

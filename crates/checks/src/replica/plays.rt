@@ -1,11 +1,11 @@
 // Plays a table of inputs at one replica. Each call is made again where memory was refused, after a
 // look at what stands: so the tests pass with every single allocation failing too.
-use crate::given::{Given, set_of};
+use crate::given::{Given, delta_of, delta_over, set_of};
 use crate::holds::holds;
 use la_acceptor::Reply;
 use la_proposer::{Ballot, Votes};
 use la_replica::{Body, Mail, Message, Out, Replica, ReplicaError, Said};
-use la_set::{Op, UpdateId, UpdateSet};
+use la_set::{Counts, Op, UpdateId, UpdateSet};
 use std::alloc::Global;
 use std::process::Abort;
 
@@ -18,6 +18,10 @@ pub enum Input {
     Offer(u8, u8, u32, &'static [Given]),
     Yes(u8, u8, u32),
     No(u8, u8, u32, &'static [Given]),
+    /// In instance 0, told over a base: where it comes from, its ballot's number, the base and what
+    /// comes beyond.
+    OfferOver(u8, u32, [u32; 8], &'static [Given]),
+    NoOver(u8, u32, [u32; 8], &'static [Given]),
     Tell(u8, u8, u32, &'static [Given]),
     /// An acknowledgement that goes to replica 1.
     Astray(u8, u8),
@@ -105,13 +109,21 @@ fn message_of(rt: &impl Abort, alloc: Global, input: &Input) -> Option<Message> 
     match input {
         Input::Submits(_) => None,
         Input::Offer(instance, from, ballot, updates) => {
-            let body = Body::Offer(set_of(rt, alloc, updates));
+            let body = Body::Offer(delta_of(rt, alloc, updates));
             Some(to_0(*instance, *from, *ballot, body))
         }
         Input::Yes(instance, from, ballot) => Some(to_0(*instance, *from, *ballot, Body::Yes)),
         Input::No(instance, from, ballot, updates) => {
-            let body = Body::No(set_of(rt, alloc, updates));
+            let body = Body::No(delta_of(rt, alloc, updates));
             Some(to_0(*instance, *from, *ballot, body))
+        }
+        Input::OfferOver(from, ballot, base, updates) => {
+            let delta = delta_over(rt, alloc, Counts::from(*base), updates);
+            Some(to_0(0, *from, *ballot, Body::Offer(delta)))
+        }
+        Input::NoOver(from, ballot, base, updates) => {
+            let delta = delta_over(rt, alloc, Counts::from(*base), updates);
+            Some(to_0(0, *from, *ballot, Body::No(delta)))
         }
         Input::Tell(instance, from, ballot, updates) => {
             let body = Body::Tell(set_of(rt, alloc, updates));

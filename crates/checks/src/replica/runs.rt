@@ -77,6 +77,89 @@ const LEARNS: &[Step] = &[
     ),
 ];
 
+const SECOND: &[Given] = &[(1, 2, 7)];
+
+const ONE_OF_0: [u32; 8] = [1, 0, 0, 0, 0, 0, 0, 0];
+
+const ONE_OF_1: [u32; 8] = [0, 1, 0, 0, 0, 0, 0, 0];
+
+const ACKNOWLEDGES: &[(u8, u8)] = &[(b'Y', 1)];
+
+// A delta stands on what is accepted, or on the open ballot's set, or is refused; that of a refusal
+// which does not count is not looked at.
+const DELTAS: &[Step] = &[
+    Step(
+        Input::OfferOver(1, 1, ONE_OF_1, SECOND),
+        Outcome::Fails(ReplicaError::NoBase),
+        &[],
+        NOTHING,
+        None,
+    ),
+    Step(
+        Input::Offer(0, 1, 1, SECOND),
+        Outcome::Fails(ReplicaError::Gap),
+        &[],
+        NOTHING,
+        None,
+    ),
+    Step(
+        Input::Offer(0, 1, 1, OTHER),
+        Outcome::Acknowledged,
+        ACKNOWLEDGES,
+        NOTHING,
+        None,
+    ),
+    Step(
+        Input::OfferOver(1, 2, ONE_OF_1, SECOND),
+        Outcome::Acknowledged,
+        ACKNOWLEDGES,
+        NOTHING,
+        None,
+    ),
+    Step(
+        Input::NoOver(1, 1, ONE_OF_1, SECOND),
+        Outcome::Ignored,
+        &[],
+        NOTHING,
+        None,
+    ),
+    Step(
+        Input::Submits(0),
+        Outcome::Opened(1, 1),
+        OFFERS,
+        NOTHING,
+        None,
+    ),
+    Step(
+        Input::NoOver(1, 1, ONE_OF_1, SECOND),
+        Outcome::Fails(ReplicaError::NoBase),
+        &[],
+        NOTHING,
+        None,
+    ),
+    Step(
+        Input::NoOver(1, 1, ONE_OF_0, SECOND),
+        Outcome::Fails(ReplicaError::Gap),
+        &[],
+        NOTHING,
+        None,
+    ),
+    Step(
+        Input::NoOver(1, 1, ONE_OF_0, OTHER),
+        Outcome::Counted,
+        &[],
+        NOTHING,
+        None,
+    ),
+    Step(
+        Input::NoOver(2, 1, ONE_OF_0, THIRD),
+        Outcome::Refined(2, 3),
+        OFFERS,
+        NOTHING,
+        None,
+    ),
+];
+
 // The view only grows: a learnt set that is smaller leaves it, an equal told set too.
 const VIEWS: &[Step] = &[
     Step(
@@ -280,6 +363,14 @@ fn learns(rt: &impl Abort, alloc: Global) {
     plays(rt, alloc, &play);
 }
 
+fn deltas(rt: &impl Abort, alloc: Global) {
+    let play = Play {
+        name: "deltas",
+        steps: DELTAS,
+    };
+    plays(rt, alloc, &play);
+}
+
 fn views(rt: &impl Abort, alloc: Global) {
     let play = Play {
         name: "views",
@@ -318,6 +409,7 @@ fn replicas(rt: HostRuntime) {
     laws::caps_stay();
     laws::views_grow();
     learns(&rt, rt.alloc());
+    deltas(&rt, rt.alloc());
     views(&rt, rt.alloc());
     answers(&rt, rt.alloc());
     commits(&rt, rt.alloc());

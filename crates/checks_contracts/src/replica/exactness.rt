@@ -1,14 +1,16 @@
 // Callers that know nothing but the contracts: each makes a call twice and promises equal answers.
 ghost use Rattle.std.specs.Prelude.{◌≡◌, ◌≢◌, ◌↔◌, ◌≤◌, ◌<◌};
-ghost use Rattle.std.specs.Prelude.{length, IsTrue, IfOk, OnOk, OnErr, option_copied};
+ghost use Rattle.std.specs.Prelude.{length, IsTrue, IfOk, IfErr, OnOk, OnErr, option_copied};
 ghost use Rattle.la_proposer.specs.Majority.{votes_of};
-ghost use Rattle.la_replica.specs.Whole.{whole_of, whole_out, whole_mail};
+ghost use Rattle.la_replica.specs.declared.error.ReplicaError.TheVariants.{Memory as MemoryIs};
+ghost use Rattle.la_replica.specs.Whole.{whole_out};
+ghost use Rattle.la_replica.specs.Received.{received_in, StandsIn, AgreesIn};
 ghost use Rattle.la_replica.specs.Changes.{IsPreparedFrom, led};
 ghost use Rattle.la_replica.specs.Fitting.{FitsReceiver};
 
-use la_acceptor::{AcceptorError, Reply};
+use la_acceptor::AcceptorError;
 use la_commit::{MAX_COMMITS, laws};
-use la_proposer::{Heard, MAX_CAP, ProposerError, Verdict, Votes};
+use la_proposer::{Heard, MAX_CAP, ProposerError, Votes};
 use la_replica::{Body, Change, Mail, Message, Out, Replica, ReplicaError, Said};
 use la_set::{Op, UpdateSet};
 use smallvec::SmallVec;
@@ -50,13 +52,6 @@ fn messages_are_the_same_alike(message: &Message, other: &Message) -> (bool, boo
     ensures { IsTrue result.0 ↔ IsTrue result.1 }
 {
     (message.same(other), message.same(other))
-}
-
-fn bodies_of_replies_are_one(replies: (Reply, Reply)) -> (Body, Body)
-    requires { replies.0 ≡ replies.1 }
-    ensures { result.0 ≡ result.1 }
-{
-    (Body::from(replies.0), Body::from(replies.1))
 }
 
 fn sayings_are_one(heard: (Heard, Heard)) -> (Said, Said)
@@ -216,7 +211,7 @@ fn submitted_is_exact(replica: &Replica, instance: u8) -> (Option<u32>, Option<u
 }
 
 fn again_is_exact(replica: &Replica) -> (Result<Mail, AllocError>, Result<Mail, AllocError>)
-    ensures { IfOk result.0 (λ a. IfOk result.1 (λ b. whole_mail a ≡ whole_mail b)) }
+    ensures { IfOk result.0 (λ a. IfOk result.1 (λ b. a ≡ b)) }
 {
     (replica.again(), replica.again())
 }
@@ -267,8 +262,6 @@ type Prepares = Result<(Out, Change), ReplicaError>;
 
 type PreparesFitting = Result<(Out, Change), AllocError>;
 
-type Admits = Result<Option<Verdict>, ReplicaError>;
-
 fn prepare_submission_is_exact(replica: &Replica, instance: u8, by: u32) -> (Prepares, Prepares)
     ensures { IfOk result.0 (λ a. IfOk result.1 (λ b.
         led replica.now (whole_out a.0) a.1 ≡ led replica.now (whole_out b.0) b.1)) }
@@ -288,7 +281,9 @@ fn prepare_is_exact(replica: &Replica, message: &Message) -> (Prepares, Prepares
 
 // A message that fits comes to what receiving it comes to.
 fn prepare_fitting_is_exact(replica: &Replica, message: &Message) -> (PreparesFitting, Prepares)
-    requires { FitsReceiver replica.now (whole_of message.now) }
+    requires fits { FitsReceiver replica.now (received_in replica.now message.now) }
+    requires stands { StandsIn replica.now message.now }
+    requires agrees { AgreesIn replica.now message.now }
     ensures { IfOk result.0 (λ a. IfOk result.1 (λ b.
         led replica.now (whole_out a.0) a.1 ≡ led replica.now (whole_out b.0) b.1)) }
 {
@@ -305,13 +300,12 @@ fn commit_is_exact(one: &mut Replica, other: &mut Replica, changes: (Change, Cha
     other.commit(changes.1);
 }
 
-fn admit_message_is_exact(replica: &Replica, message: &Message) -> (Admits, Admits)
-    ensures { result.0 ≡ result.1 }
+// Refusals are alike, but for want of memory, which alone refuses what is received once.
+fn refusals_are_exact(replica: &Replica, message: &Message) -> (Prepares, Prepares)
+    ensures alike { IfErr result.0 (λ d. IfErr result.1 (λ e. d ≢ MemoryIs → e ≢ MemoryIs → d ≡ e)) }
+    ensures alone { IfErr result.0 (λ d. IfOk result.1 (λ _. d ≡ MemoryIs)) }
 {
-    (
-        replica.admit_message(message),
-        replica.admit_message(message),
-    )
+    (replica.prepare(message), replica.prepare(message))
 }
 
 fn learnt_is_exact(said: &Said) -> (Option<&UpdateSet>, Option<&UpdateSet>)

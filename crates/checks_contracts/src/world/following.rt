@@ -6,7 +6,8 @@ ghost use Rattle.la_set.specs.Inclusion.{AreComparable};
 ghost use Rattle.la_proposer.specs.declared.proposer.TheConstants.{MAX_CAP};
 ghost use Rattle.la_replica.specs.Whole.{Message};
 ghost use Rattle.la_replica.specs.declared.error.ReplicaError.TheVariants.{BallotsSpent, Clash};
-ghost use Rattle.la_replica.specs.Refusals.{IsSubmitRefusal, IsReceiveRefusal};
+ghost use Rattle.la_replica.specs.declared.message.Message.{Message as CodeMessage};
+ghost use Rattle.la_replica.specs.Refusals.{IsSubmitRefusal, IsReceiptRefusal};
 ghost use Rattle.la_world.specs.Groups.{Group, replicas, instances};
 ghost use Rattle.la_world.specs.Events.{Past, Event as Occurrence, Submit, Decide, Deliver};
 ghost use Rattle.la_world.specs.Sent.{sent};
@@ -16,6 +17,7 @@ ghost use Rattle.la_world.specs.Outcomes.{decisions};
 ghost use Rattle.la_world.specs.Report.{refused};
 ghost use Rattle.la_world.specs.ReplicaStates.{replica_state};
 ghost use Rattle.la_world.specs.StandsFor.{IsLegal};
+ghost use Rattle.la_world.specs.Told.{told};
 ghost use Rattle.la_world.specs.Laws.{ReturnsAreProposed};
 
 use la_world::laws;
@@ -50,11 +52,11 @@ fn ballots_suffice_and_nothing_clashes()
     ensures submissions { (g : Group) (events : Past) (r i : ℕ)
         → replicas g ≤ 8 → g.cap ≤ MAX_CAP → IsLegal g events → r < replicas g → i < instances g
         → ¬ IsSubmitRefusal (replica_state g (trace g events) r) i BallotsSpent }
-    ensures deliveries { (g : Group) (events : Past) (k : ℕ) (m : Message)
+    ensures deliveries { (g : Group) (events : Past) (k : ℕ) (m : CodeMessage)
         → replicas g ≤ 8 → g.cap ≤ MAX_CAP → IsLegal g events
-        → slice_get (sent (replicas g) (trace g events)) k ≡ Some m
+        → slice_get (told (replicas g) (trace g events)) k ≡ Some m
         → (id : UpdateId)
-        → ¬ IsReceiveRefusal (replica_state g (trace g events) m.to) m (Clash id) }
+        → ¬ IsReceiptRefusal (replica_state g (trace g events) m.to) m (Clash id) }
 {
     laws::submissions_fit();
     laws::deliveries_fit();

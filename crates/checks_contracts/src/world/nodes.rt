@@ -2,9 +2,8 @@
 ghost use Rattle.std.specs.Prelude.{◌≡◌, ◌≢◌, ◌↔◌, IsTrue, IfOk, IfErr, OnOk, OnErr};
 ghost use Rattle.std.specs.Option.{option_copied};
 ghost use Rattle.la_object.specs.declared.error.ShelfError.TheVariants.{Memory as MemoryIs};
-ghost use Rattle.la_replica.specs.Whole.{whole_of, whole_out, whole_mail};
+ghost use Rattle.la_replica.specs.Received.{received_in, StandsIn, AgreesIn};
 ghost use Rattle.la_replica.specs.Fitting.{FitsReceiver};
-ghost use Rattle.la_world.specs.Following.{whole_done};
 
 use la_commit::Outcome;
 use la_object::{Answer, Query, Replicated, Shelf, ShelfError, State};
@@ -80,7 +79,7 @@ fn outcome_is_exact<B: Replicated>(node: &Node<B>, commit: u8) -> (Option<Outcom
 fn again_is_exact<B: Replicated>(
     node: &Node<B>,
 ) -> (Result<Mail, AllocError>, Result<Mail, AllocError>)
-    ensures { IfOk result.0 (λ a. IfOk result.1 (λ b. whole_mail a ≡ whole_mail b)) }
+    ensures { IfOk result.0 (λ a. IfOk result.1 (λ b. a ≡ b)) }
 {
     (node.again(), node.again())
 }
@@ -91,7 +90,7 @@ fn submit_is_exact<B: Replicated>(
     by: u32,
 ) -> (Result<Out, ReplicaError>, Result<Out, ReplicaError>)
     requires { one.old ≡ other.old }
-    ensures answers { IfOk result.0 (λ a. IfOk result.1 (λ b. whole_out a ≡ whole_out b)) }
+    ensures answers { IfOk result.0 (λ a. IfOk result.1 (λ b. a ≡ b)) }
     ensures steps { OnOk result.0 (OnOk result.1 (one.new ≡ other.new)) }
     ensures stays { OnErr result.0 (one.new ≡ one.old) }
 {
@@ -105,7 +104,7 @@ fn propose_is_exact<B: Replicated>(
     value: u64,
 ) -> (Result<Out, WorldError>, Result<Out, WorldError>)
     requires { one.old ≡ other.old }
-    ensures answers { IfOk result.0 (λ a. IfOk result.1 (λ b. whole_out a ≡ whole_out b)) }
+    ensures answers { IfOk result.0 (λ a. IfOk result.1 (λ b. a ≡ b)) }
     ensures steps { OnOk result.0 (OnOk result.1 (one.new ≡ other.new)) }
     ensures alike { IfErr result.0 (λ d. IfErr result.1 (λ e. d ≡ e)) }
     ensures stays { OnErr result.0 (one.new ≡ one.old) }
@@ -122,7 +121,7 @@ fn receive_is_exact<B: Replicated>(
     Result<Received, ReplicaError>,
 )
     requires { one.old ≡ other.old }
-    ensures said { IfOk result.0 (λ a. IfOk result.1 (λ b. whole_done a.done ≡ whole_done b.done)) }
+    ensures said { IfOk result.0 (λ a. IfOk result.1 (λ b. a.done ≡ b.done)) }
     ensures outcomes { IfOk result.0 (λ a. IfOk result.1 (λ b. a.outcome ≡ b.outcome)) }
     ensures steps { OnOk result.0 (OnOk result.1 (one.new ≡ other.new)) }
     ensures stays { OnErr result.0 (one.new ≡ one.old) }
@@ -137,8 +136,10 @@ fn receive_fitting_is_exact<B: Replicated>(
     message: &Message,
 ) -> (Result<Received, AllocError>, Result<Received, ReplicaError>)
     requires same { one.old ≡ other.old }
-    requires fits { FitsReceiver one.old.replica (whole_of message.now) }
-    ensures said { IfOk result.0 (λ a. IfOk result.1 (λ b. whole_done a.done ≡ whole_done b.done)) }
+    requires fits { FitsReceiver one.old.replica (received_in one.old.replica message.now) }
+    requires stands { StandsIn one.old.replica message.now }
+    requires agrees { AgreesIn one.old.replica message.now }
+    ensures said { IfOk result.0 (λ a. IfOk result.1 (λ b. a.done ≡ b.done)) }
     ensures outcomes { IfOk result.0 (λ a. IfOk result.1 (λ b. a.outcome ≡ b.outcome)) }
     ensures steps { OnOk result.0 (OnOk result.1 (one.new ≡ other.new)) }
     ensures stays { OnErr result.0 (one.new ≡ one.old) }

@@ -17,7 +17,9 @@ use Rattle.la_replica.specs.Whole.{Message, Body, Offer, Yes, No, Tell, whole_bo
 use Rattle.la_replica.specs.Received.{Told, told_in_body, refusal_over, rebuilt_of, rebuilt_at, with_set, with_refused, received_at, received_in, IsCarried, IsCarriedIn}
 use Rattle.la_replica.specs.Steps.{receives_body, hears, hears_as}
 use Rattle.la_replica.specs.ReplicaState.{ReplicaState, InInstance, sender_of, receives, after_step}
-use Rattle.la_replica.specs.Refusals.{FitsBody, SparesBody, IsFor}
+use Rattle.la_replica.specs.declared.error.ReplicaError.{ReplicaError}
+use Rattle.la_replica.specs.declared.error.ReplicaError.TheVariants.{NoSuchReplica, NoSuchInstance, Full, NoBase, Gap, Clash, BallotsSpent, Memory}
+use Rattle.la_replica.specs.Refusals.{FitsBody, SparesBody, IsFor, IsHearingRefusal, IsBodyRefusal, IsReceiveRefusal}
 use Rattle.la_replica.specs.Fitting.{FitsViewBody, FitsReceiver}
 use Rattle.la_set.specs.Counts.{counts_of, zero_counts}
 use Rattle.la_replica.specs.Bases.{offered_in, offered_by}
@@ -69,6 +71,28 @@ module _ (x : Instance) (view : Histories) (m : Message) where
       go false e is = λ heeded. absurd (true≢false (sym heeded ∙ e))
   body_spares (body.Tell told) same h = h
 
+  -- and what refuses it as it is received refuses it as it was sent
+  unheard_refuses : (refused : Histories) → counts x.proposer m.from m.ballot ≡ false → (e : ReplicaError) → IsHearingRefusal x.proposer m replied.Yes e → IsHearingRefusal x.proposer m (replied.No refused) e
+  unheard_refuses refused uncounted (Clash id) h = absurd (true≢false (sym h.0 ∙ uncounted))
+  unheard_refuses refused uncounted BallotsSpent h = absurd (true≢false (sym h.0 ∙ uncounted))
+  unheard_refuses refused uncounted Memory h = absurd (true≢false (sym h.0 ∙ uncounted))
+  unheard_refuses refused uncounted NoSuchReplica h = absurd h
+  unheard_refuses refused uncounted NoSuchInstance h = absurd h
+  unheard_refuses refused uncounted Full h = absurd h
+  unheard_refuses refused uncounted NoBase h = absurd h
+  unheard_refuses refused uncounted Gap h = absurd h
+
+  body_refuses : (e : ReplicaError) (b : code_body.Body) → IsCarriedBody x m.from m.ballot b → IsBodyRefusal x view m (received_body x m.from m.ballot b) e → IsBodyRefusal x view m (whole_body b) e
+  body_refuses e (body.Offer d) same h = subst (λ u. IsBodyRefusal x view m (Offer u) e) same h
+  body_refuses e body.Yes same h = h
+  body_refuses e (body.No d) same h = go (counts x.proposer m.from m.ballot) refl same h
+    where
+      go : (v : Bool) → counts x.proposer m.from m.ballot ≡ v → IfSome (refusal_over v x.proposer.updates d) (λ t. rebuilt_of t ≡ set_of t.delta)
+          → IsBodyRefusal x view m (with_refused (option_map rebuilt_of (refusal_over v x.proposer.updates d))) e → IsBodyRefusal x view m (No (set_of d)) e
+      go true _ is refuses = subst (λ u. IsBodyRefusal x view m (No u) e) is refuses
+      go false uncounted is refuses = unheard_refuses (set_of d) uncounted e refuses
+  body_refuses e (body.Tell told) same h = h
+
   view_fits : (b : code_body.Body) → FitsViewBody x view m (whole_body b) → FitsViewBody x view m (received_body x m.from m.ballot b)
   view_fits (body.Offer d) h = h
   view_fits body.Yes h = h
@@ -112,6 +136,23 @@ module _ (r : ReplicaState) (c : code.Message) where
       views : (o : Option Instance) → IsSomeAnd o (λ x. FitsViewBody x r.view (whole_of c) (whole_body c.body)) → IsSomeAnd o (λ x. FitsViewBody x r.view (received_in r c) (received_by o))
       views None b = b
       views (Some x) b = view_fits x r.view (whole_of c) c.body b
+
+  pub carried_refusal : IsCarriedIn r c → (e : ReplicaError) → IsReceiveRefusal r (received_in r c) e → IsReceiveRefusal r (whole_of c) e
+  carried_refusal carried = refusal
+    where
+      there : (e : ReplicaError) (o : Option Instance) → IsSomeAnd o (λ x. IsCarried x c) → IsSomeAnd o (λ x. IsBodyRefusal x r.view (received_in r c) (received_by o) e) → IsSomeAnd o (λ x. IsBodyRefusal x r.view (whole_of c) (whole_body c.body) e)
+      there e None a h = h
+      there e (Some x) a h = body_refuses x r.view (whole_of c) e c.body a h
+
+      refusal : (e : ReplicaError) → IsReceiveRefusal r (received_in r c) e → IsReceiveRefusal r (whole_of c) e
+      refusal NoSuchReplica h = h
+      refusal NoSuchInstance h = h
+      refusal Full h = (h.0, there Full (slice_get r.instances c.instance) carried h.1)
+      refusal NoBase h = (h.0, there NoBase (slice_get r.instances c.instance) carried h.1)
+      refusal Gap h = (h.0, there Gap (slice_get r.instances c.instance) carried h.1)
+      refusal (Clash id) h = (h.0, there (Clash id) (slice_get r.instances c.instance) carried h.1)
+      refusal BallotsSpent h = (h.0, there BallotsSpent (slice_get r.instances c.instance) carried h.1)
+      refusal Memory h = (h.0, there Memory (slice_get r.instances c.instance) carried h.1)
 
   pub carried_offers : IsCarriedIn r c → offered_by (received_in r c) ≡ offered_by (whole_of c)
   carried_offers carried = go (slice_get r.instances c.instance) carried

@@ -17,5 +17,5 @@ returns-clause-submissions c g events r i few cap legal known there refused = el
 
 pub returns-clause-deliveries : goal.returns-clause-deliveries
 returns-clause-deliveries c g events k m few cap legal sent id refused =
-    let same : Clash id ≡ Memory = (c.deliveries_fit.ensures g events k m few cap legal sent).1 (Clash id) refused in
+    let same : Clash id ≡ Memory = (c.deliveries_fit.ensures g events k m few cap legal sent).memory (Clash id) refused in
     cc
