@@ -1,9 +1,11 @@
 -- What a prepared change is to a replica: what stands once it is committed, and when it was prepared
 -- from this very replica.
-use Rattle.std.specs.Prelude.{◌≡◌, ℕ, ◌==◌, Bool, false, slice_get, Option, Some, None, option_map, if◌then◌else◌}
+use Rattle.std.specs.Prelude.{◌≡◌, ℕ, ◌==◌, Bool, false, slice_get, Option, Some, None, option_map, unwrap_or, IfSome, if◌then◌else◌}
+use Rattle.la_set.specs.declared.counts.Counts.{Counts}
+use Rattle.la_set.specs.Counts.{counts_of, HasCounts, within}
 use Rattle.la_set.specs.ObjectOps.{ObjectOp}
 use Rattle.la_set.specs.Histories.{Histories}
-use Rattle.la_set.specs.Inclusion.{is_larger}
+use Rattle.la_set.specs.Inclusion.{IsSubset, is_larger}
 use Rattle.la_acceptor.specs.Answer.{accepted_next}
 use Rattle.la_acceptor.specs.declared.reply.Reply.TheVariants as replied
 use Rattle.la_proposer.specs.declared.ballot.Ballot.{Ballot}
@@ -49,11 +51,37 @@ at_after x c = record {
 abbrev pub step_by : Instance → (view : Histories) → Out → Change → Step
 step_by x view out c = step_of out (at_after x c) (view_next view c.view)
 
+-- ## How far the view agrees with the sets of instance 0's ballots
+
+-- two sets have these counts, and the same within them
+pub record AgreeWithin (b : Counts) (s t : Histories) : Type 0 where
+  pub first : HasCounts s b
+  pub second : HasCounts t b
+  pub same : within s b ≡ within t b
+
+-- what a change leaves: the view and the ballot's set have only grown; and where it says how far they
+-- agree, so far they do
+pub record LeavesAgreeing (view : Histories) (x : Instance) (c : Change) : Type 0 where
+  pub view_grows : IsSubset view (view_next view c.view)
+  pub updates_grow : IsSubset x.proposer.updates (proposer_after x.proposer c.proposer).updates
+  pub agreed : IfSome c.agreed (λ b.
+      AgreeWithin b (view_next view c.view) (proposer_after x.proposer c.proposer).updates)
+
+-- it says so where the view becomes the set of the ballot that is learnt: as far as that goes
+abbrev pub SaysWhatIsLearnt : ProposerState → Change → Type 0
+SaysWhatIsLearnt p c =
+    IfSome c.agreed (λ b. (b ≡ counts_of p.updates) × (c.view ≡ Some p.updates))
+
+-- how far they are known to agree, once it is committed
+abbrev pub agreed_next : Counts → (instance : ℕ) → Option Counts → Counts
+agreed_next b i agreed = if i == 0 then unwrap_or agreed b else b
+
 -- ## In a replica
 
--- it was prepared from this very replica: from what stands in its instance
+-- it was prepared from this very replica: from what stands in its instance, and from its view
 abbrev pub IsPreparedFrom : ReplicaState → Change → Type 0
-IsPreparedFrom r c = InInstance r c.instance (λ x. IsProposerFrom x.proposer c.proposer)
+IsPreparedFrom r c = InInstance r c.instance
+    (λ x. IsProposerFrom x.proposer c.proposer × LeavesAgreeing r.view x c)
 
 -- what stands once it is committed; nothing, where there is no such instance
 abbrev pub after_commit : ReplicaState → Change → Option ReplicaState

@@ -25,7 +25,7 @@ ghost use Rattle.la_replica.specs.Refusals.{SparesMessage};
 ghost use Rattle.la_replica.specs.Memory.{IsFreeReply, IsFreeMessage};
 ghost use Rattle.la_replica.specs.Changes.{proposer_after, IsProposerFrom, learnt_next, step_by};
 ghost use Rattle.la_replica.specs.Changes.{candidate, is_taken, learnt_in_view, told_in_view};
-ghost use Rattle.la_replica.specs.Changes.{IsVerdictOn};
+ghost use Rattle.la_replica.specs.Changes.{IsVerdictOn, SaysWhatIsLearnt};
 ghost use Rattle.la_replica.specs.Again.{again_in};
 
 use crate::sender::Sender;
@@ -78,6 +78,7 @@ impl Instance {
             (proposer_after self.now.proposer prepared.1.proposer) sender.now.instance offered
             prepared.0.mail) }
         ensures instance { IfOk result (λ prepared. prepared.1.instance ≡ sender.now.instance) }
+        ensures agreed { IfOk result (λ prepared. prepared.1.agreed ≡ None) }
         ensures room { IfOk result (λ _. submitted self.now.proposer < self.now.proposer.cap) }
         ensures spares { IfOk result (λ _. ¬ SubmissionSpends self.now.proposer) }
         ensures error { IfErr result (IsSubmissionRefusal self.now.proposer) }
@@ -270,6 +271,8 @@ impl Instance {
             (offered_by (lent_message message.entry)) prepared.0.mail) }
         ensures instance { IfOk result (λ prepared.
             prepared.1.instance ≡ message.entry.instance) }
+        ensures agreed { IfOk result (λ prepared.
+            SaysWhatIsLearnt self.now.proposer prepared.1) }
         ensures free { (view : Histories)
             → taken ≡ is_taken view (candidate self.now verdict (lent_message message.entry))
             → IsFreeMessage self.now view (lent_message message.entry) → IsOk result }
@@ -299,6 +302,7 @@ impl Instance {
             AreToldBy p message.entry.instance (counts_of offered.now) prepared.0.mail) }
         ensures instance { IfOk result (λ prepared.
             prepared.1.instance ≡ message.entry.instance) }
+        ensures agreed { IfOk result (λ prepared. prepared.1.agreed ≡ None) }
         ensures free { offered.now ≡ self.now.acceptor → IsOk result }
     {
         let (reply, accepted) = self.acceptor.prepare_offer(offered)?;
@@ -338,6 +342,8 @@ impl Instance {
             (proposer_after self.now.proposer prepared.1.proposer) sender.now.instance offered
             prepared.0.mail) }
         ensures instance { IfOk result (λ prepared. prepared.1.instance ≡ sender.now.instance) }
+        ensures agreed { IfOk result (λ prepared.
+            SaysWhatIsLearnt self.now.proposer prepared.1) }
         ensures free { (view : Histories)
             → taken ≡ is_taken view (learnt_in_view sender.now.instance self.now.proposer verdict)
             → IsFreeReply self.now.proposer (lent_message message.entry)
@@ -353,11 +359,13 @@ impl Instance {
         let mail = sender.mail(alloc, ballot, &heard, &self.proposer, &change)?;
         let learnt = learnt_copy(ballot, &heard)?;
         let view = set_if(taken, self.proposer.updates())?;
+        let agreed = view.as_ref().map(|learnt| learnt.counts());
         let said = Said::from(heard);
         let change = Change {
             proposer: Some(change),
             learnt,
             view,
+            agreed,
             ..Change::nothing(sender.instance)
         };
         Ok((Out { said, mail }, change))
@@ -461,6 +469,7 @@ fn prepare_tell(
     ensures from { IfOk result (λ prepared. prepared.1.proposer ≡ None) }
     ensures told { IfOk result (λ prepared. prepared.0.mail ≡ []) }
     ensures instance { IfOk result (λ prepared. prepared.1.instance ≡ sender.now.instance) }
+    ensures agreed { IfOk result (λ prepared. prepared.1.agreed ≡ None) }
     ensures free { taken ≡ false → IsOk result }
 {
     if !taken {

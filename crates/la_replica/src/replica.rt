@@ -22,6 +22,7 @@ ghost use Rattle.la_replica.specs.Changes.{IsPreparedFrom, after_commit, led, Ar
 ghost use Rattle.la_replica.specs.Changes.{IsVerdictOn, candidate, is_taken};
 ghost use Rattle.la_replica.specs.Again.{again};
 
+use crate::change::agreed_next;
 use crate::instance::Instance;
 use crate::sender::Sender;
 use crate::view::{is_taken, is_taken_fitting};
@@ -42,6 +43,8 @@ pub struct Replica {
     own: u8,
     instances: Vec<Instance>,
     view: UpdateSet,
+    // within which counts the view and the set of instance 0's ballot are known to have the same
+    agreed: Counts,
 }
 
 impl Model for Replica {
@@ -85,6 +88,7 @@ impl Replica {
             own,
             instances,
             view: UpdateSet::new(alloc),
+            agreed: Counts::zero(),
         })
     }
 
@@ -280,9 +284,11 @@ impl Replica {
             proposer,
             learnt,
             view,
+            agreed,
         } = change;
         let at = &mut self.instances[instance as usize];
         at.commit(accepted, proposer, learnt);
+        self.agreed = agreed_next(self.agreed, instance, agreed);
         if let Some(view) = view {
             self.view = view;
         }

@@ -1,10 +1,18 @@
-use Rattle.std.proofs.Common.{◌≡◌, ◌<◌, slice_get, Some, rules}
+use Rattle.std.proofs.Common.{◌≡◌, ◌<◌, slice_get, Some, subst, rules}
 use Rattle.la_proposer.specs.Majority.{votes_of}
 use Rattle.la_proposer.specs.Refusals.{SubmissionSpends}
-use Rattle.la_proposer.specs.ProposerState.{submitted}
+use Rattle.la_proposer.specs.ProposerState.{submitted, op_on}
 use Rattle.la_replica.specs.ReplicaState.{ReplicaState}
-use Rattle.la_replica.proofs.Receiving.{there_now, ok_there, submit_refused, submission_told}
+use Rattle.la_replica.specs.Invariant.{IsReplicaState}
+use Rattle.la_replica.proofs.Receiving.{there_now, ok_there, submit_refused, submission_told, submission_leads}
 use Rattle.la_replica.proofs.replica.Replica.prepare_submission.Goals as goal
+
+pub returns-in-Some-clause-leads : goal.returns-in-Some-clause-leads
+returns-in-Some-clause-leads c =
+    let m : ReplicaState = record { votes = votes_of c.self.inside.votes; own = c.self.inside.own; instances = c.self.inside.instances.items; view = c.self.inside.view } in
+    let r = c.args.self.now in let i = c.args.instance in let x = c.in-Some.at.now in
+    let there : slice_get r.instances i ≡ Some x = there_now m r c.self.view_is i x (search rules) (search rules) in
+    submission_leads r i x (op_on c.args.object c.args.op) (subst IsReplicaState c.self.view_is c.self.invariant.0) there c.prepare_submission.result (search rules) c.prepare_submission.ensures.from c.prepare_submission.ensures.agreed (search rules)
 
 pub returns-in-Some-clause-told : goal.returns-in-Some-clause-told
 returns-in-Some-clause-told c =
