@@ -255,9 +255,9 @@ impl Proposer {
     }
 
     /// The same of a refused set that is known to have within these counts what the last ballot's set
-    /// has, as one that was rebuilt over that has within its delta's base: with the ballot's set it is
-    /// compared only beyond them. The cost is that, and that of comparing it with each refused set
-    /// that has counted.
+    /// has, as one that was rebuilt over that has within its delta's base: only what comes beyond them
+    /// is compared, with the ballot's set and with each refused set that has counted, and the cost is
+    /// that.
     pub fn admit_reply_beyond(
         &self,
         from: u8,

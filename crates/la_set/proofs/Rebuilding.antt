@@ -1,5 +1,5 @@
 -- What a delta stands for over a set.
-use Rattle.std.proofs.Common.{◌≡◌, ℕ, zero, suc, ◌<◌, ◌≤◌, List, [], ◌∷◌, ◌++◌, length, take, Some, refl, ap, sym, ◌∙◌, subst, arith, inl, inr}
+use Rattle.std.proofs.Common.{◌≡◌, ℕ, zero, suc, ◌<◌, ◌≤◌, List, [], ◌∷◌, ◌++◌, length, take, min, Some, refl, ap, sym, ◌∙◌, subst, arith, inl, inr}
 use Rattle.std.specs.List.{slice_get}
 use Rattle.std.proofs.lemmas.List.{length-append, take-append-le, take-take}
 use Rattle.std.proofs.lemmas.Bool.{cases_eq}
@@ -10,14 +10,14 @@ use Rattle.la_set.specs.ObjectOps.{ObjectOp, object_op_of}
 use Rattle.la_set.specs.Agreement.{AgreeBelow}
 use Rattle.la_set.specs.Histories.{Histories, history, count, numbered, push, IsNext, IsWithinLimit}
 use Rattle.la_set.specs.Join.{IsCompatible}
-use Rattle.la_set.specs.Counts.{count_in, zero_counts, HasCounts, within}
+use Rattle.la_set.specs.Counts.{count_in, from_counts, zero_counts, counts_of, HasCounts, within}
 use Rattle.la_set.specs.Deltas.{DeltaState, delta_over, over, pushed, rebuilt, IsOver, AreNext, AgreesWithin}
 use Rattle.la_set.proofs.Pushing.{pushed-PushesTo, next-PushesTo}
 use Rattle.la_set.proofs.Overs.{over-pushes}
 use Rattle.la_set.proofs.lemmas.SetHistories.{same_histories, history-with_same, history-with_other}
 use Rattle.la_set.proofs.lemmas.NumberedLists.{take-numbered}
 use Rattle.la_set.proofs.lemmas.Inclusions.{compatible-agree}
-use Rattle.la_set.proofs.lemmas.Counting.{history-within, count-within, count_in-from_counts}
+use Rattle.la_set.proofs.lemmas.Counting.{history-within, count-within, count_in-from_counts, count_in-counts_of}
 
 module _ (x s : Histories) (base : Counts) (mine : HasCounts x base) (theirs : HasCounts s base) (few : IsWithinLimit s) (same : within x base ≡ within s base) where
   -- a set's delta stands for the set, over each that has the base and the same within it
@@ -98,3 +98,29 @@ within-agree a b c same r k x y lt in_a in_b =
     ∙ ap (numbered r 1) (sym (history-within a c r) ∙ ap (λ s. history s r) same ∙ history-within b c r)
     ∙ sym (take-numbered r 1 n (history b r)) in
     same_Some x y (sym (reads-front n (numbered r 1 (history a r)) k lt ∙ in_a) ∙ ap (λ us. slice_get us k) fronts_are ∙ reads-front n (numbered r 1 (history b r)) k lt ∙ in_b)
+
+-- the smaller counts of two, as `Counts::min` answers them
+abbrev pub min_counts : Counts → Counts → Counts
+min_counts c d = from_counts (λ r. min (count_in c r) (count_in d r))
+
+-- of these counts so many as both sets have
+abbrev pub common : Counts → Histories → Histories → Counts
+common base s a = min_counts (min_counts base (counts_of s)) (counts_of a)
+
+common-least : (base : Counts) (s a : Histories) (r : ℕ) → r < 8 → count_in (common base s a) r ≡ min (min (count_in base r) (count s r)) (count a r)
+common-least base s a r lt =
+    count_in-from_counts (λ q. min (count_in (min_counts base (counts_of s)) q) (count_in (counts_of a) q)) r lt
+    ∙ ap (λ n. min n (count_in (counts_of a) r)) (count_in-from_counts (λ q. min (count_in base q) (count_in (counts_of s) q)) r lt ∙ ap (min (count_in base r)) (count_in-counts_of s r))
+    ∙ ap (min (min (count_in base r) (count s r))) (count_in-counts_of a r)
+
+-- what two sets have of a third is the same, so far as both have it
+pub within-common : (s a b : Histories) (base : Counts) → IsCompatible s a → within s base ≡ within b base → within a (common base s a) ≡ within b (common base s a)
+within-common s a b base one same = same_histories _ _ (λ r lt.
+    let c = common base s a in let n = count_in c r in let m = count_in base r in
+    let few = common-least base s a r lt in
+    history-within a c r
+    ∙ fronts n (history a r) (history s r) (omega (arith, few)) (omega (arith, few)) (λ k d e in_a in_s. sym (compatible-agree s a one r k e d in_s in_a))
+    ∙ sym (take-take n m (history s r) (omega (arith, few)))
+    ∙ ap (take n) (sym (history-within s base r) ∙ ap (λ t. history t r) same ∙ history-within b base r)
+    ∙ take-take n m (history b r) (omega (arith, few))
+    ∙ sym (history-within b c r))
