@@ -1,11 +1,12 @@
 ghost use Rattle.std.specs.Prelude.{◌≡◌, ◌≢◌, IsOk, IfOk, IfErr, OnOk, OnErr};
 ghost use Rattle.la_set.specs.Histories.{Histories, empty};
 ghost use Rattle.la_set.specs.Join.{IsCompatible, join};
+ghost use Rattle.la_set.specs.Counts.{within};
 ghost use Rattle.la_acceptor.specs.Answer.{answer, accepted_next};
 ghost use Rattle.la_acceptor.specs.Refusals.{IsOfferRefusal};
 
 use crate::{AcceptorError, Reply};
-use la_set::UpdateSet;
+use la_set::{Counts, UpdateSet};
 use std::alloc::{AllocError, Global};
 use std::marker::Model;
 
@@ -81,7 +82,19 @@ impl Acceptor {
         ensures error { IfErr result (IsOfferRefusal self.now offered.now) }
         ensures memory { result ≢ Err AcceptorError.Memory }
     {
-        match self.accepted.first_clash(offered) {
+        self.admit_offer_beyond(offered, Counts::zero())
+    }
+
+    /// The same of an offer that is known to have within these counts what is accepted, as one that
+    /// was rebuilt over the accepted set has within its delta's base: only what both have beyond them
+    /// is compared. The cost is that of [`UpdateSet::first_clash_beyond`].
+    pub fn admit_offer_beyond(&self, offered: &UpdateSet, base: Counts) -> Result<(), AcceptorError>
+        requires { within self.now base ≡ within offered.now base }
+        ensures compatible { OnOk result (IsCompatible self.now offered.now) }
+        ensures error { IfErr result (IsOfferRefusal self.now offered.now) }
+        ensures memory { result ≢ Err AcceptorError.Memory }
+    {
+        match self.accepted.first_clash_beyond(offered, base) {
             Some(id) => Err(AcceptorError::Clash(id)),
             None => Ok(()),
         }

@@ -1,6 +1,7 @@
 ghost use Rattle.std.specs.Prelude.{◌≡◌, ◌≢◌, true, false, ◌<◌, ◌≤◌, length, IfOk, IfErr, OnOk};
-ghost use Rattle.std.specs.Prelude.{OnErr};
+ghost use Rattle.std.specs.Prelude.{OnErr, IfSome, option_copied};
 ghost use Rattle.la_set.specs.Histories.{empty};
+ghost use Rattle.la_set.specs.Counts.{within};
 ghost use Rattle.la_proposer.specs.Majority.{votes_of};
 ghost use Rattle.la_proposer.specs.Tally.{reply_carrying, has_counted};
 ghost use Rattle.la_proposer.specs.ProposerState.{start, submitted, op_on, status_of};
@@ -250,13 +251,39 @@ impl Proposer {
             (IsReplyRefusal self.now from ballot (reply_carrying refusal.entry)) }
         ensures memory { result ≢ Err ProposerError.Memory }
     {
+        self.admit_reply_beyond(from, ballot, refusal, Counts::zero())
+    }
+
+    /// The same of a refused set that is known to have within these counts what the last ballot's set
+    /// has, as one that was rebuilt over that has within its delta's base: only what comes beyond them
+    /// is compared, with the ballot's set and with each refused set that has counted, and the cost is
+    /// that.
+    pub fn admit_reply_beyond(
+        &self,
+        from: u8,
+        ballot: u32,
+        refusal: Option<&UpdateSet>,
+        base: Counts,
+    ) -> Result<Option<Verdict>, ProposerError>
+        requires { IfSome (option_copied refusal) (λ refused.
+            within self.now.updates base ≡ within refused base) }
+        ensures verdict { IfOk result
+            (IsVerdictOf self.now from ballot (reply_carrying refusal.entry)) }
+        ensures in_group { OnOk result (from < length self.now.votes) }
+        ensures fits { OnOk result (ReplyFits self.now from ballot (reply_carrying refusal.entry)) }
+        ensures spares { OnOk result
+            (ReplySpares self.now from ballot (reply_carrying refusal.entry)) }
+        ensures error { IfErr result
+            (IsReplyRefusal self.now from ballot (reply_carrying refusal.entry)) }
+        ensures memory { result ≢ Err ProposerError.Memory }
+    {
         if from as usize >= self.votes.len() {
             return Err(ProposerError::NoSuchReplica);
         }
         let Some(verdict) = self.verdict(from, ballot, refusal) else {
             return Ok(None);
         };
-        if let Some(id) = self.clash(refusal) {
+        if let Some(id) = self.clash(refusal, base) {
             return Err(ProposerError::Clash(id));
         }
         if self.opens_by(verdict) && self.last.number >= MAX_BALLOTS {

@@ -7,14 +7,15 @@ ghost use Rattle.la_set.specs.Inclusion.{IsSubset, is_subset, IsOrderOf};
 ghost use Rattle.la_set.specs.Inclusion.{AreComparable, is_larger, larger_of};
 ghost use Rattle.la_set.specs.Join.{HasNoMore, IsCompatible, IsLeastClash, join, joined};
 ghost use Rattle.la_set.specs.Difference.{beyond, unmatched};
+ghost use Rattle.la_set.specs.Counts.{within};
 ghost use Rattle.la_set.specs.declared.set.TheConstants.{MAX_NUMBER};
 ghost use Rattle.la_set.specs.Links.{lent_items};
 ghost use Rattle.la_set.specs.Refusals.{IsUnionRefusal};
 
 use crate::history::{
-    History, Lent, begins_with, first, first_difference, item_at, len_of, step_back,
+    History, Lent, begins_with, first, first_difference_from, item_at, len_of, step_back,
 };
-use crate::{REPLICAS, SetError, Update, UpdateId, UpdateSet, Updates};
+use crate::{Counts, REPLICAS, SetError, Update, UpdateId, UpdateSet, Updates};
 use std::alloc::{AllocError, Global};
 use std::cmp::Ordering;
 
@@ -154,9 +155,21 @@ impl UpdateSet {
         ensures { MatchOption result (IsCompatible self.now other.now)
             (λ id. IsLeastClash self.now other.now id) }
     {
+        self.first_clash_beyond(other, Counts::zero())
+    }
+
+    /// The same where the two are known to have the same within these counts: only what both have
+    /// beyond them is compared, and the cost is that.
+    pub fn first_clash_beyond(&self, other: &UpdateSet, base: Counts) -> Option<UpdateId>
+        requires { within self.now base ≡ within other.now base }
+        ensures { MatchOption result (IsCompatible self.now other.now)
+            (λ id. IsLeastClash self.now other.now id) }
+    {
         for replica in 0..REPLICAS {
             let mine = self.history_of(replica);
-            if let Some(place) = first_difference(mine, other.history_of(replica)) {
+            let theirs = other.history_of(replica);
+            let known = base.of(replica) as usize;
+            if let Some(place) = first_difference_from(mine, theirs, known) {
                 let number = place as u32 + 1;
                 return Some(UpdateId { replica, number });
             }

@@ -181,11 +181,26 @@ pub fn first_difference<T: Same>(one: Lent<'_, T>, other: Lent<'_, T>) -> Option
     ensures { MatchOption result (Agree (lent_items one.entry) (lent_items other.entry))
         (λ place. IsFirstDifference (lent_items one.entry) (lent_items other.entry) place) }
 {
+    first_difference_from(one, other, 0)
+}
+
+/// The same of lists that are known to have the same at the places below this one: they are compared
+/// from it on. The cost is linear in what the shorter list has from there on, and logarithmic in how
+/// much longer the other is.
+pub fn first_difference_from<T: Same>(
+    one: Lent<'_, T>,
+    other: Lent<'_, T>,
+    from: usize,
+) -> Option<usize>
+    requires { AgreeBelow (lent_items one) (lent_items other) from }
+    ensures { MatchOption result (Agree (lent_items one.entry) (lent_items other.entry))
+        (λ place. IsFirstDifference (lent_items one.entry) (lent_items other.entry) place) }
+{
     let mut left = len_of(one).min(len_of(other));
     let mut mine = first(one, left);
     let mut theirs = first(other, left);
     let mut found = None;
-    while left > 0 {
+    while left > from {
         left -= 1;
         let (ours, its) = (step_back(mine), step_back(theirs));
         if !ours.item.same(its.item) {

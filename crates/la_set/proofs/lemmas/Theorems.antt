@@ -5,3 +5,4 @@ pub use Rattle.la_set.proofs.lemmas.Decisions.{has_update-Decides}
 pub use Rattle.la_set.proofs.lemmas.Joins.{contains-join_cases, contains-join, subset-join_left}
 pub use Rattle.la_set.proofs.lemmas.SetHistories.{history-with_same, history-with_other}
 pub use Rattle.la_set.proofs.Rebuilding.{rebuilt-over, stands-over, same-within}
+pub use Rattle.la_set.proofs.Rebuilding.{rebuilt-within, within-zero, min_counts, common, within-common}

@@ -3,8 +3,8 @@ use Rattle.std.proofs.lemmas.Bool.{both_ways}
 use Rattle.std.specs.Option.{option_copied}
 use Rattle.la_set.specs.Links.{items_of}
 use Rattle.la_set.proofs.Walks.{found_same, found_different, found_all, last_is}
-use Rattle.la_set.proofs.history.first_difference.Goals as goal
-use Rattle.la_set.proofs.history.first_difference.Goals.{then-not-same, else-not-same}
+use Rattle.la_set.proofs.history.first_difference_from.Goals as goal
+use Rattle.la_set.proofs.history.first_difference_from.Goals.{then-not-same, else-not-same}
 
 pub loop-left-preserved : goal.loop-left-preserved
 loop-left-preserved g c =
@@ -27,4 +27,4 @@ loop-left-preserved g c =
     }
 
 pub returns : goal.returns
-returns g c = found_all (items_of (option_copied c.args.one)) (items_of (option_copied c.args.other)) 0 c.loop-left.left c.loop-left.found (λ k x y lt. absurd (omega (arith, lt))) (omega arith) c.loop-left.invariant.found
+returns g c = found_all (items_of (option_copied c.args.one)) (items_of (option_copied c.args.other)) c.args.from c.loop-left.left c.loop-left.found c.requires (omega arith) c.loop-left.invariant.found

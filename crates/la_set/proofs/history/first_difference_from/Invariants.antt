@@ -2,7 +2,7 @@ use Rattle.std.proofs.Common.{◌≡◌, ◌≤◌, length, take}
 use Rattle.std.specs.Option.{option_copied}
 use Rattle.la_set.specs.Links.{items_of}
 use Rattle.la_set.proofs.Walks.{FoundFrom}
-use Rattle.la_set.proofs.history.first_difference.Given as goal
+use Rattle.la_set.proofs.history.first_difference_from.Given as goal
 
 abbrev pub invariant-loop-left : goal.invariant-loop-left
 invariant-loop-left g l = record {
