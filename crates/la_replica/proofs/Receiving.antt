@@ -70,7 +70,7 @@ told_after s x c offered mail there told after e =
     let stands : slice_get put.instances c.instance ≡ Some (at_after x c) = get_put s.instances c.instance x (at_after x c) there in
     subst (λ r. AreToldFrom r c.instance offered mail) (sym is)
     (All-weaker (IsToldBy (proposer_after x.proposer c.proposer) c.instance offered) (λ m. (m.instance ≡ c.instance) × IsToldIn put offered m)
-     (λ m t. (t.0, told_there put c.instance (at_after x c) offered stands m t)) mail told)
+    (λ m t. (t.0, told_there put c.instance (at_after x c) offered stands m t)) mail told)
 
 pub submission_told : {E : Type 0} (r : ReplicaState) (i : ℕ) (x : Instance) → slice_get r.instances i ≡ Some x → (result : Result (Out × Change) E) → IfOk result (λ prepared. prepared.1.instance ≡ i)
     → ((offered : Counts) → IfOk result (λ prepared. AreToldBy (proposer_after x.proposer prepared.1.proposer) i offered prepared.0.mail)) → IfOk result (λ prepared. AreToldThere r i prepared.1 prepared.0.mail)

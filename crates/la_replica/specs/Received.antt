@@ -2,6 +2,8 @@
 use Rattle.std.specs.Prelude.{◌≡◌, ℕ, Bool, true, false, slice_get, Option, Some, None, option_map, unwrap_or, IfSome, IsSomeAnd}
 use Rattle.la_set.specs.Histories.{Histories}
 use Rattle.la_set.specs.declared.error.SetError.{SetError}
+use Rattle.la_set.specs.declared.counts.Counts.{Counts}
+use Rattle.la_set.specs.Counts.{zero_counts, within}
 use Rattle.la_set.specs.Deltas.{DeltaState, rebuilt, IsOver, AgreesWithin, IsRebuildRefusal}
 use Rattle.la_proposer.specs.ProposerState.{counts}
 use Rattle.la_replica.specs.declared.message.Message as code
@@ -100,6 +102,22 @@ StandsIn r m = InInstance r m.instance (λ x. StandsAt x m)
 
 abbrev pub AgreesIn : ReplicaState → code.Message → Type 0
 AgreesIn r m = InInstance r m.instance (λ x. AgreesAt x m)
+
+-- ## What is known of it
+
+-- the base of a message's delta; of one that has none nothing is known
+abbrev pub base_in : code_body.Body → Counts
+base_in (body.Offer d) = d.base
+base_in body.Yes = zero_counts
+base_in (body.No d) = d.base
+base_in (body.Tell told) = zero_counts
+
+-- within these counts an offer has what is accepted, and a refusal what the ballot's set has
+abbrev pub IsKnownWithin : Instance → Counts → Body → Type 0
+IsKnownWithin x b (Offer s) = within x.acceptor b ≡ within s b
+IsKnownWithin x b Yes = Unit {0}
+IsKnownWithin x b (No s) = within x.proposer.updates b ≡ within s b
+IsKnownWithin x b (Tell s) = Unit {0}
 
 -- ## What it is where it came from
 

@@ -14,7 +14,7 @@ ghost use Rattle.la_replica.specs.declared.instance.Instance.{Instance as Instan
 ghost use Rattle.la_replica.specs.declared.out.Said.TheVariants.{Answered};
 ghost use Rattle.la_replica.specs.Whole.{lent_message, lent_body, whole_out, Adds};
 ghost use Rattle.la_replica.specs.Received.{lent_told, told_at, rebuilt_at, made_at, received_at};
-ghost use Rattle.la_replica.specs.Received.{StandsAt, AgreesAt, IsUnbuilt, IsLentAt};
+ghost use Rattle.la_replica.specs.Received.{StandsAt, AgreesAt, IsUnbuilt, IsLentAt, IsKnownWithin};
 ghost use Rattle.la_replica.specs.Bases.{offered_by, AreToldBy, AddsTold};
 ghost use Rattle.la_replica.specs.Messages.{reply_of, reply_to};
 ghost use Rattle.la_replica.specs.Steps.{fresh, submits, answers, hears, is_told, receives};
@@ -171,9 +171,14 @@ impl Instance {
     }
 
     // Whether what a message to this instance asks for would be done, memory apart; and where it is
-    // a reply, the verdict on it.
-    pub fn admit_message(&self, message: Whole<'_>) -> Result<Option<Verdict>, ReplicaError>
-        requires { message.from < length self.now.proposer.votes }
+    // a reply, the verdict on it. Its set is known to have within these counts what is here.
+    pub fn admit_message(
+        &self,
+        message: Whole<'_>,
+        known: Counts,
+    ) -> Result<Option<Verdict>, ReplicaError>
+        requires group { message.from < length self.now.proposer.votes }
+        requires known { IsKnownWithin self.now known (lent_body message.body) }
         ensures verdict { IfOk result (λ verdict. IsVerdictOn self.now (lent_message message.entry)
             verdict (lent_body message.entry.body)) }
         ensures fits { IfOk result (λ _. FitsMessage self.now (lent_message message.entry)) }
@@ -184,17 +189,22 @@ impl Instance {
     {
         match message.body {
             WholeBody::Offer(offered) => {
-                self.acceptor.admit_offer(offered)?;
+                self.acceptor.admit_offer_beyond(offered, known)?;
                 Ok(None)
             }
-            WholeBody::Yes | WholeBody::No(_) => self.admit_reply(message),
+            WholeBody::Yes | WholeBody::No(_) => self.admit_reply(message, known),
             WholeBody::Tell(_) => Ok(None),
         }
     }
 
     // Whether a reply would be heard, memory apart, and the verdict on it.
-    fn admit_reply(&self, message: Whole<'_>) -> Result<Option<Verdict>, ReplicaError>
-        requires { message.from < length self.now.proposer.votes }
+    fn admit_reply(
+        &self,
+        message: Whole<'_>,
+        known: Counts,
+    ) -> Result<Option<Verdict>, ReplicaError>
+        requires group { message.from < length self.now.proposer.votes }
+        requires known { IsKnownWithin self.now known (lent_body message.body) }
         ensures verdict { IfOk result (IsVerdictOf self.now.proposer message.entry.from
             message.entry.ballot (reply_of (lent_message message.entry))) }
         ensures fits { IfOk result (λ _.
@@ -206,7 +216,11 @@ impl Instance {
         ensures memory { result ≢ Err ReplicaError.Memory }
     {
         let (from, ballot) = (message.from, message.ballot);
-        Ok(self.proposer.admit_reply(from, ballot, message.refusal())?)
+        let refusal = message.refusal();
+        Ok(
+            self.proposer
+                .admit_reply_beyond(from, ballot, refusal, known)?,
+        )
     }
 
     // The verdict on a message, where it is a reply.

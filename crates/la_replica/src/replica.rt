@@ -1,13 +1,14 @@
 ghost use Rattle.std.specs.Prelude.{◌≡◌, ◌≢◌, ◌+◌, ◌*◌, ◌<◌, ◌≤◌, length, slice_get, ℕ};
-ghost use Rattle.std.specs.Prelude.{[], true, Some, None, IsOk, IfOk, IfErr, OnOk, OnErr};
+ghost use Rattle.std.specs.Prelude.{[], true, Some, None, IsOk, IfOk, IfErr, IfSome, OnOk, OnErr};
 ghost use Rattle.std.specs.Option.{option_copied};
+ghost use Rattle.la_set.specs.Counts.{within};
 ghost use Rattle.la_set.specs.Inclusion.{IsSubset};
 ghost use Rattle.la_proposer.specs.declared.proposer.TheConstants.{MAX_CAP};
 ghost use Rattle.la_proposer.specs.Majority.{votes_of};
 ghost use Rattle.la_proposer.specs.ProposerState.{op_on};
 ghost use Rattle.la_replica.specs.Whole.{lent_message, lent_body, whole_out, whole_mail};
 ghost use Rattle.la_replica.specs.Received.{received_in, rebuilt_in, StandsIn, AgreesIn};
-ghost use Rattle.la_replica.specs.Received.{made_at, IsLentIn, IsNotToldIn};
+ghost use Rattle.la_replica.specs.Received.{made_at, IsLentIn, IsNotToldIn, IsKnownWithin};
 ghost use Rattle.la_replica.specs.Bases.{offered_by, AreToldIn, AreToldFrom, AreToldAfter};
 ghost use Rattle.la_replica.specs.Bases.{AreToldThere};
 ghost use Rattle.la_replica.specs.ReplicaState.{ReplicaState, start, submits, receives, sender_of};
@@ -26,7 +27,7 @@ use crate::change::agreed_next;
 use crate::instance::Instance;
 use crate::sender::Sender;
 use crate::view::{is_taken, is_taken_fitting};
-use crate::whole::Whole;
+use crate::whole::{Whole, WholeBody};
 use crate::{Change, Mail, Message, Out, ReplicaError};
 use la_commit::MAX_COMMITS;
 use la_proposer::{Verdict, Votes};
@@ -239,8 +240,9 @@ impl Replica {
     {
         let set = self.rebuilt(message)?;
         let whole = Whole::of(message, set.as_ref());
-        let verdict = self.admit_message(whole)?;
-        let taken = is_taken(&self.view, self.candidate(verdict, whole));
+        let verdict = self.admit_message(whole, message.body.base())?;
+        let known = self.known(verdict, whole);
+        let taken = is_taken(&self.view, self.candidate(verdict, whole), known);
         Ok(self.prepare_as(whole, verdict, taken)?)
     }
 
@@ -347,10 +349,16 @@ impl Replica {
     }
 
     // Whether a message to this replica would be received, memory apart, and the verdict on it, where
-    // it is a reply.
-    fn admit_message(&self, message: Whole<'_>) -> Result<Option<Verdict>, ReplicaError>
+    // it is a reply. Its set is known to have within these counts what is here.
+    fn admit_message(
+        &self,
+        message: Whole<'_>,
+        known: Counts,
+    ) -> Result<Option<Verdict>, ReplicaError>
         requires addressed { IsFor self.now (lent_message message) }
         requires there { message.instance < length self.now.instances }
+        requires known { InInstance self.now message.instance
+            (λ x. IsKnownWithin x known (lent_body message.body)) }
         ensures verdict { IfOk result (λ verdict. InInstance self.now message.entry.instance
             (λ x. IsVerdictOn x (lent_message message.entry) verdict
             (lent_body message.entry.body))) }
@@ -360,7 +368,7 @@ impl Replica {
         ensures error { IfErr result (IsReceiveRefusal self.now (lent_message message.entry)) }
         ensures memory { result ≢ Err ReplicaError.Memory }
     {
-        self.instances[message.instance as usize].admit_message(message)
+        self.instances[message.instance as usize].admit_message(message, known)
     }
 
     // Prepares to receive a message that fits all that the replica knows.
@@ -400,6 +408,20 @@ impl Replica {
             option_copied result ≡ candidate x verdict (lent_message message.entry)) }
     {
         self.instances[message.instance as usize].candidate(verdict, message)
+    }
+
+    // Within which counts the view is known to have what the candidate has: a set that is learnt is
+    // that of the ballot.
+    fn known(&self, verdict: Option<Verdict>, message: Whole<'_>) -> Counts
+        requires { message.instance < length self.now.instances }
+        ensures { InInstance self.now message.entry.instance (λ x.
+            IfSome (candidate x verdict (lent_message message.entry)) (λ s.
+            within self.now.view result ≡ within s result)) }
+    {
+        match (message.body, verdict) {
+            (WholeBody::Yes | WholeBody::No(_), Some(Verdict::Learns)) => self.agreed,
+            _ => Counts::zero(),
+        }
     }
 
     // Prepares what an admitted message asks for, with this verdict, and by which the view is taken

@@ -26,7 +26,16 @@ impl UpdateSet {
         ensures subset { IsTrue result ↔ IsSubset other.now self.now }
         ensures value { result ≡ is_subset other.now self.now }
     {
-        other.has_no_more(self) && self.agrees(other)
+        self.contains_beyond(other, Counts::zero())
+    }
+
+    // The same where the two are known to have the same within these counts.
+    fn contains_beyond(&self, other: &UpdateSet, base: Counts) -> bool
+        requires { within self.now base ≡ within other.now base }
+        ensures subset { IsTrue result ↔ IsSubset other.now self.now }
+        ensures value { result ≡ is_subset other.now self.now }
+    {
+        other.has_no_more(self) && self.agrees_beyond(other, base)
     }
 
     /// Whether the two sets have the same updates, at the cost of [`UpdateSet::contains_all`].
@@ -70,7 +79,16 @@ impl UpdateSet {
     pub fn is_larger(&self, other: &UpdateSet) -> bool
         ensures { result ≡ is_larger other.now self.now }
     {
-        self.contains_all(other) && !self.has_no_more(other)
+        self.is_larger_beyond(other, Counts::zero())
+    }
+
+    /// The same where the two are known to have the same within these counts: only what both have
+    /// beyond them is compared, and the cost is that.
+    pub fn is_larger_beyond(&self, other: &UpdateSet, base: Counts) -> bool
+        requires { within self.now base ≡ within other.now base }
+        ensures { result ≡ is_larger other.now self.now }
+    {
+        self.contains_beyond(other, base) && !self.has_no_more(other)
     }
 
     /// The same where no id has two updates in the two: by the counts alone, at constant cost.
@@ -147,6 +165,14 @@ impl UpdateSet {
         ensures { IsTrue result ↔ IsCompatible self.now other.now }
     {
         self.first_clash(other).is_none()
+    }
+
+    // The same where the two are known to have the same within these counts.
+    fn agrees_beyond(&self, other: &UpdateSet, base: Counts) -> bool
+        requires { within self.now base ≡ within other.now base }
+        ensures { IsTrue result ↔ IsCompatible self.now other.now }
+    {
+        self.first_clash_beyond(other, base).is_none()
     }
 
     /// The least id that has different updates in the two sets, or `None` where no id has. The cost
