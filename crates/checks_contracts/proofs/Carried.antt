@@ -98,8 +98,8 @@ receipts_agree offered x y (Ok r) (Err e) m n same h k told also = tt
 receipts_agree offered x y (Err d) b m n same h k told also = tt
 
 -- what is sent once more is one
-pub mails_agree : {E : Type 0} (r : ReplicaState) (offered : Counts) (a b : Result (List code.Message) E) {ms : List Message} → IfOk a (λ m. whole_mail m ≡ ms) → IfOk b (λ m. whole_mail m ≡ ms)
+pub mails_agree : {E : Type 0} (r : ReplicaState) (offered : Counts) (ms : List Message) (a b : Result (List code.Message) E) → IfOk a (λ m. whole_mail m ≡ ms) → IfOk b (λ m. whole_mail m ≡ ms)
     → IfOk a (AreToldIn r offered) → IfOk b (AreToldIn r offered) → IfOk a (λ m. IfOk b (λ n. m ≡ n))
-mails_agree r offered (Ok m) (Ok n) h k told also = mail_once r offered m n told also (h ∙ sym k)
-mails_agree r offered (Ok m) (Err e) h k told also = tt
-mails_agree r offered (Err d) b h k told also = tt
+mails_agree r offered ms (Ok m) (Ok n) h k told also = mail_once r offered m n told also (h ∙ sym k)
+mails_agree r offered ms (Ok m) (Err e) h k told also = tt
+mails_agree r offered ms (Err d) b h k told also = tt

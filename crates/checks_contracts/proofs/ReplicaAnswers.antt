@@ -262,8 +262,8 @@ module _ (r : ReplicaState) (c : code.Message) where
   refused_once : StandsIn r c → IsReceivable r told × ReceivingSpares r told → (e : ReplicaError) → IsReceiptRefusal r c e → e ≡ Memory
   refused_once stands fits NoSuchReplica h = fitting_message r told NoSuchReplica fits h
   refused_once stands fits NoSuchInstance h = fitting_message r told NoSuchInstance fits h
-  refused_once stands fits NoBase h = absurd (unbuilt_or_stands {NoBase} (record { reason = set_error.NoBase; not_memory = no_base; for_this = h.0; unbuilt = h.1; is = refl }) stands)
-  refused_once stands fits Gap h = absurd (unbuilt_or_stands {Gap} (record { reason = set_error.Gap; not_memory = gap; for_this = h.0; unbuilt = h.1; is = refl }) stands)
+  refused_once stands fits NoBase h = absurd (unbuilt_or_stands {e = NoBase} (record { reason = set_error.NoBase; not_memory = no_base; for_this = h.0; unbuilt = h.1; is = refl }) stands)
+  refused_once stands fits Gap h = absurd (unbuilt_or_stands {e = Gap} (record { reason = set_error.Gap; not_memory = gap; for_this = h.0; unbuilt = h.1; is = refl }) stands)
   refused_once stands fits Full h = fitting_message r told Full fits h.1
   refused_once stands fits (Clash id) h = fitting_message r told (Clash id) fits h.1
   refused_once stands fits BallotsSpent h = fitting_message r told BallotsSpent fits h.1

@@ -196,7 +196,9 @@ impl Replica {
     /// succeed.
     ///
     /// It is [`Replica::prepare`] and then [`Replica::commit`]. The cost is that of what the message
-    /// carries, and of comparing the sets at hand from where they differ in memory.
+    /// carries: an offer and a refusal are compared with what is here beyond their base, and a told
+    /// set with the view. A set that is learnt is compared with the view beyond the last learnt one
+    /// that was taken.
     pub fn receive(&mut self, message: &Message) -> Result<Out, ReplicaError>
         ensures step { IfOk result (λ out. receives self.old (received_in self.old message.now)
             ≡ Some (whole_out out, self.new)) }

@@ -40,7 +40,6 @@ abbrev IsMadeTold : Told → Type 0
 IsMadeTold told = told.delta ≡ delta_over (set_of told.delta) told.delta.base
 
 module _ (told : Told) (made : IsMadeTold told) (h : IsDeliverable told) where
-
   same : within told.over told.delta.base ≡ within (set_of told.delta) told.delta.base
   same = same-within told.over (set_of told.delta) told.delta.base h.mine h.theirs h.fits
 

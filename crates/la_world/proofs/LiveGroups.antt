@@ -245,7 +245,7 @@ module _ (c : Config) (group : LiveGroup) (events : Past) (stands : StandsForEve
         let sides : AllIn (λ (w : Message). (w.from ≡ m.to) × (w.to < 8)) (sent_at (replicas g) x) =
         subst (λ (y : Entry). AllIn (λ (w : Message). (w.from ≡ m.to) × (w.to < 8)) (sent_at (replicas g) y)) (sym (entry_delivers g t number m was))
         (sent_sides (replicas g) m.to (Some m) (receives g t (Some m)) few (λ b h. (placed.opened b h).replica) (λ b h. (placed.learnt b h).replica)
-         (λ n h. let one = same_Some m n h in (ap (λ (z : Message). z.to) (sym one), subst (λ (z : Message). z.from < replicas g) one (legal_between g events stands.led.legal number m was).from))) in
+        (λ n h. let one = same_Some m n h in (ap (λ (z : Message). z.to) (sym one), subst (λ (z : Message). z.from < replicas g) one (legal_between g events stands.led.legal number m was).from))) in
         let offers : offered_by m ≡ offered_to x.delivered = sym (ap offered_to was) in
         told_as g t x m.to mail (carry ∙ ap (λ p. p.0.mail) both) sides
         (subst₂ (λ q counts. AreToldIn q counts mail) (ap (λ p. p.1) both) offers told)

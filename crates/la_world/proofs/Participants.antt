@@ -9,7 +9,7 @@ use Rattle.la_commit.specs.Instances.{is_first_instance, commit_of, second_insta
 use Rattle.la_replica.specs.declared.change.Change.{Change}
 use Rattle.la_replica.specs.declared.out.Said.{Said}
 use Rattle.la_replica.specs.Whole.{Message, Out}
-use Rattle.la_replica.specs.Changes.{IsProposerFrom, view_next, at_after, IsPreparedFrom, after_commit, led}
+use Rattle.la_replica.specs.Changes.{IsProposerFrom, LeavesAgreeing, view_next, at_after, IsPreparedFrom, after_commit, led}
 use Rattle.la_replica.specs.declared.instance.Instance.{Instance}
 use Rattle.la_replica.specs.Steps.{learnt_in}
 use Rattle.la_replica.specs.Refusals.{HasRoom, SubmittingSpares}
@@ -54,7 +54,7 @@ led_is r after out c o step done = step ∙ ap (option_map (λ (s : ReplicaState
 pub leads_on : (r : ReplicaState) (out : Out) (c : Change) → IsPreparedFrom r c → (after : ReplicaState) × (led r out c ≡ Some (out, after))
 leads_on r out c from = go (slice_get r.instances c.instance) from
   where
-    go : (o : Option Instance) → IsSomeAnd o (λ x. IsProposerFrom x.proposer c.proposer)
+    go : (o : Option Instance) → IsSomeAnd o (λ x. IsProposerFrom x.proposer c.proposer × LeavesAgreeing r.view x c)
         → (after : ReplicaState) × (option_map {U = Out × ReplicaState} (λ (s : ReplicaState). (out, s)) (option_map (λ x. with_instance r c.instance (at_after x c) (view_next r.view c.view)) o) ≡ Some (out, after))
     go None h = absurd h
     go (Some x) h = (with_instance r c.instance (at_after x c) (view_next r.view c.view), refl)

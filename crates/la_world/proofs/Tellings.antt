@@ -102,8 +102,10 @@ module _ (g : Group) (x : Entry) (t : Trace) (h : Holds g t) (are : AreAccepted 
   offers_stand : (offered : Counts) (b : Opening) → AllIn (StandsNew (x ∷ t) offered) (offers_for (replicas g) b)
   offers_stand offered b =
       AllIn-map (StandsNew (x ∷ t) offered) (offer_to (sender_for (replicas g) b) (ballot_of b))
-      (λ a. (smaller_right (counts_of (reported (x ∷ t) b.instance b.replica a)) b.updates,
-             smaller_left (reported (x ∷ t) b.instance b.replica a) (accepted (x ∷ t) b.instance a) (counts_of b.updates) (are.reports b.instance b.replica a)))
+      (λ a. (
+        smaller_right (counts_of (reported (x ∷ t) b.instance b.replica a)) b.updates,
+        smaller_left (reported (x ∷ t) b.instance b.replica a) (accepted (x ∷ t) b.instance a) (counts_of b.updates) (are.reports b.instance b.replica a),
+      ))
       (group (replicas g))
 
   next_stands : (offered : Counts) (o : Option Opening) → AllIn (StandsNew (x ∷ t) offered) (offers_for_next (replicas g) o)
@@ -170,7 +172,7 @@ standing_kept g t x step h are =
       messages = AllIn-append (StandsMessage (x ∷ t)) (told (replicas g) t) (told_at (replicas g) x t)
           (AllIn-each (StandsMessage t) (StandsMessage (x ∷ t)) (λ c k. record { whole = k.whole; base = k.base; is = k.is; stands = stands_more x t k.whole k.base k.whole.body k.stands }) (told (replicas g) t) are.messages)
           (AllIn-made (StandsMessage (x ∷ t)) (λ m. told_over (base m) m) (StandsNew (x ∷ t) (offered_to x.delivered)) (λ m k. record { whole = m; base = base m; is = refl; stands = k }) (sent_at (replicas g) x)
-           (new_stand g x t h reports step.was_sent x.event x.delivered x.did refl step.cases));
+          (new_stand g x t h reports step.was_sent x.event x.delivered x.did refl step.cases));
     }
 
 pub standing : (g : Group) (events : List Event) → AreStanding g (trace g events)
@@ -181,11 +183,14 @@ standing g events = always g (AreStanding g) (standing_start g) (standing_kept g
 body_stands : (g : Group) (t : Trace) → Holds g t → (m : Message) (base : Counts) (b : Body) → Stands t m base b → StandsBody t (told_over base m) (told_body base b)
 body_stands g t h m base (Offer s) st = st
 body_stands g t h m base Yes st = tt
-body_stands g t h m base (No s) st = (st.0, λ heeded.
-    let is = counts_is t m (ap (counts t) (sym (told_whole base m)) ∙ heeded) in
-    let last = round t m.instance m.to in
-    let same : st.1.ballot ≡ last = same_number (ballots t m.instance m.to) st.1.ballot last (h.quorum.numbered m.instance m.to) st.1.opened (open_in t m.instance m.to is.0) (st.1.is_number ∙ is.1) in
-    st.1.counts ∙ ap (λ (o : Opening). counts_of o.updates) same)
+body_stands g t h m base (No s) st = (
+  st.0,
+  λ heeded.
+      let is = counts_is t m (ap (counts t) (sym (told_whole base m)) ∙ heeded) in
+      let last = round t m.instance m.to in
+      let same : st.1.ballot ≡ last = same_number (ballots t m.instance m.to) st.1.ballot last (h.quorum.numbered m.instance m.to) st.1.opened (open_in t m.instance m.to is.0) (st.1.is_number ∙ is.1) in
+      st.1.counts ∙ ap (λ (o : Opening). counts_of o.updates) same,
+)
 body_stands g t h m base (Tell s) st = tt
 
 pub told_messages_stand : ToldMessagesStand

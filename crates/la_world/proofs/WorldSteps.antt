@@ -267,7 +267,7 @@ module _ (w : World) (events : List Event) (stands : StandsFor w events) where
             }));
         sides = subst (λ (y : Entry). AllIn (λ (n : Message). (n.from ≡ m.to) × (n.to < 8)) (sent_at (replicas g) y)) (sym (entry_delivers g t k v is))
             (sent_sides (replicas g) m.to (Some v) d few (λ b f. (placed.opened b f).replica) (λ b f. (placed.learnt b f).replica)
-             (λ n f. let one = same_Some v n f in (ap (λ (z : Message). z.to) (sym one), subst (λ (z : Message). z.from < replicas g) one (legal_between g events stands.led.legal k v is).from)));
+            (λ n f. let one = same_Some v n f in (ap (λ (z : Message). z.to) (sym one), subst (λ (z : Message). z.from < replicas g) one (legal_between g events stands.led.legal k v is).from)));
         after = stands_after (Deliver k) m.to allowed h.others lt;
       }
     where

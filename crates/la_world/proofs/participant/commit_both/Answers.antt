@@ -30,4 +30,4 @@ returns-clause-told c = λ offered told.
     let added = c.in_ok-voted.ensures.told in
     subst (AreToldIn after offered) (sym added.1)
     (both_told c.args.receiver.now then after offered c.args.change c.in_ok-voted.cast next c.args.out.mail added.0 told c.commit.ensures.done
-     (c.commit-2.ensures.beside c.args.change.instance apart) (c.commit.ensures.beside next other) added.2 c.commit-2.ensures.done)
+    (c.commit-2.ensures.beside c.args.change.instance apart) (c.commit.ensures.beside next other) added.2 c.commit-2.ensures.done)

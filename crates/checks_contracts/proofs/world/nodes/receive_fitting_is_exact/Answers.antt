@@ -1,6 +1,7 @@
 use Rattle.std.proofs.Common.{ap, sym, subst, IfOk}
 use Rattle.la_replica.specs.Received.{received_in}
 use Rattle.la_replica.specs.Bases.{offered_by, AreToldIn}
+use Rattle.la_set.specs.declared.counts.Counts.{Counts}
 use Rattle.la_world.specs.Following.{takes}
 use Rattle.la_world.specs.Nodes.{NodeState}
 use Rattle.checks_contracts.proofs.Carried.{receipts_agree}
@@ -9,6 +10,6 @@ use Rattle.checks_contracts.proofs.world.nodes.receive_fitting_is_exact.Goals as
 pub returns-clause-said : goal.returns-clause-said
 returns-clause-said g c =
     let m = c.args.message.now in
-    let offered = λ (n : NodeState). offered_by (received_in n.replica m) in
+    let offered : NodeState → Counts = λ n. offered_by (received_in n.replica m) in
     receipts_agree (offered c.args.one.now) _ _ c.receive_fitting.result c.receive.result c.receive_fitting.new.self.replica c.receive.new.self.replica (ap (λ (n : NodeState). takes n.replica (received_in n.replica m)) c.requires.same) c.receive_fitting.ensures.step c.receive.ensures.step
     c.receive_fitting.ensures.told (subst (λ n. IfOk c.receive.result (λ x. AreToldIn c.receive.new.self.replica (offered n) x.done.mail)) (sym c.requires.same) c.receive.ensures.told)
