@@ -260,5 +260,6 @@ fn laws_have_no_work(_rt: HostRuntime) {
     laws::subsets_of_one_set();
     laws::difference_leads_on();
     laws::deltas_rebuild();
+    laws::rebuilding_keeps_the_base();
     laws::tags_are_sets();
 }

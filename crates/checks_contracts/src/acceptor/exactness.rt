@@ -3,11 +3,12 @@
 // them where both succeed; and where both are refused, one refusal.
 ghost use Rattle.std.specs.Prelude.{◌≡◌, ◌↔◌, [], ◌∷◌, IsTrue, IsOk, IfOk, IfErr, OnOk, OnErr};
 ghost use Rattle.la_set.specs.Join.{IsCompatible};
+ghost use Rattle.la_set.specs.Counts.{within};
 ghost use Rattle.la_acceptor.specs.Answer.{accepted_next};
 ghost use Rattle.la_acceptor.specs.Offers.{AreAnsweredAfter};
 
 use la_acceptor::{Acceptor, AcceptorError, Reply};
-use la_set::UpdateSet;
+use la_set::{Counts, UpdateSet};
 use std::alloc::{AllocError, Global};
 
 type Prepared = Result<(Reply, Option<UpdateSet>), AllocError>;
@@ -52,6 +53,21 @@ fn admit_offer_is_exact(
     ensures { result.0 ≡ result.1 }
 {
     (acceptor.admit_offer(offered), acceptor.admit_offer(offered))
+}
+
+// What is known to be the same is not compared, and the answer is one.
+fn admit_offer_beyond_is_exact(
+    acceptor: &Acceptor,
+    offered: &UpdateSet,
+    base: Counts,
+) -> (Result<(), AcceptorError>, Result<(), AcceptorError>)
+    requires { within acceptor.now base ≡ within offered.now base }
+    ensures { result.0 ≡ result.1 }
+{
+    (
+        acceptor.admit_offer_beyond(offered, base),
+        acceptor.admit_offer(offered),
+    )
 }
 
 // What is prepared is one reply, and once it is committed one set is accepted.

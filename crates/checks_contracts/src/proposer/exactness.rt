@@ -1,6 +1,8 @@
 // Callers that know nothing but the contracts: each makes a call twice and promises equal answers.
 ghost use Rattle.std.specs.Prelude.{◌≡◌, ◌≢◌, ◌↔◌, ◌<◌, ◌≤◌};
 ghost use Rattle.std.specs.Prelude.{true, length, IsTrue, IsOk, IfOk, IfErr, OnOk, OnErr};
+ghost use Rattle.std.specs.Prelude.{IfSome, option_copied};
+ghost use Rattle.la_set.specs.Counts.{within};
 ghost use Rattle.la_proposer.specs.Majority.{votes_of};
 ghost use Rattle.la_proposer.specs.Clashes.{ReplyFits};
 ghost use Rattle.la_proposer.specs.Refusals.{ReplySpares, IsVerdictOf};
@@ -213,6 +215,24 @@ fn admit_reply_is_exact(
 {
     (
         proposer.admit_reply(from, ballot, refusal),
+        proposer.admit_reply(from, ballot, refusal),
+    )
+}
+
+// What is known to be the same is not compared, and the answer is one.
+fn admit_reply_beyond_is_exact(
+    proposer: &Proposer,
+    from: u8,
+    ballot: u32,
+    refusal: Option<&UpdateSet>,
+    base: Counts,
+) -> (AdmitsReply, AdmitsReply)
+    requires { IfSome (option_copied refusal) (λ refused.
+        within proposer.now.updates base ≡ within refused base) }
+    ensures { result.0 ≡ result.1 }
+{
+    (
+        proposer.admit_reply_beyond(from, ballot, refusal, base),
         proposer.admit_reply(from, ballot, refusal),
     )
 }

@@ -5,7 +5,7 @@ ghost use Rattle.std.specs.Prelude.{◌≡◌, ◌↔◌, IsTrue, IfOk, IfErr, O
 ghost use Rattle.la_set.specs.declared.error.SetError.TheVariants.{Memory};
 ghost use Rattle.la_set.specs.Inclusion.{IsSubset, AreComparable};
 ghost use Rattle.la_set.specs.Join.{IsCompatible};
-ghost use Rattle.la_set.specs.Counts.{HasCounts};
+ghost use Rattle.la_set.specs.Counts.{HasCounts, within};
 ghost use Rattle.la_set.specs.Deltas.{IsOver, AgreesWithin};
 
 use la_set::{
@@ -367,6 +367,18 @@ fn first_clash_is_exact(set: &UpdateSet, other: &UpdateSet) -> (Option<UpdateId>
     (set.first_clash(other), set.first_clash(other))
 }
 
+// What is known to be the same is not compared, and the answer is one.
+fn first_clash_beyond_is_exact(
+    set: &UpdateSet,
+    other: &UpdateSet,
+    base: Counts,
+) -> (Option<UpdateId>, Option<UpdateId>)
+    requires { within set.now base ≡ within other.now base }
+    ensures { result.0 ≡ result.1 }
+{
+    (set.first_clash_beyond(other, base), set.first_clash(other))
+}
+
 fn copies_are_one(set: &UpdateSet) -> Result<(UpdateSet, UpdateSet), AllocError>
     ensures { IfOk result (λ both. both.0 ≡ both.1) }
 {
@@ -511,4 +523,17 @@ fn a_delta_leads_to_its_set(
     let _counts = set.counts();
     let delta = set.over(base)?;
     other.with(&delta)
+}
+
+// Of a set that was rebuilt over another only what comes beyond the base is compared with that.
+fn a_rebuilt_set_is_compared_beyond_its_base(
+    set: &UpdateSet,
+    delta: &Delta,
+) -> Result<(Option<UpdateId>, Option<UpdateId>), SetError>
+    ensures { IfOk result (λ both. both.0 ≡ both.1) }
+{
+    laws::rebuilding_keeps_the_base();
+    let rebuilt = set.with(delta)?;
+    let beyond = set.first_clash_beyond(&rebuilt, delta.base());
+    Ok((beyond, set.first_clash(&rebuilt)))
 }
