@@ -12,7 +12,9 @@ use Rattle.la_replica.specs.declared.instance.Instance.{Instance}
 use Rattle.la_replica.specs.declared.message.Message as code
 use Rattle.la_replica.specs.declared.message.Body as code_body
 use Rattle.la_replica.specs.declared.message.Body.TheVariants as body
+use Rattle.la_commit.specs.declared.outcome.Outcome.{Outcome}
 use Rattle.la_replica.specs.declared.out.Out as code_out
+use Rattle.la_replica.specs.declared.out.Said.{Said}
 use Rattle.la_replica.specs.ReplicaState.{ReplicaState}
 use Rattle.la_replica.specs.Bases.{smaller, IsToldBody, IsToldIn, AreToldIn, AreToldFrom}
 use Rattle.la_replica.specs.Whole.{Message, Out, set_of, whole_body, whole_of, whole_mail, whole_out}
@@ -96,6 +98,13 @@ pub receipts_agree : {D E : Type 0} (offered : Counts) (x y : Option (Taken × R
 receipts_agree offered x y (Ok r) (Ok s) m n same h k told also = dones_agree offered x y r.done s.done m n same h k told also
 receipts_agree offered x y (Ok r) (Err e) m n same h k told also = tt
 receipts_agree offered x y (Err d) b m n same h k told also = tt
+
+-- and show one outcome, where that is told by what they say
+pub outcomes_agree : {D E : Type 0} (f g : Said → Option Outcome) (a : Result Received D) (b : Result Received E) → f ≡ g → IfOk a (λ r. r.outcome ≡ f r.done.said) → IfOk b (λ r. r.outcome ≡ g r.done.said)
+    → IfOk a (λ r. IfOk b (λ s. r.done ≡ s.done)) → IfOk a (λ r. IfOk b (λ s. r.outcome ≡ s.outcome))
+outcomes_agree f g (Ok r) (Ok s) one h k same = h ∙ ap (λ (d : Done). f d.said) same ∙ (λ j. one j s.done.said) ∙ sym k
+outcomes_agree f g (Ok r) (Err e) one h k same = tt
+outcomes_agree f g (Err d) b one h k same = tt
 
 -- what is sent once more is one
 pub mails_agree : {E : Type 0} (r : ReplicaState) (offered : Counts) (ms : List Message) (a b : Result (List code.Message) E) → IfOk a (λ m. whole_mail m ≡ ms) → IfOk b (λ m. whole_mail m ≡ ms)
