@@ -1,8 +1,8 @@
 // What messages of a world carry: what their receivers are not known to have.
 use super::events::Act;
 use super::plays::{act, play, voters, world_of};
-use super::shelves::Object;
 use crate::holds::holds;
+use la_object::Counter;
 use la_replica::Body;
 use la_set::{Counts, Delta, UpdateId};
 use la_world::World;
@@ -41,7 +41,7 @@ const TOLD: [(u64, [u32; 8], &[u32]); 6] = [
     (14, FIRST, &[2]),
 ];
 
-fn delta_at(world: &World<Object>, number: u64) -> Option<&Delta> {
+fn delta_at(world: &World<Counter>, number: u64) -> Option<&Delta> {
     match &world.message(number)?.body {
         Body::Offer(delta) | Body::No(delta) => Some(delta),
         Body::Yes | Body::Tell(_) => None,
@@ -62,7 +62,7 @@ fn tells(delta: &Delta, base: [u32; 8], numbers: &[u32]) -> bool {
     delta.base() == Counts::from(base) && delta.len() == numbers.len()
 }
 
-fn are_told(world: &World<Object>) -> bool {
+fn are_told(world: &World<Counter>) -> bool {
     for (number, base, numbers) in &TOLD {
         if !matches!(delta_at(world, *number), Some(delta) if tells(delta, *base, numbers)) {
             return false;
@@ -71,7 +71,7 @@ fn are_told(world: &World<Object>) -> bool {
     true
 }
 
-fn play_all(rt: &impl Abort, alloc: Global, world: &mut World<Object>) {
+fn play_all(rt: &impl Abort, alloc: Global, world: &mut World<Counter>) {
     for did in &ACTS {
         let _row = play(rt, world, &act(rt, alloc, *did));
     }
@@ -79,7 +79,7 @@ fn play_all(rt: &impl Abort, alloc: Global, world: &mut World<Object>) {
 
 #[test]
 fn messages_carry_what_is_not_reported(rt: HostRuntime) {
-    let mut world = world_of(&rt, rt.alloc(), voters(&rt, &[1, 1, 1]));
+    let mut world: World<Counter> = world_of(&rt, rt.alloc(), voters(&rt, &[1, 1, 1]));
     play_all(&rt, rt.alloc(), &mut world);
     holds(&rt, "bases, and what comes beyond", are_told(&world));
 }
