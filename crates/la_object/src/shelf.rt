@@ -157,8 +157,9 @@ impl<B: Replicated> Shelf<B> {
     /// and once each, and answers how many updates those are; the set is then the view. `Smaller`
     /// comes exactly where the set does not contain the view. After `Memory` the view is the old one
     /// with the first `done` of these updates, and still lies in the set. Where the set is the view no
-    /// memory is taken. The cost is that of the inclusion test, and then a logarithmic one for each new
-    /// update.
+    /// memory is taken. The cost is that of the inclusion test, and then constant for each new update,
+    /// beside its object's: one look at the end of each list that is longer, in runs of up to 1,000
+    /// updates, each of which takes two blocks of memory for a while.
     pub fn absorb(&mut self, set: &UpdateSet) -> Result<u64, AbsorbError>
         ensures ok { OnOk result (self.new ≡ record self.old { view = set.now }) }
         ensures many { IfOk result (λ many. many ≡ length (beyond set.now self.old.view)) }
