@@ -7,7 +7,7 @@ use Rattle.la_object.specs.IdOrder.{id_cmp}
 use Rattle.la_object.proofs.lemmas.IdOrder.{id_cmp_total, id_cmp-IsAntisymmetric}
 use Rattle.la_orset.proofs.Sets.{keys-set_of, sorted-units}
 use Rattle.la_orset.proofs.Filling.{last_tag}
-use Rattle.la_orset.proofs.tag_set.TagSet.tags.Goals as goal
+use Rattle.la_orset.proofs.tag_tree.TagTree.tags.Goals as goal
 
 pub returns-then-len-gt-MAX_TAGS-clause-error : goal.returns-then-len-gt-MAX_TAGS-clause-error
 returns-then-len-gt-MAX_TAGS-clause-error c =
