@@ -1,0 +1,6 @@
+pub mod Joined
+pub mod Readings
+pub mod Updates
+pub mod Messages
+pub mod MessageLines
+pub mod Writable
