@@ -5,3 +5,6 @@ pub mod UpdatesBack
 pub mod Sets
 pub mod UpdateLists
 pub mod MessagesBack
+pub mod CallsBack
+pub mod Clean
+pub mod ScriptCalls

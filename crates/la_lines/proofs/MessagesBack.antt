@@ -113,7 +113,7 @@ base-plain Yes is = All-nil IsPlain
 base-plain (No base more) is = counts-plain base is.0
 base-plain (Tell told) is = All-nil IsPlain
 
-carried-updates : (body : Body) → IsBody body → All IsUpdate (carried body)
+pub carried-updates : (body : Body) → IsBody body → All IsUpdate (carried body)
 carried-updates (Offer base more) is = is.1
 carried-updates Yes is = All-nil IsUpdate
 carried-updates (No base more) is = is.1
@@ -132,6 +132,10 @@ behind-plain m is =
     let w1 : List (List ℕ) = decimal m.from ∷ w2 in
     and-number m.replicas w1 (omega (arith, is.few)) (and-number m.from w2 (omega (arith, is.from)) (and-number m.to w3 (omega (arith, is.to))
     (and-number m.instance w4 (omega (arith, is.instance)) (and-number m.ballot w5 (omega (arith, is.ballot)) (base-plain m.body is.body)))))
+
+pub head-plain : (m : Message) → IsMessage m → All IsPlain (head_words m)
+unfolding behind
+head-plain m is = All-cons IsPlain (spelling (kind_in m.body)) (behind m) (kind-plain (kind_in m.body)) (behind-plain m is)
 
 -- what is written of a message is read as it
 pub message-back : (m : Message) → IsMessage m → message_of (message_text m) ≡ Ok m

@@ -15,7 +15,7 @@ use Rattle.la_script.specs.Text.{id_text}
 use Rattle.la_lines.specs.declared.updates.Verb.{Verb}
 use Rattle.la_lines.specs.declared.updates.Verb.TheVariants as verb
 use Rattle.la_lines.specs.Joined.{parted}
-use Rattle.la_lines.specs.Updates.{spelling, vote_verb, op_words, update_text, tags_at, op_at, op_in, update_in, updates_in}
+use Rattle.la_lines.specs.Updates.{update_words, spelling, vote_verb, op_words, update_text, tags_at, op_at, op_in, update_in, updates_in}
 use Rattle.la_lines.specs.Writable.{IsId, IsOp, IsUpdate}
 use Rattle.la_lines.proofs.Decimals.{number-decimal, decimal-plain, is_plain, IsPlain}
 use Rattle.la_lines.proofs.Joins.{Lacks, words-back, words-part}
@@ -65,6 +65,9 @@ op-plain (Vote x sole) is = one-number (spelling (vote_verb sole)) x (verb-plain
 
 rest-plain : (u : Update) → IsUpdate u → All IsPlain (decimal u.object ∷ op_words u.op)
 rest-plain u is = All-cons IsPlain (decimal u.object) (op_words u.op) (decimal-plain u.object (omega (arith, is.object))) (op-plain u.op is.op)
+
+pub update-plain : (u : Update) → IsUpdate u → All IsPlain (update_words u)
+update-plain u is = All-cons IsPlain (id_text u.id) (decimal u.object ∷ op_words u.op) (id-plain u.id is.id) (rest-plain u is)
 
 pub update-part : (u : Update) → IsUpdate u → Lacks 59 (update_text u)
 update-part u is = words-part (id_text u.id) (decimal u.object ∷ op_words u.op) (id-plain u.id is.id) (rest-plain u is)

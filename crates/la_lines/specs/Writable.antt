@@ -10,7 +10,10 @@ use Rattle.la_set.specs.Counts.{count_in}
 use Rattle.la_set.specs.Tags.{IsTags}
 use Rattle.la_set.specs.Histories.{updates, IsWithinLimit}
 use Rattle.la_script.specs.Numbers.{u8_max, u16_max, u32_max, u64_max}
+use Rattle.la_object.specs.declared.query.Query.{Query}
+use Rattle.la_object.specs.declared.query.Query.TheVariants as query
 use Rattle.la_lines.specs.Messages.{Message, Body, Offer, Yes, No, Tell}
+use Rattle.la_lines.specs.Calls.{Call, Submit, Decide, Ask, Tick, Receive}
 
 pub record IsId (id : UpdateId) : Type 0 where
   pub replica : id.replica ≤ u8_max
@@ -50,3 +53,20 @@ pub record IsMessage (m : Message) : Type 0 where
   pub instance : m.instance ≤ u8_max
   pub ballot : m.ballot ≤ u32_max
   pub body : IsBody m.body
+
+-- no vote, which no node is called for
+abbrev pub IsVoteless : Op → Type 0
+IsVoteless (Vote x sole) = ⊥
+IsVoteless _ = Unit {0}
+
+abbrev pub IsQuery : Query → Type 0
+IsQuery (query.AtLeast x) = x ≤ u64_max
+IsQuery (query.Has x) = x ≤ u64_max
+IsQuery _ = Unit {0}
+
+abbrev pub IsCall : Call → Type 0
+IsCall (Submit replica object op) = (replica ≤ u8_max) × (object ≤ u16_max) × IsOp op × IsVoteless op
+IsCall (Decide replica commit value) = (replica ≤ u8_max) × (commit ≤ u8_max) × (value ≤ u64_max)
+IsCall (Ask replica object query) = (replica ≤ u8_max) × (object ≤ u16_max) × IsQuery query
+IsCall Tick = Unit {0}
+IsCall (Receive message) = IsMessage message

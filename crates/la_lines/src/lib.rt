@@ -18,6 +18,7 @@
 //! `specs/Messages.antt` has what messages say, `specs/Updates.antt` and `specs/MessageLines.antt` the lines.
 #![tactic(auto)]
 
+mod calls;
 mod error;
 pub mod laws;
 mod letter;
@@ -26,7 +27,8 @@ mod updates;
 mod words;
 mod writing;
 
+pub use calls::{Call, MAX_LINE, read, read_bounded};
 pub use error::{LineError, LineFault};
 pub use letter::Letter;
 pub use messages::read_message;
-pub use writing::write_message;
+pub use writing::{put_call, put_message, write};

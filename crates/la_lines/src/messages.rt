@@ -36,8 +36,8 @@ impl Kind {
         }
     }
 
-    // The kind that a word is.
-    fn of(word: &[u8]) -> Option<Kind>
+    /// The kind that a word is.
+    pub fn of(word: &[u8]) -> Option<Kind>
         ensures { result ≡ kind_of word.now }
     {
         if word == Kind::Offer.spelling() {
@@ -113,12 +113,7 @@ fn base_in(words: &[&[u8]]) -> Result<Counts, LineFault>
 }
 
 // What stands behind the header, and in the parts behind the head.
-fn body_in(
-    alloc: Global,
-    kind: Kind,
-    words: &[&[u8]],
-    parts: &[&[u8]],
-) -> Result<Body, LineError>
+fn body_in(alloc: Global, kind: Kind, words: &[&[u8]], parts: &[&[u8]]) -> Result<Body, LineError>
     ensures { Gives said_body (body_in kind (bytes_of words.now) (bytes_of parts.now)) result }
 {
     match kind {

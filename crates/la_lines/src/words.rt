@@ -43,9 +43,7 @@ pub fn first_number<'a, 'b>(
 }
 
 /// The first word as the id of an update, and the words behind it; `BadLine` where there is none.
-pub fn first_id<'a, 'b>(
-    words: &'a [&'b [u8]],
-) -> Result<(UpdateId, &'a [&'b [u8]]), LineFault>
+pub fn first_id<'a, 'b>(words: &'a [&'b [u8]]) -> Result<(UpdateId, &'a [&'b [u8]]), LineFault>
     ensures { GivesFirst (first_id (bytes_of words.now)) result }
 {
     let [word, rest @ ..] = words else {

@@ -10,11 +10,14 @@ ghost use Rattle.la_lines.specs.MessageLines.{count_words, base_words, base_word
 ghost use Rattle.la_lines.specs.MessageLines.{kind_in, head_words, message_text};
 ghost use Rattle.la_lines.specs.MessageLines.{spelling as kind_spelling};
 ghost use Rattle.la_lines.specs.Updates.{spelling};
+ghost use Rattle.la_lines.specs.Calls.{called};
+ghost use Rattle.la_lines.specs.CallLines.{query_words, text};
 
-use crate::Letter;
 use crate::messages::Kind;
 use crate::updates::Verb;
+use crate::{Call, Letter};
 use itoa::Buffer;
+use la_object::Query;
 use la_replica::{Body, Message};
 use la_set::{Counts, Delta, Op, REPLICAS, Tags, Update, UpdateId, UpdateSet};
 use std::alloc::{AllocError, Global};
@@ -193,14 +196,84 @@ fn put_header(out: &mut Vec<u8>, replicas: u8, message: &Message) -> Result<(), 
 
 /// Puts the line of a message behind what is there, without the line's end, at a cost linear in it but for
 /// finding each update. After a refusal a part of it may stand there.
-pub fn write_message(
-    out: &mut Vec<u8>,
-    replicas: u8,
-    message: &Message,
-) -> Result<(), AllocError>
+pub fn put_message(out: &mut Vec<u8>, replicas: u8, message: &Message) -> Result<(), AllocError>
     ensures { OnOk result (out.new.items ≡ out.old.items
         ++ message_text (said_by (record { replicas = replicas; message = message.now }))) }
 {
     put_header(out, replicas, message)?;
     put_body(out, &message.body)
+}
+
+// Writes a question's words.
+fn put_query(out: &mut Vec<u8>, query: Query) -> Result<(), AllocError>
+    ensures { OnOk result (out.new.items ≡ out.old.items ++ spaced 32 (query_words query)) }
+{
+    match query {
+        Query::Total => put_word(out, b"total"),
+        Query::AtLeast(bound) => {
+            put_word(out, b"atleast")?;
+            put_number(out, bound)
+        }
+        Query::Largest => put_word(out, b"largest"),
+        Query::Has(element) => {
+            put_word(out, b"has")?;
+            put_number(out, element)
+        }
+        Query::Size => put_word(out, b"size"),
+        Query::Items => put_word(out, b"items"),
+    }
+}
+
+// Writes a call's first word, and the numbers of a replica and of an object.
+fn put_front(out: &mut Vec<u8>, word: &[u8], replica: u8, object: u16) -> Result<(), AllocError>
+    ensures { OnOk result (out.new.items
+        ≡ out.old.items ++ joined 32 (word.now ∷ decimal replica ∷ decimal object ∷ [])) }
+{
+    out.extend_from_slice(word)?;
+    put_number(out, u64::from(replica))?;
+    put_number(out, u64::from(object))
+}
+
+/// Puts the line of a call behind what is there, without the line's end, at a cost linear in it but for
+/// finding each update. After a refusal a part of it may stand there.
+pub fn put_call(out: &mut Vec<u8>, call: &Call) -> Result<(), AllocError>
+    ensures { OnOk result (out.new.items ≡ out.old.items ++ text (called call.now)) }
+{
+    match call {
+        Call::Submit {
+            replica,
+            object,
+            op,
+        } => {
+            put_front(out, b"submit", *replica, *object)?;
+            put_op(out, op)
+        }
+        Call::Decide {
+            replica,
+            commit,
+            value,
+        } => {
+            put_front(out, b"decide", *replica, u16::from(*commit))?;
+            put_number(out, *value)
+        }
+        Call::Ask {
+            replica,
+            object,
+            query,
+        } => {
+            put_front(out, b"ask", *replica, *object)?;
+            put_query(out, *query)
+        }
+        Call::Tick => out.extend_from_slice(b"tick"),
+        Call::Receive(letter) => put_message(out, letter.replicas, &letter.message),
+    }
+}
+
+/// The line of a call, as [`put_call`] puts it.
+pub fn write(alloc: Global, call: &Call) -> Result<Vec<u8>, AllocError>
+    ensures { IfOk result (λ line. line.items ≡ text (called call.now)) }
+{
+    let mut line = Vec::new(alloc);
+    put_call(&mut line, call)?;
+    Ok(line)
 }
