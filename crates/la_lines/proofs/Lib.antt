@@ -8,3 +8,4 @@ pub mod MessagesBack
 pub mod CallsBack
 pub mod Clean
 pub mod ScriptCalls
+pub mod Tests

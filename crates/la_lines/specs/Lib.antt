@@ -6,3 +6,4 @@ pub mod MessageLines
 pub mod Calls
 pub mod CallLines
 pub mod Writable
+pub mod Tests

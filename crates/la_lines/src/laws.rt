@@ -1,16 +1,10 @@
-// What the definitions mean: laws over every call and message, which no code runs.
-ghost use Rattle.std.specs.Prelude.{◌≡◌, Ok, Some};
+// What the definitions mean: laws over every call, which no code runs.
+ghost use Rattle.std.specs.Prelude.{◌≡◌, ◌↔◌, Some, IsTrue};
 ghost use Rattle.la_journal.specs.Journal.{IsCallLine};
-ghost use Rattle.la_lines.specs.Messages.{Message};
-ghost use Rattle.la_lines.specs.MessageLines.{message_text, message_of};
 ghost use Rattle.la_lines.specs.Calls.{Call};
 ghost use Rattle.la_lines.specs.CallLines.{text, named};
-ghost use Rattle.la_lines.specs.Writable.{IsMessage, IsCall};
-
-/// What is written of a message is read as that message.
-pub fn messages_are_read_back()
-    ensures { (m : Message) → IsMessage m → message_of (message_text m) ≡ Ok m }
-{}
+ghost use Rattle.la_lines.specs.Writable.{IsCall};
+ghost use Rattle.la_lines.specs.Tests.{is_call};
 
 /// What is written of a call names that call.
 pub fn calls_are_read_back()
@@ -20,4 +14,9 @@ pub fn calls_are_read_back()
 /// What is written of a call may be a line of a journal.
 pub fn calls_are_lines_of_journals()
     ensures { (c : Call) → IsCall c → IsCallLine (text c) }
+{}
+
+/// Whether a call can be had is a test.
+pub fn the_test_decides()
+    ensures { (c : Call) → IsTrue (is_call c) ↔ IsCall c }
 {}

@@ -30,5 +30,4 @@ mod writing;
 pub use calls::{Call, MAX_LINE, read, read_bounded};
 pub use error::{LineError, LineFault};
 pub use letter::Letter;
-pub use messages::read_message;
-pub use writing::{put_call, put_message, write};
+pub use writing::{put_message, write};

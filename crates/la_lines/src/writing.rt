@@ -234,9 +234,8 @@ fn put_front(out: &mut Vec<u8>, word: &[u8], replica: u8, object: u16) -> Result
     put_number(out, u64::from(object))
 }
 
-/// Puts the line of a call behind what is there, without the line's end, at a cost linear in it but for
-/// finding each update. After a refusal a part of it may stand there.
-pub fn put_call(out: &mut Vec<u8>, call: &Call) -> Result<(), AllocError>
+// Writes a call's line behind what is there.
+fn put_call(out: &mut Vec<u8>, call: &Call) -> Result<(), AllocError>
     ensures { OnOk result (out.new.items ≡ out.old.items ++ text (called call.now)) }
 {
     match call {
@@ -269,7 +268,8 @@ pub fn put_call(out: &mut Vec<u8>, call: &Call) -> Result<(), AllocError>
     }
 }
 
-/// The line of a call, as [`put_call`] puts it.
+/// The line of a call, without the line's end, at the cost of [`put_message`]. A call that can be had, with a vote
+/// in no submission and with ids from 1, is read back from it ([`laws`](crate::laws)).
 pub fn write(alloc: Global, call: &Call) -> Result<Vec<u8>, AllocError>
     ensures { IfOk result (λ line. line.items ≡ text (called call.now)) }
 {
