@@ -9,3 +9,4 @@ pub mod CallsBack
 pub mod Clean
 pub mod ScriptCalls
 pub mod Tests
+pub mod AlikeLetters

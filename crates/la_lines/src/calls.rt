@@ -1,12 +1,13 @@
 // What a node is called for, read from lines.
-ghost use Rattle.std.specs.Prelude.{◌≡◌, ◌==◌, Some};
+ghost use Rattle.std.specs.Prelude.{◌≡◌, ◌==◌, Some, IfOk};
+ghost use Rattle.la_journal.specs.Machine.{IsNamed};
 ghost use Rattle.std.specs.List.{before_first};
 ghost use Rattle.la_script.specs.declared.script.Version.TheVariants.{Two};
 ghost use Rattle.la_script.specs.Lines.{event_of};
 ghost use Rattle.la_lines.specs.Readings.{Gives};
 ghost use Rattle.la_lines.specs.Calls.{called};
 ghost use Rattle.la_lines.specs.CallLines.{event_call, fault_of, script_call, first_kind};
-ghost use Rattle.la_lines.specs.CallLines.{call_of, bounded_call_of};
+ghost use Rattle.la_lines.specs.CallLines.{call_of, bounded_call_of, named};
 
 use crate::messages::{Kind, read_message};
 use crate::{Letter, LineError, LineFault};
@@ -14,7 +15,7 @@ use la_object::Query;
 use la_script::{FaultName, ReadError, Version, event_at, split_once};
 use la_set::Op;
 use la_world::Event;
-use std::alloc::Global;
+use std::alloc::{AllocError, Global};
 
 /// How many bytes a line may have that comes from outside.
 pub const MAX_LINE: usize = 16_777_216;
@@ -149,4 +150,16 @@ pub fn read_bounded(alloc: Global, line: &[u8]) -> Result<Call, LineError>
         return Err(LineError::Fault(LineFault::TooLong));
     }
     read(alloc, line)
+}
+
+/// The call that a line names, as [`read`] reads it; `None` where it has a fault. It is what a `Machine` of
+/// `la_journal` reads.
+pub fn named(alloc: Global, line: &[u8]) -> Result<Option<Call>, AllocError>
+    ensures { IfOk result (λ call. IsNamed called (named line.now) call) }
+{
+    match read(alloc, line) {
+        Ok(call) => Ok(Some(call)),
+        Err(LineError::Fault(_)) => Ok(None),
+        Err(LineError::Memory) => Err(AllocError),
+    }
 }

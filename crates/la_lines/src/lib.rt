@@ -27,7 +27,7 @@ mod updates;
 mod words;
 mod writing;
 
-pub use calls::{Call, MAX_LINE, read, read_bounded};
+pub use calls::{Call, MAX_LINE, named, read, read_bounded};
 pub use error::{LineError, LineFault};
 pub use letter::Letter;
 pub use writing::{put_message, write};
