@@ -5,6 +5,7 @@ use la_object::Query;
 use la_replica::{Body, Message};
 use la_set::{Delta, Op, SetError, Tags, Update, UpdateId, UpdateSet, Updates};
 use std::alloc::Global;
+use uses::lines::{came, carried, sent};
 
 // What an operation is to be; a tag by its replica and its number.
 #[derive(Clone, Copy)]
@@ -356,8 +357,46 @@ fn are_faults(alloc: Global) -> bool {
     true
 }
 
+// ## The callers
+
+fn tell(alloc: Global) -> Option<Message> {
+    let told = set_of(alloc, &[(0, 1, 3, Put(4)), (0, 2, 1, Inc(6))]).ok()?;
+    Some(Message {
+        instance: 0,
+        from: 0,
+        to: 1,
+        ballot: 5,
+        body: Body::Tell(told),
+    })
+}
+
+// A message comes as it was sent, in its group alone.
+fn comes(alloc: Global) -> Option<bool> {
+    let message = tell(alloc)?;
+    let line = sent(alloc, 3, &message).ok()?;
+    let here = came(alloc, 3, &line).ok()??;
+    let there = came(alloc, 4, &line).ok()?;
+    Some(here.same(&message) && there.is_none())
+}
+
+fn is_carried(alloc: Global) -> Option<bool> {
+    let message = Message {
+        instance: 0,
+        from: 1,
+        to: 0,
+        ballot: 5,
+        body: Body::Yes,
+    };
+    let came = carried(alloc, 3, &message).ok()??;
+    Some(came.same(&message))
+}
+
 #[test]
 fn calls_are_lines(rt: HostRuntime) {
     holds(&rt, "calls", are_lines(rt.alloc()));
     holds(&rt, "faults", are_faults(rt.alloc()));
+    let alloc = rt.alloc();
+    holds(&rt, "a tell", comes(alloc).or(comes(alloc)) == Some(true));
+    let yes = is_carried(alloc).or(is_carried(alloc));
+    holds(&rt, "an acknowledgement", yes == Some(true));
 }

@@ -1,5 +1,5 @@
 // What a node is called for, read from lines.
-ghost use Rattle.std.specs.Prelude.{◌≡◌, ◌==◌, Some, IfOk};
+ghost use Rattle.std.specs.Prelude.{◌≡◌, ◌==◌, Ok, Some, IfOk};
 ghost use Rattle.la_journal.specs.Machine.{IsNamed};
 ghost use Rattle.std.specs.List.{before_first};
 ghost use Rattle.la_script.specs.declared.script.Version.TheVariants.{Two};
@@ -144,7 +144,8 @@ pub fn read(alloc: Global, line: &[u8]) -> Result<Call, LineError>
 /// The same of a line that comes from outside: `TooLong` comes first, where it has more than [`MAX_LINE`]
 /// bytes, and then it is not looked at. So no line takes more memory than some such lines have bytes.
 pub fn read_bounded(alloc: Global, line: &[u8]) -> Result<Call, LineError>
-    ensures { Gives called (bounded_call_of line.now) result }
+    ensures exact { Gives called (bounded_call_of line.now) result }
+    ensures ok { IfOk result (λ call. call_of line.now ≡ Ok (called call)) }
 {
     if line.len() > MAX_LINE {
         return Err(LineError::Fault(LineFault::TooLong));
