@@ -10,6 +10,8 @@ use std::time::Instant;
 
 const PUTS: u32 = 100_000;
 const ELEMENTS: u32 = 10_000;
+const MANY: u32 = 1_000_000;
+const EARLY: u32 = 1_000;
 
 /// The element of the Put at this place, of replica 0 to 3: elements come in a mixed order.
 fn element_of(place: u32) -> u64 {
@@ -20,20 +22,22 @@ fn dot_of(place: u32) -> Dot<u8> {
     Dot::new((place % 4) as u8, u64::from(place / 4 + 1))
 }
 
-fn puts() -> Vec<Op<u64, u8>> {
+/// So many Puts; of one element alone, or of all.
+fn puts(many: u32, one: bool) -> Vec<Op<u64, u8>> {
     let put = |place| Op::Add {
         dot: dot_of(place),
-        members: vec![element_of(place)],
+        members: vec![if one { 7 } else { element_of(place) }],
     };
-    (0..PUTS).map(put).collect()
+    (0..many).map(put).collect()
 }
 
-fn removes() -> Vec<Op<u64, u8>> {
-    let remove = |half: u32| Op::Rm {
-        clock: VClock::from(dot_of(half * 2)),
-        members: vec![element_of(half * 2)],
+/// So many Removes, each of one Put, of every second one or of each.
+fn removes(many: u32, step: u32, one: bool) -> Vec<Op<u64, u8>> {
+    let remove = |number: u32| Op::Rm {
+        clock: VClock::from(dot_of(number * step)),
+        members: vec![if one { 7 } else { element_of(number * step) }],
     };
-    (0..PUTS / 2).map(remove).collect()
+    (0..many).map(remove).collect()
 }
 
 fn apply_all(set: &mut Orswot<u64, u8>, ops: Vec<Op<u64, u8>>) {
@@ -48,12 +52,12 @@ fn size(set: &Orswot<u64, u8>) -> usize {
 
 fn main() {
     let mut set = Orswot::new();
-    let (puts, removes) = (puts(), removes());
+    let (put, removed) = (puts(PUTS, false), removes(PUTS / 2, 2, false));
     let start = Instant::now();
-    apply_all(&mut set, puts);
+    apply_all(&mut set, put);
     println!("puts {} {}", start.elapsed().as_micros(), size(&set));
     let start = Instant::now();
-    apply_all(&mut set, removes);
+    apply_all(&mut set, removed);
     println!("removes {} {}", start.elapsed().as_micros(), size(&set));
     let start = Instant::now();
     let there = (0..u64::from(ELEMENTS)).filter(|x| set.contains(black_box(x)).val);
@@ -66,4 +70,27 @@ fn main() {
     let mut items: Vec<u64> = black_box(&set).read().val.into_iter().collect();
     items.sort();
     println!("items {} {}", start.elapsed().as_micros(), items.len());
+    let start = Instant::now();
+    let observed = (0..u64::from(ELEMENTS)).map(|x| set.contains(black_box(&x)).derive_rm_ctx());
+    let observed = observed.filter(|observed| !observed.clock.is_empty()).count();
+    println!("observed {} {observed}", start.elapsed().as_micros());
+    worst();
+}
+
+/// One element, put again and again and then removed as often; and Removes that come first.
+fn worst() {
+    let mut set = Orswot::new();
+    let (put, removed) = (puts(MANY, true), removes(MANY, 1, true));
+    let start = Instant::now();
+    apply_all(&mut set, put);
+    println!("one_put {} {}", start.elapsed().as_micros(), size(&set));
+    let start = Instant::now();
+    apply_all(&mut set, removed);
+    println!("one_removed {} {}", start.elapsed().as_micros(), size(&set));
+    let mut late = Orswot::new();
+    let (early, put) = (removes(EARLY, 1, false), puts(EARLY, false));
+    let start = Instant::now();
+    apply_all(&mut late, early);
+    apply_all(&mut late, put);
+    println!("early {} {}", start.elapsed().as_micros(), size(&late));
 }

@@ -9,6 +9,8 @@ use std::time::Instant;
 
 const PUTS: u32 = 100_000;
 const ELEMENTS: u32 = 10_000;
+const MANY: u32 = 1_000_000;
+const EARLY: u32 = 1_000;
 
 type Tag = (u8, u32);
 
@@ -63,24 +65,25 @@ fn tag_of(place: u32) -> Tag {
     ((place % 4) as u8, place / 4 + 1)
 }
 
-fn puts() -> Vec<Update> {
+/// So many Puts; of one element alone, or of all.
+fn puts(many: u32, one: bool) -> Vec<Update> {
     let put = |place| Update {
         id: tag_of(place),
-        op: Op::Put(element_of(place)),
+        op: Op::Put(if one { 7 } else { element_of(place) }),
     };
-    (0..PUTS).map(put).collect()
+    (0..many).map(put).collect()
 }
 
-/// Each names the tag of every second Put.
-fn removes() -> Vec<Update> {
-    let remove = |half: u32| {
-        let place = half * 2;
+/// So many Removes. Each names the tag of one Put, of every second one or of each.
+fn removes(many: u32, step: u32, one: bool) -> Vec<Update> {
+    let remove = |number: u32| {
+        let place = number * step;
         Update {
-            id: (4, half + 1),
-            op: Op::Remove(element_of(place), vec![tag_of(place)]),
+            id: (4, number + 1),
+            op: Op::Remove(if one { 7 } else { element_of(place) }, vec![tag_of(place)]),
         }
     };
-    (0..PUTS / 2).map(remove).collect()
+    (0..many).map(remove).collect()
 }
 
 fn absorb_all(set: &mut Set, updates: &[Update]) {
@@ -91,12 +94,12 @@ fn absorb_all(set: &mut Set, updates: &[Update]) {
 
 fn main() {
     let mut set = Set::default();
-    let (puts, removes) = (puts(), removes());
+    let (put, removed) = (puts(PUTS, false), removes(PUTS / 2, 2, false));
     let start = Instant::now();
-    absorb_all(&mut set, &puts);
+    absorb_all(&mut set, &put);
     println!("puts {} {}", start.elapsed().as_micros(), set.live.len());
     let start = Instant::now();
-    absorb_all(&mut set, &removes);
+    absorb_all(&mut set, &removed);
     println!("removes {} {}", start.elapsed().as_micros(), set.live.len());
     let start = Instant::now();
     let there = (0..u64::from(ELEMENTS)).filter(|x| set.live.contains_key(black_box(x)));
@@ -108,4 +111,28 @@ fn main() {
     let start = Instant::now();
     let items: Vec<u64> = black_box(&set).live.keys().copied().collect();
     println!("items {} {}", start.elapsed().as_micros(), items.len());
+    let start = Instant::now();
+    let tags = |x| set.live.get(black_box(&x)).map(|tags| tags.iter().copied().collect());
+    let observed = (0..u64::from(ELEMENTS)).filter_map(tags);
+    let observed = observed.filter(|tags: &Vec<Tag>| !tags.is_empty()).count();
+    println!("observed {} {observed}", start.elapsed().as_micros());
+    worst();
+}
+
+/// One element, put again and again and then removed as often; and Removes that come first.
+fn worst() {
+    let mut set = Set::default();
+    let (put, removed) = (puts(MANY, true), removes(MANY, 1, true));
+    let start = Instant::now();
+    absorb_all(&mut set, &put);
+    println!("one_put {} {}", start.elapsed().as_micros(), set.live.len());
+    let start = Instant::now();
+    absorb_all(&mut set, &removed);
+    println!("one_removed {} {}", start.elapsed().as_micros(), set.live.len());
+    let mut late = Set::default();
+    let (early, put) = (removes(EARLY, 1, false), puts(EARLY, false));
+    let start = Instant::now();
+    absorb_all(&mut late, &early);
+    absorb_all(&mut late, &put);
+    println!("early {} {}", start.elapsed().as_micros(), late.live.len());
 }

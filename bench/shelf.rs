@@ -53,7 +53,9 @@ impl Objects {
 }
 
 fn main() {
-    for (calls, step) in [(1, MOST), (1_000, 1_000)] {
+    let ways = [("absorb", 1), ("absorb", 1_000), ("absorb_compatible", 1_000)];
+    for (name, calls) in ways {
+        let step = MOST / calls;
         let mut objects = Objects::default();
         let mut updates = Vec::new();
         let mut spent = Duration::ZERO;
@@ -64,6 +66,6 @@ fn main() {
             spent += start.elapsed();
         }
         let Objects { total, largest } = objects;
-        println!("{calls} {} {total} {largest}", spent.as_micros());
+        println!("{name} {calls} {} {total} {largest}", spent.as_micros());
     }
 }

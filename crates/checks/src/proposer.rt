@@ -1,4 +1,5 @@
 // la_proposer: runs as tables.
+mod beyond;
 mod plays;
 mod reports;
 mod runs;

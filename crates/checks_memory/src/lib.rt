@@ -11,6 +11,8 @@ mod given;
 #[cfg(test)]
 mod journals;
 #[cfg(test)]
+mod lines;
+#[cfg(test)]
 mod nodes;
 #[cfg(test)]
 mod objects;

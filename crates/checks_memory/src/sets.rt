@@ -3,7 +3,7 @@ use crate::given::{
     Came, Does, Row, again, are_rows, are_tags, holds, id, is_of, is_row, refused, set_of, tags_of,
     update_of,
 };
-use la_set::{Counts, Delta, Op, SetError, Tags, Update, UpdateSet, Updates};
+use la_set::{Counts, Delta, Op, Ready, SetError, Tags, Update, UpdateSet, Updates};
 use std::alloc::{AllocError, Global};
 
 const FIRST: &[Row] = &[
@@ -39,6 +39,14 @@ const CUT: &[Row] = &[(1, 0, 1, Does::Inc(5)), (1, 2, 1, Does::Remove(5))];
 
 // What the other has over the base, and beyond the first.
 const BEYOND: &[Row] = &[(1, 0, 2, Does::Remove(4)), (1, 5, 1, Does::Remove(3))];
+
+// The other, with the first update of replica 2.
+const TAKEN: &[Row] = &[
+    (1, 0, 1, Does::Inc(5)),
+    (1, 0, 2, Does::Remove(4)),
+    (1, 2, 1, Does::Remove(5)),
+    (1, 5, 1, Does::Remove(3)),
+];
 
 #[derive(Drop)]
 struct Sets {
@@ -191,6 +199,8 @@ enum Other {
     More,
     Beyond,
     CopyDelta,
+    Taken,
+    Run,
 }
 
 fn is_list(list: Result<Updates, AllocError>, made: &Sets) -> Came {
@@ -207,16 +217,40 @@ fn is_delta(delta: Result<Delta, AllocError>, made: &Sets) -> Came {
     }
 }
 
+fn is_taken(ready: Result<Ready, AllocError>, made: &Sets) -> Came {
+    match ready {
+        Ok(ready) => Some(is_of(&ready.first(2, 1), TAKEN)),
+        Err(_) => refused(stand(made)),
+    }
+}
+
+fn is_run(run: Result<Vec<&Update>, AllocError>, made: &Sets) -> Came {
+    match run {
+        Ok(run) => {
+            Some(run.len() == 2 && is_row(run[0], &FIRST[1]) && is_row(run[1], &FIRST[2]))
+        }
+        Err(_) => refused(stand(made)),
+    }
+}
+
 fn other_of(made: &Sets, call: Other) -> Came {
     match call {
         Other::More => is_list(made.listed.more(), made),
         Other::Beyond => is_list(made.other.beyond(&made.set), made),
         Other::CopyDelta => is_delta(made.listed.copy(), made),
+        Other::Taken => is_taken(made.other.with_updates_of(2, &made.set), made),
+        Other::Run => is_run(made.set.run(2, 0, 5), made),
     }
 }
 
 fn all_others(made: &Sets, alloc: Global) -> Came {
-    for call in [Other::More, Other::Beyond, Other::CopyDelta] {
+    for call in [
+        Other::More,
+        Other::Beyond,
+        Other::CopyDelta,
+        Other::Taken,
+        Other::Run,
+    ] {
         let came = again!(alloc, other_of(made, call));
         if came != Some(true) {
             return came;

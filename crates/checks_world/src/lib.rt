@@ -7,6 +7,8 @@ mod callers;
 #[cfg(test)]
 mod holds;
 #[cfg(test)]
+mod lines;
+#[cfg(test)]
 mod script;
 #[cfg(test)]
 mod texts;

@@ -9,3 +9,4 @@ pub mod Replies
 pub mod OwnOperations
 pub mod Views
 pub mod NewUpdates
+pub mod Runs

@@ -1,25 +1,26 @@
--- What a set has beyond one that lies in it: for each replica the end of its history, and one less of that where the first of it is pushed.
-use Rattle.std.proofs.Common.{◌≡◌, ◌≢◌, ℕ, zero, suc, ◌+◌, ◌<◌, ◌≤◌, Bool, true, false, cond, List, [], ◌∷◌, ◌++◌, length, take, drop, filter, get_or, Contains, Option, Some, None, option_map, refl, ap, sym, ◌∙◌, subst, arith, inl, inr}
+-- What a set has beyond one that lies in it: for each replica the end of its history, and the first so many of these.
+use Rattle.std.proofs.Common.{◌≡◌, ◌≢◌, ℕ, zero, suc, ◌+◌, ◌-◌, ◌<◌, ◌≤◌, Bool, true, false, cond, List, [], ◌∷◌, ◌++◌, length, take, drop, filter, fold, Contains, Some, refl, ap, sym, ◌∙◌, subst, append_assoc, arith, inl, inr}
 use Rattle.std.specs.List.{slice_get}
-use Rattle.std.specs.Option.{MatchOption}
-use Rattle.std.proofs.lemmas.List.{take-append-drop, length-append, length-drop, drop_all}
+use Rattle.std.proofs.lemmas.List.{take-append-drop, take-append-le, drop-append-le, append-nil, length-append, length-drop, length-take, drop_all}
+use Rattle.std.proofs.lemmas.List.Sums.{fold-append}
+use Rattle.std.proofs.Math.Seq.{take-add}
 use Rattle.std.proofs.lemmas.List.Elements.{filter-append}
 use Rattle.std.proofs.lemmas.Bool.{not_from_true, not_from_false, cases_eq, cases_Bool}
-use Rattle.std.proofs.lemmas.Option.{same_Some, none-some}
 use Rattle.la_set.specs.declared.update.Update.{Update}
-use Rattle.la_set.specs.ObjectOps.{ObjectOp, object_op_of, update_of}
-use Rattle.la_set.specs.Histories.{Histories, history, object_op_number, get, ContainsUpdate, has_update, is_update, count, numbered, updates_from, updates, push, IsNext}
+use Rattle.la_set.specs.ObjectOps.{ObjectOp, update_of}
+use Rattle.la_set.specs.Histories.{Histories, history, with_history, object_op_number, has_update, is_update, count, numbered, updates_from, updates, push}
 use Rattle.la_set.specs.Inclusion.{IsSubset}
 use Rattle.la_set.specs.Difference.{lacks, beyond}
-use Rattle.la_set.proofs.lemmas.NumberedLists.{numbered-append}
-use Rattle.la_set.proofs.lemmas.SetHistories.{history-with_same, history-with_other}
+use Rattle.la_set.specs.Deltas.{AreNext}
+use Rattle.la_set.proofs.lemmas.NumberedLists.{numbered-append, length-numbered, take-numbered, drop-numbered}
+use Rattle.la_set.proofs.lemmas.SetHistories.{history-with_same, history-with_other, with_history-history, with_history-with_history}
 use Rattle.la_set.proofs.lemmas.Prefixes.{IsPrefix}
-use Rattle.la_set.proofs.lemmas.Inclusions.{subset-prefix, prefix-subset, subset-refl, subset-antisym, contains-object_op, object_op-contains}
+use Rattle.la_set.proofs.lemmas.Inclusions.{subset-prefix, prefix-subset, subset-refl, subset-antisym, contains-object_op}
 use Rattle.la_set.proofs.lemmas.Filters.{Contains-none, contains-filter}
 use Rattle.la_set.proofs.lemmas.Membership.{contains-listed}
 use Rattle.la_set.proofs.lemmas.Places.{get_past}
 use Rattle.la_set.proofs.lemmas.Decisions.{has_update-Decides}
-use Rattle.la_object.specs.Shelves.{IsFirstBeyond, after_first}
+use Rattle.la_object.specs.Shelves.{IsFirstMore, after_first}
 
 -- of one replica, the updates that the set has are passed over, and those past its count are kept
 passed_over : (a : Histories) (r n : ℕ) (ds : List ObjectOp) → ((k : ℕ) (d : ObjectOp) → slice_get ds k ≡ Some d → object_op_number (history a r) (n + k) ≡ Some d) → filter (lacks a) (numbered r n ds) ≡ []
@@ -38,7 +39,7 @@ all_kept a r n (d ∷ ds) past =
     (ap (λ us. u ∷ us) (all_kept a r (suc n) ds (omega arith)))
 
 -- what b has of one replica beyond a's count
-abbrev new_of : Histories → Histories → ℕ → List Update
+abbrev pub new_of : Histories → Histories → ℕ → List Update
 new_of a b r = numbered r (1 + count a r) (drop (count a r) (history b r))
 
 abbrev new_from : Histories → Histories → ℕ → ℕ → List Update
@@ -83,118 +84,133 @@ new_from-none a b r (suc k) none =
 pub nothing_beyond : (a b : Histories) → IsSubset a b → ((q : ℕ) → q < 8 → count b q ≤ count a q) → beyond b a ≡ []
 nothing_beyond a b sub none = beyond-new a b sub ∙ new_from-none a b 0 8 (λ q low high. none q (omega arith))
 
--- ## The first new update
+-- ## The first so many new updates of one replica
 
-drop_first : (xs : List ObjectOp) (n : ℕ) (x : ObjectOp) → slice_get xs n ≡ Some x → drop n xs ≡ x ∷ drop (suc n) xs
-drop_first [] n x e = absurd (none-some x e)
-drop_first (y ∷ xs) zero x e = ap (λ z. z ∷ xs) (same_Some y x e)
-drop_first (y ∷ xs) (suc n) x e = drop_first xs n x e
+drop-drop : {X : Type 0} (n m : ℕ) (xs : List X) → drop m (drop n xs) ≡ drop (n + m) xs
+drop-drop zero m xs = ap (λ k. drop k xs) {x = m} {y = 0 + m} (omega arith)
+drop-drop (suc n) m [] = nothing m ∙ ap (λ k. drop k []) {x = suc (n + m)} {y = suc n + m} (omega arith)
+  where
+    nothing : {X : Type 0} (m : ℕ) → drop {A = X} m [] ≡ []
+    nothing zero = refl
+    nothing (suc m) = refl
+drop-drop (suc n) m (x ∷ xs) = drop-drop n m xs ∙ ap (λ k. drop k (x ∷ xs)) {x = suc (n + m)} {y = suc n + m} (omega arith)
 
-take_one_more : (xs : List ObjectOp) (n : ℕ) (x : ObjectOp) → slice_get xs n ≡ Some x → take (suc n) xs ≡ take n xs ++ x ∷ []
-take_one_more [] n x e = absurd (none-some x e)
-take_one_more (y ∷ xs) zero x e = ap (λ z. z ∷ []) (same_Some y x e)
-take_one_more (y ∷ xs) (suc n) x e = ap (λ zs. y ∷ zs) (take_one_more xs n x e)
+-- updates of one replica, pushed one after another
+pub pushed-numbered : (s : Histories) (r : ℕ) (ds : List ObjectOp) → r < 8 → fold push s (numbered r (1 + count s r) ds) ≡ with_history s r (history s r ++ ds)
+pushed-numbered s r [] lt = sym (with_history-history s r lt) ∙ ap (with_history s r) (sym (append-nil (history s r)))
+pushed-numbered s r (d ∷ ds) lt =
+    let t = with_history s r (history s r ++ d ∷ []) in
+    let here : history t r ≡ history s r ++ d ∷ [] = history-with_same s r _ r lt refl in
+    ap (λ n. fold push t (numbered r n ds)) {x = suc (1 + count s r)} {y = 1 + count t r} (omega (arith, ap length here, length-append (history s r) (d ∷ [])))
+    ∙ pushed-numbered t r ds lt
+    ∙ ap (λ h. with_history t r (h ++ ds)) here
+    ∙ with_history-with_history s r _ _ lt
+    ∙ ap (with_history s r) (append_assoc (history s r) (d ∷ []) ds)
 
--- u comes next in a, and b has it
-module _ (a b : Histories) (sub : IsSubset a b) (u : Update) (next : IsNext a u.id) (has : ContainsUpdate b u) where
+pub next-numbered : (s : Histories) (r : ℕ) (ds : List ObjectOp) → r < 8 → count s r + length ds ≤ 1000000 → AreNext s (numbered r (1 + count s r) ds)
+next-numbered s r [] lt few = tt
+next-numbered s r (d ∷ ds) lt few =
+    let t = with_history s r (history s r ++ d ∷ []) in
+    let more : count t r ≡ count s r + 1 = ap length (history-with_same s r _ r lt refl) ∙ length-append (history s r) (d ∷ []) in (
+      record { known = lt; next = omega arith; within = omega (arith, few) },
+      subst (λ n. AreNext t (numbered r n ds)) {x = 1 + count t r} {y = suc (1 + count s r)} (omega (arith, more)) (next-numbered t r ds lt (omega (arith, few, more))),
+    )
+
+-- the new updates of the first replica that has some come first
+split_first : (a b : Histories) (r q k : ℕ) → q ≤ r → r < q + k → ((p : ℕ) → p < r → count b p ≤ count a p) → new_from a b q k ≡ new_of a b r ++ new_from a b (suc r) (q + k - suc r)
+split_first a b r q zero low high none = absurd (omega arith)
+split_first a b r q (suc k) low high none = elim (cases_eq q r) [
+  | inl e ↦ ap (λ p. new_of a b p ++ new_from a b (suc p) k) e ∙ ap (λ j. new_of a b r ++ new_from a b (suc r) j) {x = k} {y = q + suc k - suc r} (omega (arith, e))
+  | inr ne ↦
+      ap (λ us. us ++ new_from a b (suc q) k) (new_of-none a b q (none q (omega (arith, low, ne))))
+      ∙ split_first a b r (suc q) k (omega (arith, low, ne)) (omega (arith, high)) none
+      ∙ ap (λ j. new_of a b r ++ new_from a b (suc r) j) {x = suc q + k - suc r} {y = q + suc k - suc r} (omega arith)
+]
+
+new_from-same : (a c b : Histories) (q k : ℕ) → ((p : ℕ) → q ≤ p → history a p ≡ history c p) → new_from a b q k ≡ new_from c b q k
+new_from-same a c b q zero same = refl
+new_from-same a c b q (suc k) same =
+    ap (λ h. numbered q (1 + length h) (drop (length h) (history b q)) ++ new_from a b (suc q) k) (same q (omega arith))
+    ∙ ap (λ us. new_of c b q ++ us) (new_from-same a c b (suc q) k (λ p low. same p (omega arith)))
+
+-- the view with the first n of a set's updates of a replica
+abbrev pub upto : Histories → Histories → ℕ → ℕ → Histories
+upto view set r n = with_history view r (take n (history set r))
+
+module _ (view set : Histories) (sub : IsSubset view set) (r : ℕ) (first : IsFirstMore view set r) where
   abbrev own : ℕ
-  own = u.id.replica
+  own = count view r
 
-  read : slice_get (history b own) (count a own) ≡ Some (object_op_of u)
-  read = ap (object_op_number (history b own)) {x = suc (count a own)} {y = u.id.number} (omega (arith, next.next)) ∙ object_op-contains b u has
+  pub rest : List Update
+  rest = new_from view set (suc r) (0 + 8 - suc r)
 
-  same : history (push a u) own ≡ history a own ++ object_op_of u ∷ []
-  same = history-with_same a own (history a own ++ object_op_of u ∷ []) own next.known refl
+  starts : history view r ≡ take own (history set r)
+  starts = let p = subset-prefix view set sub r in p.front
 
-  more : count (push a u) own ≡ suc (count a own)
-  more = ap length same ∙ omega (arith, length-append (history a own) (object_op_of u ∷ []))
+  pub beyond-first : beyond set view ≡ new_of view set r ++ rest
+  unfolding rest
+  beyond-first = beyond-new view set sub ∙ split_first view set r 0 8 (omega arith) (omega (arith, first.known)) first.none_before
 
-  other : (q : ℕ) → q ≢ own → history (push a u) q ≡ history a q
-  other q ne = history-with_other a own (history a own ++ object_op_of u ∷ []) q ne
+  module _ (k : ℕ) (few : own + k ≤ count set r) where
+    many : k ≤ length (new_of view set r)
+    many = omega (arith, few, length-numbered r (1 + own) (drop own (history set r)), length-drop own (history set r))
 
-  new_of-own : new_of a b own ≡ u ∷ new_of (push a u) b own
-  new_of-own =
-      ap (numbered own (1 + count a own)) (drop_first (history b own) (count a own) (object_op_of u) read)
-      ∙ ap (λ n. update_of own n (object_op_of u) ∷ numbered own (suc n) (drop (suc (count a own)) (history b own))) {x = 1 + count a own} {y = u.id.number} (omega (arith, next.next))
-      ∙ ap (λ n. u ∷ numbered own n (drop (suc (count a own)) (history b own))) {x = suc u.id.number} {y = 1 + suc (count a own)} (omega (arith, next.next))
-      ∙ ap (λ n. u ∷ numbered own (1 + n) (drop n (history b own))) {x = suc (count a own)} {y = count (push a u) own} (sym more)
+    pub taken-first : take k (beyond set view) ≡ numbered r (1 + own) (take k (drop own (history set r)))
+    taken-first =
+        ap (take k) beyond-first
+        ∙ take-append-le k (new_of view set r) rest many
+        ∙ take-numbered r (1 + own) k (drop own (history set r))
 
-  new_of-other : (q : ℕ) → q ≢ own → new_of a b q ≡ new_of (push a u) b q
-  new_of-other q ne = ap (λ h. numbered q (1 + length h) (drop (length h) (history b q))) (sym (other q ne))
+    pub after_first-upto : after_first view k (beyond set view) ≡ upto view set r (own + k)
+    after_first-upto =
+        ap (fold push view) taken-first
+        ∙ pushed-numbered view r (take k (drop own (history set r))) first.known
+        ∙ ap (λ h. with_history view r (h ++ take k (drop own (history set r)))) starts
+        ∙ ap (with_history view r) (sym (take-add own k (history set r)))
 
-  new_from-past : (r k : ℕ) → own < r → new_from a b r k ≡ new_from (push a u) b r k
-  new_from-past r zero past = refl
-  new_from-past r (suc k) past =
-      ap (λ us. us ++ new_from a b (suc r) k) (new_of-other r (λ e. omega arith))
-      ∙ ap (λ us. new_of (push a u) b r ++ us) (new_from-past (suc r) k (omega arith))
+    here : history (upto view set r (own + k)) r ≡ take (own + k) (history set r)
+    here = history-with_same view r _ r first.known refl
 
-  new_from-first : (r k : ℕ) → r ≤ own → own < r + k → ((q : ℕ) → q < own → count b q ≤ count a q) → new_from a b r k ≡ u ∷ new_from (push a u) b r k
-  new_from-first r zero low high below = absurd (omega arith)
-  new_from-first r (suc k) low high below = elim (cases_eq r own) [
-    | inl e ↦
-        ap (λ us. us ++ new_from a b (suc r) k) (subst (λ q. new_of a b q ≡ u ∷ new_of (push a u) b q) (sym e) new_of-own)
-        ∙ ap (λ us. u ∷ (new_of (push a u) b r ++ us)) (new_from-past (suc r) k (omega arith))
-    | inr ne ↦
-        let none = new_of-none a b r (below r (omega arith)) in
-        ap (λ us. us ++ new_from a b (suc r) k) none
-        ∙ new_from-first (suc r) k (omega arith) (omega arith) below
-        ∙ ap (λ us. u ∷ (us ++ new_from (push a u) b (suc r) k)) (sym none ∙ new_of-other r ne)
-  ]
+    other : (q : ℕ) → q ≢ r → history (upto view set r (own + k)) q ≡ history view q
+    other q ne = history-with_other view r _ q ne
 
-  pushed_within : IsSubset (push a u) b
-  pushed_within = prefix-subset (push a u) b (λ q. elim (cases_eq q own) [
-    | inl e ↦ subst (λ p. IsPrefix (history (push a u) p) (history b p)) (sym e) (record {
-      front =
-          same
-          ∙ ap (λ xs. xs ++ object_op_of u ∷ []) (let p = subset-prefix a b sub own in p.front)
-          ∙ sym (take_one_more (history b own) (count a own) (object_op_of u) read)
-          ∙ ap (λ n. take n (history b own)) (sym more);
-    })
-    | inr ne ↦ subst (λ h. IsPrefix h (history b q)) (sym (other q ne)) (subset-prefix a b sub q)
-  ])
+    long : count (upto view set r (own + k)) r ≡ own + k
+    long = ap length here ∙ omega (arith, length-take (own + k) (history set r), few)
 
-  pub first_beyond-is : ((q : ℕ) → q < own → count b q ≤ count a q) → IsFirstBeyond a b u
-  first_beyond-is below = record {
-    next = next;
-    within = pushed_within;
-    left = beyond-new a b sub ∙ new_from-first 0 8 (omega arith) (omega (arith, next.known)) below ∙ ap (λ us. u ∷ us) (sym (beyond-new (push a u) b pushed_within));
-  }
+    pub upto-within : IsSubset (upto view set r (own + k)) set
+    upto-within = prefix-subset (upto view set r (own + k)) set (λ q. elim (cases_eq q r) [
+      | inl e ↦ subst (λ p. IsPrefix (history (upto view set r (own + k)) p) (history set p)) (sym e)
+          (record { front = here ∙ ap (λ n. take n (history set r)) (sym long) })
+      | inr ne ↦ subst (λ h. IsPrefix h (history set q)) (sym (other q ne)) (subset-prefix view set sub q)
+    ])
 
-none_within : {X : Type 0} (xs : List X) (n : ℕ) → n < length xs → slice_get xs n ≡ None → ⊥
-none_within [] n lt e = omega arith
-none_within (x ∷ xs) zero lt e = none-some x (sym e)
-none_within (x ∷ xs) (suc n) lt e = none_within xs n (omega arith) e
-
--- a replica of which the set has more, where it has no more of those before
-module _ (view set : Histories) (sub : IsSubset view set) (r : ℕ) (known : r < 8) (below : (q : ℕ) → q < r → count set q ≤ count view q) (more : count view r < count set r) (limit : count set r ≤ 1000000) where
-  abbrev Finds : Option Update → Type 0
-  Finds o = MatchOption o (beyond set view ≡ []) (λ u. IsFirstBeyond view set u)
-
-  found_from : (o : Option ObjectOp) → slice_get (history set r) (count view r) ≡ o → Finds (option_map (update_of r (count view r + 1)) o)
-  found_from None e = absurd (none_within (history set r) (count view r) more e)
-  found_from (Some d) e =
-      let u = update_of r (count view r + 1) d in
-      first_beyond-is view set sub u (record { known = known; next = refl; within = omega arith })
-      (contains-object_op set u (ap (object_op_number (history set r)) {x = count view r + 1} {y = suc (count view r)} (omega arith) ∙ e)) below
-
-  pub found_beyond : Finds (get set (record { replica = r; number = count view r + 1 }))
-  found_beyond =
-      subst (λ o. Finds (option_map (update_of r (count view r + 1)) o)) (ap (object_op_number (history set r)) {x = suc (count view r)} {y = count view r + 1} (omega arith))
-      (found_from (slice_get (history set r) (count view r)) refl)
+    pub upto-left : beyond set (upto view set r (own + k)) ≡ drop k (beyond set view)
+    unfolding rest
+    upto-left =
+        beyond-new (upto view set r (own + k)) set upto-within
+        ∙ split_first (upto view set r (own + k)) set r 0 8 (omega arith) (omega (arith, first.known)) (λ q lt. omega (arith, first.none_before q lt, ap length (other q (λ e. omega (arith, lt, e)))))
+        ∙ ap (λ us. us ++ new_from (upto view set r (own + k)) set (suc r) (0 + 8 - suc r)) moved
+        ∙ ap (λ us. drop k (new_of view set r) ++ us) (new_from-same (upto view set r (own + k)) view set (suc r) (0 + 8 - suc r) (λ q low. other q (λ e. omega (arith, low, e))))
+        ∙ sym (drop-append-le k (new_of view set r) rest many)
+        ∙ ap (drop k) (sym beyond-first)
+      where
+        moved : new_of (upto view set r (own + k)) set r ≡ drop k (new_of view set r)
+        moved =
+            ap (λ n. numbered r (1 + n) (drop n (history set r))) long
+            ∙ ap (λ ds. numbered r (1 + (own + k)) ds) (sym (drop-drop own k (history set r)))
+            ∙ ap (λ n. numbered r n (drop k (drop own (history set r)))) {x = 1 + (own + k)} {y = 1 + own + k} (omega arith)
+            ∙ sym (drop-numbered r (1 + own) k (drop own (history set r)))
 
 -- ## The list of new updates, as it is gone along
 
-pub after_first-next : (s : Histories) (us : List Update) (n : ℕ) (u : Update) (rest : List Update) → drop n us ≡ u ∷ rest → after_first s (n + 1) us ≡ push (after_first s n us) u
-after_first-next s [] zero u rest e = absurd (omega (arith, ap length e))
-after_first-next s [] (suc n) u rest e = absurd (omega (arith, ap length e))
-after_first-next s (x ∷ us) zero u rest e = ap (λ xs. push s (get_or xs 0 u)) e
-after_first-next s (x ∷ us) (suc n) u rest e = ap (λ k. after_first s k (x ∷ us)) {x = suc n + 1} {y = suc (n + 1)} (omega arith) ∙ after_first-next (push s x) us n u rest e
+take-more : {X : Type 0} (n k : ℕ) (xs ys : List X) → ys ≡ drop n xs → take (n + k) xs ≡ take n xs ++ take k ys
+take-more n k xs ys is = take-add n k xs ∙ ap (λ zs. take n xs ++ take k zs) (sym is)
 
-pub drop-next : (us : List Update) (n : ℕ) (u : Update) (rest : List Update) → drop n us ≡ u ∷ rest → drop (n + 1) us ≡ rest
-drop-next [] zero u rest e = absurd (omega (arith, ap length e))
-drop-next [] (suc n) u rest e = absurd (omega (arith, ap length e))
-drop-next (x ∷ us) zero u rest e = ap (drop 1) e
-drop-next (x ∷ us) (suc n) u rest e = ap (λ k. drop k (x ∷ us)) {x = suc n + 1} {y = suc (n + 1)} (omega arith) ∙ drop-next us n u rest e
+pub after_first-more : (s : Histories) (us : List Update) (n k : ℕ) (left : List Update) → left ≡ drop n us → after_first (after_first s n us) k left ≡ after_first s (n + k) us
+after_first-more s us n k left is = sym (ap (fold push s) (take-more n k us left is) ∙ fold-append push s (take n us) (take k left))
+
+pub drop-more : (us left : List Update) (n k : ℕ) → left ≡ drop n us → drop k left ≡ drop (n + k) us
+drop-more us left n k is = ap (drop k) is ∙ drop-drop n k us
 
 -- a set that lies in another which has nothing beyond it is that set
 pub nothing_left : (a b : Histories) → IsSubset a b → beyond b a ≡ [] → a ≡ b
@@ -206,9 +222,6 @@ nothing_left a b sub none = subset-antisym a b sub (λ u there. elim (cases_Bool
 pub length-filter-le : (p : Update → Bool) (us : List Update) → length (filter p us) ≤ length us
 length-filter-le p [] = omega arith
 length-filter-le p (u ∷ us) = let rest = length-filter-le p us in elim (p u) as (λ b. length (cond b (u ∷ filter p us) (filter p us)) ≤ length (u ∷ us)) [ true ↦ omega (arith, rest) | false ↦ omega (arith, rest) ]
-
-pub drop-within : (us : List Update) (n : ℕ) (u : Update) (rest : List Update) → drop n us ≡ u ∷ rest → n < length us
-drop-within us n u rest e = omega (arith, ap length e, length-drop n us)
 
 -- a set has nothing beyond itself
 pub nothing_new : (a b : Histories) → b ≡ a → length (beyond b a) ≡ 0

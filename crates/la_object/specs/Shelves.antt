@@ -1,11 +1,12 @@
 -- A shelf, as contracts see it: the set of updates that was absorbed, and which kind of object has
 -- which number, in the order of addition.
-use Rattle.std.specs.Prelude.{◌≡◌, ℕ, ◌<◌, ◌^◌, nat_eq, List, ◌∷◌, take, fold, map, filter, All, Option, Some, option_map}
+use Rattle.std.specs.Prelude.{◌≡◌, ℕ, ◌<◌, ◌≤◌, ◌^◌, ◌==◌, nat_eq, List, length, take, drop, fold, map, filter, All, Option, Some, option_map, if◌then◌else◌}
 use Rattle.std.specs.Map.{lookup}
 use Rattle.indexmap.specs.IndexMap.{IndexMap}
+use Rattle.la_set.specs.declared.set.TheConstants.{REPLICAS}
 use Rattle.la_set.specs.declared.update.UpdateId.{UpdateId}
 use Rattle.la_set.specs.declared.update.Update.{Update}
-use Rattle.la_set.specs.Histories.{Histories, updates, push, IsNext}
+use Rattle.la_set.specs.Histories.{Histories, count, updates, push}
 use Rattle.la_set.specs.Inclusion.{IsSubset}
 use Rattle.la_set.specs.Difference.{beyond}
 use Rattle.la_object.specs.declared.kind.Kind.{Kind}
@@ -13,7 +14,7 @@ use Rattle.la_object.specs.declared.query.Query.{Query}
 use Rattle.la_object.specs.declared.query.Answer.{Answer}
 use Rattle.la_object.specs.declared.state.State.{State}
 use Rattle.la_object.specs.Counter.{increment, decrement}
-use Rattle.la_object.specs.Objects.{of_object, is_of_kind, value, tags_by, start, kind_of, steps}
+use Rattle.la_object.specs.Objects.{of_object, is_of_kind, value, tags_by, start, kind_of, after, steps, HasRoom}
 
 pub record ShelfState : Type 0 where
   pub view : Histories
@@ -59,12 +60,19 @@ pub record IsOneObject (number : ℕ) (kind : Kind) (a b : ShelfState) : Type 0 
 abbrev pub after_first : Histories → ℕ → List Update → Histories
 after_first view k us = fold push view (take k us)
 
--- the update that comes first of those that a set has beyond the view: it is the next of its
--- replica, and pushed onto the view it leaves the others
-pub record IsFirstBeyond (view set : Histories) (u : Update) : Type 0 where
-  pub next : IsNext view u.id
-  pub within : IsSubset (push view u) set
-  pub left : beyond set view ≡ u ∷ beyond set (push view u)
+-- the first replica of which a set has more updates than the view
+pub record IsFirstMore (view set : Histories) (replica : ℕ) : Type 0 where
+  pub known : replica < REPLICAS
+  pub more : count view replica < count set replica
+  pub none_before : (q : ℕ) → q < replica → count set q ≤ count view q
+
+-- the new shelf has taken the first k of the updates that a set has beyond the old one's view, and
+-- the set has the others beyond it
+pub record HasTaken (old : ShelfState) (set : Histories) (new : ShelfState) (k : ℕ) : Type 0 where
+  pub taken : new ≡ record old { view = after_first old.view k (beyond set old.view) }
+  pub few : k ≤ length (beyond set old.view)
+  pub left : beyond set new.view ≡ drop k (beyond set old.view)
+  pub within : IsSubset new.view set
 
 -- ## What a shelf keeps
 
@@ -74,6 +82,17 @@ states f m = map (λ e. (e.0, f e.1)) m.entries
 
 abbrev pub kinds : List (ℕ × State) → List (ℕ × Kind)
 kinds ss = map (λ p. (p.0, kind_of p.1)) ss
+
+-- the rows after one more update, and after more: each goes to the object with its number
+abbrev pub absorbed : List (ℕ × State) → Update → List (ℕ × State)
+absorbed ss u = map (λ p. (p.0, if u.object == p.0 then after p.1 u else p.1)) ss
+
+abbrev pub all_absorbed : List (ℕ × State) → List Update → List (ℕ × State)
+all_absorbed ss us = fold absorbed ss us
+
+-- each object has room for one more update
+abbrev pub HaveRoom : List (ℕ × State) → Type 0
+HaveRoom ss = All (λ p. HasRoom p.1) ss
 
 -- the state is the one that the object's updates of the view lead to
 abbrev pub IsObject : Histories → ℕ × State → Type 0

@@ -1,23 +1,29 @@
-ghost use Rattle.std.specs.Prelude.{◌≡◌, [], ◌∷◌, ◌++◌};
-ghost use Rattle.std.specs.Prelude.{map, length, slice_get, nat_eq, is_some, false, Some, None, Ok};
-ghost use Rattle.std.specs.Prelude.{IsSomeAnd, IsOk, IfOk, IfErr, OnOk, OnErr, MatchOption};
-ghost use Rattle.std.specs.Option.{option_copied};
-ghost use Rattle.std.specs.Map.{remove_entry};
-ghost use Rattle.la_set.specs.Histories.{empty, push, IsNext};
+ghost use Rattle.std.specs.Prelude.{◌≡◌, ◌<◌, ◌≤◌, ℕ, [], ◌∷◌, ◌++◌, map, take, length};
+ghost use Rattle.std.specs.Prelude.{slice_get, nat_eq, is_some, false, Some, None, Ok};
+ghost use Rattle.std.specs.Prelude.{All, IsSomeAnd, IsOk, IfOk, IfErr, OnOk, OnErr, MatchOption};
+ghost use Rattle.std.specs.Map.{lookup, keys_of, remove_entry};
+ghost use Rattle.la_set.specs.Histories.{empty};
 ghost use Rattle.la_set.specs.Inclusion.{IsSubset};
-ghost use Rattle.la_set.specs.Join.{IsCompatible};
+ghost use Rattle.la_set.specs.Join.{HasNoMore, IsCompatible};
 ghost use Rattle.la_set.specs.Difference.{beyond};
 ghost use Rattle.la_object.specs.Objects.{kind_of, answers_a_list, IsFresh};
-ghost use Rattle.la_object.specs.Shelves.{kind_at, answer_at, tags_at, state_at, IsSmall};
-ghost use Rattle.la_object.specs.Shelves.{IsFirstBeyond};
+ghost use Rattle.la_object.specs.Shelves.{kind_at, answer_at, tags_at, state_at, IsFirstMore};
+ghost use Rattle.la_object.specs.Shelves.{HasTaken, states, absorbed, all_absorbed, HaveRoom, IsSmall};
 ghost use Rattle.la_object.specs.Refusals.{IsAddRefusal, IsAskRefusal, IsTagsRefusal};
 ghost use Rattle.la_object.specs.Refusals.{IsAbsorbRefusal};
 
 use crate::{AbsorbError, Answer, ObserveError, Query, Replicated, ShelfError, State};
 use indexmap::IndexMap;
-use la_set::{Op, REPLICAS, Tags, Update, UpdateId, UpdateSet};
+use la_set::{Op, REPLICAS, Tags, Update, UpdateSet};
 use std::alloc::{AllocError, Global};
 use std::marker::Model;
+
+// How many updates are absorbed at a time: they take one block of memory for the view, and one for
+// the references to them.
+const RUN: u32 = 1_000;
+
+// How many objects' places are noted while a run is absorbed.
+const PLACES: usize = 16;
 
 /// Objects under numbers, in the order of their addition, and the view: the set of updates that
 /// they have absorbed, each object those of its number.
@@ -151,8 +157,9 @@ impl<B: Replicated> Shelf<B> {
     /// and once each, and answers how many updates those are; the set is then the view. `Smaller`
     /// comes exactly where the set does not contain the view. After `Memory` the view is the old one
     /// with the first `done` of these updates, and still lies in the set. Where the set is the view no
-    /// memory is taken. The cost is that of the inclusion test, and then a logarithmic one for each new
-    /// update.
+    /// memory is taken. The cost is that of the inclusion test, and then constant for each new update,
+    /// beside its object's: one look at the end of each list that is longer, in runs of up to 1,000
+    /// updates, each of which takes two blocks of memory for a while.
     pub fn absorb(&mut self, set: &UpdateSet) -> Result<u64, AbsorbError>
         ensures ok { OnOk result (self.new ≡ record self.old { view = set.now }) }
         ensures many { IfOk result (λ many. many ≡ length (beyond set.now self.old.view)) }
@@ -185,7 +192,7 @@ impl<B: Replicated> Shelf<B> {
         self.absorb_new(set)
     }
 
-    // Absorbs what a set has beyond the view, which lies in it.
+    // Absorbs what a set has beyond the view, which lies in it, a run at a time.
     fn absorb_new(&mut self, set: &UpdateSet) -> Result<u64, AbsorbError>
         requires { IsSubset self.old.view set.now }
         ensures ok { OnOk result (self.new ≡ record self.old { view = set.now }) }
@@ -197,40 +204,42 @@ impl<B: Replicated> Shelf<B> {
         // a hint to the prover: a set has at most 8,000,000 updates, so the count does not wrap
         let _limited = set.len();
         let mut done = 0;
-        while let Some(update) = first_beyond(self.view(), set) {
-            let Ok(()) = self.absorb_next(update) else {
-                return Err(AbsorbError::Memory { done });
-            };
-            done += 1;
+        while let Some(replica) = first_more(self.view(), set) {
+            match self.absorb_run(set, replica) {
+                Ok(many) => done += many,
+                Err(many) => return Err(AbsorbError::Memory { done: done + many }),
+            }
         }
         self.share(set);
         Ok(done)
     }
 
-    // Absorbs one update that comes next of its replica, at constant cost beside the object's.
-    fn absorb_next(&mut self, update: &Update) -> Result<(), AllocError>
-        requires { IsNext self.old.view update.now.id }
-        ensures ok { OnOk result (self.new ≡ record self.old {
-          view = push self.old.view update.now;
-        }) }
-        ensures err { OnErr result (self.new ≡ self.old) }
+    // Absorbs the next run of a replica's updates, the first of which a set has more, and answers how
+    // many were absorbed: all of the run, or fewer where memory was refused.
+    fn absorb_run(&mut self, set: &UpdateSet, replica: u8) -> Result<u64, u64>
+        requires within { IsSubset self.old.view set.now }
+        requires first { IsFirstMore self.old.view set.now replica }
+        ensures ok { IfOk result (λ many. HasTaken self.old set.now self.new many) }
+        ensures some { IfOk result (λ many. 0 < many) }
+        ensures err { IfErr result (λ many. HasTaken self.old set.now self.new many) }
+        ensures fewer { IfErr result (λ many. many < length (beyond set.now self.old.view)) }
     {
-        tell_small(update);
-        let _limited = self.view.len();
-        let copy = update.copy()?;
-        let mut larger = self.view.copy()?;
-        let Ok(()) = larger.push(copy) else {
-            return Err(AllocError);
+        // a hint to the prover: no number is over the limit
+        let _limited = set.counts();
+        let from = self.view.count_of(replica);
+        let Ok(ready) = self.view.with_updates_of(replica, set) else {
+            return Err(0);
         };
-        let Some(place) = self.objects.get_index_of(&update.object) else {
-            self.view = larger;
-            return Ok(());
+        let Ok(listed) = set.run(replica, from, RUN) else {
+            return Err(0);
         };
-        let Ok(()) = self.objects[place].absorb(update) else {
-            return Err(AllocError);
-        };
-        self.view = larger;
-        Ok(())
+        let run = listed.as_slice();
+        let many = absorb_all(&mut self.objects, run);
+        self.view = ready.first(replica, from + many as u32);
+        if many < run.len() {
+            return Err(many as u64);
+        }
+        Ok(many as u64)
     }
 
     // Takes a copy of an equal set in the view's place, so that the two share their updates; the
@@ -281,18 +290,68 @@ fn tell_small(update: &Update)
     }
 }
 
-// The first update, in the order of ids, that a set has beyond one that lies in it.
-fn first_beyond<'a>(view: &UpdateSet, set: &'a UpdateSet) -> Option<&'a Update>
-    requires { IsSubset view.now set.now }
-    ensures { MatchOption (option_copied result)
-        (beyond set.now view.now ≡ [])
-        (λ update. IsFirstBeyond view.now set.now update) }
+// Lets each object absorb its updates of a run, and answers how many were absorbed before the
+// first refusal.
+fn absorb_all<B: Replicated>(objects: &mut IndexMap<u16, B>, run: &[&Update]) -> usize
+    requires { (k : ℕ) → All IsSmall (take k (map (λ update. update.now) run.now)) → HaveRoom
+        (all_absorbed (states B.state objects.old) (take k (map (λ update. update.now) run.now))) }
+    ensures some { states B.state objects.new ≡ all_absorbed (states B.state objects.old)
+        (take result (map (λ update. update.now) run.now)) }
+    ensures small { All IsSmall (take result (map (λ update. update.now) run.now)) }
+    ensures few { result ≤ length run.now }
+{
+    let mut places = [0; PLACES];
+    for at in 0..run.len() {
+        let update = run[at];
+        tell_small(update);
+        let Ok(()) = absorb_one(objects, &mut places, update) else {
+            return at;
+        };
+    }
+    run.len()
+}
+
+// Lets the object with the update's number absorb it, where there is one, and notes its place.
+fn absorb_one<B: Replicated>(
+    objects: &mut IndexMap<u16, B>,
+    places: &mut [usize; PLACES],
+    update: &Update,
+) -> Result<(), AllocError>
+    requires { HaveRoom (states B.state objects.old) }
+    ensures ok { OnOk result
+        (states B.state objects.new ≡ absorbed (states B.state objects.old) update.now) }
+    ensures err { OnErr result (states B.state objects.new ≡ states B.state objects.old) }
+{
+    let slot = update.object as usize % PLACES;
+    let Some(place) = place_of(objects, places[slot], update.object) else {
+        return Ok(());
+    };
+    places[slot] = place;
+    match objects.get_index_mut(place) {
+        Some(object) => object.absorb(update),
+        None => unreachable!(),
+    }
+}
+
+// The place of the object with a number: the guess where it stands there, without a look-up.
+fn place_of<B: Replicated>(objects: &IndexMap<u16, B>, guess: usize, number: u16) -> Option<usize>
+    ensures { MatchOption result (lookup (nat_eq number) objects.now.entries ≡ None)
+        (λ place. slice_get (keys_of objects.now.entries) place ≡ Some number) }
+{
+    match objects.get_index(guess) {
+        Some((here, _)) if *here == number => Some(guess),
+        _ => objects.get_index_of(&number),
+    }
+}
+
+// The first replica of which a set has more updates than another.
+fn first_more(view: &UpdateSet, set: &UpdateSet) -> Option<u8>
+    ensures { MatchOption result (HasNoMore set.now view.now)
+        (λ replica. IsFirstMore view.now set.now replica) }
 {
     for replica in 0..REPLICAS {
-        let count = view.count_of(replica);
-        if count < set.count_of(replica) {
-            let number = count + 1;
-            return set.get(UpdateId { replica, number });
+        if view.count_of(replica) < set.count_of(replica) {
+            return Some(replica);
         }
     }
     None

@@ -51,3 +51,8 @@ absent id ts h there = by (All-contains (λ t. id_cmp t id ≡ Less) ts id (All-
 pub last_tag : (ts : List UpdateId) (id : UpdateId) (rest : List UpdateId) (new : Bool) → IsStrictlySortedBy id_cmp (ts ++ id ∷ rest) → (IsTrue new ↔ (Contains ts id → ⊥)) → (if new then with_tag id ts else ts) ≡ ts ++ id ∷ []
 last_tag ts id rest true h is = let u = under ts id rest h in λ i. all_below id ts u i ++ id ∷ none_above id ts u i
 last_tag ts id rest false h is = absurd (false≢true (is.1 (absent id ts (under ts id rest h))))
+
+-- one alone
+pub one_sorted : (id : UpdateId) → IsStrictlySortedBy id_cmp (id ∷ [])
+unfolding IsStrictlySortedBy
+one_sorted id = (tt, tt)

@@ -1,7 +1,7 @@
 -- What becomes of the index where an element's tags change.
-use Rattle.std.proofs.Common.{◌≡◌, ℕ, ◌==◌, Bool, true, false, not, ◌&&◌, ◌||◌, cond, List, Option, Some, None, Result, Ok, Err, OnOk, OnErr, is_some, refl, ap, sym, ◌∙◌}
+use Rattle.std.proofs.Common.{◌≡◌, ℕ, ◌==◌, eqb, Bool, true, false, not, ◌&&◌, ◌||◌, cond, List, Option, Some, None, Result, Ok, Err, OnOk, OnErr, is_some, refl, ap, sym, ◌∙◌}
 use Rattle.std.specs.BTreeMap.{is_at}
-use Rattle.std.proofs.lemmas.Bool.{false≢true}
+use Rattle.std.proofs.lemmas.Bool.{false≢true, eqb-true, eq-eqb}
 use Rattle.std.specs.Ordering.{nat_cmp, is_eq, eq_by_cmp}
 use Rattle.std.specs.Cmp.{unsigned_tied, nat_eq_equiv, tied_itself, nat_cmp_total, Equal-is}
 use Rattle.std.specs.FinMap as map
@@ -11,6 +11,7 @@ use Rattle.la_set.specs.declared.update.UpdateId.{UpdateId}
 use Rattle.la_object.specs.IdOrder.{id_cmp}
 use Rattle.la_object.proofs.lemmas.IdOrder.{id_cmp_total, id_cmp-IsAntisymmetric}
 use Rattle.la_orset.specs.Index.{TagMap, Index, has_any, tags_or, tags_at, IsWhole, HasTags}
+use Rattle.la_orset.specs.Few.{only_tag}
 use Rattle.la_object.proofs.lemmas.Sorted.{get-lookup}
 use Rattle.la_orset.proofs.Sets.{same_members, contains-put, contains-taken, something_in, keys-empty}
 
@@ -77,3 +78,43 @@ on_ok (Err e) P Q f p = tt
 pub none_of : {X : Type 0} (o : Option X) → is_some o ≡ false → o ≡ None
 none_of None h = refl
 none_of (Some x) h = absurd (false≢true (sym h))
+
+-- ## One tag
+
+contains-only : (there q : UpdateId) → map.contains_key (only_tag there) q ≡ (eq_by_cmp id_cmp q there || false)
+contains-only there q = contains-put id_cmp_total id_cmp-IsAntisymmetric map.empty there q ∙ ap (λ g. eq_by_cmp id_cmp q there || is_some g) (map.get-empty id_cmp q)
+
+-- taken out
+pub taken-only : (id : UpdateId) → map.empty ≡ map.remove (only_tag id) id
+taken-only id = same_members id_cmp_total id_cmp-IsAntisymmetric _ _ (λ q.
+    ap is_some (map.get-empty id_cmp q)
+    ∙ sym (contains-taken id_cmp_total id_cmp-IsAntisymmetric (only_tag id) id q ∙ ap (λ c. not (eq_by_cmp id_cmp q id) && c) (contains-only id q) ∙ both (eq_by_cmp id_cmp q id)))
+  where
+    both : (b : Bool) → (not b && (b || false)) ≡ false
+    both true = refl
+    both false = refl
+
+-- another is taken out
+pub kept-only : (there id : UpdateId) → (there ≡ id → ⊥) → only_tag there ≡ map.remove (only_tag there) id
+kept-only there id ne = same_members id_cmp_total id_cmp-IsAntisymmetric _ _ (λ q.
+    by q (eq_by_cmp id_cmp q id) refl ∙ sym (contains-taken id_cmp_total id_cmp-IsAntisymmetric (only_tag there) id q))
+  where
+    other : (q : UpdateId) → eq_by_cmp id_cmp q id ≡ true → (b : Bool) → eq_by_cmp id_cmp q there ≡ b → b ≡ false
+    other q e true t = absurd (ne (sym (id_cmp-IsAntisymmetric q there ((Equal-is (id_cmp q there)).0 t)) ∙ id_cmp-IsAntisymmetric q id ((Equal-is (id_cmp q id)).0 e)))
+    other q e false t = refl
+
+    by : (q : UpdateId) (b : Bool) → eq_by_cmp id_cmp q id ≡ b → map.contains_key (only_tag there) q ≡ (not b && map.contains_key (only_tag there) q)
+    by q true e = contains-only there q ∙ ap (λ b. b || false) (other q e (eq_by_cmp id_cmp q there) refl)
+    by q false e = refl
+
+-- the test of two ids
+pub same-id : (a b : UpdateId) → (eqb a.replica b.replica && eqb a.number b.number) ≡ true → a ≡ b
+same-id a b h = by (eqb a.replica b.replica) refl (eqb a.number b.number) refl h
+  where
+    by : (x : Bool) → eqb a.replica b.replica ≡ x → (y : Bool) → eqb a.number b.number ≡ y → (x && y) ≡ true → a ≡ b
+    by true p true q h = λ i. record { replica = eqb-true a.replica b.replica p i; number = eqb-true a.number b.number q i }
+    by true p false q h = absurd (false≢true h)
+    by false p y q h = absurd (false≢true h)
+
+pub other-id : (a b : UpdateId) → (eqb a.replica b.replica && eqb a.number b.number) ≡ false → a ≡ b → ⊥
+other-id a b h e = false≢true (sym h ∙ (λ i. eq-eqb a.replica b.replica (ap (λ (id : UpdateId). id.replica) e) i && eq-eqb a.number b.number (ap (λ (id : UpdateId). id.number) e) i))

@@ -10,6 +10,7 @@ mod chain;
 mod live;
 mod or_set;
 mod tag_set;
+mod tag_tree;
 
 pub use chain::Chain;
 pub use or_set::OrSet;

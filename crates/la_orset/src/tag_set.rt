@@ -2,27 +2,37 @@ ghost use Rattle.std.specs.Prelude.{◌≡◌, IfOk, IfErr, OnOk, OnErr};
 ghost use Rattle.std.specs.FinMap as map;
 ghost use Rattle.la_object.specs.Refusals.{IsObserveRefusal};
 ghost use Rattle.la_orset.specs.Index.{has_any};
+ghost use Rattle.la_orset.specs.Few.{tags_of, only_tag};
 
+use crate::tag_tree::TagTree;
 use la_object::ObserveError;
-use la_set::{MAX_TAGS, Tags, UpdateId};
+use la_set::{Tags, UpdateId};
 use std::alloc::{AllocError, Global};
-use std::collections::BTreeSet;
 use std::marker::Model;
+use std::mem;
 
-/// The live tags of one element.
+/// The live tags of one element. One alone needs no tree.
 #[derive(Drop)]
 pub struct TagSet {
-    ids: BTreeSet<UpdateId>,
+    alloc: Global,
+    tags: Few,
+}
+
+#[derive(Drop)]
+enum Few {
+    One(UpdateId),
+    Tree(TagTree),
 }
 
 impl Model for TagSet {
-    ghost use Rattle.la_orset.specs.Index.{TagMap, tag_map_code, set_of};
+    ghost use Rattle.la_orset.specs.Index.{TagMap, tag_map_code};
+    ghost use Rattle.la_orset.specs.Few.{tags_of};
 
     ghost Value = { TagMap };
 
     ghost coded = { tag_map_code };
 
-    ghost view = { λ s. set_of s.ids.keys };
+    ghost view = { λ s. tags_of s.tags };
 }
 
 impl TagSet {
@@ -31,7 +41,8 @@ impl TagSet {
         ensures { result ≡ map.empty }
     {
         TagSet {
-            ids: BTreeSet::new(alloc),
+            alloc,
+            tags: Few::Tree(TagTree::new(alloc)),
         }
     }
 
@@ -39,23 +50,30 @@ impl TagSet {
     pub fn has_any(&self) -> bool
         ensures { result ≡ has_any (map.keys self.now) }
     {
-        self.ids.len() > 0
+        match &self.tags {
+            Few::One(_) => true,
+            Few::Tree(tree) => tree.has_any(),
+        }
     }
 
-    /// Puts a tag in, at logarithmic cost. After a refusal nothing has changed.
+    /// Puts a tag in, at logarithmic cost; the first takes no memory. After a refusal nothing has
+    /// changed.
     pub fn insert(&mut self, id: UpdateId) -> Result<(), AllocError>
         ensures ok { OnOk result (self.new ≡ map.insert self.old id tt) }
         ensures err { OnErr result (self.new ≡ self.old) }
     {
-        self.ids.insert(id)?;
-        Ok(())
+        let tags = mem::replace(&mut self.tags, Few::One(id));
+        let (tags, result) = with_tag(self.alloc, tags, id);
+        self.tags = tags;
+        result
     }
 
     /// Takes a tag out, at logarithmic cost and without memory.
     pub fn remove(&mut self, id: UpdateId)
         ensures { self.new ≡ map.remove self.old id }
     {
-        self.ids.remove(&id);
+        let tags = mem::replace(&mut self.tags, Few::One(id));
+        self.tags = without(self.alloc, tags, id);
     }
 
     /// The tags in ascending order, in one pass. `TooManyTags` comes exactly where they are more than
@@ -64,15 +82,69 @@ impl TagSet {
         ensures ok { IfOk result (λ tags. tags ≡ map.keys self.now) }
         ensures error { IfErr result (IsObserveRefusal (map.keys self.now)) }
     {
-        if self.ids.len() > MAX_TAGS {
-            return Err(ObserveError::TooManyTags);
+        match &self.tags {
+            Few::One(id) => only(alloc, *id),
+            Few::Tree(tree) => tree.tags(alloc),
         }
-        let mut tags = Tags::new(alloc);
-        for id in self.ids.iter() {
-            let Ok(_) = tags.push(*id) else {
-                return Err(ObserveError::Memory);
-            };
+    }
+}
+
+// The tags with one more, or as they were where memory is refused.
+fn with_tag(alloc: Global, tags: Few, id: UpdateId) -> (Few, Result<(), AllocError>)
+    ensures ok { OnOk result.1 (tags_of result.0 ≡ map.insert (tags_of tags) id tt) }
+    ensures err { OnErr result.1 (tags_of result.0 ≡ tags_of tags) }
+{
+    match tags {
+        Few::One(there) => match pair(alloc, there, id) {
+            Ok(tree) => (Few::Tree(tree), Ok(())),
+            Err(refused) => (Few::One(there), Err(refused)),
+        },
+        Few::Tree(mut tree) => {
+            if !tree.has_any() {
+                return (Few::One(id), Ok(()));
+            }
+            let result = tree.insert(id);
+            (Few::Tree(tree), result)
         }
-        Ok(tags)
+    }
+}
+
+// A tree of one tag and another.
+fn pair(alloc: Global, one: UpdateId, other: UpdateId) -> Result<TagTree, AllocError>
+    ensures { IfOk result (λ tree. tree ≡ map.insert (only_tag one) other tt) }
+{
+    let mut tree = TagTree::new(alloc);
+    tree.insert(one)?;
+    tree.insert(other)?;
+    Ok(tree)
+}
+
+// The tags without one.
+fn without(alloc: Global, tags: Few, id: UpdateId) -> Few
+    ensures { tags_of result ≡ map.remove (tags_of tags) id }
+{
+    match tags {
+        Few::One(there) => {
+            if there == id {
+                return Few::Tree(TagTree::new(alloc));
+            }
+            Few::One(there)
+        }
+        Few::Tree(mut tree) => {
+            tree.remove(id);
+            Few::Tree(tree)
+        }
+    }
+}
+
+// One tag as a list, which takes no memory.
+fn only(alloc: Global, id: UpdateId) -> Result<Tags, ObserveError>
+    ensures ok { IfOk result (λ tags. tags ≡ map.keys (only_tag id)) }
+    ensures error { IfErr result (IsObserveRefusal (map.keys (only_tag id))) }
+{
+    let mut tags = Tags::new(alloc);
+    match tags.push(id) {
+        Ok(_) => Ok(tags),
+        Err(_) => Err(ObserveError::Memory),
     }
 }

@@ -1,13 +1,13 @@
 -- A set that is kept as eight lists: what each list is, and what an edit of one keeps.
-use Rattle.std.proofs.Common.{◌≡◌, ℕ, zero, suc, ◌+◌, ◌<◌, ◌≤◌, List, [], ◌∷◌, ◌++◌, length, get_or, map, set, replicate, ap, sym, ◌∙◌, subst, arith, inl, inr}
-use Rattle.std.proofs.lemmas.List.{length-set, get_or-set_same, get_or-set_other, get_or_default, get_or-replicate, length-map}
-use Rattle.std.proofs.lemmas.Bool.{cases_eq}
+use Rattle.std.proofs.Common.{◌≡◌, ◌≢◌, ℕ, zero, suc, ◌+◌, ◌<◌, ◌≤◌, List, [], ◌∷◌, ◌++◌, length, take, get_or, map, set, replicate, refl, ap, sym, ◌∙◌, subst, arith, inl, inr}
+use Rattle.std.proofs.lemmas.List.{length-set, get_or-set_same, get_or-set_other, get_or_default, get_or-replicate, length-map, take_all}
+use Rattle.std.proofs.lemmas.Bool.{cases_eq, cases_lt}
 use Rattle.la_set.specs.declared.update.Update.{Update}
 use Rattle.la_set.specs.ObjectOps.{ObjectOp, object_op_of, update_of}
-use Rattle.la_set.specs.Histories.{Histories, empty, history, count, with_history, numbered, IsWithinLimit}
+use Rattle.la_set.specs.Histories.{Histories, empty, history, count, with_history, truncate, numbered, IsWithinLimit}
 use Rattle.la_set.specs.Representation.{represented, IsRepresentation}
-use Rattle.la_set.proofs.lemmas.NumberedLists.{object_ops-numbered, numbered-append}
-use Rattle.la_set.proofs.lemmas.SetHistories.{history-from_histories, same_histories, history-with_same, history-with_other, history-empty, count-edited}
+use Rattle.la_set.proofs.lemmas.NumberedLists.{object_ops-numbered, numbered-append, take-numbered}
+use Rattle.la_set.proofs.lemmas.SetHistories.{history-from_histories, same_histories, history-with_same, history-with_other, history-empty, count-edited, count-shortened, count_past, shortened-none}
 
 -- a list of lists that holds each replica's updates
 pub represented-from : (lists : List (List Update)) (s : Histories) → ((r : ℕ) → r < 8 → get_or lists r [] ≡ numbered r 1 (history s r)) → represented lists ≡ s
@@ -22,6 +22,39 @@ IsRepresentation-from lists s eight each within =
 -- the list of a replica
 pub list_at : (lists : List (List Update)) (s : Histories) (r : ℕ) (d : List Update) → r < 8 → IsRepresentation lists → represented lists ≡ s → get_or lists r d ≡ numbered r 1 (history s r)
 list_at lists s r d lt keeps is = get_or_default lists r d [] (omega (arith, keeps.eight)) ∙ keeps.in_order r lt ∙ ap (λ t. numbered r 1 (history t r)) is
+
+-- ## One list that is cut
+
+-- and where none is
+pub uncut : (lists : List (List Update)) → IsRepresentation lists → truncate (represented lists) 0 1000000 ≡ represented lists
+uncut lists keeps = sym (shortened-none (represented lists) 0 1000000 (keeps.within 0))
+
+pub cut-within : (s : Histories) (q n : ℕ) → IsWithinLimit s → IsWithinLimit (truncate s q n)
+cut-within s q n within r = elim (cases_lt q 8) [
+  | inl lt ↦ count-shortened s q n lt within r
+  | inr past ↦ elim (cases_eq r q) [
+    | inl e ↦ omega (arith, count_past (truncate s q n) r (omega (arith, past, e)))
+    | inr ne ↦ omega (arith, ap length (history-with_other s q (take n (history s q)) r ne), within r)
+  ]
+]
+
+module _ (lists : List (List Update)) (s : Histories) (q n r : ℕ) (d : List Update) (lt : r < 8) (keeps : IsRepresentation lists) (is : truncate (represented lists) q n ≡ s) where
+  whole : get_or lists r d ≡ numbered r 1 (history (represented lists) r)
+  whole = list_at lists (represented lists) r d lt keeps refl
+
+  pub cut-list_other : r ≢ q → get_or lists r d ≡ numbered r 1 (history s r)
+  cut-list_other ne = whole ∙ ap (numbered r 1) (sym (history-with_other (represented lists) q _ r ne)) ∙ ap (λ t. numbered r 1 (history t r)) is
+
+  pub cut-list_own : r ≡ q → take n (get_or lists r d) ≡ numbered r 1 (history s r)
+  cut-list_own e =
+      ap (take n) whole
+      ∙ take-numbered r 1 n (history (represented lists) r)
+      ∙ ap (λ p. numbered r 1 (take n (history (represented lists) p))) e
+      ∙ ap (numbered r 1) (sym (history-with_same (represented lists) q _ r (omega (arith, lt, e)) e))
+      ∙ ap (λ t. numbered r 1 (history t r)) is
+
+  pub cut-list_short : r ≡ q → length (get_or lists r d) ≤ n → get_or lists r d ≡ numbered r 1 (history s r)
+  cut-list_short e few = sym (take_all n (get_or lists r d) few) ∙ cut-list_own e
 
 -- one list in the place of another
 module _ (lists : List (List Update)) (s : Histories) (r : ℕ) (us : List Update) (known : r < 8) (eight : length lists ≡ 8) (each : (q : ℕ) → q < 8 → get_or lists q [] ≡ numbered q 1 (history s q)) (listed : us ≡ numbered r 1 (map object_op_of us)) where

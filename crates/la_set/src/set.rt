@@ -1,5 +1,5 @@
-ghost use Rattle.std.specs.Prelude.{◌≡◌, ◌+◌, ◌<◌, ◌≤◌};
-ghost use Rattle.std.specs.Prelude.{length, map, slice_get, IsOk, IfOk, IfErr, OnOk, OnErr};
+ghost use Rattle.std.specs.Prelude.{◌≡◌, ◌≢◌, ◌+◌, ◌<◌, ◌≤◌, [], length, map, take, slice_get};
+ghost use Rattle.std.specs.Prelude.{slice_index_or, IsOk, IfOk, IfErr, OnOk, OnErr};
 ghost use Rattle.std.specs.Option.{option_copied};
 ghost use Rattle.la_set.specs.ObjectOps.{object_op_of};
 ghost use Rattle.la_set.specs.Histories.{empty, count, get, last_update, updates, updates_of};
@@ -7,9 +7,10 @@ ghost use Rattle.la_set.specs.Histories.{numbered, with_history, push, pop, trun
 ghost use Rattle.la_set.specs.Histories.{IsNext, IsWithinLimit};
 ghost use Rattle.la_set.specs.Refusals.{IsPushRefusal};
 ghost use Rattle.la_set.specs.Links.{lent_items};
-ghost use Rattle.la_set.specs.Representation.{represented, AreListsOf, IsRepresentation};
+ghost use Rattle.la_set.specs.Representation.{represented, lists_of, AreListsOf};
+ghost use Rattle.la_set.specs.Representation.{IsRepresentation};
 
-use crate::history::{History, Lent, item_at, len_of};
+use crate::history::{History, Lent, first, item_at, len_of};
 use crate::{SetError, Update, UpdateId};
 use std::alloc::{AllocError, Global};
 use std::marker::Model;
@@ -29,16 +30,31 @@ pub const MAX_NUMBER: u32 = 1_000_000;
 pub struct UpdateSet {
     alloc: Global,
     of: Option<Arc<[History<Update>; 8]>>,
+    cut: Cut,
 }
+
+// Where one of a set's lists is cut: of this replica the set has only the first so many.
+#[derive(Clone, Copy)]
+pub(crate) struct Cut {
+    pub(crate) replica: u8,
+    pub(crate) len: u32,
+}
+
+// No list is longer than this.
+const UNCUT: Cut = Cut {
+    replica: 0,
+    len: MAX_NUMBER,
+};
 
 impl Model for UpdateSet {
     ghost use Rattle.la_set.specs.Histories.{Histories};
 
     ghost Value = { Histories };
 
+    ghost use Rattle.la_set.specs.Histories.{truncate};
     ghost use Rattle.la_set.specs.Representation.{represented, lists_of, IsRepresentation};
 
-    ghost view = { λ s. represented (lists_of s.of) };
+    ghost view = { λ s. truncate (represented (lists_of s.of)) s.cut.replica s.cut.len };
 
     ghost invariant = { λ s. IsRepresentation (lists_of s.of) };
 }
@@ -48,7 +64,11 @@ impl UpdateSet {
     pub fn new(alloc: Global) -> UpdateSet
         ensures { result ≡ empty }
     {
-        UpdateSet { alloc, of: None }
+        UpdateSet {
+            alloc,
+            of: None,
+            cut: UNCUT,
+        }
     }
 
     /// How many updates of a replica there are, at most [`MAX_NUMBER`]: their numbers are 1 to
@@ -113,6 +133,7 @@ impl UpdateSet {
         Ok(UpdateSet {
             alloc: self.alloc,
             of,
+            cut: self.cut,
         })
     }
 
@@ -177,10 +198,7 @@ impl UpdateSet {
         ensures updates { lent_items result ≡ updates_of self.now replica }
         ensures limit { length (lent_items result) ≤ MAX_NUMBER }
     {
-        match &self.of {
-            Some(of) => of[replica as usize].link(),
-            None => None,
-        }
+        shown(list_of(&self.of, replica), replica, self.cut)
     }
 
     // What the set allocates with. The contract also tells that no number is over the limit.
@@ -215,7 +233,20 @@ impl UpdateSet {
         Ok(UpdateSet {
             alloc,
             of: Some(Arc::new(alloc, of)?),
+            cut: UNCUT,
         })
+    }
+
+    // The set that keeps these lists, one of them cut.
+    pub(crate) fn cut(alloc: Global, of: Arc<[History<Update>; 8]>, cut: Cut) -> UpdateSet
+        requires { IsRepresentation of.value }
+        ensures { result ≡ truncate (represented of.value) cut.replica cut.len }
+    {
+        UpdateSet {
+            alloc,
+            of: Some(of),
+            cut,
+        }
     }
 
     // Puts a list in the place of a replica's.
@@ -244,4 +275,28 @@ impl UpdateSet {
         list.push(self.alloc, update)?;
         self.put(replica, list)
     }
+}
+
+// A replica's list, of those that a set's pointer leads to.
+fn list_of(of: &Option<Arc<[History<Update>; 8]>>, replica: u8) -> Lent<'_, Update>
+    requires known { replica < REPLICAS }
+    requires eight { length (lists_of of.now) ≡ REPLICAS }
+    ensures { lent_items result ≡ slice_index_or (lists_of of.now) replica [] }
+{
+    match of {
+        Some(of) => of[replica as usize].link(),
+        None => None,
+    }
+}
+
+// What a set has of a replica's list, where it is cut.
+fn shown(list: Lent<'_, Update>, replica: u8, cut: Cut) -> Lent<'_, Update>
+    ensures own { replica ≡ cut.replica
+        → lent_items result ≡ take cut.len (lent_items list.entry) }
+    ensures other { replica ≢ cut.replica → lent_items result ≡ lent_items list.entry }
+{
+    if replica == cut.replica && len_of(list) > cut.len as usize {
+        return first(list, cut.len as usize);
+    }
+    list
 }

@@ -10,3 +10,4 @@ pub mod Numbers
 mod Mapped
 mod Together
 mod Leasing
+pub mod CarriedLines

@@ -8,6 +8,7 @@ pub mod deltas;
 pub mod groups;
 pub mod journals;
 pub mod kept;
+pub mod lines;
 pub mod members;
 pub mod nodes;
 pub mod objects;

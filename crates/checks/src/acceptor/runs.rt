@@ -1,8 +1,9 @@
 // Acceptors: what each of a list of offers is answered, and what is accepted then.
+use crate::given::{self, Given, delta_over};
 use crate::holds::holds;
 use crate::set::helpers::{Does, Row, id, set_of};
 use la_acceptor::{Acceptor, AcceptorError, Reply, laws};
-use la_set::UpdateSet;
+use la_set::{Counts, Delta, UpdateSet};
 use std::alloc::Global;
 use std::process::Abort;
 
@@ -122,10 +123,56 @@ fn an_acceptor_is_copied(rt: &impl Abort, alloc: Global) {
     holds(rt, "a copy", is_copied_again(&acceptor, &first));
 }
 
+// What is accepted, the counts of replica 0 that an offer is known to share with it, what comes beyond
+// them, and whether the offer clashes at 0.2.
+type Known = (&'static [Given], u32, &'static [Given], bool);
+
+const ACCEPTED: &[Given] = &[(0, 1, 5), (0, 2, 6)];
+
+const KNOWN: [Known; 4] = [
+    (ACCEPTED, 1, &[(0, 2, 7)], true),
+    (ACCEPTED, 1, &[(0, 2, 6), (0, 3, 7)], false),
+    (ACCEPTED, 2, &[(1, 1, 7)], false),
+    (ACCEPTED, 0, &[(0, 1, 5), (0, 2, 7)], true),
+];
+
+// Whether an offer that a delta makes of what is accepted would be answered.
+fn admits_beyond(acceptor: &Acceptor, delta: &Delta) -> Result<(), AcceptorError> {
+    la_set::laws::rebuilding_keeps_the_base();
+    match acceptor.accepted().with(delta) {
+        Ok(offered) => acceptor.admit_offer_beyond(&offered, delta.base()),
+        Err(_) => Err(AcceptorError::Memory),
+    }
+}
+
+fn is_admitted(acceptor: &Acceptor, delta: &Delta, awaited: Result<(), AcceptorError>) -> bool {
+    match admits_beyond(acceptor, delta) {
+        Err(AcceptorError::Memory) => admits_beyond(acceptor, delta) == awaited,
+        told => told == awaited,
+    }
+}
+
+fn offers_are_admitted_beyond_a_base(rt: &impl Abort, alloc: Global) {
+    for (accepted, shared, more, clashes) in &KNOWN {
+        let mut acceptor = Acceptor::new(alloc);
+        let accepted = given::set_of(rt, alloc, accepted);
+        holds(rt, "an answer", answers(&mut acceptor, &accepted));
+        let base = Counts::from([*shared, 0, 0, 0, 0, 0, 0, 0]);
+        let delta = delta_over(rt, alloc, base, more);
+        let awaited = if *clashes {
+            Err(AcceptorError::Clash(id(0, 2)))
+        } else {
+            Ok(())
+        };
+        holds(rt, "an offer", is_admitted(&acceptor, &delta, awaited));
+    }
+}
+
 #[test]
 fn acceptors(rt: HostRuntime) {
     offers_are_answered(&rt, rt.alloc());
     an_acceptor_is_copied(&rt, rt.alloc());
+    offers_are_admitted_beyond_a_base(&rt, rt.alloc());
     laws::replies_tell_what_is_accepted();
     laws::accepted_grows();
     laws::accepted_is_the_union_of_all_offers();

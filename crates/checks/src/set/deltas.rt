@@ -3,7 +3,7 @@ ghost use Rattle.la_set.specs.Counts.{HasCounts};
 
 use super::helpers::{Does, Row, copy_of_update, id, set_of, update_of};
 use crate::holds::holds;
-use la_set::{Counts, Delta, SetError, Update, UpdateSet, Updates};
+use la_set::{Counts, Delta, SetError, Update, UpdateId, UpdateSet, Updates, laws};
 use std::alloc::Global;
 use std::process::Abort;
 
@@ -161,9 +161,44 @@ fn deltas_are_taken_or_refused(rt: &impl Abort, alloc: Global) {
     }
 }
 
+// The updates that a set has, a delta's base and updates, and the clash of the set with what is made
+// of it: below the base the two have the same.
+type Clash = (&'static [Row], [u32; 8], &'static [Row], Option<(u8, u32)>);
+
+const CLASHES: [Clash; 4] = [
+    (OTHERS, NONE, BOTH, Some((1, 2))),
+    (OTHERS, ONE_OF_1, SECOND, Some((1, 2))),
+    (OTHERS, TWO_OF_1, SENT, None),
+    (FIRST, ONE_OF_1, SECOND, None),
+];
+
+// The first clash of a set with what a delta makes of it.
+fn clash_beyond(set: &UpdateSet, delta: &Delta) -> Result<Option<UpdateId>, SetError> {
+    laws::rebuilding_keeps_the_base();
+    let made = set.with(delta)?;
+    Ok(set.first_clash_beyond(&made, delta.base()))
+}
+
+fn clashes_with(set: &UpdateSet, delta: &Delta, awaited: Option<UpdateId>) -> bool {
+    match clash_beyond(set, delta) {
+        Err(SetError::Memory) => clash_beyond(set, delta) == Ok(awaited),
+        found => found == Ok(awaited),
+    }
+}
+
+fn clashes_are_found_beyond_a_base(rt: &impl Abort, alloc: Global) {
+    for (has, base, more, clash) in &CLASHES {
+        let set = set_of(rt, alloc, has);
+        let delta = listed(rt, alloc, *base, more);
+        let awaited = clash.map(|(replica, number)| id(replica, number));
+        holds(rt, "a clash", clashes_with(&set, &delta, awaited));
+    }
+}
+
 #[test]
 fn deltas(rt: HostRuntime) {
     a_delta_has_what_is_beyond(&rt, rt.alloc());
     a_list_says_the_same(&rt, rt.alloc());
     deltas_are_taken_or_refused(&rt, rt.alloc());
+    clashes_are_found_beyond_a_base(&rt, rt.alloc());
 }

@@ -1,7 +1,8 @@
 // Callers that know nothing but the contracts: each makes a call twice, or on two equal values, and
 // promises equal answers. Where memory may run out for one call and not for the other, it promises
 // them where both succeed; and where both are refused, one refusal.
-ghost use Rattle.std.specs.Prelude.{◌≡◌, ◌↔◌, IsTrue, IfOk, IfErr, OnOk, OnErr, option_copied};
+ghost use Rattle.std.specs.Prelude.{◌≡◌, ◌<◌, ◌↔◌, map, IsTrue, IfOk, IfErr, OnOk, OnErr};
+ghost use Rattle.std.specs.Prelude.{option_copied};
 ghost use Rattle.la_set.specs.declared.error.SetError.TheVariants.{Memory};
 ghost use Rattle.la_set.specs.Inclusion.{IsSubset, AreComparable};
 ghost use Rattle.la_set.specs.Join.{IsCompatible};
@@ -9,7 +10,8 @@ ghost use Rattle.la_set.specs.Counts.{HasCounts, within};
 ghost use Rattle.la_set.specs.Deltas.{IsOver, AgreesWithin};
 
 use la_set::{
-    Counts, Delta, Op, Sequence, SetError, Tags, Update, UpdateId, UpdateSet, Updates, laws,
+    Counts, Delta, Op, REPLICAS, Ready, Sequence, SetError, Tags, Update, UpdateId, UpdateSet,
+    Updates, laws,
 };
 use std::alloc::{AllocError, Global};
 use std::cmp::Ordering;
@@ -218,6 +220,40 @@ fn truncate_is_exact(
     ensures unchanged { OnErr result.0 (OnErr result.1 (one.new ≡ other.new)) }
 {
     (one.truncate(replica, count), other.truncate(replica, count))
+}
+
+fn with_updates_of_is_exact(
+    set: &UpdateSet,
+    replica: u8,
+    other: &UpdateSet,
+) -> Result<(Ready, Ready), AllocError>
+    requires { replica < REPLICAS }
+    ensures { IfOk result (λ both. both.0 ≡ both.1) }
+{
+    Ok((
+        set.with_updates_of(replica, other)?,
+        set.with_updates_of(replica, other)?,
+    ))
+}
+
+fn first_is_exact(one: Ready, other: Ready, replica: u8, len: u32) -> (UpdateSet, UpdateSet)
+    requires { one ≡ other }
+    ensures { result.0 ≡ result.1 }
+{
+    (one.first(replica, len), other.first(replica, len))
+}
+
+fn run_is_exact<'a>(
+    set: &'a UpdateSet,
+    replica: u8,
+    from: u32,
+    most: u32,
+) -> Result<(Vec<&'a Update>, Vec<&'a Update>), AllocError>
+    requires { replica < REPLICAS }
+    ensures { IfOk result (λ both.
+        map (λ u. u.now) both.0.items ≡ map (λ u. u.now) both.1.items) }
+{
+    Ok((set.run(replica, from, most)?, set.run(replica, from, most)?))
 }
 
 fn contains_all_is_exact(set: &UpdateSet, other: &UpdateSet) -> (bool, bool)

@@ -1,12 +1,13 @@
 -- The objects of a shelf, as rows of a number and a state.
-use Rattle.std.proofs.Common.{◌≡◌, ℕ, zero, suc, ◌<◌, ◌≤◌, ◌==◌, nat_eq, Bool, true, false, cond, List, [], ◌∷◌, ◌++◌, length, take, map, Option, Some, None, is_some, refl, ap, sym, ◌∙◌, subst, arith, true≢false, position}
+use Rattle.std.proofs.Common.{◌≡◌, ℕ, zero, suc, ◌+◌, ◌<◌, ◌≤◌, ◌==◌, nat_eq, Bool, true, false, cond, List, [], ◌∷◌, ◌++◌, length, take, fold, map, get_or, Option, Some, None, is_some, refl, ap, sym, ◌∙◌, subst, arith, true≢false, position}
 use Rattle.std.specs.List.{All, slice_get, IsDistinct, AllByRecursion}
 use Rattle.std.specs.Map.{lookup, lookup_key, keys_of, values_of, remove_entry}
 use Rattle.std.proofs.lemmas.Map.Views.{All-map-remove_entry}
-use Rattle.std.specs.Option.{option_map}
+use Rattle.std.specs.Option.{option_map, MatchOption}
 use Rattle.std.proofs.lemmas.Bool.{eq-eqb, eqb-true}
 use Rattle.std.proofs.lemmas.Option.{same_Some, none-some, slice_get_within, get_or_from_slice_get}
 use Rattle.std.proofs.lemmas.List.{length-take, take_all}
+use Rattle.std.proofs.lemmas.List.Sums.{fold-append}
 use Rattle.std.specs.Option.{IsSome, IsSomeAnd}
 use Rattle.std.proofs.lemmas.List.Elements.{All-map, All-weaker, All-cons, All-filter, All-head, All-tail, All-take, All-push}
 use Rattle.std.proofs.lemmas.List.Sorted.{All-permutation, IsPermutation-middle, IsPermutation-sym}
@@ -14,13 +15,14 @@ use Rattle.indexmap.specs.IndexMap.{set_value_at}
 use Rattle.indexmap.proofs.MapLemmas.{Found-position}
 use Rattle.la_set.specs.declared.update.Update.{Update}
 use Rattle.la_set.specs.Histories.{Histories, history, updates, empty, from_histories, IsNext, push}
+use Rattle.la_set.specs.Deltas.{AreNext}
 use Rattle.la_object.specs.declared.kind.Kind.{Kind}
 use Rattle.la_object.specs.declared.kind.Kind.TheVariants.{Counter as CounterKind, MaxRegister, OrSet}
 use Rattle.la_object.specs.declared.query.Query.{Query}
 use Rattle.la_object.specs.declared.query.Answer.{Answer}
 use Rattle.la_object.specs.declared.state.State.{State}
 use Rattle.la_object.specs.Objects.{after, steps, start, kind_of, HasRoom, of_object, reply, value, tags_of, tags_by, answers_a_list}
-use Rattle.la_object.specs.Shelves.{kinds, IsObject, IsSmall, IsShelf, state_by, kind_at, updates_at, answer_at, tags_at, state_at}
+use Rattle.la_object.specs.Shelves.{kinds, absorbed, all_absorbed, HaveRoom, IsObject, IsSmall, IsShelf, state_by, kind_at, updates_at, answer_at, tags_at, state_at}
 use Rattle.la_object.proofs.Replies.{kind_of-after, steps-HasRoom, reply-steps, tags-steps}
 use Rattle.la_object.proofs.NewUpdates.{length-filter-le}
 use Rattle.la_object.proofs.Views.{push-IsInserted, steps-push_own, steps-push_other, distinct-view, ascending-view}
@@ -28,10 +30,6 @@ use Rattle.la_object.proofs.Views.{push-IsInserted, steps-push_own, steps-push_o
 -- the rows of a list of objects
 abbrev pub rows : {B : Type 0} → (B → State) → List (ℕ × B) → List (ℕ × State)
 rows f es = map (λ e. (e.0, f e.1)) es
-
--- the rows after one more update
-abbrev pub absorbed : Update → List (ℕ × State) → List (ℕ × State)
-absorbed u ss = map (λ p. (p.0, cond (u.object == p.0) (after p.1 u) p.1)) ss
 
 pub rows-set_value_at : {B : Type 0} (f : B → State) (es : List (ℕ × B)) (i : ℕ) (w : B) → rows f (set_value_at es i w) ≡ set_value_at (rows f es) i (f w)
 rows-set_value_at f [] i w = refl
@@ -68,6 +66,21 @@ key_at es i k found =
     let q = some_key es i here.within in
     q.1 ∙ ap Some (sym (lookup_key-passes k q.0 es (here.key ∙ q.1)))
 
+pub none_from : {X : Type 0} (o : Option X) → false ≡ is_some o → o ≡ None
+none_from (Some x) e = absurd (true≢false (sym e))
+none_from None e = refl
+
+-- what a look-up finds
+pub found-or-none : {X : Type 0} (es : List (ℕ × X)) (k : ℕ) (o : Option ℕ) → o ≡ position (nat_eq k) (keys_of es) → is_some o ≡ is_some (lookup (nat_eq k) es) → MatchOption o (lookup (nat_eq k) es ≡ None) (λ i. slice_get (keys_of es) i ≡ Some k)
+found-or-none es k (Some i) is found = key_at es i k (sym is)
+found-or-none es k None is found = none_from (lookup (nat_eq k) es) found
+
+-- where there is a key there is a value
+pub key-value : {X : Type 0} (es : List (ℕ × X)) (i k : ℕ) → slice_get (keys_of es) i ≡ Some k → slice_get (values_of es) i ≡ None → ⊥
+key-value [] i k key none = none-some k key
+key-value (e ∷ es) zero k key none = none-some e.1 (sym none)
+key-value (e ∷ es) (suc i) k key none = key-value es i k key none
+
 -- no row has the number
 abbrev pub Lacks : ℕ → List (ℕ × State) → Type 0
 Lacks k [] = Unit {0}
@@ -85,7 +98,7 @@ lacks_from_lookup f k (x ∷ es) e = by (nat_eq k x.0) refl (lacks_from_lookup f
     by true is rest h = absurd (none-some x.1 (sym h))
     by false is rest h = (is, rest h)
 
-pub absorbed-lacks : (u : Update) (ss : List (ℕ × State)) → Lacks u.object ss → absorbed u ss ≡ ss
+pub absorbed-lacks : (u : Update) (ss : List (ℕ × State)) → Lacks u.object ss → absorbed ss u ≡ ss
 absorbed-lacks u [] lacks = refl
 absorbed-lacks u (p ∷ ss) lacks = (λ i. (p.0, cond (lacks.0 i) (after p.1 u) p.1) ∷ absorbed-lacks u ss lacks.1 i)
 
@@ -95,7 +108,7 @@ other_key q (p ∷ ss) zero k t e d = subst (λ y. nat_eq q y ≡ false) (ap (λ
 other_key q (p ∷ ss) (suc i) k t e d = other_key q ss i k t e d.1
 
 -- a write at the row with the update's number
-pub absorbed-hit : (u : Update) (ss : List (ℕ × State)) (i : ℕ) (t : State) → slice_get ss i ≡ Some (u.object, t) → IsDistinct nat_eq (keys_of ss) → set_value_at ss i (after t u) ≡ absorbed u ss
+pub absorbed-hit : (u : Update) (ss : List (ℕ × State)) (i : ℕ) (t : State) → slice_get ss i ≡ Some (u.object, t) → IsDistinct nat_eq (keys_of ss) → set_value_at ss i (after t u) ≡ absorbed ss u
 unfolding IsDistinct
 absorbed-hit u [] i t e d = absurd (none-some (u.object, t) e)
 absorbed-hit u (p ∷ ss) zero t e d =
@@ -106,7 +119,7 @@ absorbed-hit u (p ∷ ss) zero t e d =
     ∙ ap (λ rs. (p.0, cond (u.object == p.0) (after p.1 u) p.1) ∷ rs) (sym (absorbed-lacks u ss (lacks_from_distinct u.object p.0 ss own d.0)))
 absorbed-hit u (p ∷ ss) (suc i) t e d =
     ap (λ rs. p ∷ rs) (absorbed-hit u ss i t e d.1)
-    ∙ ap (λ b. (p.0, cond b (after p.1 u) p.1) ∷ absorbed u ss) (sym (swap_eq u.object p.0 (other_key p.0 ss i u.object t e d.0)))
+    ∙ ap (λ b. (p.0, cond b (after p.1 u) p.1) ∷ absorbed ss u) (sym (swap_eq u.object p.0 (other_key p.0 ss i u.object t e d.0)))
   where
     swap_eq : (a b : ℕ) → nat_eq b a ≡ false → nat_eq a b ≡ false
     swap_eq a b h = by (nat_eq a b) refl
@@ -121,7 +134,7 @@ set_value_at-same [] i k t e = refl
 set_value_at-same (p ∷ ss) zero k t e = ap (λ s. (p.0, s) ∷ ss) (sym (ap (λ (r : ℕ × State). r.1) (same_Some _ _ e)))
 set_value_at-same (p ∷ ss) (suc i) k t e = ap (λ rs. p ∷ rs) (set_value_at-same ss i k t e)
 
-pub kinds-absorbed : (u : Update) (ss : List (ℕ × State)) → kinds (absorbed u ss) ≡ kinds ss
+pub kinds-absorbed : (u : Update) (ss : List (ℕ × State)) → kinds (absorbed ss u) ≡ kinds ss
 kinds-absorbed u [] = refl
 kinds-absorbed u (p ∷ ss) = λ i. (p.0, by (u.object == p.0) i) ∷ kinds-absorbed u ss i
   where
@@ -130,7 +143,7 @@ kinds-absorbed u (p ∷ ss) = λ i. (p.0, by (u.object == p.0) i) ∷ kinds-abso
     by false = refl
 
 -- the rows after one more update are those of the view with it
-pub absorbed-agree : (view : Histories) (u : Update) (ss : List (ℕ × State)) → IsNext view u.id → All (IsObject view) ss → All (IsObject (push view u)) (absorbed u ss)
+pub absorbed-agree : (view : Histories) (u : Update) (ss : List (ℕ × State)) → IsNext view u.id → All (IsObject view) ss → All (IsObject (push view u)) (absorbed ss u)
 absorbed-agree view u ss next agree = All-map (IsObject (push view u)) (λ p. (p.0, cond (u.object == p.0) (after p.1 u) p.1)) ss (All-weaker (IsObject view) (λ p. IsObject (push view u) (p.0, cond (u.object == p.0) (after p.1 u) p.1)) (λ p is. by p is (u.object == p.0) refl) ss agree)
   where
     by : (p : ℕ × State) → IsObject view p → (b : Bool) → u.object == p.0 ≡ b → IsObject (push view u) (p.0, cond b (after p.1 u) p.1)
@@ -144,18 +157,48 @@ small-push view u next one all =
     (IsPermutation-sym _ _ (IsPermutation-middle put.before u put.later))
     (All-cons IsSmall u (put.before ++ put.later) one (subst (All IsSmall) put.old all)))
 
-pub push-IsShelf : (view : Histories) (u : Update) (ss : List (ℕ × State)) → IsNext view u.id → IsSmall u → IsShelf view ss → IsShelf (push view u) (absorbed u ss)
+pub push-IsShelf : (view : Histories) (u : Update) (ss : List (ℕ × State)) → IsNext view u.id → IsSmall u → IsShelf view ss → IsShelf (push view u) (absorbed ss u)
 push-IsShelf view u ss next one keeps = record { agree = absorbed-agree view u ss next keeps.agree; small = small-push view u next one keeps.small }
 
 All-at : {X : Type 0} (P : X → Type 0) (xs : List X) (i : ℕ) (x : X) → All P xs → slice_get xs i ≡ Some x → P x
 All-at P xs i x all e = subst P (get_or_from_slice_get xs i x x e) (all i x (slice_get_within xs i x e))
 
--- an object of a shelf has room
-pub row-HasRoom : (view : Histories) (ss : List (ℕ × State)) (i k : ℕ) (t : State) → IsShelf view ss → length (updates view) ≤ 8000000 → slice_get ss i ≡ Some (k, t) → HasRoom t
-row-HasRoom view ss i k t keeps few at =
-    let own : Update → Bool = λ u. u.object == k in
-    subst HasRoom (sym (All-at (IsObject view) ss i (k, t) keeps.agree at))
-    (steps-HasRoom (kind_of t) (of_object k (updates view)) (All-filter own IsSmall (updates view) keeps.small) (omega (arith, few, length-filter-le own (updates view))))
+-- the objects of a shelf have room
+pub shelf-HaveRoom : (view : Histories) (ss : List (ℕ × State)) → IsShelf view ss → length (updates view) ≤ 8000000 → HaveRoom ss
+shelf-HaveRoom view ss keeps few = All-weaker (IsObject view) (λ p. HasRoom p.1) (λ p is.
+    let own : Update → Bool = λ u. u.object == p.0 in
+    subst HasRoom (sym is)
+    (steps-HasRoom (kind_of p.1) (of_object p.0 (updates view)) (All-filter own IsSmall (updates view) keeps.small) (omega (arith, few, length-filter-le own (updates view))))) ss keeps.agree
+
+pub row-HasRoom : (ss : List (ℕ × State)) (i k : ℕ) (t : State) → HaveRoom ss → slice_get ss i ≡ Some (k, t) → HasRoom t
+row-HasRoom ss i k t room at = All-at (λ p. HasRoom p.1) ss i (k, t) room at
+
+-- ## More updates, one after another
+
+pub run-IsShelf : (view : Histories) (ss : List (ℕ × State)) (us : List Update) → AreNext view us → All IsSmall us → IsShelf view ss → IsShelf (fold push view us) (all_absorbed ss us)
+run-IsShelf view ss [] next small keeps = keeps
+run-IsShelf view ss (u ∷ us) next small keeps = run-IsShelf (push view u) (absorbed ss u) us next.1 (All-tail IsSmall u us small) (push-IsShelf view u ss next.0 (All-head IsSmall u us small) keeps)
+
+pub kinds-all_absorbed : (ss : List (ℕ × State)) (us : List Update) → kinds (all_absorbed ss us) ≡ kinds ss
+kinds-all_absorbed ss [] = refl
+kinds-all_absorbed ss (u ∷ us) = kinds-all_absorbed (absorbed ss u) us ∙ kinds-absorbed u ss
+
+-- an item of a list, seen through a map
+pub mapped-at : {X Y : Type 0} (f : X → Y) (xs : List X) (i : ℕ) (x d : X) → i < length xs → x ≡ get_or xs i d → slice_get (map f xs) i ≡ Some (f x)
+mapped-at f [] i x d lt is = absurd (omega arith)
+mapped-at f (y ∷ xs) zero x d lt is = ap (λ z. Some (f z)) (sym is)
+mapped-at f (y ∷ xs) (suc i) x d lt is = mapped-at f xs i x d (omega arith) is
+
+take_one_more : {X : Type 0} (xs : List X) (n : ℕ) (x : X) → slice_get xs n ≡ Some x → take (n + 1) xs ≡ take n xs ++ x ∷ []
+take_one_more [] n x e = absurd (none-some x e)
+take_one_more (y ∷ xs) zero x e = ap (λ z. z ∷ []) (same_Some y x e)
+take_one_more (y ∷ xs) (suc n) x e = ap (λ k. take k (y ∷ xs)) {x = suc n + 1} {y = suc (n + 1)} (omega arith) ∙ ap (λ zs. y ∷ zs) (take_one_more xs n x e)
+
+pub absorbed-next : (ss : List (ℕ × State)) (us : List Update) (n : ℕ) (u : Update) → slice_get us n ≡ Some u → all_absorbed ss (take (n + 1) us) ≡ absorbed (all_absorbed ss (take n us)) u
+absorbed-next ss us n u e = ap (all_absorbed ss) (take_one_more us n u e) ∙ fold-append absorbed ss (take n us) (u ∷ [])
+
+pub small-next : (us : List Update) (n : ℕ) (u : Update) → slice_get us n ≡ Some u → IsSmall u → All IsSmall (take n us) → All IsSmall (take (n + 1) us)
+small-next us n u e one all = subst (All IsSmall) (sym (take_one_more us n u e)) (All-push IsSmall (take n us) u all one)
 
 -- the kind under a number
 pub kind_at-rows : {B : Type 0} (f : B → State) (k : ℕ) (es : List (ℕ × B)) → kind_at (kinds (rows f es)) k ≡ option_map (λ v. kind_of (f v)) (lookup (nat_eq k) es)
@@ -210,20 +253,16 @@ module _ {B : Type 0} (view : Histories) (f : B → State) (k : ℕ) (es : List 
   pub lookup-listing : (query : Query) → IsSomeAnd (kind_at (kinds (rows f es)) k) (λ kind. answers_a_list kind query ≡ false) → answers_a_list (kind_of (f v)) query ≡ false
   lookup-listing query none = subst (λ o. IsSomeAnd o (λ kind. answers_a_list kind query ≡ false)) found_kind none
 
-pub none_from : {X : Type 0} (o : Option X) → false ≡ is_some o → o ≡ None
-none_from (Some x) e = absurd (true≢false (sym e))
-none_from None e = refl
-
 pub updates-empty : updates empty ≡ []
 unfolding updates empty from_histories history
 updates-empty = refl
 
--- a shelf's objects at the number of an update that comes next
-module _ {B : Type 0} (f : B → State) (es : List (ℕ × B)) (i : ℕ) (u : Update) (v w : B) (key : position (nat_eq u.object) (keys_of es) ≡ Some i) (here : slice_get (values_of es) i ≡ Some v) where
+-- a shelf's objects at the number of an update
+module _ {B : Type 0} (f : B → State) (es : List (ℕ × B)) (i : ℕ) (u : Update) (v w : B) (key : slice_get (keys_of es) i ≡ Some u.object) (here : slice_get (values_of es) i ≡ Some v) where
   pub row_here : slice_get (rows f es) i ≡ Some (u.object, f v)
-  row_here = row_at f es i u.object v (key_at es i u.object key) here
+  row_here = row_at f es i u.object v key here
 
-  pub rows-absorbed : IsDistinct nat_eq (keys_of es) → f w ≡ after (f v) u → rows f (set_value_at es i w) ≡ absorbed u (rows f es)
+  pub rows-absorbed : IsDistinct nat_eq (keys_of es) → f w ≡ after (f v) u → rows f (set_value_at es i w) ≡ absorbed (rows f es) u
   rows-absorbed unique is = rows-set_value_at f es i w ∙ ap (set_value_at (rows f es) i) is ∙ absorbed-hit u (rows f es) i (f v) row_here (subst (IsDistinct nat_eq) (sym (keys_of-rows f es)) unique)
 
   pub rows-same : f w ≡ f v → rows f (set_value_at es i w) ≡ rows f es

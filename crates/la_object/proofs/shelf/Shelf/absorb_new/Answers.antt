@@ -1,74 +1,59 @@
-use Rattle.std.proofs.Common.{◌≡◌, [], ◌∷◌, drop, length, Ok, sym, ap, ◌∙◌, subst, arith}
+use Rattle.std.proofs.Common.{◌≡◌, [], length, Ok, sym, ap, ◌∙◌, subst, arith}
 use Rattle.std.proofs.lemmas.List.{length-drop}
-use Rattle.la_set.specs.Histories.{Histories, updates, push}
-use Rattle.la_set.specs.Inclusion.{IsSubset}
+use Rattle.la_set.specs.Histories.{Histories, updates}
+use Rattle.la_set.specs.Join.{HasNoMore}
 use Rattle.la_set.specs.Difference.{beyond, lacks}
-use Rattle.la_object.specs.Shelves.{ShelfState, IsFirstBeyond}
-use Rattle.la_object.proofs.NewUpdates.{length-filter-le, after_first-next, drop-next, drop-within, nothing_left, nothing_new}
+use Rattle.la_object.specs.Shelves.{ShelfState}
+use Rattle.la_object.proofs.NewUpdates.{length-filter-le, nothing_beyond, nothing_left, nothing_new}
+use Rattle.la_object.proofs.Runs.{more-HasTaken}
 use Rattle.la_object.proofs.shelf.Shelf.absorb_new.Goals as goal
 
 pub overflow_add-done : goal.overflow_add-done
-overflow_add-done g c = omega (arith, c.loop-update.invariant.few, length-filter-le (lacks c.args.self.now.view) (updates c.args.set.now), c.len-limited.ensures.len, c.len-limited.ensures.limit)
+overflow_add-done g c =
+    let old = c.args.self.now in let set = c.args.set.now in
+    let more = more-HasTaken old c.loop-replica.self c.absorb_run.new.self set c.loop-replica.done c.in-Ok.many c.loop-replica.invariant c.in-Ok.ensures.ok in
+    omega (arith, more.few, length-filter-le (lacks old.view) (updates set), c.len-limited.ensures.len, c.len-limited.ensures.limit)
 
-pub loop-update-preserved : goal.loop-update-preserved
-loop-update-preserved g c =
-    let old = c.args.self.now.view in let set = c.args.set.now in let view = c.loop-update.self.view in let k = c.loop-update.done in let u = c.in-Some.update.now in
-    let all = beyond set old in let rest = beyond set (push view u) in
-    let first : IsFirstBeyond view set u = subst (λ (v : Histories). IsFirstBeyond v set u) c.view.ensures c.in-Some.ensures in
-    let next : drop k all ≡ u ∷ rest = sym c.loop-update.invariant.left ∙ first.left in
-    let pushed : c.absorb_next.new.self.view ≡ push view u = ap (λ (s : ShelfState). s.view) c.in-Ok.ensures.ok in
-    record {
-      so_far = c.in-Ok.ensures.ok
-          ∙ ap (λ (s : ShelfState). record s { view = push s.view u }) c.loop-update.invariant.so_far
-          ∙ ap (λ v. record c.args.self.now { view = v }) (sym (after_first-next old all k u rest next));
-      left = ap (beyond set) pushed ∙ sym (drop-next all k u rest next);
-      within = subst (λ (v : Histories). IsSubset v set) (sym pushed) first.within;
-      few = omega (arith, drop-within all k u rest next);
-    }
+pub loop-replica-preserved : goal.loop-replica-preserved
+loop-replica-preserved g c = more-HasTaken c.args.self.now c.loop-replica.self c.absorb_run.new.self c.args.set.now c.loop-replica.done c.in-Ok.many c.loop-replica.invariant c.in-Ok.ensures.ok
+
+pub overflow_add-result : goal.overflow_add-result
+overflow_add-result g c =
+    let old = c.args.self.now in let set = c.args.set.now in
+    let more = more-HasTaken old c.loop-replica.self c.absorb_run.new.self set c.loop-replica.done c.in-Err.many c.loop-replica.invariant c.in-Err.ensures.err in
+    omega (arith, more.few, length-filter-le (lacks old.view) (updates set), c.len-limited.ensures.len, c.len-limited.ensures.limit)
+
+pub returns-in-Err-clause-error : goal.returns-in-Err-clause-error
+returns-in-Err-clause-error g c =
+    let old = c.args.self.now in let set = c.args.set.now in let done = c.loop-replica.done in
+    let more = more-HasTaken old c.loop-replica.self c.absorb_run.new.self set done c.in-Err.many c.loop-replica.invariant c.in-Err.ensures.err in
+    (c.requires, (omega (arith, c.in-Err.ensures.fewer, ap length c.loop-replica.invariant.left, length-drop done (beyond set old.view)), more.taken))
+
+pub returns-in-Err-clause-again : goal.returns-in-Err-clause-again
+returns-in-Err-clause-again g c =
+    let old = c.args.self.now in let set = c.args.set.now in
+    λ same. absurd (omega (arith, c.in-Err.ensures.fewer, ap length c.loop-replica.invariant.left, length-drop c.loop-replica.done (beyond set old.view), nothing_new old.view set same))
 
 pub share-requires-after_bounds : goal.share-requires-after_bounds
-share-requires-after_bounds g c κs live =
-    let set = c.args.set.now in
-    let none : beyond set c.loop-update.self.view ≡ [] = subst (λ (v : Histories). beyond set v ≡ []) c.view.ensures c.in_default.ensures in
-    sym (nothing_left c.loop-update.self.view set c.loop-update.invariant.within none)
+share-requires-after_bounds g c κs within =
+    let set = c.args.set.now in let view = c.loop-replica.self.view in
+    let none : HasNoMore set view = subst (λ (v : Histories). HasNoMore set v) c.view.ensures c.in_default.ensures in
+    sym (nothing_left view set c.loop-replica.invariant.within (nothing_beyond view set c.loop-replica.invariant.within (λ q lt. none q)))
 
 pub returns-clause-ok : goal.returns-clause-ok
 returns-clause-ok g c =
-    let set = c.args.set.now in let start = c.args.self.now in
-    let none : beyond set c.loop-update.self.view ≡ [] = subst (λ (v : Histories). beyond set v ≡ []) c.view.ensures c.in_default.ensures in
-    let now : c.loop-update.self.view ≡ set = nothing_left c.loop-update.self.view set c.loop-update.invariant.within none in
-    c.share.ensures ∙ c.loop-update.invariant.so_far
-    ∙ ap (λ v. record start { view = v }) (sym (ap (λ (s : ShelfState). s.view) c.loop-update.invariant.so_far) ∙ now)
+    let old = c.args.self.now in let set = c.args.set.now in let view = c.loop-replica.self.view in
+    let none : HasNoMore set view = subst (λ (v : Histories). HasNoMore set v) c.view.ensures c.in_default.ensures in
+    let now : view ≡ set = nothing_left view set c.loop-replica.invariant.within (nothing_beyond view set c.loop-replica.invariant.within (λ q lt. none q)) in
+    c.share.ensures ∙ c.loop-replica.invariant.taken
+    ∙ ap (λ v. record old { view = v }) (sym (ap (λ (s : ShelfState). s.view) c.loop-replica.invariant.taken) ∙ now)
 
 pub returns-clause-many : goal.returns-clause-many
 returns-clause-many g c =
-    let set = c.args.set.now in let old = c.args.self.now.view in
-    let none : beyond set c.loop-update.self.view ≡ [] = subst (λ (v : Histories). beyond set v ≡ []) c.view.ensures c.in_default.ensures in
-    omega (arith, c.loop-update.invariant.few, ap length (sym c.loop-update.invariant.left ∙ none), length-drop c.loop-update.done (beyond set old))
-
-pub returns-in_default-absorb_next-clause-error : goal.returns-in_default-absorb_next-clause-error
-returns-in_default-absorb_next-clause-error g c =
-    let old = c.args.self.now.view in let set = c.args.set.now in let view = c.loop-update.self.view in let k = c.loop-update.done in let u = c.in-Some.update.now in
-    let all = beyond set old in let rest = beyond set (push view u) in
-    let first : IsFirstBeyond view set u = subst (λ (v : Histories). IsFirstBeyond v set u) c.view.ensures c.in-Some.ensures in
-    let next : drop k all ≡ u ∷ rest = sym c.loop-update.invariant.left ∙ first.left in
-    let sub : IsSubset old set = c.requires in
-    (sub, (drop-within all k u rest next, c.in_default-absorb_next.ensures.err ∙ c.loop-update.invariant.so_far))
-
-pub returns-in_default-absorb_next-clause-again : goal.returns-in_default-absorb_next-clause-again
-returns-in_default-absorb_next-clause-again g c =
-    let old = c.args.self.now.view in let set = c.args.set.now in let view = c.loop-update.self.view in let k = c.loop-update.done in let u = c.in-Some.update.now in
-    let all = beyond set old in let rest = beyond set (push view u) in
-    let first : IsFirstBeyond view set u = subst (λ (v : Histories). IsFirstBeyond v set u) c.view.ensures c.in-Some.ensures in
-    let next : drop k all ≡ u ∷ rest = sym c.loop-update.invariant.left ∙ first.left in
-    λ same. absurd (omega (arith, drop-within all k u rest next, nothing_new old set same))
+    let old = c.args.self.now in let set = c.args.set.now in let view = c.loop-replica.self.view in
+    let none : HasNoMore set view = subst (λ (v : Histories). HasNoMore set v) c.view.ensures c.in_default.ensures in
+    let empty : beyond set view ≡ [] = nothing_beyond view set c.loop-replica.invariant.within (λ q lt. none q) in
+    omega (arith, c.loop-replica.invariant.few, ap length (sym c.loop-replica.invariant.left ∙ empty), length-drop c.loop-replica.done (beyond set old.view))
 
 pub returns-clause-again : goal.returns-clause-again
-returns-clause-again g c = λ same. ap (λ n. Ok n) {x = c.loop-update.done} {y = 0} (omega (arith, c.loop-update.invariant.few, nothing_new c.args.self.now.view c.args.set.now same))
-
-pub returns-in_default-absorb_next-clause-within : goal.returns-in_default-absorb_next-clause-within
-returns-in_default-absorb_next-clause-within g c sub =
-    subst (λ (s : ShelfState). IsSubset s.view c.args.set.now) (sym c.in_default-absorb_next.ensures.err) c.loop-update.invariant.within
-
-pub returns-clause-within : goal.returns-clause-within
-returns-clause-within g c sub = subst (λ (s : ShelfState). IsSubset s.view c.args.set.now) (sym c.share.ensures) c.loop-update.invariant.within
+returns-clause-again g c = λ same. ap (λ n. Ok n) {x = c.loop-replica.done} {y = 0} (omega (arith, c.loop-replica.invariant.few, nothing_new c.args.self.now.view c.args.set.now same))

@@ -1,0 +1,12 @@
+pub mod Decimals
+pub mod Joins
+pub mod Ids
+pub mod UpdatesBack
+pub mod Sets
+pub mod UpdateLists
+pub mod MessagesBack
+pub mod CallsBack
+pub mod Clean
+pub mod ScriptCalls
+pub mod Tests
+pub mod AlikeLetters

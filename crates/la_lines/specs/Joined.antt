@@ -1,0 +1,17 @@
+-- Texts put one behind another, with a byte between them.
+use Rattle.std.specs.Prelude.{ℕ, List, [], ◌∷◌, ◌++◌, ◌==◌}
+use Rattle.std.specs.List.{slice_split}
+
+-- each part with the byte before it
+abbrev pub spaced : (byte : ℕ) → List (List ℕ) → List ℕ
+spaced byte [] = []
+spaced byte (part ∷ parts) = byte ∷ part ++ spaced byte parts
+
+-- the parts with the byte between them
+abbrev pub joined : (byte : ℕ) → List (List ℕ) → List ℕ
+joined byte [] = []
+joined byte (part ∷ parts) = part ++ spaced byte parts
+
+-- what stands between the bytes
+abbrev pub parted : (byte : ℕ) → List ℕ → List (List ℕ)
+parted byte line = slice_split (λ b. b == byte) line

@@ -1,0 +1,23 @@
+-- An input: a line, and the call that it says.
+use Rattle.std.specs.Prelude.{◌≡◌, ◌⊎◌, ℕ, true, false, List, Some, Err}
+use Rattle.la_lines.specs.declared.calls.Call as code
+use Rattle.la_lines.specs.declared.error.LineError.{LineError}
+use Rattle.la_lines.specs.declared.error.LineError.TheVariants.{Fault, Memory}
+use Rattle.la_lines.specs.declared.error.LineFault.TheVariants.{BadLine}
+use Rattle.la_lines.specs.Calls.{called}
+use Rattle.la_lines.specs.CallLines.{named, bounded_call_of}
+use Rattle.la_node.specs.CallLines.{is_line, may_stand}
+
+pub record InputState : Type 0 where
+  pub line : List ℕ
+  pub call : code.Call
+
+pub record IsInput (i : InputState) : Type 0 where
+  pub is : is_line i.line ≡ true
+  pub says : named i.line ≡ Some (called i.call)
+
+-- a line from outside is not taken: it has a fault, or may not stand in a journal; or memory ran out
+abbrev pub IsInputRefusal : List ℕ → LineError → Type 0
+IsInputRefusal line (Fault fault) =
+    (bounded_call_of line ≡ Err fault) ⊎ ((may_stand line ≡ false) × (fault ≡ BadLine))
+IsInputRefusal line Memory = Unit {0}

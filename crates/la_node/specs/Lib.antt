@@ -1,0 +1,6 @@
+pub mod Accepting
+pub mod Given
+pub mod CallLines
+pub mod Nodes
+pub mod Errors
+pub mod Inputs
