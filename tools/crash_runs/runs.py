@@ -147,7 +147,7 @@ class Run:
 
     def tear(self, node: Node) -> None:
         """Puts behind a journal what a crash in an append may leave there."""
-        line = f"submit {node.own} 1 inc 4444\n"[: self.draw.randint(0, 20)] + "\0" * self.draw.randint(0, 3)
+        line = f"submit {node.own} 1 inc 4444"[: self.draw.randint(0, 19)] + "\0" * self.draw.randint(0, 3)
         with (node.folder / "journal").open("ab") as journal:
             journal.write(line.encode())
         self.figures["torn"] += 1
