@@ -86,7 +86,7 @@ class Run:
         other = (own + 1) % self.group.replicas
         mail = [it for it in self.pool if it.split(" ")[3] != str(own)]
         elsewhere = ["", "# tick", f"# r{other} view 1 1 1 1 1 1 1 1", f"submit {other} 1 inc 7", f"ask {other} 1 total"]
-        elsewhere += [f"decide {other} 0 9", f"yes {self.group.replicas + 1} {other} {own} 0 1", *self.draw.sample(mail, min(3, len(mail)))]
+        elsewhere += [f"decide {other} 0 9", f"yes {self.group.replicas % 8 + 1} {other} {own} 0 1", *self.draw.sample(mail, min(3, len(mail)))]
         return self.draw.choice((*elsewhere, *FAULTY))
 
     # What happens
