@@ -187,8 +187,9 @@ class Checker:
         }
         if not just.get(name):
             self.fault("refused", own, f"{' '.join(words)}: {name}")
-        if words[0] == "decide":
-            self.proposals[int(words[2]), own].remove(int(words[3]))
+        may_be = self.proposals[int(words[2]), own] if words[0] == "decide" else []
+        if may_be and int(words[3]) in may_be:
+            may_be.remove(int(words[3]))
 
     def note_answered(self, own: int, number: str, text: str, *_: str) -> None:
         words, node = self.answered_line(own, "ask"), self.nodes[own]

@@ -27,11 +27,12 @@ class Node:
         self.words, self.own, self.folder, self.note = words, own, folder, note
         self.errors = folder.with_suffix(".errors")
         self.process: subprocess.Popen[bytes] | None = None
-        self.line, self.held = 0, b""
+        self.line, self.held, self.lives = 0, b"", 0
 
     def start(self) -> None:
         self.note(("start", self.own, ""))
         self.line, self.held = 0, b""
+        self.lives += 1
         with self.errors.open("wb") as errors:
             self.process = subprocess.Popen(
                 self.words, stdin=subprocess.PIPE, stdout=subprocess.PIPE, stderr=errors, bufsize=0

@@ -116,7 +116,7 @@ class Run:
 
     def step(self) -> None:
         """One node is given a few lines, or is killed."""
-        if self.draw.random() < 0.04:
+        if self.draw.random() < 0.06:
             return self.kill(self.draw.choice(self.nodes))
         up = self.up()
         if not self.pool or not up:
@@ -210,6 +210,9 @@ class Run:
         while self.work:
             self.step()
             self.in_time()
+        for node in self.nodes:
+            if node.lives == 1:
+                self.kill(node)
         self.settle()
         self.note(("last", 0, ""))
         self.ask_all()
