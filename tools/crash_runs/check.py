@@ -96,7 +96,8 @@ class Checker:
         node, words = self.nodes[own], line.split(" ")
         node.line += 1
         mine = words[:2] in ([it, str(own)] for it in ("submit", "decide", "ask"))
-        mailed = words[0] in ("offer", "yes", "no", "tell") and words[1:2] + words[3:4] == [str(self.group.replicas), str(own)]
+        here = [str(self.group.replicas), str(own)]
+        mailed = words[0] in ("offer", "yes", "no", "tell") and words[1:4:2] == here
         if line in FAULTY:
             return node.to_say.append(f"line {node.line}: {FAULTY[line]}")
         node.passed = node.passed and not (mine and words[0] != "ask" or mailed or words == ["tick"])

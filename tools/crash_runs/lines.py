@@ -11,7 +11,8 @@ OBJECTS = rf"inc {NUMBER}|dec {NUMBER}|raise {NUMBER}|put {NUMBER}|remove{TAGS}|
 UPDATE = re.compile(rf"{NUMBER}\.{NUMBER} ({NUMBER} (?:{OBJECTS}|vote {NUMBER}|sole {NUMBER}))")
 HEAD = re.compile(rf"(offer|yes|no|tell) {NUMBER} {NUMBER} {NUMBER} {NUMBER} {NUMBER}")
 BASE = re.compile(rf" base((?: {NUMBER}){{{REPLICAS}}})")
-ANSWER = rf"total (?:0|-?[1-9][0-9]*)|largest {NUMBER}|(?:has|reached) (?:yes|no)|size {NUMBER}|items \[[0-9 ]*\]|foreign"
+TOTAL = "total (?:0|-?[1-9][0-9]*)"
+ANSWER = rf"{TOTAL}|largest {NUMBER}|(?:has|reached) (?:yes|no)|size {NUMBER}|items \[[0-9 ]*\]|foreign"
 COUNTS = rf"((?: {NUMBER}){{{REPLICAS}}})"
 NOTES = {
     "submitted": re.compile(rf"submitted {NUMBER}\.{NUMBER}"),

@@ -70,7 +70,8 @@ class Run:
         number = number if self.draw.random() < 0.95 else self.draw.choice((0, 1, 2, 3, 65535))
         if word == "remove":
             ids = [f"{own}.{at}" for own, node in enumerate(self.checker.nodes) for at in [*node.submitted, 1]]
-            return " ".join([str(number), word, *sorted(set(self.draw.sample(ids, min(len(ids), self.draw.randint(0, 4)))))])
+            tags = self.draw.sample(ids, min(len(ids), self.draw.randint(0, 4)))
+            return " ".join([str(number), word, *sorted(set(tags))])
         largest = 2**32 - 1 if word in ("inc", "dec") else 2**64 - 1
         value = self.draw.randint(0, 5) if self.draw.random() < 0.95 else largest
         return f"{number} {word}" if word == "mark" else f"{number} {word} {value}"
@@ -85,8 +86,9 @@ class Run:
         """A line that this node has to pass over, or to tell a fault of."""
         other = (own + 1) % self.group.replicas
         mail = [it for it in self.pool if it.split(" ")[3] != str(own)]
-        elsewhere = ["", "# tick", f"# r{other} view 1 1 1 1 1 1 1 1", f"submit {other} 1 inc 7", f"ask {other} 1 total"]
-        elsewhere += [f"decide {other} 0 9", f"yes {self.group.replicas % 8 + 1} {other} {own} 0 1", *self.draw.sample(mail, min(3, len(mail)))]
+        elsewhere = ["", "# tick", f"# r{other} view 1 1 1 1 1 1 1 1", f"submit {other} 1 inc 7", f"decide {other} 0 9"]
+        elsewhere += [f"ask {other} 1 total", f"yes {self.group.replicas % 8 + 1} {other} {own} 0 1"]
+        elsewhere += self.draw.sample(mail, min(3, len(mail)))
         return self.draw.choice((*elsewhere, *FAULTY))
 
     # What happens
@@ -134,7 +136,8 @@ class Run:
     def kill(self, node: Node) -> None:
         """Kills a node in the midst of some lines, or starts one that is down; that may be killed at its start."""
         if node.process:
-            lines = self.taken_mail(node.own, self.draw.randint(0, 4)) + self.taken_work(node.own, self.draw.randint(0, 2))
+            lines = self.taken_mail(node.own, self.draw.randint(0, 4))
+            lines += self.taken_work(node.own, self.draw.randint(0, 2))
             self.draw.shuffle(lines)
             half = f"submit {node.own} 1 inc 9" if self.draw.random() < 0.3 else ""
             self.post(node.kill(lines, half, self.draw.uniform(0, 0.0002 * (len(lines) + 1))))
