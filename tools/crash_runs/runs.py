@@ -198,8 +198,8 @@ class Run:
         node.end()
         half = f"submit {node.own} 1 inc 5".encode()
         done = subprocess.run(node.words, input=half, capture_output=True, timeout=SECONDS, check=False)
-        if done.returncode or done.stdout:
-            self.checker.fault("half", node.own, f"status {done.returncode}, {done.stdout!r}")
+        if done.returncode or done.stdout or done.stderr != b"line 1: BadLine\n":
+            self.checker.fault("half", node.own, f"{done.stderr!r}, {done.stdout!r}, status {done.returncode}")
         node.start()
 
     def ask_all(self) -> None:
