@@ -23,6 +23,10 @@ def drawn_group(draw: random.Random, nodes: int | None) -> Group:
     return Group(replicas, draw.choice((0, 0, 1, 2)), draw.choice((10, 1_000_000, 1_000_000)), votes)
 
 
+def receiver(message: str) -> int:
+    return int(message.split(" ")[3])
+
+
 class Run:
     """A group, its network, and what was noted of both."""
 
@@ -85,7 +89,7 @@ class Run:
     def passed_line(self, own: int) -> str:
         """A line that this node has to pass over, or to tell a fault of."""
         other = (own + 1) % self.group.replicas
-        mail = [it for it in self.pool if it.split(" ")[3] != str(own)]
+        mail = [it for it in self.pool if receiver(it) != own]
         elsewhere = ["", "# tick", f"# r{other} view 1 1 1 1 1 1 1 1", f"submit {other} 1 inc 7", f"decide {other} 0 9"]
         elsewhere += [f"ask {other} 1 total", f"yes {self.group.replicas % 8 + 1} {other} {own} 0 1"]
         elsewhere += self.draw.sample(mail, min(3, len(mail)))
@@ -97,12 +101,9 @@ class Run:
         """Puts messages onto the network."""
         self.pool.extend(sent)
 
-    def up(self) -> list[Node]:
-        return [it for it in self.nodes if it.process]
-
     def taken_mail(self, own: int, most: int) -> list[str]:
         """So many messages to a node, off the network: some are lost, and some stay there to come again."""
-        mine = [at for at, line in enumerate(self.pool) if line.split(" ")[3] == str(own)]
+        mine = [at for at, line in enumerate(self.pool) if receiver(line) == own]
         chosen = self.draw.sample(mine, min(most, len(mine)))
         lines = [self.pool[at] for at in chosen if self.draw.random() >= LOST]
         gone = {at for at in chosen if self.draw.random() >= REPEATED}
@@ -117,17 +118,14 @@ class Run:
         return [self.drawn_line(*it) for it in mine]
 
     def step(self) -> None:
-        """One node is given a few lines, or is killed."""
+        """One node is given a few lines, or is killed. What comes to one that is down is lost."""
         if self.draw.random() < 0.06:
             return self.kill(self.draw.choice(self.nodes))
-        up = self.up()
-        if not self.pool or not up:
+        if not self.pool:
             return self.tick()
-        node = self.nodes[int(self.draw.choice(self.pool).split(" ")[3])]
-        lines = self.taken_mail(node.own, self.draw.choice((1, 1, 1, 2, 4)))
-        node = node if self.draw.random() < 0.8 else self.draw.choice(up)
+        own = self.draw.choice((receiver(self.draw.choice(self.pool)), self.draw.randrange(self.group.replicas)))
+        node, lines = self.nodes[own], self.taken_mail(own, self.draw.choice((1, 1, 1, 2, 4)))
         if node.process:
-            lines = lines if lines and lines[0].split(" ")[3] == str(node.own) else []
             lines += self.taken_work(node.own, 1) if self.draw.random() < 0.3 else []
             lines += [self.passed_line(node.own)] if self.draw.random() < 0.1 else []
             lines += ["tick"] if self.draw.random() < 0.02 else []
@@ -168,12 +166,12 @@ class Run:
         for node in self.nodes:
             if not node.process:
                 node.start()
-            lines = self.taken_work(node.own, len(self.work))
-            fill = self.group.cap + 1 if node.own == 1 and self.group.cap < 100 else 1
-            self.post(node.give([*lines, *[f"submit {node.own} 9 mark"] * fill]))
+            # One goes on until it is refused, where the cap is small.
+            times = self.group.cap + 1 if node.own == 1 and self.group.cap < 100 else 1
+            self.post(node.give([f"submit {node.own} 9 mark"] * times))
         for _ in range(ROUNDS):
             while self.pool:
-                own = int(self.pool[0].split(" ")[3])
+                own = receiver(self.pool[0])
                 self.post(self.nodes[own].give(self.taken_mail(own, 4)))
                 self.in_time()
             self.tick()
@@ -230,8 +228,9 @@ class Run:
 
     def stop(self) -> None:
         """Ends what is left of it."""
-        for node in self.up():
-            node.process.kill()
-            node.process.wait()
-            node.process.stdin.close()
-            node.process.stdout.close()
+        for node in self.nodes:
+            if node.process:
+                node.process.kill()
+                node.process.wait()
+                node.process.stdin.close()
+                node.process.stdout.close()
