@@ -12,7 +12,7 @@ from .lines import FAULTY
 from .nodes import Node, Stuck
 
 # A run that takes longer, or so many rounds of ticks at its end, hangs.
-SECONDS, ROUNDS = 20, 400
+SECONDS, ROUNDS = 60, 400
 LOST = REPEATED = 0.1
 QUESTIONS = ("1 total", "1 atleast 7", "2 largest", "3 size", "3 items", "3 has 2", "1 items", "2 total")
 
