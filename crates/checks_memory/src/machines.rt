@@ -60,9 +60,7 @@ fn writes(alloc: Global, input: &Input) -> Came {
 fn acts(machine: &mut NodeMachine, input: &Input, sent: usize, view: usize) -> Came {
     let before = machine.node.view().len();
     match machine.act(input.call()) {
-        Ok(given) => {
-            Some(given.done.mail.len() == sent && machine.node.view().len() == view as u64)
-        }
+        Ok(given) => { Some(given.done.mail.len() == sent && machine.node.view().len() == view) }
         Err(it) => refused(it == NodeError::Memory && machine.node.view().len() == before),
     }
 }
@@ -70,9 +68,7 @@ fn acts(machine: &mut NodeMachine, input: &Input, sent: usize, view: usize) -> C
 fn applies(machine: &mut NodeMachine, input: &Input, sent: usize, view: usize) -> Came {
     let before = machine.node.view().len();
     match machine.apply(input) {
-        Ok(given) => {
-            Some(given.done.mail.len() == sent && machine.node.view().len() == view as u64)
-        }
+        Ok(given) => { Some(given.done.mail.len() == sent && machine.node.view().len() == view) }
         Err(it) => refused(it == NodeError::Memory && machine.node.view().len() == before),
     }
 }
