@@ -1,11 +1,16 @@
 -- Refusals of a node, by those of what it calls.
-use Rattle.std.specs.Prelude.{◌≡◌}
+use Rattle.std.specs.Prelude.{◌≡◌, ℕ}
 use Rattle.la_replica.specs.declared.error.ReplicaError.{ReplicaError}
 use Rattle.la_replica.specs.declared.error.ReplicaError.TheVariants as replica
 use Rattle.la_world.specs.declared.error.WorldError.{WorldError}
 use Rattle.la_world.specs.declared.error.WorldError.TheVariants as world
 use Rattle.la_node.specs.declared.error.NodeError.{NodeError}
-use Rattle.la_node.specs.declared.error.NodeError.TheVariants.{Replica, Proposal, Memory}
+use Rattle.la_node.specs.declared.error.NodeError.TheVariants.{Elsewhere, Unkept, Replica, Proposal, Memory}
+use Rattle.la_replica.specs.Refusals.{IsSubmitRefusal, IsReceiptRefusal}
+use Rattle.la_world.specs.Nodes.{IsProposeRefusal}
+use Rattle.la_lines.specs.declared.calls.Call as code
+use Rattle.la_lines.specs.declared.calls.Call.TheVariants as call
+use Rattle.la_node.specs.Nodes.{KeptState}
 
 abbrev pub by_replica : ReplicaError → NodeError
 by_replica replica.Memory = Memory
@@ -17,3 +22,37 @@ by_proposal e = Proposal e
 
 abbrev pub IsForMemory : NodeError → Type 0
 IsForMemory e = e ≡ Memory
+
+-- ## Which of them a call gets
+
+-- of a replica that refuses so
+abbrev pub OfReplica : (ReplicaError → Type 0) → NodeError → Type 0
+OfReplica Is (Replica e) = Is e
+OfReplica Is Memory = Unit {0}
+OfReplica Is _ = ⊥
+
+-- of a proposal that is refused so
+abbrev pub OfProposal : (WorldError → Type 0) → NodeError → Type 0
+OfProposal Is (Proposal e) = Is e
+OfProposal Is Memory = Unit {0}
+OfProposal Is _ = ⊥
+
+-- a call that is for this node where this holds
+abbrev pub IfHere : (here : Type 0) → (NodeError → Type 0) → NodeError → Type 0
+IfHere here Is Elsewhere = ¬ here
+IfHere here Is e = here × Is e
+
+-- a call that is never kept
+abbrev pub IsNeverKept : NodeError → Type 0
+IsNeverKept Unkept = Unit {0}
+IsNeverKept _ = ⊥
+
+abbrev pub IsActRefusal : KeptState → code.Call → NodeError → Type 0
+IsActRefusal n (call.Submit replica object op) e =
+    IfHere (replica ≡ n.replica.own) (OfReplica (IsSubmitRefusal n.replica 0)) e
+IsActRefusal n (call.Decide replica commit value) e =
+    IfHere (replica ≡ n.replica.own) (OfProposal (IsProposeRefusal n.replica commit)) e
+IsActRefusal n (call.Ask replica object query) e = IsNeverKept e
+IsActRefusal n call.Tick e = IsNeverKept e
+IsActRefusal n (call.Receive letter) e =
+    IfHere (letter.replicas ≡ n.replicas) (OfReplica (IsReceiptRefusal n.replica letter.message)) e

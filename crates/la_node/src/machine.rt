@@ -5,7 +5,9 @@ ghost use Rattle.la_world.specs.Groups.{IsConfig};
 ghost use Rattle.la_world.specs.Nodes.{node_at_start, IsStartRefusal};
 ghost use Rattle.la_node.specs.Given.{given_of};
 ghost use Rattle.la_node.specs.Nodes.{KeptState, no_objects, acts};
-ghost use Rattle.la_node.specs.Errors.{IsForMemory};
+ghost use Rattle.la_replica.specs.Refusals.{IsSubmitRefusal, IsReceiptRefusal};
+ghost use Rattle.la_world.specs.Nodes.{IsProposeRefusal};
+ghost use Rattle.la_node.specs.Errors.{IsForMemory, IfHere, OfReplica, OfProposal, IsActRefusal};
 
 use crate::{Input, NodeError};
 use la_journal::Machine;
@@ -50,6 +52,8 @@ impl NodeMachine {
         ensures error { IfErr result (λ e. IsForMemory e
             ⊎ (acts (record { replicas = self.old.replicas; replica = self.old.node.replica }) (called call.now)
             ≡ None)) }
+        ensures refusal { IfErr result (IsActRefusal
+            (record { replicas = self.old.replicas; replica = self.old.node.replica }) call.now) }
         ensures err { OnErr result (self.new ≡ self.old) }
     {
         match call {
@@ -73,7 +77,7 @@ impl NodeMachine {
         }
     }
 
-    #[tactic(auto, using(crate::proofs::Acting::submitted_acts, crate::proofs::Acting::submission_elsewhere, crate::proofs::Acting::refusal_of_submission))]
+    #[tactic(auto, using(crate::proofs::Acting::submitted_acts, crate::proofs::Acting::submission_elsewhere, crate::proofs::Acting::refusal_of_submission, crate::proofs::Naming::named_by_replica))]
     fn submit(&mut self, replica: u8, object: u16, op: &Op) -> Result<Received, NodeError>
         ensures ok { IfOk result (λ given.
             acts (record { replicas = self.old.replicas; replica = self.old.node.replica }) (Submit replica object op.now)
@@ -81,6 +85,7 @@ impl NodeMachine {
         ensures error { IfErr result (λ e. IsForMemory e
             ⊎ (acts (record { replicas = self.old.replicas; replica = self.old.node.replica }) (Submit replica object op.now)
             ≡ None)) }
+        ensures refusal { IfErr result (IfHere (replica ≡ self.old.node.replica.own) (OfReplica (IsSubmitRefusal self.old.node.replica 0))) }
         ensures err { OnErr result (self.new ≡ self.old) }
     {
         if replica != self.node.own() {
@@ -92,7 +97,7 @@ impl NodeMachine {
         }
     }
 
-    #[tactic(auto, using(crate::proofs::Acting::proposed_acts, crate::proofs::Acting::proposal_elsewhere, crate::proofs::Acting::refusal_of_proposal))]
+    #[tactic(auto, using(crate::proofs::Acting::proposed_acts, crate::proofs::Acting::proposal_elsewhere, crate::proofs::Acting::refusal_of_proposal, crate::proofs::Naming::named_by_proposal))]
     fn propose(&mut self, replica: u8, commit: u8, value: u64) -> Result<Received, NodeError>
         ensures ok { IfOk result (λ given.
             acts (record { replicas = self.old.replicas; replica = self.old.node.replica }) (Decide replica commit value)
@@ -100,6 +105,7 @@ impl NodeMachine {
         ensures error { IfErr result (λ e. IsForMemory e
             ⊎ (acts (record { replicas = self.old.replicas; replica = self.old.node.replica }) (Decide replica commit value)
             ≡ None)) }
+        ensures refusal { IfErr result (IfHere (replica ≡ self.old.node.replica.own) (OfProposal (IsProposeRefusal self.old.node.replica commit))) }
         ensures err { OnErr result (self.new ≡ self.old) }
     {
         if replica != self.node.own() {
@@ -111,7 +117,7 @@ impl NodeMachine {
         }
     }
 
-    #[tactic(auto, using(crate::proofs::Acting::received_acts, crate::proofs::Acting::message_elsewhere, crate::proofs::Acting::refusal_of_message))]
+    #[tactic(auto, using(crate::proofs::Acting::received_acts, crate::proofs::Acting::message_elsewhere, crate::proofs::Acting::refusal_of_message, crate::proofs::Naming::named_by_replica))]
     fn receive(&mut self, letter: &Letter) -> Result<Received, NodeError>
         ensures ok { IfOk result (λ given.
             acts (record { replicas = self.old.replicas; replica = self.old.node.replica }) (Receive (said_by letter.now))
@@ -119,6 +125,7 @@ impl NodeMachine {
         ensures error { IfErr result (λ e. IsForMemory e
             ⊎ (acts (record { replicas = self.old.replicas; replica = self.old.node.replica }) (Receive (said_by letter.now))
             ≡ None)) }
+        ensures refusal { IfErr result (IfHere (letter.now.replicas ≡ self.old.replicas) (OfReplica (IsReceiptRefusal self.old.node.replica letter.now.message))) }
         ensures err { OnErr result (self.new ≡ self.old) }
     {
         if letter.replicas != self.replicas {
