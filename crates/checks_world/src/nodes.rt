@@ -109,9 +109,10 @@ fn a_round_and_a_start(rt: HostRuntime) {
     let Some(mut node) = started(alloc, "") else {
         panic!(rt; "no start");
     };
-    for row in &ROUND {
-        holds(&rt, row.0, takes(alloc, &mut node, row));
-    }
+    let [submits, offers, learns] = &ROUND;
+    holds(&rt, submits.0, takes(alloc, &mut node, submits));
+    holds(&rt, offers.0, takes(alloc, &mut node, offers));
+    holds(&rt, learns.0, takes(alloc, &mut node, learns));
     holds(&rt, "learnt", has_learnt(&node));
     holds(&rt, "journal", node.disk.bytes() == JOURNAL.as_bytes());
 }
@@ -132,14 +133,18 @@ fn starts_of_a_node(rt: HostRuntime) {
     holds(&rt, "refused", started(alloc, "yes 1 3 0 0 1\n").is_none());
 }
 
+// Whether a node refuses so, and its journal stays.
+fn refuses_and_stays(alloc: Global, row: &(&str, NodeError)) -> bool {
+    let Some(mut node) = started(alloc, JOURNAL) else {
+        return false;
+    };
+    refuses(alloc, &mut node, row) && node.disk.bytes() == JOURNAL.as_bytes()
+}
+
 #[test]
 fn refusals_of_a_node(rt: HostRuntime) {
     let alloc = rt.alloc();
-    let Some(mut node) = started(alloc, JOURNAL) else {
-        panic!(rt; "no start");
-    };
     for row in &REFUSED {
-        holds(&rt, row.0, refuses(alloc, &mut node, row));
+        holds(&rt, row.0, refuses_and_stays(alloc, row));
     }
-    holds(&rt, "journal", node.disk.bytes() == JOURNAL.as_bytes());
 }
