@@ -1,0 +1,33 @@
+use thiserror::Error;
+
+/// Why a node ended before its input did. It is shown as the program tells it.
+#[derive(Clone, Copy, Debug, PartialEq, Eq, Error)]
+pub enum NodeFault {
+    /// A read failed, or was interrupted.
+    #[error("ReadFault")]
+    ReadFault,
+
+    /// A write failed, or took no byte.
+    #[error("WriteFault")]
+    WriteFault,
+
+    /// A growth was refused.
+    #[error("Memory")]
+    Memory,
+
+    /// The options are not those of a node: its number or its votes do not fit the group.
+    #[error("BadConfig")]
+    BadConfig,
+
+    /// The journal's folder is none, or another process has it.
+    #[error("NoJournal")]
+    NoJournal,
+
+    /// The journal holds what can't be played.
+    #[error("BadJournal")]
+    BadJournal,
+
+    /// The disk failed.
+    #[error("DiskFault")]
+    DiskFault,
+}

@@ -1,0 +1,66 @@
+// What is told of refusals and faults, by name.
+use crate::NodeFault;
+use la_lines::LineFault;
+use la_node::NodeError;
+use la_replica::ReplicaError;
+use la_world::WorldError;
+
+pub fn fault_name(fault: LineFault) -> &'static str {
+    match fault {
+        LineFault::TooLong => "TooLong",
+        LineFault::BadLine => "BadLine",
+        LineFault::BadNumber => "BadNumber",
+        LineFault::BadSet => "BadSet",
+    }
+}
+
+fn replica_name(refusal: ReplicaError) -> &'static str {
+    match refusal {
+        ReplicaError::NoSuchReplica => "NoSuchReplica",
+        ReplicaError::NoSuchInstance => "NoSuchInstance",
+        ReplicaError::Full => "Full",
+        ReplicaError::NoBase => "NoBase",
+        ReplicaError::Gap => "Gap",
+        ReplicaError::Clash(_) => "Clash",
+        ReplicaError::BallotsSpent => "BallotsSpent",
+        ReplicaError::Memory => "Memory",
+    }
+}
+
+fn proposal_name(refusal: WorldError) -> &'static str {
+    match refusal {
+        WorldError::BadConfig => "BadConfig",
+        WorldError::NoSuchReplica => "NoSuchReplica",
+        WorldError::Full => "Full",
+        WorldError::NoSuchMessage => "NoSuchMessage",
+        WorldError::NoSuchCommit => "NoSuchCommit",
+        WorldError::AlreadyProposed => "AlreadyProposed",
+        WorldError::NoSuchObject => "NoSuchObject",
+        WorldError::TooManyTags => "TooManyTags",
+        WorldError::Memory => "Memory",
+    }
+}
+
+/// A refusal of the node's.
+pub fn refusal_name(refusal: NodeError) -> &'static str {
+    match refusal {
+        NodeError::Elsewhere => "Elsewhere",
+        NodeError::Unkept => "Unkept",
+        NodeError::Replica(refusal) => replica_name(refusal),
+        NodeError::Proposal(refusal) => proposal_name(refusal),
+        NodeError::Memory => "Memory",
+    }
+}
+
+/// Why a node ended.
+pub fn end_name(fault: NodeFault) -> &'static str {
+    match fault {
+        NodeFault::ReadFault => "ReadFault",
+        NodeFault::WriteFault => "WriteFault",
+        NodeFault::Memory => "Memory",
+        NodeFault::BadConfig => "BadConfig",
+        NodeFault::NoJournal => "NoJournal",
+        NodeFault::BadJournal => "BadJournal",
+        NodeFault::DiskFault => "DiskFault",
+    }
+}

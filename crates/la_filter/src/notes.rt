@@ -1,0 +1,144 @@
+// Lines that a node writes: messages, and notes, which begin with `#`.
+use itoa::Buffer;
+use la_commit::Outcome;
+use la_object::Answer;
+use la_replica::Message;
+use la_script::{Pieces, put_answer};
+use la_set::Counts;
+use std::alloc::{AllocError, Global};
+
+fn put_decimal(out: &mut Vec<u8>, number: u64) -> Result<(), AllocError> {
+    out.extend_from_slice(Buffer::new().format(number).as_bytes())
+}
+
+// Writes a word behind others.
+fn put_word(out: &mut Vec<u8>, word: &[u8]) -> Result<(), AllocError> {
+    out.push(b' ')?;
+    out.extend_from_slice(word)
+}
+
+// Writes a number behind other words.
+fn put_number(out: &mut Vec<u8>, number: u64) -> Result<(), AllocError> {
+    out.push(b' ')?;
+    put_decimal(out, number)
+}
+
+// Begins a note of a replica's with a word.
+fn put_front(out: &mut Vec<u8>, own: u8, word: &[u8]) -> Result<(), AllocError> {
+    out.extend_from_slice(b"# r")?;
+    put_decimal(out, u64::from(own))?;
+    put_word(out, word)
+}
+
+fn put_end(out: &mut Vec<u8>) -> Result<(), AllocError> {
+    out.push(b'\n')?;
+    Ok(())
+}
+
+fn put_counts(out: &mut Vec<u8>, counts: Counts) -> Result<(), AllocError> {
+    put_number(out, u64::from(counts.of(0)))?;
+    put_number(out, u64::from(counts.of(1)))?;
+    put_number(out, u64::from(counts.of(2)))?;
+    put_number(out, u64::from(counts.of(3)))?;
+    put_number(out, u64::from(counts.of(4)))?;
+    put_number(out, u64::from(counts.of(5)))?;
+    put_number(out, u64::from(counts.of(6)))?;
+    put_number(out, u64::from(counts.of(7)))
+}
+
+/// Notes that an update was submitted, by its number.
+pub fn put_submitted(out: &mut Vec<u8>, own: u8, number: u32) -> Result<(), AllocError> {
+    put_front(out, own, b"submitted")?;
+    put_number(out, u64::from(own))?;
+    out.push(b'.')?;
+    put_decimal(out, u64::from(number))?;
+    put_end(out)
+}
+
+/// Notes that a value was proposed to an object.
+pub fn put_proposed(out: &mut Vec<u8>, own: u8, commit: u8) -> Result<(), AllocError> {
+    put_front(out, own, b"proposed")?;
+    put_number(out, u64::from(commit))?;
+    put_end(out)
+}
+
+/// Notes that a ballot's set was learnt.
+pub fn put_learnt(
+    out: &mut Vec<u8>,
+    own: u8,
+    instance: u8,
+    ballot: u32,
+    counts: Counts,
+) -> Result<(), AllocError> {
+    put_front(out, own, b"learnt")?;
+    put_number(out, u64::from(instance))?;
+    put_number(out, u64::from(ballot))?;
+    put_counts(out, counts)?;
+    put_end(out)
+}
+
+/// Notes that the view has grown to these counts.
+pub fn put_view(out: &mut Vec<u8>, own: u8, counts: Counts) -> Result<(), AllocError> {
+    put_front(out, own, b"view")?;
+    put_counts(out, counts)?;
+    put_end(out)
+}
+
+fn outcome_word(outcome: Outcome) -> &'static [u8] {
+    match outcome {
+        Outcome::Commit(_) => b"commit",
+        Outcome::Adopt(_) => b"adopt",
+    }
+}
+
+/// Notes what was returned from an object.
+pub fn put_outcome(
+    out: &mut Vec<u8>,
+    own: u8,
+    commit: u8,
+    outcome: Outcome,
+) -> Result<(), AllocError> {
+    put_front(out, own, b"outcome")?;
+    put_number(out, u64::from(commit))?;
+    put_word(out, outcome_word(outcome))?;
+    put_number(out, outcome.value())?;
+    put_end(out)
+}
+
+// Writes the pieces of a text.
+fn put_pieces(out: &mut Vec<u8>, pieces: &Pieces) -> Result<(), AllocError> {
+    for place in 0..pieces.len() {
+        let Some(stretch) = pieces.at(place) else {
+            unreachable!()
+        };
+        out.extend_from_slice(stretch.words)?;
+        out.extend_from_slice(stretch.ids)?;
+    }
+    out.extend_from_slice(pieces.rest())
+}
+
+/// Notes what an object answered.
+pub fn put_answered(
+    alloc: Global,
+    out: &mut Vec<u8>,
+    own: u8,
+    object: u16,
+    answer: &Answer,
+) -> Result<(), AllocError> {
+    let mut pieces = Pieces::new(alloc);
+    put_answer(&mut pieces, answer)?;
+    put_front(out, own, b"answered")?;
+    put_number(out, u64::from(object))?;
+    out.push(b' ')?;
+    put_pieces(out, &pieces)?;
+    put_end(out)
+}
+
+/// Writes messages, each as a line.
+pub fn put_mail(out: &mut Vec<u8>, replicas: u8, mail: &[Message]) -> Result<(), AllocError> {
+    for message in mail {
+        la_lines::put_message(out, replicas, message)?;
+        put_end(out)?;
+    }
+    Ok(())
+}

@@ -1,0 +1,100 @@
+use crate::names::end_name;
+use crate::serving::serve;
+use crate::shelf::shelf;
+use crate::{NodeFault, Options};
+use arrayvec::ArrayString;
+use clap::Error;
+use la_journal::{Disk, Unplayed, recover};
+use la_node::NodeMachine;
+use la_object::{Replicated, Shelf};
+use la_program::{Listener, tell_all, write_all};
+use la_world::WorldError;
+use std::alloc::Global;
+use std::io::{Read, Write};
+
+type Line = ArrayString<16>;
+
+/// The exit status after a fault.
+fn status_of(fault: NodeFault) -> u8 {
+    match fault {
+        NodeFault::Memory => 3,
+        NodeFault::ReadFault | NodeFault::WriteFault | NodeFault::BadConfig => 4,
+        NodeFault::NoJournal | NodeFault::BadJournal | NodeFault::DiskFault => 5,
+    }
+}
+
+/// The exit status after a fault, which is told.
+pub fn end_with<E: Listener>(fault: NodeFault, errors: &mut E) -> u8 {
+    let mut line = Line::new();
+    line.push_str(end_name(fault));
+    line.push_str("\n");
+    let _ = tell_all(errors, line.as_str().as_bytes());
+    status_of(fault)
+}
+
+/// The exit status where words are no options: help is written, and a mistake is told.
+pub fn end_without_options<W: Write, E: Listener>(
+    alloc: Global,
+    error: &Error,
+    output: &mut W,
+    errors: &mut E,
+) -> u8 {
+    if error.kind() == clap::error::ErrorKind::OutOfMemory {
+        return end_with(NodeFault::Memory, errors);
+    }
+    let Ok(text) = format!(in alloc; "{error}") else {
+        return end_with(NodeFault::Memory, errors);
+    };
+    if error.use_stderr() {
+        let _ = tell_all(errors, text.as_bytes());
+        return 2;
+    }
+    match write_all(output, text.as_bytes()) {
+        Ok(()) => 0,
+        Err(_) => end_with(NodeFault::WriteFault, errors),
+    }
+}
+
+// The node, until its input ends.
+fn start<R: Read, W: Write, E: Listener, D: Disk, B: Replicated>(
+    alloc: Global,
+    options: &Options,
+    shelf: Shelf<B>,
+    disk: D,
+    input: &mut R,
+    output: &mut W,
+    errors: &mut E,
+) -> Result<(), NodeFault> {
+    let machine = match NodeMachine::new(alloc, options.config, options.own, shelf) {
+        Ok(machine) => machine,
+        Err(WorldError::Memory) => return Err(NodeFault::Memory),
+        Err(_) => return Err(NodeFault::BadConfig),
+    };
+    match recover(alloc, machine, disk) {
+        Ok(durable) => {
+            let mut node = durable;
+            serve(alloc, &mut node, input, output, errors)
+        }
+        Err((Unplayed::Memory, _)) => Err(NodeFault::Memory),
+        Err((Unplayed::Disk, _)) => Err(NodeFault::DiskFault),
+        Err(_) => Err(NodeFault::BadJournal),
+    }
+}
+
+/// The command over any streams and any journal: its exit status.
+pub fn run<R: Read, W: Write, E: Listener, D: Disk>(
+    alloc: Global,
+    options: &Options,
+    disk: D,
+    input: &mut R,
+    output: &mut W,
+    errors: &mut E,
+) -> u8 {
+    let Ok(shelf) = shelf(alloc) else {
+        return end_with(NodeFault::Memory, errors);
+    };
+    match start(alloc, options, shelf, disk, input, output, errors) {
+        Ok(()) => 0,
+        Err(fault) => end_with(fault, errors),
+    }
+}

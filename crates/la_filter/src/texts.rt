@@ -1,0 +1,109 @@
+// What a node writes for one call.
+use crate::notes::{put_answered, put_learnt, put_mail, put_outcome, put_proposed};
+use crate::notes::{put_submitted, put_view};
+use la_lines::{Call, Letter};
+use la_node::NodeMachine;
+use la_object::{Answer, Replicated};
+use la_replica::Mail;
+use la_set::UpdateSet;
+use la_world::{Node, Received};
+use std::alloc::{AllocError, Global};
+
+// Answers a submission or a proposal.
+fn put_taken<B: Replicated>(
+    out: &mut Vec<u8>,
+    call: &Call,
+    node: &Node<B>,
+) -> Result<(), AllocError> {
+    match call {
+        Call::Submit { .. } => match node.submitted(0) {
+            Some(number) => put_submitted(out, node.own(), number),
+            None => Ok(()),
+        },
+        Call::Decide { commit, .. } => put_proposed(out, node.own(), *commit),
+        Call::Ask { .. } | Call::Tick | Call::Receive(_) => Ok(()),
+    }
+}
+
+// Notes what was learnt by a message.
+fn put_learning(
+    out: &mut Vec<u8>,
+    own: u8,
+    letter: &Letter,
+    given: &Received,
+) -> Result<(), AllocError> {
+    let message = &letter.message;
+    match given.done.said.learnt() {
+        Some(learnt) => put_learnt(out, own, message.instance, message.ballot, learnt.counts()),
+        None => Ok(()),
+    }
+}
+
+// Notes the view, where it has more updates than before.
+fn put_growth(
+    out: &mut Vec<u8>,
+    own: u8,
+    before: usize,
+    view: &UpdateSet,
+) -> Result<(), AllocError> {
+    if view.len() > before {
+        put_view(out, own, view.counts())
+    } else {
+        Ok(())
+    }
+}
+
+// Notes what is returned from an object after a message of its second instance.
+fn put_return(
+    out: &mut Vec<u8>,
+    own: u8,
+    letter: &Letter,
+    given: &Received,
+) -> Result<(), AllocError> {
+    match given.outcome {
+        Some(outcome) => {
+            let commit = letter.message.instance.saturating_sub(1) / 2;
+            put_outcome(out, own, commit, outcome)
+        }
+        None => Ok(()),
+    }
+}
+
+/// What is written for a call that was accepted, once its view had so many updates.
+pub fn text_of<B: Replicated>(
+    alloc: Global,
+    machine: &NodeMachine<B>,
+    before: usize,
+    call: &Call,
+    given: &Received,
+) -> Result<Vec<u8>, AllocError> {
+    let mut out = Vec::new(alloc);
+    let own = machine.node.own();
+    put_taken(&mut out, call, &machine.node)?;
+    if let Call::Receive(letter) = call {
+        put_learning(&mut out, own, letter, given)?;
+        put_growth(&mut out, own, before, machine.node.view())?;
+        put_return(&mut out, own, letter, given)?;
+    }
+    put_mail(&mut out, machine.replicas, given.done.mail.all())?;
+    Ok(out)
+}
+
+/// What is written for a question.
+pub fn answer_text(
+    alloc: Global,
+    own: u8,
+    object: u16,
+    answer: &Answer,
+) -> Result<Vec<u8>, AllocError> {
+    let mut out = Vec::new(alloc);
+    put_answered(alloc, &mut out, own, object, answer)?;
+    Ok(out)
+}
+
+/// What is written when the timer has run out.
+pub fn mail_text(alloc: Global, replicas: u8, mail: &Mail) -> Result<Vec<u8>, AllocError> {
+    let mut out = Vec::new(alloc);
+    put_mail(&mut out, replicas, mail.all())?;
+    Ok(out)
+}
