@@ -19,5 +19,4 @@ mod texts;
 pub use error::NodeFault;
 pub use options::{Options, command};
 pub use serving::serve;
-pub use source::{Next, Source};
 pub use starting::{end_with, end_without_options, run};

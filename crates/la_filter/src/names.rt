@@ -1,11 +1,17 @@
 // What is told of refusals and faults, by name.
+ghost use Rattle.std.specs.Prelude.{◌≡◌, ◌≤◌, length};
+ghost use Rattle.la_filter.specs.Names.{fault_name, replica_name, proposal_name, refusal_name};
+
 use crate::NodeFault;
 use la_lines::LineFault;
 use la_node::NodeError;
 use la_replica::ReplicaError;
 use la_world::WorldError;
 
-pub fn fault_name(fault: LineFault) -> &'static str {
+pub fn fault_name(fault: LineFault) -> &'static str
+    ensures text { result.now ≡ fault_name fault }
+    ensures short { length result.now ≤ 9 }
+{
     match fault {
         LineFault::TooLong => "TooLong",
         LineFault::BadLine => "BadLine",
@@ -14,7 +20,10 @@ pub fn fault_name(fault: LineFault) -> &'static str {
     }
 }
 
-fn replica_name(refusal: ReplicaError) -> &'static str {
+fn replica_name(refusal: ReplicaError) -> &'static str
+    ensures text { result.now ≡ replica_name refusal }
+    ensures short { length result.now ≤ 15 }
+{
     match refusal {
         ReplicaError::NoSuchReplica => "NoSuchReplica",
         ReplicaError::NoSuchInstance => "NoSuchInstance",
@@ -27,7 +36,10 @@ fn replica_name(refusal: ReplicaError) -> &'static str {
     }
 }
 
-fn proposal_name(refusal: WorldError) -> &'static str {
+fn proposal_name(refusal: WorldError) -> &'static str
+    ensures text { result.now ≡ proposal_name refusal }
+    ensures short { length result.now ≤ 15 }
+{
     match refusal {
         WorldError::BadConfig => "BadConfig",
         WorldError::NoSuchReplica => "NoSuchReplica",
@@ -42,7 +54,10 @@ fn proposal_name(refusal: WorldError) -> &'static str {
 }
 
 /// A refusal of the node's.
-pub fn refusal_name(refusal: NodeError) -> &'static str {
+pub fn refusal_name(refusal: NodeError) -> &'static str
+    ensures text { result.now ≡ refusal_name refusal }
+    ensures short { length result.now ≤ 15 }
+{
     match refusal {
         NodeError::Elsewhere => "Elsewhere",
         NodeError::Unkept => "Unkept",

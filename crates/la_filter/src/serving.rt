@@ -1,3 +1,11 @@
+ghost use Rattle.std.specs.Prelude.{◌≡◌, ◌≤◌, true, false, Ok, IfOk, IfErr, OnOk};
+ghost use Rattle.std.specs.Io.KnownBytes.{IsAtEnd};
+ghost use Rattle.la_journal.specs.Lines.{lines};
+ghost use Rattle.la_journal.specs.Durable.{IsSettled};
+ghost use Rattle.la_filter.specs.Streams.{ahead, TellsAll};
+ghost use Rattle.la_filter.specs.Turns.{kept_state};
+ghost use Rattle.la_filter.specs.Serving.{Steps, IsStepRefusal, Serves, IsServeRefusal};
+
 use crate::NodeFault;
 use crate::answering::{answer, tell_fault};
 use crate::source::{Next, Source};
@@ -9,20 +17,74 @@ use la_program::Listener;
 use std::alloc::Global;
 use std::io::{Read, Write};
 
-/// Takes the lines of an input as they come, until its end.
+// Takes the next line, or answers that there is none.
+fn step<R: Read, W: Write, E: Listener, D: Disk, B: Replicated>(
+    alloc: Global,
+    source: &mut Source,
+    node: &mut Durable<NodeMachine<B>, D>,
+    number: u64,
+    input: &mut R,
+    output: &mut W,
+    errors: &mut E,
+) -> Result<bool, NodeFault>
+    requires settled { IsSettled D.seen D.may_leave node.old.disk }
+    requires open { node.old.closed ≡ false }
+    requires over { source.old.over ≡ true → IsAtEnd (ahead source.old (R.remaining input.old)) }
+    ensures ok { IfOk result (Steps (kept_state node.old.machine.replicas node.old.machine.node) number (TellsAll E.contents E.refuses errors.old errors.new)
+        (ahead source.old (R.remaining input.old)) (ahead source.new (R.remaining input.new)) source.new.over (W.contents output.old) (W.contents output.new)
+        (lines (D.seen node.old.disk)) (lines (D.seen node.new.disk)) (kept_state node.new.machine.replicas node.new.machine.node)) }
+    ensures err { IfErr result (IsStepRefusal (kept_state node.old.machine.replicas node.old.machine.node) number (TellsAll E.contents E.refuses errors.old errors.new)
+        (ahead source.old (R.remaining input.old)) (ahead source.new (R.remaining input.new)) source.new.over (W.contents output.old) (W.contents output.new)
+        (lines (D.seen node.old.disk)) (lines (D.seen node.new.disk)) (kept_state node.new.machine.replicas node.new.machine.node)) }
+    ensures end { source.old.over ≡ true → result ≡ Ok false }
+    ensures over { source.new.over ≡ true → IsAtEnd (ahead source.new (R.remaining input.new)) }
+    ensures settled { node.new.closed ≡ false → IsSettled D.seen D.may_leave node.new.disk }
+    ensures open { OnOk result (node.new.closed ≡ false) }
+{
+    match source.next(input)? {
+        Next::Line => {
+            answer(alloc, node, number, source.line.as_slice(), output, errors)?;
+            Ok(true)
+        }
+        Next::Long => {
+            tell_fault(errors, number, LineFault::TooLong);
+            Ok(true)
+        }
+        Next::End => Ok(false),
+    }
+}
+
+/// Takes the lines of an input as they come, until its end: what is written is exactly what they come to,
+/// one write a line, and of a call that is kept only once its line is on the disk. What faults are told
+/// may find no taker, and then it goes on.
+///
+/// `ReadFault` comes at the first read that fails, and after 2^64-2 lines; `WriteFault` at a write that
+/// fails, where a front of the text is out; `Memory` where a line, or what is written of one, finds no
+/// room: what was read of the line is lost, or the call is in the journal and nothing of it went out;
+/// `DiskFault` where the disk fails: of that call nothing went out, and the journal is to be recovered.
 pub fn serve<R: Read, W: Write, E: Listener, D: Disk, B: Replicated>(
     alloc: Global,
     node: &mut Durable<NodeMachine<B>, D>,
     input: &mut R,
     output: &mut W,
     errors: &mut E,
-) -> Result<(), NodeFault> {
+) -> Result<(), NodeFault>
+    requires settled { IsSettled D.seen D.may_leave node.old.disk }
+    requires open { node.old.closed ≡ false }
+    ensures ok { OnOk result (Serves (kept_state node.old.machine.replicas node.old.machine.node) (TellsAll E.contents E.refuses errors.old errors.new)
+        (R.remaining input.old) (R.remaining input.new) (W.contents output.old) (W.contents output.new)
+        (lines (D.seen node.old.disk)) (lines (D.seen node.new.disk)) (kept_state node.new.machine.replicas node.new.machine.node)) }
+    ensures err { IfErr result (IsServeRefusal (kept_state node.old.machine.replicas node.old.machine.node) (TellsAll E.contents E.refuses errors.old errors.new)
+        (R.remaining input.old) (R.remaining input.new) (W.contents output.old) (W.contents output.new)
+        (lines (D.seen node.old.disk)) (lines (D.seen node.new.disk)) (kept_state node.new.machine.replicas node.new.machine.node)) }
+    ensures settled { node.new.closed ≡ false → IsSettled D.seen D.may_leave node.new.disk }
+    ensures open { OnOk result (node.new.closed ≡ false) }
+{
     let mut source = Source::new(alloc);
     for number in 1..u64::MAX {
-        match source.next(input)? {
-            Next::Line => answer(alloc, node, number, source.line(), output, errors)?,
-            Next::Long => tell_fault(errors, number, LineFault::TooLong),
-            Next::End => return Ok(()),
+        let more = step(alloc, &mut source, node, number, input, output, errors)?;
+        if !more {
+            return Ok(());
         }
     }
     Err(NodeFault::ReadFault)

@@ -1,4 +1,12 @@
 // What a node writes for one call.
+ghost use Rattle.std.specs.Prelude.{◌≡◌, ◌++◌, IfOk, OnOk};
+ghost use Rattle.la_replica.specs.Steps.{learnt_in};
+ghost use Rattle.la_lines.specs.Calls.{called};
+ghost use Rattle.la_node.specs.Given.{given_of};
+ghost use Rattle.la_filter.specs.Notes.{answered_note, mail_text};
+ghost use Rattle.la_filter.specs.Turns.{kept_state, taken_text, learnt_text, growth_text, return_text};
+ghost use Rattle.la_filter.specs.Turns.{receipt_text, call_text};
+
 use crate::notes::{put_answered, put_learnt, put_mail, put_outcome, put_proposed};
 use crate::notes::{put_submitted, put_view};
 use la_lines::{Call, Letter};
@@ -14,7 +22,9 @@ fn put_taken<B: Replicated>(
     out: &mut Vec<u8>,
     call: &Call,
     node: &Node<B>,
-) -> Result<(), AllocError> {
+) -> Result<(), AllocError>
+    ensures { OnOk result (out.new.items ≡ out.old.items ++ taken_text node.now.replica (called call.now)) }
+{
     match call {
         Call::Submit { .. } => match node.submitted(0) {
             Some(number) => put_submitted(out, node.own(), number),
@@ -31,7 +41,9 @@ fn put_learning(
     own: u8,
     letter: &Letter,
     given: &Received,
-) -> Result<(), AllocError> {
+) -> Result<(), AllocError>
+    ensures { OnOk result (out.new.items ≡ out.old.items ++ learnt_text own letter.now.message.instance letter.now.message.ballot (learnt_in given.now.done.said)) }
+{
     let message = &letter.message;
     match given.done.said.learnt() {
         Some(learnt) => put_learnt(out, own, message.instance, message.ballot, learnt.counts()),
@@ -45,7 +57,9 @@ fn put_growth(
     own: u8,
     before: usize,
     view: &UpdateSet,
-) -> Result<(), AllocError> {
+) -> Result<(), AllocError>
+    ensures { OnOk result (out.new.items ≡ out.old.items ++ growth_text own before view.now) }
+{
     if view.len() > before {
         put_view(out, own, view.counts())
     } else {
@@ -59,13 +73,37 @@ fn put_return(
     own: u8,
     letter: &Letter,
     given: &Received,
-) -> Result<(), AllocError> {
+) -> Result<(), AllocError>
+    ensures { OnOk result (out.new.items ≡ out.old.items ++ return_text own letter.now.message.instance given.now.outcome) }
+{
     match given.outcome {
         Some(outcome) => {
             let commit = letter.message.instance.saturating_sub(1) / 2;
             put_outcome(out, own, commit, outcome)
         }
         None => Ok(()),
+    }
+}
+
+// Notes what else a message came to.
+fn put_receipt<B: Replicated>(
+    out: &mut Vec<u8>,
+    node: &Node<B>,
+    before: usize,
+    call: &Call,
+    given: &Received,
+) -> Result<(), AllocError>
+    ensures { OnOk result (out.new.items ≡ out.old.items
+        ++ receipt_text before node.now.replica (called call.now) (given_of given.now)) }
+{
+    match call {
+        Call::Receive(letter) => {
+            let own = node.own();
+            put_learning(out, own, letter, given)?;
+            put_growth(out, own, before, node.view())?;
+            put_return(out, own, letter, given)
+        }
+        Call::Submit { .. } | Call::Decide { .. } | Call::Ask { .. } | Call::Tick => Ok(()),
     }
 }
 
@@ -76,15 +114,12 @@ pub fn text_of<B: Replicated>(
     before: usize,
     call: &Call,
     given: &Received,
-) -> Result<Vec<u8>, AllocError> {
+) -> Result<Vec<u8>, AllocError>
+    ensures { IfOk result (λ text. text.items ≡ call_text before (kept_state machine.now.replicas machine.now.node) (called call.now) (given_of given.now)) }
+{
     let mut out = Vec::new(alloc);
-    let own = machine.node.own();
     put_taken(&mut out, call, &machine.node)?;
-    if let Call::Receive(letter) = call {
-        put_learning(&mut out, own, letter, given)?;
-        put_growth(&mut out, own, before, machine.node.view())?;
-        put_return(&mut out, own, letter, given)?;
-    }
+    put_receipt(&mut out, &machine.node, before, call, given)?;
     put_mail(&mut out, machine.replicas, given.done.mail.all())?;
     Ok(out)
 }
@@ -95,14 +130,18 @@ pub fn answer_text(
     own: u8,
     object: u16,
     answer: &Answer,
-) -> Result<Vec<u8>, AllocError> {
+) -> Result<Vec<u8>, AllocError>
+    ensures { IfOk result (λ text. text.items ≡ answered_note own object answer.now) }
+{
     let mut out = Vec::new(alloc);
     put_answered(alloc, &mut out, own, object, answer)?;
     Ok(out)
 }
 
 /// What is written when the timer has run out.
-pub fn mail_text(alloc: Global, replicas: u8, mail: &Mail) -> Result<Vec<u8>, AllocError> {
+pub fn mail_text(alloc: Global, replicas: u8, mail: &Mail) -> Result<Vec<u8>, AllocError>
+    ensures { IfOk result (λ text. text.items ≡ mail_text replicas mail.now) }
+{
     let mut out = Vec::new(alloc);
     put_mail(&mut out, replicas, mail.all())?;
     Ok(out)
