@@ -1,5 +1,4 @@
 pub mod Names
-pub mod Notes
+pub mod Faults
 pub mod Turns
-pub mod Streams
 pub mod Serving

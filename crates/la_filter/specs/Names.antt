@@ -1,19 +1,11 @@
--- Refusals and faults by name, as they are told.
+-- Refusals by name, as they are told.
 use Rattle.std.specs.Prelude.{ℕ, List, codes}
-use Rattle.la_lines.specs.declared.error.LineFault.{LineFault}
-use Rattle.la_lines.specs.declared.error.LineFault.TheVariants as line
 use Rattle.la_replica.specs.declared.error.ReplicaError.{ReplicaError}
 use Rattle.la_replica.specs.declared.error.ReplicaError.TheVariants as replica
 use Rattle.la_world.specs.declared.error.WorldError.{WorldError}
 use Rattle.la_world.specs.declared.error.WorldError.TheVariants as world
 use Rattle.la_node.specs.declared.error.NodeError.{NodeError}
 use Rattle.la_node.specs.declared.error.NodeError.TheVariants as node
-
-abbrev pub fault_name : LineFault → List ℕ
-fault_name line.TooLong = codes "TooLong"
-fault_name line.BadLine = codes "BadLine"
-fault_name line.BadNumber = codes "BadNumber"
-fault_name line.BadSet = codes "BadSet"
 
 abbrev pub replica_name : ReplicaError → List ℕ
 replica_name replica.NoSuchReplica = codes "NoSuchReplica"

@@ -3,17 +3,17 @@ use Rattle.std.specs.Prelude.{◌≡◌, ◌⊎◌, ℕ, ◌+◌, ◌≤◌, Boo
 use Rattle.std.specs.List.{flat_map}
 use Rattle.std.specs.Io.KnownBytes.{Appends, Keeps, Consumes, IsAtEnd}
 use Rattle.la_program.specs.Streams.{AppendsPrefix}
+use Rattle.la_object.specs.declared.kind.Kind.{Kind}
 use Rattle.la_node.specs.Nodes.{KeptState}
-use Rattle.la_journal.specs.Lines.{file_of}
-use Rattle.la_filter.specs.Streams.{IsOneLine, AreLinesOf, Ends, TakesSome}
+use Rattle.la_streams.specs.Streams.{IsOneLine, Ends, TakesSome, ReadsFront, ReadsAll}
 use Rattle.la_filter.specs.declared.error.NodeFault.{NodeFault}
 use Rattle.la_filter.specs.declared.error.NodeFault.TheVariants as fault
 use Rattle.la_filter.specs.Turns.{Turn, IsTurn}
 
 -- these are the turns of a node from a state on, the first of which is line k's, and this is the state after them
-abbrev pub AreTurns : KeptState → (k : ℕ) → List Turn → (after : KeptState) → Type 0
-AreTurns n k [] after = after ≡ n
-AreTurns n k (t ∷ turns) after = IsTurn n k t × AreTurns t.after (k + 1) turns after
+abbrev pub AreTurns : List (ℕ × Kind) → KeptState → (k : ℕ) → List Turn → (after : KeptState) → Type 0
+AreTurns objects n k [] after = after ≡ n
+AreTurns objects n k (t ∷ turns) after = IsTurn objects n k t × AreTurns objects t.after (k + 1) turns after
 
 abbrev pub lines_of : List Turn → List (List ℕ)
 lines_of turns = map (λ (t : Turn). t.line) turns
@@ -70,58 +70,44 @@ abbrev pub TellsNothing : List (List ℕ) → Type 0
 TellsNothing told = told ≡ []
 
 -- a turn, and what was read of its line
-pub record IsStep (n : KeptState) (k : ℕ) (left_before left_after : Option (List ℕ)) (over : Bool) (t : Turn) : Type 0 where
-  pub is : IsTurn n k t
+pub record IsStep (objects : List (ℕ × Kind)) (n : KeptState) (k : ℕ) (left_before left_after : Option (List ℕ)) (over : Bool) (t : Turn) : Type 0 where
+  pub is : IsTurn objects n k t
   pub one : IsOneLine t.line
   pub ends : Ends left_before left_after over t.line
 
 -- a turn was taken, or the input is at its end and nothing has changed
-abbrev pub Steps : (n : KeptState) (k : ℕ) (Told : List (List ℕ) → Type 0) (left_before left_after : Option (List ℕ)) (over : Bool) (out_before out_after : Option (List ℕ)) (journal_before journal_after : List (List ℕ)) (now : KeptState) → (more : Bool) → Type 0
-Steps n k Told left_before left_after over out_before out_after journal_before journal_after now true =
-    Takes (IsStep n k left_before left_after over) Told out_before out_after journal_before journal_after now
-Steps n k Told left_before left_after over out_before out_after journal_before journal_after now false =
+abbrev pub Steps : (objects : List (ℕ × Kind)) (n : KeptState) (k : ℕ) (Told : List (List ℕ) → Type 0) (left_before left_after : Option (List ℕ)) (over : Bool) (out_before out_after : Option (List ℕ)) (journal_before journal_after : List (List ℕ)) (now : KeptState) → (more : Bool) → Type 0
+Steps objects n k Told left_before left_after over out_before out_after journal_before journal_after now true =
+    Takes (IsStep objects n k left_before left_after over) Told out_before out_after journal_before journal_after now
+Steps objects n k Told left_before left_after over out_before out_after journal_before journal_after now false =
     (over ≡ true) × Consumes left_before left_after [] × IsAtEnd left_after ×
     TakesNone Told out_before out_after journal_before journal_after n now
 
 -- some of a line was read; it was not taken, or of what it comes to only a front was written
-abbrev pub IsStepRefusal : (n : KeptState) (k : ℕ) (Told : List (List ℕ) → Type 0) (left_before left_after : Option (List ℕ)) (over : Bool) (out_before out_after : Option (List ℕ)) (journal_before journal_after : List (List ℕ)) (now : KeptState) → NodeFault → Type 0
-IsStepRefusal n k Told left_before left_after over out_before out_after journal_before journal_after now fault.DiskFault =
+abbrev pub IsStepRefusal : (objects : List (ℕ × Kind)) (n : KeptState) (k : ℕ) (Told : List (List ℕ) → Type 0) (left_before left_after : Option (List ℕ)) (over : Bool) (out_before out_after : Option (List ℕ)) (journal_before journal_after : List (List ℕ)) (now : KeptState) → NodeFault → Type 0
+IsStepRefusal objects n k Told left_before left_after over out_before out_after journal_before journal_after now fault.DiskFault =
     TakesSome left_before left_after × Keeps out_before out_after
-IsStepRefusal n k Told left_before left_after over out_before out_after journal_before journal_after now _ =
+IsStepRefusal objects n k Told left_before left_after over out_before out_after journal_before journal_after now _ =
     (TakesSome left_before left_after × TakesNone Told out_before out_after journal_before journal_after n now)
-    ⊎ TakesCut (IsStep n k left_before left_after over) Told out_before out_after journal_before journal_after now
+    ⊎ TakesCut (IsStep objects n k left_before left_after over) Told out_before out_after journal_before journal_after now
 
 -- ## All of them
 
--- bytes were read, which are these lines, and something behind them
-pub record ReadsFront (left_before left_after : Option (List ℕ)) (lines : List (List ℕ)) : Type 0 where
-  pub bytes : List ℕ
-  pub consumed : Consumes left_before left_after bytes
-  pub each : All IsOneLine lines
-  pub begins : ((rest : List ℕ) × (bytes ≡ file_of lines ++ rest)) ⊎ (bytes ++ 10 ∷ [] ≡ file_of lines)
-
--- all that there was to read, which is these lines
-pub record ReadsAll (left_before left_after : Option (List ℕ)) (lines : List (List ℕ)) : Type 0 where
-  pub bytes : List ℕ
-  pub consumed : Consumes left_before left_after bytes
-  pub at_end : IsAtEnd left_after
-  pub are : AreLinesOf lines bytes
-
 -- all lines of an input were taken
-pub record Serves (n : KeptState) (Told : List (List ℕ) → Type 0) (left_before left_after out_before out_after : Option (List ℕ)) (journal_before journal_after : List (List ℕ)) (now : KeptState) : Type 0 where
+pub record Serves (objects : List (ℕ × Kind)) (n : KeptState) (Told : List (List ℕ) → Type 0) (left_before left_after out_before out_after : Option (List ℕ)) (journal_before journal_after : List (List ℕ)) (now : KeptState) : Type 0 where
   pub turns : List Turn
-  pub are : AreTurns n 1 turns now
+  pub are : AreTurns objects n 1 turns now
   pub read : ReadsAll left_before left_after (lines_of turns)
   pub wrote : Appends out_before out_after (written turns)
   pub journal : journal_after ≡ journal_before ++ kept turns
   pub tells : Told (told turns)
 
 -- some were: of the last, if it was, perhaps only a front was written
-pub record ServesCut (n : KeptState) (Told : List (List ℕ) → Type 0) (left_before left_after out_before out_after : Option (List ℕ)) (journal_before journal_after : List (List ℕ)) (now : KeptState) : Type 0 where
+pub record ServesCut (objects : List (ℕ × Kind)) (n : KeptState) (Told : List (List ℕ) → Type 0) (left_before left_after out_before out_after : Option (List ℕ)) (journal_before journal_after : List (List ℕ)) (now : KeptState) : Type 0 where
   pub turns : List Turn
   pub last : List Turn
   pub one : length last ≤ 1
-  pub are : AreTurns n 1 (turns ++ last) now
+  pub are : AreTurns objects n 1 (turns ++ last) now
   pub read : ReadsFront left_before left_after (lines_of (turns ++ last))
   pub between : Option (List ℕ)
   pub wrote : Appends out_before between (written turns)
@@ -130,15 +116,15 @@ pub record ServesCut (n : KeptState) (Told : List (List ℕ) → Type 0) (left_b
   pub tells : Told (told (turns ++ last))
 
 -- some were, and the disk failed at the next: nothing was written of that
-pub record ServesClosed (n : KeptState) (left_before left_after out_before out_after : Option (List ℕ)) : Type 0 where
+pub record ServesClosed (objects : List (ℕ × Kind)) (n : KeptState) (left_before left_after out_before out_after : Option (List ℕ)) : Type 0 where
   pub turns : List Turn
   pub before : KeptState
-  pub are : AreTurns n 1 turns before
+  pub are : AreTurns objects n 1 turns before
   pub read : ReadsFront left_before left_after (lines_of turns)
   pub wrote : Appends out_before out_after (written turns)
 
-abbrev pub IsServeRefusal : (n : KeptState) (Told : List (List ℕ) → Type 0) (left_before left_after out_before out_after : Option (List ℕ)) (journal_before journal_after : List (List ℕ)) (now : KeptState) → NodeFault → Type 0
-IsServeRefusal n Told left_before left_after out_before out_after journal_before journal_after now fault.DiskFault =
-    ServesClosed n left_before left_after out_before out_after
-IsServeRefusal n Told left_before left_after out_before out_after journal_before journal_after now _ =
-    ServesCut n Told left_before left_after out_before out_after journal_before journal_after now
+abbrev pub IsServeRefusal : (objects : List (ℕ × Kind)) (n : KeptState) (Told : List (List ℕ) → Type 0) (left_before left_after out_before out_after : Option (List ℕ)) (journal_before journal_after : List (List ℕ)) (now : KeptState) → NodeFault → Type 0
+IsServeRefusal objects n Told left_before left_after out_before out_after journal_before journal_after now fault.DiskFault =
+    ServesClosed objects n left_before left_after out_before out_after
+IsServeRefusal objects n Told left_before left_after out_before out_after journal_before journal_after now _ =
+    ServesCut objects n Told left_before left_after out_before out_after journal_before journal_after now

@@ -15,7 +15,6 @@ use Rattle.la_replica.specs.Again.{again}
 use Rattle.la_replica.specs.Bases.{AreToldIn}
 use Rattle.la_replica.specs.Steps.{learnt_in}
 use Rattle.la_replica.specs.ReplicaState.{ReplicaState, submitted_in}
-use Rattle.la_world.specs.Nodes.{NodeState}
 use Rattle.la_lines.specs.declared.calls.TheConstants.{MAX_LINE}
 use Rattle.la_lines.specs.declared.error.LineFault.{LineFault}
 use Rattle.la_lines.specs.declared.error.LineFault.TheVariants.{TooLong}
@@ -25,16 +24,14 @@ use Rattle.la_lines.specs.Calls.{Call, Submit, Decide, Ask, Tick, Receive}
 use Rattle.la_lines.specs.CallLines.{named}
 use Rattle.la_node.specs.declared.error.NodeError.{NodeError}
 use Rattle.la_node.specs.declared.error.NodeError.TheVariants.{Memory}
-use Rattle.la_node.specs.Given.{Given}
+use Rattle.la_node.specs.Given.{Given, given_of}
 use Rattle.la_node.specs.Nodes.{KeptState, acts}
 use Rattle.la_node.specs.Errors.{IsForMemory}
 use Rattle.la_node.specs.Inputs.{IsInputRefusal}
+use Rattle.la_filter.specs.declared.keeping.Kept.{Kept}
+use Rattle.la_filter.specs.declared.keeping.Kept.TheVariants as kept
 use Rattle.la_filter.specs.Names.{refusal_name}
-use Rattle.la_filter.specs.Notes.{submitted_note, proposed_note, learnt_note, view_note, outcome_note, answered_note, refused_note, fault_line, mail_text}
-
--- what a node keeps, by the size of its group
-abbrev pub kept_state : ℕ → NodeState → KeptState
-kept_state replicas node = record { replicas = replicas; replica = node.replica }
+use Rattle.la_streams.specs.Notes.{submitted_note, proposed_note, learnt_note, view_note, outcome_note, answered_note, refused_note, fault_line, mail_text}
 
 abbrev pub own_of : KeptState → ℕ
 own_of n = n.replica.own
@@ -125,6 +122,13 @@ refused n k line e = only n line (refused_note (own_of n) k (refusal_name e))
 abbrev pub faulty : KeptState → (k : ℕ) → (line : List ℕ) → LineFault → Turn
 faulty n k line fault = record { line = line; text = []; kept = []; told = fault_line k fault ∷ []; after = n }
 
+-- what became of a call that is to be kept: its line is in the journal, or nothing has changed
+abbrev pub IsOutcome : (n after : KeptState) (call : Call) (line : List ℕ) (journal_before journal_after : List (List ℕ)) → Kept → Type 0
+IsOutcome n after call line journal_before journal_after (kept.Taken given) =
+    (acts n call ≡ Some (given_of given, after)) × (journal_after ≡ journal_before ++ line ∷ [])
+IsOutcome n after call line journal_before journal_after (kept.Refused why) =
+    (IsForMemory why ⊎ (acts n call ≡ None)) × (after ≡ n) × (journal_after ≡ journal_before)
+
 -- a call was taken: its line is in the journal
 pub record IsTaken (n : KeptState) (call : Call) (t : Turn) : Type 0 where
   pub given : Given
@@ -148,7 +152,7 @@ abbrev pub answered : KeptState → (k object : ℕ) → (line : List ℕ) → O
 answered n k object line None = only n line (refused_note (own_of n) k (codes "NoSuchObject"))
 answered n k object line (Some answer) = only n line (answered_note (own_of n) object answer)
 
--- by the kinds of the objects that are on the shelf then
+-- by the kinds of the objects on the shelf
 abbrev pub question : List (ℕ × Kind) → KeptState → (k object : ℕ) → Query → (line : List ℕ) → Turn
 question objects n k object query line =
     answered n k object line (answer_at (record { view = n.replica.view; objects = objects }) object query)
@@ -160,8 +164,8 @@ pub record IsSentAgain (n : KeptState) (t : Turn) : Type 0 where
   pub over : (offered : Counts) → AreToldIn n.replica offered mail
   pub turn : t ≡ only n t.line (mail_text n.replicas mail)
 
-abbrev pub IsAnswered : KeptState → (k object : ℕ) → Query → Turn → Type 0
-IsAnswered n k object query t = ((objects : List (ℕ × Kind)) × (t ≡ question objects n k object query t.line)) ⊎ IsStarved n k t
+abbrev pub IsAnswered : List (ℕ × Kind) → KeptState → (k object : ℕ) → Query → Turn → Type 0
+IsAnswered objects n k object query t = (t ≡ question objects n k object query t.line) ⊎ IsStarved n k t
 
 abbrev pub IsTicked : KeptState → (k : ℕ) → Turn → Type 0
 IsTicked n k t = IsSentAgain n t ⊎ IsStarved n k t
@@ -169,22 +173,22 @@ IsTicked n k t = IsSentAgain n t ⊎ IsStarved n k t
 abbrev pub IsKeptTurn : KeptState → (k : ℕ) → Call → Turn → Type 0
 IsKeptTurn n k call t = IsTaken n call t ⊎ IsRefused n k call t
 
-abbrev pub IsTurnHere : KeptState → (k : ℕ) → Call → Turn → Type 0
-IsTurnHere n k (Submit replica object op) t = IsKeptTurn n k (Submit replica object op) t
-IsTurnHere n k (Decide replica commit value) t = IsKeptTurn n k (Decide replica commit value) t
-IsTurnHere n k (Ask replica object query) t = IsAnswered n k object query t
-IsTurnHere n k Tick t = IsTicked n k t
-IsTurnHere n k (Receive m) t = IsKeptTurn n k (Receive m) t
+abbrev pub IsTurnHere : List (ℕ × Kind) → KeptState → (k : ℕ) → Call → Turn → Type 0
+IsTurnHere objects n k (Submit replica object op) t = IsKeptTurn n k (Submit replica object op) t
+IsTurnHere objects n k (Decide replica commit value) t = IsKeptTurn n k (Decide replica commit value) t
+IsTurnHere objects n k (Ask replica object query) t = IsAnswered objects n k object query t
+IsTurnHere objects n k Tick t = IsTicked n k t
+IsTurnHere objects n k (Receive m) t = IsKeptTurn n k (Receive m) t
 
 -- a call that is for another node is passed over
-abbrev pub IsCallTurn : KeptState → (k : ℕ) → Call → Turn → Type 0
-IsCallTurn n k call t = if is_elsewhere n call then t ≡ only n t.line [] else IsTurnHere n k call t
+abbrev pub IsCallTurn : List (ℕ × Kind) → KeptState → (k : ℕ) → Call → Turn → Type 0
+IsCallTurn objects n k call t = if is_elsewhere n call then t ≡ only n t.line [] else IsTurnHere objects n k call t
 
 -- a line that says a call
-pub record Says (n : KeptState) (k : ℕ) (t : Turn) : Type 0 where
+pub record Says (objects : List (ℕ × Kind)) (n : KeptState) (k : ℕ) (t : Turn) : Type 0 where
   pub call : Call
   pub says : named t.line ≡ Some call
-  pub turn : IsCallTurn n k call t
+  pub turn : IsCallTurn objects n k call t
 
 -- one that has a fault
 pub record HasFault (n : KeptState) (k : ℕ) (t : Turn) : Type 0 where
@@ -193,12 +197,12 @@ pub record HasFault (n : KeptState) (k : ℕ) (t : Turn) : Type 0 where
   pub turn : t ≡ faulty n k t.line fault
 
 -- a line that is not too long
-abbrev pub IsShortTurn : KeptState → (k : ℕ) → Turn → Type 0
-IsShortTurn n k t =
+abbrev pub IsShortTurn : List (ℕ × Kind) → KeptState → (k : ℕ) → Turn → Type 0
+IsShortTurn objects n k t =
     if is_note t.line then t ≡ only n t.line []
-    else (Says n k t ⊎ (HasFault n k t ⊎ IsStarved n k t))
+    else (Says objects n k t ⊎ (HasFault n k t ⊎ IsStarved n k t))
 
 -- what line k comes to, where the node keeps this before it
-unfoldable pub IsTurn : KeptState → (k : ℕ) → Turn → Type 0
-IsTurn n k t =
-    if nat_lt MAX_LINE (length t.line) then t ≡ faulty n k t.line TooLong else IsShortTurn n k t
+unfoldable pub IsTurn : List (ℕ × Kind) → KeptState → (k : ℕ) → Turn → Type 0
+IsTurn objects n k t =
+    if nat_lt MAX_LINE (length t.line) then t ≡ faulty n k t.line TooLong else IsShortTurn objects n k t

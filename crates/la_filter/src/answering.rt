@@ -8,108 +8,26 @@ ghost use Rattle.la_lines.specs.declared.calls.TheConstants.{MAX_LINE};
 ghost use Rattle.la_lines.specs.Calls.{called};
 ghost use Rattle.la_lines.specs.CallLines.{named};
 ghost use Rattle.la_filter.specs.declared.error.NodeFault.TheVariants.{WriteFault, DiskFault};
-ghost use Rattle.la_filter.specs.Notes.{refused_note, fault_line};
-ghost use Rattle.la_filter.specs.Streams.{Tells, TellsAll};
-ghost use Rattle.la_filter.specs.Turns.{Turn, kept_state, is_note, is_elsewhere, IsKeptTurn, IsAnswered, IsTicked, IsCallTurn, IsTurn};
+ghost use Rattle.la_streams.specs.Notes.{refused_note, fault_line};
+ghost use Rattle.la_streams.specs.Streams.{Tells, TellsAll};
+ghost use Rattle.la_node.specs.Restarts.{kept_state};
+ghost use Rattle.la_set.specs.Inclusion.{IsSubset};
+ghost use Rattle.la_filter.specs.Turns.{Turn, is_note, is_elsewhere, IsKeptTurn, IsAnswered, IsTicked, IsCallTurn, IsTurn};
 ghost use Rattle.la_filter.specs.Serving.{Of, Takes, TakesCut, Breaks, TellsNothing};
 
-use crate::NodeFault;
-use crate::names::{fault_name, refusal_name};
+use crate::keeping::{Kept, keep};
+use crate::names::refusal_name;
 use crate::texts::{answer_text, mail_text, text_of};
-use arrayvec::ArrayString;
-use itoa::Buffer;
-use la_journal::{Disk, Durable, Refused};
+use crate::{Filter, NodeFault};
+use la_journal::{Disk, Durable};
 use la_lines::{Call, LineError, LineFault};
-use la_node::{Input, NodeError, NodeMachine};
-use la_object::{Query, Replicated, ShelfError};
-use la_program::{Listener, tell_all, write_all};
+use la_node::{Input, NodeMachine};
+use la_object::{Query, Replicated, Shelf, ShelfError};
+use la_program::Listener;
+use la_set::UpdateSet;
+use la_streams::{refuse, tell_fault, write_lines};
 use std::alloc::Global;
 use std::io::Write;
-
-// A note with two numbers has at most 49 bytes, a fault's line 37.
-type Line = ArrayString<64>;
-
-// Where a text's first line ends, behind its end.
-fn line_end(text: &[u8]) -> usize
-    requires { 0 < length text.now }
-    ensures some { 0 < result }
-    ensures within { result ≤ length text.now }
-{
-    match text.iter().position(|b| *b == b'\n') {
-        Some(place) => place + 1,
-        None => text.len(),
-    }
-}
-
-// Writes lines, one write a line.
-fn write_lines<W: Write>(output: &mut W, text: &[u8]) -> Result<(), NodeFault>
-    ensures ok { OnOk result (Writes W.contents output.old output.new text.now) }
-    ensures err { OnErr result (WritesPrefix W.contents output.old output.new text.now) }
-    ensures fault { IfErr result (λ f. f ≡ WriteFault) }
-{
-    let mut done = 0;
-    while done < text.len() {
-        let end = done + line_end(&text[done..]);
-        let Ok(()) = write_all(output, &text[done..end]) else {
-            return Err(NodeFault::WriteFault);
-        };
-        done = end;
-    }
-    Ok(())
-}
-
-// A note that a line was refused.
-fn refusal_line(own: u8, number: u64, name: &'static str) -> Line
-    requires { length name.now ≤ 15 }
-    ensures { result.bytes ≡ refused_note own number name.now }
-{
-    let mut line = Line::new();
-    line.push_str("# r");
-    line.push_str(Buffer::new().format(own));
-    line.push_str(" refused ");
-    line.push_str(Buffer::new().format(number));
-    line.push_str(" ");
-    line.push_str(name);
-    line.push_str("\n");
-    line
-}
-
-// Notes that a line was refused. It takes no memory.
-fn refuse<W: Write>(
-    output: &mut W,
-    own: u8,
-    number: u64,
-    name: &'static str,
-) -> Result<(), NodeFault>
-    requires { length name.now ≤ 15 }
-    ensures ok { OnOk result (Writes W.contents output.old output.new (refused_note own number name.now)) }
-    ensures err { OnErr result (WritesPrefix W.contents output.old output.new (refused_note own number name.now)) }
-    ensures fault { IfErr result (λ f. f ≡ WriteFault) }
-{
-    let line = refusal_line(own, number, name);
-    write_lines(output, line.as_str().as_bytes())
-}
-
-// A line's fault, as it is told.
-fn line_of_fault(number: u64, fault: LineFault) -> Line
-    ensures { result.bytes ≡ fault_line number fault }
-{
-    let mut line = Line::new();
-    line.push_str("line ");
-    line.push_str(Buffer::new().format(number));
-    line.push_str(": ");
-    line.push_str(fault_name(fault));
-    line.push_str("\n");
-    line
-}
-
-/// Tells a line's fault. It takes no memory.
-pub fn tell_fault<E: Listener>(errors: &mut E, number: u64, fault: LineFault)
-    ensures { Tells E.contents E.refuses errors.old errors.new (fault_line number fault) }
-{
-    let line = line_of_fault(number, fault);
-    let _told = tell_all(errors, line.as_str().as_bytes());
-}
 
 // Whether a line is passed over: it is empty, or a note.
 fn is_note(line: &[u8]) -> bool
@@ -122,7 +40,7 @@ fn is_note(line: &[u8]) -> bool
 }
 
 // Whether a call is for another node.
-fn is_elsewhere<B: Replicated>(machine: &NodeMachine<B>, call: &Call) -> bool
+fn is_elsewhere(machine: &NodeMachine, call: &Call) -> bool
     ensures { result ≡ is_elsewhere (kept_state machine.now.replicas machine.now.node) (called call.now) }
 {
     let own = machine.node.own();
@@ -136,9 +54,9 @@ fn is_elsewhere<B: Replicated>(machine: &NodeMachine<B>, call: &Call) -> bool
 }
 
 // A call that is kept: its lines go out only once it is on the disk.
-fn take<W: Write, D: Disk, B: Replicated>(
+fn take<W: Write, D: Disk>(
     alloc: Global,
-    node: &mut Durable<NodeMachine<B>, D>,
+    node: &mut Durable<NodeMachine, D>,
     number: u64,
     input: &Input,
     output: &mut W,
@@ -151,53 +69,88 @@ fn take<W: Write, D: Disk, B: Replicated>(
         (lines (D.seen node.old.disk)) (lines (D.seen node.new.disk)) (kept_state node.new.machine.replicas node.new.machine.node)) }
     ensures settled { node.new.closed ≡ false → IsSettled D.seen D.may_leave node.new.disk }
     ensures open { OnOk result (node.new.closed ≡ false) }
+    ensures grows { node.new.closed ≡ false → IsSubset node.old.machine.node.replica.view node.new.machine.node.replica.view }
 {
     let own = node.machine.node.own();
     let before = node.machine.node.view().len();
-    match node.handle(alloc, input) {
-        Ok(given) => match text_of(alloc, &node.machine, before, input.call(), &given) {
-            Ok(text) => write_lines(output, &text),
+    match keep(alloc, node, input)? {
+        Kept::Taken(given) => match text_of(alloc, &node.machine, before, input.call(), &given) {
+            Ok(text) => {
+                write_lines(output, &text)?;
+                Ok(())
+            }
             Err(_) => Err(NodeFault::Memory),
         },
-        Err(Refused::Machine(refusal)) => refuse(output, own, number, refusal_name(refusal)),
-        Err(Refused::Memory) => refuse(output, own, number, refusal_name(NodeError::Memory)),
-        Err(Refused::Disk) | Err(Refused::Closed) => Err(NodeFault::DiskFault),
+        Kept::Refused(refusal) => {
+            refuse(output, own, number, refusal_name(refusal))?;
+            Ok(())
+        }
     }
 }
 
-// A question. The answers of the shelf change nothing that is kept.
+// Lets a shelf absorb the view. Answers whether there was memory.
+fn follow<B: Replicated>(shelf: &mut Shelf<B>, view: &UpdateSet) -> bool
+    requires { IsSubset shelf.old.view view.now }
+    ensures ok { result ≡ true → shelf.new.view ≡ view.now }
+    ensures objects { shelf.new.objects ≡ shelf.old.objects }
+    ensures within { IsSubset shelf.new.view view.now }
+{
+    shelf.absorb_compatible(view).is_ok()
+}
+
+// A question: the shelf absorbs the view first.
 fn ask<W: Write, B: Replicated>(
     alloc: Global,
-    machine: &mut NodeMachine<B>,
+    machine: &NodeMachine,
+    shelf: &mut Shelf<B>,
     number: u64,
     object: u16,
     query: &Query,
     output: &mut W,
 ) -> Result<(), NodeFault>
+    requires { IsSubset shelf.old.view machine.now.node.replica.view }
     ensures ok { (line : List ℕ) (journal : List (List ℕ)) → OnOk result
-        (Takes (Of line (IsAnswered (kept_state machine.old.replicas machine.old.node) number object query.now))
+        (Takes (Of line (IsAnswered shelf.old.objects (kept_state machine.now.replicas machine.now.node) number object query.now))
         TellsNothing (W.contents output.old) (W.contents output.new) journal journal
-        (kept_state machine.new.replicas machine.new.node)) }
+        (kept_state machine.now.replicas machine.now.node)) }
     ensures err { (line : List ℕ) (journal : List (List ℕ)) → IfErr result
-        (Breaks (Of line (IsAnswered (kept_state machine.old.replicas machine.old.node) number object query.now))
+        (Breaks (Of line (IsAnswered shelf.old.objects (kept_state machine.now.replicas machine.now.node) number object query.now))
         TellsNothing (W.contents output.old) (W.contents output.new) journal journal
-        (kept_state machine.new.replicas machine.new.node)) }
+        (kept_state machine.now.replicas machine.now.node)) }
+    ensures objects { shelf.new.objects ≡ shelf.old.objects }
+    ensures within { IsSubset shelf.new.view machine.now.node.replica.view }
 {
     let own = machine.node.own();
-    match machine.node.ask(object, query) {
+    if !follow(shelf, machine.node.view()) {
+        refuse(output, own, number, "Memory")?;
+        return Ok(());
+    }
+    match shelf.ask(object, query) {
         Ok(answer) => match answer_text(alloc, own, object, &answer) {
-            Ok(text) => write_lines(output, &text),
-            Err(_) => refuse(output, own, number, "Memory"),
+            Ok(text) => {
+                write_lines(output, &text)?;
+                Ok(())
+            }
+            Err(_) => {
+                refuse(output, own, number, "Memory")?;
+                Ok(())
+            }
         },
-        Err(ShelfError::NoSuchObject) => refuse(output, own, number, "NoSuchObject"),
-        Err(_) => refuse(output, own, number, "Memory"),
+        Err(ShelfError::NoSuchObject) => {
+            refuse(output, own, number, "NoSuchObject")?;
+            Ok(())
+        }
+        Err(_) => {
+            refuse(output, own, number, "Memory")?;
+            Ok(())
+        }
     }
 }
 
 // The timer.
-fn tick<W: Write, B: Replicated>(
+fn tick<W: Write>(
     alloc: Global,
-    machine: &NodeMachine<B>,
+    machine: &NodeMachine,
     number: u64,
     output: &mut W,
 ) -> Result<(), NodeFault>
@@ -212,41 +165,52 @@ fn tick<W: Write, B: Replicated>(
 {
     let own = machine.node.own();
     let Ok(mail) = machine.node.again() else {
-        return refuse(output, own, number, "Memory");
+        refuse(output, own, number, "Memory")?;
+        return Ok(());
     };
     match mail_text(alloc, machine.replicas, &mail) {
-        Ok(text) => write_lines(output, &text),
-        Err(_) => refuse(output, own, number, "Memory"),
+        Ok(text) => {
+            write_lines(output, &text)?;
+            Ok(())
+        }
+        Err(_) => {
+            refuse(output, own, number, "Memory")?;
+            Ok(())
+        }
     }
 }
 
 // A line that says a call.
 fn call<W: Write, D: Disk, B: Replicated>(
     alloc: Global,
-    node: &mut Durable<NodeMachine<B>, D>,
+    filter: &mut Filter<D, B>,
     number: u64,
     input: &Input,
     output: &mut W,
 ) -> Result<(), NodeFault>
-    requires settled { IsSettled D.seen D.may_leave node.old.disk }
-    requires open { node.old.closed ≡ false }
-    ensures ok { OnOk result (Takes (Of input.now.line (IsCallTurn (kept_state node.old.machine.replicas node.old.machine.node) number (called input.now.call))) TellsNothing (W.contents output.old) (W.contents output.new)
-        (lines (D.seen node.old.disk)) (lines (D.seen node.new.disk)) (kept_state node.new.machine.replicas node.new.machine.node)) }
-    ensures err { IfErr result (Breaks (Of input.now.line (IsCallTurn (kept_state node.old.machine.replicas node.old.machine.node) number (called input.now.call))) TellsNothing (W.contents output.old) (W.contents output.new)
-        (lines (D.seen node.old.disk)) (lines (D.seen node.new.disk)) (kept_state node.new.machine.replicas node.new.machine.node)) }
-    ensures settled { node.new.closed ≡ false → IsSettled D.seen D.may_leave node.new.disk }
-    ensures open { OnOk result (node.new.closed ≡ false) }
+    requires settled { IsSettled D.seen D.may_leave filter.old.node.disk }
+    requires open { filter.old.node.closed ≡ false }
+    requires within { IsSubset filter.old.shelf.view filter.old.node.machine.node.replica.view }
+    ensures ok { OnOk result (Takes (Of input.now.line (IsCallTurn filter.old.shelf.objects (kept_state filter.old.node.machine.replicas filter.old.node.machine.node) number (called input.now.call))) TellsNothing (W.contents output.old) (W.contents output.new)
+        (lines (D.seen filter.old.node.disk)) (lines (D.seen filter.new.node.disk)) (kept_state filter.new.node.machine.replicas filter.new.node.machine.node)) }
+    ensures err { IfErr result (Breaks (Of input.now.line (IsCallTurn filter.old.shelf.objects (kept_state filter.old.node.machine.replicas filter.old.node.machine.node) number (called input.now.call))) TellsNothing (W.contents output.old) (W.contents output.new)
+        (lines (D.seen filter.old.node.disk)) (lines (D.seen filter.new.node.disk)) (kept_state filter.new.node.machine.replicas filter.new.node.machine.node)) }
+    ensures settled { filter.new.node.closed ≡ false → IsSettled D.seen D.may_leave filter.new.node.disk }
+    ensures open { OnOk result (filter.new.node.closed ≡ false) }
+    ensures objects { filter.new.shelf.objects ≡ filter.old.shelf.objects }
+    ensures within { filter.new.node.closed ≡ false → IsSubset filter.new.shelf.view filter.new.node.machine.node.replica.view }
 {
-    if is_elsewhere(&node.machine, input.call()) {
+    if is_elsewhere(&filter.node.machine, input.call()) {
         return Ok(());
     }
     match input.call() {
         Call::Ask { object, query, .. } => {
-            ask(alloc, &mut node.machine, number, *object, query, output)
+            let (machine, shelf) = (&filter.node.machine, &mut filter.shelf);
+            ask(alloc, machine, shelf, number, *object, query, output)
         }
-        Call::Tick => tick(alloc, &node.machine, number, output),
+        Call::Tick => tick(alloc, &filter.node.machine, number, output),
         Call::Submit { .. } | Call::Decide { .. } | Call::Receive(_) => {
-            take(alloc, node, number, input, output)
+            take(alloc, &mut filter.node, number, input, output)
         }
     }
 }
@@ -259,31 +223,37 @@ fn call<W: Write, D: Disk, B: Replicated>(
 /// anything goes out; the journal is to be recovered anew.
 pub fn answer<W: Write, E: Listener, D: Disk, B: Replicated>(
     alloc: Global,
-    node: &mut Durable<NodeMachine<B>, D>,
+    filter: &mut Filter<D, B>,
     number: u64,
     line: &[u8],
     output: &mut W,
     errors: &mut E,
 ) -> Result<(), NodeFault>
     requires short { length line.now ≤ MAX_LINE }
-    requires settled { IsSettled D.seen D.may_leave node.old.disk }
-    requires open { node.old.closed ≡ false }
-    ensures ok { OnOk result (Takes (Of line.now (IsTurn (kept_state node.old.machine.replicas node.old.machine.node) number)) (TellsAll E.contents E.refuses errors.old errors.new) (W.contents output.old) (W.contents output.new)
-        (lines (D.seen node.old.disk)) (lines (D.seen node.new.disk)) (kept_state node.new.machine.replicas node.new.machine.node)) }
-    ensures err { IfErr result (Breaks (Of line.now (IsTurn (kept_state node.old.machine.replicas node.old.machine.node) number)) (TellsAll E.contents E.refuses errors.old errors.new) (W.contents output.old) (W.contents output.new)
-        (lines (D.seen node.old.disk)) (lines (D.seen node.new.disk)) (kept_state node.new.machine.replicas node.new.machine.node)) }
-    ensures settled { node.new.closed ≡ false → IsSettled D.seen D.may_leave node.new.disk }
-    ensures open { OnOk result (node.new.closed ≡ false) }
+    requires settled { IsSettled D.seen D.may_leave filter.old.node.disk }
+    requires open { filter.old.node.closed ≡ false }
+    requires within { IsSubset filter.old.shelf.view filter.old.node.machine.node.replica.view }
+    ensures ok { OnOk result (Takes (Of line.now (IsTurn filter.old.shelf.objects (kept_state filter.old.node.machine.replicas filter.old.node.machine.node) number)) (TellsAll E.contents E.refuses errors.old errors.new) (W.contents output.old) (W.contents output.new)
+        (lines (D.seen filter.old.node.disk)) (lines (D.seen filter.new.node.disk)) (kept_state filter.new.node.machine.replicas filter.new.node.machine.node)) }
+    ensures err { IfErr result (Breaks (Of line.now (IsTurn filter.old.shelf.objects (kept_state filter.old.node.machine.replicas filter.old.node.machine.node) number)) (TellsAll E.contents E.refuses errors.old errors.new) (W.contents output.old) (W.contents output.new)
+        (lines (D.seen filter.old.node.disk)) (lines (D.seen filter.new.node.disk)) (kept_state filter.new.node.machine.replicas filter.new.node.machine.node)) }
+    ensures settled { filter.new.node.closed ≡ false → IsSettled D.seen D.may_leave filter.new.node.disk }
+    ensures open { OnOk result (filter.new.node.closed ≡ false) }
+    ensures objects { filter.new.shelf.objects ≡ filter.old.shelf.objects }
+    ensures within { filter.new.node.closed ≡ false → IsSubset filter.new.shelf.view filter.new.node.machine.node.replica.view }
 {
     if is_note(line) {
         return Ok(());
     }
     match Input::read(alloc, line) {
-        Ok(input) => call(alloc, node, number, &input, output),
+        Ok(input) => call(alloc, filter, number, &input, output),
         Err(LineError::Fault(fault)) => {
             tell_fault(errors, number, fault);
             Ok(())
         }
-        Err(LineError::Memory) => refuse(output, node.machine.node.own(), number, "Memory"),
+        Err(LineError::Memory) => {
+            refuse(output, filter.node.machine.node.own(), number, "Memory")?;
+            Ok(())
+        }
     }
 }

@@ -1,3 +1,9 @@
+ghost use Rattle.std.specs.Prelude.{◌≡◌};
+ghost use Rattle.la_filter.specs.declared.error.NodeFault.TheVariants.{WriteFault};
+ghost use Rattle.la_filter.specs.Faults.{of_source};
+
+use la_program::WriteFailed;
+use la_streams::SourceFault;
 use thiserror::Error;
 
 /// Why a node ended before its input did. It is shown as the program tells it.
@@ -30,4 +36,23 @@ pub enum NodeFault {
     /// The disk failed.
     #[error("DiskFault")]
     DiskFault,
+}
+
+impl From<SourceFault> for NodeFault {
+    ghost from_gives = { λ fault e. e ≡ of_source fault };
+
+    fn from(fault: SourceFault) -> NodeFault {
+        match fault {
+            SourceFault::ReadFault => NodeFault::ReadFault,
+            SourceFault::Memory => NodeFault::Memory,
+        }
+    }
+}
+
+impl From<WriteFailed> for NodeFault {
+    ghost from_gives = { λ _ e. e ≡ WriteFault };
+
+    fn from(_failed: WriteFailed) -> NodeFault {
+        NodeFault::WriteFault
+    }
 }

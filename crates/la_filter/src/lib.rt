@@ -7,16 +7,17 @@
 
 mod answering;
 mod error;
+mod filter;
+mod keeping;
 mod names;
-mod notes;
 mod options;
 mod serving;
 mod shelf;
-mod source;
 mod starting;
 mod texts;
 
 pub use error::NodeFault;
+pub use filter::Filter;
 pub use options::{Options, command};
 pub use serving::serve;
 pub use starting::{end_with, end_without_options, run};

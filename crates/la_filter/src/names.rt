@@ -1,24 +1,11 @@
-// What is told of refusals and faults, by name.
+// What is told of refusals, by name.
 ghost use Rattle.std.specs.Prelude.{◌≡◌, ◌≤◌, length};
-ghost use Rattle.la_filter.specs.Names.{fault_name, replica_name, proposal_name, refusal_name};
+ghost use Rattle.la_filter.specs.Names.{replica_name, proposal_name, refusal_name};
 
 use crate::NodeFault;
-use la_lines::LineFault;
 use la_node::NodeError;
 use la_replica::ReplicaError;
 use la_world::WorldError;
-
-pub fn fault_name(fault: LineFault) -> &'static str
-    ensures text { result.now ≡ fault_name fault }
-    ensures short { length result.now ≤ 9 }
-{
-    match fault {
-        LineFault::TooLong => "TooLong",
-        LineFault::BadLine => "BadLine",
-        LineFault::BadNumber => "BadNumber",
-        LineFault::BadSet => "BadSet",
-    }
-}
 
 fn replica_name(refusal: ReplicaError) -> &'static str
     ensures text { result.now ≡ replica_name refusal }

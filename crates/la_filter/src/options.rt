@@ -19,12 +19,7 @@ pub struct Options {
 const ABOUT: &str = "Runs one replica of a group over lines: lattice node --own 0 --journal folder";
 
 // An option with a number.
-fn number<'a>(
-    alloc: Global,
-    name: &'a str,
-    parser: ValueParser<'a>,
-    help: &'a str,
-) -> Arg<'a> {
+fn number<'a>(alloc: Global, name: &'a str, parser: ValueParser<'a>, help: &'a str) -> Arg<'a> {
     Arg::new(alloc, name)
         .long(name)
         .value_name("N")
@@ -40,9 +35,24 @@ fn program<'a>(alloc: Global) -> Result<Command<'a>, AllocError> {
     let weights = value_parser!(u16).range(1..=1000);
     let replicas = number(alloc, "replicas", sizes, "How many replicas, 1 to 8");
     let own = number(alloc, "own", places, "Which of them this is, from 0");
-    let commits = number(alloc, "commits", objects, "How many adopt-commit objects, 0 to 16");
-    let cap = number(alloc, "cap", caps, "How many updates it may submit, 1 to 1000000");
-    let votes = number(alloc, "votes", weights, "The votes of each replica, 1 to 1000");
+    let commits = number(
+        alloc,
+        "commits",
+        objects,
+        "How many adopt-commit objects, 0 to 16",
+    );
+    let cap = number(
+        alloc,
+        "cap",
+        caps,
+        "How many updates it may submit, 1 to 1000000",
+    );
+    let votes = number(
+        alloc,
+        "votes",
+        weights,
+        "The votes of each replica, 1 to 1000",
+    );
     let journal = Arg::new(alloc, "journal")
         .long("journal")
         .value_name("FOLDER")

@@ -2,18 +2,18 @@ ghost use Rattle.std.specs.Prelude.{◌≡◌, ◌≤◌, true, false, Ok, IfOk,
 ghost use Rattle.std.specs.Io.KnownBytes.{IsAtEnd};
 ghost use Rattle.la_journal.specs.Lines.{lines};
 ghost use Rattle.la_journal.specs.Durable.{IsSettled};
-ghost use Rattle.la_filter.specs.Streams.{ahead, TellsAll};
-ghost use Rattle.la_filter.specs.Turns.{kept_state};
+ghost use Rattle.la_streams.specs.Streams.{ahead, TellsAll};
+ghost use Rattle.la_set.specs.Inclusion.{IsSubset};
+ghost use Rattle.la_node.specs.Restarts.{kept_state};
 ghost use Rattle.la_filter.specs.Serving.{Steps, IsStepRefusal, Serves, IsServeRefusal};
 
-use crate::NodeFault;
-use crate::answering::{answer, tell_fault};
-use crate::source::{Next, Source};
-use la_journal::{Disk, Durable};
+use crate::answering::answer;
+use crate::{Filter, NodeFault};
+use la_journal::Disk;
 use la_lines::LineFault;
-use la_node::NodeMachine;
 use la_object::Replicated;
 use la_program::Listener;
+use la_streams::{Next, Source, SourceFault, tell_fault};
 use std::alloc::Global;
 use std::io::{Read, Write};
 
@@ -21,29 +21,39 @@ use std::io::{Read, Write};
 fn step<R: Read, W: Write, E: Listener, D: Disk, B: Replicated>(
     alloc: Global,
     source: &mut Source,
-    node: &mut Durable<NodeMachine<B>, D>,
+    filter: &mut Filter<D, B>,
     number: u64,
     input: &mut R,
     output: &mut W,
     errors: &mut E,
 ) -> Result<bool, NodeFault>
-    requires settled { IsSettled D.seen D.may_leave node.old.disk }
-    requires open { node.old.closed ≡ false }
+    requires settled { IsSettled D.seen D.may_leave filter.old.node.disk }
+    requires open { filter.old.node.closed ≡ false }
+    requires within { IsSubset filter.old.shelf.view filter.old.node.machine.node.replica.view }
     requires over { source.old.over ≡ true → IsAtEnd (ahead source.old (R.remaining input.old)) }
-    ensures ok { IfOk result (Steps (kept_state node.old.machine.replicas node.old.machine.node) number (TellsAll E.contents E.refuses errors.old errors.new)
+    ensures ok { IfOk result (Steps filter.old.shelf.objects (kept_state filter.old.node.machine.replicas filter.old.node.machine.node) number (TellsAll E.contents E.refuses errors.old errors.new)
         (ahead source.old (R.remaining input.old)) (ahead source.new (R.remaining input.new)) source.new.over (W.contents output.old) (W.contents output.new)
-        (lines (D.seen node.old.disk)) (lines (D.seen node.new.disk)) (kept_state node.new.machine.replicas node.new.machine.node)) }
-    ensures err { IfErr result (IsStepRefusal (kept_state node.old.machine.replicas node.old.machine.node) number (TellsAll E.contents E.refuses errors.old errors.new)
+        (lines (D.seen filter.old.node.disk)) (lines (D.seen filter.new.node.disk)) (kept_state filter.new.node.machine.replicas filter.new.node.machine.node)) }
+    ensures err { IfErr result (IsStepRefusal filter.old.shelf.objects (kept_state filter.old.node.machine.replicas filter.old.node.machine.node) number (TellsAll E.contents E.refuses errors.old errors.new)
         (ahead source.old (R.remaining input.old)) (ahead source.new (R.remaining input.new)) source.new.over (W.contents output.old) (W.contents output.new)
-        (lines (D.seen node.old.disk)) (lines (D.seen node.new.disk)) (kept_state node.new.machine.replicas node.new.machine.node)) }
+        (lines (D.seen filter.old.node.disk)) (lines (D.seen filter.new.node.disk)) (kept_state filter.new.node.machine.replicas filter.new.node.machine.node)) }
     ensures end { source.old.over ≡ true → result ≡ Ok false }
     ensures over { source.new.over ≡ true → IsAtEnd (ahead source.new (R.remaining input.new)) }
-    ensures settled { node.new.closed ≡ false → IsSettled D.seen D.may_leave node.new.disk }
-    ensures open { OnOk result (node.new.closed ≡ false) }
+    ensures settled { filter.new.node.closed ≡ false → IsSettled D.seen D.may_leave filter.new.node.disk }
+    ensures open { OnOk result (filter.new.node.closed ≡ false) }
+    ensures objects { filter.new.shelf.objects ≡ filter.old.shelf.objects }
+    ensures within { filter.new.node.closed ≡ false → IsSubset filter.new.shelf.view filter.new.node.machine.node.replica.view }
 {
     match source.next(input)? {
         Next::Line => {
-            answer(alloc, node, number, source.line.as_slice(), output, errors)?;
+            answer(
+                alloc,
+                filter,
+                number,
+                source.line.as_slice(),
+                output,
+                errors,
+            )?;
             Ok(true)
         }
         Next::Long => {
@@ -64,25 +74,26 @@ fn step<R: Read, W: Write, E: Listener, D: Disk, B: Replicated>(
 /// `DiskFault` where the disk fails: of that call nothing went out, and the journal is to be recovered.
 pub fn serve<R: Read, W: Write, E: Listener, D: Disk, B: Replicated>(
     alloc: Global,
-    node: &mut Durable<NodeMachine<B>, D>,
+    filter: &mut Filter<D, B>,
     input: &mut R,
     output: &mut W,
     errors: &mut E,
 ) -> Result<(), NodeFault>
-    requires settled { IsSettled D.seen D.may_leave node.old.disk }
-    requires open { node.old.closed ≡ false }
-    ensures ok { OnOk result (Serves (kept_state node.old.machine.replicas node.old.machine.node) (TellsAll E.contents E.refuses errors.old errors.new)
+    requires settled { IsSettled D.seen D.may_leave filter.old.node.disk }
+    requires open { filter.old.node.closed ≡ false }
+    requires within { IsSubset filter.old.shelf.view filter.old.node.machine.node.replica.view }
+    ensures ok { OnOk result (Serves filter.old.shelf.objects (kept_state filter.old.node.machine.replicas filter.old.node.machine.node) (TellsAll E.contents E.refuses errors.old errors.new)
         (R.remaining input.old) (R.remaining input.new) (W.contents output.old) (W.contents output.new)
-        (lines (D.seen node.old.disk)) (lines (D.seen node.new.disk)) (kept_state node.new.machine.replicas node.new.machine.node)) }
-    ensures err { IfErr result (IsServeRefusal (kept_state node.old.machine.replicas node.old.machine.node) (TellsAll E.contents E.refuses errors.old errors.new)
+        (lines (D.seen filter.old.node.disk)) (lines (D.seen filter.new.node.disk)) (kept_state filter.new.node.machine.replicas filter.new.node.machine.node)) }
+    ensures err { IfErr result (IsServeRefusal filter.old.shelf.objects (kept_state filter.old.node.machine.replicas filter.old.node.machine.node) (TellsAll E.contents E.refuses errors.old errors.new)
         (R.remaining input.old) (R.remaining input.new) (W.contents output.old) (W.contents output.new)
-        (lines (D.seen node.old.disk)) (lines (D.seen node.new.disk)) (kept_state node.new.machine.replicas node.new.machine.node)) }
-    ensures settled { node.new.closed ≡ false → IsSettled D.seen D.may_leave node.new.disk }
-    ensures open { OnOk result (node.new.closed ≡ false) }
+        (lines (D.seen filter.old.node.disk)) (lines (D.seen filter.new.node.disk)) (kept_state filter.new.node.machine.replicas filter.new.node.machine.node)) }
+    ensures settled { filter.new.node.closed ≡ false → IsSettled D.seen D.may_leave filter.new.node.disk }
+    ensures open { OnOk result (filter.new.node.closed ≡ false) }
 {
     let mut source = Source::new(alloc);
     for number in 1..u64::MAX {
-        let more = step(alloc, &mut source, node, number, input, output, errors)?;
+        let more = step(alloc, &mut source, filter, number, input, output, errors)?;
         if !more {
             return Ok(());
         }

@@ -1,12 +1,13 @@
 use crate::names::end_name;
 use crate::serving::serve;
-use crate::shelf::shelf;
-use crate::{NodeFault, Options};
+use crate::shelf::shelf_of;
+use crate::{Filter, NodeFault, Options};
 use arrayvec::ArrayString;
 use clap::Error;
 use la_journal::{Disk, Unplayed, recover};
 use la_node::NodeMachine;
-use la_object::{Replicated, Shelf};
+use la_object::{Counter, MaxRegister, Replicated, Shelf, ShelfError};
+use la_orset::OrSet;
 use la_program::{Listener, tell_all, write_all};
 use la_world::WorldError;
 use std::alloc::Global;
@@ -65,15 +66,18 @@ fn start<R: Read, W: Write, E: Listener, D: Disk, B: Replicated>(
     output: &mut W,
     errors: &mut E,
 ) -> Result<(), NodeFault> {
-    let machine = match NodeMachine::new(alloc, options.config, options.own, shelf) {
+    let machine = match NodeMachine::new(alloc, options.config, options.own) {
         Ok(machine) => machine,
         Err(WorldError::Memory) => return Err(NodeFault::Memory),
         Err(_) => return Err(NodeFault::BadConfig),
     };
     match recover(alloc, machine, disk) {
         Ok(durable) => {
-            let mut node = durable;
-            serve(alloc, &mut node, input, output, errors)
+            let mut filter = Filter {
+                node: durable,
+                shelf,
+            };
+            serve(alloc, &mut filter, input, output, errors)
         }
         Err((Unplayed::Memory, _)) => Err(NodeFault::Memory),
         Err((Unplayed::Disk, _)) => Err(NodeFault::DiskFault),
@@ -81,7 +85,27 @@ fn start<R: Read, W: Write, E: Listener, D: Disk, B: Replicated>(
     }
 }
 
-/// The command over any streams and any journal: its exit status.
+// The node with these objects, until its input ends: its exit status.
+fn run_with<R: Read, W: Write, E: Listener, D: Disk, B: Replicated>(
+    alloc: Global,
+    options: &Options,
+    shelf: Result<Shelf<B>, ShelfError>,
+    disk: D,
+    input: &mut R,
+    output: &mut W,
+    errors: &mut E,
+) -> u8 {
+    let Ok(shelf) = shelf else {
+        return end_with(NodeFault::Memory, errors);
+    };
+    match start(alloc, options, shelf, disk, input, output, errors) {
+        Ok(()) => 0,
+        Err(fault) => end_with(fault, errors),
+    }
+}
+
+/// The command over any streams and any journal: its exit status. Its shelf has a counter under 1, a max register under 2
+/// and an observed-remove set under 3.
 pub fn run<R: Read, W: Write, E: Listener, D: Disk>(
     alloc: Global,
     options: &Options,
@@ -90,11 +114,18 @@ pub fn run<R: Read, W: Write, E: Listener, D: Disk>(
     output: &mut W,
     errors: &mut E,
 ) -> u8 {
-    let Ok(shelf) = shelf(alloc) else {
+    let Ok(counter) = Box::new(alloc, Counter::new(alloc)) else {
         return end_with(NodeFault::Memory, errors);
     };
-    match start(alloc, options, shelf, disk, input, output, errors) {
-        Ok(()) => 0,
-        Err(fault) => end_with(fault, errors),
-    }
+    let Ok(register) = Box::new(alloc, MaxRegister::new(alloc)) else {
+        return end_with(NodeFault::Memory, errors);
+    };
+    let Ok(set) = Box::new(alloc, OrSet::new(alloc)) else {
+        return end_with(NodeFault::Memory, errors);
+    };
+    let counter: Box<dyn Replicated + Send> = counter;
+    let register: Box<dyn Replicated + Send> = register;
+    let set: Box<dyn Replicated + Send> = set;
+    let shelf = shelf_of(alloc, counter, register, set);
+    run_with(alloc, options, shelf, disk, input, output, errors)
 }

@@ -3,26 +3,24 @@ ghost use Rattle.std.specs.Prelude.{◌≡◌, ◌++◌, IfOk, OnOk};
 ghost use Rattle.la_replica.specs.Steps.{learnt_in};
 ghost use Rattle.la_lines.specs.Calls.{called};
 ghost use Rattle.la_node.specs.Given.{given_of};
-ghost use Rattle.la_filter.specs.Notes.{answered_note, mail_text};
-ghost use Rattle.la_filter.specs.Turns.{kept_state, taken_text, learnt_text, growth_text, return_text};
+ghost use Rattle.la_streams.specs.Notes.{answered_note, mail_text};
+ghost use Rattle.la_node.specs.Restarts.{kept_state};
+ghost use Rattle.la_filter.specs.Turns.{taken_text, learnt_text, growth_text, return_text};
 ghost use Rattle.la_filter.specs.Turns.{receipt_text, call_text};
 
-use crate::notes::{put_answered, put_learnt, put_mail, put_outcome, put_proposed};
-use crate::notes::{put_submitted, put_view};
 use la_lines::{Call, Letter};
 use la_node::NodeMachine;
-use la_object::{Answer, Replicated};
+use la_object::{Answer, Counter};
 use la_replica::Mail;
 use la_set::UpdateSet;
+use la_streams::{
+    put_answered, put_learnt, put_mail, put_outcome, put_proposed, put_submitted, put_view,
+};
 use la_world::{Node, Received};
 use std::alloc::{AllocError, Global};
 
 // Answers a submission or a proposal.
-fn put_taken<B: Replicated>(
-    out: &mut Vec<u8>,
-    call: &Call,
-    node: &Node<B>,
-) -> Result<(), AllocError>
+fn put_taken(out: &mut Vec<u8>, call: &Call, node: &Node<Counter>) -> Result<(), AllocError>
     ensures { OnOk result (out.new.items ≡ out.old.items ++ taken_text node.now.replica (called call.now)) }
 {
     match call {
@@ -52,12 +50,7 @@ fn put_learning(
 }
 
 // Notes the view, where it has more updates than before.
-fn put_growth(
-    out: &mut Vec<u8>,
-    own: u8,
-    before: usize,
-    view: &UpdateSet,
-) -> Result<(), AllocError>
+fn put_growth(out: &mut Vec<u8>, own: u8, before: usize, view: &UpdateSet) -> Result<(), AllocError>
     ensures { OnOk result (out.new.items ≡ out.old.items ++ growth_text own before view.now) }
 {
     if view.len() > before {
@@ -86,9 +79,9 @@ fn put_return(
 }
 
 // Notes what else a message came to.
-fn put_receipt<B: Replicated>(
+fn put_receipt(
     out: &mut Vec<u8>,
-    node: &Node<B>,
+    node: &Node<Counter>,
     before: usize,
     call: &Call,
     given: &Received,
@@ -108,9 +101,9 @@ fn put_receipt<B: Replicated>(
 }
 
 /// What is written for a call that was accepted, once its view had so many updates.
-pub fn text_of<B: Replicated>(
+pub fn text_of(
     alloc: Global,
-    machine: &NodeMachine<B>,
+    machine: &NodeMachine,
     before: usize,
     call: &Call,
     given: &Received,

@@ -4,9 +4,9 @@ ghost use Rattle.std.specs.Fmt.{decimal};
 ghost use Rattle.la_script.specs.Pieces.{joined};
 ghost use Rattle.la_lines.specs.Joined.{spaced};
 ghost use Rattle.la_lines.specs.MessageLines.{count_words};
-ghost use Rattle.la_filter.specs.Notes.{outcome_word, mail_text};
-ghost use Rattle.la_filter.specs.Notes.{submitted_note, proposed_note, learnt_note, view_note};
-ghost use Rattle.la_filter.specs.Notes.{outcome_note, answered_note};
+ghost use Rattle.la_streams.specs.Notes.{outcome_word, mail_text};
+ghost use Rattle.la_streams.specs.Notes.{submitted_note, proposed_note, learnt_note, view_note};
+ghost use Rattle.la_streams.specs.Notes.{outcome_note, answered_note};
 
 use itoa::Buffer;
 use la_commit::Outcome;

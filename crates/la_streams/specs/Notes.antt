@@ -10,10 +10,10 @@ use Rattle.la_object.specs.declared.query.Answer.{Answer}
 use Rattle.la_replica.specs.declared.message.Message.{Message}
 use Rattle.la_script.specs.Text.{id_text, answer_text}
 use Rattle.la_lines.specs.declared.error.LineFault.{LineFault}
+use Rattle.la_lines.specs.declared.error.LineFault.TheVariants as line
 use Rattle.la_lines.specs.Joined.{spaced}
 use Rattle.la_lines.specs.Messages.{said_by}
 use Rattle.la_lines.specs.MessageLines.{count_words, message_text}
-use Rattle.la_filter.specs.Names.{fault_name}
 
 -- ## Notes
 
@@ -52,6 +52,12 @@ answered_note own object answer = note own (codes "answered" ∷ decimal object 
 -- the line with this number, from 1, was refused
 abbrev pub refused_note : (own number : ℕ) → (name : List ℕ) → List ℕ
 refused_note own number name = note own (codes "refused" ∷ decimal number ∷ name ∷ [])
+
+abbrev pub fault_name : LineFault → List ℕ
+fault_name line.TooLong = codes "TooLong"
+fault_name line.BadLine = codes "BadLine"
+fault_name line.BadNumber = codes "BadNumber"
+fault_name line.BadSet = codes "BadSet"
 
 -- what is told on standard error of a line that has a fault
 abbrev pub fault_line : (number : ℕ) → LineFault → List ℕ

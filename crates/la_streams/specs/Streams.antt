@@ -4,9 +4,9 @@ use Rattle.std.specs.Io.KnownBytes.{Consumes, IsAtEnd, prepend_known}
 use Rattle.la_lines.specs.declared.calls.TheConstants.{MAX_LINE}
 use Rattle.la_journal.specs.Lines.{file_of}
 use Rattle.la_program.specs.Streams.{Writes, Refuses}
-use Rattle.la_filter.specs.declared.source.Next.{Next}
-use Rattle.la_filter.specs.declared.source.Next.TheVariants as next
-use Rattle.la_filter.specs.declared.source.Source.{Source}
+use Rattle.la_streams.specs.declared.source.Next.{Next}
+use Rattle.la_streams.specs.declared.source.Next.TheVariants as next
+use Rattle.la_streams.specs.declared.source.Source.{Source}
 
 -- ## Lines
 
@@ -54,11 +54,41 @@ abbrev pub Ends : (before after : Option (List ℕ)) → (over : Bool) → (line
 Ends before after true line = Consumes before after line × IsAtEnd after
 Ends before after false line = Consumes before after (line ++ 10 ∷ [])
 
+-- what an ended line is
+abbrev pub of_line : (is_long : Bool) → Next
+of_line true = next.Long
+of_line false = next.Line
+
+-- what the end of an input ends
+abbrev pub last_kind : (is_long : Bool) → (line : List ℕ) → Next
+last_kind true line = next.Long
+last_kind false [] = next.End
+last_kind false (b ∷ line) = next.Line
+
 -- what stands next
 abbrev pub IsNext : (before after : Option (List ℕ)) → (over : Bool) → (line : List ℕ) → Next → Type 0
 IsNext before after over line next.Line = IsOneLine line × Ends before after over line
 IsNext before after over line next.Long = (long : List ℕ) × IsOneLine long × (MAX_LINE < length long) × Ends before after over long
 IsNext before after over line next.End = (over ≡ true) × Consumes before after [] × IsAtEnd after
+
+-- so far these lines were read, the last of them without its end where it is over
+abbrev pub ReadSo : (before after : Option (List ℕ)) → (over : Bool) → (lines : List (List ℕ)) → Type 0
+ReadSo before after true lines = (bytes : List ℕ) × Consumes before after bytes × AreLinesOf lines bytes
+ReadSo before after false lines = All IsOneLine lines × Consumes before after (file_of lines)
+
+-- bytes were read, which are these lines, and something behind them
+pub record ReadsFront (left_before left_after : Option (List ℕ)) (lines : List (List ℕ)) : Type 0 where
+  pub bytes : List ℕ
+  pub consumed : Consumes left_before left_after bytes
+  pub each : All IsOneLine lines
+  pub begins : ((rest : List ℕ) × (bytes ≡ file_of lines ++ rest)) ⊎ (bytes ++ 10 ∷ [] ≡ file_of lines)
+
+-- all that there was to read, which is these lines
+pub record ReadsAll (left_before left_after : Option (List ℕ)) (lines : List (List ℕ)) : Type 0 where
+  pub bytes : List ℕ
+  pub consumed : Consumes left_before left_after bytes
+  pub at_end : IsAtEnd left_after
+  pub are : AreLinesOf lines bytes
 
 -- ## What is told
 

@@ -3,12 +3,24 @@ ghost use Rattle.std.specs.Prelude.{◌≡◌, ◌+◌, ◌≤◌, ◌<◌, ◌+
 ghost use Rattle.std.specs.Prelude.{Ok, IfOk, OnOk, OnErr};
 ghost use Rattle.std.specs.Io.KnownBytes.{Consumes, IsAtEnd};
 ghost use Rattle.la_lines.specs.declared.calls.TheConstants.{MAX_LINE};
-ghost use Rattle.la_filter.specs.Streams.{IsOneLine, IsKept, IsPart, IsNext, TakesSome, pending, ahead, end_of};
+ghost use Rattle.la_streams.specs.Streams.{IsOneLine, IsKept, IsPart, IsNext, TakesSome, pending, ahead, end_of, of_line, last_kind};
 
-use crate::NodeFault;
 use la_lines::MAX_LINE;
 use std::alloc::{AllocError, Global};
 use std::io::Read;
+use thiserror::Error;
+
+/// Why no line was taken.
+#[derive(Clone, Copy, Debug, PartialEq, Eq, Error)]
+pub enum SourceFault {
+    /// A read failed, or was interrupted.
+    #[error("ReadFault")]
+    ReadFault,
+
+    /// A growth was refused.
+    #[error("Memory")]
+    Memory,
+}
 
 // The most bytes that a read asks for.
 const CHUNK: usize = 8192;
@@ -72,7 +84,7 @@ impl Source {
     }
 
     // Reads more, once all is taken. At the end of the input it is over.
-    fn fill<R: Read>(&mut self, reader: &mut R) -> Result<(), NodeFault>
+    fn fill<R: Read>(&mut self, reader: &mut R) -> Result<(), SourceFault>
         requires { self.old.start ≡ self.old.end }
         ensures read { Consumes (ahead self.old (R.remaining reader.old)) (ahead self.new (R.remaining reader.new)) [] }
         ensures over { self.new.over ≡ true → IsAtEnd (ahead self.new (R.remaining reader.new)) }
@@ -87,7 +99,7 @@ impl Source {
                 self.over = count == 0;
                 Ok(())
             }
-            Err(_) => Err(NodeFault::ReadFault),
+            Err(_) => Err(SourceFault::ReadFault),
         }
     }
 
@@ -124,16 +136,22 @@ impl Source {
     }
 
     // What an ended line is.
-    fn of_line(is_long: bool) -> Next {
+    fn of_line(is_long: bool) -> Next
+        ensures { result ≡ of_line is_long }
+    {
         if is_long { Next::Long } else { Next::Line }
     }
 
     // What the end of the input ends.
-    fn last(&self, is_long: bool) -> Next {
-        if !is_long && self.line.is_empty() {
+    fn last(&self, is_long: bool) -> Next
+        ensures { result ≡ last_kind is_long self.now.line.items }
+    {
+        if is_long {
+            Next::Long
+        } else if self.line.is_empty() {
             Next::End
         } else {
-            Source::of_line(is_long)
+            Next::Line
         }
     }
 
@@ -141,7 +159,7 @@ impl Source {
     ///
     /// `ReadFault` comes at the first read that fails, and `Memory` where the line finds no room. What
     /// was taken of the line until then is lost. After the end there is no read any more.
-    pub fn next<R: Read>(&mut self, reader: &mut R) -> Result<Next, NodeFault>
+    pub fn next<R: Read>(&mut self, reader: &mut R) -> Result<Next, SourceFault>
         requires { self.old.over ≡ true → IsAtEnd (ahead self.old (R.remaining reader.old)) }
         ensures next { IfOk result (λ next. IsNext (ahead self.old (R.remaining reader.old))
             (ahead self.new (R.remaining reader.new)) self.new.over self.new.line.items next) }
@@ -162,13 +180,13 @@ impl Source {
                 }
             }
             let Ok((ended, long)) = self.take(is_long) else {
-                return Err(NodeFault::Memory);
+                return Err(SourceFault::Memory);
             };
             if ended {
                 return Ok(Source::of_line(long));
             }
             is_long = long;
         }
-        Err(NodeFault::ReadFault)
+        Err(SourceFault::ReadFault)
     }
 }

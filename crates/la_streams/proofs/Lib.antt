@@ -1,0 +1,4 @@
+pub mod Adding
+pub mod Reading
+pub mod Sources
+pub mod TellingOn
