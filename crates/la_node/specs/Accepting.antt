@@ -2,12 +2,13 @@
 -- refusals, and of a proposal that it is the first to its object.
 use Rattle.std.specs.Prelude.{ℕ, ◌+◌, nat_lt, nat_le, ◌==◌, Bool, true, false, not, ◌&&◌, ◌||◌, List, [], ◌∷◌, length, slice_get, Option, Some, None}
 use Rattle.std.specs.List.{list_all}
+use Rattle.std.specs.Option.{is_some}
 use Rattle.la_set.specs.declared.set.TheConstants.{REPLICAS, MAX_NUMBER}
 use Rattle.la_set.specs.declared.counts.Counts.{Counts}
 use Rattle.la_set.specs.declared.update.UpdateId.{UpdateId}
 use Rattle.la_set.specs.declared.update.Update.{Update}
 use Rattle.la_set.specs.Counts.{count_in, within}
-use Rattle.la_set.specs.Histories.{Histories, count, get, push, updates, has_update}
+use Rattle.la_set.specs.Histories.{Histories, count, get, push, updates}
 use Rattle.la_set.specs.ObjectOps.{update_eq}
 use Rattle.la_set.specs.Deltas.{DeltaState}
 use Rattle.la_acceptor.specs.declared.reply.Reply.{Reply}
@@ -79,16 +80,20 @@ abbrev pub fits_reply : Reply → Histories → Bool
 fits_reply replied.Yes refused = true
 fits_reply (replied.No other) refused = is_compatible other refused
 
--- an update of one's own is in the ballot's set
+-- where an update is the proposer's own, the ballot's set has one under its id
 abbrev pub is_known : ProposerState → Update → Bool
-is_known p u = not (u.id.replica == p.own) || has_update p.updates u
+is_known p u = not (u.id.replica == p.own) || is_some (get p.updates u.id)
+
+abbrev pub fits_tally : List Counted → Histories → Bool
+fits_tally [] refused = true
+fits_tally (c ∷ cs) refused = fits_reply c.reply refused && fits_tally cs refused
 
 -- a refusal clashes with nothing that the proposer knows
 abbrev pub fits_refusal : ProposerState → Histories → Bool
 fits_refusal p refused =
     is_compatible p.updates refused
     && (list_all (is_known p) (updates refused)
-    && list_all (λ (c : Counted). fits_reply c.reply refused) p.tally)
+    && fits_tally p.tally refused)
 
 abbrev pub fits : ProposerState → Reply → Bool
 fits p replied.Yes = true

@@ -1,12 +1,13 @@
 -- Lines that say what a node is called for, and may stand in a journal.
-use Rattle.std.specs.Prelude.{◌≡◌, ℕ, ◌==◌, Bool, true, false, not, ◌&&◌, List, [], ◌∷◌, Option, Some, None, refl}
+use Rattle.std.specs.Prelude.{◌≡◌, ◌≢◌, ℕ, ◌==◌, Bool, true, false, not, ◌&&◌, List, [], ◌∷◌, Option, Some, None, if◌then◌else◌, refl}
+use Rattle.std.proofs.Common.{ap, sym, ◌∙◌}
 use Rattle.std.specs.List.{list_all}
 use Rattle.std.specs.Option.{is_some}
 use Rattle.std.proofs.Math.Bool.{Bool-set}
-use Rattle.std.proofs.lemmas.Bool.{false≢true, true≢false}
+use Rattle.std.proofs.lemmas.Bool.{false≢true, and_parts, not-true, eqb-false}
 use Rattle.la_journal.specs.Lines.{IsClean}
 use Rattle.la_journal.specs.Journal.{IsCallLine, state_in}
-use Rattle.la_lines.specs.CallLines.{named, tick_word}
+use Rattle.la_lines.specs.CallLines.{call_of, named, tick_word}
 
 -- no byte is 0 or a line's end
 abbrev pub is_clean_byte : ℕ → Bool
@@ -36,9 +37,13 @@ call_line_where line false is = None
 abbrev pub call_line : List ℕ → Option CallLine
 call_line line = call_line_where line (is_line line) refl
 
+pub tick_says : is_line tick_word ≡ true
+unfolding call_of
+tick_says = refl
+
 -- `tick`, which no journal has
 abbrev pub tick : CallLine
-tick = record { line = tick_word; says = refl }
+tick = record { line = tick_word; says = tick_says }
 
 abbrev pub or_tick : Option CallLine → CallLine
 or_tick None = tick
@@ -53,3 +58,24 @@ round_trip_where line false is says = absurd (false≢true (sym is ∙ says))
 -- it is read back
 pub round_trip : (c : CallLine) → call_line c.line ≡ Some c
 round_trip c = round_trip_where c.line (is_line c.line) refl c.says
+
+differs : (a b : ℕ) → not (a == b) ≡ true → a ≢ b
+differs a b e = eqb-false a b (not-true (a == b) e)
+
+clean_bytes : (line : List ℕ) → list_all is_clean_byte line ≡ true → IsClean line
+clean_bytes [] e = tt
+clean_bytes (b ∷ bytes) e =
+    let parts = and_parts (is_clean_byte b) (list_all is_clean_byte bytes) e in
+    let byte = and_parts (not (b == 0)) (not (b == 10)) parts.0 in
+    (differs b 0 byte.0, differs b 10 byte.1, clean_bytes bytes parts.1)
+
+no_state : (line : List ℕ) → is_no_state line ≡ true → state_in line ≡ None
+no_state [] e = refl
+no_state (b ∷ bytes) e = ap (λ is. if is then Some bytes else None) (not-true (b == 61) e)
+
+-- and it is a call's
+pub clean : (c : CallLine) → IsCallLine c.line
+clean c =
+    let parts = and_parts (may_stand c.line) (is_some (named c.line)) c.says in
+    let stands = and_parts (list_all is_clean_byte c.line) (is_no_state c.line) parts.0 in
+    (clean_bytes c.line stands.0, no_state c.line stands.1)

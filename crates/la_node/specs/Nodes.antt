@@ -1,6 +1,9 @@
 -- A node as a machine: what it keeps, and what it makes of a line.
-use Rattle.std.specs.Prelude.{◌≡◌, ℕ, ◌==◌, List, Option, Some, None, option_map, option_and_then, if◌then◌else◌}
+use Rattle.std.specs.Prelude.{◌≡◌, ℕ, ◌==◌, List, [], Option, Some, None, option_map, option_and_then, if◌then◌else◌}
+use Rattle.la_set.specs.Histories.{empty}
+use Rattle.la_set.specs.Inclusion.{IsSubset}
 use Rattle.la_proposer.specs.ProposerState.{op_on}
+use Rattle.la_object.specs.Shelves.{ShelfState}
 use Rattle.la_replica.specs.declared.message.Message as code
 use Rattle.la_replica.specs.declared.message.Body as code_body
 use Rattle.la_replica.specs.declared.message.Body.TheVariants as body
@@ -17,6 +20,10 @@ use Rattle.la_node.specs.CallLines.{CallLine}
 pub record KeptState : Type 0 where
   pub replicas : ℕ
   pub replica : ReplicaState
+
+-- a shelf without objects
+abbrev pub no_objects : ShelfState
+no_objects = record { view = empty; objects = [] }
 
 -- ## A call of a line, as this node takes it
 
@@ -63,3 +70,7 @@ step n c = option_map (λ (made : Given × KeptState). made.1) (acts_by n (named
 -- and what it gives out
 abbrev pub answers : KeptState → CallLine → Option Given
 answers n c = option_map (λ (made : Given × KeptState). made.0) (acts_by n (named c.line))
+
+-- each step's view contains the one before
+abbrev pub ViewsGrow : Type 0
+ViewsGrow = (before after : KeptState) (c : CallLine) → step before c ≡ Some after → IsSubset before.replica.view after.replica.view

@@ -1,7 +1,8 @@
-ghost use Rattle.std.specs.Prelude.{◌≡◌, false, IfOk, IfErr, IfSome, Some, None};
+ghost use Rattle.std.specs.Prelude.{◌≡◌, true, false, IfOk, IfErr, IfSome, Some, None};
 ghost use Rattle.la_lines.specs.Calls.{called};
 ghost use Rattle.la_lines.specs.CallLines.{named};
-ghost use Rattle.la_node.specs.CallLines.{may_stand, is_no_state};
+ghost use Rattle.la_node.specs.CallLines.{is_line, may_stand, is_clean_byte, is_no_state};
+ghost use Rattle.std.specs.List.{list_all};
 ghost use Rattle.la_node.specs.Inputs.{IsInputRefusal};
 
 use la_lines::{Call, LineError, LineFault, read_bounded};
@@ -45,7 +46,8 @@ impl Input {
     // The input of a line that says this call; none, where no journal may have it.
     pub(crate) fn of(alloc: Global, line: &[u8], call: Call) -> Result<Option<Input>, AllocError>
         requires { named line.now ≡ Some (called call) }
-        ensures some { IfOk result (λ o. IfSome o (λ input. input.line ≡ line.now)) }
+        ensures some { IfOk result (λ o. IfSome o (λ input.
+            (input.line ≡ line.now) × (is_line line.now ≡ true))) }
         ensures none { IfOk result (λ o. o ≡ None → may_stand line.now ≡ false) }
     {
         if !may_stand(line) {
@@ -59,7 +61,8 @@ impl Input {
 
     /// The line, without its end.
     pub fn line(&self) -> &[u8]
-        ensures { result.now ≡ self.now.line }
+        ensures is { result.now ≡ self.now.line }
+        ensures says { is_line self.now.line ≡ true }
     {
         &self.line
     }
@@ -68,6 +71,7 @@ impl Input {
     pub fn call(&self) -> &Call
         ensures is { result.now ≡ self.now.call }
         ensures says { named self.now.line ≡ Some (called self.now.call) }
+        ensures line { is_line self.now.line ≡ true }
     {
         &self.call
     }
@@ -77,8 +81,14 @@ impl Input {
 fn may_stand(line: &[u8]) -> bool
     ensures { result ≡ may_stand line.now }
 {
-    let clean = line.iter().all(|b| *b != 0 && *b != b'\n');
-    clean && is_no_state(line)
+    is_clean(line) && is_no_state(line)
+}
+
+// Whether it has no byte 0 and no line's end.
+fn is_clean(line: &[u8]) -> bool
+    ensures { result ≡ list_all is_clean_byte line.now }
+{
+    line.iter().all(|b| *b != 0 && *b != b'\n')
 }
 
 // Whether it does not begin as a state's line.

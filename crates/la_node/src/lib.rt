@@ -7,6 +7,7 @@
 
 mod error;
 mod input;
+pub mod laws;
 mod machine;
 
 pub use error::NodeError;

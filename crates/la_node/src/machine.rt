@@ -1,43 +1,40 @@
 ghost use Rattle.std.specs.Prelude.{◌≡◌, ◌⊎◌, Some, None, IfOk, IfErr, OnOk, OnErr};
-ghost use Rattle.la_lines.specs.Calls.{called};
-ghost use Rattle.la_world.specs.Nodes.{node_at_start, MayStart, IsStartRefusal};
+ghost use Rattle.la_lines.specs.Calls.{called, Submit, Decide, Receive};
+ghost use Rattle.la_lines.specs.Messages.{said_by};
+ghost use Rattle.la_world.specs.Groups.{IsConfig};
+ghost use Rattle.la_world.specs.Nodes.{node_at_start, IsStartRefusal};
 ghost use Rattle.la_node.specs.Given.{given_of};
-ghost use Rattle.la_node.specs.Nodes.{KeptState, acts};
+ghost use Rattle.la_node.specs.Nodes.{KeptState, no_objects, acts};
 ghost use Rattle.la_node.specs.Errors.{IsForMemory};
 
 use crate::{Input, NodeError};
 use la_journal::Machine;
 use la_lines::{Call, Letter};
-use la_object::{Replicated, Shelf};
+use la_object::{Counter, Shelf};
 use la_replica::Out;
 use la_set::Op;
 use la_world::{Config, Done, Node, Received, WorldError};
 use std::alloc::{AllocError, Global};
 
-/// A node as a machine. Its state is the replica's: what its shelf has absorbed is not kept, and is had
-/// anew by the next question.
+/// A node without objects as a machine. Questions are for a shelf of the caller's, of whatever objects,
+/// which absorbs the node's view: what it has absorbed is not kept, and is had anew.
 #[derive(Drop)]
-pub struct NodeMachine<B: Replicated> {
-    pub node: Node<B>,
+pub struct NodeMachine {
+    pub node: Node<Counter>,
     /// How many replicas its group has.
     pub replicas: u8,
 }
 
-impl<B: Replicated> NodeMachine<B> {
+impl NodeMachine {
     /// Replica `own` of a group, in which nothing has happened, with the errors of [`Node::new`].
-    pub fn new(
-        alloc: Global,
-        config: Config,
-        own: u8,
-        shelf: Shelf<B>,
-    ) -> Result<NodeMachine<B>, WorldError>
+    pub fn new(alloc: Global, config: Config, own: u8) -> Result<NodeMachine, WorldError>
         ensures start { IfOk result (λ machine. machine
-            ≡ record { node = node_at_start config own shelf; replicas = config.replicas }) }
-        ensures group { OnOk result (MayStart config shelf) }
-        ensures error { IfErr result (IsStartRefusal config own shelf) }
+            ≡ record { node = node_at_start config own no_objects; replicas = config.replicas }) }
+        ensures group { OnOk result (IsConfig config) }
+        ensures error { IfErr result (IsStartRefusal config own no_objects) }
     {
         Ok(NodeMachine {
-            node: Node::new(alloc, config, own, shelf)?,
+            node: Node::new(alloc, config, own, Shelf::new(alloc))?,
             replicas: config.replicas,
         })
     }
@@ -67,32 +64,70 @@ impl<B: Replicated> NodeMachine<B> {
                 value,
             } => self.propose(*replica, *commit, *value),
             Call::Receive(letter) => self.receive(letter),
-            Call::Ask { .. } | Call::Tick => Err(NodeError::Unkept),
+            Call::Ask {
+                replica: _,
+                object: _,
+                query: _,
+            } => Err(NodeError::Unkept),
+            Call::Tick => Err(NodeError::Unkept),
         }
     }
 
-    fn submit(&mut self, replica: u8, object: u16, op: &Op) -> Result<Received, NodeError> {
+    #[tactic(auto, using(crate::proofs::Acting::submitted_acts, crate::proofs::Acting::submission_elsewhere, crate::proofs::Acting::refusal_of_submission))]
+    fn submit(&mut self, replica: u8, object: u16, op: &Op) -> Result<Received, NodeError>
+        ensures ok { IfOk result (λ given.
+            acts (record { replicas = self.old.replicas; replica = self.old.node.replica }) (Submit replica object op.now)
+            ≡ Some (given_of given, record { replicas = self.new.replicas; replica = self.new.node.replica })) }
+        ensures error { IfErr result (λ e. IsForMemory e
+            ⊎ (acts (record { replicas = self.old.replicas; replica = self.old.node.replica }) (Submit replica object op.now)
+            ≡ None)) }
+        ensures err { OnErr result (self.new ≡ self.old) }
+    {
         if replica != self.node.own() {
             return Err(NodeError::Elsewhere);
         }
-        let out = self.node.submit(object, op.copy()?)?;
-        Ok(answered(out))
+        match self.node.submit(object, op.copy()?) {
+            Ok(out) => Ok(answered(out)),
+            Err(refused) => Err(NodeError::from(refused)),
+        }
     }
 
-    fn propose(&mut self, replica: u8, commit: u8, value: u64) -> Result<Received, NodeError> {
+    #[tactic(auto, using(crate::proofs::Acting::proposed_acts, crate::proofs::Acting::proposal_elsewhere, crate::proofs::Acting::refusal_of_proposal))]
+    fn propose(&mut self, replica: u8, commit: u8, value: u64) -> Result<Received, NodeError>
+        ensures ok { IfOk result (λ given.
+            acts (record { replicas = self.old.replicas; replica = self.old.node.replica }) (Decide replica commit value)
+            ≡ Some (given_of given, record { replicas = self.new.replicas; replica = self.new.node.replica })) }
+        ensures error { IfErr result (λ e. IsForMemory e
+            ⊎ (acts (record { replicas = self.old.replicas; replica = self.old.node.replica }) (Decide replica commit value)
+            ≡ None)) }
+        ensures err { OnErr result (self.new ≡ self.old) }
+    {
         if replica != self.node.own() {
             return Err(NodeError::Elsewhere);
         }
-        let out = self.node.propose(commit, value)?;
-        Ok(answered(out))
+        match self.node.propose(commit, value) {
+            Ok(out) => Ok(answered(out)),
+            Err(refused) => Err(NodeError::from(refused)),
+        }
     }
 
-    fn receive(&mut self, letter: &Letter) -> Result<Received, NodeError> {
+    #[tactic(auto, using(crate::proofs::Acting::received_acts, crate::proofs::Acting::message_elsewhere, crate::proofs::Acting::refusal_of_message))]
+    fn receive(&mut self, letter: &Letter) -> Result<Received, NodeError>
+        ensures ok { IfOk result (λ given.
+            acts (record { replicas = self.old.replicas; replica = self.old.node.replica }) (Receive (said_by letter.now))
+            ≡ Some (given_of given, record { replicas = self.new.replicas; replica = self.new.node.replica })) }
+        ensures error { IfErr result (λ e. IsForMemory e
+            ⊎ (acts (record { replicas = self.old.replicas; replica = self.old.node.replica }) (Receive (said_by letter.now))
+            ≡ None)) }
+        ensures err { OnErr result (self.new ≡ self.old) }
+    {
         if letter.replicas != self.replicas {
             return Err(NodeError::Elsewhere);
         }
-        let received = self.node.receive(&letter.message)?;
-        Ok(received)
+        match self.node.receive(&letter.message) {
+            Ok(received) => Ok(received),
+            Err(refused) => Err(NodeError::from(refused)),
+        }
     }
 }
 
@@ -113,7 +148,7 @@ fn answered(out: Out) -> Received
     }
 }
 
-impl<B: Replicated> Machine for NodeMachine<B> {
+impl Machine for NodeMachine {
     ghost use Rattle.std.specs.Prelude.{Option};
     ghost use Rattle.la_node.specs.CallLines.{CallLine, call_line, or_tick, round_trip, clean};
     ghost use Rattle.la_node.specs.Given.{Given};
@@ -158,7 +193,9 @@ impl<B: Replicated> Machine for NodeMachine<B> {
     }
 
     fn write(alloc: Global, input: &Input) -> Result<Vec<u8>, AllocError> {
-        input.line().to_vec(alloc)
+        let mut line = Vec::new(alloc);
+        line.extend_from_slice(input.line())?;
+        Ok(line)
     }
 
     fn read(alloc: Global, line: &[u8]) -> Result<Option<Input>, AllocError> {

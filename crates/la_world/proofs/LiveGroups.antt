@@ -55,6 +55,8 @@ use Rattle.la_world.specs.Laws.{IsAdoptCommit}
 use Rattle.la_world.specs.Promises.{KeepsPromises}
 use Rattle.la_world.specs.LiveGroups.{LearntSet, LiveGroup, Call, Submitted, Proposed, Received, Looked, silence, submission, makes, MayAccept, learnt_from, learnt_by_call, IsStep, IsStart, Reaches, IsReached, IsAmong, told_by_calls, replicas_of, event_of, events_of, live_group_of, learnt_set_of, StandsForEvents, decisions_of}
 use Rattle.la_world.specs.LiveGroups.{LiveGroupsStandForEvents, LiveGroupsKeepAll, LiveLearntAreComparable, LiveViewsAreComparable, LiveNodesAreOneHistory, NewNodesAreLive, NetworksMayLose, SubmissionsKeepLive, ProposalsKeepLive, ReceiptsKeepLive, LooksKeepLive}
+use Rattle.la_world.specs.Kept as kept
+use Rattle.la_world.specs.Unheard.{MayKeep, UnheardCallsKeepLive}
 use Rattle.la_world.proofs.Lists.{AllIn, AllIn_at, IsIn_get, contains_IsIn, IsIn_contains, IsIn_mapped, IsIn_place, get_mapped, made_at}
 use Rattle.la_world.proofs.Openings.{IsOf}
 use Rattle.la_world.proofs.Traces.{holds}
@@ -454,3 +456,39 @@ receipts_live nodes network r node made m done live at has to step told = ∥∥
 
 pub looks_live : LooksKeepLive
 looks_live nodes network r node made live at same = ∥∥₁_map live (λ is. subst (IsReached (slice_set nodes r made)) (append-nil network) (reached_on nodes network [] r node made at is Looked silence tt (ap (λ (s : ReplicaState). Some (silence, s)) (sym same)) (λ m has. absurd (Contains-none m has))))
+
+-- ## Calls whose mail is lost
+
+-- what a call came to, where it came to this replica
+module _ {A : Type 0} where
+  came_to : (o : Option (A × ReplicaState)) (after : ReplicaState) → option_map (λ (made : A × ReplicaState). made.1) o ≡ Some after → (a : A) × (o ≡ Some (a, after))
+  came_to None after e = absurd (none-some after e)
+  came_to (Some made) after e = (made.0, ap (λ s. Some (made.0, s)) (same_Some made.1 after e))
+
+unheard : (nodes : List NodeState) (network : List code.Message) (r : ℕ) (node made : NodeState) → slice_get nodes r ≡ Some node → (is : IsReached nodes network) (call : Call) (taken : Taken)
+    → MayAccept is.group.sent r node.replica call → makes is.group.sent node.replica call ≡ Some (taken, made.replica) → IsReached (slice_set nodes r made) network
+unheard nodes network r node made at is call taken accepts does =
+    subst (IsReached (slice_set nodes r made)) (append-nil network) (reached_on nodes network [] r node made at is call taken accepts does (λ m has. absurd (Contains-none m has)))
+
+pub unheard_live : UnheardCallsKeepLive
+unheard_live nodes network r node made (kept.Submitted d) live at room step = ∥∥₁_map live (λ is.
+    let came = came_to (acting.submits node.replica 0 d) made.replica step in
+    unheard nodes network r node made at is (Submitted d) (without_vote came.0) room (ap submission came.1))
+unheard_live nodes network r node made (kept.Proposed k value) live at first step = ∥∥₁_map live (λ is.
+    let came = came_to (acting.submits node.replica (first_instance k) (first_vote k value)) made.replica step in
+    unheard nodes network r node made at is (Proposed k value) (without_vote came.0) first (ap submission came.1))
+unheard_live nodes network r node made (kept.Received m) live at has step = ∥∥₁_map live (λ is.
+    let c = is.config in let events = events_of is.calls in let group = is.group in
+    let stands = groups_stand c is.calls group is.reached in
+    let found = ap (λ ns. slice_get ns r) is.nodes_are ∙ at in
+    let near = has.0 in
+    let far = is.sent near.0 near.1 in
+    let n = far.0 in
+    let alike = alike_trans m near.0 n near.2 far.2 in
+    let p = IsIn_place (told_by_calls c is.calls) n (contains_IsIn (told_by_calls c is.calls) n far.1) in
+    let n_to : n.to ≡ r = sym alike.to ∙ has.1 in
+    let came = came_to (takes node.replica (received_in node.replica m)) made.replica step in
+    let same = alike_received node.replica m n alike in
+    let does : takes node.replica (whole_of n) ≡ Some (came.0, made.replica) = sym (takes_sent c group events stands r node found p.0 n p.1 n_to) ∙ sym (ap (takes node.replica) same) ∙ came.1 in
+    let there = sent_there c group events stands r node found p.0 n p.1 n_to in
+    unheard nodes network r node made at is (Received p.0) came.0 (subst (λ o. IsSomeAnd o (λ k. k.to ≡ r)) (sym there) n_to) (ap (option_and_then (takes node.replica)) there ∙ does))

@@ -1,10 +1,11 @@
 // What holds of every group of live nodes, over whatever transport: laws over the definitions, which no
-// code runs. The last seven are for programs that hold nodes and a network: an invariant over loops.
+// code runs. The last eight are for programs that hold nodes and a network: an invariant over loops.
 ghost use Rattle.la_world.specs.LiveGroups.{LiveGroupsStandForEvents, LiveGroupsKeepAll};
 ghost use Rattle.la_world.specs.LiveGroups.{LiveLearntAreComparable, LiveViewsAreComparable};
 ghost use Rattle.la_world.specs.LiveGroups.{LiveNodesAreOneHistory, NewNodesAreLive};
 ghost use Rattle.la_world.specs.LiveGroups.{NetworksMayLose, SubmissionsKeepLive};
 ghost use Rattle.la_world.specs.LiveGroups.{ProposalsKeepLive, ReceiptsKeepLive, LooksKeepLive};
+ghost use Rattle.la_world.specs.Unheard.{UnheardCallsKeepLive};
 ghost use Rattle.la_world.specs.Kept.{KeptListsLeadOn, KeptListsArePlayedAgain};
 
 /// A group that calls lead to stands for the events that these calls are: for the accepted updates,
@@ -65,6 +66,12 @@ pub fn receipts_keep_live()
 /// And after a call that leaves its replica as it was: a question, an object more or less.
 pub fn looks_keep_live()
     ensures { LooksKeepLive }
+{}
+
+/// And after any call whose mail is lost: so a node that is started again in a state to which such calls led
+/// keeps its group live.
+pub fn unheard_calls_keep_live()
+    ensures { UnheardCallsKeepLive }
 {}
 
 /// Where a list of accepted calls leads from a new replica to a node's, the list with the next call

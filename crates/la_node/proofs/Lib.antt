@@ -1,0 +1,6 @@
+pub mod Deciding
+pub mod Refusing
+pub mod Telling
+pub mod Acting
+pub mod Lines
+pub mod Restarts
