@@ -1,3 +1,4 @@
 pub mod Turning
 pub mod Keeping
+pub mod Taking
 pub mod Serving

@@ -1,5 +1,5 @@
 -- Lines that are taken one after another.
-use Rattle.std.proofs.Common.{◌≡◌, ℕ, zero, suc, ◌+◌, ◌≤◌, Bool, true, false, List, [], ◌∷◌, ◌++◌, length, map, refl, sym, subst, ap, ◌∙◌, arith, append_assoc, append-nil, length-append, Option, Some, None, inl, inr}
+use Rattle.std.proofs.Common.{◌≡◌, ◌⊎◌, ℕ, zero, suc, ◌+◌, ◌≤◌, Bool, true, false, List, [], ◌∷◌, ◌++◌, length, map, refl, sym, subst, ap, ◌∙◌, arith, append_assoc, append-nil, length-append, Option, Some, None, inl, inr}
 use Rattle.std.specs.List.{flat_map}
 use Rattle.std.specs.Io.KnownBytes.{Appends, Keeps, Consumes, IsAtEnd, prepend_known}
 use Rattle.std.proofs.KnownBytes.{Appends-nil, Appends-trans, Appends-kept, Consumes-nil}
@@ -9,8 +9,8 @@ use Rattle.std.proofs.lemmas.Grind.{flat_map-append}
 use Rattle.la_object.specs.declared.kind.Kind.{Kind}
 use Rattle.la_program.specs.Streams.{AppendsPrefix}
 use Rattle.la_node.specs.Nodes.{KeptState}
-use Rattle.la_streams.specs.Streams.{IsOneLine, ReadSo, ReadsAll, ReadsFront, TakesSome, Tells, TellsAll, Ends}
-use Rattle.la_streams.proofs.Reading.{reads_line, reads_all, reads_front}
+use Rattle.la_streams.specs.Streams.{IsOneLine, ReadSo, ReadsFront, TakesSome, TellsAll}
+use Rattle.la_streams.proofs.Reading.{reads_line, reads_all, reads_front, reads_so_far}
 use Rattle.la_streams.proofs.TellingOn.{tells_on}
 use Rattle.la_filter.specs.declared.error.NodeFault.{NodeFault}
 use Rattle.la_filter.specs.declared.error.NodeFault.TheVariants as fault
@@ -51,21 +51,128 @@ module _ {E : Type 0} (contents : E → Option (List ℕ)) (refuses : E → List
     last_is : (t : Turn) → IsTurn objects n1 number t → IsTurn objects n1 (1 + length so.turns) t
     last_is t is = subst (λ k. IsTurn objects n1 k t) so.count is
 
+    text_on : (turns : List Turn) (t : Turn) → written turns ++ t.text ≡ written (turns ++ t ∷ [])
+    text_on turns t = sym (flat_map-append (λ (t : Turn). t.text) turns (t ∷ []) ∙ ap (λ x. written turns ++ x) (append-nil t.text))
+
+    kept_on : (turns : List Turn) (t : Turn) → kept turns ++ t.kept ≡ kept (turns ++ t ∷ [])
+    kept_on turns t = sym (flat_map-append (λ (t : Turn). t.kept) turns (t ∷ []) ∙ ap (λ x. kept turns ++ x) (append-nil t.kept))
+
+    told_on : (turns : List Turn) (t : Turn) → told turns ++ t.told ≡ told (turns ++ t ∷ [])
+    told_on turns t = sym (flat_map-append (λ (t : Turn). t.told) turns (t ∷ []) ∙ ap (λ x. told turns ++ x) (append-nil t.told))
+
+    lines_on : (turns : List Turn) (t : Turn) → lines_of turns ++ t.line ∷ [] ≡ lines_of (turns ++ t ∷ [])
+    lines_on turns t = sym (map-append (λ (t : Turn). t.line) turns (t ∷ []))
+
     pub served_more : Takes (IsStep objects n1 number ahead1 ahead2 over) (TellsAll contents refuses e1 e2) out1 out2 journal1 journal2 n2
         → ServedSo objects n (TellsAll contents refuses e0 e2) left ahead2 over out out2 journal journal2 n2 (number + 1)
     served_more t = record {
       turns = so.turns ++ t.turn ∷ [];
       are = subst (AreTurns objects n 1 (so.turns ++ t.turn ∷ [])) t.now_is (turns_snoc objects n 1 so.turns n1 t.turn so.are (last_is t.turn t.is.is));
       count = omega (arith, so.count, length-append so.turns (t.turn ∷ []));
-      read = subst (ReadSo left ahead2 over) (sym (map-append (λ (t : Turn). t.line) so.turns (t.turn ∷ []))) (reads_line left ahead1 ahead2 (lines_of so.turns) t.turn.line over so.read t.is.one t.is.ends);
+      read = subst (ReadSo left ahead2 over) (lines_on so.turns t.turn) (reads_line left ahead1 ahead2 (lines_of so.turns) t.turn.line over so.read t.is.one t.is.ends);
       wrote = subst (Appends out out2) (text_on so.turns t.turn) (Appends-trans out out1 out2 (written so.turns) t.turn.text so.wrote t.wrote);
       journal = t.journal ∙ ap (λ j. j ++ t.turn.kept) so.journal ∙ append_assoc journal (kept so.turns) t.turn.kept ∙ ap (λ k. journal ++ k) (kept_on so.turns t.turn);
       tells = subst (TellsAll contents refuses e0 e2) (told_on so.turns t.turn) (tells_on contents refuses e0 e1 e2 (told so.turns) t.turn.told so.tells t.tells);
     }
-      where
-        text_on : (turns : List Turn) (t : Turn) → written turns ++ t.text ≡ written (turns ++ t ∷ [])
-        text_on turns t = sym (flat_map-append (λ (t : Turn). t.text) turns (t ∷ []) ∙ ap (λ x. written turns ++ x) (append-nil t.text))
-        kept_on : (turns : List Turn) (t : Turn) → kept turns ++ t.kept ≡ kept (turns ++ t ∷ [])
-        kept_on turns t = sym (flat_map-append (λ (t : Turn). t.kept) turns (t ∷ []) ∙ ap (λ x. kept turns ++ x) (append-nil t.kept))
-        told_on : (turns : List Turn) (t : Turn) → told turns ++ t.told ≡ told (turns ++ t ∷ [])
-        told_on turns t = sym (flat_map-append (λ (t : Turn). t.told) turns (t ∷ []) ∙ ap (λ x. told turns ++ x) (append-nil t.told))
+
+    -- what was read, where the source has this and the reader that
+    module _ (p : List ℕ) (left2 : Option (List ℕ)) (ahead_is : ahead2 ≡ prepend_known p left2) where
+      keeps_nothing : (a b : Option (List ℕ)) → Keeps a b → AppendsPrefix a b []
+      keeps_nothing None b k = (0, tt)
+      keeps_nothing (Some xs) None k = absurd k
+      keeps_nothing (Some xs) (Some ys) k = (0, k ∙ sym (append-nil xs))
+
+      some_read : TakesSome ahead1 ahead2 → TakesSome ahead1 (prepend_known p left2)
+      some_read = subst (TakesSome ahead1) ahead_is
+
+      cut_none : TakesSome ahead1 ahead2 → TakesNone (TellsAll contents refuses e1 e2) out1 out2 journal1 journal2 n1 n2
+          → ServesCut objects n (TellsAll contents refuses e0 e2) left left2 out out2 journal journal2 n2
+      cut_none some none =
+          let same : so.turns ++ [] ≡ so.turns = append-nil so.turns in
+          record {
+            turns = so.turns;
+            last = [];
+            one = omega arith;
+            are = subst (λ s. AreTurns objects n 1 (so.turns ++ []) s) (sym none.now_is) (subst (λ ts. AreTurns objects n 1 ts n1) (sym same) so.are);
+            read = subst (λ ts. ReadsFront left left2 (lines_of ts)) (sym same) (reads_front left ahead1 left2 p (lines_of so.turns) so.read (some_read some));
+            between = out1;
+            wrote = so.wrote;
+            cut = keeps_nothing out1 out2 none.out;
+            journal = none.journal ∙ so.journal ∙ ap (λ ts. journal ++ kept ts) (sym same);
+            tells = subst (λ ts. TellsAll contents refuses e0 e2 (told ts)) (sym same) (subst (λ e. TellsAll contents refuses e0 e (told so.turns)) (sym none.tells) so.tells);
+          }
+
+      cut_one : (over ≡ true → IsAtEnd ahead2) → TakesCut (IsStep objects n1 number ahead1 ahead2 over) (TellsAll contents refuses e1 e2) out1 out2 journal1 journal2 n2
+          → ServesCut objects n (TellsAll contents refuses e0 e2) left left2 out out2 journal journal2 n2
+      cut_one end t = record {
+        turns = so.turns;
+        last = t.turn ∷ [];
+        one = omega arith;
+        are = subst (AreTurns objects n 1 (so.turns ++ t.turn ∷ [])) t.now_is (turns_snoc objects n 1 so.turns n1 t.turn so.are (last_is t.turn t.is.is));
+        read = reads_so_far left left2 p over (lines_of (so.turns ++ t.turn ∷ []))
+            (subst (λ a. ReadSo left a over (lines_of (so.turns ++ t.turn ∷ []))) ahead_is (subst (ReadSo left ahead2 over) (lines_on so.turns t.turn) (reads_line left ahead1 ahead2 (lines_of so.turns) t.turn.line over so.read t.is.one t.is.ends)))
+            (λ e. subst IsAtEnd ahead_is (end e));
+        between = out1;
+        wrote = so.wrote;
+        cut = subst (AppendsPrefix out1 out2) (sym (append-nil t.turn.text)) t.wrote;
+        journal = t.journal ∙ ap (λ j. j ++ t.turn.kept) so.journal ∙ append_assoc journal (kept so.turns) t.turn.kept ∙ ap (λ k. journal ++ k) (kept_on so.turns t.turn);
+        tells = subst (TellsAll contents refuses e0 e2) (told_on so.turns t.turn) (tells_on contents refuses e0 e1 e2 (told so.turns) t.turn.told so.tells t.tells);
+      }
+
+      cut : (over ≡ true → IsAtEnd ahead2) → (TakesSome ahead1 ahead2 × TakesNone (TellsAll contents refuses e1 e2) out1 out2 journal1 journal2 n1 n2)
+          ⊎ TakesCut (IsStep objects n1 number ahead1 ahead2 over) (TellsAll contents refuses e1 e2) out1 out2 journal1 journal2 n2
+          → ServesCut objects n (TellsAll contents refuses e0 e2) left left2 out out2 journal journal2 n2
+      cut end (inl none) = cut_none none.0 none.1
+      cut end (inr t) = cut_one end t
+
+      pub serve_refused : (f : NodeFault) → (over ≡ true → IsAtEnd ahead2) → IsStepRefusal objects n1 number (TellsAll contents refuses e1 e2) ahead1 ahead2 over out1 out2 journal1 journal2 n2 f
+          → IsServeRefusal objects n (TellsAll contents refuses e0 e2) left left2 out out2 journal journal2 n2 f
+      serve_refused fault.ReadFault end r = cut end r
+      serve_refused fault.WriteFault end r = cut end r
+      serve_refused fault.Memory end r = cut end r
+      serve_refused fault.BadConfig end r = cut end r
+      serve_refused fault.NoJournal end r = cut end r
+      serve_refused fault.BadJournal end r = cut end r
+      serve_refused fault.DiskFault end r = record {
+        turns = so.turns;
+        before = n1;
+        are = so.are;
+        read = reads_front left ahead1 left2 p (lines_of so.turns) so.read (some_read r.0);
+        wrote = Appends-kept out out1 out2 (written so.turns) so.wrote r.1;
+      }
+
+  -- all were taken
+  pub served_all : (ahead1 ahead2 left2 out1 out2 : Option (List ℕ)) (p : List ℕ) (journal1 journal2 : List (List ℕ)) (n1 n2 : KeptState) (e1 e2 : E) (over over2 : Bool) (number : ℕ)
+      → ServedSo objects n (TellsAll contents refuses e0 e1) left ahead1 over out out1 journal journal1 n1 number → ahead2 ≡ prepend_known p left2
+      → Steps objects n1 number (TellsAll contents refuses e1 e2) ahead1 ahead2 over2 out1 out2 journal1 journal2 n2 false
+      → Serves objects n (TellsAll contents refuses e0 e2) left left2 out out2 journal journal2 n2
+  served_all ahead1 ahead2 left2 out1 out2 p journal1 journal2 n1 n2 e1 e2 over over2 number so is s =
+      let none = s.1.1.1 in
+      record {
+        turns = so.turns;
+        are = subst (AreTurns objects n 1 so.turns) (sym none.now_is) so.are;
+        read = reads_all left ahead1 left2 p over (lines_of so.turns) so.read (subst (λ a. Consumes ahead1 a []) is s.1.0) (subst IsAtEnd is s.1.1.0);
+        wrote = Appends-kept out out1 out2 (written so.turns) so.wrote none.out;
+        journal = none.journal ∙ so.journal;
+        tells = subst (λ e. TellsAll contents refuses e0 e (told so.turns)) (sym none.tells) so.tells;
+      }
+
+  -- no more are taken
+  pub served_stop : (ahead1 left2 out1 : Option (List ℕ)) (p : List ℕ) (journal1 : List (List ℕ)) (n1 : KeptState) (e1 : E) (over : Bool) (number : ℕ)
+      → ServedSo objects n (TellsAll contents refuses e0 e1) left ahead1 over out out1 journal journal1 n1 number → ahead1 ≡ prepend_known p left2 → (over ≡ true → IsAtEnd ahead1)
+      → ServesCut objects n (TellsAll contents refuses e0 e1) left left2 out out1 journal journal1 n1
+  served_stop ahead1 left2 out1 p journal1 n1 e1 over number so is end =
+      let same : so.turns ++ [] ≡ so.turns = append-nil so.turns in
+      record {
+        turns = so.turns;
+        last = [];
+        one = omega arith;
+        are = subst (λ ts. AreTurns objects n 1 ts n1) (sym same) so.are;
+        read = subst (λ ts. ReadsFront left left2 (lines_of ts)) (sym same)
+            (reads_so_far left left2 p over (lines_of so.turns) (subst (λ a. ReadSo left a over (lines_of so.turns)) is so.read) (λ e. subst IsAtEnd is (end e)));
+        between = out1;
+        wrote = so.wrote;
+        cut = (0, Appends-nil out1);
+        journal = so.journal ∙ ap (λ ts. journal ++ kept ts) (sym same);
+        tells = subst (λ ts. TellsAll contents refuses e0 e1 (told ts)) (sym same) so.tells;
+      }

@@ -1,3 +1,8 @@
+ghost use Rattle.std.specs.Prelude.{◌≡◌, IfErr, OnOk};
+ghost use Rattle.la_set.specs.Histories.{empty};
+ghost use Rattle.la_streams.specs.Streams.{TellsAll};
+ghost use Rattle.la_filter.specs.Starting.{Runs, IsRunRefusal};
+
 use crate::names::end_name;
 use crate::serving::serve;
 use crate::shelf::shelf_of;
@@ -65,7 +70,15 @@ fn start<R: Read, W: Write, E: Listener, D: Disk, B: Replicated>(
     input: &mut R,
     output: &mut W,
     errors: &mut E,
-) -> Result<(), NodeFault> {
+) -> Result<(), NodeFault>
+    requires { shelf.view ≡ empty }
+    ensures ok { OnOk result (Runs shelf.objects options.now.config options.now.own (D.seen disk)
+        (TellsAll E.contents E.refuses errors.old errors.new)
+        (R.remaining input.old) (R.remaining input.new) (W.contents output.old) (W.contents output.new)) }
+    ensures err { IfErr result (IsRunRefusal shelf.objects options.now.config options.now.own (D.seen disk)
+        (TellsAll E.contents E.refuses errors.old errors.new)
+        (R.remaining input.old) (R.remaining input.new) (W.contents output.old) (W.contents output.new)) }
+{
     let machine = match NodeMachine::new(alloc, options.config, options.own) {
         Ok(machine) => machine,
         Err(WorldError::Memory) => return Err(NodeFault::Memory),

@@ -1,5 +1,13 @@
 -- Texts that are put one behind another.
-use Rattle.std.proofs.Common.{◌≡◌, ℕ, ◌+◌, ◌≤◌, ◌<◌, List, [], ◌∷◌, ◌++◌, length, take, get_or, Some, refl, ap, sym, ◌∙◌, append_assoc, arith}
+use Rattle.std.proofs.Common.{◌≡◌, ◌≢◌, ℕ, ◌+◌, ◌-◌, ◌≤◌, ◌<◌, ◌==◌, false, List, [], ◌∷◌, ◌++◌, length, take, drop, get_or, Option, Some, refl, ap, sym, subst, ◌∙◌, append_assoc, take-append-drop, arith}
+use Rattle.std.specs.Io.KnownBytes.{Appends}
+use Rattle.std.proofs.KnownBytes.{Appends-trans}
+use Rattle.std.proofs.Math.Seq.{take-add}
+use Rattle.std.proofs.lemmas.Bool.Decides.{nat_tests}
+use Rattle.std.proofs.lemmas.List.Elements.{All-nil, All-cons, All-append}
+use Rattle.la_program.specs.Streams.{AppendsPrefix}
+use Rattle.la_program.proofs.Written.{prefix_more, prefix_behind}
+use Rattle.la_streams.specs.Streams.{IsOneLine}
 use Rattle.std.specs.List.{flat_map, slice_get}
 use Rattle.std.proofs.lemmas.List.{flat_map_more, take_more, take_all}
 use Rattle.std.proofs.lemmas.Option.{slice_get_within, get_or_from_slice_get}
@@ -33,3 +41,29 @@ whole_text p i bs before after all so_far a =
 pub next_line : {X : Type 0} (f : X → List ℕ) (xs : List X) (i : ℕ) (x : X) (bs before after : List ℕ) → i < length xs → get_or xs i x ≡ x
     → before ≡ bs ++ flat_map f (take i xs) → after ≡ before ++ f x → after ≡ bs ++ flat_map f (take (i + 1) xs)
 next_line f xs i x bs before after lt is so_far a = a ∙ ap (λ t. t ++ f x) so_far ∙ next_text f xs i x bs lt is
+
+-- ## Line by line
+
+module _ (a b c : Option (List ℕ)) (text : List ℕ) (d n : ℕ) (so_far : Appends a b (take d text)) where
+  rest_of : take (d + n - d) (drop d text) ≡ take n (drop d text)
+  rest_of = ap (λ m. take m (drop d text)) {x = d + n - d} {y = n} (omega arith)
+
+  pub written_on : Appends b c (take (d + n - d) (drop d text)) → Appends a c (take (d + n) text)
+  written_on w = subst (Appends a c) (sym (take-add d n text)) (Appends-trans a b c (take d text) (take n (drop d text)) so_far (subst (Appends b c) rest_of w))
+
+  pub prefix_on : AppendsPrefix b c (take (d + n - d) (drop d text)) → AppendsPrefix a c text
+  prefix_on w =
+      let front = take d text ++ take n (drop d text) in
+      let whole : front ++ drop n (drop d text) ≡ text =
+      append_assoc (take d text) (take n (drop d text)) (drop n (drop d text))
+      ∙ ap (λ t. take d text ++ t) (take-append-drop n (drop d text)) ∙ take-append-drop d text in
+      subst (AppendsPrefix a c) whole (prefix_more a c front (drop n (drop d text)) (prefix_behind a b c (take d text) (take n (drop d text)) so_far (subst (AppendsPrefix b c) rest_of w)))
+
+-- a byte more that ends no line
+pub one_more_byte : (bytes : List ℕ) (n : ℕ) → n < length bytes → IsOneLine (take n bytes) → get_or bytes n 0 ≢ 10 → IsOneLine (take (n + 1) bytes)
+one_more_byte bytes n lt one not =
+    subst IsOneLine (sym (take_more bytes n 0 lt))
+    (All-append (λ b. (b == 10) ≡ false) (take n bytes) (get_or bytes n 0 ∷ []) one (All-cons (λ b. (b == 10) ≡ false) (get_or bytes n 0) [] (differs (get_or bytes n 0) not) (All-nil (λ b. (b == 10) ≡ false))))
+  where
+    differs : (b : ℕ) → b ≢ 10 → (b == 10) ≡ false
+    differs b not = grind (arith, nat_tests)

@@ -4,6 +4,7 @@ use Rattle.std.specs.Io.KnownBytes.{Consumes, IsAtEnd, prepend_known}
 use Rattle.std.proofs.KnownBytes.{Consumes-trans, Consumes-nil}
 use Rattle.std.proofs.lemmas.List.Elements.{All-nil, All-cons, All-append}
 use Rattle.la_lines.specs.declared.calls.TheConstants.{MAX_LINE}
+use Rattle.la_streams.specs.declared.source.Next.{Next}
 use Rattle.la_streams.specs.Streams.{IsOneLine, IsKept, IsPart, IsNext, end_of, of_line, last_kind}
 
 -- bytes in front of what is ahead are taken
@@ -45,7 +46,7 @@ gathers_read a b c is_long line so more = record {
 }
 
 -- what taking a part of a line does
-pub Takes : (is_long : Bool) → (before after : List ℕ) → (line line_after : List ℕ) → (Bool × Bool) → Type 0
+abbrev pub Takes : (is_long : Bool) → (before after : List ℕ) → (line line_after : List ℕ) → (Bool × Bool) → Type 0
 Takes is_long before after line line_after r =
     (got : List ℕ) → IsKept is_long got line → (part : List ℕ) × IsPart before after r.0 part × IsKept r.1 (got ++ part) line_after
 
@@ -56,9 +57,9 @@ gathers_part a left p q is_long long line line_after so takes =
     let t = takes so.got so.kept in
     record {
       got = so.got ++ t.0;
-      one = one_line_on so.got t.0 so.one t.1.0.one;
-      read = Consumes-trans a (prepend_known p left) (prepend_known q left) so.got t.0 so.read (takes_front p q left t.0 t.1.0.taken);
-      kept = t.1.1;
+      one = one_line_on so.got t.0 so.one t.1.one;
+      read = Consumes-trans a (prepend_known p left) (prepend_known q left) so.got t.0 so.read (takes_front p q left t.0 (t.1.taken ∙ ap (λ x. x ++ q) (append-nil t.0)));
+      kept = t.2;
     }
 
 -- and one in which it ends
@@ -66,12 +67,12 @@ pub line_ends : (a left : Option (List ℕ)) (p q : List ℕ) (is_long long : Bo
     → Gathers a (prepend_known p left) is_long line → Takes is_long p q line line_after (true, long) → IsNext a (prepend_known q left) false line_after (of_line long)
 line_ends a left p q is_long long line line_after so takes =
     let t = takes so.got so.kept in
-    let one = one_line_on so.got t.0 so.one t.1.0.one in
-    let front : p ≡ (t.0 ++ 10 ∷ []) ++ q = t.1.0.taken ∙ sym (append_assoc t.0 (10 ∷ []) q) in
+    let one = one_line_on so.got t.0 so.one t.1.one in
+    let front : p ≡ (t.0 ++ 10 ∷ []) ++ q = t.1.taken in
     let read : Consumes a (prepend_known q left) ((so.got ++ t.0) ++ 10 ∷ []) =
     subst (Consumes a (prepend_known q left)) (sym (append_assoc so.got t.0 (10 ∷ [])))
     (Consumes-trans a (prepend_known p left) (prepend_known q left) so.got (t.0 ++ 10 ∷ []) so.read (takes_front p q left (t.0 ++ 10 ∷ []) front)) in
-    ended long line_after (so.got ++ t.0) t.1.1 one read
+    ended long line_after (so.got ++ t.0) t.2 one read
   where
     ended : (long : Bool) (line_after got : List ℕ) → IsKept long got line_after → IsOneLine got → Consumes a (prepend_known q left) (got ++ 10 ∷ []) → IsNext a (prepend_known q left) false line_after (of_line long)
     ended true line_after got kept one read = (got, one, kept, read)
@@ -79,6 +80,29 @@ line_ends a left p q is_long long line line_after so takes =
 
 -- the end of the input
 pub input_ends : (a b : Option (List ℕ)) (is_long : Bool) (line : List ℕ) → Gathers a b is_long line → IsAtEnd b → IsNext a b true line (last_kind is_long line)
-input_ends a b true line so end = (so.got, so.one, so.kept, so.read, end)
+input_ends a b true line so end = (so.got, so.one, so.kept, (so.read, end))
 input_ends a b false [] so end = (refl, subst (Consumes a b) (sym so.kept) so.read, end)
-input_ends a b false (x ∷ line) so end = (subst IsOneLine (sym so.kept) so.one, subst (Consumes a b) (sym so.kept) so.read, end)
+input_ends a b false (x ∷ line) so end = (subst IsOneLine (sym so.kept) so.one, (subst (Consumes a b) (sym so.kept) so.read, end))
+
+-- ## As a loop goes on
+
+module _ (a b c : Option (List ℕ)) (is_long : Bool) (line line1 : List ℕ) (so : Gathers a b is_long line) (more : Consumes b c []) (same : line1 ≡ line) where
+  so_ready : Gathers a c is_long line1
+  so_ready = subst (Gathers a c is_long) (sym same) (gathers_read a b c is_long line so more)
+
+  pub at_end : (over : Bool) (kind : Next) → over ≡ true → IsAtEnd c → kind ≡ last_kind is_long line1 → IsNext a c over line1 kind
+  at_end over kind is end made =
+      subst (λ k. IsNext a c over line1 k) (sym made) (subst (λ o. IsNext a c o line1 (last_kind is_long line1)) (sym is) (input_ends a c is_long line1 so_ready end))
+
+  module _ (left : Option (List ℕ)) (p q line2 : List ℕ) (c_is : c ≡ prepend_known p left) (taken : Bool × Bool) (takes : Takes is_long p q line1 line2 taken) where
+    so_here : Gathers a (prepend_known p left) is_long line1
+    so_here = subst (λ x. Gathers a x is_long line1) c_is so_ready
+
+    pub at_line : (over : Bool) (kind : Next) → taken.0 ≡ true → over ≡ false → kind ≡ of_line taken.1 → IsNext a (prepend_known q left) over line2 kind
+    at_line over kind ended is made =
+        subst (λ k. IsNext a (prepend_known q left) over line2 k) (sym made)
+        (subst (λ o. IsNext a (prepend_known q left) o line2 (of_line taken.1)) (sym is)
+        (line_ends a left p q is_long taken.1 line1 line2 so_here (subst (λ e. Takes is_long p q line1 line2 (e, taken.1)) ended takes)))
+
+    pub goes_on : taken.0 ≡ false → Gathers a (prepend_known q left) taken.1 line2
+    goes_on ended = gathers_part a left p q is_long taken.1 line1 line2 so_here (subst (λ e. Takes is_long p q line1 line2 (e, taken.1)) ended takes)

@@ -6,9 +6,11 @@
 
 mod notes;
 mod source;
+mod taking;
 mod writing;
 
-pub use notes::{put_answered, put_learnt, put_mail, put_outcome};
-pub use notes::{put_proposed, put_submitted, put_view};
+pub use notes::{
+    put_answered, put_learnt, put_mail, put_outcome, put_proposed, put_submitted, put_view,
+};
 pub use source::{Next, Source, SourceFault};
 pub use writing::{refuse, tell_fault, write_lines};

@@ -54,17 +54,23 @@ fn put_end(out: &mut Vec<u8>) -> Result<(), AllocError>
     Ok(())
 }
 
+// Writes four numbers behind other words.
+fn put_four(out: &mut Vec<u8>, a: u32, b: u32, c: u32, d: u32) -> Result<(), AllocError>
+    ensures { OnOk result (out.new.items
+        ≡ out.old.items ++ spaced 32 (decimal a ∷ decimal b ∷ decimal c ∷ decimal d ∷ [])) }
+{
+    put_number(out, u64::from(a))?;
+    put_number(out, u64::from(b))?;
+    put_number(out, u64::from(c))?;
+    put_number(out, u64::from(d))
+}
+
 fn put_counts(out: &mut Vec<u8>, counts: Counts) -> Result<(), AllocError>
     ensures { OnOk result (out.new.items ≡ out.old.items ++ spaced 32 (count_words counts)) }
 {
-    put_number(out, u64::from(counts.of(0)))?;
-    put_number(out, u64::from(counts.of(1)))?;
-    put_number(out, u64::from(counts.of(2)))?;
-    put_number(out, u64::from(counts.of(3)))?;
-    put_number(out, u64::from(counts.of(4)))?;
-    put_number(out, u64::from(counts.of(5)))?;
-    put_number(out, u64::from(counts.of(6)))?;
-    put_number(out, u64::from(counts.of(7)))
+    put_four(out, counts.of(0), counts.of(1), counts.of(2), counts.of(3))?;
+    put_four(out, counts.of(4), counts.of(5), counts.of(6), counts.of(7))?;
+    Ok(())
 }
 
 /// Notes that an update was submitted, by its number.
@@ -149,7 +155,8 @@ fn put_pieces(out: &mut Vec<u8>, pieces: &Pieces) -> Result<(), AllocError>
         out.extend_from_slice(stretch.words)?;
         out.extend_from_slice(stretch.ids)?;
     }
-    out.extend_from_slice(pieces.rest())
+    out.extend_from_slice(pieces.rest())?;
+    Ok(())
 }
 
 /// Notes what an object answered.

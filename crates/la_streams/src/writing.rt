@@ -102,4 +102,3 @@ fn fault_name(fault: LineFault) -> &'static str
         LineFault::BadSet => "BadSet",
     }
 }
-
