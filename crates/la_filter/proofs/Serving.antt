@@ -10,27 +10,26 @@ use Rattle.la_object.specs.declared.kind.Kind.{Kind}
 use Rattle.la_program.specs.Streams.{AppendsPrefix}
 use Rattle.la_node.specs.Nodes.{KeptState}
 use Rattle.la_streams.specs.Streams.{IsOneLine, ReadSo, ReadsFront, TakesSome, TellsAll}
-use Rattle.la_streams.proofs.Reading.{reads_line, reads_all, reads_front, reads_so_far}
+use Rattle.la_streams.proofs.Reading.{reads_line, reads_all, reads_front}
 use Rattle.la_streams.proofs.TellingOn.{tells_on}
 use Rattle.la_filter.specs.declared.error.NodeFault.{NodeFault}
 use Rattle.la_filter.specs.declared.error.NodeFault.TheVariants as fault
 use Rattle.la_filter.specs.Turns.{Turn, IsTurn}
-use Rattle.la_filter.specs.Serving.{AreTurns, IsStep, Takes, TakesCut, TakesNone, Steps, IsStepRefusal, Serves, ServesCut, ServesClosed, IsServeRefusal, lines_of, written, kept, told}
+use Rattle.la_filter.specs.Serving.{AreTurns, IsStep, Takes, TakesCut, TakesNone, Steps, IsStepRefusal, Serves, ServesCut, ServesClosed, IsServeRefusal, lines_of, written, kept, told, cut_told}
 use Rattle.la_filter.proofs.Turning.{turns_snoc}
 
 -- the turns so far
-pub record ServedSo (objects : List (ℕ × Kind)) (n : KeptState) (Told : List (List ℕ) → Type 0) (left ahead : Option (List ℕ)) (over : Bool) (out_before out_now : Option (List ℕ)) (journal_before journal_now : List (List ℕ)) (now : KeptState) (number : ℕ) : Type 0 where
+pub record ServedSo (objects : List (ℕ × Kind)) (n : KeptState) (Told : List (List ℕ) → Type 0) (left ahead : Option (List ℕ)) (out_before out_now : Option (List ℕ)) (journal_before journal_now : List (List ℕ)) (now : KeptState) (number : ℕ) : Type 0 where
   pub turns : List Turn
   pub are : AreTurns objects n 1 turns now
   pub count : number ≡ 1 + length turns
-  pub read : ReadSo left ahead over (lines_of turns)
+  pub read : ReadSo left ahead (lines_of turns)
   pub wrote : Appends out_before out_now (written turns)
   pub journal : journal_now ≡ journal_before ++ kept turns
   pub tells : Told (told turns)
 
 module _ {E : Type 0} (contents : E → Option (List ℕ)) (refuses : E → List ℕ → E → Type 0) (objects : List (ℕ × Kind)) (n : KeptState) (left out : Option (List ℕ)) (journal : List (List ℕ)) (e0 : E) where
-
-  pub served_none : ServedSo objects n (TellsAll contents refuses e0 e0) left (prepend_known [] left) false out out journal journal n 1
+  pub served_none : ServedSo objects n (TellsAll contents refuses e0 e0) left (prepend_known [] left) out out journal journal n 1
   served_none = record {
     turns = [];
     are = refl;
@@ -45,9 +44,8 @@ module _ {E : Type 0} (contents : E → Option (List ℕ)) (refuses : E → List
       none_read None = tt
       none_read (Some xs) = refl
 
-  module _ (ahead1 ahead2 out1 out2 : Option (List ℕ)) (journal1 journal2 : List (List ℕ)) (n1 n2 : KeptState) (e1 e2 : E) (over : Bool) (number : ℕ)
-      (so : ServedSo objects n (TellsAll contents refuses e0 e1) left ahead1 false out out1 journal journal1 n1 number) where
-
+  module _ (ahead1 ahead2 out1 out2 : Option (List ℕ)) (journal1 journal2 : List (List ℕ)) (n1 n2 : KeptState) (e1 e2 : E) (number : ℕ)
+      (so : ServedSo objects n (TellsAll contents refuses e0 e1) left ahead1 out out1 journal journal1 n1 number) where
     last_is : (t : Turn) → IsTurn objects n1 number t → IsTurn objects n1 (1 + length so.turns) t
     last_is t is = subst (λ k. IsTurn objects n1 k t) so.count is
 
@@ -63,13 +61,13 @@ module _ {E : Type 0} (contents : E → Option (List ℕ)) (refuses : E → List
     lines_on : (turns : List Turn) (t : Turn) → lines_of turns ++ t.line ∷ [] ≡ lines_of (turns ++ t ∷ [])
     lines_on turns t = sym (map-append (λ (t : Turn). t.line) turns (t ∷ []))
 
-    pub served_more : Takes (IsStep objects n1 number ahead1 ahead2 over) (TellsAll contents refuses e1 e2) out1 out2 journal1 journal2 n2
-        → ServedSo objects n (TellsAll contents refuses e0 e2) left ahead2 over out out2 journal journal2 n2 (number + 1)
+    pub served_more : Takes (IsStep objects n1 number ahead1 ahead2) (TellsAll contents refuses e1 e2) out1 out2 journal1 journal2 n2
+        → ServedSo objects n (TellsAll contents refuses e0 e2) left ahead2 out out2 journal journal2 n2 (number + 1)
     served_more t = record {
       turns = so.turns ++ t.turn ∷ [];
       are = subst (AreTurns objects n 1 (so.turns ++ t.turn ∷ [])) t.now_is (turns_snoc objects n 1 so.turns n1 t.turn so.are (last_is t.turn t.is.is));
       count = omega (arith, so.count, length-append so.turns (t.turn ∷ []));
-      read = subst (ReadSo left ahead2 over) (lines_on so.turns t.turn) (reads_line left ahead1 ahead2 (lines_of so.turns) t.turn.line over so.read t.is.one t.is.ends);
+      read = subst (ReadSo left ahead2) (lines_on so.turns t.turn) (reads_line left ahead1 ahead2 (lines_of so.turns) t.turn.line so.read t.is.one t.is.read);
       wrote = subst (Appends out out2) (text_on so.turns t.turn) (Appends-trans out out1 out2 (written so.turns) t.turn.text so.wrote t.wrote);
       journal = t.journal ∙ ap (λ j. j ++ t.turn.kept) so.journal ∙ append_assoc journal (kept so.turns) t.turn.kept ∙ ap (λ k. journal ++ k) (kept_on so.turns t.turn);
       tells = subst (TellsAll contents refuses e0 e2) (told_on so.turns t.turn) (tells_on contents refuses e0 e1 e2 (told so.turns) t.turn.told so.tells t.tells);
@@ -102,16 +100,16 @@ module _ {E : Type 0} (contents : E → Option (List ℕ)) (refuses : E → List
             tells = subst (λ ts. TellsAll contents refuses e0 e2 (told ts)) (sym same) (subst (λ e. TellsAll contents refuses e0 e (told so.turns)) (sym none.tells) so.tells);
           }
 
-      cut_one : (over ≡ true → IsAtEnd ahead2) → TakesCut (IsStep objects n1 number ahead1 ahead2 over) (TellsAll contents refuses e1 e2) out1 out2 journal1 journal2 n2
+      cut_one : TakesCut (IsStep objects n1 number ahead1 ahead2) (TellsAll contents refuses e1 e2) out1 out2 journal1 journal2 n2
           → ServesCut objects n (TellsAll contents refuses e0 e2) left left2 out out2 journal journal2 n2
-      cut_one end t = record {
+      cut_one t = record {
         turns = so.turns;
         last = t.turn ∷ [];
         one = omega arith;
         are = subst (AreTurns objects n 1 (so.turns ++ t.turn ∷ [])) t.now_is (turns_snoc objects n 1 so.turns n1 t.turn so.are (last_is t.turn t.is.is));
-        read = reads_so_far left left2 p over (lines_of (so.turns ++ t.turn ∷ []))
-            (subst (λ a. ReadSo left a over (lines_of (so.turns ++ t.turn ∷ []))) ahead_is (subst (ReadSo left ahead2 over) (lines_on so.turns t.turn) (reads_line left ahead1 ahead2 (lines_of so.turns) t.turn.line over so.read t.is.one t.is.ends)))
-            (λ e. subst IsAtEnd ahead_is (end e));
+        read = reads_front left ahead2 left2 p (lines_of (so.turns ++ t.turn ∷ []))
+            (subst (ReadSo left ahead2) (lines_on so.turns t.turn) (reads_line left ahead1 ahead2 (lines_of so.turns) t.turn.line so.read t.is.one t.is.read))
+            ([], subst (λ a. Consumes ahead2 a []) ahead_is (Consumes-nil ahead2));
         between = out1;
         wrote = so.wrote;
         cut = subst (AppendsPrefix out1 out2) (sym (append-nil t.turn.text)) t.wrote;
@@ -119,21 +117,21 @@ module _ {E : Type 0} (contents : E → Option (List ℕ)) (refuses : E → List
         tells = subst (TellsAll contents refuses e0 e2) (told_on so.turns t.turn) (tells_on contents refuses e0 e1 e2 (told so.turns) t.turn.told so.tells t.tells);
       }
 
-      cut : (over ≡ true → IsAtEnd ahead2) → (TakesSome ahead1 ahead2 × TakesNone (TellsAll contents refuses e1 e2) out1 out2 journal1 journal2 n1 n2)
-          ⊎ TakesCut (IsStep objects n1 number ahead1 ahead2 over) (TellsAll contents refuses e1 e2) out1 out2 journal1 journal2 n2
+      cut : (TakesSome ahead1 ahead2 × TakesNone (TellsAll contents refuses e1 e2) out1 out2 journal1 journal2 n1 n2)
+          ⊎ TakesCut (IsStep objects n1 number ahead1 ahead2) (TellsAll contents refuses e1 e2) out1 out2 journal1 journal2 n2
           → ServesCut objects n (TellsAll contents refuses e0 e2) left left2 out out2 journal journal2 n2
-      cut end (inl none) = cut_none none.0 none.1
-      cut end (inr t) = cut_one end t
+      cut (inl none) = cut_none none.0 none.1
+      cut (inr t) = cut_one t
 
-      pub serve_refused : (f : NodeFault) → (over ≡ true → IsAtEnd ahead2) → IsStepRefusal objects n1 number (TellsAll contents refuses e1 e2) ahead1 ahead2 over out1 out2 journal1 journal2 n2 f
+      pub serve_refused : (f : NodeFault) → IsStepRefusal objects n1 number (TellsAll contents refuses e1 e2) ahead1 ahead2 out1 out2 journal1 journal2 n2 f
           → IsServeRefusal objects n (TellsAll contents refuses e0 e2) left left2 out out2 journal journal2 n2 f
-      serve_refused fault.ReadFault end r = cut end r
-      serve_refused fault.WriteFault end r = cut end r
-      serve_refused fault.Memory end r = cut end r
-      serve_refused fault.BadConfig end r = cut end r
-      serve_refused fault.NoJournal end r = cut end r
-      serve_refused fault.BadJournal end r = cut end r
-      serve_refused fault.DiskFault end r = record {
+      serve_refused fault.ReadFault r = cut r
+      serve_refused fault.WriteFault r = cut r
+      serve_refused fault.Memory r = cut r
+      serve_refused fault.BadConfig r = cut r
+      serve_refused fault.NoJournal r = cut r
+      serve_refused fault.BadJournal r = cut r
+      serve_refused fault.DiskFault r = record {
         turns = so.turns;
         before = n1;
         are = so.are;
@@ -142,26 +140,27 @@ module _ {E : Type 0} (contents : E → Option (List ℕ)) (refuses : E → List
       }
 
   -- all were taken
-  pub served_all : (ahead1 ahead2 left2 out1 out2 : Option (List ℕ)) (p : List ℕ) (journal1 journal2 : List (List ℕ)) (n1 n2 : KeptState) (e1 e2 : E) (over over2 : Bool) (number : ℕ)
-      → ServedSo objects n (TellsAll contents refuses e0 e1) left ahead1 over out out1 journal journal1 n1 number → ahead2 ≡ prepend_known p left2
-      → Steps objects n1 number (TellsAll contents refuses e1 e2) ahead1 ahead2 over2 out1 out2 journal1 journal2 n2 false
+  pub served_all : (ahead1 ahead2 left2 out1 out2 : Option (List ℕ)) (p : List ℕ) (journal1 journal2 : List (List ℕ)) (n1 n2 : KeptState) (e1 e2 : E) (number : ℕ)
+      → ServedSo objects n (TellsAll contents refuses e0 e1) left ahead1 out out1 journal journal1 n1 number → ahead2 ≡ prepend_known p left2
+      → Steps objects n1 number (TellsAll contents refuses e1 e2) ahead1 ahead2 out1 out2 journal1 journal2 n2 false
       → Serves objects n (TellsAll contents refuses e0 e2) left left2 out out2 journal journal2 n2
-  served_all ahead1 ahead2 left2 out1 out2 p journal1 journal2 n1 n2 e1 e2 over over2 number so is s =
-      let none = s.1.1.1 in
+  served_all ahead1 ahead2 left2 out1 out2 p journal1 journal2 n1 n2 e1 e2 number so is s =
       record {
         turns = so.turns;
-        are = subst (AreTurns objects n 1 so.turns) (sym none.now_is) so.are;
-        read = reads_all left ahead1 left2 p over (lines_of so.turns) so.read (subst (λ a. Consumes ahead1 a []) is s.1.0) (subst IsAtEnd is s.1.1.0);
-        wrote = Appends-kept out out1 out2 (written so.turns) so.wrote none.out;
-        journal = none.journal ∙ so.journal;
-        tells = subst (λ e. TellsAll contents refuses e0 e (told so.turns)) (sym none.tells) so.tells;
+        rest = s.rest;
+        are = subst (AreTurns objects n 1 so.turns) (sym s.now_is) so.are;
+        read = reads_all left ahead1 left2 p (lines_of so.turns) s.rest so.read s.one (subst (λ a. Consumes ahead1 a s.rest) is s.read) (subst IsAtEnd is s.at_end);
+        wrote = Appends-kept out out1 out2 (written so.turns) so.wrote s.out;
+        journal = s.journal ∙ so.journal;
+        tells = tells_on contents refuses e0 e1 e2 (told so.turns) (cut_told (1 + length so.turns) s.rest) so.tells
+            (subst (λ k. TellsAll contents refuses e1 e2 (cut_told k s.rest)) so.count s.tells);
       }
 
   -- no more are taken
-  pub served_stop : (ahead1 left2 out1 : Option (List ℕ)) (p : List ℕ) (journal1 : List (List ℕ)) (n1 : KeptState) (e1 : E) (over : Bool) (number : ℕ)
-      → ServedSo objects n (TellsAll contents refuses e0 e1) left ahead1 over out out1 journal journal1 n1 number → ahead1 ≡ prepend_known p left2 → (over ≡ true → IsAtEnd ahead1)
+  pub served_stop : (ahead1 left2 out1 : Option (List ℕ)) (p : List ℕ) (journal1 : List (List ℕ)) (n1 : KeptState) (e1 : E) (number : ℕ)
+      → ServedSo objects n (TellsAll contents refuses e0 e1) left ahead1 out out1 journal journal1 n1 number → ahead1 ≡ prepend_known p left2
       → ServesCut objects n (TellsAll contents refuses e0 e1) left left2 out out1 journal journal1 n1
-  served_stop ahead1 left2 out1 p journal1 n1 e1 over number so is end =
+  served_stop ahead1 left2 out1 p journal1 n1 e1 number so is =
       let same : so.turns ++ [] ≡ so.turns = append-nil so.turns in
       record {
         turns = so.turns;
@@ -169,7 +168,7 @@ module _ {E : Type 0} (contents : E → Option (List ℕ)) (refuses : E → List
         one = omega arith;
         are = subst (λ ts. AreTurns objects n 1 ts n1) (sym same) so.are;
         read = subst (λ ts. ReadsFront left left2 (lines_of ts)) (sym same)
-            (reads_so_far left left2 p over (lines_of so.turns) (subst (λ a. ReadSo left a over (lines_of so.turns)) is so.read) (λ e. subst IsAtEnd is (end e)));
+            (reads_front left ahead1 left2 p (lines_of so.turns) so.read ([], subst (λ a. Consumes ahead1 a []) is (Consumes-nil ahead1)));
         between = out1;
         wrote = so.wrote;
         cut = (0, Appends-nil out1);

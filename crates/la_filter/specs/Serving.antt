@@ -5,7 +5,9 @@ use Rattle.std.specs.Io.KnownBytes.{Appends, Keeps, Consumes, IsAtEnd}
 use Rattle.la_program.specs.Streams.{AppendsPrefix}
 use Rattle.la_object.specs.declared.kind.Kind.{Kind}
 use Rattle.la_node.specs.Nodes.{KeptState}
-use Rattle.la_streams.specs.Streams.{IsOneLine, Ends, TakesSome, ReadsFront, ReadsAll}
+use Rattle.la_lines.specs.declared.error.LineFault.TheVariants.{BadLine}
+use Rattle.la_streams.specs.Notes.{fault_line}
+use Rattle.la_streams.specs.Streams.{IsOneLine, TakesSome, ReadsFront, ReadsAll}
 use Rattle.la_filter.specs.declared.error.NodeFault.{NodeFault}
 use Rattle.la_filter.specs.declared.error.NodeFault.TheVariants as fault
 use Rattle.la_filter.specs.Turns.{Turn, IsTurn}
@@ -70,37 +72,54 @@ abbrev pub TellsNothing : List (List ℕ) → Type 0
 TellsNothing told = told ≡ []
 
 -- a turn, and what was read of its line
-pub record IsStep (objects : List (ℕ × Kind)) (n : KeptState) (k : ℕ) (left_before left_after : Option (List ℕ)) (over : Bool) (t : Turn) : Type 0 where
+pub record IsStep (objects : List (ℕ × Kind)) (n : KeptState) (k : ℕ) (left_before left_after : Option (List ℕ)) (t : Turn) : Type 0 where
   pub is : IsTurn objects n k t
   pub one : IsOneLine t.line
-  pub ends : Ends left_before left_after over t.line
+  pub read : Consumes left_before left_after (t.line ++ 10 ∷ [])
 
--- a turn was taken, or the input is at its end and nothing has changed
-abbrev pub Steps : (objects : List (ℕ × Kind)) (n : KeptState) (k : ℕ) (Told : List (List ℕ) → Type 0) (left_before left_after : Option (List ℕ)) (over : Bool) (out_before out_after : Option (List ℕ)) (journal_before journal_after : List (List ℕ)) (now : KeptState) → (more : Bool) → Type 0
-Steps objects n k Told left_before left_after over out_before out_after journal_before journal_after now true =
-    Takes (IsStep objects n k left_before left_after over) Told out_before out_after journal_before journal_after now
-Steps objects n k Told left_before left_after over out_before out_after journal_before journal_after now false =
-    (over ≡ true) × Consumes left_before left_after [] × IsAtEnd left_after ×
-    TakesNone Told out_before out_after journal_before journal_after n now
+-- what is told of bytes behind the last line's end, where there are some
+abbrev pub cut_told : (k : ℕ) → (rest : List ℕ) → List (List ℕ)
+cut_told k [] = []
+cut_told k (b ∷ rest) = fault_line k BadLine ∷ []
+
+-- the input is at its end, perhaps behind bytes that no line's end follows, and nothing has changed
+pub record Ends (k : ℕ) (Told : List (List ℕ) → Type 0) (left_before left_after out_before out_after : Option (List ℕ)) (journal_before journal_after : List (List ℕ)) (before now : KeptState) : Type 0 where
+  pub rest : List ℕ
+  pub one : IsOneLine rest
+  pub read : Consumes left_before left_after rest
+  pub at_end : IsAtEnd left_after
+  pub out : Keeps out_before out_after
+  pub journal : journal_after ≡ journal_before
+  pub now_is : now ≡ before
+  pub tells : Told (cut_told k rest)
+
+-- a turn was taken, or there was none
+abbrev pub Steps : (objects : List (ℕ × Kind)) (n : KeptState) (k : ℕ) (Told : List (List ℕ) → Type 0) (left_before left_after : Option (List ℕ)) (out_before out_after : Option (List ℕ)) (journal_before journal_after : List (List ℕ)) (now : KeptState) → (more : Bool) → Type 0
+Steps objects n k Told left_before left_after out_before out_after journal_before journal_after now true =
+    Takes (IsStep objects n k left_before left_after) Told out_before out_after journal_before journal_after now
+Steps objects n k Told left_before left_after out_before out_after journal_before journal_after now false =
+    Ends k Told left_before left_after out_before out_after journal_before journal_after n now
 
 -- some of a line was read; it was not taken, or of what it comes to only a front was written
-abbrev pub IsStepRefusal : (objects : List (ℕ × Kind)) (n : KeptState) (k : ℕ) (Told : List (List ℕ) → Type 0) (left_before left_after : Option (List ℕ)) (over : Bool) (out_before out_after : Option (List ℕ)) (journal_before journal_after : List (List ℕ)) (now : KeptState) → NodeFault → Type 0
-IsStepRefusal objects n k Told left_before left_after over out_before out_after journal_before journal_after now fault.DiskFault =
+abbrev pub IsStepRefusal : (objects : List (ℕ × Kind)) (n : KeptState) (k : ℕ) (Told : List (List ℕ) → Type 0) (left_before left_after : Option (List ℕ)) (out_before out_after : Option (List ℕ)) (journal_before journal_after : List (List ℕ)) (now : KeptState) → NodeFault → Type 0
+IsStepRefusal objects n k Told left_before left_after out_before out_after journal_before journal_after now fault.DiskFault =
     TakesSome left_before left_after × Keeps out_before out_after
-IsStepRefusal objects n k Told left_before left_after over out_before out_after journal_before journal_after now _ =
+IsStepRefusal objects n k Told left_before left_after out_before out_after journal_before journal_after now _ =
     (TakesSome left_before left_after × TakesNone Told out_before out_after journal_before journal_after n now)
-    ⊎ TakesCut (IsStep objects n k left_before left_after over) Told out_before out_after journal_before journal_after now
+    ⊎ TakesCut (IsStep objects n k left_before left_after) Told out_before out_after journal_before journal_after now
 
 -- ## All of them
 
 -- all lines of an input were taken
 pub record Serves (objects : List (ℕ × Kind)) (n : KeptState) (Told : List (List ℕ) → Type 0) (left_before left_after out_before out_after : Option (List ℕ)) (journal_before journal_after : List (List ℕ)) (now : KeptState) : Type 0 where
   pub turns : List Turn
+  -- what is behind the last line's end
+  pub rest : List ℕ
   pub are : AreTurns objects n 1 turns now
-  pub read : ReadsAll left_before left_after (lines_of turns)
+  pub read : ReadsAll left_before left_after (lines_of turns) rest
   pub wrote : Appends out_before out_after (written turns)
   pub journal : journal_after ≡ journal_before ++ kept turns
-  pub tells : Told (told turns)
+  pub tells : Told (told turns ++ cut_told (1 + length turns) rest)
 
 -- some were: of the last, if it was, perhaps only a front was written
 pub record ServesCut (objects : List (ℕ × Kind)) (n : KeptState) (Told : List (List ℕ) → Type 0) (left_before left_after out_before out_after : Option (List ℕ)) (journal_before journal_after : List (List ℕ)) (now : KeptState) : Type 0 where

@@ -1,8 +1,9 @@
 -- What a line comes to: what is written of it, what the journal gains, and the state after it.
-use Rattle.std.specs.Prelude.{◌≡◌, ◌≢◌, ◌⊎◌, ℕ, ◌-◌, nat_lt, ◌==◌, Bool, true, false, not, ◌||◌, List, [], ◌∷◌, ◌++◌, codes, length, Option, Some, None, Result, Ok, Err, if◌then◌else◌}
+use Rattle.std.specs.Prelude.{◌≡◌, ◌≢◌, ◌⊎◌, ℕ, ◌-◌, nat_lt, ◌==◌, Bool, true, false, not, ◌&&◌, ◌||◌, List, [], ◌∷◌, ◌++◌, codes, length, Option, Some, None, Result, Ok, Err, if◌then◌else◌}
 use Rattle.la_set.specs.declared.counts.Counts.{Counts}
 use Rattle.la_set.specs.Histories.{Histories, updates}
 use Rattle.la_set.specs.Counts.{counts_of}
+use Rattle.la_set.specs.Inclusion.{is_subset}
 use Rattle.la_commit.specs.declared.outcome.Outcome.{Outcome}
 use Rattle.la_commit.specs.Instances.{commit_of}
 use Rattle.la_object.specs.declared.kind.Kind.{Kind}
@@ -19,7 +20,7 @@ use Rattle.la_lines.specs.declared.calls.TheConstants.{MAX_LINE}
 use Rattle.la_lines.specs.declared.error.LineFault.{LineFault}
 use Rattle.la_lines.specs.declared.error.LineFault.TheVariants.{TooLong}
 use Rattle.la_lines.specs.declared.error.LineError.TheVariants.{Fault}
-use Rattle.la_lines.specs.Messages.{Message}
+use Rattle.la_lines.specs.Messages.{Message, Body, Offer, Yes, No, Tell}
 use Rattle.la_lines.specs.Calls.{Call, Submit, Decide, Ask, Tick, Receive}
 use Rattle.la_lines.specs.CallLines.{named}
 use Rattle.la_node.specs.declared.error.NodeError.{NodeError}
@@ -180,9 +181,24 @@ IsTurnHere objects n k (Ask replica object query) t = IsAnswered objects n k obj
 IsTurnHere objects n k Tick t = IsTicked n k t
 IsTurnHere objects n k (Receive m) t = IsKeptTurn n k (Receive m) t
 
--- a call that is for another node is passed over
+-- a set that was learnt is told, and the view has all of it
+abbrev pub is_known : (view : Histories) → Body → Bool
+is_known view (Tell told) = is_subset told view
+is_known view (Offer base more) = false
+is_known view Yes = false
+is_known view (No base more) = false
+
+-- a message that brings no news: it would change nothing, and nothing would be sent for it
+abbrev pub is_stale : KeptState → Call → Bool
+is_stale n (Submit replica object op) = false
+is_stale n (Decide replica commit value) = false
+is_stale n (Ask replica object query) = false
+is_stale n Tick = false
+is_stale n (Receive m) = (m.instance == 0) && is_known n.replica.view m.body
+
+-- a call that is for another node, or brings no news, is passed over
 abbrev pub IsCallTurn : List (ℕ × Kind) → KeptState → (k : ℕ) → Call → Turn → Type 0
-IsCallTurn objects n k call t = if is_elsewhere n call then t ≡ only n t.line [] else IsTurnHere objects n k call t
+IsCallTurn objects n k call t = if is_elsewhere n call || is_stale n call then t ≡ only n t.line [] else IsTurnHere objects n k call t
 
 -- a line that says a call
 pub record Says (objects : List (ℕ × Kind)) (n : KeptState) (k : ℕ) (t : Turn) : Type 0 where

@@ -6,13 +6,14 @@ ghost use Rattle.la_journal.specs.Lines.{lines};
 ghost use Rattle.la_journal.specs.Durable.{IsSettled};
 ghost use Rattle.la_lines.specs.declared.calls.TheConstants.{MAX_LINE};
 ghost use Rattle.la_lines.specs.Calls.{called};
+ghost use Rattle.la_lines.specs.Messages.{said_body};
 ghost use Rattle.la_lines.specs.CallLines.{named};
 ghost use Rattle.la_filter.specs.declared.error.NodeFault.TheVariants.{WriteFault, DiskFault};
 ghost use Rattle.la_streams.specs.Notes.{refused_note, fault_line};
 ghost use Rattle.la_streams.specs.Streams.{Tells, TellsAll};
 ghost use Rattle.la_node.specs.Restarts.{kept_state};
 ghost use Rattle.la_set.specs.Inclusion.{IsSubset};
-ghost use Rattle.la_filter.specs.Turns.{Turn, is_note, is_elsewhere, IsKeptTurn, IsAnswered, IsTicked, IsCallTurn, IsTurn};
+ghost use Rattle.la_filter.specs.Turns.{Turn, is_note, is_elsewhere, IsKeptTurn, IsAnswered, IsTicked, IsCallTurn, IsTurn, is_stale, is_known};
 ghost use Rattle.la_filter.specs.Serving.{Of, Takes, TakesCut, Breaks, TellsNothing};
 
 use crate::keeping::{Kept, keep};
@@ -24,6 +25,7 @@ use la_lines::{Call, LineError, LineFault};
 use la_node::{Input, NodeMachine};
 use la_object::{Query, Replicated, Shelf, ShelfError};
 use la_program::Listener;
+use la_replica::Body;
 use la_set::UpdateSet;
 use la_streams::{refuse, tell_fault, write_lines};
 use std::alloc::Global;
@@ -50,6 +52,28 @@ fn is_elsewhere(machine: &NodeMachine, call: &Call) -> bool
         }
         Call::Receive(letter) => letter.replicas != machine.replicas || letter.message.to != own,
         Call::Tick => false,
+    }
+}
+
+// Whether a message brings no news.
+fn is_stale(machine: &NodeMachine, call: &Call) -> bool
+    ensures { result ≡ is_stale (kept_state machine.now.replicas machine.now.node) (called call.now) }
+{
+    match call {
+        Call::Receive(letter) => {
+            letter.message.instance == 0 && is_known(machine.node.view(), &letter.message.body)
+        }
+        Call::Submit { .. } | Call::Decide { .. } | Call::Ask { .. } | Call::Tick => false,
+    }
+}
+
+// Whether a view has all of a set that is told.
+fn is_known(view: &UpdateSet, body: &Body) -> bool
+    ensures { result ≡ is_known view.now (said_body body.now) }
+{
+    match body {
+        Body::Tell(told) => view.contains_all(told),
+        Body::Offer(_) | Body::Yes | Body::No(_) => false,
     }
 }
 
@@ -200,7 +224,8 @@ fn call<W: Write, D: Disk, B: Replicated>(
     ensures objects { filter.new.shelf.objects ≡ filter.old.shelf.objects }
     ensures within { filter.new.node.closed ≡ false → IsSubset filter.new.shelf.view filter.new.node.machine.node.replica.view }
 {
-    if is_elsewhere(&filter.node.machine, input.call()) {
+    let call = input.call();
+    if is_elsewhere(&filter.node.machine, call) || is_stale(&filter.node.machine, call) {
         return Ok(());
     }
     match input.call() {

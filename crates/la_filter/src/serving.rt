@@ -32,12 +32,11 @@ fn step<R: Read, W: Write, E: Listener, D: Disk, B: Replicated>(
     requires within { IsSubset filter.old.shelf.view filter.old.node.machine.node.replica.view }
     requires over { source.old.over ≡ true → IsAtEnd (ahead source.old (R.remaining input.old)) }
     ensures ok { IfOk result (Steps filter.old.shelf.objects (kept_state filter.old.node.machine.replicas filter.old.node.machine.node) number (TellsAll E.contents E.refuses errors.old errors.new)
-        (ahead source.old (R.remaining input.old)) (ahead source.new (R.remaining input.new)) source.new.over (W.contents output.old) (W.contents output.new)
+        (ahead source.old (R.remaining input.old)) (ahead source.new (R.remaining input.new)) (W.contents output.old) (W.contents output.new)
         (lines (D.seen filter.old.node.disk)) (lines (D.seen filter.new.node.disk)) (kept_state filter.new.node.machine.replicas filter.new.node.machine.node)) }
     ensures err { IfErr result (IsStepRefusal filter.old.shelf.objects (kept_state filter.old.node.machine.replicas filter.old.node.machine.node) number (TellsAll E.contents E.refuses errors.old errors.new)
-        (ahead source.old (R.remaining input.old)) (ahead source.new (R.remaining input.new)) source.new.over (W.contents output.old) (W.contents output.new)
+        (ahead source.old (R.remaining input.old)) (ahead source.new (R.remaining input.new)) (W.contents output.old) (W.contents output.new)
         (lines (D.seen filter.old.node.disk)) (lines (D.seen filter.new.node.disk)) (kept_state filter.new.node.machine.replicas filter.new.node.machine.node)) }
-    ensures end { source.old.over ≡ true → result ≡ Ok false }
     ensures over { source.new.over ≡ true → IsAtEnd (ahead source.new (R.remaining input.new)) }
     ensures settled { filter.new.node.closed ≡ false → IsSettled D.seen D.may_leave filter.new.node.disk }
     ensures open { OnOk result (filter.new.node.closed ≡ false) }
@@ -60,11 +59,16 @@ fn step<R: Read, W: Write, E: Listener, D: Disk, B: Replicated>(
             tell_fault(errors, number, LineFault::TooLong);
             Ok(true)
         }
+        Next::Cut => {
+            tell_fault(errors, number, LineFault::BadLine);
+            Ok(false)
+        }
         Next::End => Ok(false),
     }
 }
 
-/// Takes the lines of an input as they come, until its end: what is written is exactly what they come to,
+/// Takes the lines of an input as they come, until its end. What follows the last line's end is no line: it
+/// is told as `BadLine`. What is written is exactly what they come to,
 /// one write a line, and of a call that is kept only once its line is on the disk. What faults are told
 /// may find no taker, and then it goes on.
 ///

@@ -14,11 +14,6 @@ use Rattle.la_streams.specs.declared.source.Source.{Source}
 abbrev pub IsOneLine : List ℕ → Type 0
 IsOneLine line = All (λ b. (b == 10) ≡ false) line
 
--- the bytes are these lines, each with its end but for the last, which may lack it
-pub record AreLinesOf (lines : List (List ℕ)) (bytes : List ℕ) : Type 0 where
-  pub each : All IsOneLine lines
-  pub bytes_are : (bytes ≡ file_of lines) ⊎ (bytes ++ 10 ∷ [] ≡ file_of lines)
-
 -- ## A source
 
 -- the bytes that were read and are not taken
@@ -49,11 +44,6 @@ pub record IsPart (before after : List ℕ) (ended : Bool) (part : List ℕ) : T
   pub taken : before ≡ part ++ end_of ended ++ after
   pub all : ended ≡ false → after ≡ []
 
--- a line was taken with its end, or all that there was
-abbrev pub Ends : (before after : Option (List ℕ)) → (over : Bool) → (line : List ℕ) → Type 0
-Ends before after true line = Consumes before after line × IsAtEnd after
-Ends before after false line = Consumes before after (line ++ 10 ∷ [])
-
 -- what an ended line is
 abbrev pub of_line : (is_long : Bool) → Next
 of_line true = next.Long
@@ -61,34 +51,33 @@ of_line false = next.Line
 
 -- what the end of an input ends
 abbrev pub last_kind : (is_long : Bool) → (line : List ℕ) → Next
-last_kind true line = next.Long
+last_kind true line = next.Cut
 last_kind false [] = next.End
-last_kind false (b ∷ line) = next.Line
+last_kind false (b ∷ line) = next.Cut
 
 -- what stands next
-abbrev pub IsNext : (before after : Option (List ℕ)) → (over : Bool) → (line : List ℕ) → Next → Type 0
-IsNext before after over line next.Line = IsOneLine line × Ends before after over line
-IsNext before after over line next.Long = (long : List ℕ) × IsOneLine long × (MAX_LINE < length long) × Ends before after over long
-IsNext before after over line next.End = (over ≡ true) × Consumes before after [] × IsAtEnd after
+abbrev pub IsNext : (before after : Option (List ℕ)) → (line : List ℕ) → Next → Type 0
+IsNext before after line next.Line = IsOneLine line × Consumes before after (line ++ 10 ∷ [])
+IsNext before after line next.Long = (long : List ℕ) × IsOneLine long × (MAX_LINE < length long) × Consumes before after (long ++ 10 ∷ [])
+IsNext before after line next.Cut = (rest : List ℕ) × (0 < length rest) × IsOneLine rest × Consumes before after rest × IsAtEnd after
+IsNext before after line next.End = Consumes before after [] × IsAtEnd after
 
--- so far these lines were read, the last of them without its end where it is over
-abbrev pub ReadSo : (before after : Option (List ℕ)) → (over : Bool) → (lines : List (List ℕ)) → Type 0
-ReadSo before after true lines = (bytes : List ℕ) × Consumes before after bytes × AreLinesOf lines bytes
-ReadSo before after false lines = All IsOneLine lines × Consumes before after (file_of lines)
+-- so far these lines were read, each with its end
+abbrev pub ReadSo : (before after : Option (List ℕ)) → (lines : List (List ℕ)) → Type 0
+ReadSo before after lines = All IsOneLine lines × Consumes before after (file_of lines)
 
--- bytes were read, which are these lines, and something behind them
+-- bytes were read, which are these lines, each with its end, and something behind them
 pub record ReadsFront (left_before left_after : Option (List ℕ)) (lines : List (List ℕ)) : Type 0 where
-  pub bytes : List ℕ
-  pub consumed : Consumes left_before left_after bytes
+  pub rest : List ℕ
   pub each : All IsOneLine lines
-  pub begins : ((rest : List ℕ) × (bytes ≡ file_of lines ++ rest)) ⊎ (bytes ++ 10 ∷ [] ≡ file_of lines)
+  pub consumed : Consumes left_before left_after (file_of lines ++ rest)
 
--- all that there was to read, which is these lines
-pub record ReadsAll (left_before left_after : Option (List ℕ)) (lines : List (List ℕ)) : Type 0 where
-  pub bytes : List ℕ
-  pub consumed : Consumes left_before left_after bytes
+-- all that there was to read, which is these lines, each with its end, and bytes behind them that no end follows
+pub record ReadsAll (left_before left_after : Option (List ℕ)) (lines : List (List ℕ)) (rest : List ℕ) : Type 0 where
+  pub each : All IsOneLine lines
+  pub no_line : IsOneLine rest
+  pub consumed : Consumes left_before left_after (file_of lines ++ rest)
   pub at_end : IsAtEnd left_after
-  pub are : AreLinesOf lines bytes
 
 -- ## What is told
 

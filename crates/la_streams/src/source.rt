@@ -19,10 +19,12 @@ pub enum SourceFault {
 /// What stands next on an input.
 #[derive(Clone, Copy, PartialEq, Eq)]
 pub enum Next {
-    /// A line: [`Source::line`]. The last may lack its end.
+    /// A line: [`Source::line`].
     Line,
     /// A line of more than [`MAX_LINE`] bytes, which are not kept.
     Long,
+    /// The end of the input, behind bytes that no line's end follows: they are no line.
+    Cut,
     /// The end of the input.
     End,
 }

@@ -122,12 +122,10 @@ impl Source {
     fn last(&self, is_long: bool) -> Next
         ensures { result ≡ last_kind is_long self.now.line.items }
     {
-        if is_long {
-            Next::Long
-        } else if self.line.is_empty() {
-            Next::End
+        if is_long || !self.line.is_empty() {
+            Next::Cut
         } else {
-            Next::Line
+            Next::End
         }
     }
 
@@ -138,7 +136,7 @@ impl Source {
     pub fn next<R: Read>(&mut self, reader: &mut R) -> Result<Next, SourceFault>
         requires { self.old.over ≡ true → IsAtEnd (ahead self.old (R.remaining reader.old)) }
         ensures next { IfOk result (λ next. IsNext (ahead self.old (R.remaining reader.old))
-            (ahead self.new (R.remaining reader.new)) self.new.over self.new.line.items next) }
+            (ahead self.new (R.remaining reader.new)) self.new.line.items next) }
         ensures over { self.new.over ≡ true → IsAtEnd (ahead self.new (R.remaining reader.new)) }
         ensures end { self.old.over ≡ true → result ≡ Ok Next.End }
         ensures lost { OnErr result (TakesSome (ahead self.old (R.remaining reader.old))

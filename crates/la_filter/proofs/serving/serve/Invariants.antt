@@ -12,7 +12,7 @@ abbrev pub invariant-loop-number : goal.invariant-loop-number
 invariant-loop-number g l = record {
   so_far : ServedSo l.initial.filter.shelf.objects (kept_state l.initial.filter.node.machine.replicas l.initial.filter.node.machine.node)
       (TellsAll g.E.Write.contents g.E.Listener.refuses l.initial.errors l.errors)
-      (g.R.Read.remaining l.initial.input) (ahead l.source (g.R.Read.remaining l.input)) l.source.over
+      (g.R.Read.remaining l.initial.input) (ahead l.source (g.R.Read.remaining l.input))
       (g.W.Write.contents l.initial.output) (g.W.Write.contents l.output)
       (lines (g.D.Disk.seen l.initial.filter.node.disk)) (lines (g.D.Disk.seen l.filter.node.disk))
       (kept_state l.filter.node.machine.replicas l.filter.node.machine.node) l.number;
