@@ -1,4 +1,5 @@
 pub mod Turning
-pub mod Keeping
+pub mod Acting
+pub mod Turns
 pub mod Taking
-pub mod Serving
+pub mod Behind

@@ -196,9 +196,14 @@ is_stale n (Ask replica object query) = false
 is_stale n Tick = false
 is_stale n (Receive m) = (m.instance == 0) && is_known n.replica.view m.body
 
+-- one of two
+abbrev pub OneOf : Bool → (A B : Type 0) → Type 0
+OneOf true A B = A
+OneOf false A B = B
+
 -- a call that is for another node, or brings no news, is passed over
 abbrev pub IsCallTurn : List (ℕ × Kind) → KeptState → (k : ℕ) → Call → Turn → Type 0
-IsCallTurn objects n k call t = if is_elsewhere n call || is_stale n call then t ≡ only n t.line [] else IsTurnHere objects n k call t
+IsCallTurn objects n k call t = OneOf (is_elsewhere n call || is_stale n call) (t ≡ only n t.line []) (IsTurnHere objects n k call t)
 
 -- a line that says a call
 pub record Says (objects : List (ℕ × Kind)) (n : KeptState) (k : ℕ) (t : Turn) : Type 0 where
@@ -215,10 +220,9 @@ pub record HasFault (n : KeptState) (k : ℕ) (t : Turn) : Type 0 where
 -- a line that is not too long
 abbrev pub IsShortTurn : List (ℕ × Kind) → KeptState → (k : ℕ) → Turn → Type 0
 IsShortTurn objects n k t =
-    if is_note t.line then t ≡ only n t.line []
-    else (Says objects n k t ⊎ (HasFault n k t ⊎ IsStarved n k t))
+    OneOf (is_note t.line) (t ≡ only n t.line []) (Says objects n k t ⊎ (HasFault n k t ⊎ IsStarved n k t))
 
 -- what line k comes to, where the node keeps this before it
 unfoldable pub IsTurn : List (ℕ × Kind) → KeptState → (k : ℕ) → Turn → Type 0
 IsTurn objects n k t =
-    if nat_lt MAX_LINE (length t.line) then t ≡ faulty n k t.line TooLong else IsShortTurn objects n k t
+    OneOf (nat_lt MAX_LINE (length t.line)) (t ≡ faulty n k t.line TooLong) (IsShortTurn objects n k t)

@@ -86,13 +86,13 @@ fn take<W: Write, D: Disk>(
     output: &mut W,
 ) -> Result<(), NodeFault>
     requires settled { IsSettled D.seen D.may_leave node.old.disk }
-    requires open { node.old.closed ≡ false }
+    requires unclosed { node.old.closed ≡ false }
     ensures ok { OnOk result (Takes (Of input.now.line (IsKeptTurn (kept_state node.old.machine.replicas node.old.machine.node) number (called input.now.call))) TellsNothing (W.contents output.old) (W.contents output.new)
         (lines (D.seen node.old.disk)) (lines (D.seen node.new.disk)) (kept_state node.new.machine.replicas node.new.machine.node)) }
     ensures err { IfErr result (Breaks (Of input.now.line (IsKeptTurn (kept_state node.old.machine.replicas node.old.machine.node) number (called input.now.call))) TellsNothing (W.contents output.old) (W.contents output.new)
         (lines (D.seen node.old.disk)) (lines (D.seen node.new.disk)) (kept_state node.new.machine.replicas node.new.machine.node)) }
     ensures settled { node.new.closed ≡ false → IsSettled D.seen D.may_leave node.new.disk }
-    ensures open { OnOk result (node.new.closed ≡ false) }
+    ensures unclosed { OnOk result (node.new.closed ≡ false) }
     ensures grows { node.new.closed ≡ false → IsSubset node.old.machine.node.replica.view node.new.machine.node.replica.view }
 {
     let own = node.machine.node.own();
@@ -213,14 +213,14 @@ fn call<W: Write, D: Disk, B: Replicated>(
     output: &mut W,
 ) -> Result<(), NodeFault>
     requires settled { IsSettled D.seen D.may_leave filter.old.node.disk }
-    requires open { filter.old.node.closed ≡ false }
+    requires unclosed { filter.old.node.closed ≡ false }
     requires within { IsSubset filter.old.shelf.view filter.old.node.machine.node.replica.view }
     ensures ok { OnOk result (Takes (Of input.now.line (IsCallTurn filter.old.shelf.objects (kept_state filter.old.node.machine.replicas filter.old.node.machine.node) number (called input.now.call))) TellsNothing (W.contents output.old) (W.contents output.new)
         (lines (D.seen filter.old.node.disk)) (lines (D.seen filter.new.node.disk)) (kept_state filter.new.node.machine.replicas filter.new.node.machine.node)) }
     ensures err { IfErr result (Breaks (Of input.now.line (IsCallTurn filter.old.shelf.objects (kept_state filter.old.node.machine.replicas filter.old.node.machine.node) number (called input.now.call))) TellsNothing (W.contents output.old) (W.contents output.new)
         (lines (D.seen filter.old.node.disk)) (lines (D.seen filter.new.node.disk)) (kept_state filter.new.node.machine.replicas filter.new.node.machine.node)) }
     ensures settled { filter.new.node.closed ≡ false → IsSettled D.seen D.may_leave filter.new.node.disk }
-    ensures open { OnOk result (filter.new.node.closed ≡ false) }
+    ensures unclosed { OnOk result (filter.new.node.closed ≡ false) }
     ensures objects { filter.new.shelf.objects ≡ filter.old.shelf.objects }
     ensures within { filter.new.node.closed ≡ false → IsSubset filter.new.shelf.view filter.new.node.machine.node.replica.view }
 {
@@ -256,14 +256,14 @@ pub fn answer<W: Write, E: Listener, D: Disk, B: Replicated>(
 ) -> Result<(), NodeFault>
     requires short { length line.now ≤ MAX_LINE }
     requires settled { IsSettled D.seen D.may_leave filter.old.node.disk }
-    requires open { filter.old.node.closed ≡ false }
+    requires unclosed { filter.old.node.closed ≡ false }
     requires within { IsSubset filter.old.shelf.view filter.old.node.machine.node.replica.view }
     ensures ok { OnOk result (Takes (Of line.now (IsTurn filter.old.shelf.objects (kept_state filter.old.node.machine.replicas filter.old.node.machine.node) number)) (TellsAll E.contents E.refuses errors.old errors.new) (W.contents output.old) (W.contents output.new)
         (lines (D.seen filter.old.node.disk)) (lines (D.seen filter.new.node.disk)) (kept_state filter.new.node.machine.replicas filter.new.node.machine.node)) }
     ensures err { IfErr result (Breaks (Of line.now (IsTurn filter.old.shelf.objects (kept_state filter.old.node.machine.replicas filter.old.node.machine.node) number)) (TellsAll E.contents E.refuses errors.old errors.new) (W.contents output.old) (W.contents output.new)
         (lines (D.seen filter.old.node.disk)) (lines (D.seen filter.new.node.disk)) (kept_state filter.new.node.machine.replicas filter.new.node.machine.node)) }
     ensures settled { filter.new.node.closed ≡ false → IsSettled D.seen D.may_leave filter.new.node.disk }
-    ensures open { OnOk result (filter.new.node.closed ≡ false) }
+    ensures unclosed { OnOk result (filter.new.node.closed ≡ false) }
     ensures objects { filter.new.shelf.objects ≡ filter.old.shelf.objects }
     ensures within { filter.new.node.closed ≡ false → IsSubset filter.new.shelf.view filter.new.node.machine.node.replica.view }
 {

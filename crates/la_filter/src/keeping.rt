@@ -30,11 +30,11 @@ pub fn keep<D: Disk>(
     input: &Input,
 ) -> Result<Kept, NodeFault>
     requires settled { IsSettled D.seen D.may_leave node.old.disk }
-    requires open { node.old.closed ≡ false }
+    requires unclosed { node.old.closed ≡ false }
     ensures outcome { IfOk result (IsOutcome (kept_state node.old.machine.replicas node.old.machine.node)
         (kept_state node.new.machine.replicas node.new.machine.node) (called input.now.call) input.now.line
         (lines (D.seen node.old.disk)) (lines (D.seen node.new.disk))) }
-    ensures open { OnOk result (node.new.closed ≡ false) }
+    ensures unclosed { OnOk result (node.new.closed ≡ false) }
     ensures settled { OnOk result (IsSettled D.seen D.may_leave node.new.disk) }
     ensures grows { OnOk result (IsSubset node.old.machine.node.replica.view node.new.machine.node.replica.view) }
     ensures fault { IfErr result (λ f. f ≡ DiskFault) }

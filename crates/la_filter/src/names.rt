@@ -55,7 +55,9 @@ pub fn refusal_name(refusal: NodeError) -> &'static str
 }
 
 /// Why a node ended.
-pub fn end_name(fault: NodeFault) -> &'static str {
+pub fn end_name(fault: NodeFault) -> &'static str
+    ensures { length result.now ≤ 10 }
+{
     match fault {
         NodeFault::ReadFault => "ReadFault",
         NodeFault::WriteFault => "WriteFault",

@@ -67,10 +67,18 @@ fn program<'a>(alloc: Global) -> Result<Command<'a>, AllocError> {
         .arg(journal.required(true))
 }
 
+// One vote for each of 1 to 8 replicas.
+fn one_each(replicas: u8) -> Option<Votes> {
+    if replicas < 1 || replicas > 8 {
+        return None;
+    }
+    Some(Votes::one_each(replicas))
+}
+
 // The votes that were given, each of which is a number; one for each replica, where none are.
 fn votes_in(given: &ArgMatches<'_>, replicas: u8) -> Option<Votes> {
     let Some(values) = given.get_many::<u16>("votes") else {
-        return Some(Votes::one_each(replicas));
+        return one_each(replicas);
     };
     let mut votes = [0u16; 8];
     let mut count = 0;

@@ -28,7 +28,7 @@ fn step<R: Read, W: Write, E: Listener, D: Disk, B: Replicated>(
     errors: &mut E,
 ) -> Result<bool, NodeFault>
     requires settled { IsSettled D.seen D.may_leave filter.old.node.disk }
-    requires open { filter.old.node.closed ≡ false }
+    requires unclosed { filter.old.node.closed ≡ false }
     requires within { IsSubset filter.old.shelf.view filter.old.node.machine.node.replica.view }
     requires over { source.old.over ≡ true → IsAtEnd (ahead source.old (R.remaining input.old)) }
     ensures ok { IfOk result (Steps filter.old.shelf.objects (kept_state filter.old.node.machine.replicas filter.old.node.machine.node) number (TellsAll E.contents E.refuses errors.old errors.new)
@@ -39,7 +39,7 @@ fn step<R: Read, W: Write, E: Listener, D: Disk, B: Replicated>(
         (lines (D.seen filter.old.node.disk)) (lines (D.seen filter.new.node.disk)) (kept_state filter.new.node.machine.replicas filter.new.node.machine.node)) }
     ensures over { source.new.over ≡ true → IsAtEnd (ahead source.new (R.remaining input.new)) }
     ensures settled { filter.new.node.closed ≡ false → IsSettled D.seen D.may_leave filter.new.node.disk }
-    ensures open { OnOk result (filter.new.node.closed ≡ false) }
+    ensures unclosed { OnOk result (filter.new.node.closed ≡ false) }
     ensures objects { filter.new.shelf.objects ≡ filter.old.shelf.objects }
     ensures within { filter.new.node.closed ≡ false → IsSubset filter.new.shelf.view filter.new.node.machine.node.replica.view }
 {
@@ -84,7 +84,7 @@ pub fn serve<R: Read, W: Write, E: Listener, D: Disk, B: Replicated>(
     errors: &mut E,
 ) -> Result<(), NodeFault>
     requires settled { IsSettled D.seen D.may_leave filter.old.node.disk }
-    requires open { filter.old.node.closed ≡ false }
+    requires unclosed { filter.old.node.closed ≡ false }
     requires within { IsSubset filter.old.shelf.view filter.old.node.machine.node.replica.view }
     ensures ok { OnOk result (Serves filter.old.shelf.objects (kept_state filter.old.node.machine.replicas filter.old.node.machine.node) (TellsAll E.contents E.refuses errors.old errors.new)
         (R.remaining input.old) (R.remaining input.new) (W.contents output.old) (W.contents output.new)
@@ -93,7 +93,7 @@ pub fn serve<R: Read, W: Write, E: Listener, D: Disk, B: Replicated>(
         (R.remaining input.old) (R.remaining input.new) (W.contents output.old) (W.contents output.new)
         (lines (D.seen filter.old.node.disk)) (lines (D.seen filter.new.node.disk)) (kept_state filter.new.node.machine.replicas filter.new.node.machine.node)) }
     ensures settled { filter.new.node.closed ≡ false → IsSettled D.seen D.may_leave filter.new.node.disk }
-    ensures open { OnOk result (filter.new.node.closed ≡ false) }
+    ensures unclosed { OnOk result (filter.new.node.closed ≡ false) }
 {
     let mut source = Source::new(alloc);
     for number in 1..u64::MAX {

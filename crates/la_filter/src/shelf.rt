@@ -1,3 +1,6 @@
+ghost use Rattle.std.specs.Prelude.{◌≡◌, IfOk};
+ghost use Rattle.la_set.specs.Histories.{empty};
+
 use la_object::{Replicated, Shelf, ShelfError};
 use std::alloc::Global;
 
@@ -7,7 +10,9 @@ pub fn shelf_of<B: Replicated>(
     counter: B,
     register: B,
     set: B,
-) -> Result<Shelf<B>, ShelfError> {
+) -> Result<Shelf<B>, ShelfError>
+    ensures { IfOk result (λ shelf. shelf.view ≡ empty) }
+{
     let mut shelf = Shelf::new(alloc);
     shelf.add(1, counter)?;
     shelf.add(2, register)?;

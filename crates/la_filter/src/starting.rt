@@ -11,11 +11,11 @@ use arrayvec::ArrayString;
 use clap::Error;
 use la_journal::{Disk, Unplayed, recover};
 use la_node::NodeMachine;
-use la_object::{Counter, MaxRegister, Replicated, Shelf, ShelfError};
+use la_object::{Counter, MaxRegister, Replicated, Shelf};
 use la_orset::OrSet;
 use la_program::{Listener, tell_all, write_all};
 use la_world::WorldError;
-use std::alloc::Global;
+use std::alloc::{AllocError, Global};
 use std::io::{Read, Write};
 
 type Line = ArrayString<16>;
@@ -98,17 +98,29 @@ fn start<R: Read, W: Write, E: Listener, D: Disk, B: Replicated>(
     }
 }
 
-// The node with these objects, until its input ends: its exit status.
-fn run_with<R: Read, W: Write, E: Listener, D: Disk, B: Replicated>(
+// The node with objects that are made for it, until its input ends: its exit status.
+fn run_with<
+    R: Read,
+    W: Write,
+    E: Listener,
+    D: Disk,
+    B: Replicated,
+    F: Fn() -> Result<(B, B, B), AllocError>,
+>(
     alloc: Global,
     options: &Options,
-    shelf: Result<Shelf<B>, ShelfError>,
     disk: D,
     input: &mut R,
     output: &mut W,
     errors: &mut E,
-) -> u8 {
-    let Ok(shelf) = shelf else {
+    make: F,
+) -> u8
+    requires { F.pre make }
+{
+    let Ok((counter, register, set)) = make() else {
+        return end_with(NodeFault::Memory, errors);
+    };
+    let Ok(shelf) = shelf_of(alloc, counter, register, set) else {
         return end_with(NodeFault::Memory, errors);
     };
     match start(alloc, options, shelf, disk, input, output, errors) {
@@ -127,18 +139,18 @@ pub fn run<R: Read, W: Write, E: Listener, D: Disk>(
     output: &mut W,
     errors: &mut E,
 ) -> u8 {
-    let Ok(counter) = Box::new(alloc, Counter::new(alloc)) else {
-        return end_with(NodeFault::Memory, errors);
+    let make = || -> Result<
+        (
+            Box<dyn Replicated + Send>,
+            Box<dyn Replicated + Send>,
+            Box<dyn Replicated + Send>,
+        ),
+        AllocError,
+    > {
+        let counter: Box<dyn Replicated + Send> = Box::new(alloc, Counter::new(alloc))?;
+        let register: Box<dyn Replicated + Send> = Box::new(alloc, MaxRegister::new(alloc))?;
+        let set: Box<dyn Replicated + Send> = Box::new(alloc, OrSet::new(alloc))?;
+        Ok((counter, register, set))
     };
-    let Ok(register) = Box::new(alloc, MaxRegister::new(alloc)) else {
-        return end_with(NodeFault::Memory, errors);
-    };
-    let Ok(set) = Box::new(alloc, OrSet::new(alloc)) else {
-        return end_with(NodeFault::Memory, errors);
-    };
-    let counter: Box<dyn Replicated + Send> = counter;
-    let register: Box<dyn Replicated + Send> = register;
-    let set: Box<dyn Replicated + Send> = set;
-    let shelf = shelf_of(alloc, counter, register, set);
-    run_with(alloc, options, shelf, disk, input, output, errors)
+    run_with(alloc, options, disk, input, output, errors, make)
 }

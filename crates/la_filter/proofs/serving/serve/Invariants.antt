@@ -5,7 +5,7 @@ use Rattle.la_journal.specs.Lines.{lines}
 use Rattle.la_journal.specs.Durable.{IsSettled}
 use Rattle.la_node.specs.Restarts.{kept_state}
 use Rattle.la_streams.specs.Streams.{ahead, TellsAll}
-use Rattle.la_filter.proofs.Serving.{ServedSo}
+use Rattle.la_filter.proofs.Behind.{ServedSo}
 use Rattle.la_filter.proofs.serving.serve.Given as goal
 
 abbrev pub invariant-loop-number : goal.invariant-loop-number
@@ -18,7 +18,7 @@ invariant-loop-number g l = record {
       (kept_state l.filter.node.machine.replicas l.filter.node.machine.node) l.number;
   over : l.source.over ≡ true → IsAtEnd (ahead l.source (g.R.Read.remaining l.input));
   settled : IsSettled g.D.Disk.seen g.D.Disk.may_leave l.filter.node.disk;
-  open : l.filter.node.closed ≡ false;
+  unclosed : l.filter.node.closed ≡ false;
   objects : l.filter.shelf.objects ≡ l.initial.filter.shelf.objects;
   within : IsSubset l.filter.shelf.view l.filter.node.machine.node.replica.view;
 }
