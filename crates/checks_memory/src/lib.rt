@@ -13,6 +13,8 @@ mod journals;
 #[cfg(test)]
 mod lines;
 #[cfg(test)]
+mod machines;
+#[cfg(test)]
 mod nodes;
 #[cfg(test)]
 mod objects;

@@ -9,6 +9,8 @@ mod holds;
 #[cfg(test)]
 mod lines;
 #[cfg(test)]
+mod nodes;
+#[cfg(test)]
 mod script;
 #[cfg(test)]
 mod texts;

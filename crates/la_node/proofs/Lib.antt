@@ -1,3 +1,4 @@
+pub mod lemmas
 pub mod Deciding
 pub mod Refusing
 pub mod Telling

@@ -11,11 +11,8 @@ use Rattle.la_node.specs.CallLines.{CallLine, is_line, may_stand, call_line, cal
 use Rattle.la_node.specs.Errors.{IsForMemory}
 use Rattle.la_node.specs.Given.{Given, given_of}
 use Rattle.la_node.specs.Inputs.{InputState}
+use Rattle.la_node.proofs.lemmas.OwnLines.{own_line}
 use Rattle.la_node.specs.Nodes.{KeptState, acts, acts_by, step, answers}
-
--- the line that an input's line is taken for is this line
-pub own_line : (line : List ℕ) → is_line line ≡ true → (or_tick (call_line line)).line ≡ line
-own_line line is = ap (λ o. (or_tick o).line) (round_trip (record { line = line; says = is }))
 
 module _ (n : KeptState) (line : List ℕ) (call : Call) (is : is_line line ≡ true) (says : named line ≡ Some call) where
   names : named (or_tick (call_line line)).line ≡ Some call

@@ -1,5 +1,5 @@
 -- An input: a line, and the call that it says.
-use Rattle.std.specs.Prelude.{◌≡◌, ◌⊎◌, ℕ, true, false, List, Some, Err}
+use Rattle.std.specs.Prelude.{◌≡◌, ◌⊎◌, ℕ, true, false, List, Some, Err, IsOk}
 use Rattle.la_lines.specs.declared.calls.Call as code
 use Rattle.la_lines.specs.declared.error.LineError.{LineError}
 use Rattle.la_lines.specs.declared.error.LineError.TheVariants.{Fault, Memory}
@@ -19,5 +19,6 @@ pub record IsInput (i : InputState) : Type 0 where
 -- a line from outside is not taken: it has a fault, or may not stand in a journal; or memory ran out
 abbrev pub IsInputRefusal : List ℕ → LineError → Type 0
 IsInputRefusal line (Fault fault) =
-    (bounded_call_of line ≡ Err fault) ⊎ ((may_stand line ≡ false) × (fault ≡ BadLine))
+    (bounded_call_of line ≡ Err fault)
+    ⊎ (IsOk (bounded_call_of line) × (may_stand line ≡ false) × (fault ≡ BadLine))
 IsInputRefusal line Memory = Unit {0}

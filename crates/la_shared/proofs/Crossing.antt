@@ -22,6 +22,9 @@ use Rattle.la_shared.specs.contracts.shared.SharedAcceptor as SharedAcceptor
 pub set_send : IsSend (UpdateSet.the_field).row
 set_send = search (heap.crosses, knot.crosses, sendable) depth 60 fits 20000
 
+pub set_sync : IsSync (UpdateSet.the_field).row
+set_sync = search (heap.crosses, knot.crosses, sendable) depth 60 fits 20000
+
 seat_send : (S V : RattleType) → IsSend S → IsSend (Seat.the_row S V)
 seat_send S V s = record { owned = λ d vs. ((λ vss. (tt, ((λ uss. (tt, tt)), tt))), seat_keyless S s V.coded.code d.table_id d.id d.me); leaving = λ k f vs. tt }
 

@@ -16,6 +16,7 @@ pub mod orsets;
 pub mod passes;
 pub mod proposers;
 pub mod replicas;
+pub mod restarts;
 pub mod scripts;
 pub mod sets;
 pub mod worlds;

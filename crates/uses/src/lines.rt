@@ -34,11 +34,7 @@ pub fn came(alloc: Global, replicas: u8, line: &[u8]) -> Result<Option<Message>,
 }
 
 /// A message as its receiver has it, by its line: whatever its delta was made of, it says the same.
-pub fn carried(
-    alloc: Global,
-    replicas: u8,
-    message: &Message,
-) -> Result<Option<Message>, LineError>
+pub fn carried(alloc: Global, replicas: u8, message: &Message) -> Result<Option<Message>, LineError>
     requires { IsMessage (said_by (record { replicas = replicas; message = message.now })) }
     ensures { IfOk result (λ came. IfSome came (AreAlike message.now)) }
 {

@@ -1,0 +1,64 @@
+// A node that keeps its state over a crash.
+ghost use Rattle.std.specs.Prelude.{◌≡◌, ◌∷◌, [], ◌++◌, ℕ, List, All, false, Some, IfOk, IfSome, slice_get, slice_set};
+ghost use Rattle.la_journal.specs.Disk.{Only};
+ghost use Rattle.la_journal.specs.Lines.{lines};
+ghost use Rattle.la_journal.specs.Machine.{LeadsToSome};
+ghost use Rattle.la_journal.specs.Durable.{IsSettled};
+ghost use Rattle.la_replica.specs.declared.message.Message.{Message};
+ghost use Rattle.la_world.specs.Nodes.{NodeState};
+ghost use Rattle.la_world.specs.LiveGroups.{AreLive};
+ghost use Rattle.la_node.specs.CallLines.{CallLine};
+ghost use Rattle.la_node.specs.Nodes.{step};
+ghost use Rattle.la_node.specs.Restarts.{IsHanded, kept_state, leads_from};
+
+use la_journal::{Disk, Durable, Refused, Unplayed, recover};
+use la_lines::LineError;
+use la_node::{Input, NodeError, NodeMachine, laws};
+use la_world::Received;
+use std::alloc::Global;
+
+/// A node as its journal says. Whatever crash left this of the lines that it was handed since it last gave
+/// something out, its group is live with it.
+pub fn restart<D: Disk>(
+    alloc: Global,
+    start: NodeMachine,
+    disk: D,
+) -> Result<Durable<NodeMachine, D>, Unplayed<NodeError>>
+    ensures live { IfOk result (λ durable.
+        (nodes : List NodeState) (network : List Message) (r : ℕ) (node : NodeState) (handed : List CallLine)
+        → AreLive nodes network → slice_get nodes r ≡ Some node → All (IsHanded network r) handed
+        → LeadsToSome (leads_from (kept_state start.replicas start.node)) step handed
+        (kept_state start.replicas node) (D.seen disk)
+        → AreLive (slice_set nodes r durable.machine.node) network) }
+    ensures ready { IfOk result (λ durable. (durable.closed ≡ false)
+        × IsSettled D.seen D.may_leave durable.disk) }
+{
+    laws::restarts_keep_live();
+    match recover(alloc, start, disk) {
+        Ok(durable) => Ok(durable),
+        Err((why, _disk)) => Err(why),
+    }
+}
+
+/// Takes a line from outside, and answers what is given out for it; `None` where it is no call. What is given
+/// out stands on the disk: no crash takes the line back.
+pub fn take_line<D: Disk>(
+    durable: &mut Durable<NodeMachine, D>,
+    alloc: Global,
+    line: &[u8],
+) -> Result<Option<Received>, Refused<NodeError>>
+    requires { durable.old.closed ≡ false → IsSettled D.seen D.may_leave durable.old.disk }
+    ensures kept { IfOk result (λ given. IfSome given (λ _.
+        (lines (D.seen durable.new.disk) ≡ lines (D.seen durable.old.disk) ++ line.now ∷ [])
+        × Only (D.seen durable.new.disk) (D.may_leave durable.new.disk))) }
+    ensures ready { durable.new.closed ≡ false → IsSettled D.seen D.may_leave durable.new.disk }
+{
+    match Input::read(alloc, line) {
+        Ok(input) => match durable.handle(alloc, &input) {
+            Ok(given) => Ok(Some(given)),
+            Err(refused) => Err(refused),
+        },
+        Err(LineError::Fault(_)) => Ok(None),
+        Err(LineError::Memory) => Err(Refused::Memory),
+    }
+}
