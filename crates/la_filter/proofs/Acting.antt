@@ -1,5 +1,5 @@
 -- What a call comes to, by what a journal says of it.
-use Rattle.std.proofs.Common.{◌≡◌, ℕ, true, List, Option, Some, None, option_map, refl, sym, ap, ◌∙◌, subst}
+use Rattle.std.proofs.Common.{◌≡◌, ◌⊎◌, inl, inr, ℕ, Bool, true, false, List, Option, Some, None, option_map, refl, sym, ap, ◌∙◌, subst}
 use Rattle.std.proofs.lemmas.Option.{none-some, same_Some}
 use Rattle.la_lines.specs.Calls.{Call}
 use Rattle.la_lines.specs.CallLines.{named}
@@ -8,7 +8,7 @@ use Rattle.la_node.specs.Nodes.{KeptState, acts, acts_by, step, answers}
 use Rattle.la_node.specs.CallLines.{CallLine, is_line, call_line, call_line_where, or_tick}
 
 -- an input's line is the one of its call
-pub line_where : (line : List ℕ) (b : _) (e : is_line line ≡ b) → b ≡ true → (or_tick (call_line_where line b e)).line ≡ line
+pub line_where : (line : List ℕ) (b : Bool) (e : is_line line ≡ b) → b ≡ true → (or_tick (call_line_where line b e)).line ≡ line
 line_where line true e is = refl
 line_where line false e is = absurd cc
 
@@ -33,3 +33,8 @@ module _ (n : KeptState) (line : List ℕ) (call : Call) (is : is_line line ≡ 
 
   pub refused : step n (or_tick (call_line line)) ≡ None → acts n call ≡ None
   refused e = sym acts_line ∙ neither (acts_by n (named (or_tick (call_line line)).line)) e
+
+  -- why it is refused
+  pub cause_of : {A : Type 0} → A ⊎ (step n (or_tick (call_line line)) ≡ None) → A ⊎ (acts n call ≡ None)
+  cause_of (inl a) = inl a
+  cause_of (inr e) = inr (refused e)

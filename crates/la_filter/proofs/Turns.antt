@@ -45,9 +45,11 @@ module _ (objects : List (ℕ × Kind)) (n : KeptState) (k : ℕ) where
   other_turn t le is s = short_turn t le (subst (λ b. OneOf b (t ≡ only n t.line []) (Says objects n k t ⊎ (HasFault n k t ⊎ IsStarved n k t))) (sym is) s)
 
   pub call_turn : (line : List ℕ) (call : Call) → length line ≤ MAX_LINE → is_note line ≡ false → named line ≡ Some call → (t : Turn) → Of line (IsCallTurn objects n k call) t → Of line (IsTurn objects n k) t
-  call_turn line call le is says t (same, turn) =
-      (same, other_turn t (subst (λ l. length l ≤ MAX_LINE) (sym same) le) (ap is_note same ∙ is)
-      (inl (record { call = call; says = ap named same ∙ says; turn = turn })))
+  call_turn line call le is says t (same, turn) = (
+    same,
+    other_turn t (subst (λ l. length l ≤ MAX_LINE) (sym same) le) (ap is_note same ∙ is)
+        (inl (record { call = call; says = ap named same ∙ says; turn = turn })),
+  )
 
   pub fault_turn : (line : List ℕ) (f : LineFault) → length line ≤ MAX_LINE → is_note line ≡ false → IsInputRefusal line (Fault f) → IsTurn objects n k (faulty n k line f)
   fault_turn line f le is refusal = other_turn (faulty n k line f) le is (inr (inl (record { fault = f; is = refusal; turn = refl })))

@@ -1,5 +1,5 @@
 // A call, kept in the journal.
-ghost use Rattle.std.specs.Prelude.{◌≡◌, false, IfOk, IfErr, OnOk};
+ghost use Rattle.std.specs.Prelude.{◌≡◌, true, false, IfOk, IfErr, OnOk, OnErr};
 ghost use Rattle.la_set.specs.Inclusion.{IsSubset};
 ghost use Rattle.la_journal.specs.Lines.{lines};
 ghost use Rattle.la_journal.specs.Durable.{IsSettled};
@@ -38,7 +38,10 @@ pub fn keep<D: Disk>(
     ensures settled { OnOk result (IsSettled D.seen D.may_leave node.new.disk) }
     ensures grows { OnOk result (IsSubset node.old.machine.node.replica.view node.new.machine.node.replica.view) }
     ensures fault { IfErr result (λ f. f ≡ DiskFault) }
+    ensures closed { OnErr result (node.new.closed ≡ true) }
 {
+    // hints to the prover: what the input says, and that views grow
+    let _call = input.call();
     laws::views_grow();
     match node.handle(alloc, input) {
         Ok(given) => Ok(Kept::Taken(given)),
