@@ -44,3 +44,9 @@ module _ {Is More : Turn → Type 0} {Told ToldMore : List (List ℕ) → Type 0
   pub if_err_more : {T : Type 0} (r : Result T NodeFault) → IfErr r (Breaks Is Told out1 out2 journal1 journal2 n) → IfErr r (Breaks More ToldMore out1 out2 journal1 journal2 n)
   if_err_more (Ok x) b = tt
   if_err_more (Err f) b = breaks_more f b
+
+-- a write failed
+pub if_err_cut : {T : Type 0} (Is : Turn → Type 0) (Told : List (List ℕ) → Type 0) (out1 out2 : Option (List ℕ)) (journal1 journal2 : List (List ℕ)) (n : KeptState) (r : Result T NodeFault)
+    → IfErr r (λ e. e ≡ fault.WriteFault) → TakesCut Is Told out1 out2 journal1 journal2 n → IfErr r (Breaks Is Told out1 out2 journal1 journal2 n)
+if_err_cut Is Told out1 out2 journal1 journal2 n (Ok x) e cut = tt
+if_err_cut Is Told out1 out2 journal1 journal2 n (Err f) e cut = subst (Breaks Is Told out1 out2 journal1 journal2 n) (sym e) cut

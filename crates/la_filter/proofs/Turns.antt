@@ -59,7 +59,7 @@ module _ (objects : List (ℕ × Kind)) (n : KeptState) (k : ℕ) where
 
   -- a call that is passed over, and one that is not
   pub passed_turn : (line : List ℕ) (call : Call) (b : Bool) → b ≡ true → is_elsewhere n call || is_stale n call ≡ b → IsCallTurn objects n k call (only n line [])
-  passed_turn line call b yes is = subst (λ b. OneOf b (only n line [] ≡ only n line []) (IsTurnHere objects n k call (only n line []))) (sym (is ∙ yes)) refl
+  passed_turn line call b so is = subst (λ b. OneOf b (only n line [] ≡ only n line []) (IsTurnHere objects n k call (only n line []))) (sym (is ∙ so)) refl
 
   pub here_turn : (line : List ℕ) (call : Call) → is_elsewhere n call || is_stale n call ≡ false → (t : Turn) → Of line (IsTurnHere objects n k call) t → Of line (IsCallTurn objects n k call) t
   here_turn line call is t (same, turn) = (same, subst (λ b. OneOf b (t ≡ only n t.line []) (IsTurnHere objects n k call t)) (sym is) turn)
@@ -68,7 +68,7 @@ module _ (objects : List (ℕ × Kind)) (n : KeptState) (k : ℕ) where
 
 module _ (n after : KeptState) (k : ℕ) (call : Call) (line : List ℕ) (out1 out2 : Option (List ℕ)) (journal1 journal2 : List (List ℕ)) where
   module _ (given : Given) (acted : acts n call ≡ Some (given, after)) (journal : journal2 ≡ journal1 ++ line ∷ []) where
-    turn_of : Turn
+    abbrev turn_of : Turn
     turn_of = record { line = line; text = call_text (length (updates n.replica.view)) after call given; kept = line ∷ []; told = []; after = after }
 
     is_kept : IsKeptTurn n k call turn_of
@@ -92,3 +92,6 @@ module _ (n after : KeptState) (k : ℕ) (call : Call) (line : List ℕ) (out1 o
 
     pub refused_cut : AppendsPrefix out1 out2 (refused_note (own_of n) k (refusal_name why)) → TakesCut (Of line (IsKeptTurn n k call)) TellsNothing out1 out2 journal1 journal2 after
     refused_cut w = record { turn = refused n k line why; is = (refl, is_refused); now_is = sym same; wrote = w; journal = still ∙ sym (append-nil journal1); tells = refl }
+
+pub same_text : (text : List ℕ) (before b : ℕ) (after : KeptState) (call call2 : Call) (given : Given) → text ≡ call_text before after call given → before ≡ b → call ≡ call2 → text ≡ call_text b after call2 given
+same_text text before b after call call2 given e p q = e ∙ ap (λ x. call_text x after call given) p ∙ ap (λ y. call_text b after y given) q
