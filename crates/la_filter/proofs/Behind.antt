@@ -125,12 +125,12 @@ module _ {E : Type 0} (contents : E → Option (List ℕ)) (refuses : E → List
 
       pub serve_refused : (f : NodeFault) → IsStepRefusal objects n1 number (TellsAll contents refuses e1 e2) ahead1 ahead2 out1 out2 journal1 journal2 n2 f
           → IsServeRefusal objects n (TellsAll contents refuses e0 e2) left left2 out out2 journal journal2 n2 f
-      serve_refused fault.ReadFault r = cut r
-      serve_refused fault.WriteFault r = cut r
+      serve_refused fault.ReadFault r = cut_none r.0 r.1
+      serve_refused fault.WriteFault r = cut_one r
       serve_refused fault.Memory r = cut r
-      serve_refused fault.BadConfig r = cut r
-      serve_refused fault.NoJournal r = cut r
-      serve_refused fault.BadJournal r = cut r
+      serve_refused fault.BadConfig r = r
+      serve_refused fault.NoJournal r = r
+      serve_refused fault.BadJournal r = r
       serve_refused fault.DiskFault r = record {
         turns = so.turns;
         before = n1;

@@ -2,4 +2,8 @@ pub mod Turning
 pub mod Acting
 pub mod Turns
 pub mod Taking
+pub mod Saying
 pub mod Behind
+pub mod Answering
+pub mod Stepping
+pub mod Starts

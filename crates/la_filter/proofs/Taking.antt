@@ -29,12 +29,12 @@ module _ {Is More : Turn → Type 0} {Told ToldMore : List (List ℕ) → Type 0
   cut_more t = record { turn = t.turn; is = is_more t.turn t.is; now_is = t.now_is; wrote = t.wrote; journal = t.journal; tells = told_more t.turn.told t.tells }
 
   pub breaks_more : (f : NodeFault) → Breaks Is Told out1 out2 journal1 journal2 n f → Breaks More ToldMore out1 out2 journal1 journal2 n f
-  breaks_more fault.ReadFault b = cut_more b
+  breaks_more fault.ReadFault b = b
   breaks_more fault.WriteFault b = cut_more b
   breaks_more fault.Memory b = cut_more b
-  breaks_more fault.BadConfig b = cut_more b
-  breaks_more fault.NoJournal b = cut_more b
-  breaks_more fault.BadJournal b = cut_more b
+  breaks_more fault.BadConfig b = b
+  breaks_more fault.NoJournal b = b
+  breaks_more fault.BadJournal b = b
   breaks_more fault.DiskFault b = b
 
   pub on_ok_more : {T E : Type 0} (r : Result T E) → OnOk r (Takes Is Told out1 out2 journal1 journal2 n) → OnOk r (Takes More ToldMore out1 out2 journal1 journal2 n)

@@ -95,3 +95,6 @@ module _ (n after : KeptState) (k : ℕ) (call : Call) (line : List ℕ) (out1 o
 
 pub same_text : (text : List ℕ) (before b : ℕ) (after : KeptState) (call call2 : Call) (given : Given) → text ≡ call_text before after call given → before ≡ b → call ≡ call2 → text ≡ call_text b after call2 given
 same_text text before b after call call2 given e p q = e ∙ ap (λ x. call_text x after call given) p ∙ ap (λ y. call_text b after y given) q
+
+pub same_refusal : (P : List ℕ → Type 0) (own own2 k : ℕ) (name name2 : List ℕ) → own ≡ own2 → name ≡ name2 → P (refused_note own k name) → P (refused_note own2 k name2)
+same_refusal P own own2 k name name2 e f p = subst (λ n. P (refused_note own2 k n)) f (subst (λ o. P (refused_note o k name)) e p)

@@ -63,10 +63,13 @@ pub record TakesNone (Told : List (List ℕ) → Type 0) (out_before out_after :
   pub now_is : now ≡ before
   pub tells : Told []
 
--- where the disk failed nothing was written of the line, and the journal is to be recovered anew
+-- where the disk failed nothing was written of the line, and the journal is to be recovered anew; where a write failed, or
+-- there was no memory, the line was taken, but only a front of what it comes to was written
 abbrev pub Breaks : (Is : Turn → Type 0) (Told : List (List ℕ) → Type 0) (out_before out_after : Option (List ℕ)) (journal_before journal_after : List (List ℕ)) (now : KeptState) → NodeFault → Type 0
 Breaks Is Told out_before out_after journal_before journal_after now fault.DiskFault = Keeps out_before out_after
-Breaks Is Told out_before out_after journal_before journal_after now _ = TakesCut Is Told out_before out_after journal_before journal_after now
+Breaks Is Told out_before out_after journal_before journal_after now fault.WriteFault = TakesCut Is Told out_before out_after journal_before journal_after now
+Breaks Is Told out_before out_after journal_before journal_after now fault.Memory = TakesCut Is Told out_before out_after journal_before journal_after now
+Breaks Is Told out_before out_after journal_before journal_after now _ = ⊥
 
 abbrev pub TellsNothing : List (List ℕ) → Type 0
 TellsNothing told = told ≡ []
@@ -104,9 +107,14 @@ Steps objects n k Told left_before left_after out_before out_after journal_befor
 abbrev pub IsStepRefusal : (objects : List (ℕ × Kind)) (n : KeptState) (k : ℕ) (Told : List (List ℕ) → Type 0) (left_before left_after : Option (List ℕ)) (out_before out_after : Option (List ℕ)) (journal_before journal_after : List (List ℕ)) (now : KeptState) → NodeFault → Type 0
 IsStepRefusal objects n k Told left_before left_after out_before out_after journal_before journal_after now fault.DiskFault =
     TakesSome left_before left_after × Keeps out_before out_after
-IsStepRefusal objects n k Told left_before left_after out_before out_after journal_before journal_after now _ =
+IsStepRefusal objects n k Told left_before left_after out_before out_after journal_before journal_after now fault.ReadFault =
+    TakesSome left_before left_after × TakesNone Told out_before out_after journal_before journal_after n now
+IsStepRefusal objects n k Told left_before left_after out_before out_after journal_before journal_after now fault.WriteFault =
+    TakesCut (IsStep objects n k left_before left_after) Told out_before out_after journal_before journal_after now
+IsStepRefusal objects n k Told left_before left_after out_before out_after journal_before journal_after now fault.Memory =
     (TakesSome left_before left_after × TakesNone Told out_before out_after journal_before journal_after n now)
     ⊎ TakesCut (IsStep objects n k left_before left_after) Told out_before out_after journal_before journal_after now
+IsStepRefusal objects n k Told left_before left_after out_before out_after journal_before journal_after now _ = ⊥
 
 -- ## All of them
 
@@ -145,5 +153,10 @@ pub record ServesClosed (objects : List (ℕ × Kind)) (n : KeptState) (left_bef
 abbrev pub IsServeRefusal : (objects : List (ℕ × Kind)) (n : KeptState) (Told : List (List ℕ) → Type 0) (left_before left_after out_before out_after : Option (List ℕ)) (journal_before journal_after : List (List ℕ)) (now : KeptState) → NodeFault → Type 0
 IsServeRefusal objects n Told left_before left_after out_before out_after journal_before journal_after now fault.DiskFault =
     ServesClosed objects n left_before left_after out_before out_after
-IsServeRefusal objects n Told left_before left_after out_before out_after journal_before journal_after now _ =
+IsServeRefusal objects n Told left_before left_after out_before out_after journal_before journal_after now fault.ReadFault =
     ServesCut objects n Told left_before left_after out_before out_after journal_before journal_after now
+IsServeRefusal objects n Told left_before left_after out_before out_after journal_before journal_after now fault.WriteFault =
+    ServesCut objects n Told left_before left_after out_before out_after journal_before journal_after now
+IsServeRefusal objects n Told left_before left_after out_before out_after journal_before journal_after now fault.Memory =
+    ServesCut objects n Told left_before left_after out_before out_after journal_before journal_after now
+IsServeRefusal objects n Told left_before left_after out_before out_after journal_before journal_after now _ = ⊥

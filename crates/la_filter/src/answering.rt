@@ -13,18 +13,21 @@ ghost use Rattle.la_streams.specs.Notes.{refused_note, fault_line};
 ghost use Rattle.la_streams.specs.Streams.{Tells, TellsAll};
 ghost use Rattle.la_node.specs.Restarts.{kept_state};
 ghost use Rattle.la_set.specs.Inclusion.{IsSubset};
-ghost use Rattle.la_filter.specs.Turns.{Turn, is_note, is_elsewhere, IsKeptTurn, IsAnswered, IsTicked, IsCallTurn, IsTurn, is_stale, is_known};
+ghost use Rattle.la_filter.specs.Turns.{Turn, is_note, is_elsewhere, IsKeptTurn, IsAnswered, IsTicked, IsCallTurn, IsTurnHere, IsTurn, is_stale, is_known};
+ghost use Rattle.la_object.specs.Shelves.{answer_at};
+ghost use Rattle.la_filter.specs.Said.{said_text, IsSaidAnswer, answer_by, IsSaidAgain};
 ghost use Rattle.la_filter.specs.Serving.{Of, Takes, TakesCut, Breaks, TellsNothing};
 
 use crate::keeping::{Kept, keep};
 use crate::names::refusal_name;
+use crate::said::Said;
 use crate::texts::{answer_text, mail_text, text_of};
 use crate::{Filter, NodeFault};
 use la_journal::{Disk, Durable};
 use la_lines::{Call, LineError, LineFault};
 use la_node::{Input, NodeMachine};
 use la_object::{Query, Replicated, Shelf, ShelfError};
-use la_program::Listener;
+use la_program::{Listener, WriteFailed};
 use la_replica::Body;
 use la_set::UpdateSet;
 use la_streams::{refuse, tell_fault, write_lines};
@@ -122,6 +125,71 @@ fn follow<B: Replicated>(shelf: &mut Shelf<B>, view: &UpdateSet) -> bool
     shelf.absorb_compatible(view).is_ok()
 }
 
+// What an object on a shelf answers.
+fn said_of<B: Replicated>(
+    alloc: Global,
+    own: u8,
+    shelf: &Shelf<B>,
+    object: u16,
+    query: &Query,
+) -> Said
+    ensures { IsSaidAnswer own object (answer_at shelf.now object query.now) result }
+{
+    match shelf.ask(object, query) {
+        Ok(answer) => match answer_text(alloc, own, object, &answer) {
+            Ok(text) => Said::Lines(text),
+            Err(_) => Said::Memory,
+        },
+        Err(ShelfError::NoSuchObject) => Said::NoSuchObject,
+        Err(_) => Said::Memory,
+    }
+}
+
+// What it answers by a node's view, which the shelf absorbs first.
+fn said_by_view<B: Replicated>(
+    alloc: Global,
+    machine: &NodeMachine,
+    shelf: &mut Shelf<B>,
+    object: u16,
+    query: &Query,
+) -> Said
+    requires { IsSubset shelf.old.view machine.now.node.replica.view }
+    ensures said { IsSaidAnswer machine.now.node.replica.own object
+        (answer_by shelf.old.objects (kept_state machine.now.replicas machine.now.node) object query.now) result }
+    ensures objects { shelf.new.objects ≡ shelf.old.objects }
+    ensures within { IsSubset shelf.new.view machine.now.node.replica.view }
+{
+    if !follow(shelf, machine.node.view()) {
+        return Said::Memory;
+    }
+    said_of(alloc, machine.node.own(), shelf, object, query)
+}
+
+// What waits for an answer, once more.
+fn said_again(alloc: Global, machine: &NodeMachine) -> Said
+    ensures { IsSaidAgain (kept_state machine.now.replicas machine.now.node) result }
+{
+    let Ok(mail) = machine.node.again() else {
+        return Said::Memory;
+    };
+    match mail_text(alloc, machine.replicas, &mail) {
+        Ok(text) => Said::Lines(text),
+        Err(_) => Said::Memory,
+    }
+}
+
+// Writes it.
+fn put<W: Write>(output: &mut W, own: u8, number: u64, said: &Said) -> Result<(), WriteFailed>
+    ensures ok { OnOk result (Writes W.contents output.old output.new (said_text own number said.now)) }
+    ensures err { OnErr result (WritesPrefix W.contents output.old output.new (said_text own number said.now)) }
+{
+    match said {
+        Said::Lines(text) => write_lines(output, text),
+        Said::NoSuchObject => refuse(output, own, number, "NoSuchObject"),
+        Said::Memory => refuse(output, own, number, "Memory"),
+    }
+}
+
 // A question: the shelf absorbs the view first.
 fn ask<W: Write, B: Replicated>(
     alloc: Global,
@@ -144,31 +212,9 @@ fn ask<W: Write, B: Replicated>(
     ensures objects { shelf.new.objects ≡ shelf.old.objects }
     ensures within { IsSubset shelf.new.view machine.now.node.replica.view }
 {
-    let own = machine.node.own();
-    if !follow(shelf, machine.node.view()) {
-        refuse(output, own, number, "Memory")?;
-        return Ok(());
-    }
-    match shelf.ask(object, query) {
-        Ok(answer) => match answer_text(alloc, own, object, &answer) {
-            Ok(text) => {
-                write_lines(output, &text)?;
-                Ok(())
-            }
-            Err(_) => {
-                refuse(output, own, number, "Memory")?;
-                Ok(())
-            }
-        },
-        Err(ShelfError::NoSuchObject) => {
-            refuse(output, own, number, "NoSuchObject")?;
-            Ok(())
-        }
-        Err(_) => {
-            refuse(output, own, number, "Memory")?;
-            Ok(())
-        }
-    }
+    let said = said_by_view(alloc, machine, shelf, object, query);
+    put(output, machine.node.own(), number, &said)?;
+    Ok(())
 }
 
 // The timer.
@@ -187,19 +233,39 @@ fn tick<W: Write>(
         TellsNothing (W.contents output.old) (W.contents output.new) journal journal
         (kept_state machine.now.replicas machine.now.node)) }
 {
-    let own = machine.node.own();
-    let Ok(mail) = machine.node.again() else {
-        refuse(output, own, number, "Memory")?;
-        return Ok(());
-    };
-    match mail_text(alloc, machine.replicas, &mail) {
-        Ok(text) => {
-            write_lines(output, &text)?;
-            Ok(())
+    let said = said_again(alloc, machine);
+    put(output, machine.node.own(), number, &said)?;
+    Ok(())
+}
+
+// A call that is not passed over.
+fn call_here<W: Write, D: Disk, B: Replicated>(
+    alloc: Global,
+    filter: &mut Filter<D, B>,
+    number: u64,
+    input: &Input,
+    output: &mut W,
+) -> Result<(), NodeFault>
+    requires settled { IsSettled D.seen D.may_leave filter.old.node.disk }
+    requires unclosed { filter.old.node.closed ≡ false }
+    requires within { IsSubset filter.old.shelf.view filter.old.node.machine.node.replica.view }
+    ensures ok { OnOk result (Takes (Of input.now.line (IsTurnHere filter.old.shelf.objects (kept_state filter.old.node.machine.replicas filter.old.node.machine.node) number (called input.now.call))) TellsNothing (W.contents output.old) (W.contents output.new)
+        (lines (D.seen filter.old.node.disk)) (lines (D.seen filter.new.node.disk)) (kept_state filter.new.node.machine.replicas filter.new.node.machine.node)) }
+    ensures err { IfErr result (Breaks (Of input.now.line (IsTurnHere filter.old.shelf.objects (kept_state filter.old.node.machine.replicas filter.old.node.machine.node) number (called input.now.call))) TellsNothing (W.contents output.old) (W.contents output.new)
+        (lines (D.seen filter.old.node.disk)) (lines (D.seen filter.new.node.disk)) (kept_state filter.new.node.machine.replicas filter.new.node.machine.node)) }
+    ensures settled { filter.new.node.closed ≡ false → IsSettled D.seen D.may_leave filter.new.node.disk }
+    ensures unclosed { OnOk result (filter.new.node.closed ≡ false) }
+    ensures objects { filter.new.shelf.objects ≡ filter.old.shelf.objects }
+    ensures within { filter.new.node.closed ≡ false → IsSubset filter.new.shelf.view filter.new.node.machine.node.replica.view }
+{
+    match input.call() {
+        Call::Ask { object, query, .. } => {
+            let (machine, shelf) = (&filter.node.machine, &mut filter.shelf);
+            ask(alloc, machine, shelf, number, *object, query, output)
         }
-        Err(_) => {
-            refuse(output, own, number, "Memory")?;
-            Ok(())
+        Call::Tick => tick(alloc, &filter.node.machine, number, output),
+        Call::Submit { .. } | Call::Decide { .. } | Call::Receive(_) => {
+            take(alloc, &mut filter.node, number, input, output)
         }
     }
 }
@@ -228,16 +294,7 @@ fn call<W: Write, D: Disk, B: Replicated>(
     if is_elsewhere(&filter.node.machine, call) || is_stale(&filter.node.machine, call) {
         return Ok(());
     }
-    match input.call() {
-        Call::Ask { object, query, .. } => {
-            let (machine, shelf) = (&filter.node.machine, &mut filter.shelf);
-            ask(alloc, machine, shelf, number, *object, query, output)
-        }
-        Call::Tick => tick(alloc, &filter.node.machine, number, output),
-        Call::Submit { .. } | Call::Decide { .. } | Call::Receive(_) => {
-            take(alloc, &mut filter.node, number, input, output)
-        }
-    }
+    call_here(alloc, filter, number, input, output)
 }
 
 /// Takes line `number` of an input, which has at most [`la_lines::MAX_LINE`] bytes, without its end. Its lines go out one

@@ -11,6 +11,7 @@ mod filter;
 mod keeping;
 mod names;
 mod options;
+mod said;
 mod serving;
 mod shelf;
 mod starting;
