@@ -4,6 +4,6 @@ pub mod Turns
 pub mod Taking
 pub mod Saying
 pub mod Behind
-pub mod Answering
+pub mod OneLine
 pub mod Stepping
 pub mod Starts

@@ -328,7 +328,11 @@ pub fn answer<W: Write, E: Listener, D: Disk, B: Replicated>(
         return Ok(());
     }
     match Input::read(alloc, line) {
-        Ok(input) => call(alloc, filter, number, &input, output),
+        Ok(input) => {
+            // a hint to the prover: what the input says
+            let _call = input.call();
+            call(alloc, filter, number, &input, output)
+        }
         Err(LineError::Fault(fault)) => {
             tell_fault(errors, number, fault);
             Ok(())

@@ -3,21 +3,22 @@ use Rattle.std.proofs.Common.{◌≡◌, ℕ, ◌≤◌, ◌||◌, Bool, true, f
 use Rattle.std.specs.Io.KnownBytes.{Appends}
 use Rattle.std.proofs.KnownBytes.{Appends-nil}
 use Rattle.la_object.specs.declared.kind.Kind.{Kind}
+use Rattle.la_object.specs.declared.query.Query.{Query}
 use Rattle.la_program.specs.Streams.{AppendsPrefix}
 use Rattle.la_lines.specs.declared.calls.TheConstants.{MAX_LINE}
 use Rattle.la_lines.specs.declared.error.LineFault.{LineFault}
 use Rattle.la_lines.specs.declared.error.LineError.TheVariants.{Fault}
-use Rattle.la_lines.specs.Calls.{Call}
+use Rattle.la_lines.specs.Calls.{Call, Ask, Tick}
 use Rattle.la_lines.specs.CallLines.{named}
 use Rattle.la_node.specs.Nodes.{KeptState}
 use Rattle.la_node.specs.Inputs.{IsInputRefusal}
 use Rattle.la_streams.specs.Notes.{refused_note, fault_line}
 use Rattle.la_streams.specs.Streams.{Tells, TellsAll}
 use Rattle.la_filter.specs.declared.error.NodeFault.{NodeFault}
-use Rattle.la_filter.specs.Turns.{Turn, only, faulty, own_of, is_note, is_elsewhere, is_stale, IsTurnHere, IsCallTurn, IsTurn}
+use Rattle.la_filter.specs.Turns.{Turn, only, faulty, own_of, is_note, is_elsewhere, is_stale, IsAnswered, IsTicked, IsTurnHere, IsCallTurn, IsTurn}
 use Rattle.la_filter.specs.Serving.{Of, Takes, TakesCut, Breaks, TellsNothing}
 use Rattle.la_filter.proofs.Taking.{takes_only, cut_only, takes_more, cut_more, on_ok_more, if_err_more}
-use Rattle.la_filter.proofs.Turns.{note_turn, fault_turn, starved_turn, call_turn, here_turn, passed_turn}
+use Rattle.la_filter.proofs.Turns.{note_turn, fault_turn, starved_turn, call_turn, passed_turn}
 
 -- ## A call
 
@@ -37,26 +38,26 @@ module _ (objects : List (ℕ × Kind)) (n : KeptState) (k : ℕ) (line : List �
       subst (λ (c : Call). IfErr r (Breaks (Of line (IsTurnHere objects n k c)) TellsNothing out1 out2 journal1 journal2 now)) (sym e)
       (if_err_more out1 out2 journal1 journal2 now (λ (t : Turn) (is : Of line Is t). (is.0, more t is.1)) (λ (told : List (List ℕ)) (is : TellsNothing told). is) r x)
 
-  -- that is not passed over
-  pub ok_call : (call : Call) → is_elsewhere n call ≡ false → is_stale n call ≡ false → (r : Result T NodeFault)
+  -- a question, and the timer
+  pub ok_ask : (call : Call) (replica object : ℕ) (query : Query) → call ≡ Ask replica object query → (r : Result T NodeFault)
+      → OnOk r (Takes (Of line (IsAnswered objects n k object query)) TellsNothing out1 out2 journal1 journal2 now)
       → OnOk r (Takes (Of line (IsTurnHere objects n k call)) TellsNothing out1 out2 journal1 journal2 now)
-      → OnOk r (Takes (Of line (IsCallTurn objects n k call)) TellsNothing out1 out2 journal1 journal2 now)
-  ok_call call e f r x = on_ok_more out1 out2 journal1 journal2 now (here_turn objects n k line call (neither (is_elsewhere n call) (is_stale n call) e f)) (λ (told : List (List ℕ)) (is : TellsNothing told). is) r x
-    where
-      neither : (a b : Bool) → a ≡ false → b ≡ false → (a || b) ≡ false
-      neither false false e f = refl
-      neither false true e f = absurd cc
-      neither true b e f = absurd cc
+  ok_ask call replica object query e r x = ok_here call (Ask replica object query) (IsAnswered objects n k object query) e (λ (t : Turn) (is : IsAnswered objects n k object query t). is) r x
 
-  pub err_call : (call : Call) → is_elsewhere n call ≡ false → is_stale n call ≡ false → (r : Result T NodeFault)
+  pub err_ask : (call : Call) (replica object : ℕ) (query : Query) → call ≡ Ask replica object query → (r : Result T NodeFault)
+      → IfErr r (Breaks (Of line (IsAnswered objects n k object query)) TellsNothing out1 out2 journal1 journal2 now)
       → IfErr r (Breaks (Of line (IsTurnHere objects n k call)) TellsNothing out1 out2 journal1 journal2 now)
-      → IfErr r (Breaks (Of line (IsCallTurn objects n k call)) TellsNothing out1 out2 journal1 journal2 now)
-  err_call call e f r x = if_err_more out1 out2 journal1 journal2 now (here_turn objects n k line call (neither (is_elsewhere n call) (is_stale n call) e f)) (λ (told : List (List ℕ)) (is : TellsNothing told). is) r x
-    where
-      neither : (a b : Bool) → a ≡ false → b ≡ false → (a || b) ≡ false
-      neither false false e f = refl
-      neither false true e f = absurd cc
-      neither true b e f = absurd cc
+  err_ask call replica object query e r x = err_here call (Ask replica object query) (IsAnswered objects n k object query) e (λ (t : Turn) (is : IsAnswered objects n k object query t). is) r x
+
+  pub ok_tick : (call : Call) → call ≡ Tick → (r : Result T NodeFault)
+      → OnOk r (Takes (Of line (IsTicked n k)) TellsNothing out1 out2 journal1 journal2 now)
+      → OnOk r (Takes (Of line (IsTurnHere objects n k call)) TellsNothing out1 out2 journal1 journal2 now)
+  ok_tick call e r x = ok_here call Tick (IsTicked n k) e (λ (t : Turn) (is : IsTicked n k t). is) r x
+
+  pub err_tick : (call : Call) → call ≡ Tick → (r : Result T NodeFault)
+      → IfErr r (Breaks (Of line (IsTicked n k)) TellsNothing out1 out2 journal1 journal2 now)
+      → IfErr r (Breaks (Of line (IsTurnHere objects n k call)) TellsNothing out1 out2 journal1 journal2 now)
+  err_tick call e r x = err_here call Tick (IsTicked n k) e (λ (t : Turn) (is : IsTicked n k t). is) r x
 
 -- passed over
 pub call_passed : (objects : List (ℕ × Kind)) (n : KeptState) (k : ℕ) (line : List ℕ) (out : Option (List ℕ)) (journal : List (List ℕ)) (call : Call)
