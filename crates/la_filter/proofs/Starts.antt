@@ -26,8 +26,8 @@ nothing_within s u is =
     nothing_at (suc k) = refl
 
 module _ (objects : List (ℕ × Kind)) (config : Config) (own : ℕ) (file file2 : List ℕ) (Told : List (List ℕ) → Type 0) (left1 left2 out1 out2 : Option (List ℕ)) (journal : List (List ℕ)) (before now : KeptState)
-    (plays : leads_from (at_start config own) file ≡ Some before) (same : lines file2 ≡ lines file) {T : Type 0} where
-  pub runs : (r : Result T NodeFault) → OnOk r (Serves objects before Told left1 left2 out1 out2 (lines file2) journal now)
+    (plays : leads_from (at_start config own) file ≡ Some before) (same : lines file2 ≡ lines file) where
+  pub runs : {T : Type 0} (r : Result T NodeFault) → OnOk r (Serves objects before Told left1 left2 out1 out2 (lines file2) journal now)
       → OnOk r (Runs objects config own file Told left1 left2 out1 out2)
   runs (Ok x) s = record {
     before = before;
@@ -47,7 +47,7 @@ module _ (objects : List (ℕ × Kind)) (config : Config) (own : ℕ) (file file
   run_stops fault.NoJournal s = absurd s
   run_stops fault.BadJournal s = absurd s
 
-  pub stops : (r : Result T NodeFault) → IfErr r (IsServeRefusal objects before Told left1 left2 out1 out2 (lines file2) journal now)
+  pub stops : {T : Type 0} (r : Result T NodeFault) → IfErr r (IsServeRefusal objects before Told left1 left2 out1 out2 (lines file2) journal now)
       → IfErr r (IsRunRefusal objects config own file Told left1 left2 out1 out2)
   stops (Ok x) s = tt
   stops (Err f) s = run_stops f (subst (λ (ls : List (List ℕ)). IsServeRefusal objects before Told left1 left2 out1 out2 ls journal now f) same s)

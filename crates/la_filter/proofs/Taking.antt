@@ -50,3 +50,8 @@ pub if_err_cut : {T : Type 0} (Is : Turn → Type 0) (Told : List (List ℕ) →
     → IfErr r (λ e. e ≡ fault.WriteFault) → TakesCut Is Told out1 out2 journal1 journal2 n → IfErr r (Breaks Is Told out1 out2 journal1 journal2 n)
 if_err_cut Is Told out1 out2 journal1 journal2 n (Ok x) e cut = tt
 if_err_cut Is Told out1 out2 journal1 journal2 n (Err f) e cut = subst (Breaks Is Told out1 out2 journal1 journal2 n) (sym e) cut
+
+-- a fault is given on as it is
+pub if_err_same : {T E : Type 0} (P : E → Type 0) (f : E) (r : Result T E) → IfErr r (λ e. e ≡ f) → P f → IfErr r P
+if_err_same P f (Ok x) e p = tt
+if_err_same P f (Err g) e p = subst P (sym e) p

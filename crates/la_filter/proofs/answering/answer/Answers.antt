@@ -1,45 +1,46 @@
-use Rattle.std.proofs.Common.{rules, List, ℕ, ◌≡◌, ◌⊎◌, ◌≢◌, ◌+◌, ◌<◌, ◌≤◌, ◌++◌, ◌∷◌, [], length, false, true, Some, IfOk, IfErr, OnOk, OnErr, ◌-◌, ◌*◌, ◌/◌, ◌%◌, Bool, nat_eq, nat_lt, slice_index_or, slice_set, bit_and, bit_or, Fits, w8, w32, w64, Bor, MutBor}
-use Rattle.std.specs.Io.KnownBytes.{Keeps}
-use Rattle.la_program.specs.Streams.{Writes, WritesPrefix}
+use Rattle.std.proofs.Common.{◌≡◌, ℕ, List, codes, IfErr, sym, subst, ◌∙◌, rules}
+use Rattle.std.specs.Io.KnownBytes.{Appends}
+use Rattle.la_program.specs.Streams.{AppendsPrefix}
 use Rattle.la_journal.specs.Lines.{lines}
-use Rattle.la_journal.specs.Durable.{IsSettled}
-use Rattle.la_lines.specs.declared.calls.TheConstants.{MAX_LINE}
-use Rattle.la_lines.specs.Calls.{called}
-use Rattle.la_lines.specs.Messages.{said_body}
-use Rattle.la_lines.specs.CallLines.{named}
-use Rattle.la_filter.specs.declared.error.NodeFault.TheVariants.{WriteFault, DiskFault}
-use Rattle.la_streams.specs.Notes.{refused_note, fault_line}
-use Rattle.la_streams.specs.Streams.{Tells, TellsAll}
+use Rattle.la_lines.specs.declared.error.LineError.TheVariants.{Fault}
+use Rattle.la_node.specs.Inputs.{IsInputRefusal}
 use Rattle.la_node.specs.Restarts.{kept_state}
-use Rattle.la_set.specs.Inclusion.{IsSubset}
-use Rattle.la_filter.specs.Turns.{Turn, is_note, is_elsewhere, IsKeptTurn, IsAnswered, IsTicked, IsCallTurn, IsTurnHere, IsTurn, is_stale, is_known}
-use Rattle.la_object.specs.Shelves.{answer_at}
-use Rattle.la_filter.specs.Said.{said_text, IsSaidAnswer, answer_by, IsSaidAgain}
-use Rattle.la_filter.specs.Serving.{Of, Takes, TakesCut, Breaks, TellsNothing}
+use Rattle.la_streams.specs.Notes.{refused_note}
+use Rattle.la_filter.specs.declared.error.NodeFault.TheVariants.{WriteFault}
+use Rattle.la_filter.proofs.Taking.{if_err_cut}
+use Rattle.la_filter.proofs.OneLine.{note_taken, fault_taken, starved_taken, starved_cut, ok_line, err_line}
 use Rattle.la_filter.proofs.answering.answer.Goals as goal
 
--- src/answering.rt:328:9
 pub returns-then-is_note-clause-ok : goal.returns-then-is_note-clause-ok
-returns-then-is_note-clause-ok g c = ?
+returns-then-is_note-clause-ok g c =
+    note_taken g.E.Write.contents g.E.Listener.refuses c.args.filter.now.shelf.objects (kept_state c.args.filter.now.node.machine.replicas c.args.filter.now.node.machine.node) c.args.number c.args.line.now c.requires.short c.args.errors.now (g.W.Write.contents c.args.output.now) (lines (g.D.Disk.seen c.args.filter.now.node.disk)) (sym c.is_note.ensures ∙ c.if-is_note.true)
 
--- src/answering.rt:337:13
-pub returns-in_err-refuse-in-Err-Memory-clause-err :
-    goal.returns-in_err-refuse-in-Err-Memory-clause-err
-returns-in_err-refuse-in-Err-Memory-clause-err g c = ?
-
--- src/answering.rt:306:1
 pub returns-in-Ok-clause-ok : goal.returns-in-Ok-clause-ok
-returns-in-Ok-clause-ok g c = ?
+returns-in-Ok-clause-ok g c =
+    ok_line g.E.Write.contents g.E.Listener.refuses c.args.filter.now.shelf.objects (kept_state c.args.filter.now.node.machine.replicas c.args.filter.now.node.machine.node) c.args.number c.args.line.now c.requires.short c.args.errors.now (g.W.Write.contents c.args.output.now) (lines (g.D.Disk.seen c.args.filter.now.node.disk)) (sym c.is_note.ensures ∙ c.if-is_note.false) (g.W.Write.contents c.call.new.output) (lines (g.D.Disk.seen c.call.new.filter.node.disk)) (kept_state c.call.new.filter.node.machine.replicas c.call.new.filter.node.machine.node)
+    _ _ c.in-Ok.ensures.ok c.call-call.ensures.says c.call.result c.call.ensures.ok
 
--- src/answering.rt:306:1
 pub returns-in-Ok-clause-err : goal.returns-in-Ok-clause-err
-returns-in-Ok-clause-err g c = ?
+returns-in-Ok-clause-err g c =
+    err_line g.E.Write.contents g.E.Listener.refuses c.args.filter.now.shelf.objects (kept_state c.args.filter.now.node.machine.replicas c.args.filter.now.node.machine.node) c.args.number c.args.line.now c.requires.short c.args.errors.now (g.W.Write.contents c.args.output.now) (lines (g.D.Disk.seen c.args.filter.now.node.disk)) (sym c.is_note.ensures ∙ c.if-is_note.false) (g.W.Write.contents c.call.new.output) (lines (g.D.Disk.seen c.call.new.filter.node.disk)) (kept_state c.call.new.filter.node.machine.replicas c.call.new.filter.node.machine.node)
+    _ _ c.in-Ok.ensures.ok c.call-call.ensures.says c.call.result c.call.ensures.err
 
--- src/answering.rt:306:1
 pub returns-in-Err-Fault-clause-ok : goal.returns-in-Err-Fault-clause-ok
-returns-in-Err-Fault-clause-ok g c = ?
+returns-in-Err-Fault-clause-ok g c =
+    let told = rw c.in-Err-Fault.field-0-is at c.tell_fault.ensures in
+    fault_taken g.E.Write.contents g.E.Listener.refuses c.args.filter.now.shelf.objects (kept_state c.args.filter.now.node.machine.replicas c.args.filter.now.node.machine.node) c.args.number c.args.line.now c.requires.short c.args.errors.now (g.W.Write.contents c.args.output.now) (lines (g.D.Disk.seen c.args.filter.now.node.disk)) (sym c.is_note.ensures ∙ c.if-is_note.false) c.tell_fault.new.errors c.in-Err-Fault.fault
+    (subst (IsInputRefusal c.args.line.now) c.in-Err-Fault.field-0-is c.in-Err-Fault.ensures.error) told
 
--- src/answering.rt:306:1
 pub returns-in_ok-refuse-in-Err-Memory-clause-ok :
     goal.returns-in_ok-refuse-in-Err-Memory-clause-ok
-returns-in_ok-refuse-in-Err-Memory-clause-ok g c = ?
+returns-in_ok-refuse-in-Err-Memory-clause-ok g c =
+    starved_taken g.E.Write.contents g.E.Listener.refuses c.args.filter.now.shelf.objects (kept_state c.args.filter.now.node.machine.replicas c.args.filter.now.node.machine.node) c.args.number c.args.line.now c.requires.short c.args.errors.now (g.W.Write.contents c.args.output.now) (lines (g.D.Disk.seen c.args.filter.now.node.disk)) (sym c.is_note.ensures ∙ c.if-is_note.false) (g.W.Write.contents c.refuse.new.output)
+    (subst (λ (own : ℕ). Appends (g.W.Write.contents c.args.output.now) (g.W.Write.contents c.refuse.new.output) (refused_note own c.args.number (codes "Memory"))) c.own.ensures c.in_ok-refuse-in-Err-Memory.ensures.ok)
+
+pub returns-in_err-refuse-in-Err-Memory-clause-err :
+    goal.returns-in_err-refuse-in-Err-Memory-clause-err
+returns-in_err-refuse-in-Err-Memory-clause-err g c =
+    let f : IfErr c.from_residual.result (λ e. e ≡ WriteFault) = search rules in
+    if_err_cut _ _ _ _ _ _ _ c.from_residual.result f
+    (starved_cut g.E.Write.contents g.E.Listener.refuses c.args.filter.now.shelf.objects (kept_state c.args.filter.now.node.machine.replicas c.args.filter.now.node.machine.node) c.args.number c.args.line.now c.requires.short c.args.errors.now (g.W.Write.contents c.args.output.now) (lines (g.D.Disk.seen c.args.filter.now.node.disk)) (sym c.is_note.ensures ∙ c.if-is_note.false) (g.W.Write.contents c.refuse.new.output)
+    (subst (λ (own : ℕ). AppendsPrefix (g.W.Write.contents c.args.output.now) (g.W.Write.contents c.refuse.new.output) (refused_note own c.args.number (codes "Memory"))) c.own.ensures c.in_err-refuse-in-Err-Memory.ensures.err))

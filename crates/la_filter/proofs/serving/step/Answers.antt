@@ -1,13 +1,10 @@
-use Rattle.std.proofs.Common.{rules, ◌≡◌, ◌≤◌, true, false, Ok, IfOk, IfErr, OnOk, ℕ, ◌+◌, ◌-◌, ◌*◌, ◌<◌, length, ◌/◌, ◌%◌, Bool, nat_eq, nat_lt, List, [], ◌∷◌, ◌++◌, slice_index_or, slice_set, bit_and, bit_or, Fits, w8, w32, w64, Bor, MutBor}
-use Rattle.std.specs.Io.KnownBytes.{IsAtEnd}
 use Rattle.la_journal.specs.Lines.{lines}
-use Rattle.la_journal.specs.Durable.{IsSettled}
-use Rattle.la_streams.specs.Streams.{ahead, TellsAll}
-use Rattle.la_set.specs.Inclusion.{IsSubset}
 use Rattle.la_node.specs.Restarts.{kept_state}
-use Rattle.la_filter.specs.Serving.{Steps, IsStepRefusal, Serves, IsServeRefusal}
+use Rattle.la_streams.specs.Streams.{ahead}
+use Rattle.la_filter.proofs.Stepping.{long_step}
 use Rattle.la_filter.proofs.serving.step.Goals as goal
 
--- src/serving.rt:21:1
 pub returns-in-Long-clause-ok : goal.returns-in-Long-clause-ok
-returns-in-Long-clause-ok g c = ?
+returns-in-Long-clause-ok g c =
+    let long = rw c.in-Long.is at c.in_ok-next.ensures.next in
+    long_step g.E.Write.contents g.E.Listener.refuses c.args.filter.now.shelf.objects (kept_state c.args.filter.now.node.machine.replicas c.args.filter.now.node.machine.node) c.args.number (ahead c.args.source.now (g.R.Read.remaining c.args.input.now)) (ahead c.next.new.self (g.R.Read.remaining c.next.new.reader)) c.args.errors.now c.tell_fault.new.errors long.0 long.1 long.3 (g.W.Write.contents c.args.output.now) (lines (g.D.Disk.seen c.args.filter.now.node.disk)) long.2 c.tell_fault.ensures
