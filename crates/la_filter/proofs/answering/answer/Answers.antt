@@ -41,6 +41,6 @@ pub returns-in_err-refuse-in-Err-Memory-clause-err :
     goal.returns-in_err-refuse-in-Err-Memory-clause-err
 returns-in_err-refuse-in-Err-Memory-clause-err g c =
     let f : IfErr c.from_residual.result (λ e. e ≡ WriteFault) = search rules in
-    if_err_cut _ _ _ _ _ _ _ c.from_residual.result f
+    if_err_cut _ _ _ _ _ _ (kept_state c.args.filter.now.node.machine.replicas c.args.filter.now.node.machine.node) c.from_residual.result f
     (starved_cut g.E.Write.contents g.E.Listener.refuses c.args.filter.now.shelf.objects (kept_state c.args.filter.now.node.machine.replicas c.args.filter.now.node.machine.node) c.args.number c.args.line.now c.requires.short c.args.errors.now (g.W.Write.contents c.args.output.now) (lines (g.D.Disk.seen c.args.filter.now.node.disk)) (sym c.is_note.ensures ∙ c.if-is_note.false) (g.W.Write.contents c.refuse.new.output)
     (subst (λ (own : ℕ). AppendsPrefix (g.W.Write.contents c.args.output.now) (g.W.Write.contents c.refuse.new.output) (refused_note own c.args.number (codes "Memory"))) c.own.ensures c.in_err-refuse-in-Err-Memory.ensures.err))
