@@ -1,11 +1,11 @@
 -- What a call comes to, by what a journal says of it.
-use Rattle.std.proofs.Common.{◌≡◌, ◌⊎◌, inl, inr, ℕ, Bool, true, false, List, Option, Some, None, option_map, refl, sym, ap, ◌∙◌, subst}
+use Rattle.std.proofs.Common.{◌≡◌, ◌⊎◌, inl, inr, ℕ, Bool, true, false, List, Option, Some, None, option_map, refl, sym, ap, ◌∙◌}
 use Rattle.std.proofs.lemmas.Option.{none-some, same_Some}
 use Rattle.la_lines.specs.Calls.{Call}
 use Rattle.la_lines.specs.CallLines.{named}
 use Rattle.la_node.specs.Given.{Given}
 use Rattle.la_node.specs.Nodes.{KeptState, acts, acts_by, step, answers}
-use Rattle.la_node.specs.CallLines.{CallLine, is_line, call_line, call_line_where, or_tick}
+use Rattle.la_node.specs.CallLines.{is_line, call_line, call_line_where, or_tick}
 
 -- an input's line is the one of its call
 pub line_where : (line : List ℕ) (b : Bool) (e : is_line line ≡ b) → b ≡ true → (or_tick (call_line_where line b e)).line ≡ line

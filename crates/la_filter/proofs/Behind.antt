@@ -1,9 +1,8 @@
 -- Lines that are taken one after another.
-use Rattle.std.proofs.Common.{◌≡◌, ◌⊎◌, ℕ, zero, suc, ◌+◌, ◌≤◌, Bool, true, false, List, [], ◌∷◌, ◌++◌, length, map, refl, sym, subst, ap, ◌∙◌, arith, append_assoc, append-nil, length-append, Option, Some, None, inl, inr}
-use Rattle.std.specs.List.{flat_map}
+use Rattle.std.proofs.Common.{◌≡◌, ◌⊎◌, ℕ, ◌+◌, false, List, [], ◌∷◌, ◌++◌, length, refl, sym, subst, ap, ◌∙◌, arith, append_assoc, append-nil, length-append, Option, Some, None, inl, inr}
 use Rattle.std.specs.Io.KnownBytes.{Appends, Keeps, Consumes, IsAtEnd, prepend_known}
 use Rattle.std.proofs.KnownBytes.{Appends-nil, Appends-trans, Appends-kept, Consumes-nil}
-use Rattle.std.proofs.lemmas.List.{map-append, take_all}
+use Rattle.std.proofs.lemmas.List.{map-append}
 use Rattle.std.proofs.lemmas.List.Elements.{All-nil}
 use Rattle.std.proofs.lemmas.Grind.{flat_map-append}
 use Rattle.la_object.specs.declared.kind.Kind.{Kind}
@@ -15,7 +14,7 @@ use Rattle.la_streams.proofs.TellingOn.{tells_on}
 use Rattle.la_filter.specs.declared.error.NodeFault.{NodeFault}
 use Rattle.la_filter.specs.declared.error.NodeFault.TheVariants as fault
 use Rattle.la_filter.specs.Turns.{Turn, IsTurn}
-use Rattle.la_filter.specs.Serving.{AreTurns, IsStep, Takes, TakesCut, TakesNone, Steps, IsStepRefusal, Serves, ServesCut, ServesClosed, IsServeRefusal, lines_of, written, kept, told, cut_told}
+use Rattle.la_filter.specs.Serving.{AreTurns, IsStep, Takes, TakesCut, TakesNone, Steps, IsStepRefusal, Serves, ServesCut, IsServeRefusal, lines_of, written, kept, told, cut_told}
 use Rattle.la_filter.proofs.Turning.{turns_snoc}
 
 -- the turns so far

@@ -1,5 +1,5 @@
 -- A line's turn, by what became of it.
-use Rattle.std.proofs.Common.{◌≡◌, ℕ, ◌≤◌, ◌||◌, Bool, true, false, List, [], ◌∷◌, ◌++◌, length, codes, refl, sym, subst, ap, ◌∙◌, append-nil, Option, Some, None, Result, Ok, Err, OnOk, IfErr}
+use Rattle.std.proofs.Common.{◌≡◌, ℕ, ◌≤◌, ◌||◌, Bool, true, false, List, [], length, codes, refl, sym, subst, ap, ◌∙◌, append-nil, Option, Some, Result, OnOk, IfErr}
 use Rattle.std.specs.Io.KnownBytes.{Appends}
 use Rattle.std.proofs.KnownBytes.{Appends-nil}
 use Rattle.la_object.specs.declared.kind.Kind.{Kind}
@@ -15,7 +15,7 @@ use Rattle.la_node.specs.Inputs.{IsInputRefusal}
 use Rattle.la_streams.specs.Notes.{refused_note, fault_line}
 use Rattle.la_streams.specs.Streams.{Tells, TellsAll}
 use Rattle.la_filter.specs.declared.error.NodeFault.{NodeFault}
-use Rattle.la_filter.specs.Turns.{Turn, only, faulty, own_of, is_note, is_elsewhere, is_stale, IsAnswered, IsTicked, IsTurnHere, IsCallTurn, IsTurn}
+use Rattle.la_filter.specs.Turns.{Turn, faulty, own_of, is_note, is_elsewhere, is_stale, IsAnswered, IsTicked, IsTurnHere, IsCallTurn, IsTurn}
 use Rattle.la_filter.specs.Serving.{Of, Takes, TakesCut, Breaks, TellsNothing}
 use Rattle.la_filter.proofs.Taking.{takes_only, cut_only, takes_more, cut_more, on_ok_more, if_err_more}
 use Rattle.la_filter.proofs.Turns.{note_turn, fault_turn, starved_turn, call_turn, passed_turn}

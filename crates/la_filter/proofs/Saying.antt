@@ -1,5 +1,5 @@
 -- A turn by what is written of its line, where the journal does not gain it.
-use Rattle.std.proofs.Common.{◌≡◌, ◌⊎◌, ℕ, List, refl, sym, subst, ap, ◌∙◌, Option, Some, None, inl, inr}
+use Rattle.std.proofs.Common.{◌≡◌, ℕ, List, refl, sym, subst, ap, ◌∙◌, inl, inr}
 use Rattle.la_set.specs.Histories.{Histories}
 use Rattle.la_object.specs.declared.kind.Kind.{Kind}
 use Rattle.la_object.specs.declared.query.Query.{Query}
@@ -7,7 +7,7 @@ use Rattle.la_object.specs.Shelves.{ShelfState, answer_at}
 use Rattle.la_node.specs.Nodes.{KeptState}
 use Rattle.la_filter.specs.declared.said.Said.{Said}
 use Rattle.la_filter.specs.declared.said.Said.TheVariants as said
-use Rattle.la_filter.specs.Turns.{Turn, only, own_of, answered, IsAnswered, IsTicked}
+use Rattle.la_filter.specs.Turns.{only, own_of, answered, IsAnswered, IsTicked}
 use Rattle.la_filter.specs.Said.{said_text, IsSaidAnswer, answer_by, IsSaidAgain}
 
 -- a shelf by its parts

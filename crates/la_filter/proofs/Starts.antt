@@ -1,8 +1,8 @@
 -- What a start leads to.
-use Rattle.std.proofs.Common.{◌≡◌, ◌⊎◌, ℕ, zero, suc, List, [], refl, sym, subst, ap, ◌∙◌, Option, Some, None, option_map, Result, Ok, Err, OnOk, IfErr, inl, inr}
+use Rattle.std.proofs.Common.{◌≡◌, ℕ, zero, suc, List, [], refl, sym, subst, ap, ◌∙◌, Option, Some, None, option_map, Result, Ok, Err, OnOk, IfErr, inr}
 use Rattle.std.proofs.lemmas.Option.{none-some}
 use Rattle.la_set.specs.ObjectOps.{ObjectOp, update_of}
-use Rattle.la_set.specs.Histories.{Histories, empty, history, object_op_number}
+use Rattle.la_set.specs.Histories.{Histories, empty, object_op_number}
 use Rattle.la_set.specs.Inclusion.{IsSubset}
 use Rattle.la_set.proofs.lemmas.SetHistories.{history-empty}
 use Rattle.la_object.specs.declared.kind.Kind.{Kind}

@@ -1,7 +1,6 @@
 -- What one line comes to, part by part.
-use Rattle.std.proofs.Common.{◌≡◌, ◌⊎◌, ℕ, Bool, true, false, List, [], ◌∷◌, ◌++◌, refl, sym, subst, ap, ◌∙◌, append-nil, Option, Some, None, Result, Ok, Err, OnOk, IfErr, inl, inr}
-use Rattle.std.specs.Io.KnownBytes.{Appends, Keeps}
-use Rattle.std.proofs.KnownBytes.{Appends-nil, Keeps-refl}
+use Rattle.std.proofs.Common.{◌≡◌, ℕ, List, refl, sym, subst, append-nil, Option, Result, Ok, Err, OnOk, IfErr}
+use Rattle.std.specs.Io.KnownBytes.{Appends}
 use Rattle.la_program.specs.Streams.{AppendsPrefix}
 use Rattle.la_node.specs.Nodes.{KeptState}
 use Rattle.la_filter.specs.declared.error.NodeFault.{NodeFault}

@@ -1,5 +1,5 @@
 -- One turn behind others.
-use Rattle.std.proofs.Common.{◌≡◌, ℕ, ◌+◌, List, [], ◌∷◌, ◌++◌, length, refl, sym, subst, ap, ◌∙◌, arith, Option, inl, inr}
+use Rattle.std.proofs.Common.{◌≡◌, ℕ, ◌+◌, List, [], ◌∷◌, ◌++◌, length, refl, subst, arith}
 use Rattle.la_object.specs.declared.kind.Kind.{Kind}
 use Rattle.la_node.specs.Nodes.{KeptState}
 use Rattle.la_filter.specs.Turns.{Turn, IsTurn}

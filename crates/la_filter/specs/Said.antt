@@ -13,7 +13,6 @@ use Rattle.la_node.specs.Nodes.{KeptState}
 use Rattle.la_streams.specs.Notes.{answered_note, refused_note, mail_text}
 use Rattle.la_filter.specs.declared.said.Said.{Said}
 use Rattle.la_filter.specs.declared.said.Said.TheVariants as said
-use Rattle.la_filter.specs.Turns.{own_of}
 
 -- what is written, of line k
 abbrev pub said_text : (own k : ℕ) → Said → List ℕ

@@ -1,5 +1,5 @@
 -- What a line comes to: what is written of it, what the journal gains, and the state after it.
-use Rattle.std.specs.Prelude.{◌≡◌, ◌≢◌, ◌⊎◌, ℕ, ◌-◌, nat_lt, ◌==◌, Bool, true, false, not, ◌&&◌, ◌||◌, List, [], ◌∷◌, ◌++◌, codes, length, Option, Some, None, Result, Ok, Err, if◌then◌else◌}
+use Rattle.std.specs.Prelude.{◌≡◌, ◌⊎◌, ℕ, ◌-◌, nat_lt, ◌==◌, Bool, true, false, not, ◌&&◌, ◌||◌, List, [], ◌∷◌, ◌++◌, codes, length, Option, Some, None, if◌then◌else◌}
 use Rattle.la_set.specs.declared.counts.Counts.{Counts}
 use Rattle.la_set.specs.Histories.{Histories, updates}
 use Rattle.la_set.specs.Counts.{counts_of}
@@ -20,7 +20,7 @@ use Rattle.la_lines.specs.declared.calls.TheConstants.{MAX_LINE}
 use Rattle.la_lines.specs.declared.error.LineFault.{LineFault}
 use Rattle.la_lines.specs.declared.error.LineFault.TheVariants.{TooLong}
 use Rattle.la_lines.specs.declared.error.LineError.TheVariants.{Fault}
-use Rattle.la_lines.specs.Messages.{Message, Body, Offer, Yes, No, Tell}
+use Rattle.la_lines.specs.Messages.{Body, Offer, Yes, No, Tell}
 use Rattle.la_lines.specs.Calls.{Call, Submit, Decide, Ask, Tick, Receive}
 use Rattle.la_lines.specs.CallLines.{named}
 use Rattle.la_node.specs.declared.error.NodeError.{NodeError}

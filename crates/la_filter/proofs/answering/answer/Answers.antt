@@ -1,8 +1,7 @@
-use Rattle.std.proofs.Common.{◌≡◌, ℕ, List, codes, IfErr, sym, subst, ◌∙◌, rules}
+use Rattle.std.proofs.Common.{◌≡◌, ℕ, codes, IfErr, sym, subst, ◌∙◌, rules}
 use Rattle.std.specs.Io.KnownBytes.{Appends}
 use Rattle.la_program.specs.Streams.{AppendsPrefix}
 use Rattle.la_journal.specs.Lines.{lines}
-use Rattle.la_lines.specs.declared.error.LineError.TheVariants.{Fault}
 use Rattle.la_node.specs.Inputs.{IsInputRefusal}
 use Rattle.la_node.specs.Restarts.{kept_state}
 use Rattle.la_streams.specs.Notes.{refused_note}

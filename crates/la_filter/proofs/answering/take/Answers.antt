@@ -1,4 +1,4 @@
-use Rattle.std.proofs.Common.{◌≡◌, length, refl, sym, ap, ◌∙◌, rules, IfErr}
+use Rattle.std.proofs.Common.{◌≡◌, length, refl, ap, ◌∙◌, rules, IfErr}
 use Rattle.std.specs.Io.KnownBytes.{Appends}
 use Rattle.la_set.specs.Histories.{updates}
 use Rattle.la_program.specs.Streams.{AppendsPrefix}

@@ -1,4 +1,4 @@
-use Rattle.std.proofs.Common.{◌≡◌, ℕ, List, IfErr, subst, rules}
+use Rattle.std.proofs.Common.{◌≡◌, ℕ, IfErr, subst, rules}
 use Rattle.std.specs.Io.KnownBytes.{Appends}
 use Rattle.la_program.specs.Streams.{AppendsPrefix}
 use Rattle.la_node.specs.Restarts.{kept_state}

@@ -1,9 +1,8 @@
-use Rattle.std.proofs.Common.{◌++◌, ◌∷◌, [], ◌∙◌, ap, inl, inr, sym, ◌⊎◌, ◌≡◌, None}
+use Rattle.std.proofs.Common.{◌++◌, ◌∷◌, [], ◌∙◌, ap}
 use Rattle.la_journal.specs.Lines.{lines}
 use Rattle.la_lines.specs.Calls.{called}
 use Rattle.la_node.specs.CallLines.{or_tick, call_line}
-use Rattle.la_node.specs.Restarts.{kept_state}
-use Rattle.la_filter.proofs.Acting.{acted, refused, line_of_input, cause_of}
+use Rattle.la_filter.proofs.Acting.{acted, line_of_input, cause_of}
 use Rattle.la_filter.proofs.keeping.keep.Goals as goal
 
 pub returns-in-Ok-clause-outcome : goal.returns-in-Ok-clause-outcome

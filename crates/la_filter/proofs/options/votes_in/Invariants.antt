@@ -1,4 +1,4 @@
-use Rattle.std.proofs.Common.{◌≡◌, ◌≤◌, length}
+use Rattle.std.proofs.Common.{◌≤◌}
 use Rattle.la_filter.proofs.options.votes_in.Given as goal
 
 abbrev pub invariant-loop-value : goal.invariant-loop-value
