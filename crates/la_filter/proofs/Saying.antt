@@ -1,22 +1,12 @@
 -- A turn by what is written of its line, where the journal does not gain it.
-use Rattle.std.proofs.Common.{◌≡◌, ℕ, List, refl, sym, subst, ap, ◌∙◌, inl, inr}
-use Rattle.la_set.specs.Histories.{Histories}
+use Rattle.std.proofs.Common.{ℕ, List, refl, sym, ap, ◌∙◌, inl, inr}
 use Rattle.la_object.specs.declared.kind.Kind.{Kind}
 use Rattle.la_object.specs.declared.query.Query.{Query}
-use Rattle.la_object.specs.Shelves.{ShelfState, answer_at}
 use Rattle.la_node.specs.Nodes.{KeptState}
 use Rattle.la_filter.specs.declared.said.Said.{Said}
 use Rattle.la_filter.specs.declared.said.Said.TheVariants as said
 use Rattle.la_filter.specs.Turns.{only, own_of, answered, IsAnswered, IsTicked}
 use Rattle.la_filter.specs.Said.{said_text, IsSaidAnswer, answer_by, IsSaidAgain}
-
--- a shelf by its parts
-pub by_parts : (s : ShelfState) (view : Histories) (objects : List (ℕ × Kind)) (own object : ℕ) (query : Query) (x : Said)
-    → s.view ≡ view → s.objects ≡ objects → IsSaidAnswer own object (answer_at s object query) x
-    → IsSaidAnswer own object (answer_at (record { view = view; objects = objects }) object query) x
-by_parts s view objects own object query x e f is =
-    subst (λ (v : Histories). IsSaidAnswer own object (answer_at (record { view = v; objects = objects }) object query) x) e
-    (subst (λ (os : List (ℕ × Kind)). IsSaidAnswer own object (answer_at (record { view = s.view; objects = os }) object query) x) f is)
 
 pub is_answered : (objects : List (ℕ × Kind)) (n : KeptState) (k object : ℕ) (query : Query) (line : List ℕ) (s : Said)
     → IsSaidAnswer (own_of n) object (answer_by objects n object query) s → IsAnswered objects n k object query (only n line (said_text (own_of n) k s))

@@ -57,12 +57,9 @@ module _ (objects : List (ℕ × Kind)) (n : KeptState) (k : ℕ) where
   pub starved_turn : (line : List ℕ) → length line ≤ MAX_LINE → is_note line ≡ false → IsTurn objects n k (refused n k line Memory)
   starved_turn line le is = other_turn (refused n k line Memory) le is (inr (inr refl))
 
-  -- a call that is passed over, and one that is not
+  -- a call that is passed over
   pub passed_turn : (line : List ℕ) (call : Call) (b : Bool) → b ≡ true → is_elsewhere n call || is_stale n call ≡ b → IsCallTurn objects n k call (only n line [])
   passed_turn line call b so is = subst (λ b. OneOf b (only n line [] ≡ only n line []) (IsTurnHere objects n k call (only n line []))) (sym (is ∙ so)) refl
-
-  pub here_turn : (line : List ℕ) (call : Call) → is_elsewhere n call || is_stale n call ≡ false → (t : Turn) → Of line (IsTurnHere objects n k call) t → Of line (IsCallTurn objects n k call) t
-  here_turn line call is t (same, turn) = (same, subst (λ b. OneOf b (t ≡ only n t.line []) (IsTurnHere objects n k call t)) (sym is) turn)
 
 -- ## A call that is kept
 
