@@ -2,3 +2,4 @@ pub mod Sets
 pub mod Filling
 pub mod LiveTags
 pub mod Held
+pub mod Hashed

@@ -7,8 +7,10 @@
 #![tactic(auto)]
 
 mod chain;
+mod gone;
 mod live;
 mod or_set;
+mod puts;
 mod tag_set;
 mod tag_tree;
 

@@ -7,14 +7,14 @@ use crate::tag_set::TagSet;
 use la_object::{Items, ObserveError};
 use la_set::{Tags, UpdateId};
 use std::alloc::{AllocError, Global};
-use std::collections::BTreeMap;
+use std::collections::HashMap;
 use std::marker::Model;
 
 /// The live tags, by element. An element stands here only while it has one.
 #[derive(Drop)]
 pub struct Live {
     alloc: Global,
-    by_element: BTreeMap<u64, TagSet>,
+    by_element: HashMap<u64, TagSet>,
 }
 
 impl Model for Live {
@@ -37,7 +37,7 @@ impl Live {
     {
         Live {
             alloc,
-            by_element: BTreeMap::new(alloc),
+            by_element: HashMap::new(alloc),
         }
     }
 
@@ -62,11 +62,12 @@ impl Live {
         ensures answer { IfOk result (λ elements. elements ≡ map.keys self.now) }
         ensures whole { IsWhole self.now }
     {
-        let mut elements = Items::new(self.alloc);
+        let mut elements = Vec::new(self.alloc);
         for element in self.by_element.keys() {
             elements.push(*element)?;
         }
-        Ok(elements)
+        elements.sort_unstable();
+        Ok(Items::from(elements))
     }
 
     /// The tags of an element, in ascending order.

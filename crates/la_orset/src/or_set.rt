@@ -6,8 +6,10 @@ ghost use Rattle.la_object.specs.OrSet.{with_element, with_ids};
 ghost use Rattle.la_object.specs.Objects.{start, after};
 ghost use Rattle.la_orset.specs.Index.{IsIndex};
 
+use crate::gone::Gone;
 use crate::live::Live;
-use la_object::{Adds, Answer, Ids, Kind, ObserveError, Query, Replicated, State};
+use crate::puts::Puts;
+use la_object::{Answer, Kind, ObserveError, Query, Replicated, State};
 use la_set::{Op, Tags, Update, UpdateId};
 use std::alloc::{AllocError, Global};
 
@@ -20,8 +22,8 @@ use std::alloc::{AllocError, Global};
 #[derive(Drop)]
 pub struct OrSet {
     alloc: Global,
-    puts: Adds,
-    gone: Ids,
+    puts: Puts,
+    gone: Gone,
     live: Live,
     ghost indexed: { IsIndex puts gone live },
 }
@@ -33,8 +35,8 @@ impl OrSet {
     {
         OrSet {
             alloc,
-            puts: Adds::new(alloc),
-            gone: Ids::new(alloc),
+            puts: Puts::new(alloc),
+            gone: Gone::new(alloc),
             live: Live::new(alloc),
         }
     }
@@ -72,7 +74,7 @@ impl OrSet {
 }
 
 // Takes the ids from a place on out of the live tags.
-fn take_out(puts: &Adds, live: &mut Live, ids: &Tags, place: usize)
+fn take_out(puts: &Puts, live: &mut Live, ids: &Tags, place: usize)
     ensures { (gone : IdSet) → IsIndex puts.now gone live.old
         → IsIndex puts.now (with_ids gone (drop place ids.now)) live.new }
 {
