@@ -19,23 +19,19 @@ use Rattle.la_object.specs.OrSet.{with_ids}
 use Rattle.la_object.proofs.lemmas.IdOrder.{id_cmp_total, id_cmp-IsAntisymmetric}
 use Rattle.la_object.proofs.lemmas.IdMaps.{one_more, one_less, with_ids-nil, with_ids-more, contains-with_ids, same_ids}
 use Rattle.la_object.proofs.lemmas.Sorted.{get-lookup, one_put, one_taken}
-use Rattle.la_orset.specs.Index.{set_of, TagMap}
+use Rattle.la_orset.specs.Index.{id_eq, set_of, TagMap}
 use Rattle.la_orset.proofs.Sets.{same_members, contains-set_of, keys-set_of, sorted-entries, sorted-units}
 use Rattle.la_orset.proofs.LiveTags.{changed_from, same-id}
-
--- the tests of keys, as `==` makes them
-abbrev pub id_eq : UpdateId → UpdateId → Bool
-id_eq a b = eqb a.replica b.replica && eqb a.number b.number
 
 then_tied : (r s : Ordering) → is_eq (ordering_then r s) ≡ (is_eq r && is_eq s)
 then_tied Less s = refl
 then_tied Equal s = refl
 then_tied Greater s = refl
 
-id_test : (q k : UpdateId) → id_eq q k ≡ is_at (id_cmp q) k
+pub id_test : (q k : UpdateId) → id_eq q k ≡ is_at (id_cmp q) k
 id_test q k = sym (then_tied (nat_cmp q.replica k.replica) (nat_cmp q.number k.number) ∙ (λ i. unsigned_tied q.replica k.replica i && unsigned_tied q.number k.number i))
 
-id_tests : ◌≡◌ {A = UpdateId → UpdateId → Bool} id_eq (λ q k. is_at (id_cmp q) k)
+pub id_tests : ◌≡◌ {A = UpdateId → UpdateId → Bool} id_eq (λ q k. is_at (id_cmp q) k)
 id_tests = λ i q k. id_test q k i
 
 nat_tests : ◌≡◌ {A = ℕ → ℕ → Bool} eqb (λ q k. is_at (nat_cmp q) k)
@@ -74,7 +70,7 @@ id_less ks ls id h = one_less ks ls id (any_by_order ks ls id false h)
 
 -- ## Distinct keys
 
-absent : {K X : Type 0} (e : K → K → Bool) (k : K) (es : List (K × X)) → AllByRecursion (λ y. e k y ≡ false) (keys_of es) → lookup (e k) es ≡ None
+pub absent : {K X : Type 0} (e : K → K → Bool) (k : K) (es : List (K × X)) → AllByRecursion (λ y. e k y ≡ false) (keys_of es) → lookup (e k) es ≡ None
 absent e k [] h = refl
 absent e k (f ∷ es) h = ap (λ b. cond b (Some f.1) (lookup (e k) es)) h.0 ∙ absent e k es h.1
 

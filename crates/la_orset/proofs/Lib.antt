@@ -3,3 +3,4 @@ pub mod Filling
 pub mod LiveTags
 pub mod Held
 pub mod Hashed
+pub mod Lists

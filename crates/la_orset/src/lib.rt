@@ -11,6 +11,7 @@ mod gone;
 mod live;
 mod or_set;
 mod puts;
+mod tag_list;
 mod tag_set;
 mod tag_tree;
 

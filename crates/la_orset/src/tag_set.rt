@@ -4,6 +4,7 @@ ghost use Rattle.la_object.specs.Refusals.{IsObserveRefusal};
 ghost use Rattle.la_orset.specs.Index.{has_any};
 ghost use Rattle.la_orset.specs.Few.{tags_of, only_tag};
 
+use crate::tag_list::TagList;
 use crate::tag_tree::TagTree;
 use la_object::ObserveError;
 use la_set::{Tags, UpdateId};
@@ -11,7 +12,7 @@ use std::alloc::{AllocError, Global};
 use std::marker::Model;
 use std::mem;
 
-/// The live tags of one element. One alone needs no tree.
+/// The live tags of one element: one alone, a few in a list, or many in a tree.
 #[derive(Drop)]
 pub struct TagSet {
     alloc: Global,
@@ -21,6 +22,7 @@ pub struct TagSet {
 #[derive(Drop)]
 enum Few {
     One(UpdateId),
+    List(TagList),
     Tree(TagTree),
 }
 
@@ -42,7 +44,7 @@ impl TagSet {
     {
         TagSet {
             alloc,
-            tags: Few::Tree(TagTree::new(alloc)),
+            tags: Few::List(TagList::new(alloc)),
         }
     }
 
@@ -52,6 +54,7 @@ impl TagSet {
     {
         match &self.tags {
             Few::One(_) => true,
+            Few::List(list) => list.has_any(),
             Few::Tree(tree) => tree.has_any(),
         }
     }
@@ -84,6 +87,7 @@ impl TagSet {
     {
         match &self.tags {
             Few::One(id) => only(alloc, *id),
+            Few::List(list) => list.tags(alloc),
             Few::Tree(tree) => tree.tags(alloc),
         }
     }
@@ -96,26 +100,52 @@ fn with_tag(alloc: Global, tags: Few, id: UpdateId) -> (Few, Result<(), AllocErr
 {
     match tags {
         Few::One(there) => match pair(alloc, there, id) {
-            Ok(tree) => (Few::Tree(tree), Ok(())),
+            Ok(list) => (Few::List(list), Ok(())),
             Err(refused) => (Few::One(there), Err(refused)),
         },
+        Few::List(list) => with_more(alloc, list, id),
         Few::Tree(mut tree) => {
-            if !tree.has_any() {
-                return (Few::One(id), Ok(()));
-            }
             let result = tree.insert(id);
             (Few::Tree(tree), result)
         }
     }
 }
 
-// A tree of one tag and another.
-fn pair(alloc: Global, one: UpdateId, other: UpdateId) -> Result<TagTree, AllocError>
-    ensures { IfOk result (λ tree. tree ≡ map.insert (only_tag one) other tt) }
+// A list of one tag and another.
+fn pair(alloc: Global, one: UpdateId, other: UpdateId) -> Result<TagList, AllocError>
+    ensures { IfOk result (λ list. list ≡ map.insert (only_tag one) other tt) }
 {
-    let mut tree = TagTree::new(alloc);
-    tree.insert(one)?;
-    tree.insert(other)?;
+    let mut list = TagList::new(alloc);
+    list.insert(one)?;
+    list.insert(other)?;
+    Ok(list)
+}
+
+// A list with one more, or as it was where memory is refused. The first alone needs no list, and
+// more than a `Remove` may name are kept in a tree.
+fn with_more(alloc: Global, mut list: TagList, id: UpdateId) -> (Few, Result<(), AllocError>)
+    ensures ok { OnOk result.1 (tags_of result.0 ≡ map.insert list id tt) }
+    ensures err { OnErr result.1 (tags_of result.0 ≡ list) }
+{
+    if !list.has_any() {
+        return (Few::One(id), Ok(()));
+    }
+    if !list.is_full() {
+        let result = list.insert(id);
+        return (Few::List(list), result);
+    }
+    match grown(alloc, &list, id) {
+        Ok(tree) => (Few::Tree(tree), Ok(())),
+        Err(refused) => (Few::List(list), Err(refused)),
+    }
+}
+
+// A tree of a list's tags and one more.
+fn grown(alloc: Global, list: &TagList, id: UpdateId) -> Result<TagTree, AllocError>
+    ensures { IfOk result (λ tree. tree ≡ map.insert list.now id tt) }
+{
+    let mut tree = list.tree(alloc)?;
+    tree.insert(id)?;
     Ok(tree)
 }
 
@@ -126,9 +156,13 @@ fn without(alloc: Global, tags: Few, id: UpdateId) -> Few
     match tags {
         Few::One(there) => {
             if there == id {
-                return Few::Tree(TagTree::new(alloc));
+                return Few::List(TagList::new(alloc));
             }
             Few::One(there)
+        }
+        Few::List(mut list) => {
+            list.remove(id);
+            Few::List(list)
         }
         Few::Tree(mut tree) => {
             tree.remove(id);

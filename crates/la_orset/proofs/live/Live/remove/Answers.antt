@@ -38,6 +38,15 @@ invariant_of-self-then-not-has_any-2 c =
     still_whole (map.from_entries es) (map.from_entries new) x None
     (λ y. second y ∙ ap (cond (is_at (nat_cmp x) y) None) (first y) ∙ twice (is_at (nat_cmp x) y) None (Some w) _) c.self.invariant whole-none
 
+pub invariant_of-self-then-not-has_any-3 : goal.invariant_of-self-then-not-has_any-3
+invariant_of-self-then-not-has_any-3 c =
+    let es = c.self.inside.by_element.entries in let x = c.args.element in let w = c.remove.new.self in
+    let mid = (c.get_mut.follows.lender w).entries in let new = c.remove-then-not-has_any.new.self.entries in
+    let first = nat_changed es mid x (Some w) ((c.get_mut.follows.holds w).3 (subst IsSome c.in-Some.ensures.value refl)).0 in
+    let second = nat_changed mid new x None c.remove-then-not-has_any.ensures.updates.0 in
+    still_whole (map.from_entries es) (map.from_entries new) x None
+    (λ y. second y ∙ ap (cond (is_at (nat_cmp x) y) None) (first y) ∙ twice (is_at (nat_cmp x) y) None (Some w) _) c.self.invariant whole-none
+
 pub returns-then-not-has_any : goal.returns-then-not-has_any
 returns-then-not-has_any c =
     let es = c.self.inside.by_element.entries in let x = c.args.element in let w = c.remove.new.self in
