@@ -10,7 +10,7 @@ use std::alloc::{AllocError, Global};
 use std::collections::HashMap;
 use std::marker::Model;
 
-/// The live tags, by element. An element stands here only while it has one.
+/// The live tags, by element, which is found by hash. An element stands here only while it has one.
 #[derive(Drop)]
 pub struct Live {
     alloc: Global,
@@ -41,7 +41,7 @@ impl Live {
         }
     }
 
-    /// Whether an element has a tag, at logarithmic cost.
+    /// Whether an element has a tag, at constant cost.
     pub fn has(&self, element: u64) -> bool
         ensures answer { result ≡ map.contains_key self.now element }
         ensures whole { IsWhole self.now }
@@ -57,7 +57,7 @@ impl Live {
         self.by_element.len()
     }
 
-    /// The elements that have a tag, in ascending order, in one pass over them.
+    /// The elements that have a tag, sorted into ascending order.
     pub fn elements(&self) -> Result<Items, AllocError>
         ensures answer { IfOk result (λ elements. elements ≡ map.keys self.now) }
         ensures whole { IsWhole self.now }
@@ -81,7 +81,7 @@ impl Live {
         }
     }
 
-    /// Puts a tag of an element in, at logarithmic cost. After a refusal nothing has changed.
+    /// Puts a tag of an element in. After a refusal nothing has changed.
     pub fn insert(&mut self, element: u64, id: UpdateId) -> Result<(), AllocError>
         ensures ok { OnOk result
             (HasTags self.old element (map.insert (tags_at self.old element) id tt) self.new) }
@@ -97,7 +97,7 @@ impl Live {
         Ok(())
     }
 
-    /// Takes a tag of an element out, at logarithmic cost and without memory.
+    /// Takes a tag of an element out, without memory.
     pub fn remove(&mut self, element: u64, id: UpdateId)
         ensures { HasTags self.old element (map.remove (tags_at self.old element) id) self.new }
     {

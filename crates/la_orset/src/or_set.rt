@@ -16,9 +16,10 @@ use std::alloc::{AllocError, Global};
 /// An observed-remove set: an element is there where some `Put` of it has an id that no `Remove`
 /// named, whichever of them came first.
 ///
-/// With e elements and t tags, absorbing costs O(log t) for the update and each tag that it names,
-/// `Has` O(log e), `Size` is constant, `Items` O(e), and `observed` O(log e) and the element's own
-/// tags.
+/// Elements and ids are found by hash, so that absorbing costs the same for the update and each tag
+/// that it names, but for growth, and so does `Has`; `Size` is constant. With e elements `Items`
+/// sorts them, in O(e log e); `observed` goes through the element's own tags. Elements that were
+/// chosen to share a hash take longer.
 #[derive(Drop)]
 pub struct OrSet {
     alloc: Global,

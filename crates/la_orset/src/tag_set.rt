@@ -59,8 +59,7 @@ impl TagSet {
         }
     }
 
-    /// Puts a tag in, at logarithmic cost; the first takes no memory. After a refusal nothing has
-    /// changed.
+    /// Puts a tag in; the first takes no memory. After a refusal nothing has changed.
     pub fn insert(&mut self, id: UpdateId) -> Result<(), AllocError>
         ensures ok { OnOk result (self.new ≡ map.insert self.old id tt) }
         ensures err { OnErr result (self.new ≡ self.old) }
@@ -71,7 +70,7 @@ impl TagSet {
         result
     }
 
-    /// Takes a tag out, at logarithmic cost and without memory.
+    /// Takes a tag out, without memory.
     pub fn remove(&mut self, id: UpdateId)
         ensures { self.new ≡ map.remove self.old id }
     {
@@ -79,7 +78,7 @@ impl TagSet {
         self.tags = without(self.alloc, tags, id);
     }
 
-    /// The tags in ascending order, in one pass. `TooManyTags` comes exactly where they are more than
+    /// The tags in ascending order. `TooManyTags` comes exactly where they are more than
     /// a `Remove` may name; up to [`INLINE_TAGS`](la_set::INLINE_TAGS) of them take no memory.
     pub fn tags(&self, alloc: Global) -> Result<Tags, ObserveError>
         ensures ok { IfOk result (λ tags. tags ≡ map.keys self.now) }
