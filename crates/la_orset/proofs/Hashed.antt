@@ -57,7 +57,7 @@ id_taken es fs k h = one_taken id_cmp_total id_cmp-IsAntisymmetric es fs k (by_o
 pub id_any : (ks : List UpdateId) (q : UpdateId) → set.contains (set.from_list {R = id_cmp} ks) q ≡ list_any (id_eq q) ks
 id_any ks q = set.contains-from_list id_cmp_total ks q ∙ sym (ap (λ t. list_any (t q) ks) id_tests)
 
-pub any_by_order : (ks ls : List UpdateId) (id : UpdateId) (b : Bool) → ((q : UpdateId) → list_any (id_eq q) ls ≡ cond (id_eq id q) b (list_any (id_eq q) ks)) → (q : UpdateId) → list_any (is_at (id_cmp q)) ls ≡ cond (is_at (id_cmp id) q) b (list_any (is_at (id_cmp q)) ks)
+any_by_order : (ks ls : List UpdateId) (id : UpdateId) (b : Bool) → ((q : UpdateId) → list_any (id_eq q) ls ≡ cond (id_eq id q) b (list_any (id_eq q) ks)) → (q : UpdateId) → list_any (is_at (id_cmp q)) ls ≡ cond (is_at (id_cmp id) q) b (list_any (is_at (id_cmp q)) ks)
 any_by_order ks ls id b h =
     let P : (UpdateId → UpdateId → Bool) → Type 0 = λ t. (q : UpdateId) → list_any (t q) ls ≡ cond (t id q) b (list_any (t q) ks) in
     subst P id_tests h

@@ -16,12 +16,12 @@ use Rattle.la_set.specs.declared.update.UpdateId.{UpdateId}
 use Rattle.la_set.specs.Ids.{IsBelow}
 use Rattle.la_set.specs.Tags.{with_tag}
 use Rattle.la_set.proofs.lemmas.IdOrder.{below-cmp}
-use Rattle.la_set.proofs.lemmas.TagPlaces.{with_tag-ascending, with_tag-members, members-with_tag}
+use Rattle.la_set.proofs.lemmas.TagPlaces.{with_tag-members, members-with_tag}
 use Rattle.la_object.specs.IdOrder.{id_cmp}
 use Rattle.la_object.proofs.lemmas.IdOrder.{id_cmp_total, id_cmp-IsAntisymmetric}
 use Rattle.la_orset.specs.Index.{TagMap, id_eq, set_of, has_any}
-use Rattle.la_orset.proofs.Sets.{one_more, one_less, same_members, contains-set_of, contains-put, contains-taken, keys-set_of, sorted-units}
-use Rattle.la_orset.proofs.Hashed.{id_test, id_tests, any_by_order}
+use Rattle.la_orset.proofs.Sets.{same_members, contains-set_of, contains-put, contains-taken, keys-set_of, sorted-units}
+use Rattle.la_orset.proofs.Hashed.{id_test, id_tests}
 use Rattle.la_orset.proofs.LiveTags.{same-id}
 
 pub id_equiv : IsEquivalence id_eq
@@ -208,36 +208,7 @@ pub pushed_at : (ts new ks : List UpdateId) (i : ℕ) (d id : UpdateId) (is_new 
 pushed_at ts new ks i d id is_new ok is here lt before q =
     ap (list_any (id_eq q)) ok ∙ pushed ts id is_new is q ∙ (λ j. before q j || id_eq q (here j)) ∙ sym (any-take_more ks i d q lt)
 
--- one step further through what an iterator still gives
-pub pushed_next : (ts new rest all : List UpdateId) (id : UpdateId) (is_new : Bool) → new ≡ (if is_new then with_tag id ts else ts) → (IsTrue is_new ↔ (Contains ts id → ⊥)) → ((q : UpdateId) → (list_any (id_eq q) ts || list_any (id_eq q) (id ∷ rest)) ≡ list_any (id_eq q) all) → (q : UpdateId) → (list_any (id_eq q) new || list_any (id_eq q) rest) ≡ list_any (id_eq q) all
-pushed_next ts new rest all id is_new ok is before q =
-    ap (λ xs. list_any (id_eq q) xs || list_any (id_eq q) rest) ok ∙ ap (λ b. b || list_any (id_eq q) rest) (pushed ts id is_new is q)
-    ∙ or_assoc (list_any (id_eq q) ts) (id_eq q id) (list_any (id_eq q) rest) ∙ before q
-  where
-    or_assoc : (a b c : Bool) → ((a || b) || c) ≡ (a || (b || c))
-    or_assoc true b c = refl
-    or_assoc false b c = refl
-
--- a push is of one at most
-pub pushed_length : (ts new : List UpdateId) (id : UpdateId) (is_new : Bool) → new ≡ (if is_new then with_tag id ts else ts) → (IsTrue is_new ↔ (Contains ts id → ⊥)) → AllPairs IsBelow ts → length new ≤ suc (length ts)
-pushed_length ts new id true ok is up =
-    let more : length (with_tag id ts) ≤ length (id ∷ ts) = no_more (with_tag id ts) (id ∷ ts) (with_tag-ascending id ts up) (λ q. pushed ts id true is q ∙ or_swap (list_any (id_eq q) ts) (id_eq q id)) in
-    omega (arith, more, ap length ok)
-  where
-    or_swap : (a b : Bool) → (a || b) ≡ (b || a)
-    or_swap true true = refl
-    or_swap true false = refl
-    or_swap false true = refl
-    or_swap false false = refl
-pushed_length ts new id false ok is up = omega (arith, ap length ok)
-
--- ## As a table
-
-pub table-put : (ks ls : List UpdateId) (id : UpdateId) → ((q : UpdateId) → list_any (id_eq q) ls ≡ cond (id_eq id q) true (list_any (id_eq q) ks)) → set_of {R = id_cmp} ls ≡ map.insert (set_of ks) id tt
-table-put ks ls id h = one_more id_cmp_total id_cmp-IsAntisymmetric ks ls id (any_by_order ks ls id true h)
-
-pub table-taken : (ks ls : List UpdateId) (id : UpdateId) → ((q : UpdateId) → list_any (id_eq q) ls ≡ cond (id_eq id q) false (list_any (id_eq q) ks)) → set_of {R = id_cmp} ls ≡ map.remove (set_of ks) id
-table-taken ks ls id h = one_less id_cmp_total id_cmp-IsAntisymmetric ks ls id (any_by_order ks ls id false h)
+-- ## As a tree
 
 -- a set with further ids
 abbrev pub with_more : TagMap → List UpdateId → TagMap

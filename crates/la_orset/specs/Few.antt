@@ -2,7 +2,7 @@
 use Rattle.std.specs.FinMap as map
 use Rattle.la_set.specs.declared.update.UpdateId.{UpdateId}
 use Rattle.la_orset.specs.declared.tag_set.Few.{Few}
-use Rattle.la_orset.specs.declared.tag_set.Few.TheVariants.{One, List, Table}
+use Rattle.la_orset.specs.declared.tag_set.Few.TheVariants.{One, List, Tree}
 use Rattle.la_orset.specs.Index.{TagMap}
 
 -- one tag
@@ -12,4 +12,4 @@ only_tag id = map.insert map.empty id tt
 abbrev pub tags_of : Few → TagMap
 tags_of (One id) = only_tag id
 tags_of (List tags) = tags
-tags_of (Table tags) = tags
+tags_of (Tree tags) = tags

@@ -13,7 +13,7 @@ mod or_set;
 mod puts;
 mod tag_list;
 mod tag_set;
-mod tag_table;
+mod tag_tree;
 
 pub use chain::Chain;
 pub use or_set::OrSet;

@@ -4,7 +4,7 @@ ghost use Rattle.std.specs.FinMap as map;
 ghost use Rattle.la_object.specs.Refusals.{IsObserveRefusal};
 ghost use Rattle.la_orset.specs.Index.{has_any, set_of, id_eq};
 
-use crate::tag_table::TagTable;
+use crate::tag_tree::TagTree;
 use la_object::ObserveError;
 use la_set::{MAX_TAGS, Tags, UpdateId};
 use std::alloc::{AllocError, Global};
@@ -93,15 +93,15 @@ impl TagList {
         Ok(tags)
     }
 
-    /// The tags as a table.
-    pub fn table(&self, alloc: Global) -> Result<TagTable, AllocError>
-        ensures { IfOk result (λ table. table ≡ self.now) }
+    /// The tags as a tree.
+    pub fn tree(&self, alloc: Global) -> Result<TagTree, AllocError>
+        ensures { IfOk result (λ tree. tree ≡ self.now) }
     {
-        let mut table = TagTable::new(alloc);
+        let mut tree = TagTree::new(alloc);
         for id in self.ids.as_slice() {
-            table.insert(*id)?;
+            tree.insert(*id)?;
         }
-        Ok(table)
+        Ok(tree)
     }
 }
 

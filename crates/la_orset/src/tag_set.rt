@@ -5,14 +5,14 @@ ghost use Rattle.la_orset.specs.Index.{has_any};
 ghost use Rattle.la_orset.specs.Few.{tags_of, only_tag};
 
 use crate::tag_list::TagList;
-use crate::tag_table::TagTable;
+use crate::tag_tree::TagTree;
 use la_object::ObserveError;
 use la_set::{Tags, UpdateId};
 use std::alloc::{AllocError, Global};
 use std::marker::Model;
 use std::mem;
 
-/// The live tags of one element: one alone, a few in a list, or many in a table.
+/// The live tags of one element: one alone, a few in a list, or many in a tree.
 #[derive(Drop)]
 pub struct TagSet {
     alloc: Global,
@@ -23,7 +23,7 @@ pub struct TagSet {
 enum Few {
     One(UpdateId),
     List(TagList),
-    Table(TagTable),
+    Tree(TagTree),
 }
 
 impl Model for TagSet {
@@ -55,7 +55,7 @@ impl TagSet {
         match &self.tags {
             Few::One(_) => true,
             Few::List(list) => list.has_any(),
-            Few::Table(table) => table.has_any(),
+            Few::Tree(tree) => tree.has_any(),
         }
     }
 
@@ -87,7 +87,7 @@ impl TagSet {
         match &self.tags {
             Few::One(id) => only(alloc, *id),
             Few::List(list) => list.tags(alloc),
-            Few::Table(table) => table.tags(alloc),
+            Few::Tree(tree) => tree.tags(alloc),
         }
     }
 }
@@ -103,9 +103,9 @@ fn with_tag(alloc: Global, tags: Few, id: UpdateId) -> (Few, Result<(), AllocErr
             Err(refused) => (Few::One(there), Err(refused)),
         },
         Few::List(list) => with_more(alloc, list, id),
-        Few::Table(mut table) => {
-            let result = table.insert(id);
-            (Few::Table(table), result)
+        Few::Tree(mut tree) => {
+            let result = tree.insert(id);
+            (Few::Tree(tree), result)
         }
     }
 }
@@ -121,7 +121,7 @@ fn pair(alloc: Global, one: UpdateId, other: UpdateId) -> Result<TagList, AllocE
 }
 
 // A list with one more, or as it was where memory is refused. The first alone needs no list, and
-// more than a `Remove` may name are kept in a table.
+// more than a `Remove` may name are kept in a tree.
 fn with_more(alloc: Global, mut list: TagList, id: UpdateId) -> (Few, Result<(), AllocError>)
     ensures ok { OnOk result.1 (tags_of result.0 ≡ map.insert list id tt) }
     ensures err { OnErr result.1 (tags_of result.0 ≡ list) }
@@ -134,18 +134,18 @@ fn with_more(alloc: Global, mut list: TagList, id: UpdateId) -> (Few, Result<(),
         return (Few::List(list), result);
     }
     match grown(alloc, &list, id) {
-        Ok(table) => (Few::Table(table), Ok(())),
+        Ok(tree) => (Few::Tree(tree), Ok(())),
         Err(refused) => (Few::List(list), Err(refused)),
     }
 }
 
-// A table of a list's tags and one more.
-fn grown(alloc: Global, list: &TagList, id: UpdateId) -> Result<TagTable, AllocError>
-    ensures { IfOk result (λ table. table ≡ map.insert list.now id tt) }
+// A tree of a list's tags and one more.
+fn grown(alloc: Global, list: &TagList, id: UpdateId) -> Result<TagTree, AllocError>
+    ensures { IfOk result (λ tree. tree ≡ map.insert list.now id tt) }
 {
-    let mut table = list.table(alloc)?;
-    table.insert(id)?;
-    Ok(table)
+    let mut tree = list.tree(alloc)?;
+    tree.insert(id)?;
+    Ok(tree)
 }
 
 // The tags without one.
@@ -163,9 +163,9 @@ fn without(alloc: Global, tags: Few, id: UpdateId) -> Few
             list.remove(id);
             Few::List(list)
         }
-        Few::Table(mut table) => {
-            table.remove(id);
-            Few::Table(table)
+        Few::Tree(mut tree) => {
+            tree.remove(id);
+            Few::Tree(tree)
         }
     }
 }

@@ -6,16 +6,16 @@ ghost use Rattle.la_orset.specs.Index.{has_any};
 use la_object::ObserveError;
 use la_set::{MAX_TAGS, Tags, UpdateId};
 use std::alloc::{AllocError, Global};
-use std::collections::HashSet;
+use std::collections::BTreeSet;
 use std::marker::Model;
 
-/// Many live tags of one element, found by hash.
+/// Live tags of one element, in a tree.
 #[derive(Drop)]
-pub struct TagTable {
-    ids: HashSet<UpdateId>,
+pub struct TagTree {
+    ids: BTreeSet<UpdateId>,
 }
 
-impl Model for TagTable {
+impl Model for TagTree {
     ghost use Rattle.la_orset.specs.Index.{TagMap, tag_map_code, set_of};
 
     ghost Value = { TagMap };
@@ -25,13 +25,13 @@ impl Model for TagTable {
     ghost view = { λ s. set_of s.ids.keys };
 }
 
-impl TagTable {
+impl TagTree {
     /// No tag.
-    pub fn new(alloc: Global) -> TagTable
+    pub fn new(alloc: Global) -> TagTree
         ensures { result ≡ map.empty }
     {
-        TagTable {
-            ids: HashSet::new(alloc),
+        TagTree {
+            ids: BTreeSet::new(alloc),
         }
     }
 
@@ -42,7 +42,7 @@ impl TagTable {
         self.ids.len() > 0
     }
 
-    /// Puts a tag in, at constant cost but for growth. After a refusal nothing has changed.
+    /// Puts a tag in, at logarithmic cost. After a refusal nothing has changed.
     pub fn insert(&mut self, id: UpdateId) -> Result<(), AllocError>
         ensures ok { OnOk result (self.new ≡ map.insert self.old id tt) }
         ensures err { OnErr result (self.new ≡ self.old) }
@@ -51,14 +51,14 @@ impl TagTable {
         Ok(())
     }
 
-    /// Takes a tag out, at constant cost and without memory.
+    /// Takes a tag out, at logarithmic cost and without memory.
     pub fn remove(&mut self, id: UpdateId)
         ensures { self.new ≡ map.remove self.old id }
     {
         self.ids.remove(&id);
     }
 
-    /// The tags in ascending order. `TooManyTags` comes exactly where they are more than
+    /// The tags in ascending order, in one pass. `TooManyTags` comes exactly where they are more than
     /// a `Remove` may name; up to [`INLINE_TAGS`](la_set::INLINE_TAGS) of them take no memory.
     pub fn tags(&self, alloc: Global) -> Result<Tags, ObserveError>
         ensures ok { IfOk result (λ tags. tags ≡ map.keys self.now) }
@@ -69,13 +69,10 @@ impl TagTable {
         }
         let mut tags = Tags::new(alloc);
         for id in self.ids.iter() {
-            // a hint to the prover: tags are in ascending order
-            let _ascending = tags.len();
             let Ok(_) = tags.push(*id) else {
                 return Err(ObserveError::Memory);
             };
         }
-        let _ascending = tags.len();
         Ok(tags)
     }
 }
