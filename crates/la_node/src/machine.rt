@@ -5,9 +5,8 @@ ghost use Rattle.la_world.specs.Groups.{IsConfig};
 ghost use Rattle.la_world.specs.Nodes.{node_at_start, IsStartRefusal};
 ghost use Rattle.la_node.specs.Given.{given_of};
 ghost use Rattle.la_node.specs.Nodes.{KeptState, no_objects, acts};
-ghost use Rattle.la_replica.specs.Refusals.{IsSubmitRefusal, IsReceiptRefusal};
-ghost use Rattle.la_world.specs.Nodes.{IsProposeRefusal};
-ghost use Rattle.la_node.specs.Errors.{IsForMemory, IfHere, OfReplica, OfProposal, IsActRefusal};
+ghost use Rattle.la_node.specs.Errors.{IsForMemory, IsActRefusal};
+ghost use Rattle.la_node.specs.Errors.{RefusesSubmission, RefusesProposal, RefusesLetter};
 
 use crate::{Input, NodeError};
 use la_journal::Machine;
@@ -43,8 +42,8 @@ impl NodeMachine {
 
     /// Takes a call, without any journal: a submission, a proposal or a message, at the cost of the node's.
     ///
-    /// In this order: `Unkept`; `Elsewhere`; what the node refuses. `Memory` may come at any of them but
-    /// these two.
+    /// In this order: `Unkept`; `Elsewhere`; what the node refuses, `Memory` where nothing else fits; but a
+    /// submission's operation is copied first, so that `Memory` may come before the cap is looked at.
     pub fn act(&mut self, call: &Call) -> Result<Received, NodeError>
         ensures ok { IfOk result (λ given.
             acts (record { replicas = self.old.replicas; replica = self.old.node.replica }) (called call.now)
@@ -77,7 +76,7 @@ impl NodeMachine {
         }
     }
 
-    #[tactic(auto, using(crate::proofs::Acting::submitted_acts, crate::proofs::Acting::submission_elsewhere, crate::proofs::Acting::refusal_of_submission, crate::proofs::Naming::named_by_replica))]
+    #[tactic(auto, using(crate::proofs::Acting::submitted_acts, crate::proofs::Acting::submission_elsewhere, crate::proofs::Acting::refusal_of_submission, crate::proofs::Naming::named_of_copied))]
     fn submit(&mut self, replica: u8, object: u16, op: &Op) -> Result<Received, NodeError>
         ensures ok { IfOk result (λ given.
             acts (record { replicas = self.old.replicas; replica = self.old.node.replica }) (Submit replica object op.now)
@@ -85,7 +84,7 @@ impl NodeMachine {
         ensures error { IfErr result (λ e. IsForMemory e
             ⊎ (acts (record { replicas = self.old.replicas; replica = self.old.node.replica }) (Submit replica object op.now)
             ≡ None)) }
-        ensures refusal { IfErr result (IfHere (replica ≡ self.old.node.replica.own) (OfReplica (IsSubmitRefusal self.old.node.replica 0))) }
+        ensures refusal { IfErr result (RefusesSubmission self.old.node.replica replica) }
         ensures err { OnErr result (self.new ≡ self.old) }
     {
         if replica != self.node.own() {
@@ -105,7 +104,7 @@ impl NodeMachine {
         ensures error { IfErr result (λ e. IsForMemory e
             ⊎ (acts (record { replicas = self.old.replicas; replica = self.old.node.replica }) (Decide replica commit value)
             ≡ None)) }
-        ensures refusal { IfErr result (IfHere (replica ≡ self.old.node.replica.own) (OfProposal (IsProposeRefusal self.old.node.replica commit))) }
+        ensures refusal { IfErr result (RefusesProposal self.old.node.replica replica commit) }
         ensures err { OnErr result (self.new ≡ self.old) }
     {
         if replica != self.node.own() {
@@ -125,7 +124,7 @@ impl NodeMachine {
         ensures error { IfErr result (λ e. IsForMemory e
             ⊎ (acts (record { replicas = self.old.replicas; replica = self.old.node.replica }) (Receive (said_by letter.now))
             ≡ None)) }
-        ensures refusal { IfErr result (IfHere (letter.now.replicas ≡ self.old.replicas) (OfReplica (IsReceiptRefusal self.old.node.replica letter.now.message))) }
+        ensures refusal { IfErr result (RefusesLetter self.old.node.replica self.old.replicas letter.now) }
         ensures err { OnErr result (self.new ≡ self.old) }
     {
         if letter.replicas != self.replicas {
