@@ -33,7 +33,8 @@ pub enum Task {
     },
 }
 
-const ABOUT: &str = "Plays scripts of a group of replicas that agree without consensus";
+const ABOUT: &str =
+    "Plays scripts of a group of replicas that agree without consensus; lattice node --help tells of one replica that keeps its state";
 
 // An option with a number.
 fn number<'a>(

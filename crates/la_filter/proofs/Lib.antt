@@ -1,0 +1,9 @@
+pub mod Turning
+pub mod Acting
+pub mod Turns
+pub mod Taking
+pub mod Saying
+pub mod Behind
+pub mod OneLine
+pub mod Stepping
+pub mod Starts

@@ -1,0 +1,6 @@
+pub mod Names
+pub mod Faults
+pub mod Turns
+pub mod Said
+pub mod Serving
+pub mod Starting

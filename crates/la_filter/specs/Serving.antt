@@ -1,0 +1,162 @@
+-- What lines come to, one after another.
+use Rattle.std.specs.Prelude.{◌≡◌, ◌⊎◌, ℕ, ◌+◌, ◌≤◌, Bool, true, false, List, [], ◌∷◌, ◌++◌, length, Option, map}
+use Rattle.std.specs.List.{flat_map}
+use Rattle.std.specs.Io.KnownBytes.{Appends, Keeps, Consumes, IsAtEnd}
+use Rattle.la_program.specs.Streams.{AppendsPrefix}
+use Rattle.la_object.specs.declared.kind.Kind.{Kind}
+use Rattle.la_node.specs.Nodes.{KeptState}
+use Rattle.la_lines.specs.declared.error.LineFault.TheVariants.{BadLine}
+use Rattle.la_streams.specs.Notes.{fault_line}
+use Rattle.la_streams.specs.Streams.{IsOneLine, TakesSome, ReadsFront, ReadsAll}
+use Rattle.la_filter.specs.declared.error.NodeFault.{NodeFault}
+use Rattle.la_filter.specs.declared.error.NodeFault.TheVariants as fault
+use Rattle.la_filter.specs.Turns.{Turn, IsTurn}
+
+-- these are the turns of a node from a state on, the first of which is line k's, and this is the state after them
+abbrev pub AreTurns : List (ℕ × Kind) → KeptState → (k : ℕ) → List Turn → (after : KeptState) → Type 0
+AreTurns objects n k [] after = after ≡ n
+AreTurns objects n k (t ∷ turns) after = IsTurn objects n k t × AreTurns objects t.after (k + 1) turns after
+
+abbrev pub lines_of : List Turn → List (List ℕ)
+lines_of turns = map (λ (t : Turn). t.line) turns
+
+-- all that is written
+abbrev pub written : List Turn → List ℕ
+written turns = flat_map (λ (t : Turn). t.text) turns
+
+-- the lines that the journal gains
+abbrev pub kept : List Turn → List (List ℕ)
+kept turns = flat_map (λ (t : Turn). t.kept) turns
+
+-- what is told
+abbrev pub told : List Turn → List (List ℕ)
+told turns = flat_map (λ (t : Turn). t.told) turns
+
+-- ## One of them
+
+-- of this line
+abbrev pub Of : (line : List ℕ) → (Turn → Type 0) → Turn → Type 0
+Of line Is t = (t.line ≡ line) × Is t
+
+-- a line was taken: all that it comes to was written, and is in the journal
+pub record Takes (Is : Turn → Type 0) (Told : List (List ℕ) → Type 0) (out_before out_after : Option (List ℕ)) (journal_before journal_after : List (List ℕ)) (now : KeptState) : Type 0 where
+  pub turn : Turn
+  pub is : Is turn
+  pub now_is : turn.after ≡ now
+  pub wrote : Appends out_before out_after turn.text
+  pub journal : journal_after ≡ journal_before ++ turn.kept
+  pub tells : Told turn.told
+
+-- the same, but that only a front of it was written
+pub record TakesCut (Is : Turn → Type 0) (Told : List (List ℕ) → Type 0) (out_before out_after : Option (List ℕ)) (journal_before journal_after : List (List ℕ)) (now : KeptState) : Type 0 where
+  pub turn : Turn
+  pub is : Is turn
+  pub now_is : turn.after ≡ now
+  pub wrote : AppendsPrefix out_before out_after turn.text
+  pub journal : journal_after ≡ journal_before ++ turn.kept
+  pub tells : Told turn.told
+
+-- nothing was taken: all is as it was
+pub record TakesNone (Told : List (List ℕ) → Type 0) (out_before out_after : Option (List ℕ)) (journal_before journal_after : List (List ℕ)) (before now : KeptState) : Type 0 where
+  pub out : Keeps out_before out_after
+  pub journal : journal_after ≡ journal_before
+  pub now_is : now ≡ before
+  pub tells : Told []
+
+-- where the disk failed nothing was written of the line, and the journal is to be recovered anew; where a write failed, or
+-- there was no memory, the line was taken, but only a front of what it comes to was written
+abbrev pub Breaks : (Is : Turn → Type 0) (Told : List (List ℕ) → Type 0) (out_before out_after : Option (List ℕ)) (journal_before journal_after : List (List ℕ)) (now : KeptState) → NodeFault → Type 0
+Breaks Is Told out_before out_after journal_before journal_after now fault.DiskFault = Keeps out_before out_after
+Breaks Is Told out_before out_after journal_before journal_after now fault.WriteFault = TakesCut Is Told out_before out_after journal_before journal_after now
+Breaks Is Told out_before out_after journal_before journal_after now fault.Memory = TakesCut Is Told out_before out_after journal_before journal_after now
+Breaks Is Told out_before out_after journal_before journal_after now _ = ⊥
+
+abbrev pub TellsNothing : List (List ℕ) → Type 0
+TellsNothing told = told ≡ []
+
+-- a turn, and what was read of its line
+pub record IsStep (objects : List (ℕ × Kind)) (n : KeptState) (k : ℕ) (left_before left_after : Option (List ℕ)) (t : Turn) : Type 0 where
+  pub is : IsTurn objects n k t
+  pub one : IsOneLine t.line
+  pub read : Consumes left_before left_after (t.line ++ 10 ∷ [])
+
+-- what is told of bytes behind the last line's end, where there are some
+abbrev pub cut_told : (k : ℕ) → (rest : List ℕ) → List (List ℕ)
+cut_told k [] = []
+cut_told k (b ∷ rest) = fault_line k BadLine ∷ []
+
+-- the input is at its end, perhaps behind bytes that no line's end follows, and nothing has changed
+pub record Ends (k : ℕ) (Told : List (List ℕ) → Type 0) (left_before left_after out_before out_after : Option (List ℕ)) (journal_before journal_after : List (List ℕ)) (before now : KeptState) : Type 0 where
+  pub rest : List ℕ
+  pub one : IsOneLine rest
+  pub read : Consumes left_before left_after rest
+  pub at_end : IsAtEnd left_after
+  pub out : Keeps out_before out_after
+  pub journal : journal_after ≡ journal_before
+  pub now_is : now ≡ before
+  pub tells : Told (cut_told k rest)
+
+-- a turn was taken, or there was none
+abbrev pub Steps : (objects : List (ℕ × Kind)) (n : KeptState) (k : ℕ) (Told : List (List ℕ) → Type 0) (left_before left_after : Option (List ℕ)) (out_before out_after : Option (List ℕ)) (journal_before journal_after : List (List ℕ)) (now : KeptState) → (more : Bool) → Type 0
+Steps objects n k Told left_before left_after out_before out_after journal_before journal_after now true =
+    Takes (IsStep objects n k left_before left_after) Told out_before out_after journal_before journal_after now
+Steps objects n k Told left_before left_after out_before out_after journal_before journal_after now false =
+    Ends k Told left_before left_after out_before out_after journal_before journal_after n now
+
+-- some of a line was read; it was not taken, or of what it comes to only a front was written
+abbrev pub IsStepRefusal : (objects : List (ℕ × Kind)) (n : KeptState) (k : ℕ) (Told : List (List ℕ) → Type 0) (left_before left_after : Option (List ℕ)) (out_before out_after : Option (List ℕ)) (journal_before journal_after : List (List ℕ)) (now : KeptState) → NodeFault → Type 0
+IsStepRefusal objects n k Told left_before left_after out_before out_after journal_before journal_after now fault.DiskFault =
+    TakesSome left_before left_after × Keeps out_before out_after
+IsStepRefusal objects n k Told left_before left_after out_before out_after journal_before journal_after now fault.ReadFault =
+    TakesSome left_before left_after × TakesNone Told out_before out_after journal_before journal_after n now
+IsStepRefusal objects n k Told left_before left_after out_before out_after journal_before journal_after now fault.WriteFault =
+    TakesCut (IsStep objects n k left_before left_after) Told out_before out_after journal_before journal_after now
+IsStepRefusal objects n k Told left_before left_after out_before out_after journal_before journal_after now fault.Memory =
+    (TakesSome left_before left_after × TakesNone Told out_before out_after journal_before journal_after n now)
+    ⊎ TakesCut (IsStep objects n k left_before left_after) Told out_before out_after journal_before journal_after now
+IsStepRefusal objects n k Told left_before left_after out_before out_after journal_before journal_after now _ = ⊥
+
+-- ## All of them
+
+-- all lines of an input were taken
+pub record Serves (objects : List (ℕ × Kind)) (n : KeptState) (Told : List (List ℕ) → Type 0) (left_before left_after out_before out_after : Option (List ℕ)) (journal_before journal_after : List (List ℕ)) (now : KeptState) : Type 0 where
+  pub turns : List Turn
+  -- what is behind the last line's end
+  pub rest : List ℕ
+  pub are : AreTurns objects n 1 turns now
+  pub read : ReadsAll left_before left_after (lines_of turns) rest
+  pub wrote : Appends out_before out_after (written turns)
+  pub journal : journal_after ≡ journal_before ++ kept turns
+  pub tells : Told (told turns ++ cut_told (1 + length turns) rest)
+
+-- some were: of the last, if it was, perhaps only a front was written
+pub record ServesCut (objects : List (ℕ × Kind)) (n : KeptState) (Told : List (List ℕ) → Type 0) (left_before left_after out_before out_after : Option (List ℕ)) (journal_before journal_after : List (List ℕ)) (now : KeptState) : Type 0 where
+  pub turns : List Turn
+  pub last : List Turn
+  pub one : length last ≤ 1
+  pub are : AreTurns objects n 1 (turns ++ last) now
+  pub read : ReadsFront left_before left_after (lines_of (turns ++ last))
+  pub between : Option (List ℕ)
+  pub wrote : Appends out_before between (written turns)
+  pub cut : AppendsPrefix between out_after (written last)
+  pub journal : journal_after ≡ journal_before ++ kept (turns ++ last)
+  pub tells : Told (told (turns ++ last))
+
+-- some were, and the disk failed at the next: nothing was written of that
+pub record ServesClosed (objects : List (ℕ × Kind)) (n : KeptState) (left_before left_after out_before out_after : Option (List ℕ)) : Type 0 where
+  pub turns : List Turn
+  pub before : KeptState
+  pub are : AreTurns objects n 1 turns before
+  pub read : ReadsFront left_before left_after (lines_of turns)
+  pub wrote : Appends out_before out_after (written turns)
+
+abbrev pub IsServeRefusal : (objects : List (ℕ × Kind)) (n : KeptState) (Told : List (List ℕ) → Type 0) (left_before left_after out_before out_after : Option (List ℕ)) (journal_before journal_after : List (List ℕ)) (now : KeptState) → NodeFault → Type 0
+IsServeRefusal objects n Told left_before left_after out_before out_after journal_before journal_after now fault.DiskFault =
+    ServesClosed objects n left_before left_after out_before out_after
+IsServeRefusal objects n Told left_before left_after out_before out_after journal_before journal_after now fault.ReadFault =
+    ServesCut objects n Told left_before left_after out_before out_after journal_before journal_after now
+IsServeRefusal objects n Told left_before left_after out_before out_after journal_before journal_after now fault.WriteFault =
+    ServesCut objects n Told left_before left_after out_before out_after journal_before journal_after now
+IsServeRefusal objects n Told left_before left_after out_before out_after journal_before journal_after now fault.Memory =
+    ServesCut objects n Told left_before left_after out_before out_after journal_before journal_after now
+IsServeRefusal objects n Told left_before left_after out_before out_after journal_before journal_after now _ = ⊥

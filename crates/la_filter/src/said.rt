@@ -1,0 +1,10 @@
+/// What is written of a line that the journal does not gain.
+#[derive(Drop)]
+pub enum Said {
+    /// These lines.
+    Lines(Vec<u8>),
+    /// A refusal: there is no such object.
+    NoSuchObject,
+    /// A refusal: there was no memory.
+    Memory,
+}

@@ -1,0 +1,156 @@
+ghost use Rattle.std.specs.Prelude.{◌≡◌, IfErr, OnOk};
+ghost use Rattle.la_set.specs.Histories.{empty};
+ghost use Rattle.la_streams.specs.Streams.{TellsAll};
+ghost use Rattle.la_filter.specs.Starting.{Runs, IsRunRefusal};
+
+use crate::names::end_name;
+use crate::serving::serve;
+use crate::shelf::shelf_of;
+use crate::{Filter, NodeFault, Options};
+use arrayvec::ArrayString;
+use clap::Error;
+use la_journal::{Disk, Unplayed, recover};
+use la_node::NodeMachine;
+use la_object::{Counter, MaxRegister, Replicated, Shelf};
+use la_orset::OrSet;
+use la_program::{Listener, tell_all, write_all};
+use la_world::WorldError;
+use std::alloc::{AllocError, Global};
+use std::io::{Read, Write};
+
+type Line = ArrayString<16>;
+
+/// The exit status after a fault.
+fn status_of(fault: NodeFault) -> u8 {
+    match fault {
+        NodeFault::Memory => 3,
+        NodeFault::ReadFault | NodeFault::WriteFault | NodeFault::BadConfig => 4,
+        NodeFault::NoJournal | NodeFault::BadJournal | NodeFault::DiskFault => 5,
+    }
+}
+
+/// The exit status after a fault, which is told.
+pub fn end_with<E: Listener>(fault: NodeFault, errors: &mut E) -> u8 {
+    let mut line = Line::new();
+    line.push_str(end_name(fault));
+    line.push_str("\n");
+    let _ = tell_all(errors, line.as_str().as_bytes());
+    status_of(fault)
+}
+
+/// The exit status where words are no options: help is written, and a mistake is told.
+pub fn end_without_options<W: Write, E: Listener>(
+    alloc: Global,
+    error: &Error,
+    output: &mut W,
+    errors: &mut E,
+) -> u8 {
+    if error.kind() == clap::error::ErrorKind::OutOfMemory {
+        return end_with(NodeFault::Memory, errors);
+    }
+    let Ok(text) = format!(in alloc; "{error}") else {
+        return end_with(NodeFault::Memory, errors);
+    };
+    if error.use_stderr() {
+        let _ = tell_all(errors, text.as_bytes());
+        return 2;
+    }
+    match write_all(output, text.as_bytes()) {
+        Ok(()) => 0,
+        Err(_) => end_with(NodeFault::WriteFault, errors),
+    }
+}
+
+// The node, until its input ends.
+fn start<R: Read, W: Write, E: Listener, D: Disk, B: Replicated>(
+    alloc: Global,
+    options: &Options,
+    shelf: Shelf<B>,
+    disk: D,
+    input: &mut R,
+    output: &mut W,
+    errors: &mut E,
+) -> Result<(), NodeFault>
+    requires { shelf.view ≡ empty }
+    ensures ok { OnOk result (Runs shelf.objects options.now.config options.now.own (D.seen disk)
+        (TellsAll E.contents E.refuses errors.old errors.new)
+        (R.remaining input.old) (R.remaining input.new) (W.contents output.old) (W.contents output.new)) }
+    ensures err { IfErr result (IsRunRefusal shelf.objects options.now.config options.now.own (D.seen disk)
+        (TellsAll E.contents E.refuses errors.old errors.new)
+        (R.remaining input.old) (R.remaining input.new) (W.contents output.old) (W.contents output.new)) }
+{
+    let machine = match NodeMachine::new(alloc, options.config, options.own) {
+        Ok(machine) => machine,
+        Err(WorldError::Memory) => return Err(NodeFault::Memory),
+        Err(_) => return Err(NodeFault::BadConfig),
+    };
+    match recover(alloc, machine, disk) {
+        Ok(durable) => {
+            let mut filter = Filter {
+                node: durable,
+                shelf,
+            };
+            serve(alloc, &mut filter, input, output, errors)
+        }
+        Err((Unplayed::Memory, _)) => Err(NodeFault::Memory),
+        Err((Unplayed::Disk, _)) => Err(NodeFault::DiskFault),
+        Err(_) => Err(NodeFault::BadJournal),
+    }
+}
+
+// The node with objects that are made for it, until its input ends: its exit status.
+fn run_with<
+    R: Read,
+    W: Write,
+    E: Listener,
+    D: Disk,
+    B: Replicated,
+    F: Fn() -> Result<(B, B, B), AllocError>,
+>(
+    alloc: Global,
+    options: &Options,
+    disk: D,
+    input: &mut R,
+    output: &mut W,
+    errors: &mut E,
+    make: F,
+) -> u8
+    requires { F.pre make }
+{
+    let Ok((counter, register, set)) = make() else {
+        return end_with(NodeFault::Memory, errors);
+    };
+    let Ok(shelf) = shelf_of(alloc, counter, register, set) else {
+        return end_with(NodeFault::Memory, errors);
+    };
+    match start(alloc, options, shelf, disk, input, output, errors) {
+        Ok(()) => 0,
+        Err(fault) => end_with(fault, errors),
+    }
+}
+
+/// The command over any streams and any journal: its exit status. Its shelf has a counter under 1, a max register under 2
+/// and an observed-remove set under 3.
+pub fn run<R: Read, W: Write, E: Listener, D: Disk>(
+    alloc: Global,
+    options: &Options,
+    disk: D,
+    input: &mut R,
+    output: &mut W,
+    errors: &mut E,
+) -> u8 {
+    let make = || -> Result<
+        (
+            Box<dyn Replicated + Send>,
+            Box<dyn Replicated + Send>,
+            Box<dyn Replicated + Send>,
+        ),
+        AllocError,
+    > {
+        let counter: Box<dyn Replicated + Send> = Box::new(alloc, Counter::new(alloc))?;
+        let register: Box<dyn Replicated + Send> = Box::new(alloc, MaxRegister::new(alloc))?;
+        let set: Box<dyn Replicated + Send> = Box::new(alloc, OrSet::new(alloc))?;
+        Ok((counter, register, set))
+    };
+    run_with(alloc, options, disk, input, output, errors, make)
+}

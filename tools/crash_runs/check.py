@@ -1,0 +1,354 @@
+"""Checks what the nodes of a group gave out in all their lives, from the log of a run alone.
+
+A log's entry is a word, a node's number and a line: `start`, a life begins; `given`, a line on its standard
+input; `out`, one that it printed; `said`, one on standard error; `killed`; `ended`, with the status; and `last`,
+from which on nothing is submitted. The first word of a fault is the rule that is broken.
+"""
+from __future__ import annotations
+
+from collections import Counter, defaultdict, deque
+from dataclasses import dataclass, field
+
+from .lines import FAULTY, REPLICAS, Counts, Malformed, Message, read_counts, read_message, read_note
+from .objects import COUNTER, REGISTER, SET, Named, answer
+
+Entry = tuple[str, int, str]
+NOTHING: Counts = (0,) * REPLICAS
+# No refusal of a group to whose nodes nobody lies.
+NEVER = ("NoSuchReplica", "NoSuchInstance", "NoBase", "Gap", "Clash", "BallotsSpent", "Memory")
+
+
+@dataclass(frozen=True)
+class Group:
+    """What all nodes are started with."""
+
+    replicas: int
+    commits: int
+    cap: int
+    votes: tuple[int, ...]
+
+
+def within(less: Counts, more: Counts) -> bool:
+    return all(a <= b for a, b in zip(less, more))
+
+
+@dataclass
+class Seen:
+    """What one node has been given and has answered."""
+
+    line: int = 0
+    # Lines of this life that have to be answered, in order: their numbers, and their words.
+    awaited: deque[tuple[int, list[str]]] = field(default_factory=deque)
+    # Submissions of which no answer came before a kill, since the last that was answered, and ever.
+    lost: list[str] = field(default_factory=list)
+    ever_lost: set[str] = field(default_factory=set)
+    submitted: dict[int, str] = field(default_factory=dict)
+    proposed: set[int] = field(default_factory=set)
+    kills_since: dict[int, int] = field(default_factory=dict)
+    view: Counts = NOTHING
+    # Whether no kill may have swallowed a later view.
+    exact: bool = True
+    # Whether all that it may still be at is passed over, or answered alone.
+    passed: bool = True
+    # What it has to say of faulty lines.
+    to_say: deque[str] = field(default_factory=deque)
+
+
+class Checker:
+    """Takes entries, in order, and gathers faults."""
+
+    def __init__(self, group: Group) -> None:
+        self.group = group
+        self.faults: list[str] = []
+        self.nodes = [Seen() for _ in range(group.replicas)]
+        self.contents: dict[tuple[int, int, int], str] = {}
+        # By object and participant: what it may have proposed, and how often it was to.
+        self.proposals: dict[tuple[int, int], list[int]] = defaultdict(list)
+        self.decides: Counter[tuple[int, int]] = Counter()
+        self.offered: dict[tuple[int, int, int], Counts] = {}
+        self.accepted: dict[tuple[int, int], Counts] = {}
+        self.yeses: dict[tuple[int, int, int], set[int]] = defaultdict(set)
+        self.learnt: dict[tuple[int, int, int], Counts] = {}
+        self.last_learnt: dict[tuple[int, int], tuple[int, Counts]] = {}
+        self.outcomes: dict[tuple[int, int], tuple[str, int]] = {}
+        self.answers: dict[tuple[int, str], set[str]] = defaultdict(set)
+        self.last = False
+
+    def fault(self, rule: str, own: int, what: object) -> None:
+        self.faults.append(f"{rule}: node {own}: {what}")
+
+    def take(self, entry: Entry) -> None:
+        word, own, line = entry
+        getattr(self, f"take_{word}")(own, line)
+
+    def take_last(self, _own: int, _line: str) -> None:
+        self.last = True
+
+    def take_start(self, own: int, _line: str) -> None:
+        self.nodes[own].line, self.nodes[own].passed = 0, True
+
+    def take_said(self, own: int, line: str) -> None:
+        to_say = self.nodes[own].to_say
+        if not to_say or to_say.popleft() != line:
+            self.fault("said", own, line)
+
+    def take_given(self, own: int, line: str) -> None:
+        node, words = self.nodes[own], line.split(" ")
+        node.line += 1
+        mine = words[:2] in ([it, str(own)] for it in ("submit", "decide", "ask"))
+        here = [str(self.group.replicas), str(own)]
+        mailed = words[0] in ("offer", "yes", "no", "tell") and words[1:4:2] == here
+        if line in FAULTY:
+            return node.to_say.append(f"line {node.line}: {FAULTY[line]}")
+        node.passed = node.passed and not (mine and words[0] != "ask" or mailed or words == ["tick"])
+        if mine:
+            node.awaited.append((node.line, words))
+        if mine and words[0] == "decide":
+            self.proposals[int(words[2]), own].append(int(words[3]))
+            self.decides[int(words[2]), own] += 1
+
+    def take_killed(self, own: int, _line: str) -> None:
+        node = self.nodes[own]
+        lost = [" ".join(words[2:]) for _, words in node.awaited if words[0] == "submit"]
+        node.lost += lost
+        node.ever_lost.update(lost)
+        node.awaited.clear()
+        node.to_say.clear()
+        node.exact = False
+        for key in node.kills_since:
+            node.kills_since[key] += 1
+
+    def take_ended(self, own: int, status: str) -> None:
+        if status != "0":
+            self.fault("status", own, status)
+        for at, words in self.nodes[own].awaited:
+            self.fault("answers", own, f"none to line {at}, {' '.join(words)}")
+        for line in self.nodes[own].to_say:
+            self.fault("said", own, f"not said: {line}")
+        self.nodes[own].awaited.clear()
+        self.nodes[own].to_say.clear()
+
+    def take_out(self, own: int, line: str) -> None:
+        node = self.nodes[own]
+        asked = bool(node.awaited) and node.awaited[0][1][0] == "ask"
+        if node.passed and not asked:
+            self.fault("silent", own, line)
+        # The answer to the last line that was given.
+        node.passed = node.passed or asked and node.awaited[0][0] == node.line and line.startswith("# r")
+        try:
+            if line.startswith("#"):
+                word, values = read_note(line, own)
+                getattr(self, f"note_{word}")(own, *values)
+            else:
+                self.message(own, read_message(line))
+        except Malformed as fault:
+            self.fault("form", own, f"{fault}: {line}")
+
+    # What a node answers
+
+    def answered_line(self, own: int, word: str) -> list[str]:
+        """Takes the words of the line to which an answer of this kind belongs: the oldest that has none."""
+        awaited = self.nodes[own].awaited
+        if awaited and awaited[0][1][0] == word:
+            return awaited.popleft()[1]
+        raise Malformed(f"answers {word}, and the oldest line without an answer is {awaited[0] if awaited else None}")
+
+    def note_submitted(self, own: int, replica: str, number: str) -> None:
+        node, at = self.nodes[own], int(number)
+        content = " ".join(self.answered_line(own, "submit")[2:])
+        next_at = max(node.submitted, default=0) + 1
+        if int(replica) != own or at in node.submitted or not next_at <= at <= next_at + len(node.lost):
+            self.fault("ids", own, f"{replica}.{number} where {next_at} is next and {len(node.lost)} were not answered")
+        node.submitted[at] = content
+        node.lost.clear()
+        self.content(0, (own, at, content))
+
+    def note_proposed(self, own: int, number: str) -> None:
+        words = self.answered_line(own, "decide")
+        node = self.nodes[own]
+        if words[2] != number or int(number) in node.proposed or int(number) >= self.group.commits:
+            self.fault("proposed", own, " ".join(words))
+        node.proposed.add(int(number))
+        node.kills_since[int(number)] = 0
+        self.proposals[int(number), own] = [int(words[3])]
+
+    def note_refused(self, own: int, line: str, name: str) -> None:
+        node = self.nodes[own]
+        if not 1 <= int(line) <= node.line or name in NEVER:
+            self.fault("refused", own, f"line {line} of {node.line}: {name}")
+        if not node.awaited or node.awaited[0][0] != int(line):
+            return self.fault("refused", own, f"line {line}, {name}: {len(node.awaited)} without an answer")
+        _, words = node.awaited.popleft()
+        count = max(node.submitted, default=0) + len(node.lost)
+        just = {
+            "Full": words[0] == "submit" and count >= self.group.cap,
+            "NoSuchCommit": words[0] == "decide" and int(words[2]) >= self.group.commits,
+            "AlreadyProposed": words[0] == "decide" and self.decides[int(words[2]), own] > 1,
+            "NoSuchObject": words[0] == "ask" and int(words[2]) not in (COUNTER, REGISTER, SET),
+        }
+        if not just.get(name):
+            self.fault("refused", own, f"{' '.join(words)}: {name}")
+        may_be = self.proposals[int(words[2]), own] if words[0] == "decide" else []
+        if may_be and int(words[3]) in may_be:
+            may_be.remove(int(words[3]))
+
+    def note_answered(self, own: int, number: str, text: str, *_: str) -> None:
+        words, node = self.answered_line(own, "ask"), self.nodes[own]
+        asked = " ".join(words[2:])
+        if words[2] != number:
+            self.fault("answers", own, f"{asked}: of object {number}")
+        if node.exact and text != self.value(node.view, int(words[2]), words[3:]):
+            self.fault("value", own, f"{asked} over {node.view}: {text}")
+        if self.last:
+            self.answers[own, asked].add(text)
+
+    def value(self, view: Counts, number: int, query: list[str]) -> str:
+        """What an object answers over a view."""
+        found: list[Named] = []
+        for replica, count in enumerate(view):
+            for at in range(1, count + 1):
+                owner, *op = self.contents.get((0, replica, at), "0 mark").split(" ")
+                if owner == str(number):
+                    found.append(((replica, at), op))
+        return answer(number, query, found)
+
+    # What a node learns
+
+    def note_learnt(self, own: int, instance: str, ballot: str, counts: str, *_: str) -> None:
+        self.learn(own, int(instance), int(ballot), read_counts(counts))
+        key = own, int(instance)
+        before = self.last_learnt.get(key, (0, NOTHING))
+        if int(ballot) <= before[0] or not within(before[1], read_counts(counts)):
+            self.fault("grows", own, f"instance {instance}: ballot {ballot} {counts} after {before}")
+        self.last_learnt[key] = int(ballot), read_counts(counts)
+        yeses = self.yeses[own, int(instance), int(ballot)]
+        if 2 * sum(self.group.votes[it] for it in yeses) <= sum(self.group.votes):
+            self.fault("majority", own, f"instance {instance}, ballot {ballot}: by {sorted(yeses)} alone")
+
+    def learn(self, own: int, instance: int, ballot: int, counts: Counts) -> None:
+        """Notes a set that this replica has learnt, as it says itself or by a tell."""
+        key = own, instance, ballot
+        if self.learnt.setdefault(key, counts) != counts:
+            self.fault("learnt", own, f"{key}: {counts}, and {self.learnt[key]} before")
+        if self.offered.get(key, counts) != counts:
+            self.fault("learnt", own, f"{key}: {counts}, and {self.offered[key]} was offered")
+
+    def note_view(self, own: int, counts: str, *_: str) -> None:
+        node, view = self.nodes[own], read_counts(counts)
+        if view == node.view or not within(node.view, view):
+            self.fault("views", own, f"{view} after {node.view}")
+        if view not in {found for (_, instance, _), found in self.learnt.items() if instance == 0}:
+            self.fault("views", own, f"{view} was learnt by nobody")
+        node.view, node.exact = view, True
+
+    def note_outcome(self, own: int, number: str, word: str, value: str) -> None:
+        outcome = word, int(value)
+        if self.outcomes.setdefault((int(number), own), outcome) != outcome:
+            self.fault("outcomes", own, f"object {number}: {outcome} after {self.outcomes[int(number), own]}")
+        if int(value) not in self.values(int(number)):
+            self.fault("outcomes", own, f"object {number}: {value} was not proposed")
+
+    def values(self, number: int) -> set[int]:
+        """What may have been proposed to an object."""
+        return {value for (at, _), values in self.proposals.items() if at == number for value in values}
+
+    # What a node sends
+
+    def message(self, own: int, it: Message) -> None:
+        wrong = it.group != self.group.replicas or it.sender != own or it.to >= it.group
+        wrong = wrong or it.instance > 2 * self.group.commits or it.verb == "tell" and it.instance > 0
+        if wrong or it.ballot == 0 or any(replica >= it.group for replica, _, _ in it.updates):
+            raise Malformed("not a message of this node")
+        for update in it.updates:
+            self.content(it.instance, update)
+        if it.verb == "tell":
+            self.learn(own, 0, it.ballot, it.counts)
+        elif it.verb == "offer":
+            before = self.offered.setdefault((own, it.instance, it.ballot), it.counts)
+            if before != it.counts:
+                self.fault("ballots", own, f"instance {it.instance}, ballot {it.ballot}: {before} and {it.counts}")
+        else:
+            self.reply(own, it)
+
+    def reply(self, own: int, it: Message) -> None:
+        """An acceptor's reply; what it has accepted only grows."""
+        offered = self.offered.get((it.to, it.instance, it.ballot))
+        if offered is None:
+            return self.fault("replies", own, f"to no offer: {it}")
+        before = self.accepted.get((own, it.instance), NOTHING)
+        now = offered if it.verb == "yes" else it.counts
+        if not within(before, now):
+            self.fault("accepted", own, f"instance {it.instance}: {it.verb} to {now} after {before}")
+        if it.verb == "yes":
+            self.yeses[it.to, it.instance, it.ballot].add(own)
+        elif not within(offered, now) or now == offered:
+            self.fault("replies", own, f"no to {offered} with {now}")
+        self.accepted[own, it.instance] = now
+
+    def content(self, instance: int, update: tuple[int, int, str]) -> None:
+        replica, number, text = update
+        known = self.contents.setdefault((instance, replica, number), text)
+        if known != text:
+            self.fault("content", replica, f"instance {instance}, {replica}.{number}: {text}, and {known} before")
+
+    # At the end
+
+    def end(self) -> None:
+        """Checks what can be said only of a whole run."""
+        self.chains()
+        self.submissions()
+        self.agreement()
+        for asked in sorted({asked for _, asked in self.answers}):
+            texts = [self.answers.get((own, asked), {"nothing"}) for own in range(self.group.replicas)]
+            if len(set.union(*texts)) != 1:
+                self.fault("alike", 0, f"{asked}: {texts}")
+
+    def chains(self) -> None:
+        """All sets of one instance are comparable, each is of what was submitted, and all views are equal."""
+        for instance in range(2 * self.group.commits + 1):
+            found = {counts for (_, at, _), counts in self.learnt.items() if at == instance}
+            chain = sorted(found, key=lambda counts: (sum(counts), counts))
+            for less, more in zip(chain, chain[1:]):
+                if not within(less, more):
+                    self.fault("comparable", 0, f"instance {instance}: {less} and {more}")
+        if len({node.view for node in self.nodes}) != 1:
+            self.fault("views", 0, f"they differ at the end: {[node.view for node in self.nodes]}")
+
+    def submissions(self) -> None:
+        """What was answered is in the views, and what is in a set was submitted."""
+        for own, node in enumerate(self.nodes):
+            missing = [it for it in node.submitted for seen in self.nodes if it > seen.view[own]]
+            if missing:
+                self.fault("lost", own, f"the submissions {sorted(set(missing))} are not in all views")
+        for (instance, replica, number), text in self.contents.items():
+            if instance == 0:
+                node = self.nodes[replica]
+                just = node.submitted.get(number) == text or number not in node.submitted and text in node.ever_lost
+            else:
+                _, verb, value = text.split(" ")
+                just = number == 1 and int(value) in self.proposals[(instance - 1) // 2, replica]
+                just = just and verb in ("vote", "sole")[: 2 - instance % 2]
+            if not just:
+                self.fault("made up", replica, f"instance {instance}, {replica}.{number} {text}")
+
+    def agreement(self) -> None:
+        """A committed value is that of all outcomes, and where all proposed one value each outcome commits."""
+        for number in range(self.group.commits):
+            found = {own: outcome for (at, own), outcome in self.outcomes.items() if at == number}
+            committed = any(word == "commit" for word, _ in found.values())
+            if committed and len({value for _, value in found.values()}) > 1:
+                self.fault("outcomes", 0, f"object {number}: {found}")
+            if len(self.values(number)) == 1 and any(word == "adopt" for word, _ in found.values()):
+                self.fault("outcomes", 0, f"object {number}: one value, and {found}")
+            for own, node in enumerate(self.nodes):
+                if number in node.proposed and own not in found and not node.kills_since[number]:
+                    self.fault("outcomes", own, f"object {number}: none came")
+
+
+def faults_of(group: Group, log: list[Entry]) -> list[str]:
+    """What is wrong with what a log says."""
+    checker = Checker(group)
+    for entry in log:
+        checker.take(entry)
+    checker.end()
+    return checker.faults

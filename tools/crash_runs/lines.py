@@ -1,0 +1,114 @@
+"""Lines of calls and messages, by docs/SCRIPT.md, read without the program's code."""
+from __future__ import annotations
+
+import re
+from dataclasses import dataclass
+
+REPLICAS = 8
+NUMBER = "(0|[1-9][0-9]{0,19})"
+TAGS = rf"( {NUMBER}\.{NUMBER}){{0,64}}"
+OBJECTS = rf"inc {NUMBER}|dec {NUMBER}|raise {NUMBER}|put {NUMBER}|remove{TAGS}|mark"
+UPDATE = re.compile(rf"{NUMBER}\.{NUMBER} ({NUMBER} (?:{OBJECTS}|vote {NUMBER}|sole {NUMBER}))")
+HEAD = re.compile(rf"(offer|yes|no|tell) {NUMBER} {NUMBER} {NUMBER} {NUMBER} {NUMBER}")
+BASE = re.compile(rf" base((?: {NUMBER}){{{REPLICAS}}})")
+TOTAL = "total (?:0|-?[1-9][0-9]*)"
+ANSWER = rf"{TOTAL}|largest {NUMBER}|(?:has|reached) (?:yes|no)|size {NUMBER}|items \[[0-9 ]*\]|foreign"
+COUNTS = rf"((?: {NUMBER}){{{REPLICAS}}})"
+NOTES = {
+    "submitted": re.compile(rf"submitted {NUMBER}\.{NUMBER}"),
+    "proposed": re.compile(rf"proposed {NUMBER}"),
+    "learnt": re.compile(rf"learnt {NUMBER} {NUMBER}{COUNTS}"),
+    "view": re.compile(rf"view{COUNTS}"),
+    "outcome": re.compile(rf"outcome {NUMBER} (commit|adopt) {NUMBER}"),
+    "answered": re.compile(rf"answered {NUMBER} ({ANSWER})"),
+    "refused": re.compile(rf"refused {NUMBER} ([A-Za-z]+)"),
+}
+# Lines that say no call, and what is told of each.
+FAULTY = {
+    "subtract 0 1": "BadLine",
+    "tick tick": "BadLine",
+    "submit 0 1 inc 05": "BadNumber",
+    "submit 0 1 inc 4294967296": "BadNumber",
+    "deliver 0": "BadLine",
+    "tell 3 0 1 0 1;0.2 1 inc 5": "BadSet",
+    " tick": "BadLine",
+    "yes 3 1 0 0 5;": "BadLine",
+}
+
+Counts = tuple[int, ...]
+# An update's replica and number, and what it does: its object and operation, as written.
+Update = tuple[int, int, str]
+
+
+class Malformed(Exception):
+    """A line that is none of the language."""
+
+
+@dataclass(frozen=True)
+class Message:
+    """A message; of a Yes base and updates are empty."""
+
+    verb: str
+    group: int
+    sender: int
+    to: int
+    instance: int
+    ballot: int
+    base: Counts
+    updates: tuple[Update, ...]
+
+    @property
+    def counts(self) -> Counts:
+        """How many updates of each replica the set has for which it stands."""
+        found = list(self.base)
+        for replica, _, _ in self.updates:
+            found[replica] += 1
+        return tuple(found)
+
+
+def read_counts(text: str) -> Counts:
+    """Numbers of updates of replicas 0 to 7."""
+    return tuple(int(it) for it in text.split())
+
+
+def read_updates(base: Counts, parts: list[str]) -> tuple[Update, ...]:
+    """Updates beyond a base, each of which has to come next."""
+    counts, found = list(base), []
+    for part in parts:
+        match = UPDATE.fullmatch(part)
+        if not match:
+            raise Malformed(f"no update: {part}")
+        replica, number = int(match[1]), int(match[2])
+        if replica >= REPLICAS or number != counts[replica] + 1:
+            raise Malformed(f"{part} does not come next")
+        counts[replica] = number
+        found.append((replica, number, match[3]))
+    return tuple(found)
+
+
+def read_message(line: str) -> Message:
+    """A message by its line."""
+    head, *parts = line.split(";")
+    match = HEAD.match(head)
+    if not match:
+        raise Malformed("no message")
+    verb, rest, base = match[1], head[match.end():], (0,) * REPLICAS
+    if verb in ("offer", "no"):
+        based = BASE.fullmatch(rest)
+        if not based:
+            raise Malformed(f"no base: {rest}")
+        base = read_counts(based[1])
+    elif rest or verb == "yes" and parts:
+        raise Malformed(f"more than a {verb}")
+    group, sender, to, instance, ballot = (int(it) for it in match.groups()[1:])
+    return Message(verb, group, sender, to, instance, ballot, base, read_updates(base, parts))
+
+
+def read_note(line: str, own: int) -> tuple[str, tuple[str, ...]]:
+    """What a node notes beside its messages: the word, and what follows."""
+    front = f"# r{own} "
+    word = line[len(front):].split(" ", 1)[0]
+    match = NOTES[word].fullmatch(line[len(front):]) if line.startswith(front) and word in NOTES else None
+    if not match:
+        raise Malformed("no note")
+    return word, match.groups()

@@ -1,0 +1,101 @@
+"""A node as a process over a folder, life after life."""
+from __future__ import annotations
+
+import os
+import select
+import subprocess
+import time
+from collections.abc import Callable
+from pathlib import Path
+
+from .check import Entry
+
+# A node is given no longer than this for its lines.
+SECONDS = 20
+# No shelf has such an object: the refusal shows that all lines before were handled.
+FENCE = "ask {} 9 total"
+
+
+class Stuck(Exception):
+    """A node that does not answer, or is not there."""
+
+
+class Node:
+    """Its lines go into the log. Each call returns the messages that it printed."""
+
+    def __init__(self, words: list[str], own: int, folder: Path, note: Callable[[Entry], None]) -> None:
+        self.words, self.own, self.folder, self.note = words, own, folder, note
+        self.errors = folder.with_suffix(".errors")
+        self.process: subprocess.Popen[bytes] | None = None
+        self.line, self.held, self.lives = 0, b"", 0
+
+    def start(self) -> None:
+        self.note(("start", self.own, ""))
+        self.line, self.held = 0, b""
+        self.lives += 1
+        with self.errors.open("wb") as errors:
+            self.process = subprocess.Popen(
+                self.words, stdin=subprocess.PIPE, stdout=subprocess.PIPE, stderr=errors, bufsize=0
+            )
+
+    def write(self, lines: list[str], half: str = "") -> None:
+        for line in lines:
+            self.note(("given", self.own, line))
+        self.line += len(lines)
+        try:
+            self.process.stdin.write("".join(f"{it}\n" for it in lines).encode() + half.encode())
+        except BrokenPipeError:
+            self.end_of_life("ended", str(self.process.wait()))
+            raise Stuck(f"node {self.own} has ended") from None
+
+    def lines_of(self, data: bytes) -> list[str]:
+        """The whole lines that have come, each of which is noted."""
+        *whole, self.held = (self.held + data).split(b"\n")
+        lines = [it.decode(errors="replace") for it in whole]
+        for line in lines:
+            self.note(("out", self.own, line))
+        return [it for it in lines if not it.startswith("#")]
+
+    def give(self, lines: list[str]) -> list[str]:
+        """Gives lines, and waits until all are handled."""
+        self.write([*lines, FENCE.format(self.own)])
+        wanted, found, seen = f"# r{self.own} refused {self.line} NoSuchObject\n".encode(), [], b""
+        until = time.monotonic() + SECONDS
+        while not seen.endswith(wanted):
+            if not select.select([self.process.stdout], [], [], max(0, until - time.monotonic()))[0]:
+                raise Stuck(f"node {self.own} does not answer {lines}")
+            data = self.process.stdout.read(2**16)
+            if not data:
+                self.end_of_life("ended", str(self.process.wait()))
+                raise Stuck(f"node {self.own} ended at one of {lines}: {self.errors.read_text()}")
+            seen = (seen + data)[-100:]
+            found += self.lines_of(data)
+        return found
+
+    def end_of_life(self, word: str, status: str) -> list[str]:
+        found = self.lines_of(self.process.stdout.read())
+        for line in self.errors.read_text(errors="replace").splitlines():
+            self.note(("said", self.own, line))
+        self.note((word, self.own, status))
+        self.process.stdin.close()
+        self.process.stdout.close()
+        self.process = None
+        return found
+
+    def kill(self, lines: list[str], half: str, seconds: float) -> list[str]:
+        """Kills it so long after it was given lines, and half a line."""
+        self.write(lines, half)
+        time.sleep(seconds)
+        self.process.kill()
+        self.process.wait()
+        return self.end_of_life("killed", "")
+
+    def end(self) -> None:
+        """Ends its input."""
+        self.process.stdin.close()
+        try:
+            status = self.process.wait(SECONDS)
+        except subprocess.TimeoutExpired:
+            self.process.kill()
+            raise Stuck(f"node {self.own} does not end") from None
+        self.end_of_life("ended", str(status))

@@ -1,0 +1,236 @@
+"""One run of a group, drawn from a seed; the moments of kills are of time, so that no run is quite repeated."""
+from __future__ import annotations
+
+import random
+import subprocess
+import time
+from collections import Counter
+from pathlib import Path
+
+from .check import Checker, Entry, Group
+from .lines import FAULTY
+from .nodes import Node, Stuck
+
+# A run that takes longer, or so many rounds of ticks at its end, hangs.
+SECONDS, ROUNDS = 60, 400
+LOST = REPEATED = 0.1
+QUESTIONS = ("1 total", "1 atleast 7", "2 largest", "3 size", "3 items", "3 has 2", "1 items", "2 total")
+
+
+def drawn_group(draw: random.Random, nodes: int | None) -> Group:
+    replicas = nodes or draw.choice((3, 3, 5))
+    votes = (1,) * replicas if draw.random() < 0.7 else tuple(draw.randint(1, 4) for _ in range(replicas))
+    return Group(replicas, draw.choice((0, 0, 1, 2)), draw.choice((10, 1_000_000, 1_000_000)), votes)
+
+
+def receiver(message: str) -> int:
+    return int(message.split(" ")[3])
+
+
+class Run:
+    """A group, its network, and what was noted of both."""
+
+    def __init__(self, program: str, seed: int, nodes: int | None, folder: Path) -> None:
+        self.draw = random.Random(seed)
+        self.group = drawn_group(self.draw, nodes)
+        self.checker, self.log = Checker(self.group), []
+        self.pool: list[str] = []
+        self.figures: Counter[str] = Counter()
+        self.nodes = []
+        for own in range(self.group.replicas):
+            (folder / str(own)).mkdir(parents=True)
+            words = [program, *self.options(own), "--journal", str(folder / str(own))]
+            self.nodes.append(Node(words, own, folder / str(own), self.note))
+        self.work = self.drawn_work()
+        self.until = time.monotonic() + SECONDS
+
+    def options(self, own: int) -> list[str]:
+        it = self.group
+        words = ["node", "--replicas", str(it.replicas), "--own", str(own), "--commits", str(it.commits)]
+        votes = ["--votes", *map(str, it.votes)] if set(it.votes) != {1} else []
+        return [*words, "--cap", str(it.cap), *votes]
+
+    def note(self, entry: Entry) -> None:
+        self.log.append(entry)
+        self.checker.take(entry)
+        self.figures[entry[0]] += 1
+        self.figures["messages"] += entry[0] == "out" and not entry[2].startswith("#")
+
+    # What is drawn
+
+    def drawn_work(self) -> list[tuple[int, str]]:
+        work = [(own, "submit") for own in range(self.group.replicas) for _ in range(self.draw.randint(1, 7))]
+        work += [(own, "ask") for own in range(self.group.replicas) for _ in range(3)]
+        for number in range(self.group.commits):
+            work += [(own, f"decide {own} {number} {self.draw.randint(1, 2)}") for own in range(self.group.replicas)]
+        if self.draw.random() < 0.5:
+            work += [(own, f"decide {own} {self.draw.randint(0, 2)} 3") for own in range(self.group.replicas)]
+        self.draw.shuffle(work)
+        return work
+
+    def drawn_op(self) -> str:
+        word = self.draw.choice(("inc", "inc", "dec", "raise", "put", "put", "remove", "mark"))
+        number = {"inc": 1, "dec": 1, "raise": 2, "put": 3, "remove": 3, "mark": 9}[word]
+        number = number if self.draw.random() < 0.95 else self.draw.choice((0, 1, 2, 3, 65535))
+        if word == "remove":
+            ids = [f"{own}.{at}" for own, node in enumerate(self.checker.nodes) for at in [*node.submitted, 1]]
+            tags = self.draw.sample(ids, min(len(ids), self.draw.randint(0, 4)))
+            return " ".join([str(number), word, *sorted(set(tags))])
+        largest = 2**32 - 1 if word in ("inc", "dec") else 2**64 - 1
+        value = self.draw.randint(0, 5) if self.draw.random() < 0.95 else largest
+        return f"{number} {word}" if word == "mark" else f"{number} {word} {value}"
+
+    def drawn_line(self, own: int, what: str) -> str:
+        """A line of the workload, for this node."""
+        if what == "submit":
+            return f"submit {own} {self.drawn_op()}"
+        return f"ask {own} {self.draw.choice((*QUESTIONS, '8 total'))}" if what == "ask" else what
+
+    def passed_line(self, own: int) -> str:
+        """A line that this node has to pass over, or to tell a fault of."""
+        other = (own + 1) % self.group.replicas
+        mail = [it for it in self.pool if receiver(it) != own]
+        elsewhere = ["", "# tick", f"# r{other} view 1 1 1 1 1 1 1 1", f"submit {other} 1 inc 7", f"decide {other} 0 9"]
+        elsewhere += [f"ask {other} 1 total", f"yes {self.group.replicas % 8 + 1} {other} {own} 0 1"]
+        elsewhere += self.draw.sample(mail, min(3, len(mail)))
+        return self.draw.choice((*elsewhere, *FAULTY))
+
+    # What happens
+
+    def post(self, sent: list[str]) -> None:
+        """Puts messages onto the network."""
+        self.pool.extend(sent)
+
+    def taken_mail(self, own: int, most: int) -> list[str]:
+        """So many messages to a node, off the network: some are lost, and some stay there to come again."""
+        mine = [at for at, line in enumerate(self.pool) if receiver(line) == own]
+        chosen = self.draw.sample(mine, min(most, len(mine)))
+        lines = [self.pool[at] for at in chosen if self.draw.random() >= LOST]
+        gone = {at for at in chosen if self.draw.random() >= REPEATED}
+        self.pool = [line for at, line in enumerate(self.pool) if at not in gone]
+        return lines
+
+    def taken_work(self, own: int, most: int) -> list[str]:
+        """So many lines of the workload that are this node's."""
+        mine = [it for it in self.work if it[0] == own][:most]
+        for it in mine:
+            self.work.remove(it)
+        return [self.drawn_line(*it) for it in mine]
+
+    def step(self) -> None:
+        """One node is given a few lines, or is killed. What comes to one that is down is lost."""
+        if self.draw.random() < 0.06:
+            return self.kill(self.draw.choice(self.nodes))
+        if not self.pool:
+            return self.tick()
+        own = self.draw.choice((receiver(self.draw.choice(self.pool)), self.draw.randrange(self.group.replicas)))
+        node, lines = self.nodes[own], self.taken_mail(own, self.draw.choice((1, 1, 1, 2, 4)))
+        if node.process:
+            lines += self.taken_work(node.own, 1) if self.draw.random() < 0.3 else []
+            lines += [self.passed_line(node.own)] if self.draw.random() < 0.1 else []
+            lines += ["tick"] if self.draw.random() < 0.02 else []
+            self.post(node.give(lines))
+
+    def kill(self, node: Node) -> None:
+        """Kills a node in the midst of some lines, or starts one that is down; that may be killed at its start."""
+        if node.process:
+            lines = self.taken_mail(node.own, self.draw.randint(0, 4))
+            lines += self.taken_work(node.own, self.draw.randint(0, 2))
+            self.draw.shuffle(lines)
+            half = f"submit {node.own} 1 inc 9" if self.draw.random() < 0.3 else ""
+            self.post(node.kill(lines, half, self.draw.uniform(0, 0.0002 * (len(lines) + 1))))
+            if self.draw.random() < 0.3:
+                self.tear(node)
+        if not node.process and self.draw.random() < 0.8:
+            node.start()
+            if self.draw.random() < 0.2:
+                self.post(node.kill([], "", self.draw.uniform(0, 0.003)))
+
+    def tear(self, node: Node) -> None:
+        """Puts behind a journal what a crash in an append may leave there."""
+        line = f"submit {node.own} 1 inc 4444"[: self.draw.randint(0, 19)] + "\0" * self.draw.randint(0, 3)
+        with (node.folder / "journal").open("ab") as journal:
+            journal.write(line.encode())
+        self.figures["torn"] += 1
+
+    def tick(self) -> None:
+        """Nothing moves: timers run out, and nodes that are down may come back."""
+        for node in self.nodes:
+            if node.process:
+                self.post(node.give([*self.taken_work(node.own, 1), "tick"]))
+            elif self.draw.random() < 0.5:
+                node.start()
+
+    def settle(self) -> None:
+        """No more kills: all learn all. Each node submits once more, so that it shows its view."""
+        for node in self.nodes:
+            if not node.process:
+                node.start()
+            # One goes on until it is refused, where the cap is small.
+            times = self.group.cap + 1 if node.own == 1 and self.group.cap < 100 else 1
+            self.post(node.give([f"submit {node.own} 9 mark"] * times))
+        for _ in range(ROUNDS):
+            while self.pool:
+                own = receiver(self.pool[0])
+                self.post(self.nodes[own].give(self.taken_mail(own, 4)))
+                self.in_time()
+            self.tick()
+            if not any(it.startswith("offer") for it in self.pool) and self.is_settled():
+                return
+        raise Stuck(f"views do not become equal: {[it.view for it in self.checker.nodes]}")
+
+    def is_settled(self) -> bool:
+        views = {it.view for it in self.checker.nodes}
+        made = tuple(max(it.submitted, default=0) for it in self.checker.nodes)
+        return len(views) == 1 and next(iter(views))[: self.group.replicas] == made
+
+    def in_time(self) -> None:
+        if time.monotonic() > self.until:
+            raise Stuck("it takes too long")
+
+    def apart(self, node: Node) -> None:
+        """A second process for a folder is turned away; and of a line without an end nothing is taken."""
+        done = subprocess.run(node.words, input=b"", capture_output=True, timeout=SECONDS, check=False)
+        if done.returncode != 5 or done.stdout or done.stderr.count(b"\n") != 1:
+            self.checker.fault("locked", node.own, f"status {done.returncode}, {done.stderr!r}")
+        node.end()
+        half = f"submit {node.own} 1 inc 5".encode()
+        done = subprocess.run(node.words, input=half, capture_output=True, timeout=SECONDS, check=False)
+        if done.returncode or done.stdout or done.stderr != b"line 1: BadLine\n":
+            self.checker.fault("half", node.own, f"{done.stderr!r}, {done.stdout!r}, status {done.returncode}")
+        node.start()
+
+    def ask_all(self) -> None:
+        for node in self.nodes:
+            node.give([f"ask {node.own} {it}" for it in QUESTIONS])
+            self.post(node.give([]))
+
+    def play(self) -> None:
+        for node in self.nodes:
+            node.start()
+        while self.work:
+            self.step()
+            self.in_time()
+        for node in self.nodes:
+            if node.lives == 1:
+                self.kill(node)
+        self.settle()
+        self.note(("last", 0, ""))
+        self.ask_all()
+        self.apart(self.draw.choice(self.nodes))
+        for node in self.nodes:
+            node.end()
+            node.start()
+        self.ask_all()
+        for node in self.nodes:
+            node.end()
+        self.checker.end()
+
+    def stop(self) -> None:
+        """Ends what is left of it."""
+        for node in self.nodes:
+            if node.process:
+                node.process.kill()
+                node.process.wait()
+                node.process.stdin.close()
+                node.process.stdout.close()
