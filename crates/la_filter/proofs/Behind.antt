@@ -9,8 +9,8 @@ use Rattle.la_object.specs.declared.kind.Kind.{Kind}
 use Rattle.la_program.specs.Streams.{AppendsPrefix}
 use Rattle.la_node.specs.Nodes.{KeptState}
 use Rattle.la_streams.specs.Streams.{IsOneLine, ReadSo, ReadsFront, TakesSome, TellsAll}
-use Rattle.la_streams.proofs.Reading.{reads_line, reads_all, reads_front}
-use Rattle.la_streams.proofs.TellingOn.{tells_on}
+use Rattle.la_streams.proofs.lemmas.Reading.{reads_line, reads_all, reads_front}
+use Rattle.la_streams.proofs.lemmas.TellingOn.{tells_on}
 use Rattle.la_filter.specs.declared.error.NodeFault.{NodeFault}
 use Rattle.la_filter.specs.declared.error.NodeFault.TheVariants as fault
 use Rattle.la_filter.specs.Turns.{Turn, IsTurn}

@@ -1,8 +1,8 @@
 -- What is written part by part.
-use Rattle.std.proofs.Common.{◌≡◌, ℕ, ◌+◌, ◌-◌, ◌<◌, ◌≤◌, min, refl, arith, append_assoc, Some, Result, Ok, Err, OnOk, OnErr, get_or, [], ◌∷◌, List, ◌++◌, length, take, drop, Option, None, ap, sym, ◌∙◌, subst}
+use Rattle.std.proofs.Common.{◌≡◌, ℕ, ◌+◌, ◌-◌, ◌<◌, ◌≤◌, refl, arith, append_assoc, Some, get_or, [], ◌∷◌, List, ◌++◌, length, take, drop, Option, None, ap, sym, ◌∙◌, subst}
 use Rattle.std.specs.Io.KnownBytes.{Appends, Keeps}
 use Rattle.std.proofs.Math.Seq.{take-add}
-use Rattle.std.proofs.lemmas.List.{take_rest, take_more, take-append-drop, flat_map_more, take_all, take_at, take_min, drop_at, take-append-le, append-nil}
+use Rattle.std.proofs.lemmas.List.{take_rest, take_more, take-append-drop, flat_map_more, take_all, append-nil}
 use Rattle.std.proofs.KnownBytes.{Appends-trans, Appends-kept}
 use Rattle.std.specs.List.{flat_map, slice_get}
 use Rattle.std.proofs.lemmas.Option.{slice_get_within, get_or_from_slice_get}
@@ -10,6 +10,7 @@ use Rattle.std.proofs.lemmas.Grind.{flat_map-append}
 use Rattle.la_object.specs.Shelves.{ShelfState}
 use Rattle.la_script.specs.Pieces.{Parts, stretch_text, joined}
 use Rattle.la_program.specs.Streams.{AppendsPrefix}
+use Rattle.la_program.proofs.lemmas.Fronts.{prefix_more, prefix_behind}
 use Rattle.la_program.specs.Play.{FitAnyGroup, ReadsInput, Answers, Plays, PlaysPrefix}
 
 -- what is written after the first d bytes
@@ -57,19 +58,6 @@ prefix_all a b xs p = (length xs, subst (Appends a b) (sym (take_all (length xs)
 pub kept_all : (a b c : Option (List ℕ)) (xs : List ℕ) → Appends a b xs → Keeps b c → Appends a c xs
 kept_all = Appends-kept
 
--- a front of the first bytes is one of more
-pub prefix_more : (a b : Option (List ℕ)) (xs more : List ℕ) → AppendsPrefix a b xs → AppendsPrefix a b (xs ++ more)
-prefix_more a b xs more (n, p) =
-    let within : min n (length xs) ≤ length xs = omega arith in
-    (min n (length xs), subst (Appends a b) (sym (take-append-le (min n (length xs)) xs more within ∙ take_min n xs)) p)
-
--- some bytes, and then a front of others
-pub prefix_behind : (a b c : Option (List ℕ)) (xs ys : List ℕ) → Appends a b xs → AppendsPrefix b c ys → AppendsPrefix a c (xs ++ ys)
-prefix_behind a b c xs ys p (n, q) = (length xs + n, subst (Appends a c) (sym (take_behind xs ys n)) (Appends-trans a b c xs (take n ys) p q))
-  where
-    take_behind : (xs ys : List ℕ) (n : ℕ) → take (length xs + n) (xs ++ ys) ≡ xs ++ take n ys
-    take_behind xs ys n = take-add (length xs) n (xs ++ ys) ∙ ap (λ t. t ++ take n (drop (length xs) (xs ++ ys))) (take_at xs ys (length xs) refl) ∙ ap (λ t. xs ++ take n t) (drop_at xs ys (length xs) refl)
-
 -- the stretch that is written next, and what is behind it
 module _ (p : Parts) (place : ℕ) (words ids : List ℕ) (here : Some (words, ids) ≡ slice_get p.stretches place) where
   pub one_more : flat_map stretch_text (take place p.stretches) ++ (words ++ ids) ≡ flat_map stretch_text (take (place + 1) p.stretches)
@@ -106,12 +94,3 @@ module _ (p : Parts) (place : ℕ) (all : length p.stretches ≤ place) (rest : 
 
   pub rest_front : (a b c : Option (List ℕ)) → Appends a b (flat_map stretch_text (take place p.stretches)) → AppendsPrefix b c rest → AppendsPrefix a c (joined p)
   rest_front a b c before front = subst (AppendsPrefix a c) whole (prefix_behind a b c (flat_map stretch_text (take place p.stretches)) rest before front)
-
--- what holds whatever a call answered
-pub always_ok : {T E P : Type 0} (r : Result T E) → P → OnOk r P
-always_ok (Ok x) p = p
-always_ok (Err e) p = tt
-
-pub always_err : {T E P : Type 0} (r : Result T E) → P → OnErr r P
-always_err (Ok x) p = tt
-always_err (Err e) p = p

@@ -6,7 +6,7 @@ use Rattle.std.proofs.Math.Seq.{take-add}
 use Rattle.std.proofs.lemmas.Bool.Decides.{nat_tests}
 use Rattle.std.proofs.lemmas.List.Elements.{All-nil, All-cons, All-append}
 use Rattle.la_program.specs.Streams.{AppendsPrefix}
-use Rattle.la_program.proofs.Written.{prefix_more, prefix_behind}
+use Rattle.la_program.proofs.lemmas.Fronts.{prefix_more, prefix_behind}
 use Rattle.la_streams.specs.Streams.{IsOneLine}
 use Rattle.std.specs.List.{flat_map, slice_get}
 use Rattle.std.proofs.lemmas.List.{flat_map_more, take_more, take_all}

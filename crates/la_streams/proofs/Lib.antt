@@ -1,5 +1,4 @@
+pub mod lemmas
 pub mod Adding
 pub mod Parts
-pub mod Reading
 pub mod Sources
-pub mod TellingOn

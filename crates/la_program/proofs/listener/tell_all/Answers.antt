@@ -2,7 +2,8 @@ use Rattle.std.proofs.Common.{◌≤◌, length, arith}
 use Rattle.std.proofs.lemmas.List.{length-drop}
 use Rattle.std.proofs.lemmas.Result.{on_err_weaker}
 use Rattle.la_program.proofs.Told.{rest_is_refused, flush_is_refused, all_is_told}
-use Rattle.la_program.proofs.Written.{written_more, always_ok, always_err}
+use Rattle.la_program.proofs.Written.{written_more}
+use Rattle.la_program.proofs.lemmas.Always.{always_ok, always_err}
 use Rattle.la_program.proofs.listener.tell_all.Goals as goal
 
 pub loop-done-preserved : goal.loop-done-preserved

@@ -1,5 +1,6 @@
 use Rattle.std.proofs.lemmas.Result.{on_err_weaker}
-use Rattle.la_program.proofs.Written.{prefix_more, prefix_behind, always_err}
+use Rattle.la_program.proofs.lemmas.Fronts.{prefix_more, prefix_behind}
+use Rattle.la_program.proofs.lemmas.Always.{always_err}
 use Rattle.la_program.proofs.streams.put_stretch.Goals as goal
 
 pub returns-in_err-put_bytes-clause-err : goal.returns-in_err-put_bytes-clause-err

@@ -1,4 +1,5 @@
-use Rattle.la_program.proofs.Written.{prefix_all, kept_all, always_err}
+use Rattle.la_program.proofs.Written.{prefix_all, kept_all}
+use Rattle.la_program.proofs.lemmas.Always.{always_err}
 use Rattle.la_program.proofs.streams.write_all.Goals as goal
 
 pub returns-clause-err : goal.returns-clause-err

@@ -1,6 +1,7 @@
 use Rattle.std.proofs.Common.{◌≤◌, length, arith}
 use Rattle.la_script.specs.Pieces.{joined}
-use Rattle.la_program.proofs.Written.{written_front, written_next, written_rest, rest_front, kept_all, prefix_all, always_ok, always_err}
+use Rattle.la_program.proofs.Written.{written_front, written_next, written_rest, rest_front, kept_all, prefix_all}
+use Rattle.la_program.proofs.lemmas.Always.{always_ok, always_err}
 use Rattle.la_program.proofs.streams.write_pieces.Goals as goal
 use Rattle.la_program.proofs.streams.write_pieces.Goals.{In_ok-put_bytes}
 

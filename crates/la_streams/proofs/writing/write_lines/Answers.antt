@@ -1,6 +1,6 @@
 use Rattle.std.proofs.Common.{◌≤◌, length, arith}
 use Rattle.std.proofs.lemmas.List.{length-drop}
-use Rattle.la_program.proofs.Written.{always_err}
+use Rattle.la_program.proofs.lemmas.Always.{always_err}
 use Rattle.la_streams.proofs.Adding.{written_on, prefix_on}
 use Rattle.la_streams.proofs.writing.write_lines.Goals as goal
 
