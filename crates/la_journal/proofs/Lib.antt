@@ -9,3 +9,4 @@ mod StepsMore
 mod Takes
 mod Torn
 mod Whole
+mod Together

@@ -8,3 +8,4 @@ pub mod Outcomes
 pub mod Held
 pub mod Starts
 pub mod Snapshots
+pub mod Staging

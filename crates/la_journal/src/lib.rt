@@ -22,6 +22,7 @@ mod machine;
 mod memory_disk;
 mod record;
 mod recovery;
+mod staging;
 
 pub use compaction::Uncompacted;
 pub use contents::Contents;
@@ -30,3 +31,4 @@ pub use durable::{Durable, Refused};
 pub use machine::{Machine, Snapshot};
 pub use memory_disk::MemoryDisk;
 pub use recovery::{Unplayed, recover};
+pub use staging::{Staged, Uncommitted, Unstaged};

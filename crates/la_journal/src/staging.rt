@@ -1,0 +1,148 @@
+// Calls that are taken one by one, and whose lines are put on the disk together.
+ghost use Rattle.std.specs.Prelude.{◌≡◌, ◌++◌, ◌∷◌, [], ◌<◌, ◌≤◌, ◌⊎◌, List, ℕ, length, map, true, false, Some, IfOk, IfErr, OnOk, OnErr};
+ghost use Rattle.la_journal.specs.Disk.{LeavesOnly, Elapses};
+ghost use Rattle.la_journal.specs.Lines.{lines, file_of};
+ghost use Rattle.la_journal.specs.Machine.{after, steps, LeadsToSome};
+ghost use Rattle.la_journal.specs.Durable.{IsSettled};
+ghost use Rattle.la_journal.specs.Staging.{IsStageRefusal, IsNotCommitted};
+
+use crate::durable::{encode, keep};
+use crate::{Disk, Durable, Machine};
+use std::alloc::Global;
+use thiserror::Error;
+
+/// Why staged lines are not on the disk. The machine is ahead of the file.
+#[derive(Clone, Copy, Debug, PartialEq, Eq, Error)]
+pub enum Uncommitted {
+    /// A growth was refused. The file is as it was, and all lines stay staged.
+    #[error("out of memory")]
+    Memory,
+
+    /// The disk failed. Nothing more is taken: the file has the first some of the lines, and has to be recovered
+    /// anew.
+    #[error("the disk failed")]
+    Disk,
+
+    /// The disk failed earlier. Nothing has changed.
+    #[error("the disk failed earlier")]
+    Closed,
+}
+
+/// Why an input was not staged. The machine, the lines that were staged and the file are as they were.
+#[derive(Debug, Drop)]
+pub enum Unstaged<R> {
+    /// The machine refuses it.
+    Machine(R),
+
+    /// A growth was refused.
+    Memory,
+
+    /// The disk failed earlier.
+    Closed,
+}
+
+/// A machine that takes calls before their lines are on the disk: [`Staged::commit`] puts all of them there at
+/// once. Until then no answer may be given out.
+#[derive(Drop)]
+pub struct Staged<M: Machine, D: Disk> {
+    pub durable: Durable<M, D>,
+    // The lines that the file has not, each with its end.
+    pub text: Vec<u8>,
+    ghost whole: { text.items ≡ file_of (lines text.items) },
+}
+
+impl<M: Machine, D: Disk> Staged<M, D> {
+    /// Nothing staged.
+    pub fn new(alloc: Global, durable: Durable<M, D>) -> Staged<M, D>
+        ensures durable { result.durable ≡ durable }
+        ensures nothing { result.text.items ≡ [] }
+    {
+        Staged {
+            durable,
+            text: Vec::new(alloc),
+        }
+    }
+
+    /// Takes an input: its line is staged, and no byte of the file changes. Linear in the line.
+    pub fn stage(
+        &mut self,
+        alloc: Global,
+        input: &M::Input,
+    ) -> Result<M::Output, Unstaged<M::Refusal>>
+        ensures staged { OnOk result ((lines self.new.text.items ≡ lines self.old.text.items ++ M.text (M.call input.now) ∷ [])
+            × (M.step (M.state self.old.durable.machine) (M.call input.now) ≡ Some (M.state self.new.durable.machine))) }
+        ensures answer { IfOk result (λ output. M.answer output ≡ M.answers (M.state self.old.durable.machine) (M.call input.now)) }
+        ensures err { OnErr result ((lines self.new.text.items ≡ lines self.old.text.items)
+            × (M.state self.new.durable.machine ≡ M.state self.old.durable.machine)) }
+        ensures cause { IfErr result (IsStageRefusal M.lacks_memory self.old.durable.closed
+            (M.step (M.state self.old.durable.machine) (M.call input.now))) }
+        ensures closed { self.new.durable.closed ≡ self.old.durable.closed }
+        ensures disk { self.new.durable.disk ≡ self.old.durable.disk }
+    {
+        if self.durable.closed {
+            return Err(Unstaged::Closed);
+        }
+        let Ok(line) = encode::<M>(alloc, input) else {
+            return Err(Unstaged::Memory);
+        };
+        let Ok(()) = self.text.reserve(line.len()) else {
+            return Err(Unstaged::Memory);
+        };
+        match self.durable.machine.apply(input) {
+            Ok(output) => {
+                let _there_is_room = self.text.extend_from_slice(&line);
+                Ok(output)
+            }
+            Err(refusal) => Err(Unstaged::Machine(refusal)),
+        }
+    }
+
+    /// Puts all staged lines behind the file's and has them on the disk: one append and one sync, and neither
+    /// where nothing is staged.
+    pub fn commit(&mut self) -> Result<(), Uncommitted>
+        requires { self.old.durable.closed ≡ false → IsSettled D.seen D.may_leave self.old.durable.disk }
+        ensures ok { OnOk result ((self.new.durable.closed ≡ false)
+            × (lines (D.seen self.new.durable.disk) ≡ lines (D.seen self.old.durable.disk) ++ lines self.old.text.items)
+            × (self.new.text.items ≡ [])) }
+        ensures machine { self.new.durable.machine ≡ self.old.durable.machine }
+        ensures open { self.new.durable.closed ≡ false → IsSettled D.seen D.may_leave self.new.durable.disk }
+        ensures same { OnErr result ((self.new.text.items ≡ self.old.text.items)
+            × (self.new.durable.closed ≡ false → D.seen self.new.durable.disk ≡ D.seen self.old.durable.disk)) }
+        ensures cause { IfErr result (IsNotCommitted self.old.durable.closed self.new.durable.closed
+            (D.faults self.old.durable.disk) (D.faults self.new.durable.disk)) }
+        ensures still { self.old.durable.closed ≡ true → self.new ≡ self.old }
+
+        // The journal leads on by the calls whose lines were staged.
+        ensures leads { OnOk result ((start before : M.State) (calls : List M.Call)
+            → after M.named_state M.named M.step start (D.seen self.old.durable.disk) ≡ Some before
+            → lines self.old.text.items ≡ map M.text calls
+            → after M.named_state M.named M.step start (D.seen self.new.durable.disk) ≡ steps M.step calls before) }
+
+        // And a crash at any moment leaves a file that leads on by the first some of them.
+        ensures any_moment { self.old.durable.closed ≡ false → (start before : M.State) (calls : List M.Call)
+            → after M.named_state M.named M.step start (D.seen self.old.durable.disk) ≡ Some before
+            → lines self.old.text.items ≡ map M.text calls
+            → LeavesOnly D.moment D.left_since self.old.durable.disk self.new.durable.disk
+            (LeadsToSome (after M.named_state M.named M.step start) M.step calls before) }
+    {
+        if self.durable.closed {
+            return Err(Uncommitted::Closed);
+        }
+        if self.text.is_empty() {
+            return Ok(());
+        }
+        let Ok(()) = self.durable.disk.reserve(self.text.len()) else {
+            return Err(Uncommitted::Memory);
+        };
+        match keep(&mut self.durable.disk, &self.text) {
+            Ok(()) => {
+                self.text.clear();
+                Ok(())
+            }
+            Err(_) => {
+                self.durable.closed = true;
+                Err(Uncommitted::Disk)
+            }
+        }
+    }
+}
