@@ -63,10 +63,8 @@ pub record TakesNone (Told : List (List ℕ) → Type 0) (out_before out_after :
   pub now_is : now ≡ before
   pub tells : Told []
 
--- where the disk failed nothing was written of the line, and the journal is to be recovered anew; where a write failed, or
--- there was no memory, the line was taken, but only a front of what it comes to was written
+-- where a write failed, or there was no memory, the line was taken, but only a front of what it comes to was written
 abbrev pub Breaks : (Is : Turn → Type 0) (Told : List (List ℕ) → Type 0) (out_before out_after : Option (List ℕ)) (journal_before journal_after : List (List ℕ)) (now : KeptState) → NodeFault → Type 0
-Breaks Is Told out_before out_after journal_before journal_after now fault.DiskFault = Keeps out_before out_after
 Breaks Is Told out_before out_after journal_before journal_after now fault.WriteFault = TakesCut Is Told out_before out_after journal_before journal_after now
 Breaks Is Told out_before out_after journal_before journal_after now fault.Memory = TakesCut Is Told out_before out_after journal_before journal_after now
 Breaks Is Told out_before out_after journal_before journal_after now _ = ⊥
@@ -105,8 +103,6 @@ Steps objects n k Told left_before left_after out_before out_after journal_befor
 
 -- some of a line was read; it was not taken, or of what it comes to only a front was written
 abbrev pub IsStepRefusal : (objects : List (ℕ × Kind)) (n : KeptState) (k : ℕ) (Told : List (List ℕ) → Type 0) (left_before left_after : Option (List ℕ)) (out_before out_after : Option (List ℕ)) (journal_before journal_after : List (List ℕ)) (now : KeptState) → NodeFault → Type 0
-IsStepRefusal objects n k Told left_before left_after out_before out_after journal_before journal_after now fault.DiskFault =
-    TakesSome left_before left_after × Keeps out_before out_after
 IsStepRefusal objects n k Told left_before left_after out_before out_after journal_before journal_after now fault.ReadFault =
     TakesSome left_before left_after × TakesNone Told out_before out_after journal_before journal_after n now
 IsStepRefusal objects n k Told left_before left_after out_before out_after journal_before journal_after now fault.WriteFault =
@@ -115,6 +111,23 @@ IsStepRefusal objects n k Told left_before left_after out_before out_after journ
     (TakesSome left_before left_after × TakesNone Told out_before out_after journal_before journal_after n now)
     ⊎ TakesCut (IsStep objects n k left_before left_after) Told out_before out_after journal_before journal_after now
 IsStepRefusal objects n k Told left_before left_after out_before out_after journal_before journal_after now _ = ⊥
+
+-- what was held back was not written: where a write failed the second holds, and else the first
+abbrev pub Unflushed : (Kept Cut : Type 0) → NodeFault → Type 0
+Unflushed Kept Cut fault.DiskFault = Kept
+Unflushed Kept Cut fault.Memory = Kept
+Unflushed Kept Cut fault.WriteFault = Cut
+Unflushed Kept Cut _ = ⊥
+
+-- what is held back is held in memory
+abbrev pub of_step : NodeFault → NodeFault
+of_step fault.WriteFault = fault.Memory
+of_step fault.Memory = fault.Memory
+of_step fault.ReadFault = fault.ReadFault
+of_step fault.BadConfig = fault.BadConfig
+of_step fault.NoJournal = fault.NoJournal
+of_step fault.BadJournal = fault.BadJournal
+of_step fault.DiskFault = fault.DiskFault
 
 -- ## All of them
 
@@ -129,34 +142,38 @@ pub record Serves (objects : List (ℕ × Kind)) (n : KeptState) (Told : List (L
   pub journal : journal_after ≡ journal_before ++ kept turns
   pub tells : Told (told turns ++ cut_told (1 + length turns) rest)
 
--- some were: of the last, if it was, perhaps only a front was written
-pub record ServesCut (objects : List (ℕ × Kind)) (n : KeptState) (Told : List (List ℕ) → Type 0) (left_before left_after out_before out_after : Option (List ℕ)) (journal_before journal_after : List (List ℕ)) (now : KeptState) : Type 0 where
+-- some were, and are in the journal
+pub record ServesSome (objects : List (ℕ × Kind)) (n : KeptState) (Told : List (List ℕ) → Type 0) (left_before left_after : Option (List ℕ)) (Wrote : List ℕ → Type 0) (journal_before journal_after : List (List ℕ)) (now : KeptState) : Type 0 where
+  pub turns : List Turn
+  pub are : AreTurns objects n 1 turns now
+  pub read : ReadsFront left_before left_after (lines_of turns)
+  pub wrote : Wrote (written turns)
+  pub journal : journal_after ≡ journal_before ++ kept turns
+  -- what is behind them, where the input is at its end
+  pub rest : List ℕ
+  pub tells : Told (told turns ++ cut_told (1 + length turns) rest)
+
+-- some were, but of the last ones nothing was written, and the journal may lack them
+pub record ServesClosed (objects : List (ℕ × Kind)) (n : KeptState) (Told : List (List ℕ) → Type 0) (left_before left_after out_before out_after : Option (List ℕ)) : Type 0 where
   pub turns : List Turn
   pub last : List Turn
-  pub one : length last ≤ 1
-  pub are : AreTurns objects n 1 (turns ++ last) now
+  pub after : KeptState
+  pub are : AreTurns objects n 1 (turns ++ last) after
   pub read : ReadsFront left_before left_after (lines_of (turns ++ last))
-  pub between : Option (List ℕ)
-  pub wrote : Appends out_before between (written turns)
-  pub cut : AppendsPrefix between out_after (written last)
-  pub journal : journal_after ≡ journal_before ++ kept (turns ++ last)
-  pub tells : Told (told (turns ++ last))
-
--- some were, and the disk failed at the next: nothing was written of that
-pub record ServesClosed (objects : List (ℕ × Kind)) (n : KeptState) (left_before left_after out_before out_after : Option (List ℕ)) : Type 0 where
-  pub turns : List Turn
-  pub before : KeptState
-  pub are : AreTurns objects n 1 turns before
-  pub read : ReadsFront left_before left_after (lines_of turns)
   pub wrote : Appends out_before out_after (written turns)
+  pub rest : List ℕ
+  pub tells : Told (told (turns ++ last) ++ cut_told (1 + length (turns ++ last)) rest)
 
+-- Where a read failed all of these was written, and where a write did, or there was no memory, a front of it; but where
+-- the disk failed, or had no memory, nothing of the last ones.
 abbrev pub IsServeRefusal : (objects : List (ℕ × Kind)) (n : KeptState) (Told : List (List ℕ) → Type 0) (left_before left_after out_before out_after : Option (List ℕ)) (journal_before journal_after : List (List ℕ)) (now : KeptState) → NodeFault → Type 0
 IsServeRefusal objects n Told left_before left_after out_before out_after journal_before journal_after now fault.DiskFault =
-    ServesClosed objects n left_before left_after out_before out_after
+    ServesClosed objects n Told left_before left_after out_before out_after
 IsServeRefusal objects n Told left_before left_after out_before out_after journal_before journal_after now fault.ReadFault =
-    ServesCut objects n Told left_before left_after out_before out_after journal_before journal_after now
+    ServesSome objects n Told left_before left_after (Appends out_before out_after) journal_before journal_after now
 IsServeRefusal objects n Told left_before left_after out_before out_after journal_before journal_after now fault.WriteFault =
-    ServesCut objects n Told left_before left_after out_before out_after journal_before journal_after now
+    ServesSome objects n Told left_before left_after (AppendsPrefix out_before out_after) journal_before journal_after now
 IsServeRefusal objects n Told left_before left_after out_before out_after journal_before journal_after now fault.Memory =
-    ServesCut objects n Told left_before left_after out_before out_after journal_before journal_after now
+    ServesSome objects n Told left_before left_after (AppendsPrefix out_before out_after) journal_before journal_after now
+    ⊎ ServesClosed objects n Told left_before left_after out_before out_after
 IsServeRefusal objects n Told left_before left_after out_before out_after journal_before journal_after now _ = ⊥

@@ -3,12 +3,11 @@ ghost use Rattle.std.specs.Prelude.{List, ℕ, ◌≡◌, ◌⊎◌, ◌≢◌, 
 ghost use Rattle.std.specs.Io.KnownBytes.{Keeps};
 ghost use Rattle.la_program.specs.Streams.{Writes, WritesPrefix};
 ghost use Rattle.la_journal.specs.Lines.{lines};
-ghost use Rattle.la_journal.specs.Durable.{IsSettled};
 ghost use Rattle.la_lines.specs.declared.calls.TheConstants.{MAX_LINE};
 ghost use Rattle.la_lines.specs.Calls.{called};
 ghost use Rattle.la_lines.specs.Messages.{said_body};
 ghost use Rattle.la_lines.specs.CallLines.{named};
-ghost use Rattle.la_filter.specs.declared.error.NodeFault.TheVariants.{WriteFault, DiskFault};
+ghost use Rattle.la_filter.specs.declared.error.NodeFault.TheVariants.{WriteFault};
 ghost use Rattle.la_streams.specs.Notes.{refused_note, fault_line};
 ghost use Rattle.la_streams.specs.Streams.{Tells, TellsAll};
 ghost use Rattle.la_node.specs.Restarts.{kept_state};
@@ -23,7 +22,7 @@ use crate::names::refusal_name;
 use crate::said::Said;
 use crate::texts::{answer_text, mail_text, text_of};
 use crate::{Filter, NodeFault};
-use la_journal::{Disk, Durable};
+use la_journal::{Disk, Staged};
 use la_lines::{Call, LineError, LineFault};
 use la_node::{Input, NodeMachine};
 use la_object::{Query, Replicated, Shelf, ShelfError};
@@ -80,28 +79,27 @@ fn is_known(view: &UpdateSet, body: &Body) -> bool
     }
 }
 
-// A call that is kept: its lines go out only once it is on the disk.
+// A call that is kept: its line is staged.
 fn take<W: Write, D: Disk>(
     alloc: Global,
-    node: &mut Durable<NodeMachine, D>,
+    node: &mut Staged<NodeMachine, D>,
     number: u64,
     input: &Input,
     output: &mut W,
 ) -> Result<(), NodeFault>
-    requires settled { IsSettled D.seen D.may_leave node.old.disk }
-    requires unclosed { node.old.closed ≡ false }
-    ensures ok { OnOk result (Takes (Of input.now.line (IsKeptTurn (kept_state node.old.machine.replicas node.old.machine.node) number (called input.now.call))) TellsNothing (W.contents output.old) (W.contents output.new)
-        (lines (D.seen node.old.disk)) (lines (D.seen node.new.disk)) (kept_state node.new.machine.replicas node.new.machine.node)) }
-    ensures err { IfErr result (Breaks (Of input.now.line (IsKeptTurn (kept_state node.old.machine.replicas node.old.machine.node) number (called input.now.call))) TellsNothing (W.contents output.old) (W.contents output.new)
-        (lines (D.seen node.old.disk)) (lines (D.seen node.new.disk)) (kept_state node.new.machine.replicas node.new.machine.node)) }
-    ensures settled { node.new.closed ≡ false → IsSettled D.seen D.may_leave node.new.disk }
-    ensures unclosed { OnOk result (node.new.closed ≡ false) }
-    ensures grows { node.new.closed ≡ false → IsSubset node.old.machine.node.replica.view node.new.machine.node.replica.view }
+    requires unclosed { node.old.durable.closed ≡ false }
+    ensures ok { OnOk result (Takes (Of input.now.line (IsKeptTurn (kept_state node.old.durable.machine.replicas node.old.durable.machine.node) number (called input.now.call))) TellsNothing (W.contents output.old) (W.contents output.new)
+        (lines node.old.text.items) (lines node.new.text.items) (kept_state node.new.durable.machine.replicas node.new.durable.machine.node)) }
+    ensures err { IfErr result (Breaks (Of input.now.line (IsKeptTurn (kept_state node.old.durable.machine.replicas node.old.durable.machine.node) number (called input.now.call))) TellsNothing (W.contents output.old) (W.contents output.new)
+        (lines node.old.text.items) (lines node.new.text.items) (kept_state node.new.durable.machine.replicas node.new.durable.machine.node)) }
+    ensures disk { node.new.durable.disk ≡ node.old.durable.disk }
+    ensures unclosed { node.new.durable.closed ≡ false }
+    ensures grows { IsSubset node.old.durable.machine.node.replica.view node.new.durable.machine.node.replica.view }
 {
-    let own = node.machine.node.own();
-    let before = node.machine.node.view().len();
-    match keep(alloc, node, input)? {
-        Kept::Taken(given) => match text_of(alloc, &node.machine, before, input.call(), &given) {
+    let own = node.durable.machine.node.own();
+    let before = node.durable.machine.node.view().len();
+    match keep(alloc, node, input) {
+        Kept::Taken(given) => match text_of(alloc, &node.durable.machine, before, input.call(), &given) {
             Ok(text) => {
                 write_lines(output, &text)?;
                 Ok(())
@@ -246,24 +244,23 @@ fn call_here<W: Write, D: Disk, B: Replicated>(
     input: &Input,
     output: &mut W,
 ) -> Result<(), NodeFault>
-    requires settled { IsSettled D.seen D.may_leave filter.old.node.disk }
-    requires unclosed { filter.old.node.closed ≡ false }
-    requires within { IsSubset filter.old.shelf.view filter.old.node.machine.node.replica.view }
-    ensures ok { OnOk result (Takes (Of input.now.line (IsTurnHere filter.old.shelf.objects (kept_state filter.old.node.machine.replicas filter.old.node.machine.node) number (called input.now.call))) TellsNothing (W.contents output.old) (W.contents output.new)
-        (lines (D.seen filter.old.node.disk)) (lines (D.seen filter.new.node.disk)) (kept_state filter.new.node.machine.replicas filter.new.node.machine.node)) }
-    ensures err { IfErr result (Breaks (Of input.now.line (IsTurnHere filter.old.shelf.objects (kept_state filter.old.node.machine.replicas filter.old.node.machine.node) number (called input.now.call))) TellsNothing (W.contents output.old) (W.contents output.new)
-        (lines (D.seen filter.old.node.disk)) (lines (D.seen filter.new.node.disk)) (kept_state filter.new.node.machine.replicas filter.new.node.machine.node)) }
-    ensures settled { filter.new.node.closed ≡ false → IsSettled D.seen D.may_leave filter.new.node.disk }
-    ensures unclosed { OnOk result (filter.new.node.closed ≡ false) }
+    requires unclosed { filter.old.node.durable.closed ≡ false }
+    requires within { IsSubset filter.old.shelf.view filter.old.node.durable.machine.node.replica.view }
+    ensures ok { OnOk result (Takes (Of input.now.line (IsTurnHere filter.old.shelf.objects (kept_state filter.old.node.durable.machine.replicas filter.old.node.durable.machine.node) number (called input.now.call))) TellsNothing (W.contents output.old) (W.contents output.new)
+        (lines filter.old.node.text.items) (lines filter.new.node.text.items) (kept_state filter.new.node.durable.machine.replicas filter.new.node.durable.machine.node)) }
+    ensures err { IfErr result (Breaks (Of input.now.line (IsTurnHere filter.old.shelf.objects (kept_state filter.old.node.durable.machine.replicas filter.old.node.durable.machine.node) number (called input.now.call))) TellsNothing (W.contents output.old) (W.contents output.new)
+        (lines filter.old.node.text.items) (lines filter.new.node.text.items) (kept_state filter.new.node.durable.machine.replicas filter.new.node.durable.machine.node)) }
+    ensures disk { filter.new.node.durable.disk ≡ filter.old.node.durable.disk }
+    ensures unclosed { filter.new.node.durable.closed ≡ false }
     ensures objects { filter.new.shelf.objects ≡ filter.old.shelf.objects }
-    ensures within { filter.new.node.closed ≡ false → IsSubset filter.new.shelf.view filter.new.node.machine.node.replica.view }
+    ensures within { IsSubset filter.new.shelf.view filter.new.node.durable.machine.node.replica.view }
 {
     match input.call() {
         Call::Ask { object, query, .. } => {
-            let (machine, shelf) = (&filter.node.machine, &mut filter.shelf);
+            let (machine, shelf) = (&filter.node.durable.machine, &mut filter.shelf);
             ask(alloc, machine, shelf, number, *object, query, output)
         }
-        Call::Tick => tick(alloc, &filter.node.machine, number, output),
+        Call::Tick => tick(alloc, &filter.node.durable.machine, number, output),
         Call::Submit { .. } | Call::Decide { .. } | Call::Receive(_) => {
             take(alloc, &mut filter.node, number, input, output)
         }
@@ -278,31 +275,29 @@ fn call<W: Write, D: Disk, B: Replicated>(
     input: &Input,
     output: &mut W,
 ) -> Result<(), NodeFault>
-    requires settled { IsSettled D.seen D.may_leave filter.old.node.disk }
-    requires unclosed { filter.old.node.closed ≡ false }
-    requires within { IsSubset filter.old.shelf.view filter.old.node.machine.node.replica.view }
-    ensures ok { OnOk result (Takes (Of input.now.line (IsCallTurn filter.old.shelf.objects (kept_state filter.old.node.machine.replicas filter.old.node.machine.node) number (called input.now.call))) TellsNothing (W.contents output.old) (W.contents output.new)
-        (lines (D.seen filter.old.node.disk)) (lines (D.seen filter.new.node.disk)) (kept_state filter.new.node.machine.replicas filter.new.node.machine.node)) }
-    ensures err { IfErr result (Breaks (Of input.now.line (IsCallTurn filter.old.shelf.objects (kept_state filter.old.node.machine.replicas filter.old.node.machine.node) number (called input.now.call))) TellsNothing (W.contents output.old) (W.contents output.new)
-        (lines (D.seen filter.old.node.disk)) (lines (D.seen filter.new.node.disk)) (kept_state filter.new.node.machine.replicas filter.new.node.machine.node)) }
-    ensures settled { filter.new.node.closed ≡ false → IsSettled D.seen D.may_leave filter.new.node.disk }
-    ensures unclosed { OnOk result (filter.new.node.closed ≡ false) }
+    requires unclosed { filter.old.node.durable.closed ≡ false }
+    requires within { IsSubset filter.old.shelf.view filter.old.node.durable.machine.node.replica.view }
+    ensures ok { OnOk result (Takes (Of input.now.line (IsCallTurn filter.old.shelf.objects (kept_state filter.old.node.durable.machine.replicas filter.old.node.durable.machine.node) number (called input.now.call))) TellsNothing (W.contents output.old) (W.contents output.new)
+        (lines filter.old.node.text.items) (lines filter.new.node.text.items) (kept_state filter.new.node.durable.machine.replicas filter.new.node.durable.machine.node)) }
+    ensures err { IfErr result (Breaks (Of input.now.line (IsCallTurn filter.old.shelf.objects (kept_state filter.old.node.durable.machine.replicas filter.old.node.durable.machine.node) number (called input.now.call))) TellsNothing (W.contents output.old) (W.contents output.new)
+        (lines filter.old.node.text.items) (lines filter.new.node.text.items) (kept_state filter.new.node.durable.machine.replicas filter.new.node.durable.machine.node)) }
+    ensures disk { filter.new.node.durable.disk ≡ filter.old.node.durable.disk }
+    ensures unclosed { filter.new.node.durable.closed ≡ false }
     ensures objects { filter.new.shelf.objects ≡ filter.old.shelf.objects }
-    ensures within { filter.new.node.closed ≡ false → IsSubset filter.new.shelf.view filter.new.node.machine.node.replica.view }
+    ensures within { IsSubset filter.new.shelf.view filter.new.node.durable.machine.node.replica.view }
 {
     let call = input.call();
-    if is_elsewhere(&filter.node.machine, call) || is_stale(&filter.node.machine, call) {
+    if is_elsewhere(&filter.node.durable.machine, call) || is_stale(&filter.node.durable.machine, call) {
         return Ok(());
     }
     call_here(alloc, filter, number, input, output)
 }
 
-/// Takes line `number` of an input, which has at most [`la_lines::MAX_LINE`] bytes, without its end. Its lines go out one
-/// by one, and only once the call is on the disk.
+/// Takes line `number` of an input, which has at most [`la_lines::MAX_LINE`] bytes, without its end. Where it is
+/// kept it is staged: what is written of it may go out only once that is committed.
 ///
 /// `WriteFault` comes where a write fails, and `Memory` where the lines find no room: then a front of
-/// them has gone out, and the call is in the journal. `DiskFault` comes where the disk fails, before
-/// anything goes out; the journal is to be recovered anew.
+/// them is written, and the call is staged.
 pub fn answer<W: Write, E: Listener, D: Disk, B: Replicated>(
     alloc: Global,
     filter: &mut Filter<D, B>,
@@ -312,17 +307,16 @@ pub fn answer<W: Write, E: Listener, D: Disk, B: Replicated>(
     errors: &mut E,
 ) -> Result<(), NodeFault>
     requires short { length line.now ≤ MAX_LINE }
-    requires settled { IsSettled D.seen D.may_leave filter.old.node.disk }
-    requires unclosed { filter.old.node.closed ≡ false }
-    requires within { IsSubset filter.old.shelf.view filter.old.node.machine.node.replica.view }
-    ensures ok { OnOk result (Takes (Of line.now (IsTurn filter.old.shelf.objects (kept_state filter.old.node.machine.replicas filter.old.node.machine.node) number)) (TellsAll E.contents E.refuses errors.old errors.new) (W.contents output.old) (W.contents output.new)
-        (lines (D.seen filter.old.node.disk)) (lines (D.seen filter.new.node.disk)) (kept_state filter.new.node.machine.replicas filter.new.node.machine.node)) }
-    ensures err { IfErr result (Breaks (Of line.now (IsTurn filter.old.shelf.objects (kept_state filter.old.node.machine.replicas filter.old.node.machine.node) number)) (TellsAll E.contents E.refuses errors.old errors.new) (W.contents output.old) (W.contents output.new)
-        (lines (D.seen filter.old.node.disk)) (lines (D.seen filter.new.node.disk)) (kept_state filter.new.node.machine.replicas filter.new.node.machine.node)) }
-    ensures settled { filter.new.node.closed ≡ false → IsSettled D.seen D.may_leave filter.new.node.disk }
-    ensures unclosed { OnOk result (filter.new.node.closed ≡ false) }
+    requires unclosed { filter.old.node.durable.closed ≡ false }
+    requires within { IsSubset filter.old.shelf.view filter.old.node.durable.machine.node.replica.view }
+    ensures ok { OnOk result (Takes (Of line.now (IsTurn filter.old.shelf.objects (kept_state filter.old.node.durable.machine.replicas filter.old.node.durable.machine.node) number)) (TellsAll E.contents E.refuses errors.old errors.new) (W.contents output.old) (W.contents output.new)
+        (lines filter.old.node.text.items) (lines filter.new.node.text.items) (kept_state filter.new.node.durable.machine.replicas filter.new.node.durable.machine.node)) }
+    ensures err { IfErr result (Breaks (Of line.now (IsTurn filter.old.shelf.objects (kept_state filter.old.node.durable.machine.replicas filter.old.node.durable.machine.node) number)) (TellsAll E.contents E.refuses errors.old errors.new) (W.contents output.old) (W.contents output.new)
+        (lines filter.old.node.text.items) (lines filter.new.node.text.items) (kept_state filter.new.node.durable.machine.replicas filter.new.node.durable.machine.node)) }
+    ensures disk { filter.new.node.durable.disk ≡ filter.old.node.durable.disk }
+    ensures unclosed { filter.new.node.durable.closed ≡ false }
     ensures objects { filter.new.shelf.objects ≡ filter.old.shelf.objects }
-    ensures within { filter.new.node.closed ≡ false → IsSubset filter.new.shelf.view filter.new.node.machine.node.replica.view }
+    ensures within { IsSubset filter.new.shelf.view filter.new.node.durable.machine.node.replica.view }
 {
     if is_note(line) {
         return Ok(());
@@ -338,7 +332,7 @@ pub fn answer<W: Write, E: Listener, D: Disk, B: Replicated>(
             Ok(())
         }
         Err(LineError::Memory) => {
-            refuse(output, filter.node.machine.node.own(), number, "Memory")?;
+            refuse(output, filter.node.durable.machine.node.own(), number, "Memory")?;
             Ok(())
         }
     }

@@ -1,4 +1,4 @@
-use la_journal::{Disk, Durable};
+use la_journal::{Disk, Staged};
 use la_node::NodeMachine;
 use la_object::{Replicated, Shelf};
 
@@ -6,6 +6,6 @@ use la_object::{Replicated, Shelf};
 /// is not kept.
 #[derive(Drop)]
 pub struct Filter<D: Disk, B: Replicated> {
-    pub node: Durable<NodeMachine, D>,
+    pub node: Staged<NodeMachine, D>,
     pub shelf: Shelf<B>,
 }

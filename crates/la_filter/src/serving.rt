@@ -1,19 +1,20 @@
-ghost use Rattle.std.specs.Prelude.{◌≡◌, ◌≤◌, true, false, Ok, IfOk, IfErr, OnOk};
-ghost use Rattle.std.specs.Io.KnownBytes.{IsAtEnd};
+ghost use Rattle.std.specs.Prelude.{◌≡◌, ◌≤◌, ◌++◌, [], true, false, Ok, IfOk, IfErr, OnOk};
+ghost use Rattle.std.specs.Io.KnownBytes.{IsAtEnd, Keeps};
+ghost use Rattle.la_program.specs.Streams.{Writes, WritesPrefix};
 ghost use Rattle.la_journal.specs.Lines.{lines};
 ghost use Rattle.la_journal.specs.Durable.{IsSettled};
 ghost use Rattle.la_streams.specs.Streams.{ahead, TellsAll};
 ghost use Rattle.la_set.specs.Inclusion.{IsSubset};
 ghost use Rattle.la_node.specs.Restarts.{kept_state};
-ghost use Rattle.la_filter.specs.Serving.{Steps, IsStepRefusal, Serves, IsServeRefusal};
+ghost use Rattle.la_filter.specs.Serving.{Steps, IsStepRefusal, Unflushed, of_step, Serves, IsServeRefusal};
 
 use crate::answering::answer;
 use crate::{Filter, NodeFault};
-use la_journal::Disk;
+use la_journal::{Disk, Uncommitted};
 use la_lines::LineFault;
 use la_object::Replicated;
 use la_program::Listener;
-use la_streams::{Next, Source, SourceFault, tell_fault};
+use la_streams::{Next, Source, tell_fault, write_lines};
 use std::alloc::Global;
 use std::io::{Read, Write};
 
@@ -27,21 +28,20 @@ fn step<R: Read, W: Write, E: Listener, D: Disk, B: Replicated>(
     output: &mut W,
     errors: &mut E,
 ) -> Result<bool, NodeFault>
-    requires settled { IsSettled D.seen D.may_leave filter.old.node.disk }
-    requires unclosed { filter.old.node.closed ≡ false }
-    requires within { IsSubset filter.old.shelf.view filter.old.node.machine.node.replica.view }
+    requires unclosed { filter.old.node.durable.closed ≡ false }
+    requires within { IsSubset filter.old.shelf.view filter.old.node.durable.machine.node.replica.view }
     requires over { source.old.over ≡ true → IsAtEnd (ahead source.old (R.remaining input.old)) }
-    ensures ok { IfOk result (Steps filter.old.shelf.objects (kept_state filter.old.node.machine.replicas filter.old.node.machine.node) number (TellsAll E.contents E.refuses errors.old errors.new)
+    ensures ok { IfOk result (Steps filter.old.shelf.objects (kept_state filter.old.node.durable.machine.replicas filter.old.node.durable.machine.node) number (TellsAll E.contents E.refuses errors.old errors.new)
         (ahead source.old (R.remaining input.old)) (ahead source.new (R.remaining input.new)) (W.contents output.old) (W.contents output.new)
-        (lines (D.seen filter.old.node.disk)) (lines (D.seen filter.new.node.disk)) (kept_state filter.new.node.machine.replicas filter.new.node.machine.node)) }
-    ensures err { IfErr result (IsStepRefusal filter.old.shelf.objects (kept_state filter.old.node.machine.replicas filter.old.node.machine.node) number (TellsAll E.contents E.refuses errors.old errors.new)
+        (lines filter.old.node.text.items) (lines filter.new.node.text.items) (kept_state filter.new.node.durable.machine.replicas filter.new.node.durable.machine.node)) }
+    ensures err { IfErr result (IsStepRefusal filter.old.shelf.objects (kept_state filter.old.node.durable.machine.replicas filter.old.node.durable.machine.node) number (TellsAll E.contents E.refuses errors.old errors.new)
         (ahead source.old (R.remaining input.old)) (ahead source.new (R.remaining input.new)) (W.contents output.old) (W.contents output.new)
-        (lines (D.seen filter.old.node.disk)) (lines (D.seen filter.new.node.disk)) (kept_state filter.new.node.machine.replicas filter.new.node.machine.node)) }
+        (lines filter.old.node.text.items) (lines filter.new.node.text.items) (kept_state filter.new.node.durable.machine.replicas filter.new.node.durable.machine.node)) }
     ensures over { source.new.over ≡ true → IsAtEnd (ahead source.new (R.remaining input.new)) }
-    ensures settled { filter.new.node.closed ≡ false → IsSettled D.seen D.may_leave filter.new.node.disk }
-    ensures unclosed { OnOk result (filter.new.node.closed ≡ false) }
+    ensures disk { filter.new.node.durable.disk ≡ filter.old.node.durable.disk }
+    ensures unclosed { filter.new.node.durable.closed ≡ false }
     ensures objects { filter.new.shelf.objects ≡ filter.old.shelf.objects }
-    ensures within { filter.new.node.closed ≡ false → IsSubset filter.new.shelf.view filter.new.node.machine.node.replica.view }
+    ensures within { IsSubset filter.new.shelf.view filter.new.node.durable.machine.node.replica.view }
 {
     match source.next(input)? {
         Next::Line => {
@@ -67,15 +67,55 @@ fn step<R: Read, W: Write, E: Listener, D: Disk, B: Replicated>(
     }
 }
 
+// Puts what was staged on the disk, and then writes what was held back.
+fn flush<W: Write, D: Disk, B: Replicated>(
+    filter: &mut Filter<D, B>,
+    held: &mut Vec<u8>,
+    output: &mut W,
+) -> Result<(), NodeFault>
+    requires settled { IsSettled D.seen D.may_leave filter.old.node.durable.disk }
+    requires unclosed { filter.old.node.durable.closed ≡ false }
+    ensures ok { OnOk result (Writes W.contents output.old output.new held.old.items
+        × (held.new.items ≡ []) × (filter.new.node.text.items ≡ [])) }
+    ensures kept { OnOk result (lines (D.seen filter.new.node.durable.disk) ≡ lines (D.seen filter.old.node.durable.disk) ++ lines filter.old.node.text.items) }
+    ensures err { IfErr result (Unflushed (Keeps (W.contents output.old) (W.contents output.new))
+        (WritesPrefix W.contents output.old output.new held.old.items
+        × (lines (D.seen filter.new.node.durable.disk) ≡ lines (D.seen filter.old.node.durable.disk) ++ lines filter.old.node.text.items))) }
+    ensures settled { filter.new.node.durable.closed ≡ false → IsSettled D.seen D.may_leave filter.new.node.durable.disk }
+    ensures unclosed { OnOk result (filter.new.node.durable.closed ≡ false) }
+    ensures machine { filter.new.node.durable.machine ≡ filter.old.node.durable.machine }
+    ensures shelf { filter.new.shelf ≡ filter.old.shelf }
+{
+    match filter.node.commit() {
+        Ok(()) => {
+            write_lines(output, held)?;
+            held.clear();
+            Ok(())
+        }
+        Err(Uncommitted::Memory) => Err(NodeFault::Memory),
+        Err(Uncommitted::Disk) | Err(Uncommitted::Closed) => Err(NodeFault::DiskFault),
+    }
+}
+
+// What failed where a line found no room, or what is held back did.
+fn of_step(fault: NodeFault) -> NodeFault
+    ensures { result ≡ of_step fault }
+{
+    match fault {
+        NodeFault::WriteFault => NodeFault::Memory,
+        other => other,
+    }
+}
+
 /// Takes the lines of an input as they come, until its end. What follows the last line's end is no line: it
-/// is told as `BadLine`. What is written is exactly what they come to,
-/// one write a line, and of a call that is kept only once its line is on the disk. What faults are told
-/// may find no taker, and then it goes on.
+/// is told as `BadLine`. What is written is exactly what they come to, one write a line, and of a call that is kept
+/// only once its line is on the disk: all calls that one read brought are put there together. What faults are
+/// told may find no taker, and then it goes on.
 ///
 /// `ReadFault` comes at the first read that fails, and after 2^64-2 lines; `WriteFault` at a write that
-/// fails, where a front of the text is out; `Memory` where a line, or what is written of one, finds no
-/// room: what was read of the line is lost, or the call is in the journal and nothing of it went out;
-/// `DiskFault` where the disk fails: of that call nothing went out, and the journal is to be recovered.
+/// fails, where a front of the text is out, and all lines are in the journal; `Memory` where a line, what is written
+/// of it or the journal finds no room; `DiskFault` where the disk fails. After these two nothing may have gone out
+/// of the last calls, and the journal is to be recovered.
 pub fn serve<R: Read, W: Write, E: Listener, D: Disk, B: Replicated>(
     alloc: Global,
     filter: &mut Filter<D, B>,
@@ -83,24 +123,34 @@ pub fn serve<R: Read, W: Write, E: Listener, D: Disk, B: Replicated>(
     output: &mut W,
     errors: &mut E,
 ) -> Result<(), NodeFault>
-    requires settled { IsSettled D.seen D.may_leave filter.old.node.disk }
-    requires unclosed { filter.old.node.closed ≡ false }
-    requires within { IsSubset filter.old.shelf.view filter.old.node.machine.node.replica.view }
-    ensures ok { OnOk result (Serves filter.old.shelf.objects (kept_state filter.old.node.machine.replicas filter.old.node.machine.node) (TellsAll E.contents E.refuses errors.old errors.new)
+    requires settled { IsSettled D.seen D.may_leave filter.old.node.durable.disk }
+    requires unclosed { filter.old.node.durable.closed ≡ false }
+    requires unstaged { filter.old.node.text.items ≡ [] }
+    requires within { IsSubset filter.old.shelf.view filter.old.node.durable.machine.node.replica.view }
+    ensures ok { OnOk result (Serves filter.old.shelf.objects (kept_state filter.old.node.durable.machine.replicas filter.old.node.durable.machine.node) (TellsAll E.contents E.refuses errors.old errors.new)
         (R.remaining input.old) (R.remaining input.new) (W.contents output.old) (W.contents output.new)
-        (lines (D.seen filter.old.node.disk)) (lines (D.seen filter.new.node.disk)) (kept_state filter.new.node.machine.replicas filter.new.node.machine.node)) }
-    ensures err { IfErr result (IsServeRefusal filter.old.shelf.objects (kept_state filter.old.node.machine.replicas filter.old.node.machine.node) (TellsAll E.contents E.refuses errors.old errors.new)
+        (lines (D.seen filter.old.node.durable.disk)) (lines (D.seen filter.new.node.durable.disk)) (kept_state filter.new.node.durable.machine.replicas filter.new.node.durable.machine.node)) }
+    ensures err { IfErr result (IsServeRefusal filter.old.shelf.objects (kept_state filter.old.node.durable.machine.replicas filter.old.node.durable.machine.node) (TellsAll E.contents E.refuses errors.old errors.new)
         (R.remaining input.old) (R.remaining input.new) (W.contents output.old) (W.contents output.new)
-        (lines (D.seen filter.old.node.disk)) (lines (D.seen filter.new.node.disk)) (kept_state filter.new.node.machine.replicas filter.new.node.machine.node)) }
-    ensures settled { filter.new.node.closed ≡ false → IsSettled D.seen D.may_leave filter.new.node.disk }
-    ensures unclosed { OnOk result (filter.new.node.closed ≡ false) }
+        (lines (D.seen filter.old.node.durable.disk)) (lines (D.seen filter.new.node.durable.disk)) (kept_state filter.new.node.durable.machine.replicas filter.new.node.durable.machine.node)) }
+    ensures settled { filter.new.node.durable.closed ≡ false → IsSettled D.seen D.may_leave filter.new.node.durable.disk }
+    ensures unclosed { OnOk result (filter.new.node.durable.closed ≡ false) }
 {
     let mut source = Source::new(alloc);
+    let mut held = Vec::new(alloc);
     for number in 1..u64::MAX {
-        let more = step(alloc, &mut source, filter, number, input, output, errors)?;
-        if !more {
-            return Ok(());
+        if !source.has_line() {
+            flush(filter, &mut held, output)?;
+        }
+        match step(alloc, &mut source, filter, number, input, &mut held, errors) {
+            Ok(true) => {}
+            Ok(false) => return flush(filter, &mut held, output),
+            Err(fault) => {
+                flush(filter, &mut held, output)?;
+                return Err(of_step(fault));
+            }
         }
     }
+    flush(filter, &mut held, output)?;
     Err(NodeFault::ReadFault)
 }

@@ -9,7 +9,7 @@ use crate::shelf::shelf_of;
 use crate::{Filter, NodeFault, Options};
 use arrayvec::ArrayString;
 use clap::Error;
-use la_journal::{Disk, Unplayed, recover};
+use la_journal::{Disk, Staged, Unplayed, recover};
 use la_node::NodeMachine;
 use la_object::{Counter, MaxRegister, Replicated, Shelf};
 use la_orset::OrSet;
@@ -87,7 +87,7 @@ fn start<R: Read, W: Write, E: Listener, D: Disk, B: Replicated>(
     match recover(alloc, machine, disk) {
         Ok(durable) => {
             let mut filter = Filter {
-                node: durable,
+                node: Staged::new(alloc, durable),
                 shelf,
             };
             serve(alloc, &mut filter, input, output, errors)

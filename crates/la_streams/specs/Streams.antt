@@ -1,5 +1,6 @@
 -- What is read line by line, and what is told line by line.
 use Rattle.std.specs.Prelude.{◌≡◌, ◌≢◌, ◌⊎◌, ℕ, ◌<◌, ◌≤◌, ◌==◌, Bool, true, false, List, [], ◌∷◌, ◌++◌, length, take, drop, All, Option, if◌then◌else◌}
+use Rattle.std.specs.List.{list_any}
 use Rattle.std.specs.Io.KnownBytes.{Consumes, IsAtEnd, prepend_known}
 use Rattle.la_lines.specs.declared.calls.TheConstants.{MAX_LINE}
 use Rattle.la_journal.specs.Lines.{file_of}
@@ -19,6 +20,10 @@ IsOneLine line = All (λ b. (b == 10) ≡ false) line
 -- the bytes that were read and are not taken
 abbrev pub pending : Source → List ℕ
 pending s = drop s.start (take s.end s.chunk)
+
+-- one of them ends a line
+abbrev pub has_line : Source → Bool
+has_line s = list_any (λ b. b == 10) (pending s)
 
 -- what is ahead: those, and what the reader has left
 abbrev pub ahead : Source → Option (List ℕ) → Option (List ℕ)

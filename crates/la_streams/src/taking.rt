@@ -2,7 +2,7 @@
 ghost use Rattle.std.specs.Prelude.{◌≡◌, ◌+◌, ◌≤◌, ◌<◌, ◌++◌, ◌∷◌, List, ℕ, true, false, [], length, take, drop};
 ghost use Rattle.std.specs.Prelude.{Ok, IfOk, OnOk, OnErr};
 ghost use Rattle.std.specs.Io.KnownBytes.{Consumes, IsAtEnd};
-ghost use Rattle.la_streams.specs.Streams.{IsOneLine, IsKept, IsPart, IsNext, TakesSome, pending, ahead, of_line, last_kind};
+ghost use Rattle.la_streams.specs.Streams.{IsOneLine, IsKept, IsPart, IsNext, TakesSome, pending, ahead, has_line, of_line, last_kind};
 
 use crate::{Next, Source, SourceFault};
 use la_lines::MAX_LINE;
@@ -53,6 +53,14 @@ impl Source {
             over: false,
             line: Vec::new(alloc),
         }
+    }
+
+    /// Whether the next line, with its end, was read already, so that [`Source::next`] waits for nothing.
+    pub fn has_line(&self) -> bool
+        ensures { result ≡ has_line self.now }
+    {
+        let chunk = self.chunk.as_slice();
+        chunk[self.start..self.end].contains(&b'\n')
     }
 
     // Reads more, once all is taken. At the end of the input it is over.

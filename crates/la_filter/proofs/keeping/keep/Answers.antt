@@ -11,7 +11,7 @@ returns-in-Ok-clause-outcome g c =
     let is = c.call-call.ensures.line in
     let says = c.call-call.ensures.says in (
       acted _ input.line (called input.call) is says _ _ c.in-Ok.ensures.acknowledged.3 c.in-Ok.ensures.answer,
-      c.in-Ok.ensures.acknowledged.2 ∙ ap (λ l. lines (g.D.Disk.seen c.args.node.now.disk) ++ l ∷ []) (line_of_input input.line is),
+      c.in-Ok.ensures.acknowledged.2 ∙ ap (λ l. lines c.args.node.now.text.items ++ l ∷ []) (line_of_input input.line is),
     )
 
 pub returns-in-Ok-clause-grows : goal.returns-in-Ok-clause-grows

@@ -10,15 +10,15 @@ use Rattle.la_filter.proofs.serving.serve.Given as goal
 
 abbrev pub invariant-loop-number : goal.invariant-loop-number
 invariant-loop-number g l = record {
-  so_far : ServedSo l.initial.filter.shelf.objects (kept_state l.initial.filter.node.machine.replicas l.initial.filter.node.machine.node)
+  so_far : ServedSo l.initial.filter.shelf.objects (kept_state l.initial.filter.node.durable.machine.replicas l.initial.filter.node.durable.machine.node)
       (TellsAll g.E.Write.contents g.E.Listener.refuses l.initial.errors l.errors)
       (g.R.Read.remaining l.initial.input) (ahead l.source (g.R.Read.remaining l.input))
-      (g.W.Write.contents l.initial.output) (g.W.Write.contents l.output)
-      (lines (g.D.Disk.seen l.initial.filter.node.disk)) (lines (g.D.Disk.seen l.filter.node.disk))
-      (kept_state l.filter.node.machine.replicas l.filter.node.machine.node) l.number;
+      (g.W.Write.contents l.initial.output) (g.W.Write.contents l.output) l.held.items
+      (lines (g.D.Disk.seen l.initial.filter.node.durable.disk)) (lines (g.D.Disk.seen l.filter.node.durable.disk)) (lines l.filter.node.text.items)
+      (kept_state l.filter.node.durable.machine.replicas l.filter.node.durable.machine.node) l.number;
   over : l.source.over ≡ true → IsAtEnd (ahead l.source (g.R.Read.remaining l.input));
-  settled : IsSettled g.D.Disk.seen g.D.Disk.may_leave l.filter.node.disk;
-  unclosed : l.filter.node.closed ≡ false;
+  settled : IsSettled g.D.Disk.seen g.D.Disk.may_leave l.filter.node.durable.disk;
+  unclosed : l.filter.node.durable.closed ≡ false;
   objects : l.filter.shelf.objects ≡ l.initial.filter.shelf.objects;
-  within : IsSubset l.filter.shelf.view l.filter.node.machine.node.replica.view;
+  within : IsSubset l.filter.shelf.view l.filter.node.durable.machine.node.replica.view;
 }
