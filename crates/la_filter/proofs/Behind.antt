@@ -17,13 +17,16 @@ use Rattle.la_filter.specs.declared.error.NodeFault.{NodeFault}
 use Rattle.la_filter.specs.declared.error.NodeFault.TheVariants as fault
 use Rattle.la_filter.specs.Turns.{Turn, IsTurn}
 use Rattle.la_filter.specs.Serving.{AreTurns, IsStep, Takes, TakesCut, TakesNone, Ends, IsStepRefusal, Unflushed, of_step, Serves, ServesSome, ServesClosed, IsServeRefusal, lines_of, written, kept, told, cut_told}
-use Rattle.la_filter.proofs.Turning.{turns_snoc}
+use Rattle.la_filter.proofs.Turning.{turns_snoc, turns_join}
 
 -- the turns so far: what the first ones came to was written, and what the others came to is held back
 pub record ServedSo (objects : List (ℕ × Kind)) (n : KeptState) (Told : List (List ℕ) → Type 0) (left ahead out_before out_now : Option (List ℕ)) (held : List ℕ) (journal_before journal_now staged : List (List ℕ)) (now : KeptState) (number : ℕ) : Type 0 where
   pub done : List Turn
   pub group : List Turn
-  pub are : AreTurns objects n 1 (done ++ group) now
+  -- the state after the first ones
+  pub between : KeptState
+  pub are_done : AreTurns objects n 1 done between
+  pub are_group : AreTurns objects between (1 + length done) group now
   pub count : number ≡ 1 + length (done ++ group)
   pub read : ReadSo left ahead (lines_of (done ++ group))
   pub wrote : Appends out_before out_now (written done)
@@ -36,7 +39,9 @@ pub record ServedSo (objects : List (ℕ × Kind)) (n : KeptState) (Told : List 
 pub record CutSo (objects : List (ℕ × Kind)) (n : KeptState) (Told : List (List ℕ) → Type 0) (left_before left_after out_before out_now : Option (List ℕ)) (held : List ℕ) (journal_before journal_now staged : List (List ℕ)) (now : KeptState) (more : List ℕ) : Type 0 where
   pub done : List Turn
   pub group : List Turn
-  pub are : AreTurns objects n 1 (done ++ group) now
+  pub between : KeptState
+  pub are_done : AreTurns objects n 1 done between
+  pub are_group : AreTurns objects between (1 + length done) group now
   pub read : ReadsFront left_before left_after (lines_of (done ++ group))
   pub wrote : Appends out_before out_now (written done)
   pub holds : held ++ more ≡ written group
@@ -66,12 +71,14 @@ told_on turns t = sym (flat_map-append (λ (t : Turn). t.told) turns (t ∷ []) 
 lines_on : (turns : List Turn) (t : Turn) → lines_of turns ++ t.line ∷ [] ≡ lines_of (turns ++ t ∷ [])
 lines_on turns t = sym (map-append (λ (t : Turn). t.line) turns (t ∷ []))
 
-module _ {E : Type 0} (contents : E → Option (List ℕ)) (refuses : E → List ℕ → E → Type 0) (objects : List (ℕ × Kind)) (n : KeptState) (left out : Option (List ℕ)) (journal : List (List ℕ)) (e0 : E) where
+module _ {E : Type 0} (contents : E → Option (List ℕ)) (refuses : E → List ℕ → E → Type 0) (objects : List (ℕ × Kind)) (n : KeptState) (left out : Option (List ℕ)) (journal : List (List ℕ)) (e0 : E) (Left : (turns last : List Turn) → Type 0) where
   pub served_none : ServedSo objects n (TellsAll contents refuses e0 e0) left (prepend_known [] left) out out [] journal journal [] n 1
   served_none = record {
     done = [];
     group = [];
-    are = refl;
+    between = n;
+    are_done = refl;
+    are_group = refl;
     count = refl;
     read = (All-nil IsOneLine, none_read left);
     wrote = Appends-nil out;
@@ -95,7 +102,9 @@ module _ {E : Type 0} (contents : E → Option (List ℕ)) (refuses : E → List
         record {
           done = so.done ++ so.group;
           group = [];
-          are = subst (λ ts. AreTurns objects n 1 ts n1) (sym same) so.are;
+          between = n1;
+          are_done = turns_join objects n 1 so.done so.between so.group n1 so.are_done so.are_group;
+          are_group = refl;
           count = so.count ∙ ap (λ (ts : List Turn). 1 + length ts) (sym same);
           read = subst (λ ts. ReadSo left ahead1 (lines_of ts)) (sym same) so.read;
           wrote = subst (Appends out out2) (ap (λ h. written so.done ++ h) so.holds ∙ sym (flat_map-append (λ (t : Turn). t.text) so.done so.group)) (Appends-trans out out1 out2 (written so.done) held1 so.wrote wrote);
@@ -111,7 +120,9 @@ module _ {E : Type 0} (contents : E → Option (List ℕ)) (refuses : E → List
     stopped p left1 is = record {
       done = so.done;
       group = so.group;
-      are = so.are;
+      between = so.between;
+      are_done = so.are_done;
+      are_group = so.are_group;
       read = reads_front left ahead1 left1 p (lines_of (so.done ++ so.group)) so.read ([], subst (λ a. Consumes ahead1 a []) is (Consumes-nil ahead1));
       wrote = so.wrote;
       holds = append-nil held1 ∙ so.holds;
@@ -122,14 +133,16 @@ module _ {E : Type 0} (contents : E → Option (List ℕ)) (refuses : E → List
     }
 
     module _ (ahead2 : Option (List ℕ)) (held2 : List ℕ) (staged2 : List (List ℕ)) (n2 : KeptState) (e2 : E) where
-      last_is : (t : Turn) → IsTurn objects n1 number t → IsTurn objects n1 (1 + length (so.done ++ so.group)) t
-      last_is t is = subst (λ k. IsTurn objects n1 k t) so.count is
-
       grown : (t : Turn) → so.done ++ (so.group ++ t ∷ []) ≡ (so.done ++ so.group) ++ t ∷ []
       grown t = sym (append_assoc so.done so.group (t ∷ []))
 
-      are_on : (t : Turn) → IsTurn objects n1 number t → t.after ≡ n2 → AreTurns objects n 1 (so.done ++ (so.group ++ t ∷ [])) n2
-      are_on t is now = subst (λ ts. AreTurns objects n 1 ts n2) (sym (grown t)) (subst (AreTurns objects n 1 ((so.done ++ so.group) ++ t ∷ [])) now (turns_snoc objects n 1 (so.done ++ so.group) n1 t so.are (last_is t is)))
+      last_is : (t : Turn) → IsTurn objects n1 number t → IsTurn objects n1 (1 + length so.done + length so.group) t
+      last_is t is =
+          let here : number ≡ 1 + length so.done + length so.group = omega (arith, so.count, length-append so.done so.group) in
+          subst (λ k. IsTurn objects n1 k t) here is
+
+      are_on : (t : Turn) → IsTurn objects n1 number t → t.after ≡ n2 → AreTurns objects so.between (1 + length so.done) (so.group ++ t ∷ []) n2
+      are_on t is now = subst (AreTurns objects so.between (1 + length so.done) (so.group ++ t ∷ [])) now (turns_snoc objects so.between (1 + length so.done) so.group n1 t so.are_group (last_is t is))
 
       read_on : (t : Turn) → IsOneLine t.line → Consumes ahead1 ahead2 (t.line ++ 10 ∷ []) → ReadSo left ahead2 (lines_of (so.done ++ (so.group ++ t ∷ [])))
       read_on t one read = subst (λ ts. ReadSo left ahead2 (lines_of ts)) (sym (grown t)) (subst (ReadSo left ahead2) (lines_on (so.done ++ so.group) t) (reads_line left ahead1 ahead2 (lines_of (so.done ++ so.group)) t.line so.read one read))
@@ -142,7 +155,9 @@ module _ {E : Type 0} (contents : E → Option (List ℕ)) (refuses : E → List
       served_more t = record {
         done = so.done;
         group = so.group ++ t.turn ∷ [];
-        are = are_on t.turn t.is.is t.now_is;
+        between = so.between;
+        are_done = so.are_done;
+        are_group = are_on t.turn t.is.is t.now_is;
         count = omega (arith, so.count, ap length (grown t.turn), length-append (so.done ++ so.group) (t.turn ∷ []));
         read = read_on t.turn t.is.one t.is.read;
         wrote = so.wrote;
@@ -159,7 +174,9 @@ module _ {E : Type 0} (contents : E → Option (List ℕ)) (refuses : E → List
         ended s = record {
           done = so.done;
           group = so.group;
-          are = subst (AreTurns objects n 1 (so.done ++ so.group)) (sym s.now_is) so.are;
+          between = so.between;
+          are_done = so.are_done;
+          are_group = subst (AreTurns objects so.between (1 + length so.done) so.group) (sym s.now_is) so.are_group;
           read = reads_front left ahead1 left2 p (lines_of (so.done ++ so.group)) so.read (s.rest, subst (λ a. Consumes ahead1 a s.rest) is s.read);
           wrote = so.wrote;
           holds = append-nil held2 ∙ s.out ∙ so.holds;
@@ -171,17 +188,18 @@ module _ {E : Type 0} (contents : E → Option (List ℕ)) (refuses : E → List
         }
 
         pub served_all : Ends number (TellsAll contents refuses e1 e2) ahead1 ahead2 (Some held1) (Some held2) staged1 staged2 n1 n2
-            → (out3 : Option (List ℕ)) (journal3 : List (List ℕ)) → Appends out1 out3 held2 → journal3 ≡ journal1 ++ staged2
-            → Serves objects n (TellsAll contents refuses e0 e2) left left2 out out3 journal journal3 n2
-        served_all s out3 journal3 wrote behind = record {
+            → (out3 : Option (List ℕ)) (journal3 : List (List ℕ)) → Appends out1 out3 held2 → journal3 ≡ journal1 ++ staged2 → Left (so.done ++ so.group) []
+            → Serves objects n (TellsAll contents refuses e0 e2) Left left left2 out out3 journal journal3 n2
+        served_all s out3 journal3 wrote behind remains = record {
           turns = so.done ++ so.group;
           rest = s.rest;
-          are = subst (AreTurns objects n 1 (so.done ++ so.group)) (sym s.now_is) so.are;
+          are = subst (AreTurns objects n 1 (so.done ++ so.group)) (sym s.now_is) (turns_join objects n 1 so.done so.between so.group n1 so.are_done so.are_group);
           read = reads_all left ahead1 left2 p (lines_of (so.done ++ so.group)) s.rest so.read s.one (subst (λ a. Consumes ahead1 a s.rest) is s.read) (subst IsAtEnd is s.at_end);
           wrote = subst (Appends out out3) (ap (λ h. written so.done ++ h) (s.out ∙ so.holds) ∙ sym (flat_map-append (λ (t : Turn). t.text) so.done so.group)) (Appends-trans out out1 out3 (written so.done) held2 so.wrote wrote);
           journal = behind ∙ (λ i. so.journal i ++ (s.journal ∙ so.stages) i) ∙ append_assoc journal (kept so.done) (kept so.group) ∙ ap (λ k. journal ++ k) (sym (flat_map-append (λ (t : Turn). t.kept) so.done so.group));
           tells = tells_on contents refuses e0 e1 e2 (told (so.done ++ so.group)) (cut_told (1 + length (so.done ++ so.group)) s.rest) so.tells
               (subst (λ k. TellsAll contents refuses e1 e2 (cut_told k s.rest)) so.count s.tells);
+          left = remains;
         }
 
         -- a line was not taken
@@ -190,7 +208,9 @@ module _ {E : Type 0} (contents : E → Option (List ℕ)) (refuses : E → List
         none_cut some none = record {
           done = so.done;
           group = so.group;
-          are = subst (AreTurns objects n 1 (so.done ++ so.group)) (sym none.now_is) so.are;
+          between = so.between;
+          are_done = so.are_done;
+          are_group = subst (AreTurns objects so.between (1 + length so.done) so.group) (sym none.now_is) so.are_group;
           read = reads_front left ahead1 left2 p (lines_of (so.done ++ so.group)) so.read (subst (TakesSome ahead1) is some);
           wrote = so.wrote;
           holds = append-nil held2 ∙ none.out ∙ so.holds;
@@ -210,7 +230,9 @@ module _ {E : Type 0} (contents : E → Option (List ℕ)) (refuses : E → List
               record {
                 done = so.done;
                 group = so.group ++ t.turn ∷ [];
-                are = are_on t.turn t.is.is t.now_is;
+                between = so.between;
+        are_done = so.are_done;
+        are_group = are_on t.turn t.is.is t.now_is;
                 read = reads_front left ahead2 left2 p (lines_of (so.done ++ (so.group ++ t.turn ∷ []))) (read_on t.turn t.is.one t.is.read)
                     ([], subst (λ a. Consumes ahead2 a []) is (Consumes-nil ahead2));
                 wrote = so.wrote;
@@ -237,30 +259,32 @@ module _ {E : Type 0} (contents : E → Option (List ℕ)) (refuses : E → List
 
   module _ (left2 out1 out2 : Option (List ℕ)) (held : List ℕ) (journal1 journal2 staged : List (List ℕ)) (now : KeptState) (e : E) (more : List ℕ)
       (so : CutSo objects n (TellsAll contents refuses e0 e) left left2 out out1 held journal journal1 staged now more) where
-    closed : Keeps out1 out2 → ServesClosed objects n (TellsAll contents refuses e0 e) left left2 out out2
-    closed keeps = record {
+    closed : Keeps out1 out2 → Left so.done so.group → ServesClosed objects n (TellsAll contents refuses e0 e) Left left left2 out out2
+    closed keeps remains = record {
       turns = so.done;
       last = so.group;
       after = now;
-      are = so.are;
+      are = turns_join objects n 1 so.done so.between so.group now so.are_done so.are_group;
       read = so.read;
       wrote = Appends-kept out out1 out2 (written so.done) so.wrote keeps;
       rest = so.rest;
       tells = so.tells;
+      left = remains;
     }
 
     journal_is : journal2 ≡ journal1 ++ staged → journal2 ≡ journal ++ kept (so.done ++ so.group)
     journal_is behind = behind ∙ (λ i. so.journal i ++ so.stages i) ∙ append_assoc journal (kept so.done) (kept so.group) ∙ ap (λ k. journal ++ k) (sym (flat_map-append (λ (t : Turn). t.kept) so.done so.group))
 
-    pub some : (Wrote : List ℕ → Type 0) → Wrote (written (so.done ++ so.group)) → journal2 ≡ journal1 ++ staged → ServesSome objects n (TellsAll contents refuses e0 e) left left2 Wrote journal journal2 now
-    some Wrote wrote behind = record {
+    pub some : (Wrote : List ℕ → Type 0) → Wrote (written (so.done ++ so.group)) → journal2 ≡ journal1 ++ staged → Left (so.done ++ so.group) [] → ServesSome objects n (TellsAll contents refuses e0 e) Left left left2 Wrote journal journal2 now
+    some Wrote wrote behind remains = record {
       turns = so.done ++ so.group;
-      are = so.are;
+      are = turns_join objects n 1 so.done so.between so.group now so.are_done so.are_group;
       read = so.read;
       wrote = wrote;
       journal = journal_is behind;
       rest = so.rest;
       tells = so.tells;
+      left = remains;
     }
 
     text_is : (written so.done ++ held) ++ more ≡ written (so.done ++ so.group)
@@ -275,23 +299,24 @@ module _ {E : Type 0} (contents : E → Option (List ℕ)) (refuses : E → List
     all_front : Appends out1 out2 held → AppendsPrefix out1 out2 held
     all_front wrote = (length held, subst (Appends out1 out2) (sym (take_all (length held) held (omega arith))) wrote)
 
-    pub unflushed : (f : NodeFault) → Unflushed (Keeps out1 out2) (AppendsPrefix out1 out2 held × (journal2 ≡ journal1 ++ staged)) f
-        → IsServeRefusal objects n (TellsAll contents refuses e0 e) left left2 out out2 journal journal2 now f
-    unflushed fault.DiskFault r = closed r
-    unflushed fault.Memory r = inr (closed r)
-    unflushed fault.WriteFault r = some (AppendsPrefix out out2) (front r.0) r.1
-    unflushed fault.ReadFault r = absurd r
-    unflushed fault.BadConfig r = absurd r
-    unflushed fault.NoJournal r = absurd r
-    unflushed fault.BadJournal r = absurd r
+    pub unflushed : (f : NodeFault) → Unflushed (Keeps out1 out2) (AppendsPrefix out1 out2 held) f
+        → Unflushed (Left so.done so.group) (Left (so.done ++ so.group) [] × (journal2 ≡ journal1 ++ staged)) f
+        → IsServeRefusal objects n (TellsAll contents refuses e0 e) Left left left2 out out2 journal journal2 now f
+    unflushed fault.DiskFault r l = closed r l
+    unflushed fault.Memory r l = inr (closed r l)
+    unflushed fault.WriteFault r l = some (AppendsPrefix out out2) (front r) l.1 l.0
+    unflushed fault.ReadFault r l = absurd r
+    unflushed fault.BadConfig r l = absurd r
+    unflushed fault.NoJournal r l = absurd r
+    unflushed fault.BadJournal r l = absurd r
 
     -- and why no more is read
-    pub then_refused : (f : NodeFault) → Missing f more → Appends out1 out2 held → journal2 ≡ journal1 ++ staged
-        → IsServeRefusal objects n (TellsAll contents refuses e0 e) left left2 out out2 journal journal2 now (of_step f)
-    then_refused fault.ReadFault none wrote behind = some (Appends out out2) (whole none wrote) behind
-    then_refused fault.WriteFault m wrote behind = inl (some (AppendsPrefix out out2) (front (all_front wrote)) behind)
-    then_refused fault.Memory m wrote behind = inl (some (AppendsPrefix out out2) (front (all_front wrote)) behind)
-    then_refused fault.BadConfig m wrote behind = absurd m
-    then_refused fault.NoJournal m wrote behind = absurd m
-    then_refused fault.BadJournal m wrote behind = absurd m
-    then_refused fault.DiskFault m wrote behind = absurd m
+    pub then_refused : (f : NodeFault) → Missing f more → Appends out1 out2 held → journal2 ≡ journal1 ++ staged → Left (so.done ++ so.group) []
+        → IsServeRefusal objects n (TellsAll contents refuses e0 e) Left left left2 out out2 journal journal2 now (of_step f)
+    then_refused fault.ReadFault none wrote behind l = some (Appends out out2) (whole none wrote) behind l
+    then_refused fault.WriteFault m wrote behind l = inl (some (AppendsPrefix out out2) (front (all_front wrote)) behind l)
+    then_refused fault.Memory m wrote behind l = inl (some (AppendsPrefix out out2) (front (all_front wrote)) behind l)
+    then_refused fault.BadConfig m wrote behind l = absurd m
+    then_refused fault.NoJournal m wrote behind l = absurd m
+    then_refused fault.BadJournal m wrote behind l = absurd m
+    then_refused fault.DiskFault m wrote behind l = absurd m

@@ -7,3 +7,5 @@ pub mod Behind
 pub mod OneLine
 pub mod Stepping
 pub mod Starts
+pub mod Leading
+pub mod Crashing

@@ -11,6 +11,7 @@ use Rattle.la_lines.specs.declared.error.LineError.TheVariants.{Fault}
 use Rattle.la_lines.specs.Calls.{Call, Ask, Tick}
 use Rattle.la_lines.specs.CallLines.{named}
 use Rattle.la_node.specs.Nodes.{KeptState}
+use Rattle.la_node.specs.CallLines.{is_line}
 use Rattle.la_node.specs.Inputs.{IsInputRefusal}
 use Rattle.la_streams.specs.Notes.{refused_note, fault_line}
 use Rattle.la_streams.specs.Streams.{Tells, TellsAll}
@@ -106,9 +107,9 @@ module _ {E : Type 0} (contents : E → Option (List ℕ)) (refuses : E → List
       starved_cut out2 w = cut_more out1 out2 journal1 journal1 n (λ (t : Turn) (i : Of line (IsTurn objects n k) t). i) (tells_none e1)
           (cut_only (IsTurn objects n k) n line (refused_note (own_of n) k (codes "Memory")) out1 out2 journal1 (starved_turn objects n k line le is) w)
 
-      module _ (out2 : Option (List ℕ)) (journal2 : List (List ℕ)) (now : KeptState) (l : List ℕ) (call : Call) (same : l ≡ line) (says : named l ≡ Some call) where
+      module _ (out2 : Option (List ℕ)) (journal2 : List (List ℕ)) (now : KeptState) (l : List ℕ) (call : Call) (same : l ≡ line) (says : named l ≡ Some call) (stands : is_line l ≡ true) where
         of_call : (t : Turn) → Of l (IsCallTurn objects n k call) t → Of line (IsTurn objects n k) t
-        of_call t i = call_turn objects n k line call le is (ap named (sym same) ∙ says) t (i.0 ∙ same, i.1)
+        of_call t i = call_turn objects n k line call le is (ap named (sym same) ∙ says) (ap is_line (sym same) ∙ stands) t (i.0 ∙ same, i.1)
 
         pub ok_line : {T : Type 0} (r : Result T NodeFault) → OnOk r (Takes (Of l (IsCallTurn objects n k call)) TellsNothing out1 out2 journal1 journal2 now)
             → OnOk r (Takes (Of line (IsTurn objects n k)) (TellsAll contents refuses e1 e1) out1 out2 journal1 journal2 now)

@@ -12,6 +12,7 @@ use Rattle.la_node.specs.Nodes.{KeptState}
 use Rattle.la_node.specs.Restarts.{leads_from}
 use Rattle.la_filter.specs.declared.error.NodeFault.{NodeFault}
 use Rattle.la_filter.specs.declared.error.NodeFault.TheVariants as fault
+use Rattle.la_filter.specs.Turns.{Turn}
 use Rattle.la_filter.specs.Serving.{Serves, IsServeRefusal}
 use Rattle.la_filter.specs.Starting.{at_start, Runs, IsRunRefusal}
 
@@ -25,20 +26,20 @@ nothing_within s u is =
     nothing_at zero = refl
     nothing_at (suc k) = refl
 
-module _ (objects : List (ℕ × Kind)) (config : Config) (own : ℕ) (file file2 : List ℕ) (Told : List (List ℕ) → Type 0) (left1 left2 out1 out2 : Option (List ℕ)) (journal : List (List ℕ)) (before now : KeptState)
+module _ (objects : List (ℕ × Kind)) (config : Config) (own : ℕ) (file file2 : List ℕ) (Told : List (List ℕ) → Type 0) (Left : KeptState → (turns last : List Turn) → Type 0) (left1 left2 out1 out2 : Option (List ℕ)) (journal : List (List ℕ)) (before now : KeptState)
     (plays : leads_from (at_start config own) file ≡ Some before) (same : lines file2 ≡ lines file) where
-  pub runs : {T : Type 0} (r : Result T NodeFault) → OnOk r (Serves objects before Told left1 left2 out1 out2 (lines file2) journal now)
-      → OnOk r (Runs objects config own file Told left1 left2 out1 out2)
+  pub runs : {T : Type 0} (r : Result T NodeFault) → OnOk r (Serves objects before Told (Left before) left1 left2 out1 out2 (lines file2) journal now)
+      → OnOk r (Runs objects config own file Told Left left1 left2 out1 out2)
   runs (Ok x) s = record {
     before = before;
     plays = plays;
     journal = journal;
     now = now;
-    serves = subst (λ (ls : List (List ℕ)). Serves objects before Told left1 left2 out1 out2 ls journal now) same s;
+    serves = subst (λ (ls : List (List ℕ)). Serves objects before Told (Left before) left1 left2 out1 out2 ls journal now) same s;
   }
   runs (Err e) s = tt
 
-  run_stops : (f : NodeFault) → IsServeRefusal objects before Told left1 left2 out1 out2 (lines file) journal now f → IsRunRefusal objects config own file Told left1 left2 out1 out2 f
+  run_stops : (f : NodeFault) → IsServeRefusal objects before Told (Left before) left1 left2 out1 out2 (lines file) journal now f → IsRunRefusal objects config own file Told Left left1 left2 out1 out2 f
   run_stops fault.ReadFault s = inr (record { before = before; plays = plays; journal = journal; now = now; stops = s })
   run_stops fault.WriteFault s = inr (record { before = before; plays = plays; journal = journal; now = now; stops = s })
   run_stops fault.Memory s = inr (record { before = before; plays = plays; journal = journal; now = now; stops = s })
@@ -47,7 +48,7 @@ module _ (objects : List (ℕ × Kind)) (config : Config) (own : ℕ) (file file
   run_stops fault.NoJournal s = absurd s
   run_stops fault.BadJournal s = absurd s
 
-  pub stops : {T : Type 0} (r : Result T NodeFault) → IfErr r (IsServeRefusal objects before Told left1 left2 out1 out2 (lines file2) journal now)
-      → IfErr r (IsRunRefusal objects config own file Told left1 left2 out1 out2)
+  pub stops : {T : Type 0} (r : Result T NodeFault) → IfErr r (IsServeRefusal objects before Told (Left before) left1 left2 out1 out2 (lines file2) journal now)
+      → IfErr r (IsRunRefusal objects config own file Told Left left1 left2 out1 out2)
   stops (Ok x) s = tt
-  stops (Err f) s = run_stops f (subst (λ (ls : List (List ℕ)). IsServeRefusal objects before Told left1 left2 out1 out2 ls journal now f) same s)
+  stops (Err f) s = run_stops f (subst (λ (ls : List (List ℕ)). IsServeRefusal objects before Told (Left before) left1 left2 out1 out2 ls journal now f) same s)

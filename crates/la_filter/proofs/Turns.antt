@@ -19,6 +19,7 @@ use Rattle.la_node.specs.Nodes.{KeptState, acts}
 use Rattle.la_node.specs.Errors.{IsForMemory}
 use Rattle.la_node.specs.Inputs.{IsInputRefusal}
 use Rattle.la_streams.specs.Notes.{refused_note}
+use Rattle.la_node.specs.CallLines.{is_line}
 use Rattle.la_filter.specs.Names.{refusal_name}
 use Rattle.la_filter.specs.Turns.{Turn, only, refused, faulty, call_text, own_of, is_note, OneOf, Says, HasFault, IsStarved, IsTurnHere, IsCallTurn, IsShortTurn, IsTurn, IsKeptTurn, is_elsewhere, is_stale}
 use Rattle.la_filter.specs.Serving.{Of, Takes, TakesCut, TellsNothing}
@@ -44,11 +45,11 @@ module _ (objects : List (ℕ × Kind)) (n : KeptState) (k : ℕ) where
   other_turn : (t : Turn) → length t.line ≤ MAX_LINE → is_note t.line ≡ false → (Says objects n k t ⊎ (HasFault n k t ⊎ IsStarved n k t)) → IsTurn objects n k t
   other_turn t le is s = short_turn t le (subst (λ b. OneOf b (t ≡ only n t.line []) (Says objects n k t ⊎ (HasFault n k t ⊎ IsStarved n k t))) (sym is) s)
 
-  pub call_turn : (line : List ℕ) (call : Call) → length line ≤ MAX_LINE → is_note line ≡ false → named line ≡ Some call → (t : Turn) → Of line (IsCallTurn objects n k call) t → Of line (IsTurn objects n k) t
-  call_turn line call le is says t (same, turn) = (
+  pub call_turn : (line : List ℕ) (call : Call) → length line ≤ MAX_LINE → is_note line ≡ false → named line ≡ Some call → is_line line ≡ true → (t : Turn) → Of line (IsCallTurn objects n k call) t → Of line (IsTurn objects n k) t
+  call_turn line call le is says stands t (same, turn) = (
     same,
     other_turn t (subst (λ l. length l ≤ MAX_LINE) (sym same) le) (ap is_note same ∙ is)
-        (inl (record { call = call; says = ap named same ∙ says; turn = turn })),
+        (inl (record { call = call; says = ap named same ∙ says; stands = ap is_line same ∙ stands; turn = turn })),
   )
 
   pub fault_turn : (line : List ℕ) (f : LineFault) → length line ≤ MAX_LINE → is_note line ≡ false → IsInputRefusal line (Fault f) → IsTurn objects n k (faulty n k line f)

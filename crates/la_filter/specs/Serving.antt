@@ -132,7 +132,7 @@ of_step fault.DiskFault = fault.DiskFault
 -- ## All of them
 
 -- all lines of an input were taken
-pub record Serves (objects : List (ℕ × Kind)) (n : KeptState) (Told : List (List ℕ) → Type 0) (left_before left_after out_before out_after : Option (List ℕ)) (journal_before journal_after : List (List ℕ)) (now : KeptState) : Type 0 where
+pub record Serves (objects : List (ℕ × Kind)) (n : KeptState) (Told : List (List ℕ) → Type 0) (Left : (turns last : List Turn) → Type 0) (left_before left_after out_before out_after : Option (List ℕ)) (journal_before journal_after : List (List ℕ)) (now : KeptState) : Type 0 where
   pub turns : List Turn
   -- what is behind the last line's end
   pub rest : List ℕ
@@ -141,9 +141,11 @@ pub record Serves (objects : List (ℕ × Kind)) (n : KeptState) (Told : List (L
   pub wrote : Appends out_before out_after (written turns)
   pub journal : journal_after ≡ journal_before ++ kept turns
   pub tells : Told (told turns ++ cut_told (1 + length turns) rest)
+  -- what a crash leaves
+  pub left : Left turns []
 
 -- some were, and are in the journal
-pub record ServesSome (objects : List (ℕ × Kind)) (n : KeptState) (Told : List (List ℕ) → Type 0) (left_before left_after : Option (List ℕ)) (Wrote : List ℕ → Type 0) (journal_before journal_after : List (List ℕ)) (now : KeptState) : Type 0 where
+pub record ServesSome (objects : List (ℕ × Kind)) (n : KeptState) (Told : List (List ℕ) → Type 0) (Left : (turns last : List Turn) → Type 0) (left_before left_after : Option (List ℕ)) (Wrote : List ℕ → Type 0) (journal_before journal_after : List (List ℕ)) (now : KeptState) : Type 0 where
   pub turns : List Turn
   pub are : AreTurns objects n 1 turns now
   pub read : ReadsFront left_before left_after (lines_of turns)
@@ -152,9 +154,10 @@ pub record ServesSome (objects : List (ℕ × Kind)) (n : KeptState) (Told : Lis
   -- what is behind them, where the input is at its end
   pub rest : List ℕ
   pub tells : Told (told turns ++ cut_told (1 + length turns) rest)
+  pub left : Left turns []
 
 -- some were, but of the last ones nothing was written, and the journal may lack them
-pub record ServesClosed (objects : List (ℕ × Kind)) (n : KeptState) (Told : List (List ℕ) → Type 0) (left_before left_after out_before out_after : Option (List ℕ)) : Type 0 where
+pub record ServesClosed (objects : List (ℕ × Kind)) (n : KeptState) (Told : List (List ℕ) → Type 0) (Left : (turns last : List Turn) → Type 0) (left_before left_after out_before out_after : Option (List ℕ)) : Type 0 where
   pub turns : List Turn
   pub last : List Turn
   pub after : KeptState
@@ -163,17 +166,18 @@ pub record ServesClosed (objects : List (ℕ × Kind)) (n : KeptState) (Told : L
   pub wrote : Appends out_before out_after (written turns)
   pub rest : List ℕ
   pub tells : Told (told (turns ++ last) ++ cut_told (1 + length (turns ++ last)) rest)
+  pub left : Left turns last
 
 -- Where a read failed all of these was written, and where a write did, or there was no memory, a front of it; but where
 -- the disk failed, or had no memory, nothing of the last ones.
-abbrev pub IsServeRefusal : (objects : List (ℕ × Kind)) (n : KeptState) (Told : List (List ℕ) → Type 0) (left_before left_after out_before out_after : Option (List ℕ)) (journal_before journal_after : List (List ℕ)) (now : KeptState) → NodeFault → Type 0
-IsServeRefusal objects n Told left_before left_after out_before out_after journal_before journal_after now fault.DiskFault =
-    ServesClosed objects n Told left_before left_after out_before out_after
-IsServeRefusal objects n Told left_before left_after out_before out_after journal_before journal_after now fault.ReadFault =
-    ServesSome objects n Told left_before left_after (Appends out_before out_after) journal_before journal_after now
-IsServeRefusal objects n Told left_before left_after out_before out_after journal_before journal_after now fault.WriteFault =
-    ServesSome objects n Told left_before left_after (AppendsPrefix out_before out_after) journal_before journal_after now
-IsServeRefusal objects n Told left_before left_after out_before out_after journal_before journal_after now fault.Memory =
-    ServesSome objects n Told left_before left_after (AppendsPrefix out_before out_after) journal_before journal_after now
-    ⊎ ServesClosed objects n Told left_before left_after out_before out_after
-IsServeRefusal objects n Told left_before left_after out_before out_after journal_before journal_after now _ = ⊥
+abbrev pub IsServeRefusal : (objects : List (ℕ × Kind)) (n : KeptState) (Told : List (List ℕ) → Type 0) (Left : (turns last : List Turn) → Type 0) (left_before left_after out_before out_after : Option (List ℕ)) (journal_before journal_after : List (List ℕ)) (now : KeptState) → NodeFault → Type 0
+IsServeRefusal objects n Told Left left_before left_after out_before out_after journal_before journal_after now fault.DiskFault =
+    ServesClosed objects n Told Left left_before left_after out_before out_after
+IsServeRefusal objects n Told Left left_before left_after out_before out_after journal_before journal_after now fault.ReadFault =
+    ServesSome objects n Told Left left_before left_after (Appends out_before out_after) journal_before journal_after now
+IsServeRefusal objects n Told Left left_before left_after out_before out_after journal_before journal_after now fault.WriteFault =
+    ServesSome objects n Told Left left_before left_after (AppendsPrefix out_before out_after) journal_before journal_after now
+IsServeRefusal objects n Told Left left_before left_after out_before out_after journal_before journal_after now fault.Memory =
+    ServesSome objects n Told Left left_before left_after (AppendsPrefix out_before out_after) journal_before journal_after now
+    ⊎ ServesClosed objects n Told Left left_before left_after out_before out_after
+IsServeRefusal objects n Told Left left_before left_after out_before out_after journal_before journal_after now _ = ⊥

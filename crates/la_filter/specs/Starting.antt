@@ -9,6 +9,7 @@ use Rattle.la_node.specs.Nodes.{KeptState, no_objects}
 use Rattle.la_node.specs.Restarts.{kept_state, leads_from}
 use Rattle.la_filter.specs.declared.error.NodeFault.{NodeFault}
 use Rattle.la_filter.specs.declared.error.NodeFault.TheVariants as fault
+use Rattle.la_filter.specs.Turns.{Turn}
 use Rattle.la_filter.specs.Serving.{Serves, IsServeRefusal}
 
 -- what a new node keeps
@@ -16,32 +17,33 @@ abbrev pub at_start : Config → (own : ℕ) → KeptState
 at_start config own = kept_state config.replicas (node_at_start config own no_objects)
 
 -- where the journal leads the lines of an input were taken, all of them
-pub record Runs (objects : List (ℕ × Kind)) (config : Config) (own : ℕ) (file : List ℕ) (Told : List (List ℕ) → Type 0) (left_before left_after out_before out_after : Option (List ℕ)) : Type 0 where
+pub record Runs (objects : List (ℕ × Kind)) (config : Config) (own : ℕ) (file : List ℕ) (Told : List (List ℕ) → Type 0) (Left : KeptState → (turns last : List Turn) → Type 0) (left_before left_after out_before out_after : Option (List ℕ)) : Type 0 where
   pub before : KeptState
   pub plays : leads_from (at_start config own) file ≡ Some before
   pub journal : List (List ℕ)
   pub now : KeptState
-  pub serves : Serves objects before Told left_before left_after out_before out_after (lines file) journal now
+  pub serves : Serves objects before Told (Left before) left_before left_after out_before out_after (lines file) journal now
 
 -- or some of them
-pub record RunsCut (objects : List (ℕ × Kind)) (config : Config) (own : ℕ) (file : List ℕ) (Told : List (List ℕ) → Type 0) (left_before left_after out_before out_after : Option (List ℕ)) (f : NodeFault) : Type 0 where
+pub record RunsCut (objects : List (ℕ × Kind)) (config : Config) (own : ℕ) (file : List ℕ) (Told : List (List ℕ) → Type 0) (Left : KeptState → (turns last : List Turn) → Type 0) (left_before left_after out_before out_after : Option (List ℕ)) (f : NodeFault) : Type 0 where
   pub before : KeptState
   pub plays : leads_from (at_start config own) file ≡ Some before
   pub journal : List (List ℕ)
   pub now : KeptState
-  pub stops : IsServeRefusal objects before Told left_before left_after out_before out_after (lines file) journal now f
+  pub stops : IsServeRefusal objects before Told (Left before) left_before left_after out_before out_after (lines file) journal now f
 
 -- nothing was read, written or told
-pub record RunsNot (left_before left_after out_before out_after : Option (List ℕ)) : Type 0 where
+pub record RunsNot (Told : List (List ℕ) → Type 0) (left_before left_after out_before out_after : Option (List ℕ)) : Type 0 where
   pub unread : left_after ≡ left_before
   pub unwritten : out_after ≡ out_before
+  pub untold : Told []
 
-abbrev pub IsRunRefusal : (objects : List (ℕ × Kind)) (config : Config) (own : ℕ) (file : List ℕ) (Told : List (List ℕ) → Type 0) (left_before left_after out_before out_after : Option (List ℕ)) → NodeFault → Type 0
-IsRunRefusal objects config own file Told left_before left_after out_before out_after fault.BadConfig =
-    RunsNot left_before left_after out_before out_after
+abbrev pub IsRunRefusal : (objects : List (ℕ × Kind)) (config : Config) (own : ℕ) (file : List ℕ) (Told : List (List ℕ) → Type 0) (Left : KeptState → (turns last : List Turn) → Type 0) (left_before left_after out_before out_after : Option (List ℕ)) → NodeFault → Type 0
+IsRunRefusal objects config own file Told Left left_before left_after out_before out_after fault.BadConfig =
+    RunsNot Told left_before left_after out_before out_after
     × (IsStartRefusal config own no_objects world.BadConfig ⊎ IsStartRefusal config own no_objects world.NoSuchReplica)
-IsRunRefusal objects config own file Told left_before left_after out_before out_after fault.BadJournal =
-    RunsNot left_before left_after out_before out_after
-IsRunRefusal objects config own file Told left_before left_after out_before out_after f =
-    RunsNot left_before left_after out_before out_after
-    ⊎ RunsCut objects config own file Told left_before left_after out_before out_after f
+IsRunRefusal objects config own file Told Left left_before left_after out_before out_after fault.BadJournal =
+    RunsNot Told left_before left_after out_before out_after
+IsRunRefusal objects config own file Told Left left_before left_after out_before out_after f =
+    RunsNot Told left_before left_after out_before out_after
+    ⊎ RunsCut objects config own file Told Left left_before left_after out_before out_after f

@@ -25,6 +25,7 @@ use Rattle.la_lines.specs.Calls.{Call, Submit, Decide, Ask, Tick, Receive}
 use Rattle.la_lines.specs.CallLines.{named}
 use Rattle.la_node.specs.declared.error.NodeError.{NodeError}
 use Rattle.la_node.specs.declared.error.NodeError.TheVariants.{Memory}
+use Rattle.la_node.specs.CallLines.{is_line}
 use Rattle.la_node.specs.Given.{Given, given_of}
 use Rattle.la_node.specs.Nodes.{KeptState, acts}
 use Rattle.la_node.specs.Errors.{IsForMemory}
@@ -205,10 +206,11 @@ OneOf false A B = B
 abbrev pub IsCallTurn : List (ℕ × Kind) → KeptState → (k : ℕ) → Call → Turn → Type 0
 IsCallTurn objects n k call t = OneOf (is_elsewhere n call || is_stale n call) (t ≡ only n t.line []) (IsTurnHere objects n k call t)
 
--- a line that says a call
+-- a line that says a call, and that a journal may have
 pub record Says (objects : List (ℕ × Kind)) (n : KeptState) (k : ℕ) (t : Turn) : Type 0 where
   pub call : Call
   pub says : named t.line ≡ Some call
+  pub stands : is_line t.line ≡ true
   pub turn : IsCallTurn objects n k call t
 
 -- one that has a fault

@@ -1,6 +1,7 @@
 // What is told of refusals, by name.
 ghost use Rattle.std.specs.Prelude.{◌≡◌, ◌≤◌, length};
 ghost use Rattle.la_filter.specs.Names.{replica_name, proposal_name, refusal_name};
+ghost use Rattle.la_filter.specs.Ending.{end_name};
 
 use crate::NodeFault;
 use la_node::NodeError;
@@ -56,7 +57,8 @@ pub fn refusal_name(refusal: NodeError) -> &'static str
 
 /// Why a node ended.
 pub fn end_name(fault: NodeFault) -> &'static str
-    ensures { length result.now ≤ 10 }
+    ensures text { result.now ≡ end_name fault }
+    ensures short { length result.now ≤ 10 }
 {
     match fault {
         NodeFault::ReadFault => "ReadFault",

@@ -6,12 +6,14 @@ ghost use Rattle.la_journal.specs.Durable.{IsSettled};
 ghost use Rattle.la_streams.specs.Streams.{ahead, TellsAll};
 ghost use Rattle.la_set.specs.Inclusion.{IsSubset};
 ghost use Rattle.la_node.specs.Restarts.{kept_state};
+ghost use Rattle.la_filter.specs.Crashes.{Leaves, Commits, CommitsSome};
 ghost use Rattle.la_filter.specs.Serving.{Steps, IsStepRefusal, Unflushed, of_step, Serves, IsServeRefusal};
 
 use crate::answering::answer;
 use crate::{Filter, NodeFault};
-use la_journal::{Disk, Uncommitted};
+use la_journal::{Disk, Uncommitted, laws};
 use la_lines::LineFault;
+use la_node::NodeMachine;
 use la_object::Replicated;
 use la_program::Listener;
 use la_streams::{Next, Source, tell_fault, write_lines};
@@ -76,11 +78,12 @@ fn flush<W: Write, D: Disk, B: Replicated>(
     requires settled { IsSettled D.seen D.may_leave filter.old.node.durable.disk }
     requires unclosed { filter.old.node.durable.closed ≡ false }
     ensures ok { OnOk result (Writes W.contents output.old output.new held.old.items
-        × (held.new.items ≡ []) × (filter.new.node.text.items ≡ [])) }
-    ensures kept { OnOk result (lines (D.seen filter.new.node.durable.disk) ≡ lines (D.seen filter.old.node.durable.disk) ++ lines filter.old.node.text.items) }
+        × (held.new.items ≡ []) × (filter.new.node.text.items ≡ [])
+        × Commits D.seen D.may_leave filter.old.node.text.items filter.old.node.durable.disk filter.new.node.durable.disk) }
     ensures err { IfErr result (Unflushed (Keeps (W.contents output.old) (W.contents output.new))
         (WritesPrefix W.contents output.old output.new held.old.items
-        × (lines (D.seen filter.new.node.durable.disk) ≡ lines (D.seen filter.old.node.durable.disk) ++ lines filter.old.node.text.items))) }
+        × Commits D.seen D.may_leave filter.old.node.text.items filter.old.node.durable.disk filter.new.node.durable.disk)) }
+    ensures any_moment { CommitsSome D.seen D.moment D.left_since filter.old.node.text.items filter.old.node.durable.disk filter.new.node.durable.disk }
     ensures settled { filter.new.node.durable.closed ≡ false → IsSettled D.seen D.may_leave filter.new.node.durable.disk }
     ensures unclosed { OnOk result (filter.new.node.durable.closed ≡ false) }
     ensures machine { filter.new.node.durable.machine ≡ filter.old.node.durable.machine }
@@ -128,14 +131,18 @@ pub fn serve<R: Read, W: Write, E: Listener, D: Disk, B: Replicated>(
     requires unstaged { filter.old.node.text.items ≡ [] }
     requires within { IsSubset filter.old.shelf.view filter.old.node.durable.machine.node.replica.view }
     ensures ok { OnOk result (Serves filter.old.shelf.objects (kept_state filter.old.node.durable.machine.replicas filter.old.node.durable.machine.node) (TellsAll E.contents E.refuses errors.old errors.new)
+        (Leaves D.seen D.may_leave D.moment D.left_since (kept_state filter.old.node.durable.machine.replicas filter.old.node.durable.machine.node) filter.old.node.durable.disk filter.new.node.durable.disk)
         (R.remaining input.old) (R.remaining input.new) (W.contents output.old) (W.contents output.new)
         (lines (D.seen filter.old.node.durable.disk)) (lines (D.seen filter.new.node.durable.disk)) (kept_state filter.new.node.durable.machine.replicas filter.new.node.durable.machine.node)) }
     ensures err { IfErr result (IsServeRefusal filter.old.shelf.objects (kept_state filter.old.node.durable.machine.replicas filter.old.node.durable.machine.node) (TellsAll E.contents E.refuses errors.old errors.new)
+        (Leaves D.seen D.may_leave D.moment D.left_since (kept_state filter.old.node.durable.machine.replicas filter.old.node.durable.machine.node) filter.old.node.durable.disk filter.new.node.durable.disk)
         (R.remaining input.old) (R.remaining input.new) (W.contents output.old) (W.contents output.new)
         (lines (D.seen filter.old.node.durable.disk)) (lines (D.seen filter.new.node.durable.disk)) (kept_state filter.new.node.durable.machine.replicas filter.new.node.durable.machine.node)) }
     ensures settled { filter.new.node.durable.closed ≡ false → IsSettled D.seen D.may_leave filter.new.node.durable.disk }
     ensures unclosed { OnOk result (filter.new.node.durable.closed ≡ false) }
 {
+    // a hint to the prover: what is left by one call after another
+    laws::calls_follow_one_another::<NodeMachine, D>();
     let mut source = Source::new(alloc);
     let mut held = Vec::new(alloc);
     for number in 1..u64::MAX {

@@ -1,7 +1,13 @@
-ghost use Rattle.std.specs.Prelude.{◌≡◌, IfErr, OnOk};
+ghost use Rattle.std.specs.Prelude.{◌≡◌, IfOk, IfErr, OnOk};
 ghost use Rattle.la_set.specs.Histories.{empty};
-ghost use Rattle.la_streams.specs.Streams.{TellsAll};
-ghost use Rattle.la_filter.specs.Starting.{Runs, IsRunRefusal};
+ghost use Rattle.la_object.specs.declared.kind.Kind.TheVariants.{Counter as CounterKind};
+ghost use Rattle.la_object.specs.declared.kind.Kind.TheVariants.{MaxRegister as RegisterKind};
+ghost use Rattle.la_object.specs.declared.kind.Kind.TheVariants.{OrSet as SetKind};
+ghost use Rattle.la_object.specs.Objects.{start};
+ghost use Rattle.la_streams.specs.Streams.{Tells, TellsAll};
+ghost use Rattle.la_filter.specs.Ending.{status_of, end_line, Ends};
+ghost use Rattle.la_filter.specs.Crashes.{LeavesOfRun};
+ghost use Rattle.la_filter.specs.Starting.{at_start, Runs, IsRunRefusal};
 
 use crate::names::end_name;
 use crate::serving::serve;
@@ -21,7 +27,9 @@ use std::io::{Read, Write};
 type Line = ArrayString<16>;
 
 /// The exit status after a fault.
-fn status_of(fault: NodeFault) -> u8 {
+fn status_of(fault: NodeFault) -> u8
+    ensures { result ≡ status_of fault }
+{
     match fault {
         NodeFault::Memory => 3,
         NodeFault::ReadFault | NodeFault::WriteFault | NodeFault::BadConfig => 4,
@@ -29,8 +37,11 @@ fn status_of(fault: NodeFault) -> u8 {
     }
 }
 
-/// The exit status after a fault, which is told.
-pub fn end_with<E: Listener>(fault: NodeFault, errors: &mut E) -> u8 {
+//// The exit status after a fault, which is told.
+pub fn end_with<E: Listener>(fault: NodeFault, errors: &mut E) -> u8
+    ensures status { result ≡ status_of fault }
+    ensures told { Tells E.contents E.refuses errors.old errors.new (end_line fault) }
+{
     let mut line = Line::new();
     line.push_str(end_name(fault));
     line.push_str("\n");
@@ -73,10 +84,10 @@ fn start<R: Read, W: Write, E: Listener, D: Disk, B: Replicated>(
 ) -> Result<(), NodeFault>
     requires { shelf.view ≡ empty }
     ensures ok { OnOk result (Runs shelf.objects options.now.config options.now.own (D.seen disk)
-        (TellsAll E.contents E.refuses errors.old errors.new)
+        (TellsAll E.contents E.refuses errors.old errors.new) (LeavesOfRun D.seen D.may_leave D.moment D.left_since (at_start options.now.config options.now.own) disk)
         (R.remaining input.old) (R.remaining input.new) (W.contents output.old) (W.contents output.new)) }
     ensures err { IfErr result (IsRunRefusal shelf.objects options.now.config options.now.own (D.seen disk)
-        (TellsAll E.contents E.refuses errors.old errors.new)
+        (TellsAll E.contents E.refuses errors.old errors.new) (LeavesOfRun D.seen D.may_leave D.moment D.left_since (at_start options.now.config options.now.own) disk)
         (R.remaining input.old) (R.remaining input.new) (W.contents output.old) (W.contents output.new)) }
 {
     let machine = match NodeMachine::new(alloc, options.config, options.own) {
@@ -115,7 +126,13 @@ fn run_with<
     errors: &mut E,
     make: F,
 ) -> u8
-    requires { F.pre make }
+    requires callable { F.pre make }
+    requires made { (made : _) → F.post make made
+        → IfOk made (λ o. (B.state o.0 ≡ start CounterKind) × (B.state o.1 ≡ start RegisterKind) × (B.state o.2 ≡ start SetKind)) }
+    ensures { Ends E.contents E.refuses (LeavesOfRun D.seen D.may_leave D.moment D.left_since (at_start options.now.config options.now.own) disk)
+        options.now.config options.now.own (D.seen disk)
+        (R.remaining input.old) (R.remaining input.new) (W.contents output.old) (W.contents output.new)
+        errors.old errors.new result }
 {
     let Ok((counter, register, set)) = make() else {
         return end_with(NodeFault::Memory, errors);
@@ -138,7 +155,12 @@ pub fn run<R: Read, W: Write, E: Listener, D: Disk>(
     input: &mut R,
     output: &mut W,
     errors: &mut E,
-) -> u8 {
+) -> u8
+    ensures { Ends E.contents E.refuses (LeavesOfRun D.seen D.may_leave D.moment D.left_since (at_start options.now.config options.now.own) disk)
+        options.now.config options.now.own (D.seen disk)
+        (R.remaining input.old) (R.remaining input.new) (W.contents output.old) (W.contents output.new)
+        errors.old errors.new result }
+{
     let make = || -> Result<
         (
             Box<dyn Replicated + Send>,
@@ -146,7 +168,9 @@ pub fn run<R: Read, W: Write, E: Listener, D: Disk>(
             Box<dyn Replicated + Send>,
         ),
         AllocError,
-    > {
+    >
+        ensures { IfOk result (λ o. (state o.0 ≡ start CounterKind) × (state o.1 ≡ start RegisterKind) × (state o.2 ≡ start SetKind)) }
+    {
         let counter: Box<dyn Replicated + Send> = Box::new(alloc, Counter::new(alloc))?;
         let register: Box<dyn Replicated + Send> = Box::new(alloc, MaxRegister::new(alloc))?;
         let set: Box<dyn Replicated + Send> = Box::new(alloc, OrSet::new(alloc))?;

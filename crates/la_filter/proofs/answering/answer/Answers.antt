@@ -17,12 +17,12 @@ returns-then-is_note-clause-ok g c =
 pub returns-in-Ok-clause-ok : goal.returns-in-Ok-clause-ok
 returns-in-Ok-clause-ok g c =
     ok_line g.E.Write.contents g.E.Listener.refuses c.args.filter.now.shelf.objects (kept_state c.args.filter.now.node.durable.machine.replicas c.args.filter.now.node.durable.machine.node) c.args.number c.args.line.now c.requires.short c.args.errors.now (g.W.Write.contents c.args.output.now) (lines c.args.filter.now.node.text.items) (sym c.is_note.ensures ∙ c.if-is_note.false) (g.W.Write.contents c.call.new.output) (lines c.call.new.filter.node.text.items) (kept_state c.call.new.filter.node.durable.machine.replicas c.call.new.filter.node.durable.machine.node)
-    _ _ c.in-Ok.ensures.ok c.call-call.ensures.says c.call.result c.call.ensures.ok
+    _ _ c.in-Ok.ensures.ok c.call-call.ensures.says c.call-call.ensures.line c.call.result c.call.ensures.ok
 
 pub returns-in-Ok-clause-err : goal.returns-in-Ok-clause-err
 returns-in-Ok-clause-err g c =
     err_line g.E.Write.contents g.E.Listener.refuses c.args.filter.now.shelf.objects (kept_state c.args.filter.now.node.durable.machine.replicas c.args.filter.now.node.durable.machine.node) c.args.number c.args.line.now c.requires.short c.args.errors.now (g.W.Write.contents c.args.output.now) (lines c.args.filter.now.node.text.items) (sym c.is_note.ensures ∙ c.if-is_note.false) (g.W.Write.contents c.call.new.output) (lines c.call.new.filter.node.text.items) (kept_state c.call.new.filter.node.durable.machine.replicas c.call.new.filter.node.durable.machine.node)
-    _ _ c.in-Ok.ensures.ok c.call-call.ensures.says c.call.result c.call.ensures.err
+    _ _ c.in-Ok.ensures.ok c.call-call.ensures.says c.call-call.ensures.line c.call.result c.call.ensures.err
 
 pub returns-in-Err-Fault-clause-ok : goal.returns-in-Err-Fault-clause-ok
 returns-in-Err-Fault-clause-ok g c =
