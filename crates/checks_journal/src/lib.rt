@@ -9,6 +9,8 @@ mod crashes;
 mod folders;
 #[cfg(test)]
 mod given;
+#[cfg(test)]
+mod groups;
 mod kept;
 mod tally;
 

@@ -5,7 +5,8 @@ ghost use Rattle.la_journal.specs.Durable.{IsSettled};
 use crate::given::{Came, again, holds, refused, second};
 use checks_journal::{Move, Tally};
 use la_journal::{
-    Contents, Disk, DiskError, Durable, MemoryDisk, Refused, Uncompacted, Unplayed, recover,
+    Contents, Disk, DiskError, Durable, MemoryDisk, Refused, Staged, Uncommitted, Uncompacted, Unplayed,
+    Unstaged, recover,
 };
 use std::alloc::Global;
 
@@ -77,6 +78,29 @@ fn handle_all<D: Disk>(node: &mut Durable<Tally, D>, alloc: Global, answers: &mu
     }
 }
 
+fn stage<D: Disk>(group: &mut Staged<Tally, D>, alloc: Global) -> Came
+    ensures disk { group.new.durable.disk ≡ group.old.durable.disk }
+    ensures closed { group.new.durable.closed ≡ group.old.durable.closed }
+{
+    match group.stage(alloc, &Move::Up) {
+        Ok(total) => Some(total == 3 && group.durable.machine.total == 3),
+        Err(Unstaged::Memory) => refused(group.durable.machine.total == 2 && group.text.is_empty()),
+        Err(_) => Some(false),
+    }
+}
+
+fn commit<D: Disk>(group: &mut Staged<Tally, D>) -> Came
+    requires { group.old.durable.closed ≡ false → IsSettled D.seen D.may_leave group.old.durable.disk }
+    ensures { group.new.durable.closed ≡ false → IsSettled D.seen D.may_leave group.new.durable.disk }
+{
+    match group.commit() {
+        Ok(()) => Some(group.text.is_empty() && !group.durable.closed),
+        Err(it) => refused(
+            it == Uncommitted::Memory && !group.text.is_empty() && !group.durable.closed,
+        ),
+    }
+}
+
 fn compact<D: Disk>(node: &mut Durable<Tally, D>, alloc: Global) -> Came
     requires { node.old.closed ≡ false → IsSettled D.seen D.may_leave node.old.disk }
     ensures { node.new.closed ≡ false → IsSettled D.seen D.may_leave node.new.disk }
@@ -111,6 +135,19 @@ fn handles_all(alloc: Global) -> Came {
     let mut answers = Vec::new(alloc);
     let came = again!(alloc, handle_all(&mut node, alloc, &mut answers));
     if leaves(&node.disk, came, MORE) {
+        came
+    } else {
+        Some(false)
+    }
+}
+
+fn commits(alloc: Global) -> Came {
+    let disk = disk_of(alloc, WHOLE)?;
+    let node = recover(alloc, Tally { total: 0 }, disk).ok()?;
+    let mut group = Staged::new(alloc, node);
+    let staged = again!(alloc, stage(&mut group, alloc))?;
+    let came = again!(alloc, commit(&mut group));
+    if staged && leaves(&group.durable.disk, came, "u\nu\nu\n") {
         came
     } else {
         Some(false)
@@ -190,6 +227,7 @@ fn scenes(alloc: Global) -> Came {
         recovers(alloc)?
             && handles(alloc)?
             && handles_all(alloc)?
+            && commits(alloc)?
             && compacts(alloc)?
             && disks(alloc)?
             && has_contents(alloc)?,
