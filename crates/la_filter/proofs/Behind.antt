@@ -20,7 +20,7 @@ use Rattle.la_filter.specs.Serving.{AreTurns, IsStep, Takes, TakesCut, TakesNone
 use Rattle.la_filter.proofs.Turning.{turns_snoc, turns_join}
 
 -- the turns so far: what the first ones came to was written, and what the others came to is held back
-pub record ServedSo (objects : List (ℕ × Kind)) (n : KeptState) (Told : List (List ℕ) → Type 0) (left ahead out_before out_now : Option (List ℕ)) (held : List ℕ) (journal_before journal_now staged : List (List ℕ)) (now : KeptState) (number : ℕ) : Type 0 where
+pub record ServedSo (objects : List (ℕ × Kind)) (n : KeptState) (Told : List (List ℕ) → Type 0) (Crash : (between : KeptState) (done : List Turn) → Type 0) (left ahead out_before out_now : Option (List ℕ)) (held : List ℕ) (journal_before journal_now staged : List (List ℕ)) (now : KeptState) (number : ℕ) : Type 0 where
   pub done : List Turn
   pub group : List Turn
   -- the state after the first ones
@@ -34,9 +34,10 @@ pub record ServedSo (objects : List (ℕ × Kind)) (n : KeptState) (Told : List 
   pub journal : journal_now ≡ journal_before ++ kept done
   pub stages : staged ≡ kept group
   pub tells : Told (told (done ++ group))
+  pub crash : Crash between done
 
 -- the same when no more is read: of what the others came to a front is held back
-pub record CutSo (objects : List (ℕ × Kind)) (n : KeptState) (Told : List (List ℕ) → Type 0) (left_before left_after out_before out_now : Option (List ℕ)) (held : List ℕ) (journal_before journal_now staged : List (List ℕ)) (now : KeptState) (more : List ℕ) : Type 0 where
+pub record CutSo (objects : List (ℕ × Kind)) (n : KeptState) (Told : List (List ℕ) → Type 0) (Crash : (between : KeptState) (done : List Turn) → Type 0) (left_before left_after out_before out_now : Option (List ℕ)) (held : List ℕ) (journal_before journal_now staged : List (List ℕ)) (now : KeptState) (more : List ℕ) : Type 0 where
   pub done : List Turn
   pub group : List Turn
   pub between : KeptState
@@ -49,6 +50,7 @@ pub record CutSo (objects : List (ℕ × Kind)) (n : KeptState) (Told : List (Li
   pub stages : staged ≡ kept group
   pub rest : List ℕ
   pub tells : Told (told (done ++ group) ++ cut_told (1 + length (done ++ group)) rest)
+  pub crash : Crash between done
 
 -- what may be missing of what is held back, by why no more is read
 abbrev pub Missing : NodeFault → (more : List ℕ) → Type 0
@@ -71,9 +73,9 @@ told_on turns t = sym (flat_map-append (λ (t : Turn). t.told) turns (t ∷ []) 
 lines_on : (turns : List Turn) (t : Turn) → lines_of turns ++ t.line ∷ [] ≡ lines_of (turns ++ t ∷ [])
 lines_on turns t = sym (map-append (λ (t : Turn). t.line) turns (t ∷ []))
 
-module _ {E : Type 0} (contents : E → Option (List ℕ)) (refuses : E → List ℕ → E → Type 0) (objects : List (ℕ × Kind)) (n : KeptState) (left out : Option (List ℕ)) (journal : List (List ℕ)) (e0 : E) (Left : (turns last : List Turn) → Type 0) where
-  pub served_none : ServedSo objects n (TellsAll contents refuses e0 e0) left (prepend_known [] left) out out [] journal journal [] n 1
-  served_none = record {
+module _ {E : Type 0} (contents : E → Option (List ℕ)) (refuses : E → List ℕ → E → Type 0) (objects : List (ℕ × Kind)) (n : KeptState) (left out : Option (List ℕ)) (journal : List (List ℕ)) (e0 : E) (Left : (turns last : List Turn) → Type 0) (Crash : (between : KeptState) (done : List Turn) → Type 0) where
+  pub served_none : Crash n [] → ServedSo objects n (TellsAll contents refuses e0 e0) Crash left (prepend_known [] left) out out [] journal journal [] n 1
+  served_none crash = record {
     done = [];
     group = [];
     between = n;
@@ -86,6 +88,7 @@ module _ {E : Type 0} (contents : E → Option (List ℕ)) (refuses : E → List
     journal = sym (append-nil journal);
     stages = refl;
     tells = refl;
+    crash = crash;
   }
     where
       none_read : (left : Option (List ℕ)) → Consumes left (prepend_known [] left) []
@@ -93,11 +96,11 @@ module _ {E : Type 0} (contents : E → Option (List ℕ)) (refuses : E → List
       none_read (Some xs) = refl
 
   module _ (ahead1 out1 : Option (List ℕ)) (held1 : List ℕ) (journal1 staged1 : List (List ℕ)) (n1 : KeptState) (e1 : E) (number : ℕ)
-      (so : ServedSo objects n (TellsAll contents refuses e0 e1) left ahead1 out out1 held1 journal journal1 staged1 n1 number) where
+      (so : ServedSo objects n (TellsAll contents refuses e0 e1) Crash left ahead1 out out1 held1 journal journal1 staged1 n1 number) where
     -- it was written, and is in the journal
-    pub flushed : (out2 : Option (List ℕ)) (held2 : List ℕ) (journal2 staged2 : List (List ℕ)) → Appends out1 out2 held1 → held2 ≡ [] → journal2 ≡ journal1 ++ staged1 → staged2 ≡ []
-        → ServedSo objects n (TellsAll contents refuses e0 e1) left ahead1 out out2 held2 journal journal2 staged2 n1 number
-    flushed out2 held2 journal2 staged2 wrote none behind unstaged =
+    pub flushed : (Crash2 : (between : KeptState) (done : List Turn) → Type 0) (out2 : Option (List ℕ)) (held2 : List ℕ) (journal2 staged2 : List (List ℕ)) → Crash2 n1 (so.done ++ so.group) → Appends out1 out2 held1 → held2 ≡ [] → journal2 ≡ journal1 ++ staged1 → staged2 ≡ []
+        → ServedSo objects n (TellsAll contents refuses e0 e1) Crash2 left ahead1 out out2 held2 journal journal2 staged2 n1 number
+    flushed Crash2 out2 held2 journal2 staged2 crash wrote none behind unstaged =
         let same : (so.done ++ so.group) ++ [] ≡ so.done ++ so.group = append-nil (so.done ++ so.group) in
         record {
           done = so.done ++ so.group;
@@ -112,11 +115,12 @@ module _ {E : Type 0} (contents : E → Option (List ℕ)) (refuses : E → List
           journal = behind ∙ (λ i. so.journal i ++ so.stages i) ∙ append_assoc journal (kept so.done) (kept so.group) ∙ ap (λ k. journal ++ k) (sym (flat_map-append (λ (t : Turn). t.kept) so.done so.group));
           stages = unstaged;
           tells = subst (λ ts. TellsAll contents refuses e0 e1 (told ts)) (sym same) so.tells;
+          crash = crash;
         }
 
     -- no more is read
     pub stopped : (p : List ℕ) (left1 : Option (List ℕ)) → ahead1 ≡ prepend_known p left1
-        → CutSo objects n (TellsAll contents refuses e0 e1) left left1 out out1 held1 journal journal1 staged1 n1 []
+        → CutSo objects n (TellsAll contents refuses e0 e1) Crash left left1 out out1 held1 journal journal1 staged1 n1 []
     stopped p left1 is = record {
       done = so.done;
       group = so.group;
@@ -130,6 +134,7 @@ module _ {E : Type 0} (contents : E → Option (List ℕ)) (refuses : E → List
       stages = so.stages;
       rest = [];
       tells = subst (TellsAll contents refuses e0 e1) (sym (append-nil (told (so.done ++ so.group)))) so.tells;
+      crash = so.crash;
     }
 
     module _ (ahead2 : Option (List ℕ)) (held2 : List ℕ) (staged2 : List (List ℕ)) (n2 : KeptState) (e2 : E) where
@@ -151,7 +156,7 @@ module _ {E : Type 0} (contents : E → Option (List ℕ)) (refuses : E → List
       tells_more t tells = subst (λ ts. TellsAll contents refuses e0 e2 (told ts)) (sym (grown t)) (subst (TellsAll contents refuses e0 e2) (told_on (so.done ++ so.group) t) (tells_on contents refuses e0 e1 e2 (told (so.done ++ so.group)) t.told so.tells tells))
 
       pub served_more : Takes (IsStep objects n1 number ahead1 ahead2) (TellsAll contents refuses e1 e2) (Some held1) (Some held2) staged1 staged2 n2
-          → ServedSo objects n (TellsAll contents refuses e0 e2) left ahead2 out out1 held2 journal journal1 staged2 n2 (number + 1)
+          → ServedSo objects n (TellsAll contents refuses e0 e2) Crash left ahead2 out out1 held2 journal journal1 staged2 n2 (number + 1)
       served_more t = record {
         done = so.done;
         group = so.group ++ t.turn ∷ [];
@@ -165,12 +170,13 @@ module _ {E : Type 0} (contents : E → Option (List ℕ)) (refuses : E → List
         journal = so.journal;
         stages = t.journal ∙ ap (λ s. s ++ t.turn.kept) so.stages ∙ kept_on so.group t.turn;
         tells = tells_more t.turn t.tells;
+        crash = so.crash;
       }
 
       -- the input is at its end
       module _ (p : List ℕ) (left2 : Option (List ℕ)) (is : ahead2 ≡ prepend_known p left2) where
         pub ended : Ends number (TellsAll contents refuses e1 e2) ahead1 ahead2 (Some held1) (Some held2) staged1 staged2 n1 n2
-            → CutSo objects n (TellsAll contents refuses e0 e2) left left2 out out1 held2 journal journal1 staged2 n2 []
+            → CutSo objects n (TellsAll contents refuses e0 e2) Crash left left2 out out1 held2 journal journal1 staged2 n2 []
         ended s = record {
           done = so.done;
           group = so.group;
@@ -185,6 +191,7 @@ module _ {E : Type 0} (contents : E → Option (List ℕ)) (refuses : E → List
           rest = s.rest;
           tells = tells_on contents refuses e0 e1 e2 (told (so.done ++ so.group)) (cut_told (1 + length (so.done ++ so.group)) s.rest) so.tells
               (subst (λ k. TellsAll contents refuses e1 e2 (cut_told k s.rest)) so.count s.tells);
+          crash = so.crash;
         }
 
         pub served_all : Ends number (TellsAll contents refuses e1 e2) ahead1 ahead2 (Some held1) (Some held2) staged1 staged2 n1 n2
@@ -204,7 +211,7 @@ module _ {E : Type 0} (contents : E → Option (List ℕ)) (refuses : E → List
 
         -- a line was not taken
         none_cut : TakesSome ahead1 ahead2 → TakesNone (TellsAll contents refuses e1 e2) (Some held1) (Some held2) staged1 staged2 n1 n2
-            → CutSo objects n (TellsAll contents refuses e0 e2) left left2 out out1 held2 journal journal1 staged2 n2 []
+            → CutSo objects n (TellsAll contents refuses e0 e2) Crash left left2 out out1 held2 journal journal1 staged2 n2 []
         none_cut some none = record {
           done = so.done;
           group = so.group;
@@ -218,11 +225,12 @@ module _ {E : Type 0} (contents : E → Option (List ℕ)) (refuses : E → List
           stages = none.journal ∙ so.stages;
           rest = [];
           tells = subst (TellsAll contents refuses e0 e2) (sym (append-nil (told (so.done ++ so.group)))) (subst (λ e. TellsAll contents refuses e0 e (told (so.done ++ so.group))) (sym none.tells) so.tells);
+          crash = so.crash;
         }
 
         -- or it was, but of what it comes to only a front is held back
         one_cut : (t : TakesCut (IsStep objects n1 number ahead1 ahead2) (TellsAll contents refuses e1 e2) (Some held1) (Some held2) staged1 staged2 n2)
-            → (more : List ℕ) × CutSo objects n (TellsAll contents refuses e0 e2) left left2 out out1 held2 journal journal1 staged2 n2 more
+            → (more : List ℕ) × CutSo objects n (TellsAll contents refuses e0 e2) Crash left left2 out out1 held2 journal journal1 staged2 n2 more
         one_cut t =
             let many = t.wrote.0 in
             let more = drop many t.turn.text in (
@@ -231,8 +239,8 @@ module _ {E : Type 0} (contents : E → Option (List ℕ)) (refuses : E → List
                 done = so.done;
                 group = so.group ++ t.turn ∷ [];
                 between = so.between;
-        are_done = so.are_done;
-        are_group = are_on t.turn t.is.is t.now_is;
+                are_done = so.are_done;
+                are_group = are_on t.turn t.is.is t.now_is;
                 read = reads_front left ahead2 left2 p (lines_of (so.done ++ (so.group ++ t.turn ∷ []))) (read_on t.turn t.is.one t.is.read)
                     ([], subst (λ a. Consumes ahead2 a []) is (Consumes-nil ahead2));
                 wrote = so.wrote;
@@ -241,11 +249,12 @@ module _ {E : Type 0} (contents : E → Option (List ℕ)) (refuses : E → List
                 stages = t.journal ∙ ap (λ s. s ++ t.turn.kept) so.stages ∙ kept_on so.group t.turn;
                 rest = [];
                 tells = subst (TellsAll contents refuses e0 e2) (sym (append-nil (told (so.done ++ (so.group ++ t.turn ∷ []))))) (tells_more t.turn t.tells);
+                crash = so.crash;
               },
             )
 
         pub step_cut : (f : NodeFault) → IsStepRefusal objects n1 number (TellsAll contents refuses e1 e2) ahead1 ahead2 (Some held1) (Some held2) staged1 staged2 n2 f
-            → (more : List ℕ) × CutSo objects n (TellsAll contents refuses e0 e2) left left2 out out1 held2 journal journal1 staged2 n2 more × Missing f more
+            → (more : List ℕ) × CutSo objects n (TellsAll contents refuses e0 e2) Crash left left2 out out1 held2 journal journal1 staged2 n2 more × Missing f more
         step_cut fault.ReadFault r = ([], none_cut r.0 r.1, refl)
         step_cut fault.WriteFault r = ((one_cut r).0, (one_cut r).1, tt)
         step_cut fault.Memory (inl r) = ([], none_cut r.0 r.1, tt)
@@ -258,7 +267,7 @@ module _ {E : Type 0} (contents : E → Option (List ℕ)) (refuses : E → List
   -- ## What is held back is written, or is not
 
   module _ (left2 out1 out2 : Option (List ℕ)) (held : List ℕ) (journal1 journal2 staged : List (List ℕ)) (now : KeptState) (e : E) (more : List ℕ)
-      (so : CutSo objects n (TellsAll contents refuses e0 e) left left2 out out1 held journal journal1 staged now more) where
+      (so : CutSo objects n (TellsAll contents refuses e0 e) Crash left left2 out out1 held journal journal1 staged now more) where
     closed : Keeps out1 out2 → Left so.done so.group → ServesClosed objects n (TellsAll contents refuses e0 e) Left left left2 out out2
     closed keeps remains = record {
       turns = so.done;

@@ -36,6 +36,7 @@ module _ {D : Type 0} (seen : D → List ℕ) (may_leave : D → List ℕ → Ty
     pub leaves : (start : KeptState) → leads_from start (seen old) ≡ Some n → LeavesOnly moment left_since old now (LeadsToSome (leads_from start) step led.calls n)
 
   pub crash_none : (n : KeptState) (disk : D) → IsSettled seen may_leave disk → ((c : List ℕ) → left_since disk (moment disk) c → may_leave disk c) → CrashSo n n disk disk []
+  unfolding led_none
   crash_none n disk settled only_now = record {
     led = led_none n;
     leads = λ start was. was;
@@ -57,6 +58,7 @@ module _ {D : Type 0} (seen : D → List ℕ) (may_leave : D → List ℕ → Ty
 
     -- all staged lines are there
     pub crash_more : Commits seen may_leave staged now new → CrashSo n after old new (turns ++ last)
+    unfolding led_join
     crash_more all = record {
       led = led_join n between after turns last so.led then;
       leads = λ start was. all.leads start between then.calls (so.leads start was) (is ∙ then.lines) ∙ then.led;

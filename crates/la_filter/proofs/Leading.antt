@@ -1,5 +1,5 @@
 -- What the journal says of lines that were taken.
-use Rattle.std.proofs.Common.{◌≡◌, ◌⊎◌, inl, inr, ℕ, ◌+◌, Bool, true, false, List, [], ◌∷◌, ◌++◌, length, map, refl, sym, ap, subst, ◌∙◌, arith, Option, Some, None, option_map, nat_lt}
+use Rattle.std.proofs.Common.{◌≡◌, ◌⊎◌, inl, inr, ℕ, ◌+◌, ◌||◌, Bool, true, false, List, [], ◌∷◌, ◌++◌, length, map, refl, sym, ap, subst, ◌∙◌, arith, Option, Some, None, option_map, nat_lt}
 use Rattle.la_object.specs.declared.kind.Kind.{Kind}
 use Rattle.la_object.specs.declared.query.Answer.{Answer}
 use Rattle.la_object.specs.Shelves.{answer_at}

@@ -9,3 +9,4 @@ pub mod Stepping
 pub mod Starts
 pub mod Leading
 pub mod Crashing
+pub mod Groups

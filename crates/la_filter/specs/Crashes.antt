@@ -1,5 +1,6 @@
 -- What a crash leaves of the journal while lines are taken.
-use Rattle.std.specs.Prelude.{◌≡◌, ℕ, List, ◌++◌, Option, Some, map}
+use Rattle.std.specs.Prelude.{◌≡◌, ◌⊎◌, ℕ, List, [], ◌++◌, Option, Some, map}
+use Rattle.std.specs.Io.KnownBytes.{Appends}
 use Rattle.la_journal.specs.Disk.{LeavesOnly}
 use Rattle.la_journal.specs.Lines.{lines as lines_in}
 use Rattle.la_journal.specs.Machine.{steps, LeadsToSome}
@@ -49,3 +50,15 @@ abbrev pub CommitsSome : {D : Type 0} (seen : D → List ℕ) (moment : D → �
 CommitsSome seen moment left_since staged old new =
     (start before : KeptState) (calls : List CallLine) → leads_from start (seen old) ≡ Some before → lines_in staged ≡ texts calls
     → LeavesOnly moment left_since old new (LeadsToSome (leads_from start) step calls before)
+
+-- all that was held back was written, once all that was staged was on the disk
+abbrev pub Flushes : {D : Type 0} (seen : D → List ℕ) (may_leave : D → List ℕ → Type 0) (moment : D → ℕ) (left_since : D → ℕ → List ℕ → Type 0) (out_before out_after : Option (List ℕ)) (held_before held_after text_before text_after : List ℕ) (old new : D) → Type 0
+Flushes seen may_leave moment left_since out_before out_after held_before held_after text_before text_after old new =
+    Appends out_before out_after held_before × (held_after ≡ []) × (text_after ≡ [])
+    × Commits seen may_leave text_before old new × CommitsSome seen moment left_since text_before old new
+
+-- that, or nothing
+abbrev pub FlushesOrNot : {D : Type 0} (seen : D → List ℕ) (may_leave : D → List ℕ → Type 0) (moment : D → ℕ) (left_since : D → ℕ → List ℕ → Type 0) (out_before out_after : Option (List ℕ)) (held_before held_after text_before text_after : List ℕ) (old new : D) → Type 0
+FlushesOrNot seen may_leave moment left_since out_before out_after held_before held_after text_before text_after old new =
+    ((out_after ≡ out_before) × (held_after ≡ held_before) × (text_after ≡ text_before) × (new ≡ old))
+    ⊎ Flushes seen may_leave moment left_since out_before out_after held_before held_after text_before text_after old new

@@ -1,5 +1,5 @@
 -- A node that plays its journal and then takes lines.
-use Rattle.std.specs.Prelude.{◌≡◌, ◌⊎◌, ℕ, List, Option, Some}
+use Rattle.std.specs.Prelude.{◌≡◌, ◌⊎◌, ℕ, List, [], Option, Some}
 use Rattle.la_object.specs.declared.kind.Kind.{Kind}
 use Rattle.la_journal.specs.Lines.{lines}
 use Rattle.la_world.specs.declared.config.Config.{Config}

@@ -257,7 +257,8 @@ fn call_here<W: Write, D: Disk, B: Replicated>(
 {
     match input.call() {
         Call::Ask { object, query, .. } => {
-            let (machine, shelf) = (&filter.node.durable.machine, &mut filter.shelf);
+            let Filter { node, shelf } = filter;
+            let machine = &node.durable.machine;
             ask(alloc, machine, shelf, number, *object, query, output)
         }
         Call::Tick => tick(alloc, &filter.node.durable.machine, number, output),

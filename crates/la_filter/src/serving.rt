@@ -1,12 +1,12 @@
-ghost use Rattle.std.specs.Prelude.{◌≡◌, ◌≤◌, ◌++◌, [], true, false, Ok, IfOk, IfErr, OnOk};
+ghost use Rattle.std.specs.Prelude.{◌≡◌, ◌≤◌, ◌++◌, [], true, false, Ok, IfOk, IfErr, OnOk, OnErr};
 ghost use Rattle.std.specs.Io.KnownBytes.{IsAtEnd, Keeps};
-ghost use Rattle.la_program.specs.Streams.{Writes, WritesPrefix};
+ghost use Rattle.la_program.specs.Streams.{WritesPrefix};
 ghost use Rattle.la_journal.specs.Lines.{lines};
 ghost use Rattle.la_journal.specs.Durable.{IsSettled};
 ghost use Rattle.la_streams.specs.Streams.{ahead, TellsAll};
 ghost use Rattle.la_set.specs.Inclusion.{IsSubset};
 ghost use Rattle.la_node.specs.Restarts.{kept_state};
-ghost use Rattle.la_filter.specs.Crashes.{Leaves, Commits, CommitsSome};
+ghost use Rattle.la_filter.specs.Crashes.{Leaves, Commits, CommitsSome, Flushes, FlushesOrNot};
 ghost use Rattle.la_filter.specs.Serving.{Steps, IsStepRefusal, Unflushed, of_step, Serves, IsServeRefusal};
 
 use crate::answering::answer;
@@ -77,9 +77,8 @@ fn flush<W: Write, D: Disk, B: Replicated>(
 ) -> Result<(), NodeFault>
     requires settled { IsSettled D.seen D.may_leave filter.old.node.durable.disk }
     requires unclosed { filter.old.node.durable.closed ≡ false }
-    ensures ok { OnOk result (Writes W.contents output.old output.new held.old.items
-        × (held.new.items ≡ []) × (filter.new.node.text.items ≡ [])
-        × Commits D.seen D.may_leave filter.old.node.text.items filter.old.node.durable.disk filter.new.node.durable.disk) }
+    ensures ok { OnOk result (Flushes D.seen D.may_leave D.moment D.left_since (W.contents output.old) (W.contents output.new)
+        held.old.items held.new.items filter.old.node.text.items filter.new.node.text.items filter.old.node.durable.disk filter.new.node.durable.disk) }
     ensures err { IfErr result (Unflushed (Keeps (W.contents output.old) (W.contents output.new))
         (WritesPrefix W.contents output.old output.new held.old.items
         × Commits D.seen D.may_leave filter.old.node.text.items filter.old.node.durable.disk filter.new.node.durable.disk)) }
@@ -98,6 +97,32 @@ fn flush<W: Write, D: Disk, B: Replicated>(
         Err(Uncommitted::Memory) => Err(NodeFault::Memory),
         Err(Uncommitted::Disk) | Err(Uncommitted::Closed) => Err(NodeFault::DiskFault),
     }
+}
+
+// The same, where the next line has still to be read, so that no answer waits for that.
+fn prepare<W: Write, D: Disk, B: Replicated>(
+    source: &Source,
+    filter: &mut Filter<D, B>,
+    held: &mut Vec<u8>,
+    output: &mut W,
+) -> Result<(), NodeFault>
+    requires settled { IsSettled D.seen D.may_leave filter.old.node.durable.disk }
+    requires unclosed { filter.old.node.durable.closed ≡ false }
+    ensures ok { OnOk result (FlushesOrNot D.seen D.may_leave D.moment D.left_since (W.contents output.old) (W.contents output.new)
+        held.old.items held.new.items filter.old.node.text.items filter.new.node.text.items filter.old.node.durable.disk filter.new.node.durable.disk) }
+    ensures err { IfErr result (Unflushed (Keeps (W.contents output.old) (W.contents output.new))
+        (WritesPrefix W.contents output.old output.new held.old.items
+        × Commits D.seen D.may_leave filter.old.node.text.items filter.old.node.durable.disk filter.new.node.durable.disk)) }
+    ensures any_moment { OnErr result (CommitsSome D.seen D.moment D.left_since filter.old.node.text.items filter.old.node.durable.disk filter.new.node.durable.disk) }
+    ensures settled { filter.new.node.durable.closed ≡ false → IsSettled D.seen D.may_leave filter.new.node.durable.disk }
+    ensures unclosed { OnOk result (filter.new.node.durable.closed ≡ false) }
+    ensures machine { filter.new.node.durable.machine ≡ filter.old.node.durable.machine }
+    ensures shelf { filter.new.shelf ≡ filter.old.shelf }
+{
+    if source.has_line() {
+        return Ok(());
+    }
+    flush(filter, held, output)
 }
 
 // What failed where a line found no room, or what is held back did.
@@ -146,9 +171,7 @@ pub fn serve<R: Read, W: Write, E: Listener, D: Disk, B: Replicated>(
     let mut source = Source::new(alloc);
     let mut held = Vec::new(alloc);
     for number in 1..u64::MAX {
-        if !source.has_line() {
-            flush(filter, &mut held, output)?;
-        }
+        prepare(&source, filter, &mut held, output)?;
         match step(alloc, &mut source, filter, number, input, &mut held, errors) {
             Ok(true) => {}
             Ok(false) => return flush(filter, &mut held, output),

@@ -109,6 +109,16 @@ fn start<R: Read, W: Write, E: Listener, D: Disk, B: Replicated>(
     }
 }
 
+// Objects in the start states of the kinds that a node's shelf has.
+fn three<B: Replicated>(counter: B, register: B, set: B) -> (B, B, B)
+    requires counter { B.state counter ≡ start CounterKind }
+    requires register { B.state register ≡ start RegisterKind }
+    requires set { B.state set ≡ start SetKind }
+    ensures { (B.state result.0 ≡ start CounterKind) × (B.state result.1 ≡ start RegisterKind) × (B.state result.2 ≡ start SetKind) }
+{
+    (counter, register, set)
+}
+
 // The node with objects that are made for it, until its input ends: its exit status.
 fn run_with<
     R: Read,
@@ -174,7 +184,7 @@ pub fn run<R: Read, W: Write, E: Listener, D: Disk>(
         let counter: Box<dyn Replicated + Send> = Box::new(alloc, Counter::new(alloc))?;
         let register: Box<dyn Replicated + Send> = Box::new(alloc, MaxRegister::new(alloc))?;
         let set: Box<dyn Replicated + Send> = Box::new(alloc, OrSet::new(alloc))?;
-        Ok((counter, register, set))
+        Ok(three(counter, register, set))
     };
     run_with(alloc, options, disk, input, output, errors, make)
 }

@@ -1,11 +1,10 @@
 -- What is pending of a source, and what is taken of it.
-use Rattle.std.proofs.Common.{◌≡◌, ℕ, ◌+◌, ◌-◌, ◌≤◌, ◌<◌, Bool, true, false, ◌==◌, List, [], ◌∷◌, ◌++◌, length, take, drop, All, Option, Some, None, refl, sym, subst, ap, ◌∙◌, arith, append_assoc, append-nil, take-append-drop}
+use Rattle.std.proofs.Common.{◌≡◌, ℕ, ◌<◌, Bool, true, false, ◌==◌, List, [], ◌∷◌, ◌++◌, length, Option, Some, None, sym, subst, ap, ◌∙◌, arith, append_assoc, append-nil}
 use Rattle.std.specs.Io.KnownBytes.{Consumes, IsAtEnd, prepend_known}
 use Rattle.std.proofs.KnownBytes.{Consumes-trans, Consumes-nil}
-use Rattle.std.proofs.lemmas.List.Elements.{All-nil, All-cons, All-append}
-use Rattle.la_lines.specs.declared.calls.TheConstants.{MAX_LINE}
+use Rattle.std.proofs.lemmas.List.Elements.{All-nil, All-append}
 use Rattle.la_streams.specs.declared.source.Next.{Next}
-use Rattle.la_streams.specs.Streams.{IsOneLine, IsKept, IsPart, IsNext, end_of, of_line, last_kind}
+use Rattle.la_streams.specs.Streams.{IsOneLine, IsKept, IsPart, IsNext, of_line, last_kind}
 
 -- bytes in front of what is ahead are taken
 pub takes_front : (p q : List ℕ) (left : Option (List ℕ)) (bytes : List ℕ) → p ≡ bytes ++ q → Consumes (prepend_known p left) (prepend_known q left) bytes

@@ -1,6 +1,6 @@
 -- Lines told behind others.
 use Rattle.std.proofs.Common.{ℕ, List, [], ◌∷◌, ◌++◌, Option, subst}
-use Rattle.la_streams.specs.Streams.{Tells, TellsAll}
+use Rattle.la_streams.specs.Streams.{TellsAll}
 
 module _ {E : Type 0} (contents : E → Option (List ℕ)) (refuses : E → List ℕ → E → Type 0) where
   pub tells_on : (old mid new : E) (lines more : List (List ℕ)) → TellsAll contents refuses old mid lines → TellsAll contents refuses mid new more → TellsAll contents refuses old new (lines ++ more)

@@ -1,4 +1,4 @@
-use Rattle.std.proofs.Common.{◌≤◌, length, arith}
+use Rattle.std.proofs.Common.{arith}
 use Rattle.std.proofs.lemmas.List.{length-drop}
 use Rattle.la_program.proofs.lemmas.Always.{always_err}
 use Rattle.la_streams.proofs.Adding.{written_on, prefix_on}

@@ -1,4 +1,4 @@
-use Rattle.std.proofs.Common.{◌≡◌, Bool, true, false, Result, Ok, refl, ap, sym, ◌∙◌, rules, arith}
+use Rattle.std.proofs.Common.{◌≡◌, Bool, true, false, Result, Ok, refl, ap, sym, ◌∙◌, rules}
 use Rattle.std.proofs.lemmas.Bool.{false≢true}
 use Rattle.la_streams.specs.declared.source.SourceFault.{SourceFault}
 use Rattle.la_streams.specs.Streams.{pending}
