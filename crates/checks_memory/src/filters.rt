@@ -129,7 +129,8 @@ fn serve_line<D: Disk>(
 
 // Whether a journal has this line behind what it had.
 fn has_gained(after: &[u8], before: &[u8], line: &str) -> bool {
-    after.starts_with(before) && after.ends_with(line.as_bytes())
+    after.starts_with(before)
+        && after.ends_with(line.as_bytes())
         && after.len() == before.len().saturating_add(line.len())
 }
 
@@ -224,7 +225,9 @@ fn runs(alloc: Global) -> Came {
     };
     let disk = disk_of(alloc, ROUND.as_bytes())?;
     let mut output = room(alloc)?;
-    let mut told = Told { bytes: room(alloc)? };
+    let mut told = Told {
+        bytes: room(alloc)?,
+    };
     let mut input = b"ask 0 3 items\n".as_slice();
     match run(alloc, &options, disk, &mut input, &mut output, &mut told) {
         0 if output.as_slice() == ANSWER.as_bytes() => Some(told.bytes.is_empty()),
@@ -243,12 +246,22 @@ fn words_of(alloc: Global, words: &[&str]) -> Option<Vec<String>> {
 }
 
 const WORDS: [&str; 8] = [
-    "node", "--replicas", "2", "--own", "1", "--journal", "folder", "--cap=7",
+    "node",
+    "--replicas",
+    "2",
+    "--own",
+    "1",
+    "--journal",
+    "folder",
+    "--cap=7",
 ];
 
 fn are_options(options: &Options) -> bool {
     let config = options.config;
-    config.replicas == 2 && config.commits == 0 && config.cap == 7 && options.own == 1
+    config.replicas == 2
+        && config.commits == 0
+        && config.cap == 7
+        && options.own == 1
         && options.folder.as_str() == "folder"
 }
 
@@ -260,14 +273,16 @@ fn commands(alloc: Global, words: &[String]) -> Came {
     }
 }
 
-// Words that ask for help, or have a mistake; which of both, and how the text begins that is written or told.
+// Words that ask for help, and some with a mistake.
 const HELP: [&str; 2] = ["node", "--help"];
 
 const MISTAKE: [&str; 3] = ["node", "--own", "8"];
 
 fn ends_with_help(alloc: Global, error: &Error) -> Came {
     let mut output = room(alloc)?;
-    let mut told = Told { bytes: room(alloc)? };
+    let mut told = Told {
+        bytes: room(alloc)?,
+    };
     match end_without_options(alloc, error, &mut output, &mut told) {
         0 => Some(output.starts_with(b"Runs one replica") && told.bytes.is_empty()),
         3 => refused(is_memory(&output, &told.bytes)),
@@ -277,7 +292,9 @@ fn ends_with_help(alloc: Global, error: &Error) -> Came {
 
 fn ends_with_mistake(alloc: Global, error: &Error) -> Came {
     let mut output = room(alloc)?;
-    let mut told = Told { bytes: room(alloc)? };
+    let mut told = Told {
+        bytes: room(alloc)?,
+    };
     match end_without_options(alloc, error, &mut output, &mut told) {
         2 => Some(output.is_empty() && told.bytes.starts_with(b"error:")),
         3 => refused(is_memory(&output, &told.bytes)),
@@ -304,7 +321,9 @@ fn mistakes(alloc: Global, words: &[String]) -> Came {
 // Where there was no memory for the words, this is told.
 fn ends_for_memory(alloc: Global, error: &Error) -> Came {
     let mut output = room(alloc)?;
-    let mut told = Told { bytes: room(alloc)? };
+    let mut told = Told {
+        bytes: room(alloc)?,
+    };
     let status = end_without_options(alloc, error, &mut output, &mut told);
     refused(status == 3 && is_memory(&output, &told.bytes))
 }

@@ -3,8 +3,7 @@ ghost use Rattle.std.specs.Prelude.{◌≡◌, true};
 ghost use Rattle.std.specs.Io.KnownBytes.{IsAtEnd};
 ghost use Rattle.la_streams.specs.Streams.{ahead};
 
-use crate::given::{Came, again, holds, refused, second, set_of};
-use crate::given::{Does, Row};
+use crate::given::{Came, Does, Row, again, holds, refused, second, set_of};
 use la_commit::Outcome;
 use la_lines::{Call, read};
 use la_object::Answer;
@@ -178,8 +177,14 @@ fn puts(alloc: Global) -> Came {
             && again!(alloc, puts_proposed(alloc))?
             && again!(alloc, puts_learnt(alloc, counts))?
             && again!(alloc, puts_view(alloc, counts))?
-            && again!(alloc, puts_outcome(alloc, Outcome::Commit(9), "# r3 outcome 2 commit 9\n"))?
-            && again!(alloc, puts_outcome(alloc, Outcome::Adopt(0), "# r3 outcome 2 adopt 0\n"))?
+            && again!(
+                alloc,
+                puts_outcome(alloc, Outcome::Commit(9), "# r3 outcome 2 commit 9\n")
+            )?
+            && again!(
+                alloc,
+                puts_outcome(alloc, Outcome::Adopt(0), "# r3 outcome 2 adopt 0\n")
+            )?
             && again!(alloc, puts_answered(alloc))?
             && again!(alloc, puts_mail(alloc))?,
     )
