@@ -22,9 +22,10 @@ pub fn take_next<R: Read, E: Listener>(
         (source.new.line.items ++ 10 ∷ []) }
     ensures over { source.new.over ≡ true → IsAtEnd (ahead source.new (R.remaining reader.new)) }
 {
-    let next = source.next(reader)?;
-    if next == Next::Long {
-        tell_fault(errors, number, LineFault::TooLong);
+    match source.next(reader)? {
+        Next::Line => return Ok(true),
+        Next::Long => tell_fault(errors, number, LineFault::TooLong),
+        Next::Cut | Next::End => (),
     }
-    Ok(next == Next::Line)
+    Ok(false)
 }
