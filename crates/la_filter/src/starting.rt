@@ -10,7 +10,7 @@ use crate::{Filter, NodeFault, Options};
 use arrayvec::ArrayString;
 use clap::Error;
 use la_journal::{Disk, Unplayed, recover};
-use la_node::NodeMachine;
+use la_node::{NodeError, NodeMachine};
 use la_object::{Counter, MaxRegister, Replicated, Shelf};
 use la_orset::OrSet;
 use la_program::{Listener, tell_all, write_all};
@@ -93,6 +93,8 @@ fn start<R: Read, W: Write, E: Listener, D: Disk, B: Replicated>(
             serve(alloc, &mut filter, input, output, errors)
         }
         Err((Unplayed::Memory, _)) => Err(NodeFault::Memory),
+        // A line of the journal that finds no room says nothing against the journal.
+        Err((Unplayed::Refused(_, NodeError::Memory), _)) => Err(NodeFault::Memory),
         Err((Unplayed::Disk, _)) => Err(NodeFault::DiskFault),
         Err(_) => Err(NodeFault::BadJournal),
     }
