@@ -1,6 +1,7 @@
 ghost use Rattle.std.specs.Prelude.{◌≡◌, IfErr, OnOk};
 ghost use Rattle.la_set.specs.Histories.{empty};
 ghost use Rattle.la_streams.specs.Streams.{TellsAll};
+ghost use Rattle.la_filter.specs.Faults.{of_journal};
 ghost use Rattle.la_filter.specs.Starting.{Runs, IsRunRefusal};
 
 use crate::names::end_name;
@@ -61,6 +62,21 @@ pub fn end_without_options<W: Write, E: Listener>(
     }
 }
 
+// Why a node does not begin whose journal was not played. A line that finds no room says nothing against the journal.
+fn fault_of(why: Unplayed<NodeError>) -> NodeFault
+    ensures { result ≡ of_journal why }
+{
+    match why {
+        Unplayed::Memory | Unplayed::Refused(_, NodeError::Memory) => NodeFault::Memory,
+        Unplayed::Disk => NodeFault::DiskFault,
+        Unplayed::NoState
+        | Unplayed::NoCall(_)
+        | Unplayed::Misplaced(_)
+        | Unplayed::Refused(_, _)
+        | Unplayed::Damaged(_) => NodeFault::BadJournal,
+    }
+}
+
 // The node, until its input ends.
 fn start<R: Read, W: Write, E: Listener, D: Disk, B: Replicated>(
     alloc: Global,
@@ -92,11 +108,7 @@ fn start<R: Read, W: Write, E: Listener, D: Disk, B: Replicated>(
             };
             serve(alloc, &mut filter, input, output, errors)
         }
-        Err((Unplayed::Memory, _)) => Err(NodeFault::Memory),
-        // A line of the journal that finds no room says nothing against the journal.
-        Err((Unplayed::Refused(_, NodeError::Memory), _)) => Err(NodeFault::Memory),
-        Err((Unplayed::Disk, _)) => Err(NodeFault::DiskFault),
-        Err(_) => Err(NodeFault::BadJournal),
+        Err((why, _disk)) => Err(fault_of(why)),
     }
 }
 
