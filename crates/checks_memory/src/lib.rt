@@ -7,6 +7,8 @@ mod acceptors;
 #[cfg(test)]
 mod counted;
 #[cfg(test)]
+mod filters;
+#[cfg(test)]
 mod given;
 #[cfg(test)]
 mod journals;
@@ -32,6 +34,8 @@ mod runners;
 mod scripts;
 #[cfg(test)]
 mod sets;
+#[cfg(test)]
+mod streams;
 #[cfg(test)]
 mod texts;
 #[cfg(test)]

@@ -1,7 +1,8 @@
 -- A node that plays its journal and then takes lines.
-use Rattle.std.specs.Prelude.{◌≡◌, ◌⊎◌, ℕ, List, [], Option, Some}
+use Rattle.std.specs.Prelude.{◌≡◌, ◌⊎◌, ℕ, List, [], Option, Some, None}
 use Rattle.la_object.specs.declared.kind.Kind.{Kind}
 use Rattle.la_journal.specs.Lines.{lines}
+use Rattle.la_journal.specs.Journal.{IsDamaged}
 use Rattle.la_world.specs.declared.config.Config.{Config}
 use Rattle.la_world.specs.declared.error.WorldError.TheVariants as world
 use Rattle.la_world.specs.Nodes.{node_at_start, IsStartRefusal}
@@ -38,12 +39,16 @@ pub record RunsNot (Told : List (List ℕ) → Type 0) (left_before left_after o
   pub unwritten : out_after ≡ out_before
   pub untold : Told []
 
+-- the journal leads nowhere, or is damaged behind where it leads
+abbrev pub IsUnplayable : Config → (own : ℕ) → (file : List ℕ) → Type 0
+IsUnplayable config own file = (leads_from (at_start config own) file ≡ None) ⊎ IsDamaged file
+
 abbrev pub IsRunRefusal : (objects : List (ℕ × Kind)) (config : Config) (own : ℕ) (file : List ℕ) (Told : List (List ℕ) → Type 0) (Left : KeptState → (turns last : List Turn) → Type 0) (left_before left_after out_before out_after : Option (List ℕ)) → NodeFault → Type 0
 IsRunRefusal objects config own file Told Left left_before left_after out_before out_after fault.BadConfig =
     RunsNot Told left_before left_after out_before out_after
     × (IsStartRefusal config own no_objects world.BadConfig ⊎ IsStartRefusal config own no_objects world.NoSuchReplica)
 IsRunRefusal objects config own file Told Left left_before left_after out_before out_after fault.BadJournal =
-    RunsNot Told left_before left_after out_before out_after
+    RunsNot Told left_before left_after out_before out_after × IsUnplayable config own file
 IsRunRefusal objects config own file Told Left left_before left_after out_before out_after f =
     RunsNot Told left_before left_after out_before out_after
     ⊎ RunsCut objects config own file Told Left left_before left_after out_before out_after f

@@ -5,6 +5,7 @@ ghost use Rattle.la_object.specs.declared.kind.Kind.TheVariants.{MaxRegister as 
 ghost use Rattle.la_object.specs.declared.kind.Kind.TheVariants.{OrSet as SetKind};
 ghost use Rattle.la_object.specs.Objects.{start};
 ghost use Rattle.la_streams.specs.Streams.{Tells, TellsAll};
+ghost use Rattle.la_filter.specs.Faults.{of_journal};
 ghost use Rattle.la_filter.specs.Ending.{status_of, end_line, Ends};
 ghost use Rattle.la_filter.specs.Crashes.{LeavesOfRun};
 ghost use Rattle.la_filter.specs.Starting.{at_start, Runs, IsRunRefusal};
@@ -16,7 +17,7 @@ use crate::{Filter, NodeFault, Options};
 use arrayvec::ArrayString;
 use clap::Error;
 use la_journal::{Disk, Staged, Unplayed, recover};
-use la_node::NodeMachine;
+use la_node::{NodeError, NodeMachine};
 use la_object::{Counter, MaxRegister, Replicated, Shelf};
 use la_orset::OrSet;
 use la_program::{Listener, tell_all, write_all};
@@ -72,6 +73,21 @@ pub fn end_without_options<W: Write, E: Listener>(
     }
 }
 
+// Why a node does not begin whose journal was not played. A line that finds no room says nothing against the journal.
+fn fault_of(why: Unplayed<NodeError>) -> NodeFault
+    ensures { result ≡ of_journal why }
+{
+    match why {
+        Unplayed::Memory | Unplayed::Refused(_, NodeError::Memory) => NodeFault::Memory,
+        Unplayed::Disk => NodeFault::DiskFault,
+        Unplayed::NoState
+        | Unplayed::NoCall(_)
+        | Unplayed::Misplaced(_)
+        | Unplayed::Refused(_, _)
+        | Unplayed::Damaged(_) => NodeFault::BadJournal,
+    }
+}
+
 // The node, until its input ends.
 fn start<R: Read, W: Write, E: Listener, D: Disk, B: Replicated>(
     alloc: Global,
@@ -103,9 +119,7 @@ fn start<R: Read, W: Write, E: Listener, D: Disk, B: Replicated>(
             };
             serve(alloc, &mut filter, input, output, errors)
         }
-        Err((Unplayed::Memory, _)) => Err(NodeFault::Memory),
-        Err((Unplayed::Disk, _)) => Err(NodeFault::DiskFault),
-        Err(_) => Err(NodeFault::BadJournal),
+        Err((why, _disk)) => Err(fault_of(why)),
     }
 }
 

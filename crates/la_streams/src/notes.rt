@@ -73,7 +73,7 @@ fn put_counts(out: &mut Vec<u8>, counts: Counts) -> Result<(), AllocError>
     Ok(())
 }
 
-/// Notes that an update was submitted, by its number.
+/// Notes that an update was submitted, by its number. After a refusal a part of the note may stand there.
 pub fn put_submitted(out: &mut Vec<u8>, own: u8, number: u32) -> Result<(), AllocError>
     ensures { OnOk result (out.new.items ≡ out.old.items ++ submitted_note own number) }
 {
@@ -84,7 +84,7 @@ pub fn put_submitted(out: &mut Vec<u8>, own: u8, number: u32) -> Result<(), Allo
     put_end(out)
 }
 
-/// Notes that a value was proposed to an object.
+/// Notes that a value was proposed to an object. After a refusal a part of the note may stand there.
 pub fn put_proposed(out: &mut Vec<u8>, own: u8, commit: u8) -> Result<(), AllocError>
     ensures { OnOk result (out.new.items ≡ out.old.items ++ proposed_note own commit) }
 {
@@ -93,7 +93,7 @@ pub fn put_proposed(out: &mut Vec<u8>, own: u8, commit: u8) -> Result<(), AllocE
     put_end(out)
 }
 
-/// Notes that a ballot's set was learnt.
+/// Notes that a ballot's set was learnt. After a refusal a part of the note may stand there.
 pub fn put_learnt(
     out: &mut Vec<u8>,
     own: u8,
@@ -110,7 +110,7 @@ pub fn put_learnt(
     put_end(out)
 }
 
-/// Notes that the view has grown to these counts.
+/// Notes that the view has grown to these counts. After a refusal a part of the note may stand there.
 pub fn put_view(out: &mut Vec<u8>, own: u8, counts: Counts) -> Result<(), AllocError>
     ensures { OnOk result (out.new.items ≡ out.old.items ++ view_note own counts) }
 {
@@ -128,7 +128,7 @@ fn outcome_word(outcome: Outcome) -> &'static [u8]
     }
 }
 
-/// Notes what was returned from an object.
+/// Notes what was returned from an object. After a refusal a part of the note may stand there.
 pub fn put_outcome(
     out: &mut Vec<u8>,
     own: u8,
@@ -159,7 +159,7 @@ fn put_pieces(out: &mut Vec<u8>, pieces: &Pieces) -> Result<(), AllocError>
     Ok(())
 }
 
-/// Notes what an object answered.
+/// Notes what an object answered. After a refusal a part of the note may stand there.
 pub fn put_answered(
     alloc: Global,
     out: &mut Vec<u8>,
@@ -178,7 +178,7 @@ pub fn put_answered(
     put_end(out)
 }
 
-/// Writes messages, each as a line.
+/// Writes messages, each as a line. After a refusal a part of them may stand there.
 pub fn put_mail(out: &mut Vec<u8>, replicas: u8, mail: &[Message]) -> Result<(), AllocError>
     ensures { OnOk result (out.new.items ≡ out.old.items ++ mail_text replicas mail.now) }
 {

@@ -11,3 +11,4 @@ mod Mapped
 mod Together
 mod Leasing
 pub mod CarriedLines
+mod Served

@@ -5,3 +5,4 @@ pub mod Commits
 pub mod Kept
 pub mod Numbers
 pub mod Leases
+pub mod Serving

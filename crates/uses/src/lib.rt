@@ -5,6 +5,7 @@
 pub mod acceptors;
 pub mod commits;
 pub mod deltas;
+pub mod filters;
 pub mod groups;
 pub mod journals;
 pub mod kept;
@@ -19,4 +20,5 @@ pub mod replicas;
 pub mod restarts;
 pub mod scripts;
 pub mod sets;
+pub mod streams;
 pub mod worlds;
