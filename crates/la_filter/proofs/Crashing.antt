@@ -1,5 +1,5 @@
 -- What a crash leaves of the journal, as lines are taken.
-use Rattle.std.proofs.Common.{◌≡◌, ◌⊎◌, inl, ℕ, ◌≤◌, List, [], ◌∷◌, ◌++◌, length, map, take, refl, sym, ap, subst, ◌∙◌, arith, append-nil, Option, Some}
+use Rattle.std.proofs.Common.{◌≡◌, inl, ℕ, ◌≤◌, List, [], ◌∷◌, ◌++◌, refl, sym, ap, subst, ◌∙◌, arith, append-nil, Option, Some}
 use Rattle.std.proofs.lemmas.List.{map-append}
 use Rattle.std.proofs.lemmas.Grind.{flat_map-append}
 use Rattle.la_journal.specs.Disk.{LeavesOnly}
@@ -11,7 +11,7 @@ use Rattle.la_node.specs.Nodes.{KeptState, step}
 use Rattle.la_node.specs.Restarts.{leads_from}
 use Rattle.la_filter.specs.Turns.{Turn}
 use Rattle.la_filter.specs.Serving.{kept}
-use Rattle.la_filter.specs.Crashes.{texts, Leaves, Commits, CommitsSome}
+use Rattle.la_filter.specs.Crashes.{Leaves, Commits, CommitsSome}
 use Rattle.la_filter.proofs.Leading.{Led}
 
 steps_join : (xs ys : List CallLine) (state : Option KeptState) → steps_from step (xs ++ ys) state ≡ steps_from step ys (steps_from step xs state)

@@ -1,5 +1,5 @@
 -- Lines that are taken one after another, and what a crash leaves meanwhile.
-use Rattle.std.proofs.Common.{◌≡◌, inl, inr, ℕ, ◌+◌, ◌≤◌, true, false, List, [], ◌++◌, length, refl, sym, subst, ap, ◌∙◌, Option, Some, Result, Ok, Err, OnOk, IfErr}
+use Rattle.std.proofs.Common.{◌≡◌, inl, inr, ℕ, ◌+◌, ◌≤◌, List, [], ◌++◌, length, refl, sym, subst, ap, ◌∙◌, Option, Some, Result, Ok, Err, OnOk, IfErr}
 use Rattle.std.specs.Io.KnownBytes.{Appends, Keeps, prepend_known}
 use Rattle.la_object.specs.declared.kind.Kind.{Kind}
 use Rattle.la_program.specs.Streams.{AppendsPrefix}
@@ -15,7 +15,7 @@ use Rattle.la_filter.specs.declared.error.NodeFault.{NodeFault}
 use Rattle.la_filter.specs.declared.error.NodeFault.TheVariants as fault
 use Rattle.la_filter.specs.Turns.{Turn}
 use Rattle.la_filter.specs.Crashes.{Leaves, Commits, CommitsSome, Flushes, FlushesOrNot}
-use Rattle.la_filter.specs.Serving.{IsStep, Takes, Ends, Steps, IsStepRefusal, Unflushed, of_step, Serves, IsServeRefusal}
+use Rattle.la_filter.specs.Serving.{IsStep, Takes, Ends, IsStepRefusal, Unflushed, of_step, Serves, IsServeRefusal}
 use Rattle.la_filter.proofs.Leading.{Led, turns_lead}
 use Rattle.la_filter.proofs.Crashing.{CrashSo, crash_none, crash_more, crash_some, crash_all}
 use Rattle.la_filter.proofs.Behind.{ServedSo, CutSo, Missing, served_none, flushed, stopped, served_more, ended, served_all, step_cut, unflushed, then_refused}

@@ -1,18 +1,18 @@
 -- What the journal says of lines that were taken.
-use Rattle.std.proofs.Common.{◌≡◌, ◌⊎◌, inl, inr, ℕ, ◌+◌, ◌||◌, Bool, true, false, List, [], ◌∷◌, ◌++◌, length, map, refl, sym, ap, subst, ◌∙◌, arith, Option, Some, None, option_map, nat_lt}
+use Rattle.std.proofs.Common.{◌≡◌, ◌⊎◌, inl, inr, ℕ, ◌+◌, ◌||◌, Bool, true, false, List, [], ◌∷◌, ◌++◌, length, map, refl, sym, ap, subst, ◌∙◌, Option, Some, None, option_map, nat_lt}
 use Rattle.la_object.specs.declared.kind.Kind.{Kind}
 use Rattle.la_object.specs.declared.query.Answer.{Answer}
 use Rattle.la_object.specs.Shelves.{answer_at}
-use Rattle.la_journal.specs.Machine.{steps, steps_from, goes_on}
+use Rattle.la_journal.specs.Machine.{steps, steps_from}
 use Rattle.la_lines.specs.declared.calls.TheConstants.{MAX_LINE}
 use Rattle.la_lines.specs.declared.error.LineFault.TheVariants.{TooLong}
 use Rattle.la_lines.specs.Calls.{Call, Submit, Decide, Ask, Tick, Receive}
 use Rattle.la_lines.specs.CallLines.{named}
 use Rattle.la_node.specs.declared.error.NodeError.TheVariants.{Memory}
 use Rattle.la_node.specs.Given.{Given}
-use Rattle.la_node.specs.Nodes.{KeptState, acts, acts_by, step}
+use Rattle.la_node.specs.Nodes.{KeptState, acts_by, step}
 use Rattle.la_node.specs.CallLines.{CallLine, is_line}
-use Rattle.la_filter.specs.Turns.{Turn, only, refused, faulty, answered, question, is_note, is_elsewhere, is_stale, OneOf, IsTaken, IsRefused, IsStarved, IsAnswered, IsTicked, IsKeptTurn, IsTurnHere, IsCallTurn, Says, HasFault, IsShortTurn, IsTurn}
+use Rattle.la_filter.specs.Turns.{Turn, only, refused, faulty, answered, question, is_note, is_elsewhere, is_stale, OneOf, IsTaken, IsStarved, IsKeptTurn, IsTurnHere, Says, IsShortTurn, IsTurn}
 use Rattle.la_filter.specs.Serving.{AreTurns, kept}
 
 -- a turn by which the journal gains nothing, and nothing changes

@@ -1,6 +1,6 @@
 use Rattle.std.proofs.Common.{◌≡◌, ℕ, ◌+◌, Bool, true, false, List, [], Some, OnOk, IfErr, refl, sym, subst, ap, ◌∙◌, rules}
 use Rattle.std.proofs.lemmas.Bool.{false≢true}
-use Rattle.std.specs.Io.KnownBytes.{Appends, Keeps, prepend_known}
+use Rattle.std.specs.Io.KnownBytes.{Keeps, prepend_known}
 use Rattle.la_object.specs.declared.kind.Kind.{Kind}
 use Rattle.la_program.specs.Streams.{AppendsPrefix}
 use Rattle.la_journal.specs.Durable.{IsSettled}

@@ -1,9 +1,8 @@
-use Rattle.std.proofs.Common.{List, inl, inr, refl, sym, subst, ap, ◌∙◌}
-use Rattle.la_object.specs.declared.kind.Kind.{Kind}
+use Rattle.std.proofs.Common.{inl, inr, refl, subst}
 use Rattle.la_streams.specs.Streams.{TellsAll}
 use Rattle.la_filter.specs.declared.error.NodeFault.TheVariants.{Memory}
 use Rattle.la_filter.specs.Crashes.{LeavesOfRun}
-use Rattle.la_filter.specs.Starting.{at_start, Runs, IsRunRefusal}
+use Rattle.la_filter.specs.Starting.{at_start, IsRunRefusal}
 use Rattle.la_filter.proofs.starting.run_with.Goals as goal
 
 pub returns-in_default : goal.returns-in_default
