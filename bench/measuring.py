@@ -24,10 +24,10 @@ class Cost(NamedTuple):
     memory: float
 
 
-def build_plain(folder: Path, name: str) -> Path:
+def build_plain(folder: Path, name: str, *flags: str) -> Path:
     """Builds the plain program of this name."""
     program = folder / name
-    words = ["rustc", "--edition", "2021", "-O", str(BENCH / f"{name}.rs"), "-o", str(program)]
+    words = ["rustc", "--edition", "2021", "-O", *flags, str(BENCH / f"{name}.rs"), "-o", str(program)]
     subprocess.run(words, check=True)
     return program
 
@@ -54,7 +54,8 @@ class Runner:
     """Runs programs by that of timed.rs, which takes little memory: this process would count as theirs."""
 
     def __init__(self, folder: Path) -> None:
-        self.folder, self.timed = folder, build_plain(folder, "timed")
+        self.folder = folder
+        self.timed = build_plain(folder, "timed", "-C", "target-feature=+crt-static")
 
     def run(self, words: Sequence[str | Path], given: Path | str, written: Path | str) -> Cost:
         """Runs these words once, which read one file and write another."""
