@@ -2,40 +2,14 @@
 //! would write it without proofs and without cleverness: each message owns its whole set.
 //!
 //! `plain play` reads a script on standard input and prints the report of its run.
-//! `plain generate one N` and `plain generate three N` print a script with N submissions.
 
+mod script;
+
+use script::{script, Event, Fault, Group, Op, UpdateId, REPLICAS, VERSION};
 use std::env;
 use std::fmt::{self, Display};
 use std::io::{self, BufWriter, Read, Write};
 use std::process::ExitCode;
-use std::str::FromStr;
-
-/// How many replicas a group may have.
-const REPLICAS: usize = 8;
-
-/// How many tags a `Remove` may name.
-const MAX_TAGS: usize = 64;
-
-/// The first line of a script and of a report.
-const VERSION: &str = "lattice 1";
-
-/// Which update: the replica that made it, and its number among that replica's updates, from 1.
-#[derive(Clone, Copy, PartialEq, Eq, PartialOrd, Ord)]
-struct UpdateId {
-    replica: u8,
-    number: u32,
-}
-
-/// What an update does to its object.
-#[derive(Clone, PartialEq, Eq)]
-enum Op {
-    Inc(u32),
-    Dec(u32),
-    Raise(u64),
-    Put(u64),
-    Remove(Vec<UpdateId>),
-    Mark,
-}
 
 /// One operation on one object.
 #[derive(Clone, PartialEq, Eq)]
@@ -308,18 +282,6 @@ impl Replica {
     }
 }
 
-/// What may happen to a group.
-enum Event {
-    Submit { replica: u8, object: u16, op: Op },
-    Deliver(u64),
-}
-
-/// What group is played.
-struct Group {
-    replicas: usize,
-    cap: usize,
-}
-
 /// A group of replicas and all messages that were ever sent.
 struct World {
     group: Group,
@@ -477,111 +439,11 @@ impl Replica {
     }
 }
 
-/// What is wrong with a line.
-#[derive(Debug)]
-enum FaultName {
-    BadHeader,
-    BadLine,
-    BadNumber,
-}
-
-/// A fault of a script: the line's number, from 1, and what is wrong.
-struct Fault(usize, FaultName);
-
-/// A canonical number.
-fn number<T: FromStr>(word: &str) -> Result<T, FaultName> {
-    let is_canonical = word == "0" || !word.starts_with(['0', '+', '-']);
-    match word.parse() {
-        Ok(value) if is_canonical => Ok(value),
-        _ => Err(FaultName::BadNumber),
-    }
-}
-
-fn tag(word: &str) -> Result<UpdateId, FaultName> {
-    let (replica, number_word) = word.split_once('.').ok_or(FaultName::BadNumber)?;
-    match (number(replica)?, number(number_word)?) {
-        (_, 0) => Err(FaultName::BadNumber),
-        (replica, number) => Ok(UpdateId { replica, number }),
-    }
-}
-
-/// Distinct tags in ascending order.
-fn tags(words: &[&str]) -> Result<Vec<UpdateId>, FaultName> {
-    let mut tags = words
-        .iter()
-        .map(|word| tag(word))
-        .collect::<Result<Vec<_>, _>>()?;
-    tags.sort();
-    tags.dedup();
-    Ok(tags)
-}
-
-fn submission(replica: &str, object: &str, words: &[&str]) -> Result<Event, FaultName> {
-    let (replica, object) = (number(replica), number(object));
-    let op = match words {
-        ["inc", by] => Op::Inc(number(by)?),
-        ["dec", by] => Op::Dec(number(by)?),
-        ["raise", to] => Op::Raise(number(to)?),
-        ["put", element] => Op::Put(number(element)?),
-        ["remove", words @ ..] if words.len() <= MAX_TAGS => Op::Remove(tags(words)?),
-        ["mark"] => Op::Mark,
-        _ => return Err(FaultName::BadLine),
-    };
-    Ok(Event::Submit {
-        replica: replica?,
-        object: object?,
-        op,
-    })
-}
-
-fn event(line: &str) -> Result<Event, FaultName> {
-    let words: Vec<&str> = line.split(' ').collect();
-    if words.contains(&"") {
-        return Err(FaultName::BadLine);
-    }
-    match words.as_slice() {
-        ["submit", replica, object, words @ ..] => submission(replica, object, words),
-        ["deliver", message] => Ok(Event::Deliver(number(message)?)),
-        _ => Err(FaultName::BadLine),
-    }
-}
-
-fn header(line: &str) -> Option<Group> {
-    let words: Vec<&str> = line.split(' ').collect();
-    let ["replicas", replicas, "commits", "0", "cap", cap] = words.as_slice() else {
-        return None;
-    };
-    let (replicas, cap) = (number(replicas).ok()?, number(cap).ok()?);
-    if !(1..=REPLICAS).contains(&replicas) || !(1..=1_000_000).contains(&cap) {
-        return None;
-    }
-    Some(Group { replicas, cap })
-}
-
-/// The group and the events of a script.
-fn script(text: &str) -> Result<(Group, Vec<Event>), Fault> {
-    let mut lines = text.split('\n');
-    if lines.next() != Some(VERSION) {
-        return Err(Fault(1, FaultName::BadHeader));
-    }
-    let group = lines
-        .next()
-        .and_then(header)
-        .ok_or(Fault(2, FaultName::BadHeader))?;
-    let mut events = Vec::new();
-    for (index, line) in lines.enumerate() {
-        if !line.is_empty() && !line.starts_with('#') {
-            events.push(event(line).map_err(|name| Fault(index + 3, name))?);
-        }
-    }
-    Ok((group, events))
-}
-
 /// Reads a script on standard input, and prints the report of its run.
 fn play() -> io::Result<ExitCode> {
     let mut input = Vec::new();
     io::stdin().read_to_end(&mut input)?;
-    match script(&String::from_utf8_lossy(&input)) {
+    match script(&String::from_utf8_lossy(&input), |event| event) {
         Ok((group, events)) => {
             let mut out = BufWriter::new(io::stdout().lock());
             World::new(group).run(events, &mut out)?;
@@ -595,73 +457,11 @@ fn play() -> io::Result<ExitCode> {
     }
 }
 
-/// Prints a script in which replica 0 of three submits, and each submission is learnt at once: its
-/// offers reach replicas 0 and 1, and their replies reach it. Each submission sends 3 offers, 2
-/// replies and 2 tells.
-fn generate_one(count: usize, out: &mut impl Write) -> io::Result<()> {
-    for first in (0..count).map(|submission| 7 * submission) {
-        writeln!(out, "submit 0 1 inc 1")?;
-        for message in [first, first + 1, first + 3, first + 4] {
-            writeln!(out, "deliver {message}")?;
-        }
-    }
-    Ok(())
-}
-
-/// Prints a script in which replicas 0, 1 and 2 submit at once, and then each message is delivered
-/// once, in the order in which they are sent, until none is left; and so on. Which messages there
-/// are is found by playing along.
-fn generate_three(count: usize, out: &mut impl Write) -> io::Result<()> {
-    let mut world = World::new(Group {
-        replicas: 3,
-        cap: count,
-    });
-    let mut delivered = 0;
-    for submission in 0..count {
-        let replica = submission % 3;
-        writeln!(out, "submit {replica} 1 inc 1")?;
-        world.submit(replica, 1, Op::Inc(1), &mut io::sink())?;
-        if replica < 2 && submission + 1 < count {
-            continue;
-        }
-        while delivered < world.messages.len() {
-            writeln!(out, "deliver {delivered}")?;
-            world.deliver(delivered as u64, &mut io::sink())?;
-            delivered += 1;
-        }
-        assert!(world.replicas.iter().all(|replica| !replica.is_asking));
-    }
-    Ok(())
-}
-
-fn generate(kind: &str, count: &str) -> io::Result<ExitCode> {
-    let Ok(count) = count.parse() else {
-        return explain();
-    };
-    let mut out = BufWriter::new(io::stdout().lock());
-    writeln!(out, "{VERSION}")?;
-    writeln!(out, "replicas 3 commits 0 cap {count}")?;
-    match kind {
-        "one" => generate_one(count, &mut out)?,
-        "three" => generate_three(count, &mut out)?,
-        _ => return explain(),
-    }
-    out.flush()?;
-    Ok(ExitCode::SUCCESS)
-}
-
-/// Says how the program is called.
-fn explain() -> io::Result<ExitCode> {
-    eprintln!("usage: plain play <SCRIPT | plain generate one|three N");
-    Ok(ExitCode::from(2))
-}
-
 fn main() -> io::Result<ExitCode> {
     let words: Vec<String> = env::args().skip(1).collect();
-    let words: Vec<&str> = words.iter().map(String::as_str).collect();
-    match words.as_slice() {
-        ["play"] => play(),
-        ["generate", kind, count] => generate(kind, count),
-        _ => explain(),
+    if words == ["play"] {
+        return play();
     }
+    eprintln!("usage: plain play <SCRIPT");
+    Ok(ExitCode::from(2))
 }
