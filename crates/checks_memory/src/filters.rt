@@ -1,5 +1,5 @@
 // la_filter: a node of a group of one, over a journal and streams in memory.
-ghost use Rattle.std.specs.Prelude.{◌≡◌, false, IfSome};
+ghost use Rattle.std.specs.Prelude.{◌≡◌, [], false, IfSome};
 ghost use Rattle.la_set.specs.Inclusion.{IsSubset};
 ghost use Rattle.la_journal.specs.Durable.{IsSettled};
 
@@ -7,7 +7,7 @@ use crate::given::{Came, again, holds, refused, second};
 use clap::Error;
 use clap::error::ErrorKind;
 use la_filter::{Filter, NodeFault, Options, command, end_without_options, run, serve};
-use la_journal::{Disk, MemoryDisk, recover};
+use la_journal::{Disk, MemoryDisk, Staged, recover};
 use la_node::NodeMachine;
 use la_object::Shelf;
 use la_orset::OrSet;
@@ -83,20 +83,24 @@ fn disk_of(alloc: Global, journal: &[u8]) -> Option<MemoryDisk> {
 
 // A node as its journal says, with a set under 3 that has absorbed the view.
 fn start<D: Disk>(alloc: Global, disk: D) -> Option<Filter<D, OrSet>>
-    ensures { IfSome result (λ filter. (filter.node.closed ≡ false)
-        × IsSettled D.seen D.may_leave filter.node.disk
-        × (filter.shelf.view ≡ filter.node.machine.node.replica.view)) }
+    ensures { IfSome result (λ filter. (filter.node.durable.closed ≡ false)
+        × IsSettled D.seen D.may_leave filter.node.durable.disk
+        × (filter.node.text.items ≡ [])
+        × (filter.shelf.view ≡ filter.node.durable.machine.node.replica.view)) }
 {
     let machine = NodeMachine::new(alloc, alone(), 0).ok()?;
     let node = recover(alloc, machine, disk).ok()?;
     let mut shelf = Shelf::new(alloc);
     shelf.add(3, OrSet::new(alloc)).ok()?;
     shelf.absorb(node.machine.node.view()).ok()?;
-    Some(Filter { node, shelf })
+    Some(Filter {
+        node: Staged::new(alloc, node),
+        shelf,
+    })
 }
 
-// What came of a line: what is to be written was, or a note that there was no memory, or nothing, and the node
-// ended.
+// What came of a line: what is to be written was, or a note that there was no memory, or a front of it, and the
+// node ended.
 #[derive(Clone, Copy, PartialEq, Eq)]
 enum Served {
     Well,
@@ -111,9 +115,10 @@ fn serve_line<D: Disk>(
     line: &str,
     text: &str,
 ) -> Served
-    requires settled { IsSettled D.seen D.may_leave filter.old.node.disk }
-    requires unclosed { filter.old.node.closed ≡ false }
-    requires within { IsSubset filter.old.shelf.view filter.old.node.machine.node.replica.view }
+    requires settled { IsSettled D.seen D.may_leave filter.old.node.durable.disk }
+    requires unclosed { filter.old.node.durable.closed ≡ false }
+    requires unstaged { filter.old.node.text.items ≡ [] }
+    requires within { IsSubset filter.old.shelf.view filter.old.node.durable.machine.node.replica.view }
 {
     let Ok(mut output) = Vec::with_capacity(alloc, 400) else {
         return Served::Stopped;
@@ -122,7 +127,7 @@ fn serve_line<D: Disk>(
     match serve(alloc, filter, &mut input, &mut output, &mut io::sink()) {
         Ok(()) if output.as_slice() == text.as_bytes() => Served::Well,
         Ok(()) if output.as_slice() == REFUSED.as_bytes() => Served::Noted,
-        Err(NodeFault::Memory) if output.is_empty() => Served::Stopped,
+        Err(NodeFault::Memory) if text.as_bytes().starts_with(output.as_slice()) => Served::Stopped,
         Ok(()) | Err(_) => Served::Wrong,
     }
 }
@@ -152,14 +157,14 @@ fn serves_again(alloc: Global, row: &Row, journal: &[u8]) -> Came {
     let text = if is_first { row.text } else { row.later };
     let mut filter = start(alloc, disk_of(alloc, journal)?)?;
     let served = serve_line(alloc, &mut filter, row.line, text);
-    came_of(row, served, journal, filter.node.disk.bytes())
+    came_of(row, served, journal, filter.node.durable.disk.bytes())
 }
 
 fn serves(alloc: Global, row: &Row) -> Came {
     let journal = row.journal.as_bytes();
     let mut filter = start(alloc, disk_of(alloc, journal)?)?;
     let served = serve_line(alloc, &mut filter, row.line, row.text);
-    let left = filter.node.disk.bytes();
+    let left = filter.node.durable.disk.bytes();
     match came_of(row, served, journal, left) {
         Some(well) => Some(well),
         None => second(alloc, serves_again(alloc, row, left)),

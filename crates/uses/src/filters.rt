@@ -1,5 +1,5 @@
 // A node that serves lines which were gathered.
-ghost use Rattle.std.specs.Prelude.{◌≡◌, false, IfOk};
+ghost use Rattle.std.specs.Prelude.{◌≡◌, [], false, IfOk};
 ghost use Rattle.la_set.specs.Inclusion.{IsSubset};
 ghost use Rattle.la_journal.specs.Durable.{IsSettled};
 ghost use Rattle.uses.specs.Serving.{IsServed};
@@ -16,11 +16,12 @@ pub fn serve_batch<D: Disk, B: Replicated>(
     filter: &mut Filter<D, B>,
     batch: &[u8],
 ) -> Result<Vec<u8>, NodeFault>
-    requires settled { IsSettled D.seen D.may_leave filter.old.node.disk }
-    requires unclosed { filter.old.node.closed ≡ false }
-    requires within { IsSubset filter.old.shelf.view filter.old.node.machine.node.replica.view }
-    ensures { IfOk result (λ text. IsServed filter.old.shelf.objects filter.old.node.machine filter.new.node.machine
-        (D.seen filter.old.node.disk) (D.seen filter.new.node.disk) batch.now text.items) }
+    requires settled { IsSettled D.seen D.may_leave filter.old.node.durable.disk }
+    requires unclosed { filter.old.node.durable.closed ≡ false }
+    requires unstaged { filter.old.node.text.items ≡ [] }
+    requires within { IsSubset filter.old.shelf.view filter.old.node.durable.machine.node.replica.view }
+    ensures { IfOk result (λ text. IsServed filter.old.shelf.objects filter.old.node.durable.machine filter.new.node.durable.machine
+        (D.seen filter.old.node.durable.disk) (D.seen filter.new.node.durable.disk) batch.now text.items) }
 {
     let mut output = Vec::new(alloc);
     let mut input = batch;
