@@ -5,8 +5,8 @@ ghost use Rattle.la_journal.specs.Durable.{IsSettled};
 use crate::given::{Came, again, holds, refused, second};
 use checks_journal::{Move, Tally};
 use la_journal::{
-    Contents, Disk, DiskError, Durable, MemoryDisk, Refused, Staged, Uncommitted, Uncompacted, Unplayed,
-    Unstaged, recover,
+    Contents, Disk, DiskError, Durable, MemoryDisk, Refused, Staged, Uncommitted, Uncompacted,
+    Unplayed, Unstaged, recover,
 };
 use std::alloc::Global;
 
