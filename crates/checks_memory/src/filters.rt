@@ -308,19 +308,25 @@ fn ends_with_mistake(alloc: Global, error: &Error) -> Came {
 }
 
 fn helps(alloc: Global, words: &[String]) -> Came {
-    match command(alloc, words) {
-        Ok(_) => Some(false),
-        Err(it) if it.kind() == ErrorKind::OutOfMemory => ends_for_memory(alloc, &it),
-        Err(it) => again!(alloc, ends_with_help(alloc, &it)),
+    let error = match command(alloc, words) {
+        Ok(_options) => return Some(false),
+        Err(error) => error,
+    };
+    if error.kind() == ErrorKind::OutOfMemory {
+        return ends_for_memory(alloc, &error);
     }
+    again!(alloc, ends_with_help(alloc, &error))
 }
 
 fn mistakes(alloc: Global, words: &[String]) -> Came {
-    match command(alloc, words) {
-        Ok(_) => Some(false),
-        Err(it) if it.kind() == ErrorKind::OutOfMemory => ends_for_memory(alloc, &it),
-        Err(it) => again!(alloc, ends_with_mistake(alloc, &it)),
+    let error = match command(alloc, words) {
+        Ok(_options) => return Some(false),
+        Err(error) => error,
+    };
+    if error.kind() == ErrorKind::OutOfMemory {
+        return ends_for_memory(alloc, &error);
     }
+    again!(alloc, ends_with_mistake(alloc, &error))
 }
 
 // Where there was no memory for the words, this is told.
