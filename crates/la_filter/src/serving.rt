@@ -1,9 +1,9 @@
-ghost use Rattle.std.specs.Prelude.{◌≡◌, ◌≤◌, ◌++◌, [], true, false, Ok, IfOk, IfErr, OnOk, OnErr};
+ghost use Rattle.std.specs.Prelude.{◌≡◌, ◌≤◌, ◌++◌, [], true, false, Ok, Some, IfOk, IfErr, OnOk, OnErr};
 ghost use Rattle.std.specs.Io.KnownBytes.{IsAtEnd, Keeps};
 ghost use Rattle.la_program.specs.Streams.{WritesPrefix};
 ghost use Rattle.la_journal.specs.Lines.{lines};
 ghost use Rattle.la_journal.specs.Durable.{IsSettled};
-ghost use Rattle.la_streams.specs.Streams.{ahead, TellsAll};
+ghost use Rattle.la_streams.specs.Streams.{ahead, has_line, TellsAll};
 ghost use Rattle.la_set.specs.Inclusion.{IsSubset};
 ghost use Rattle.la_node.specs.Restarts.{kept_state};
 ghost use Rattle.la_filter.specs.Crashes.{Leaves, Commits, CommitsSome, Flushes, FlushesOrNot};
@@ -20,24 +20,26 @@ use la_streams::{Next, Source, tell_fault, write_lines};
 use std::alloc::Global;
 use std::io::{Read, Write};
 
-// Takes the next line, or answers that there is none.
-fn step<R: Read, W: Write, E: Listener, D: Disk, B: Replicated>(
+// Takes the next line, or answers that there is none. What it comes to is held back. It waits for a line only where
+// nothing is.
+fn step<R: Read, E: Listener, D: Disk, B: Replicated>(
     alloc: Global,
     source: &mut Source,
     filter: &mut Filter<D, B>,
     number: u64,
     input: &mut R,
-    output: &mut W,
+    output: &mut Vec<u8>,
     errors: &mut E,
 ) -> Result<bool, NodeFault>
     requires unclosed { filter.old.node.durable.closed ≡ false }
     requires within { IsSubset filter.old.shelf.view filter.old.node.durable.machine.node.replica.view }
+    requires flushed { has_line source.old ≡ false → (output.old.items ≡ []) × (filter.old.node.text.items ≡ []) }
     requires over { source.old.over ≡ true → IsAtEnd (ahead source.old (R.remaining input.old)) }
     ensures ok { IfOk result (Steps filter.old.shelf.objects (kept_state filter.old.node.durable.machine.replicas filter.old.node.durable.machine.node) number (TellsAll E.contents E.refuses errors.old errors.new)
-        (ahead source.old (R.remaining input.old)) (ahead source.new (R.remaining input.new)) (W.contents output.old) (W.contents output.new)
+        (ahead source.old (R.remaining input.old)) (ahead source.new (R.remaining input.new)) (Some output.old.items) (Some output.new.items)
         (lines filter.old.node.text.items) (lines filter.new.node.text.items) (kept_state filter.new.node.durable.machine.replicas filter.new.node.durable.machine.node)) }
     ensures err { IfErr result (IsStepRefusal filter.old.shelf.objects (kept_state filter.old.node.durable.machine.replicas filter.old.node.durable.machine.node) number (TellsAll E.contents E.refuses errors.old errors.new)
-        (ahead source.old (R.remaining input.old)) (ahead source.new (R.remaining input.new)) (W.contents output.old) (W.contents output.new)
+        (ahead source.old (R.remaining input.old)) (ahead source.new (R.remaining input.new)) (Some output.old.items) (Some output.new.items)
         (lines filter.old.node.text.items) (lines filter.new.node.text.items) (kept_state filter.new.node.durable.machine.replicas filter.new.node.durable.machine.node)) }
     ensures over { source.new.over ≡ true → IsAtEnd (ahead source.new (R.remaining input.new)) }
     ensures disk { filter.new.node.durable.disk ≡ filter.old.node.durable.disk }
@@ -116,6 +118,7 @@ fn prepare<W: Write, D: Disk, B: Replicated>(
     ensures any_moment { OnErr result (CommitsSome D.seen D.moment D.left_since filter.old.node.text.items filter.old.node.durable.disk filter.new.node.durable.disk) }
     ensures settled { filter.new.node.durable.closed ≡ false → IsSettled D.seen D.may_leave filter.new.node.durable.disk }
     ensures unclosed { OnOk result (filter.new.node.durable.closed ≡ false) }
+    ensures flushed { OnOk result (has_line source.now ≡ false → (held.new.items ≡ []) × (filter.new.node.text.items ≡ [])) }
     ensures machine { filter.new.node.durable.machine ≡ filter.old.node.durable.machine }
     ensures shelf { filter.new.shelf ≡ filter.old.shelf }
 {
