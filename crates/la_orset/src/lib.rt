@@ -9,8 +9,10 @@
 mod chain;
 mod live;
 mod or_set;
+mod puts;
+mod rows;
+mod tag_list;
 mod tag_set;
-mod tag_tree;
 
 pub use chain::Chain;
 pub use or_set::OrSet;

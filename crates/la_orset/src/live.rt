@@ -1,4 +1,4 @@
-ghost use Rattle.std.specs.Prelude.{◌≡◌, IfOk, IfErr, OnOk, OnErr};
+ghost use Rattle.std.specs.Prelude.{◌≡◌, false, IfOk, IfErr, OnOk, OnErr};
 ghost use Rattle.std.specs.FinMap as map;
 ghost use Rattle.la_object.specs.Refusals.{IsObserveRefusal};
 ghost use Rattle.la_orset.specs.Index.{tags_at, IsWhole, HasTags};
@@ -7,14 +7,14 @@ use crate::tag_set::TagSet;
 use la_object::{Items, ObserveError};
 use la_set::{Tags, UpdateId};
 use std::alloc::{AllocError, Global};
-use std::collections::BTreeMap;
+use std::collections::HashMap;
 use std::marker::Model;
 
-/// The live tags, by element. An element stands here only while it has one.
+/// The live tags, by element, which is found by hash. An element stands here only while it has one.
 #[derive(Drop)]
 pub struct Live {
     alloc: Global,
-    by_element: BTreeMap<u64, TagSet>,
+    by_element: HashMap<u64, TagSet>,
 }
 
 impl Model for Live {
@@ -37,11 +37,11 @@ impl Live {
     {
         Live {
             alloc,
-            by_element: BTreeMap::new(alloc),
+            by_element: HashMap::new(alloc),
         }
     }
 
-    /// Whether an element has a tag, at logarithmic cost.
+    /// Whether an element has a tag, at constant cost.
     pub fn has(&self, element: u64) -> bool
         ensures answer { result ≡ map.contains_key self.now element }
         ensures whole { IsWhole self.now }
@@ -57,16 +57,17 @@ impl Live {
         self.by_element.len()
     }
 
-    /// The elements that have a tag, in ascending order, in one pass over them.
+    /// The elements that have a tag, sorted into ascending order.
     pub fn elements(&self) -> Result<Items, AllocError>
         ensures answer { IfOk result (λ elements. elements ≡ map.keys self.now) }
         ensures whole { IsWhole self.now }
     {
-        let mut elements = Items::new(self.alloc);
+        let mut elements = Vec::with_capacity(self.alloc, self.by_element.len())?;
         for element in self.by_element.keys() {
             elements.push(*element)?;
         }
-        Ok(elements)
+        elements.sort_unstable();
+        Ok(Items::from(elements))
     }
 
     /// The tags of an element, in ascending order.
@@ -80,32 +81,37 @@ impl Live {
         }
     }
 
-    /// Puts a tag of an element in, at logarithmic cost. After a refusal nothing has changed.
-    pub fn insert(&mut self, element: u64, id: UpdateId) -> Result<(), AllocError>
+    /// Puts a tag of an element in, which it has not, and answers where the tag stands among the
+    /// element's. After a refusal nothing has changed.
+    pub fn insert(&mut self, element: u64, id: UpdateId) -> Result<usize, AllocError>
+        requires { map.contains_key (tags_at self.old element) id ≡ false }
         ensures ok { OnOk result
             (HasTags self.old element (map.insert (tags_at self.old element) id tt) self.new) }
         ensures err { OnErr result (self.new ≡ self.old) }
     {
         if let Some(tags) = self.by_element.get_mut(&element) {
+            let place = tags.len();
             tags.insert(id)?;
-            return Ok(());
+            return Ok(place);
         }
         let mut tags = TagSet::new(self.alloc);
         tags.insert(id)?;
         self.by_element.insert(element, tags)?;
-        Ok(())
+        Ok(0)
     }
 
-    /// Takes a tag of an element out, at logarithmic cost and without memory.
-    pub fn remove(&mut self, element: u64, id: UpdateId)
+    /// Takes a tag of an element out, without memory, and answers which of the element's tags stands
+    /// at the hint now.
+    pub fn remove(&mut self, element: u64, id: UpdateId, hint: usize) -> Option<UpdateId>
         ensures { HasTags self.old element (map.remove (tags_at self.old element) id) self.new }
     {
         let Some(tags) = self.by_element.get_mut(&element) else {
-            return;
+            return None;
         };
-        tags.remove(id);
+        let there = tags.remove(id, hint);
         if !tags.has_any() {
             self.by_element.remove(&element);
         }
+        there
     }
 }
