@@ -1,7 +1,7 @@
 -- What is found by hash, read by the order of the keys.
 use Rattle.std.proofs.Common.{◌≡◌, ℕ, suc, ◌+◌, eqb, T, Bool, true, false, ◌&&◌, ◌||◌, cond, List, [], ◌∷◌, length, Option, Some, None, is_some, refl, ap, sym, ◌∙◌, subst, arith}
 use Rattle.std.specs.List.{list_any, AllByRecursion, IsDistinct}
-use Rattle.std.specs.List.Sorted.{IsPermutation, IsSorted}
+use Rattle.std.specs.List.Sorted.{IsPermutation, IsSorted, IsStrictlySortedBy}
 use Rattle.std.specs.Map.{keys_of, lookup}
 use Rattle.std.specs.BTreeMap.{is_at}
 use Rattle.std.specs.Ordering.{nat_cmp, ordering_then, is_eq, eq_by_cmp}
@@ -11,7 +11,8 @@ use Rattle.std.specs.Cmp.{nat_cmp_total, unsigned_tied, nat_eq_equiv}
 use Rattle.std.specs.FinMap as map
 use Rattle.std.specs.FinMap.{nat_cmp-IsAntisymmetric}
 use Rattle.std.specs.FinSet as set
-use Rattle.std.proofs.lemmas.Map.Keys.{IsDistinct-head, IsDistinct-tail, IsDistinct-IsPermutation, IsStrictlyIncreasing-from_distinct, sorted_from_strictly_increasing}
+use Rattle.std.proofs.lemmas.Bool.{eqb-true}
+use Rattle.std.proofs.lemmas.Map.Keys.{IsDistinct-from_sorted, IsDistinct-head, IsDistinct-tail, IsDistinct-IsPermutation, IsStrictlyIncreasing-from_distinct, sorted_from_strictly_increasing}
 use Rattle.std.proofs.lemmas.List.Sorted.{list_any-IsPermutation, IsNonDecreasingBy-from_sort}
 use Rattle.la_set.specs.declared.update.UpdateId.{UpdateId}
 use Rattle.la_object.specs.IdOrder.{id_cmp, Elements, IdSet}
@@ -19,7 +20,7 @@ use Rattle.la_object.specs.OrSet.{with_ids}
 use Rattle.la_object.proofs.lemmas.IdOrder.{id_cmp_total, id_cmp-IsAntisymmetric}
 use Rattle.la_object.proofs.lemmas.IdMaps.{one_more, one_less, with_ids-nil, with_ids-more, contains-with_ids, same_ids}
 use Rattle.la_object.proofs.lemmas.Sorted.{get-lookup, one_put, one_taken}
-use Rattle.la_orset.specs.Index.{id_eq, set_of, TagMap}
+use Rattle.la_orset.specs.Index.{id_eq, set_of, TagMap, Index}
 use Rattle.la_orset.proofs.Sets.{same_members, contains-set_of, keys-set_of, sorted-entries, sorted-units}
 use Rattle.la_orset.proofs.LiveTags.{changed_from, same-id}
 
@@ -113,43 +114,36 @@ nat_sorted es ks distinct moved sorted =
     ∙ map.contains_key-keys m q ∙ sym (contains-set_of nat_cmp_total nat_cmp-IsAntisymmetric (map.keys m) q)))
     ∙ keys-set_of nat_cmp_total nat_cmp-IsAntisymmetric (map.keys m) (subst T (sym (sorted-entries nat_cmp (map.entries m))) (map.entries_sorted m))
 
--- ## Copies that are made one after another
+-- ## A copy that is made one element after another
 
-abbrev pub all_put : Elements → List (UpdateId × ℕ) → Elements
+pub nat_put : (es fs : List (ℕ × TagMap)) (x : ℕ) (tags : TagMap) → ((q : ℕ) → lookup (eqb q) fs ≡ cond (eqb x q) (Some tags) (lookup (eqb q) es)) → map.from_entries {R = nat_cmp} fs ≡ map.insert (map.from_entries es) x tags
+nat_put es fs x tags h = one_put nat_cmp_total nat_cmp-IsAntisymmetric es fs x tags (by_order eqb (λ q k. is_at (nat_cmp q) k) nat_tests es fs x (Some tags) h)
+
+abbrev pub all_put : Index → List (ℕ × TagMap) → Index
 all_put m [] = m
 all_put m (e ∷ es) = all_put (map.insert m e.0 e.1) es
 
-abbrev or_else : Option ℕ → Option ℕ → Option ℕ
+abbrev or_else : Option TagMap → Option TagMap → Option TagMap
 or_else None d = d
 or_else (Some x) d = Some x
 
-get-all_put : (m : Elements) (es : List (UpdateId × ℕ)) (q : UpdateId) → IsDistinct id_eq (keys_of es) → map.get (all_put m es) q ≡ or_else (lookup (id_eq q) es) (map.get m q)
+get-all_put : (m : Index) (es : List (ℕ × TagMap)) (q : ℕ) → IsDistinct eqb (keys_of es) → map.get (all_put m es) q ≡ or_else (lookup (eqb q) es) (map.get m q)
 get-all_put m [] q h = refl
 get-all_put m (e ∷ es) q h =
-    get-all_put (map.insert m e.0 e.1) es q (IsDistinct-tail id_eq e.0 (keys_of es) h)
-    ∙ ap (or_else (lookup (id_eq q) es)) (map.get-insert id_cmp_total m e.0 e.1 q ∙ ap (λ b. cond b (Some e.1) (map.get m q)) (sym (id_test q e.0)))
-    ∙ by (id_eq q e.0) refl
+    get-all_put (map.insert m e.0 e.1) es q (IsDistinct-tail eqb e.0 (keys_of es) h)
+    ∙ ap (or_else (lookup (eqb q) es)) (map.get-insert nat_cmp_total m e.0 e.1 q ∙ ap (λ b. cond b (Some e.1) (map.get m q)) (unsigned_tied q e.0))
+    ∙ by (eqb q e.0) refl
   where
-    by : (b : Bool) → id_eq q e.0 ≡ b → or_else (lookup (id_eq q) es) (cond b (Some e.1) (map.get m q)) ≡ or_else (cond b (Some e.1) (lookup (id_eq q) es)) (map.get m q)
-    by true is = ap (λ g. or_else g (Some e.1)) (ap (λ k. lookup (id_eq k) es) (same-id q e.0 is) ∙ absent id_eq e.0 es (IsDistinct-head id_eq e.0 (keys_of es) h))
+    by : (b : Bool) → eqb q e.0 ≡ b → or_else (lookup (eqb q) es) (cond b (Some e.1) (map.get m q)) ≡ or_else (cond b (Some e.1) (lookup (eqb q) es)) (map.get m q)
+    by true is = ap (λ g. or_else g (Some e.1)) (ap (λ k. lookup (eqb k) es) (eqb-true q e.0 is) ∙ absent eqb e.0 es (IsDistinct-head eqb e.0 (keys_of es) h))
     by false is = refl
 
-or_none : (o : Option ℕ) → or_else o None ≡ o
+or_none : (o : Option TagMap) → or_else o None ≡ o
 or_none None = refl
 or_none (Some x) = refl
 
-pub all_put-whole : (es : List (UpdateId × ℕ)) → IsDistinct id_eq (keys_of es) → all_put map.empty es ≡ map.from_entries es
-all_put-whole es h = map.same_map id_cmp_total id_cmp-IsAntisymmetric _ _ (λ q.
-    get-all_put map.empty es q h ∙ ap (or_else (lookup (id_eq q) es)) (map.get-empty id_cmp q) ∙ or_none _ ∙ sym (id_found es q))
-
-abbrev pub filled : IdSet → List UpdateId → IdSet
-filled s [] = s
-filled s (id ∷ ids) = filled (set.insert s id) ids
-
-filled-with_ids : (s : IdSet) (ids : List UpdateId) → filled s ids ≡ with_ids s ids
-filled-with_ids s [] = sym (with_ids-nil s)
-filled-with_ids s (id ∷ ids) = filled-with_ids (set.insert s id) ids ∙ with_ids-more s id ids
-
-pub filled-whole : (ids : List UpdateId) → filled set.empty ids ≡ set.from_list ids
-filled-whole ids = filled-with_ids set.empty ids ∙ same_ids _ _ (λ q.
-    contains-with_ids set.empty ids q ∙ ap (λ b. b || list_any (eq_by_cmp id_cmp q) ids) (set.contains-empty id_cmp q) ∙ sym (set.contains-from_list id_cmp_total ids q))
+pub all_put-whole : (es : List (ℕ × TagMap)) → IsStrictlySortedBy nat_cmp (keys_of es) → all_put map.empty es ≡ map.from_entries es
+all_put-whole es sorted =
+    let distinct = subst (λ e. IsDistinct e (keys_of es)) (sym nat_tests) (IsDistinct-from_sorted nat_cmp (keys_of es) sorted) in
+    map.same_map nat_cmp_total nat_cmp-IsAntisymmetric _ _ (λ q.
+    get-all_put map.empty es q distinct ∙ ap (or_else (lookup (eqb q) es)) (map.get-empty nat_cmp q) ∙ or_none _ ∙ sym (nat_found es q))

@@ -8,6 +8,8 @@
 
 mod chain;
 mod live;
+mod live_table;
+mod live_tree;
 mod or_set;
 mod puts;
 mod rows;

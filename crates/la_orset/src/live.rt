@@ -1,33 +1,41 @@
-ghost use Rattle.std.specs.Prelude.{◌≡◌, false, IfOk, IfErr, OnOk, OnErr};
+ghost use Rattle.std.specs.Prelude.{◌≡◌, false, IfOk, IfErr, IfSome, OnOk, OnErr};
 ghost use Rattle.std.specs.FinMap as map;
 ghost use Rattle.la_object.specs.Refusals.{IsObserveRefusal};
 ghost use Rattle.la_orset.specs.Index.{tags_at, IsWhole, HasTags};
+ghost use Rattle.la_orset.specs.ByElement.{index_of};
 
-use crate::tag_set::TagSet;
+use crate::live_table::LiveTable;
+use crate::live_tree::LiveTree;
 use la_object::{Items, ObserveError};
 use la_set::{Tags, UpdateId};
 use std::alloc::{AllocError, Global};
-use std::collections::HashMap;
 use std::marker::Model;
 
-/// The live tags, by element, which is found by hash. An element stands here only while it has one.
+/// Up to how many elements stand in a tree. More are found by hash, in a table that takes more
+/// allocations.
+const FEW_ELEMENTS: usize = 64;
+
+/// The live tags, by element. An element stands here only while it has one.
 #[derive(Drop)]
 pub struct Live {
-    alloc: Global,
-    by_element: HashMap<u64, TagSet>,
+    tags: ByElement,
+}
+
+#[derive(Drop)]
+enum ByElement {
+    Few(LiveTree),
+    Many(LiveTable),
 }
 
 impl Model for Live {
-    ghost use Rattle.std.specs.FinMap as map;
-    ghost use Rattle.la_orset.specs.Index.{Index, index_code, IsWhole};
+    ghost use Rattle.la_orset.specs.Index.{Index, index_code};
+    ghost use Rattle.la_orset.specs.ByElement.{index_of};
 
     ghost Value = { Index };
 
     ghost coded = { index_code };
 
-    ghost view = { λ s. map.from_entries s.by_element.entries };
-
-    ghost invariant = { λ s. IsWhole (map.from_entries s.by_element.entries) };
+    ghost view = { λ s. index_of s.tags };
 }
 
 impl Live {
@@ -36,8 +44,7 @@ impl Live {
         ensures { result ≡ map.empty }
     {
         Live {
-            alloc,
-            by_element: HashMap::new(alloc),
+            tags: ByElement::Few(LiveTree::new(alloc)),
         }
     }
 
@@ -46,7 +53,10 @@ impl Live {
         ensures answer { result ≡ map.contains_key self.now element }
         ensures whole { IsWhole self.now }
     {
-        self.by_element.contains_key(&element)
+        match &self.tags {
+            ByElement::Few(tree) => tree.has(element),
+            ByElement::Many(table) => table.has(element),
+        }
     }
 
     /// How many elements have a tag, at constant cost.
@@ -54,20 +64,21 @@ impl Live {
         ensures answer { result ≡ map.len self.now }
         ensures whole { IsWhole self.now }
     {
-        self.by_element.len()
+        match &self.tags {
+            ByElement::Few(tree) => tree.len(),
+            ByElement::Many(table) => table.len(),
+        }
     }
 
-    /// The elements that have a tag, sorted into ascending order.
+    /// The elements that have a tag, in ascending order. Many are sorted.
     pub fn elements(&self) -> Result<Items, AllocError>
         ensures answer { IfOk result (λ elements. elements ≡ map.keys self.now) }
         ensures whole { IsWhole self.now }
     {
-        let mut elements = Vec::with_capacity(self.alloc, self.by_element.len())?;
-        for element in self.by_element.keys() {
-            elements.push(*element)?;
+        match &self.tags {
+            ByElement::Few(tree) => tree.elements(),
+            ByElement::Many(table) => table.elements(),
         }
-        elements.sort_unstable();
-        Ok(Items::from(elements))
     }
 
     /// The tags of an element, in ascending order.
@@ -75,9 +86,9 @@ impl Live {
         ensures ok { IfOk result (λ tags. tags ≡ map.keys (tags_at self.now element)) }
         ensures error { IfErr result (IsObserveRefusal (map.keys (tags_at self.now element))) }
     {
-        match self.by_element.get(&element) {
-            Some(tags) => tags.tags(self.alloc),
-            None => Ok(Tags::new(self.alloc)),
+        match &self.tags {
+            ByElement::Few(tree) => tree.tags(element),
+            ByElement::Many(table) => table.tags(element),
         }
     }
 
@@ -89,15 +100,13 @@ impl Live {
             (HasTags self.old element (map.insert (tags_at self.old element) id tt) self.new) }
         ensures err { OnErr result (self.new ≡ self.old) }
     {
-        if let Some(tags) = self.by_element.get_mut(&element) {
-            let place = tags.len();
-            tags.insert(id)?;
-            return Ok(place);
+        if let Some(table) = many(&self.tags)? {
+            self.tags = ByElement::Many(table);
         }
-        let mut tags = TagSet::new(self.alloc);
-        tags.insert(id)?;
-        self.by_element.insert(element, tags)?;
-        Ok(0)
+        match &mut self.tags {
+            ByElement::Few(tree) => tree.insert(element, id),
+            ByElement::Many(table) => table.insert(element, id),
+        }
     }
 
     /// Takes a tag of an element out, without memory, and answers which of the element's tags stands
@@ -105,13 +114,24 @@ impl Live {
     pub fn remove(&mut self, element: u64, id: UpdateId, hint: usize) -> Option<UpdateId>
         ensures { HasTags self.old element (map.remove (tags_at self.old element) id) self.new }
     {
-        let Some(tags) = self.by_element.get_mut(&element) else {
-            return None;
-        };
-        let there = tags.remove(id, hint);
-        if !tags.has_any() {
-            self.by_element.remove(&element);
+        match &mut self.tags {
+            ByElement::Few(tree) => tree.remove(element, id, hint),
+            ByElement::Many(table) => table.remove(element, id, hint),
         }
-        there
+    }
+}
+
+// A table of the tags, where they stand in a tree that is full.
+fn many(tags: &ByElement) -> Result<Option<LiveTable>, AllocError>
+    ensures { IfOk result (λ made. IfSome made (λ table. table ≡ index_of tags.now)) }
+{
+    match tags {
+        ByElement::Few(tree) => {
+            if tree.len() < FEW_ELEMENTS {
+                return Ok(None);
+            }
+            Ok(Some(tree.table()?))
+        }
+        ByElement::Many(_) => Ok(None),
     }
 }

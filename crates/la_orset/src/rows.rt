@@ -71,7 +71,10 @@ impl Rows {
                 self.rows[place] = row;
                 Ok(())
             }
-            Err(place) => Ok(self.rows.insert(place, row)?),
+            Err(place) => {
+                make_room(&mut self.rows)?;
+                Ok(self.rows.insert(place, row)?)
+            }
         }
     }
 
@@ -123,6 +126,18 @@ impl Rows {
         }
         self.rows.binary_search_by_key(&number, |row| row.number)
     }
+}
+
+// Room for one more: for 16, or for an eighth of those that are there.
+fn make_room(rows: &mut Vec<Row>) -> Result<(), AllocError>
+    ensures { rows.new.items ≡ rows.old.items }
+{
+    let len = rows.len();
+    if len < rows.capacity() {
+        return Ok(());
+    }
+    let more = if len < 128 { 16 } else { len / 8 };
+    rows.reserve_exact(more)
 }
 
 // Whether each number is below this one, by the last.

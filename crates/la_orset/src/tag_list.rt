@@ -73,6 +73,14 @@ impl TagList {
         self.ids.as_slice().get(hint).copied()
     }
 
+    /// A copy.
+    pub fn copy(&self, alloc: Global) -> Result<TagList, AllocError>
+        ensures { IfOk result (λ copy. copy ≡ self.now) }
+    {
+        let ids = Vec::from_slice(alloc, self.ids.as_slice())?;
+        Ok(TagList { ids })
+    }
+
     /// The tags in ascending order. `TooManyTags` comes exactly where they are more than a `Remove`
     /// may name; up to [`INLINE_TAGS`](la_set::INLINE_TAGS) of them take no memory.
     pub fn tags(&self, alloc: Global) -> Result<Tags, ObserveError>

@@ -88,6 +88,22 @@ impl TagSet {
         there
     }
 
+    /// A copy.
+    pub fn copy(&self) -> Result<TagSet, AllocError>
+        ensures { IfOk result (λ copy. copy ≡ self.now) }
+    {
+        match &self.tags {
+            Few::One(id) => Ok(TagSet {
+                alloc: self.alloc,
+                tags: Few::One(*id),
+            }),
+            Few::List(list) => Ok(TagSet {
+                alloc: self.alloc,
+                tags: Few::List(list.copy(self.alloc)?),
+            }),
+        }
+    }
+
     /// The tags in ascending order. `TooManyTags` comes exactly where they are more than
     /// a `Remove` may name; up to [`INLINE_TAGS`](la_set::INLINE_TAGS) of them take no memory.
     pub fn tags(&self, alloc: Global) -> Result<Tags, ObserveError>

@@ -17,8 +17,8 @@ invariant_of-self c =
     let new = sym c.has.ensures ∙ c.if-has.false in
     record {
       indexed = either_way c.insert.result _ _ (IsIndex (adds_of c.insert.new.self) (gone_of s.early c.insert.new.self) s.live) c.insert.ensures.ok c.insert.ensures.err
-      (λ is. subst (λ p. IsIndex (adds_of p) (gone_of s.early p) s.live) (sym is) (index_early s.puts id k new s.early s.live s.indexed (sym c.has-2.ensures ∙ c.if-has-2.true)))
-      (λ is. subst (λ p. IsIndex (adds_of p) (gone_of s.early p) s.live) (sym is) s.indexed);
+          (λ is. subst (λ p. IsIndex (adds_of p) (gone_of s.early p) s.live) (sym is) (index_early s.puts id k new s.early s.live s.indexed (sym c.has-2.ensures ∙ c.if-has-2.true)))
+          (λ is. subst (λ p. IsIndex (adds_of p) (gone_of s.early p) s.live) (sym is) s.indexed);
     }
 
 pub returns-then-has-2-clause-puts : goal.returns-then-has-2-clause-puts

@@ -1,7 +1,7 @@
 use Rattle.std.proofs.Common.{◌∙◌, ap}
 use Rattle.std.specs.FinMap as map
 use Rattle.la_orset.proofs.Hashed.{nat_len}
-use Rattle.la_orset.proofs.live.Live.len.Goals as goal
+use Rattle.la_orset.proofs.live_table.LiveTable.len.Goals as goal
 
 pub returns-clause-answer : goal.returns-clause-answer
 returns-clause-answer c =

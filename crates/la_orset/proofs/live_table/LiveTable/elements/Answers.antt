@@ -3,7 +3,7 @@ use Rattle.std.specs.List.Sorted.{IsPermutation}
 use Rattle.std.specs.Map.{keys_of}
 use Rattle.std.specs.FinMap as map
 use Rattle.la_orset.proofs.Hashed.{nat_sorted}
-use Rattle.la_orset.proofs.live.Live.elements.Goals as goal
+use Rattle.la_orset.proofs.live_table.LiveTable.elements.Goals as goal
 
 pub returns-clause-answer : goal.returns-clause-answer
 returns-clause-answer c =

@@ -10,7 +10,7 @@ use Rattle.la_object.specs.IdOrder.{id_cmp}
 use Rattle.la_orset.specs.Index.{has_any, tags_or, tags_at, HasTags}
 use Rattle.la_orset.proofs.Hashed.{nat_found, nat_changed}
 use Rattle.la_orset.proofs.LiveTags.{has_tags, still_whole, whole-put, put_again, on_err}
-use Rattle.la_orset.proofs.live.Live.insert.Goals as goal
+use Rattle.la_orset.proofs.live_table.LiveTable.insert.Goals as goal
 
 pub invariant_of-self : goal.invariant_of-self
 invariant_of-self c =
