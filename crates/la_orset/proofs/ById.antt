@@ -1,6 +1,5 @@
 -- What was put, found by id, and what becomes of it.
-use Rattle.std.proofs.Common.{◌≡◌, ℕ, zero, suc, ◌+◌, ◌<◌, ◌≤◌, ◌==◌, eqb, Bool, true, false, not, ◌&&◌, ◌||◌, cond, List, [], ◌∷◌, ◌++◌, map as list_map, length, get_or, set as list_set, drop, if◌then◌else◌, Option, Some, None, is_some, refl, ap, sym, ◌∙◌, subst, arith}
-use Rattle.std.specs.List.{list_any}
+use Rattle.std.proofs.Common.{◌≡◌, ℕ, zero, suc, ◌+◌, ◌<◌, ◌≤◌, eqb, Bool, true, false, ◌&&◌, cond, List, [], ◌∷◌, ◌++◌, map as list_map, length, get_or, set as list_set, Option, Some, None, refl, ap, sym, ◌∙◌, arith}
 use Rattle.std.specs.Option.{option_map}
 use Rattle.std.specs.Map.{lookup}
 use Rattle.std.specs.BTreeMap.{is_at}
@@ -13,9 +12,8 @@ use Rattle.std.proofs.lemmas.Bool.{eqb-true}
 use Rattle.std.proofs.lemmas.Bool.Decides.{nat_tests}
 use Rattle.std.proofs.lemmas.List.{get_or_default}
 use Rattle.la_set.specs.declared.update.UpdateId.{UpdateId}
-use Rattle.la_object.specs.IdOrder.{id_cmp, Elements, IdSet}
+use Rattle.la_object.specs.IdOrder.{id_cmp}
 use Rattle.la_object.proofs.lemmas.IdOrder.{id_cmp_total, id_cmp-IsAntisymmetric}
-use Rattle.la_object.proofs.lemmas.IdMaps.{same_ids}
 use Rattle.la_object.proofs.lemmas.Sorted.{passes, any-find, any-keys, get-lookup}
 use Rattle.la_orset.specs.declared.rows.Row.{Row}
 use Rattle.la_orset.specs.Index.{id_eq}

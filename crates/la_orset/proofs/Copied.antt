@@ -21,7 +21,7 @@ use Rattle.la_orset.specs.declared.rows.Row.{Row}
 use Rattle.la_orset.specs.declared.rows.TheConstants.{GONE}
 use Rattle.la_orset.specs.Index.{id_eq}
 use Rattle.la_orset.specs.Rows.{Known, known, at_number, IsAscending}
-use Rattle.la_orset.specs.Puts.{PutMap, adds_of, gone_of, row_entry, entries_from, all_added, all_gone}
+use Rattle.la_orset.specs.Puts.{adds_of, gone_of, row_entry, entries_from, all_added, all_gone}
 use Rattle.la_orset.proofs.Hashed.{id_test, id_tests}
 use Rattle.la_orset.proofs.Numbers.{later_ascending, later_none}
 use Rattle.la_orset.proofs.ById.{element_of, is_gone, get-adds, at_column, or_else, get-column, put_map}

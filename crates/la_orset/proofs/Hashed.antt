@@ -15,14 +15,13 @@ use Rattle.std.proofs.lemmas.Bool.{eqb-true}
 use Rattle.std.proofs.lemmas.Map.Keys.{IsDistinct-from_sorted, IsDistinct-head, IsDistinct-tail, IsDistinct-IsPermutation, IsStrictlyIncreasing-from_distinct, sorted_from_strictly_increasing}
 use Rattle.std.proofs.lemmas.List.Sorted.{list_any-IsPermutation, IsNonDecreasingBy-from_sort}
 use Rattle.la_set.specs.declared.update.UpdateId.{UpdateId}
-use Rattle.la_object.specs.IdOrder.{id_cmp, Elements, IdSet}
-use Rattle.la_object.specs.OrSet.{with_ids}
+use Rattle.la_object.specs.IdOrder.{id_cmp}
 use Rattle.la_object.proofs.lemmas.IdOrder.{id_cmp_total, id_cmp-IsAntisymmetric}
-use Rattle.la_object.proofs.lemmas.IdMaps.{one_more, one_less, with_ids-nil, with_ids-more, contains-with_ids, same_ids}
+use Rattle.la_object.proofs.lemmas.IdMaps.{one_more, one_less}
 use Rattle.la_object.proofs.lemmas.Sorted.{get-lookup, one_put, one_taken}
 use Rattle.la_orset.specs.Index.{id_eq, set_of, TagMap, Index}
 use Rattle.la_orset.proofs.Sets.{same_members, contains-set_of, keys-set_of, sorted-entries, sorted-units}
-use Rattle.la_orset.proofs.LiveTags.{changed_from, same-id}
+use Rattle.la_orset.proofs.LiveTags.{changed_from}
 
 then_tied : (r s : Ordering) → is_eq (ordering_then r s) ≡ (is_eq r && is_eq s)
 then_tied Less s = refl

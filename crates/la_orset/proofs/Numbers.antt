@@ -1,5 +1,5 @@
 -- What is found in the rows of one replica, and what an edit of them does to it.
-use Rattle.std.proofs.Common.{◌≡◌, ℕ, zero, suc, ◌+◌, ◌-◌, ◌<◌, ◌≤◌, eqb, ◌==◌, ◌≢◌, Bool, true, false, List, [], ◌∷◌, length, get_or, set, if◌then◌else◌, Option, Some, None, is_some, Result, Ok, Err, is_ok, IfOk, IfErr, refl, ap, sym, ◌∙◌, subst, inl, inr, arith}
+use Rattle.std.proofs.Common.{◌≡◌, ℕ, zero, suc, ◌+◌, ◌-◌, ◌<◌, ◌≤◌, eqb, ◌==◌, ◌≢◌, Bool, true, false, List, [], ◌∷◌, length, get_or, set, if◌then◌else◌, Some, None, is_some, Result, Ok, Err, is_ok, IfOk, IfErr, refl, ap, sym, ◌∙◌, subst, arith}
 use Rattle.std.specs.List.{insert}
 use Rattle.std.specs.List.Sorted.{IsSearchInRange, IsBinarySearchResult, IsNonDecreasingBy}
 use Rattle.std.specs.Ordering.{nat_cmp, ordering_index}
@@ -12,7 +12,7 @@ use Rattle.std.proofs.lemmas.List.Sorted.{IsNonDecreasingBy-from_default}
 use Rattle.std.proofs.lemmas.List.Edits.{length-insert, get_or-insert_below, get_or-insert_at, get_or-insert_above}
 use Rattle.la_orset.specs.declared.rows.Row.{Row}
 use Rattle.la_orset.specs.declared.rows.TheConstants.{GONE}
-use Rattle.la_orset.specs.Rows.{Known, known, at_number, live_element, named, no_row, number_at, IsAscending, IsAt, IsGapFor, IsPut}
+use Rattle.la_orset.specs.Rows.{known, at_number, live_element, named, no_row, number_at, IsAscending, IsAt, IsGapFor, IsPut}
 
 -- no row before a place has the number
 abbrev IsNotBefore : List Row → ℕ → ℕ → Type 0

@@ -3,7 +3,7 @@ use Rattle.std.specs.FinSet as set
 use Rattle.std.proofs.lemmas.Option.{slice_get_within}
 use Rattle.la_object.specs.OrSet.{with_ids}
 use Rattle.la_orset.specs.Index.{IsIndex}
-use Rattle.la_orset.specs.Puts.{adds_of, named_of, with_named, NamesPut, AreGone}
+use Rattle.la_orset.specs.Puts.{adds_of, named_of, NamesPut, AreGone}
 use Rattle.la_object.proofs.lemmas.IdMaps.{with_ids-nil, with_ids-more, drop_none, drop_some}
 use Rattle.la_orset.proofs.Absorbed.{adds_named, names_none, names_more, are_gone_more}
 use Rattle.la_orset.proofs.or_set.+take_out.Goals as goal

@@ -1,4 +1,4 @@
-use Rattle.std.proofs.Common.{sym, ap, ◌∙◌}
+use Rattle.std.proofs.Common.{sym}
 use Rattle.la_orset.proofs.Absorbed.{index_none, index_some}
 use Rattle.la_orset.proofs.or_set.take_one.Goals as goal
 

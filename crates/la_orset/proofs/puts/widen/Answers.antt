@@ -1,4 +1,4 @@
-use Rattle.std.proofs.Common.{◌++◌, [], ◌∷◌, length, length-append, sym, ap, ◌∙◌, arith}
+use Rattle.std.proofs.Common.{◌++◌, [], ◌∷◌, length, length-append, ap, ◌∙◌, arith}
 use Rattle.la_orset.specs.Puts.{entries_from}
 use Rattle.la_orset.proofs.Copied.{entries-nothing}
 use Rattle.la_orset.proofs.puts.widen.Goals as goal

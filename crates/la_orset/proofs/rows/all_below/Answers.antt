@@ -1,5 +1,5 @@
-use Rattle.std.proofs.Common.{◌≡◌, ◌<◌, length, arith}
-use Rattle.la_orset.proofs.Numbers.{gap_none, gap_end}
+use Rattle.std.proofs.Common.{arith}
+use Rattle.la_orset.proofs.Numbers.{gap_none}
 use Rattle.la_orset.proofs.rows.all_below.Goals as goal
 
 pub returns-then-len-eq0 : goal.returns-then-len-eq0

@@ -1,4 +1,4 @@
-use Rattle.std.proofs.Common.{sym, ap, ◌∙◌}
+use Rattle.std.proofs.Common.{ap, ◌∙◌}
 use Rattle.la_object.specs.declared.state.State.TheVariants.{Set}
 use Rattle.la_orset.specs.Puts.{adds_of, gone_of}
 use Rattle.la_orset.proofs.Absorbed.{adds_empty, gone_empty, index_empty}

@@ -1,9 +1,8 @@
-use Rattle.std.proofs.Common.{◌≡◌, false, true, ap, sym, ◌∙◌, subst, refl}
-use Rattle.std.specs.FinMap as map
+use Rattle.std.proofs.Common.{false, ap, sym, ◌∙◌, subst}
 use Rattle.la_orset.specs.declared.rows.TheConstants.{GONE}
 use Rattle.la_orset.specs.Index.{IsIndex}
-use Rattle.la_orset.specs.Rows.{Known, known}
-use Rattle.la_orset.specs.Puts.{PutMap, adds_of, gone_of}
+use Rattle.la_orset.specs.Rows.{known}
+use Rattle.la_orset.specs.Puts.{adds_of, gone_of}
 use Rattle.la_orset.proofs.LiveTags.{either_way}
 use Rattle.la_orset.proofs.Absorbed.{there_adds, adds_none, put_adds, put_gone_same, put_gone_early, index_early, index_live, index_back, no_tag}
 use Rattle.la_orset.proofs.or_set.OrSet.put.Goals as goal

@@ -1,5 +1,4 @@
-use Rattle.std.proofs.Common.{sym, ap, ◌∙◌, subst}
-use Rattle.la_object.specs.OrSet.{with_ids}
+use Rattle.std.proofs.Common.{sym, subst}
 use Rattle.la_orset.specs.Index.{IsIndex}
 use Rattle.la_orset.specs.Puts.{adds_of, gone_of}
 use Rattle.la_orset.proofs.Absorbed.{gone_with_ids, are_gone_first}

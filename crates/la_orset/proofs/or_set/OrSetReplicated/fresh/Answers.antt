@@ -1,7 +1,5 @@
-use Rattle.std.proofs.Common.{false, sym, ap, ◌∙◌}
+use Rattle.std.proofs.Common.{sym, ap, ◌∙◌}
 use Rattle.std.proofs.lemmas.Bool.{false≢true}
-use Rattle.la_object.specs.declared.state.State.TheVariants.{Set}
-use Rattle.la_orset.specs.Puts.{adds_of, gone_of}
 use Rattle.la_orset.proofs.Absorbed.{fresh_from, no_adds, none_early, adds_in, gone_in}
 use Rattle.la_orset.proofs.or_set.OrSetReplicated.fresh.Goals as goal
 

@@ -1,4 +1,4 @@
-use Rattle.std.proofs.Common.{◌≡◌, ◌<◌, ◌+◌, length, drop, map as list_map, sym, ap, ◌∙◌, arith}
+use Rattle.std.proofs.Common.{◌<◌, ◌+◌, length, drop, map as list_map, sym, ap, ◌∙◌, arith}
 use Rattle.la_orset.specs.Puts.{adds_of, row_entry, entries_from, all_added}
 use Rattle.la_orset.proofs.Copied.{entries-next, entries-end, all_added-append, adds_copied}
 use Rattle.la_orset.proofs.puts.Puts.adds.Goals as goal

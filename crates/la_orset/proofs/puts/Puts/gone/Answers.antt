@@ -1,5 +1,4 @@
-use Rattle.std.proofs.Common.{◌≡◌, ◌<◌, ◌≤◌, ◌+◌, length, drop, map as list_map, sym, ap, ◌∙◌, subst, arith}
-use Rattle.la_orset.specs.Rows.{IsAscending}
+use Rattle.std.proofs.Common.{◌<◌, ◌≤◌, ◌+◌, length, drop, map as list_map, sym, ap, ◌∙◌, arith}
 use Rattle.la_orset.specs.Puts.{gone_of, row_entry, entries_from, all_gone}
 use Rattle.la_orset.proofs.Copied.{entries-next, entries-end, all_gone-append, gone_copied, ascending_more}
 use Rattle.la_orset.proofs.puts.Puts.gone.Goals as goal

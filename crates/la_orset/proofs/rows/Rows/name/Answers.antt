@@ -1,4 +1,4 @@
-use Rattle.std.proofs.Common.{◌≡◌, Some, set as list_set, sym, ap, ◌∙◌, subst}
+use Rattle.std.proofs.Common.{set as list_set, sym, ap, ◌∙◌, subst}
 use Rattle.std.proofs.lemmas.Bool.{eq-eqb}
 use Rattle.la_orset.specs.declared.rows.TheConstants.{GONE}
 use Rattle.la_orset.specs.Rows.{at_number, live_element, named, IsAt, IsPut}
