@@ -1,8 +1,7 @@
-ghost use Rattle.std.specs.Prelude.{◌≡◌, false, IfOk, IfErr, IfSome, OnOk, OnErr};
+ghost use Rattle.std.specs.Prelude.{◌≡◌, false, IfOk, IfErr, OnOk, OnErr};
 ghost use Rattle.std.specs.FinMap as map;
 ghost use Rattle.la_object.specs.Refusals.{IsObserveRefusal};
 ghost use Rattle.la_orset.specs.Index.{tags_at, IsWhole, HasTags};
-ghost use Rattle.la_orset.specs.ByElement.{index_of};
 
 use crate::live_table::LiveTable;
 use crate::live_tree::LiveTree;
@@ -100,8 +99,8 @@ impl Live {
             (HasTags self.old element (map.insert (tags_at self.old element) id tt) self.new) }
         ensures err { OnErr result (self.new ≡ self.old) }
     {
-        if let Some(table) = many(&self.tags)? {
-            self.tags = ByElement::Many(table);
+        if self.is_full() {
+            self.grow()?;
         }
         match &mut self.tags {
             ByElement::Few(tree) => tree.insert(element, id),
@@ -119,19 +118,23 @@ impl Live {
             ByElement::Many(table) => table.remove(element, id, hint),
         }
     }
-}
 
-// A table of the tags, where they stand in a tree that is full.
-fn many(tags: &ByElement) -> Result<Option<LiveTable>, AllocError>
-    ensures { IfOk result (λ made. IfSome made (λ table. table ≡ index_of tags.now)) }
-{
-    match tags {
-        ByElement::Few(tree) => {
-            if tree.len() < FEW_ELEMENTS {
-                return Ok(None);
-            }
-            Ok(Some(tree.table()?))
+    // Whether a tree has as many elements as it may have.
+    fn is_full(&self) -> bool {
+        match &self.tags {
+            ByElement::Few(tree) => tree.len() >= FEW_ELEMENTS,
+            ByElement::Many(_) => false,
         }
-        ByElement::Many(_) => Ok(None),
+    }
+
+    // Moves the tags of a tree into a table.
+    fn grow(&mut self) -> Result<(), AllocError>
+        ensures { self.new ≡ self.old }
+    {
+        if let ByElement::Few(tree) = &self.tags {
+            let table = tree.table()?;
+            self.tags = ByElement::Many(table);
+        }
+        Ok(())
     }
 }
