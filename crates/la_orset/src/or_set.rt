@@ -18,12 +18,12 @@ use std::alloc::{AllocError, Global};
 /// An observed-remove set: an element is there where some `Put` of it has an id that no `Remove`
 /// named, whichever of them came first.
 ///
-/// Elements are found by hash, and what was put by replica and number: a `Put` whose id is above its
-/// replica's others costs the same, but for growth, and O(log t) where the element has t tags; one
-/// that comes late moves those above it. A `Remove` costs that of a binary search at most for each
-/// id, and of its element. `Has` and `Size` are constant, `Items` sorts e elements in O(e log e), and
-/// `observed` goes through the element's own tags. Elements that were chosen to share a hash take
-/// longer.
+/// Elements are found by hash, up to 64 in a tree, and what was put by replica and number. A `Put`
+/// whose id is above its replica's others costs the same, but for growth; one that comes late moves
+/// those above it. For each id that it names, a `Remove` costs at most a binary search, and
+/// O(log n) where n ids were named before their Puts. `Has` and `Size` are constant, `Items` sorts e
+/// elements in O(e log e), and `observed` goes through the element's own tags. Elements that were
+/// chosen to share a hash take longer.
 #[derive(Drop)]
 pub struct OrSet {
     alloc: Global,

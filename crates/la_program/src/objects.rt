@@ -19,6 +19,14 @@ use std::io::{ErrorKind, Read, Write};
 use std::sync::Wait;
 use std::thread::Threads;
 
+// A set as an object of any kind.
+fn boxed_set(alloc: Global) -> Result<Box<dyn Replicated + Send>, AllocError>
+    ensures { IfOk result (λ set. state set ≡ start SetKind) }
+{
+    let set: Box<dyn Replicated + Send> = Box::new(alloc, OrSet::new(alloc))?;
+    Ok(set)
+}
+
 // Three objects under the numbers that they have on each shelf.
 fn numbered<B: Replicated>(
     alloc: Global,
@@ -124,7 +132,7 @@ pub fn run_boxed<P: Threads + Wait + Sync, R: Read, W: Write, E: Listener>(
     {
         let counter: Box<dyn Replicated + Send> = Box::new(alloc, Counter::new(alloc))?;
         let register: Box<dyn Replicated + Send> = Box::new(alloc, MaxRegister::new(alloc))?;
-        let set: Box<dyn Replicated + Send> = Box::new(alloc, OrSet::new(alloc))?;
+        let set = boxed_set(alloc)?;
         numbered(alloc, counter, register, set)
     };
     run_with(rt, alloc, words, input, output, errors, make)
