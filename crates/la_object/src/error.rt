@@ -3,6 +3,7 @@ ghost use Rattle.la_object.specs.declared.error.ShelfError.TheVariants.{Memory};
 ghost use Rattle.la_object.specs.declared.error.ObserveError.TheVariants.{Memory as ObserveMemory};
 
 use std::alloc::{AllocError, AllocFailed};
+use std::fmt::{self, Display, Formatter, Write};
 use thiserror::Error;
 
 /// Why an object did not say which tags it observes.
@@ -21,24 +22,32 @@ pub enum ObserveError {
 #[derive(Clone, Copy, Debug, PartialEq, Eq, Error)]
 pub enum ShelfError {
     /// An object stands under this number.
-    #[error("an object has this number")]
     Taken,
 
     /// The object is not in its kind's start state.
-    #[error("the object is not fresh")]
     NotFresh,
 
     /// No object stands under this number.
-    #[error("no object has this number")]
     NoSuchObject,
 
     /// The element has more live tags than a `Remove` may name.
-    #[error("more than 64 live tags")]
     TooManyTags,
 
     /// A growth was refused.
-    #[error("out of memory")]
     Memory,
+}
+
+impl Display for ShelfError {
+    fn fmt<W: Write>(&self, f: &mut Formatter<W>) -> fmt::Result {
+        let text = match self {
+            ShelfError::Taken => "an object has this number",
+            ShelfError::NotFresh => "the object is not fresh",
+            ShelfError::NoSuchObject => "no object has this number",
+            ShelfError::TooManyTags => "more than 64 live tags",
+            ShelfError::Memory => "out of memory",
+        };
+        f.write_str(text)
+    }
 }
 
 /// Why a set was not absorbed.

@@ -6,46 +6,57 @@ use la_acceptor::AcceptorError;
 use la_proposer::ProposerError;
 use la_set::UpdateId;
 use std::alloc::AllocError;
+use std::fmt::{self, Display, Formatter, Write};
 use thiserror::Error;
 
 /// Why a call of a runner was refused.
 #[derive(Clone, Copy, Debug, PartialEq, Eq, Error)]
 pub enum RunnerError {
     /// A value of the group is out of its range, or there are votes for another number of replicas.
-    #[error("not a group that can run")]
     BadConfig,
 
     /// The group has no adopt-commit object under this number.
-    #[error("no such adopt-commit object")]
     NoSuchCommit,
 
     /// The member has finished at this adopt-commit object, or proposed another value there.
-    #[error("already proposed")]
     AlreadyProposed,
 
     /// Two different updates have this id.
-    #[error("two updates under the id {}.{}", .0.replica, .0.number)]
     Clash(UpdateId),
 
     /// The member has submitted its cap.
-    #[error("the cap is reached")]
     Full,
 
     /// The new ballot would have a number over 8,000,000.
-    #[error("no ballot is left")]
     BallotsSpent,
 
     /// The rounds are used up, and the last one left its ballot open.
-    #[error("no majority answered")]
     NoMajority,
 
     /// The rounds are used up otherwise.
-    #[error("try again")]
     TryAgain,
 
     /// A growth was refused.
-    #[error("out of memory")]
     Memory,
+}
+
+impl Display for RunnerError {
+    fn fmt<W: Write>(&self, f: &mut Formatter<W>) -> fmt::Result {
+        let text = match self {
+            RunnerError::BadConfig => "not a group that can run",
+            RunnerError::NoSuchCommit => "no such adopt-commit object",
+            RunnerError::AlreadyProposed => "already proposed",
+            RunnerError::Clash(id) => {
+                return write!(f, "two updates under the id {}.{}", id.replica, id.number);
+            }
+            RunnerError::Full => "the cap is reached",
+            RunnerError::BallotsSpent => "no ballot is left",
+            RunnerError::NoMajority => "no majority answered",
+            RunnerError::TryAgain => "try again",
+            RunnerError::Memory => "out of memory",
+        };
+        f.write_str(text)
+    }
 }
 
 impl From<AcceptorError> for RunnerError {

@@ -5,6 +5,7 @@ use crate::{Learned, RunnerError};
 use la_commit::Outcome;
 use la_object::{Answer, Query};
 use la_set::{Op, UpdateId, UpdateSet};
+use std::fmt::{self, Display, Formatter, Write};
 use thiserror::Error;
 
 /// What a member of a run is to do.
@@ -49,40 +50,50 @@ pub enum Entry {
 #[derive(Clone, Copy, Debug, PartialEq, Eq, Error)]
 pub enum Stopped {
     /// The member has submitted its cap.
-    #[error("the cap is reached")]
     Full,
 
     /// The shelf has no object under this number.
-    #[error("no object has this number")]
     NoSuchObject,
 
     /// The group has no adopt-commit object under this number.
-    #[error("no such adopt-commit object")]
     NoSuchCommit,
 
     /// The member has finished at this adopt-commit object, or proposed another value there.
-    #[error("already proposed")]
     AlreadyProposed,
 
     /// Two different updates have this id.
-    #[error("two updates under the id {}.{}", .0.replica, .0.number)]
     Clash(UpdateId),
 
     /// The new ballot would have a number over 8,000,000.
-    #[error("no ballot is left")]
     BallotsSpent,
 
     /// The rounds are used up, and the last one left its ballot open.
-    #[error("no majority answered")]
     NoMajority,
 
     /// The rounds are used up otherwise.
-    #[error("try again")]
     TryAgain,
 
     /// A growth was refused.
-    #[error("out of memory")]
     Memory,
+}
+
+impl Display for Stopped {
+    fn fmt<W: Write>(&self, f: &mut Formatter<W>) -> fmt::Result {
+        let text = match self {
+            Stopped::Full => "the cap is reached",
+            Stopped::NoSuchObject => "no object has this number",
+            Stopped::NoSuchCommit => "no such adopt-commit object",
+            Stopped::AlreadyProposed => "already proposed",
+            Stopped::Clash(id) => {
+                return write!(f, "two updates under the id {}.{}", id.replica, id.number);
+            }
+            Stopped::BallotsSpent => "no ballot is left",
+            Stopped::NoMajority => "no majority answered",
+            Stopped::TryAgain => "try again",
+            Stopped::Memory => "out of memory",
+        };
+        f.write_str(text)
+    }
 }
 
 // As a job's refusal.
