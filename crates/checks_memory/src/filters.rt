@@ -7,12 +7,13 @@ use crate::given::{Came, again, holds, refused, second};
 use clap::Error;
 use clap::error::ErrorKind;
 use la_filter::{Filter, NodeFault, Options, command, end_without_options, run, serve};
-use la_journal::{Disk, MemoryDisk, Staged, recover};
+use la_journal::{Disk, Durable, MemoryDisk, Staged, recover};
 use la_node::NodeMachine;
 use la_object::Shelf;
 use la_orset::OrSet;
 use la_program::{Listener, WriteFailed, flush, write_some};
 use la_proposer::Votes;
+use la_set::UpdateSet;
 use la_world::Config;
 use std::alloc::Global;
 use std::io;
@@ -81,7 +82,37 @@ fn disk_of(alloc: Global, journal: &[u8]) -> Option<MemoryDisk> {
     Some(MemoryDisk::new(alloc, journal.to_vec(alloc).ok()?))
 }
 
-// A node as its journal says, with a set under 3 that has absorbed the view.
+// A shelf with a set under 3 that has absorbed a view.
+fn shelf_over(alloc: Global, view: &UpdateSet) -> Option<Shelf<OrSet>>
+    ensures { IfSome result (λ shelf. shelf.view ≡ view.now) }
+{
+    let mut shelf = Shelf::new(alloc);
+    shelf.add(3, OrSet::new(alloc)).ok()?;
+    shelf.absorb(view).ok()?;
+    Some(shelf)
+}
+
+// A node with its shelf, and nothing staged.
+fn filter_of<D: Disk>(
+    alloc: Global,
+    node: Durable<NodeMachine, D>,
+    shelf: Shelf<OrSet>,
+) -> Filter<D, OrSet>
+    requires unclosed { node.closed ≡ false }
+    requires settled { IsSettled D.seen D.may_leave node.disk }
+    requires absorbed { shelf.view ≡ node.machine.node.replica.view }
+    ensures unclosed { result.node.durable.closed ≡ false }
+    ensures settled { IsSettled D.seen D.may_leave result.node.durable.disk }
+    ensures unstaged { result.node.text.items ≡ [] }
+    ensures absorbed { result.shelf.view ≡ result.node.durable.machine.node.replica.view }
+{
+    Filter {
+        node: Staged::new(alloc, node),
+        shelf,
+    }
+}
+
+// A node as its journal says.
 fn start<D: Disk>(alloc: Global, disk: D) -> Option<Filter<D, OrSet>>
     ensures { IfSome result (λ filter. (filter.node.durable.closed ≡ false)
         × IsSettled D.seen D.may_leave filter.node.durable.disk
@@ -90,13 +121,8 @@ fn start<D: Disk>(alloc: Global, disk: D) -> Option<Filter<D, OrSet>>
 {
     let machine = NodeMachine::new(alloc, alone(), 0).ok()?;
     let node = recover(alloc, machine, disk).ok()?;
-    let mut shelf = Shelf::new(alloc);
-    shelf.add(3, OrSet::new(alloc)).ok()?;
-    shelf.absorb(node.machine.node.view()).ok()?;
-    Some(Filter {
-        node: Staged::new(alloc, node),
-        shelf,
-    })
+    let shelf = shelf_over(alloc, node.machine.node.view())?;
+    Some(filter_of(alloc, node, shelf))
 }
 
 // What came of a line: what is to be written was, or a note that there was no memory, or a front of it, and the

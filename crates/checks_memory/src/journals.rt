@@ -79,8 +79,8 @@ fn handle_all<D: Disk>(node: &mut Durable<Tally, D>, alloc: Global, answers: &mu
 }
 
 fn stage<D: Disk>(group: &mut Staged<Tally, D>, alloc: Global) -> Came
-    ensures disk { group.new.durable.disk ≡ group.old.durable.disk }
-    ensures closed { group.new.durable.closed ≡ group.old.durable.closed }
+    requires { group.old.durable.closed ≡ false → IsSettled D.seen D.may_leave group.old.durable.disk }
+    ensures { group.new.durable.closed ≡ false → IsSettled D.seen D.may_leave group.new.durable.disk }
 {
     match group.stage(alloc, &Move::Up) {
         Ok(total) => Some(total == 3 && group.durable.machine.total == 3),
@@ -141,13 +141,20 @@ fn handles_all(alloc: Global) -> Came {
     }
 }
 
+fn staged_over<D: Disk>(alloc: Global, node: Durable<Tally, D>) -> Staged<Tally, D>
+    requires { IsSettled D.seen D.may_leave node.disk }
+    ensures { IsSettled D.seen D.may_leave result.durable.disk }
+{
+    Staged::new(alloc, node)
+}
+
 fn commits(alloc: Global) -> Came {
     let disk = disk_of(alloc, WHOLE)?;
     let node = recover(alloc, Tally { total: 0 }, disk).ok()?;
-    let mut group = Staged::new(alloc, node);
-    let staged = again!(alloc, stage(&mut group, alloc))?;
+    let mut group = staged_over(alloc, node);
+    let staged = again!(alloc, stage(&mut group, alloc));
     let came = again!(alloc, commit(&mut group));
-    if staged && leaves(&group.durable.disk, came, "u\nu\nu\n") {
+    if staged == Some(true) && leaves(&group.durable.disk, came, "u\nu\nu\n") {
         came
     } else {
         Some(false)
