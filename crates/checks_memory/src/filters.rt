@@ -120,7 +120,9 @@ fn start<D: Disk>(alloc: Global, disk: D) -> Option<Filter<D, OrSet>>
         × (filter.shelf.view ≡ filter.node.durable.machine.node.replica.view)) }
 {
     let machine = NodeMachine::new(alloc, alone(), 0).ok()?;
-    let node = recover(alloc, machine, disk).ok()?;
+    let Ok(node) = recover(alloc, machine, disk) else {
+        return None;
+    };
     let shelf = shelf_over(alloc, node.machine.node.view())?;
     Some(filter_of(alloc, node, shelf))
 }

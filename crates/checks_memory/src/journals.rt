@@ -150,7 +150,9 @@ fn staged_over<D: Disk>(alloc: Global, node: Durable<Tally, D>) -> Staged<Tally,
 
 fn commits(alloc: Global) -> Came {
     let disk = disk_of(alloc, WHOLE)?;
-    let node = recover(alloc, Tally { total: 0 }, disk).ok()?;
+    let Ok(node) = recover(alloc, Tally { total: 0 }, disk) else {
+        return None;
+    };
     let mut group = staged_over(alloc, node);
     let staged = again!(alloc, stage(&mut group, alloc));
     let came = again!(alloc, commit(&mut group));
