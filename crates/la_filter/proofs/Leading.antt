@@ -96,13 +96,13 @@ turns_lead objects n k (t ∷ turns) after are =
     let rest = turns_lead objects t.after (k + 1) turns after are.1 in
     elim (turn_goes objects n k t are.0) [
       | inl same ↦ record {
-          calls = rest.calls;
-          lines = ap (λ (ls : List (List ℕ)). ls ++ kept turns) same.0 ∙ rest.lines;
-          led = ap (steps step rest.calls) (sym same.1) ∙ rest.led;
-        }
+        calls = rest.calls;
+        lines = ap (λ (ls : List (List ℕ)). ls ++ kept turns) same.0 ∙ rest.lines;
+        led = ap (steps step rest.calls) (sym same.1) ∙ rest.led;
+      }
       | inr next ↦ record {
-          calls = next.0 ∷ rest.calls;
-          lines = (λ i. next.1 i ++ rest.lines i);
-          led = ap (steps_from step rest.calls) next.2 ∙ rest.led;
-        }
+        calls = next.0 ∷ rest.calls;
+        lines = (λ i. next.1 i ++ rest.lines i);
+        led = ap (steps_from step rest.calls) next.2 ∙ rest.led;
+      }
     ]

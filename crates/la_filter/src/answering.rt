@@ -99,7 +99,13 @@ fn take<W: Write, D: Disk>(
     let own = node.durable.machine.node.own();
     let before = node.durable.machine.node.view().len();
     match keep(alloc, node, input) {
-        Kept::Taken(given) => match text_of(alloc, &node.durable.machine, before, input.call(), &given) {
+        Kept::Taken(given) => match text_of(
+            alloc,
+            &node.durable.machine,
+            before,
+            input.call(),
+            &given,
+        ) {
             Ok(text) => {
                 write_lines(output, &text)?;
                 Ok(())
@@ -288,7 +294,9 @@ fn call<W: Write, D: Disk, B: Replicated>(
     ensures within { IsSubset filter.new.shelf.view filter.new.node.durable.machine.node.replica.view }
 {
     let call = input.call();
-    if is_elsewhere(&filter.node.durable.machine, call) || is_stale(&filter.node.durable.machine, call) {
+    if is_elsewhere(&filter.node.durable.machine, call)
+        || is_stale(&filter.node.durable.machine, call)
+    {
         return Ok(());
     }
     call_here(alloc, filter, number, input, output)
@@ -333,7 +341,12 @@ pub fn answer<W: Write, E: Listener, D: Disk, B: Replicated>(
             Ok(())
         }
         Err(LineError::Memory) => {
-            refuse(output, filter.node.durable.machine.node.own(), number, "Memory")?;
+            refuse(
+                output,
+                filter.node.durable.machine.node.own(),
+                number,
+                "Memory",
+            )?;
             Ok(())
         }
     }

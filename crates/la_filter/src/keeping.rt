@@ -21,11 +21,7 @@ pub enum Kept {
 }
 
 /// Takes a call and stages its line.
-pub fn keep<D: Disk>(
-    alloc: Global,
-    node: &mut Staged<NodeMachine, D>,
-    input: &Input,
-) -> Kept
+pub fn keep<D: Disk>(alloc: Global, node: &mut Staged<NodeMachine, D>, input: &Input) -> Kept
     requires unclosed { node.old.durable.closed ≡ false }
     ensures outcome { IsOutcome (kept_state node.old.durable.machine.replicas node.old.durable.machine.node)
         (kept_state node.new.durable.machine.replicas node.new.durable.machine.node) (called input.now.call) input.now.line

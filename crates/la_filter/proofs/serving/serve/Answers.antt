@@ -44,8 +44,8 @@ returns-in_err-prepare-clause-err g c =
 pub returns-in-Ok-false-clause-ok : goal.returns-in-Ok-false-clause-ok
 returns-in-Ok-false-clause-ok g c =
     let so = so_prepared g.D.Disk.seen g.D.Disk.may_leave g.D.Disk.moment g.D.Disk.left_since g.E.Write.contents g.E.Listener.refuses c.args.filter.now.shelf.objects (state c.args.filter.now.node.durable.machine) (g.R.Read.remaining c.args.input.now) (g.W.Write.contents c.args.output.now) c.args.filter.now.node.durable.disk c.args.errors.now g.met.D.Disk.counts_now c.calls_follow_one_another.ensures
-        (ahead c.loop-number.source (g.R.Read.remaining c.loop-number.input)) (g.W.Write.contents c.loop-number.output) c.loop-number.held.items c.loop-number.filter.node.durable.disk c.loop-number.filter.node.text.items (state c.loop-number.filter.node.durable.machine) c.loop-number.errors c.loop-number.number c.loop-number.invariant.so_far
-        (g.W.Write.contents c.prepare.new.output) c.prepare.new.held.items c.prepare.new.filter.node.durable.disk c.prepare.new.filter.node.text.items (state c.prepare.new.filter.node.durable.machine) c.in_ok-prepare.ensures.ok (ap state c.prepare.ensures.machine) in
+    (ahead c.loop-number.source (g.R.Read.remaining c.loop-number.input)) (g.W.Write.contents c.loop-number.output) c.loop-number.held.items c.loop-number.filter.node.durable.disk c.loop-number.filter.node.text.items (state c.loop-number.filter.node.durable.machine) c.loop-number.errors c.loop-number.number c.loop-number.invariant.so_far
+    (g.W.Write.contents c.prepare.new.output) c.prepare.new.held.items c.prepare.new.filter.node.durable.disk c.prepare.new.filter.node.text.items (state c.prepare.new.filter.node.durable.machine) c.in_ok-prepare.ensures.ok (ap state c.prepare.ensures.machine) in
     let objects = ap (λ s. s.objects) c.prepare.ensures.shelf ∙ c.loop-number.invariant.objects in
     subst (λ (m : NodeMachine). OnOk c.flush.result (Serves c.args.filter.now.shelf.objects (state c.args.filter.now.node.durable.machine) (TellsAll g.E.Write.contents g.E.Listener.refuses c.args.errors.now c.step.new.errors) (Leaves g.D.Disk.seen g.D.Disk.may_leave g.D.Disk.moment g.D.Disk.left_since (state c.args.filter.now.node.durable.machine) c.args.filter.now.node.durable.disk c.flush.new.filter.node.durable.disk) (g.R.Read.remaining c.args.input.now) (g.R.Read.remaining c.step.new.input) (g.W.Write.contents c.args.output.now) (g.W.Write.contents c.flush.new.output) (lines (g.D.Disk.seen c.args.filter.now.node.durable.disk)) (lines (g.D.Disk.seen c.flush.new.filter.node.durable.disk)) (state m))) (sym c.flush.ensures.machine)
     (so_ends g.D.Disk.seen g.D.Disk.may_leave g.D.Disk.moment g.D.Disk.left_since g.E.Write.contents g.E.Listener.refuses c.args.filter.now.shelf.objects (state c.args.filter.now.node.durable.machine) (g.R.Read.remaining c.args.input.now) (g.W.Write.contents c.args.output.now) c.args.filter.now.node.durable.disk c.args.errors.now g.met.D.Disk.counts_now c.calls_follow_one_another.ensures
@@ -56,8 +56,8 @@ returns-in-Ok-false-clause-ok g c =
 pub returns-in-Ok-false-clause-err : goal.returns-in-Ok-false-clause-err
 returns-in-Ok-false-clause-err g c =
     let so = so_prepared g.D.Disk.seen g.D.Disk.may_leave g.D.Disk.moment g.D.Disk.left_since g.E.Write.contents g.E.Listener.refuses c.args.filter.now.shelf.objects (state c.args.filter.now.node.durable.machine) (g.R.Read.remaining c.args.input.now) (g.W.Write.contents c.args.output.now) c.args.filter.now.node.durable.disk c.args.errors.now g.met.D.Disk.counts_now c.calls_follow_one_another.ensures
-        (ahead c.loop-number.source (g.R.Read.remaining c.loop-number.input)) (g.W.Write.contents c.loop-number.output) c.loop-number.held.items c.loop-number.filter.node.durable.disk c.loop-number.filter.node.text.items (state c.loop-number.filter.node.durable.machine) c.loop-number.errors c.loop-number.number c.loop-number.invariant.so_far
-        (g.W.Write.contents c.prepare.new.output) c.prepare.new.held.items c.prepare.new.filter.node.durable.disk c.prepare.new.filter.node.text.items (state c.prepare.new.filter.node.durable.machine) c.in_ok-prepare.ensures.ok (ap state c.prepare.ensures.machine) in
+    (ahead c.loop-number.source (g.R.Read.remaining c.loop-number.input)) (g.W.Write.contents c.loop-number.output) c.loop-number.held.items c.loop-number.filter.node.durable.disk c.loop-number.filter.node.text.items (state c.loop-number.filter.node.durable.machine) c.loop-number.errors c.loop-number.number c.loop-number.invariant.so_far
+    (g.W.Write.contents c.prepare.new.output) c.prepare.new.held.items c.prepare.new.filter.node.durable.disk c.prepare.new.filter.node.text.items (state c.prepare.new.filter.node.durable.machine) c.in_ok-prepare.ensures.ok (ap state c.prepare.ensures.machine) in
     let objects = ap (λ s. s.objects) c.prepare.ensures.shelf ∙ c.loop-number.invariant.objects in
     subst (λ (m : NodeMachine). IfErr c.flush.result (IsServeRefusal c.args.filter.now.shelf.objects (state c.args.filter.now.node.durable.machine) (TellsAll g.E.Write.contents g.E.Listener.refuses c.args.errors.now c.step.new.errors) (Leaves g.D.Disk.seen g.D.Disk.may_leave g.D.Disk.moment g.D.Disk.left_since (state c.args.filter.now.node.durable.machine) c.args.filter.now.node.durable.disk c.flush.new.filter.node.durable.disk) (g.R.Read.remaining c.args.input.now) (g.R.Read.remaining c.step.new.input) (g.W.Write.contents c.args.output.now) (g.W.Write.contents c.flush.new.output) (lines (g.D.Disk.seen c.args.filter.now.node.durable.disk)) (lines (g.D.Disk.seen c.flush.new.filter.node.durable.disk)) (state m))) (sym c.flush.ensures.machine)
     (so_end_refused g.D.Disk.seen g.D.Disk.may_leave g.D.Disk.moment g.D.Disk.left_since g.E.Write.contents g.E.Listener.refuses c.args.filter.now.shelf.objects (state c.args.filter.now.node.durable.machine) (g.R.Read.remaining c.args.input.now) (g.W.Write.contents c.args.output.now) c.args.filter.now.node.durable.disk c.args.errors.now g.met.D.Disk.counts_now c.calls_follow_one_another.ensures
@@ -68,8 +68,8 @@ returns-in-Ok-false-clause-err g c =
 pub returns-in_err-flush-in-Err-clause-err : goal.returns-in_err-flush-in-Err-clause-err
 returns-in_err-flush-in-Err-clause-err g c =
     let so = so_prepared g.D.Disk.seen g.D.Disk.may_leave g.D.Disk.moment g.D.Disk.left_since g.E.Write.contents g.E.Listener.refuses c.args.filter.now.shelf.objects (state c.args.filter.now.node.durable.machine) (g.R.Read.remaining c.args.input.now) (g.W.Write.contents c.args.output.now) c.args.filter.now.node.durable.disk c.args.errors.now g.met.D.Disk.counts_now c.calls_follow_one_another.ensures
-        (ahead c.loop-number.source (g.R.Read.remaining c.loop-number.input)) (g.W.Write.contents c.loop-number.output) c.loop-number.held.items c.loop-number.filter.node.durable.disk c.loop-number.filter.node.text.items (state c.loop-number.filter.node.durable.machine) c.loop-number.errors c.loop-number.number c.loop-number.invariant.so_far
-        (g.W.Write.contents c.prepare.new.output) c.prepare.new.held.items c.prepare.new.filter.node.durable.disk c.prepare.new.filter.node.text.items (state c.prepare.new.filter.node.durable.machine) c.in_ok-prepare.ensures.ok (ap state c.prepare.ensures.machine) in
+    (ahead c.loop-number.source (g.R.Read.remaining c.loop-number.input)) (g.W.Write.contents c.loop-number.output) c.loop-number.held.items c.loop-number.filter.node.durable.disk c.loop-number.filter.node.text.items (state c.loop-number.filter.node.durable.machine) c.loop-number.errors c.loop-number.number c.loop-number.invariant.so_far
+    (g.W.Write.contents c.prepare.new.output) c.prepare.new.held.items c.prepare.new.filter.node.durable.disk c.prepare.new.filter.node.text.items (state c.prepare.new.filter.node.durable.machine) c.in_ok-prepare.ensures.ok (ap state c.prepare.ensures.machine) in
     let objects = ap (λ s. s.objects) c.prepare.ensures.shelf ∙ c.loop-number.invariant.objects in
     let f : IfErr c.from_residual-in_err-flush-in-Err.result (λ e. e ≡ c.in_err-flush-in-Err.field-0.0) = search rules in
     if_err_same _ c.in_err-flush-in-Err.field-0.0 c.from_residual-in_err-flush-in-Err.result f
@@ -82,8 +82,8 @@ returns-in_err-flush-in-Err-clause-err g c =
 pub returns-in-Err-clause-err : goal.returns-in-Err-clause-err
 returns-in-Err-clause-err g c =
     let so = so_prepared g.D.Disk.seen g.D.Disk.may_leave g.D.Disk.moment g.D.Disk.left_since g.E.Write.contents g.E.Listener.refuses c.args.filter.now.shelf.objects (state c.args.filter.now.node.durable.machine) (g.R.Read.remaining c.args.input.now) (g.W.Write.contents c.args.output.now) c.args.filter.now.node.durable.disk c.args.errors.now g.met.D.Disk.counts_now c.calls_follow_one_another.ensures
-        (ahead c.loop-number.source (g.R.Read.remaining c.loop-number.input)) (g.W.Write.contents c.loop-number.output) c.loop-number.held.items c.loop-number.filter.node.durable.disk c.loop-number.filter.node.text.items (state c.loop-number.filter.node.durable.machine) c.loop-number.errors c.loop-number.number c.loop-number.invariant.so_far
-        (g.W.Write.contents c.prepare.new.output) c.prepare.new.held.items c.prepare.new.filter.node.durable.disk c.prepare.new.filter.node.text.items (state c.prepare.new.filter.node.durable.machine) c.in_ok-prepare.ensures.ok (ap state c.prepare.ensures.machine) in
+    (ahead c.loop-number.source (g.R.Read.remaining c.loop-number.input)) (g.W.Write.contents c.loop-number.output) c.loop-number.held.items c.loop-number.filter.node.durable.disk c.loop-number.filter.node.text.items (state c.loop-number.filter.node.durable.machine) c.loop-number.errors c.loop-number.number c.loop-number.invariant.so_far
+    (g.W.Write.contents c.prepare.new.output) c.prepare.new.held.items c.prepare.new.filter.node.durable.disk c.prepare.new.filter.node.text.items (state c.prepare.new.filter.node.durable.machine) c.in_ok-prepare.ensures.ok (ap state c.prepare.ensures.machine) in
     let objects = ap (λ s. s.objects) c.prepare.ensures.shelf ∙ c.loop-number.invariant.objects in
     let fl = subst (λ d. Flushes g.D.Disk.seen g.D.Disk.may_leave g.D.Disk.moment g.D.Disk.left_since (g.W.Write.contents c.prepare.new.output) (g.W.Write.contents c.flush-in-Err.new.output) c.step.new.output.items c.flush-in-Err.new.held.items c.step.new.filter.node.text.items c.flush-in-Err.new.filter.node.text.items d c.flush-in-Err.new.filter.node.durable.disk) c.step.ensures.disk c.in_ok-flush-in-Err.ensures.ok in
     subst (λ f. IsServeRefusal c.args.filter.now.shelf.objects (state c.args.filter.now.node.durable.machine) (TellsAll g.E.Write.contents g.E.Listener.refuses c.args.errors.now c.step.new.errors) (Leaves g.D.Disk.seen g.D.Disk.may_leave g.D.Disk.moment g.D.Disk.left_since (state c.args.filter.now.node.durable.machine) c.args.filter.now.node.durable.disk c.flush-in-Err.new.filter.node.durable.disk) (g.R.Read.remaining c.args.input.now) (g.R.Read.remaining c.step.new.input) (g.W.Write.contents c.args.output.now) (g.W.Write.contents c.flush-in-Err.new.output) (lines (g.D.Disk.seen c.args.filter.now.node.durable.disk)) (lines (g.D.Disk.seen c.flush-in-Err.new.filter.node.durable.disk)) (state c.flush-in-Err.new.filter.node.durable.machine) f) (sym c.of_step.ensures)
@@ -96,8 +96,8 @@ returns-in-Err-clause-err g c =
 pub loop-number-preserved : goal.loop-number-preserved
 loop-number-preserved g c =
     let so = so_prepared g.D.Disk.seen g.D.Disk.may_leave g.D.Disk.moment g.D.Disk.left_since g.E.Write.contents g.E.Listener.refuses c.args.filter.now.shelf.objects (state c.args.filter.now.node.durable.machine) (g.R.Read.remaining c.args.input.now) (g.W.Write.contents c.args.output.now) c.args.filter.now.node.durable.disk c.args.errors.now g.met.D.Disk.counts_now c.calls_follow_one_another.ensures
-        (ahead c.loop-number.source (g.R.Read.remaining c.loop-number.input)) (g.W.Write.contents c.loop-number.output) c.loop-number.held.items c.loop-number.filter.node.durable.disk c.loop-number.filter.node.text.items (state c.loop-number.filter.node.durable.machine) c.loop-number.errors c.loop-number.number c.loop-number.invariant.so_far
-        (g.W.Write.contents c.prepare.new.output) c.prepare.new.held.items c.prepare.new.filter.node.durable.disk c.prepare.new.filter.node.text.items (state c.prepare.new.filter.node.durable.machine) c.in_ok-prepare.ensures.ok (ap state c.prepare.ensures.machine) in
+    (ahead c.loop-number.source (g.R.Read.remaining c.loop-number.input)) (g.W.Write.contents c.loop-number.output) c.loop-number.held.items c.loop-number.filter.node.durable.disk c.loop-number.filter.node.text.items (state c.loop-number.filter.node.durable.machine) c.loop-number.errors c.loop-number.number c.loop-number.invariant.so_far
+    (g.W.Write.contents c.prepare.new.output) c.prepare.new.held.items c.prepare.new.filter.node.durable.disk c.prepare.new.filter.node.text.items (state c.prepare.new.filter.node.durable.machine) c.in_ok-prepare.ensures.ok (ap state c.prepare.ensures.machine) in
     let objects = ap (λ s. s.objects) c.prepare.ensures.shelf ∙ c.loop-number.invariant.objects in
     record {
       so_far = subst (λ d. So g.D.Disk.seen g.D.Disk.may_leave g.D.Disk.moment g.D.Disk.left_since g.E.Write.contents g.E.Listener.refuses c.args.filter.now.shelf.objects (state c.args.filter.now.node.durable.machine) (g.R.Read.remaining c.args.input.now) (g.W.Write.contents c.args.output.now) c.args.filter.now.node.durable.disk c.args.errors.now (ahead c.step.new.source (g.R.Read.remaining c.step.new.input)) (g.W.Write.contents c.prepare.new.output) c.step.new.output.items d c.step.new.filter.node.text.items (state c.step.new.filter.node.durable.machine) c.step.new.errors (c.loop-number.number + 1)) (sym c.step.ensures.disk)
