@@ -50,15 +50,18 @@ fn size(set: &Orswot<u64, u8>) -> usize {
     set.read().val.len()
 }
 
+/// Prints what a step took, once its operations are gone.
+fn step(name: &str, set: &mut Orswot<u64, u8>, ops: Vec<Op<u64, u8>>) {
+    let start = Instant::now();
+    apply_all(set, ops);
+    println!("{name} {} {}", start.elapsed().as_micros(), size(set));
+}
+
 fn main() {
+    println!("start 0 0");
     let mut set = Orswot::new();
-    let (put, removed) = (puts(PUTS, false), removes(PUTS / 2, 2, false));
-    let start = Instant::now();
-    apply_all(&mut set, put);
-    println!("puts {} {}", start.elapsed().as_micros(), size(&set));
-    let start = Instant::now();
-    apply_all(&mut set, removed);
-    println!("removes {} {}", start.elapsed().as_micros(), size(&set));
+    step("puts", &mut set, puts(PUTS, false));
+    step("removes", &mut set, removes(PUTS / 2, 2, false));
     let start = Instant::now();
     let there = (0..u64::from(ELEMENTS)).filter(|x| set.contains(black_box(x)).val);
     let there = there.count();
@@ -80,17 +83,10 @@ fn main() {
 /// One element, put again and again and then removed as often; and Removes that come first.
 fn worst() {
     let mut set = Orswot::new();
-    let (put, removed) = (puts(MANY, true), removes(MANY, 1, true));
-    let start = Instant::now();
-    apply_all(&mut set, put);
-    println!("one_put {} {}", start.elapsed().as_micros(), size(&set));
-    let start = Instant::now();
-    apply_all(&mut set, removed);
-    println!("one_removed {} {}", start.elapsed().as_micros(), size(&set));
+    step("one_put", &mut set, puts(MANY, true));
+    step("one_removed", &mut set, removes(MANY, 1, true));
     let mut late = Orswot::new();
-    let (early, put) = (removes(EARLY, 1, false), puts(EARLY, false));
-    let start = Instant::now();
-    apply_all(&mut late, early);
-    apply_all(&mut late, put);
-    println!("early {} {}", start.elapsed().as_micros(), size(&late));
+    let mut ops = removes(EARLY, 1, false);
+    ops.extend(puts(EARLY, false));
+    step("early", &mut late, ops);
 }

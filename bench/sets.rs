@@ -92,15 +92,20 @@ fn absorb_all(set: &mut Set, updates: &[Update]) {
     }
 }
 
+/// Prints what a step took, once its updates are gone.
+fn step(name: &str, set: &mut Set, updates: Vec<Update>) {
+    let start = Instant::now();
+    absorb_all(set, &updates);
+    let spent = start.elapsed().as_micros();
+    drop(updates);
+    println!("{name} {spent} {}", set.live.len());
+}
+
 fn main() {
+    println!("start 0 0");
     let mut set = Set::default();
-    let (put, removed) = (puts(PUTS, false), removes(PUTS / 2, 2, false));
-    let start = Instant::now();
-    absorb_all(&mut set, &put);
-    println!("puts {} {}", start.elapsed().as_micros(), set.live.len());
-    let start = Instant::now();
-    absorb_all(&mut set, &removed);
-    println!("removes {} {}", start.elapsed().as_micros(), set.live.len());
+    step("puts", &mut set, puts(PUTS, false));
+    step("removes", &mut set, removes(PUTS / 2, 2, false));
     let start = Instant::now();
     let there = (0..u64::from(ELEMENTS)).filter(|x| set.live.contains_key(black_box(x)));
     let there = there.count();
@@ -122,17 +127,10 @@ fn main() {
 /// One element, put again and again and then removed as often; and Removes that come first.
 fn worst() {
     let mut set = Set::default();
-    let (put, removed) = (puts(MANY, true), removes(MANY, 1, true));
-    let start = Instant::now();
-    absorb_all(&mut set, &put);
-    println!("one_put {} {}", start.elapsed().as_micros(), set.live.len());
-    let start = Instant::now();
-    absorb_all(&mut set, &removed);
-    println!("one_removed {} {}", start.elapsed().as_micros(), set.live.len());
+    step("one_put", &mut set, puts(MANY, true));
+    step("one_removed", &mut set, removes(MANY, 1, true));
     let mut late = Set::default();
-    let (early, put) = (removes(EARLY, 1, false), puts(EARLY, false));
-    let start = Instant::now();
-    absorb_all(&mut late, &early);
-    absorb_all(&mut late, &put);
-    println!("early {} {}", start.elapsed().as_micros(), late.live.len());
+    let mut updates = removes(EARLY, 1, false);
+    updates.extend(puts(EARLY, false));
+    step("early", &mut late, updates);
 }

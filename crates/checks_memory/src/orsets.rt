@@ -121,6 +121,26 @@ fn in_a_box(alloc: Global) -> Came {
     all_of(&mut set, alloc)
 }
 
+// More elements than stand in a tree, each put under an id of its own, and taken out again.
+const MANY: u32 = 66;
+
+fn put_many(set: &mut OrSet, alloc: Global) -> Came {
+    for before in 0..MANY {
+        let row = (1, 7, before + 1, Does::Put(before as u64));
+        let came = absorb_row(set, alloc, &row, before as u64, before as u64 + 1);
+        if came != Some(true) {
+            return came;
+        }
+    }
+    Some(true)
+}
+
+fn many(alloc: Global) -> Came {
+    let mut set = OrSet::new(alloc);
+    let row = (1, 0, 1, Does::Remove(64));
+    Some(put_many(&mut set, alloc)? && absorb_row(&mut set, alloc, &row, MANY as u64, 2)?)
+}
+
 // ## Chains
 
 fn push(chain: &mut Chain<u64>, alloc: Global, value: u64) -> Came {
@@ -141,7 +161,7 @@ fn a_chain(alloc: Global) -> Came {
 }
 
 fn scenes(alloc: Global) -> Came {
-    Some(alone(alloc)? && in_a_box(alloc)? && a_chain(alloc)?)
+    Some(alone(alloc)? && in_a_box(alloc)? && many(alloc)? && a_chain(alloc)?)
 }
 
 #[test]

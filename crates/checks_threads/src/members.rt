@@ -1,6 +1,7 @@
 // Members of a group, in one thread and in two.
 mod decisions;
-pub mod helpers;
+mod helpers;
 mod notes;
 mod runs;
+pub mod steps;
 mod threads;

@@ -2,3 +2,9 @@ pub mod Sets
 pub mod Filling
 pub mod LiveTags
 pub mod Held
+pub mod Hashed
+pub mod Lists
+pub mod Numbers
+pub mod ById
+pub mod Absorbed
+pub mod Copied

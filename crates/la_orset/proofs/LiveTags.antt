@@ -75,6 +75,10 @@ pub on_ok : {A E : Type 0} (r : Result A E) (P Q : Type 0) → (P → Q) → OnO
 on_ok (Ok a) P Q f p = f p
 on_ok (Err e) P Q f p = tt
 
+pub either_way : {A E : Type 0} (r : Result A E) (P Q S : Type 0) → OnOk r P → OnErr r Q → (P → S) → (Q → S) → S
+either_way (Ok a) P Q S p q f g = f p
+either_way (Err e) P Q S p q f g = g q
+
 pub none_of : {X : Type 0} (o : Option X) → is_some o ≡ false → o ≡ None
 none_of None h = refl
 none_of (Some x) h = absurd (false≢true (sym h))

@@ -1,8 +1,8 @@
--- What an element's tags stand for, where one alone needs no tree.
+-- What an element's tags stand for, in each of its forms.
 use Rattle.std.specs.FinMap as map
 use Rattle.la_set.specs.declared.update.UpdateId.{UpdateId}
 use Rattle.la_orset.specs.declared.tag_set.Few.{Few}
-use Rattle.la_orset.specs.declared.tag_set.Few.TheVariants.{One, Tree}
+use Rattle.la_orset.specs.declared.tag_set.Few.TheVariants.{One, List}
 use Rattle.la_orset.specs.Index.{TagMap}
 
 -- one tag
@@ -11,4 +11,4 @@ only_tag id = map.insert map.empty id tt
 
 abbrev pub tags_of : Few → TagMap
 tags_of (One id) = only_tag id
-tags_of (Tree tags) = tags
+tags_of (List tags) = tags

@@ -1,5 +1,5 @@
 -- The live tags by element, as an observed-remove set looks them up, and what they are.
-use Rattle.std.specs.Prelude.{◌≡◌, ℕ, ◌==◌, ◌&&◌, not, Bool, true, false, List, [], ◌∷◌, map as list_map, Option, Some, None, if◌then◌else◌}
+use Rattle.std.specs.Prelude.{◌≡◌, ℕ, eqb, ◌==◌, ◌&&◌, not, Bool, true, false, List, [], ◌∷◌, map as list_map, Option, Some, None, if◌then◌else◌}
 use Rattle.std.specs.Ordering.{nat_cmp}
 use Rattle.std.specs.declared.cmp.Ordering.{Ordering}
 use Rattle.std.specs.Coded.{Coded, coded_ℕ}
@@ -11,6 +11,10 @@ use Rattle.la_object.specs.IdOrder.{id_cmp, id_code, Elements, IdSet}
 -- the finite set of these keys, in the order R
 abbrev pub set_of : {K : Type 0} {R : K → K → Ordering} → List K → map.FinMap R (Unit {0})
 set_of ks = map.from_entries (list_map (λ k. (k, tt)) ks)
+
+-- the test of ids
+abbrev pub id_eq : UpdateId → UpdateId → Bool
+id_eq a b = eqb a.replica b.replica && eqb a.number b.number
 
 -- a finite set of ids
 abbrev pub TagMap : Type 0

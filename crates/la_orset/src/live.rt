@@ -1,33 +1,40 @@
-ghost use Rattle.std.specs.Prelude.{◌≡◌, IfOk, IfErr, OnOk, OnErr};
+ghost use Rattle.std.specs.Prelude.{◌≡◌, false, IfOk, IfErr, OnOk, OnErr};
 ghost use Rattle.std.specs.FinMap as map;
 ghost use Rattle.la_object.specs.Refusals.{IsObserveRefusal};
 ghost use Rattle.la_orset.specs.Index.{tags_at, IsWhole, HasTags};
 
-use crate::tag_set::TagSet;
+use crate::live_table::LiveTable;
+use crate::live_tree::LiveTree;
 use la_object::{Items, ObserveError};
 use la_set::{Tags, UpdateId};
 use std::alloc::{AllocError, Global};
-use std::collections::BTreeMap;
 use std::marker::Model;
+
+/// Up to how many elements stand in a tree. More are found by hash, in a table that takes more
+/// allocations.
+const FEW_ELEMENTS: usize = 64;
 
 /// The live tags, by element. An element stands here only while it has one.
 #[derive(Drop)]
 pub struct Live {
-    alloc: Global,
-    by_element: BTreeMap<u64, TagSet>,
+    tags: ByElement,
+}
+
+#[derive(Drop)]
+enum ByElement {
+    Few(LiveTree),
+    Many(LiveTable),
 }
 
 impl Model for Live {
-    ghost use Rattle.std.specs.FinMap as map;
-    ghost use Rattle.la_orset.specs.Index.{Index, index_code, IsWhole};
+    ghost use Rattle.la_orset.specs.Index.{Index, index_code};
+    ghost use Rattle.la_orset.specs.ByElement.{index_of};
 
     ghost Value = { Index };
 
     ghost coded = { index_code };
 
-    ghost view = { λ s. map.from_entries s.by_element.entries };
-
-    ghost invariant = { λ s. IsWhole (map.from_entries s.by_element.entries) };
+    ghost view = { λ s. index_of s.tags };
 }
 
 impl Live {
@@ -36,17 +43,19 @@ impl Live {
         ensures { result ≡ map.empty }
     {
         Live {
-            alloc,
-            by_element: BTreeMap::new(alloc),
+            tags: ByElement::Few(LiveTree::new(alloc)),
         }
     }
 
-    /// Whether an element has a tag, at logarithmic cost.
+    /// Whether an element has a tag, at constant cost.
     pub fn has(&self, element: u64) -> bool
         ensures answer { result ≡ map.contains_key self.now element }
         ensures whole { IsWhole self.now }
     {
-        self.by_element.contains_key(&element)
+        match &self.tags {
+            ByElement::Few(tree) => tree.has(element),
+            ByElement::Many(table) => table.has(element),
+        }
     }
 
     /// How many elements have a tag, at constant cost.
@@ -54,19 +63,21 @@ impl Live {
         ensures answer { result ≡ map.len self.now }
         ensures whole { IsWhole self.now }
     {
-        self.by_element.len()
+        match &self.tags {
+            ByElement::Few(tree) => tree.len(),
+            ByElement::Many(table) => table.len(),
+        }
     }
 
-    /// The elements that have a tag, in ascending order, in one pass over them.
+    /// The elements that have a tag, in ascending order. Many are sorted.
     pub fn elements(&self) -> Result<Items, AllocError>
         ensures answer { IfOk result (λ elements. elements ≡ map.keys self.now) }
         ensures whole { IsWhole self.now }
     {
-        let mut elements = Items::new(self.alloc);
-        for element in self.by_element.keys() {
-            elements.push(*element)?;
+        match &self.tags {
+            ByElement::Few(tree) => tree.elements(),
+            ByElement::Many(table) => table.elements(),
         }
-        Ok(elements)
     }
 
     /// The tags of an element, in ascending order.
@@ -74,38 +85,56 @@ impl Live {
         ensures ok { IfOk result (λ tags. tags ≡ map.keys (tags_at self.now element)) }
         ensures error { IfErr result (IsObserveRefusal (map.keys (tags_at self.now element))) }
     {
-        match self.by_element.get(&element) {
-            Some(tags) => tags.tags(self.alloc),
-            None => Ok(Tags::new(self.alloc)),
+        match &self.tags {
+            ByElement::Few(tree) => tree.tags(element),
+            ByElement::Many(table) => table.tags(element),
         }
     }
 
-    /// Puts a tag of an element in, at logarithmic cost. After a refusal nothing has changed.
-    pub fn insert(&mut self, element: u64, id: UpdateId) -> Result<(), AllocError>
+    /// Puts a tag of an element in, which it has not, and answers where the tag stands among the
+    /// element's. After a refusal nothing has changed.
+    pub fn insert(&mut self, element: u64, id: UpdateId) -> Result<usize, AllocError>
+        requires { map.contains_key (tags_at self.old element) id ≡ false }
         ensures ok { OnOk result
             (HasTags self.old element (map.insert (tags_at self.old element) id tt) self.new) }
         ensures err { OnErr result (self.new ≡ self.old) }
     {
-        if let Some(tags) = self.by_element.get_mut(&element) {
-            tags.insert(id)?;
-            return Ok(());
+        if self.is_full() {
+            self.grow()?;
         }
-        let mut tags = TagSet::new(self.alloc);
-        tags.insert(id)?;
-        self.by_element.insert(element, tags)?;
-        Ok(())
+        match &mut self.tags {
+            ByElement::Few(tree) => tree.insert(element, id),
+            ByElement::Many(table) => table.insert(element, id),
+        }
     }
 
-    /// Takes a tag of an element out, at logarithmic cost and without memory.
-    pub fn remove(&mut self, element: u64, id: UpdateId)
+    /// Takes a tag of an element out, without memory, and answers which of the element's tags stands
+    /// at the hint now.
+    pub fn remove(&mut self, element: u64, id: UpdateId, hint: usize) -> Option<UpdateId>
         ensures { HasTags self.old element (map.remove (tags_at self.old element) id) self.new }
     {
-        let Some(tags) = self.by_element.get_mut(&element) else {
-            return;
-        };
-        tags.remove(id);
-        if !tags.has_any() {
-            self.by_element.remove(&element);
+        match &mut self.tags {
+            ByElement::Few(tree) => tree.remove(element, id, hint),
+            ByElement::Many(table) => table.remove(element, id, hint),
         }
+    }
+
+    // Whether a tree has as many elements as it may have.
+    fn is_full(&self) -> bool {
+        match &self.tags {
+            ByElement::Few(tree) => tree.len() >= FEW_ELEMENTS,
+            ByElement::Many(_) => false,
+        }
+    }
+
+    // Moves the tags of a tree into a table.
+    fn grow(&mut self) -> Result<(), AllocError>
+        ensures { self.new ≡ self.old }
+    {
+        if let ByElement::Few(tree) = &self.tags {
+            let table = tree.table()?;
+            self.tags = ByElement::Many(table);
+        }
+        Ok(())
     }
 }

@@ -1,17 +1,17 @@
-ghost use Rattle.std.specs.Prelude.{◌≡◌, IfOk, IfErr, OnOk, OnErr};
+ghost use Rattle.std.specs.Prelude.{◌≡◌, false, IfOk, IfErr, OnOk, OnErr};
 ghost use Rattle.std.specs.FinMap as map;
 ghost use Rattle.la_object.specs.Refusals.{IsObserveRefusal};
 ghost use Rattle.la_orset.specs.Index.{has_any};
 ghost use Rattle.la_orset.specs.Few.{tags_of, only_tag};
 
-use crate::tag_tree::TagTree;
+use crate::tag_list::TagList;
 use la_object::ObserveError;
 use la_set::{Tags, UpdateId};
 use std::alloc::{AllocError, Global};
 use std::marker::Model;
 use std::mem;
 
-/// The live tags of one element. One alone needs no tree.
+/// The live tags of one element. One alone needs no list.
 #[derive(Drop)]
 pub struct TagSet {
     alloc: Global,
@@ -21,7 +21,7 @@ pub struct TagSet {
 #[derive(Drop)]
 enum Few {
     One(UpdateId),
-    Tree(TagTree),
+    List(TagList),
 }
 
 impl Model for TagSet {
@@ -42,7 +42,7 @@ impl TagSet {
     {
         TagSet {
             alloc,
-            tags: Few::Tree(TagTree::new(alloc)),
+            tags: Few::List(TagList::new(alloc)),
         }
     }
 
@@ -52,13 +52,22 @@ impl TagSet {
     {
         match &self.tags {
             Few::One(_) => true,
-            Few::Tree(tree) => tree.has_any(),
+            Few::List(list) => list.has_any(),
         }
     }
 
-    /// Puts a tag in, at logarithmic cost; the first takes no memory. After a refusal nothing has
-    /// changed.
+    /// How many tags there are, and so where the next will stand.
+    pub fn len(&self) -> usize {
+        match &self.tags {
+            Few::One(_) => 1,
+            Few::List(list) => list.len(),
+        }
+    }
+
+    /// Puts a tag that is not there last, at constant cost but for growth; the first takes no memory.
+    /// After a refusal nothing has changed.
     pub fn insert(&mut self, id: UpdateId) -> Result<(), AllocError>
+        requires { map.contains_key self.old id ≡ false }
         ensures ok { OnOk result (self.new ≡ map.insert self.old id tt) }
         ensures err { OnErr result (self.new ≡ self.old) }
     {
@@ -68,15 +77,34 @@ impl TagSet {
         result
     }
 
-    /// Takes a tag out, at logarithmic cost and without memory.
-    pub fn remove(&mut self, id: UpdateId)
+    /// Takes a tag out, without memory, and answers which tag stands at the hint now. The cost is
+    /// constant where the hint says where the tag stands.
+    pub fn remove(&mut self, id: UpdateId, hint: usize) -> Option<UpdateId>
         ensures { self.new ≡ map.remove self.old id }
     {
         let tags = mem::replace(&mut self.tags, Few::One(id));
-        self.tags = without(self.alloc, tags, id);
+        let (tags, there) = without(self.alloc, tags, id, hint);
+        self.tags = tags;
+        there
     }
 
-    /// The tags in ascending order, in one pass. `TooManyTags` comes exactly where they are more than
+    /// A copy.
+    pub fn copy(&self) -> Result<TagSet, AllocError>
+        ensures { IfOk result (λ copy. copy ≡ self.now) }
+    {
+        match &self.tags {
+            Few::One(id) => Ok(TagSet {
+                alloc: self.alloc,
+                tags: Few::One(*id),
+            }),
+            Few::List(list) => Ok(TagSet {
+                alloc: self.alloc,
+                tags: Few::List(list.copy(self.alloc)?),
+            }),
+        }
+    }
+
+    /// The tags in ascending order. `TooManyTags` comes exactly where they are more than
     /// a `Remove` may name; up to [`INLINE_TAGS`](la_set::INLINE_TAGS) of them take no memory.
     pub fn tags(&self, alloc: Global) -> Result<Tags, ObserveError>
         ensures ok { IfOk result (λ tags. tags ≡ map.keys self.now) }
@@ -84,55 +112,57 @@ impl TagSet {
     {
         match &self.tags {
             Few::One(id) => only(alloc, *id),
-            Few::Tree(tree) => tree.tags(alloc),
+            Few::List(list) => list.tags(alloc),
         }
     }
 }
 
 // The tags with one more, or as they were where memory is refused.
 fn with_tag(alloc: Global, tags: Few, id: UpdateId) -> (Few, Result<(), AllocError>)
+    requires { map.contains_key (tags_of tags) id ≡ false }
     ensures ok { OnOk result.1 (tags_of result.0 ≡ map.insert (tags_of tags) id tt) }
     ensures err { OnErr result.1 (tags_of result.0 ≡ tags_of tags) }
 {
     match tags {
         Few::One(there) => match pair(alloc, there, id) {
-            Ok(tree) => (Few::Tree(tree), Ok(())),
+            Ok(list) => (Few::List(list), Ok(())),
             Err(refused) => (Few::One(there), Err(refused)),
         },
-        Few::Tree(mut tree) => {
-            if !tree.has_any() {
+        Few::List(mut list) => {
+            if !list.has_any() {
                 return (Few::One(id), Ok(()));
             }
-            let result = tree.insert(id);
-            (Few::Tree(tree), result)
+            let result = list.insert(id);
+            (Few::List(list), result)
         }
     }
 }
 
-// A tree of one tag and another.
-fn pair(alloc: Global, one: UpdateId, other: UpdateId) -> Result<TagTree, AllocError>
-    ensures { IfOk result (λ tree. tree ≡ map.insert (only_tag one) other tt) }
+// A list of one tag and another.
+fn pair(alloc: Global, one: UpdateId, other: UpdateId) -> Result<TagList, AllocError>
+    requires { map.contains_key (only_tag one) other ≡ false }
+    ensures { IfOk result (λ list. list ≡ map.insert (only_tag one) other tt) }
 {
-    let mut tree = TagTree::new(alloc);
-    tree.insert(one)?;
-    tree.insert(other)?;
-    Ok(tree)
+    let mut list = TagList::new(alloc);
+    list.insert(one)?;
+    list.insert(other)?;
+    Ok(list)
 }
 
-// The tags without one.
-fn without(alloc: Global, tags: Few, id: UpdateId) -> Few
-    ensures { tags_of result ≡ map.remove (tags_of tags) id }
+// The tags without one, and which of them stands at the hint then.
+fn without(alloc: Global, tags: Few, id: UpdateId, hint: usize) -> (Few, Option<UpdateId>)
+    ensures { tags_of result.0 ≡ map.remove (tags_of tags) id }
 {
     match tags {
         Few::One(there) => {
             if there == id {
-                return Few::Tree(TagTree::new(alloc));
+                return (Few::List(TagList::new(alloc)), None);
             }
-            Few::One(there)
+            (Few::One(there), None)
         }
-        Few::Tree(mut tree) => {
-            tree.remove(id);
-            Few::Tree(tree)
+        Few::List(mut list) => {
+            let there = list.remove(id, hint);
+            (Few::List(list), there)
         }
     }
 }

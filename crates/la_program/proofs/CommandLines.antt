@@ -80,10 +80,6 @@ requires_one a = record a {
   };
 }
 
--- the program's command before it has subcommands
-abbrev pub lattice_alone : App
-lattice_alone = requires_one (new_app (codes "lattice"))
-
 pub lattice_is_simple : is_simple lattice ≡ true
 unfolding clap_on_literals
 lattice_is_simple = refl

@@ -35,21 +35,24 @@ threads = with_rule
     (with_rule (new_app (codes "threads")) (option (codes "replicas") 1 8 (codes "3")))
     (option (codes "each") 1 1000 (codes "10"))
 
--- the name alone calls for nothing; `--help` and `--version` are there, and no word `help`
-abbrev pub lattice : App
-lattice =
+-- the program without subcommands
+abbrev pub lattice_alone : App
+lattice_alone =
     let top = (new_app (codes "lattice")).top in
-    with_subcommand
-    (with_subcommand
-    (with_subcommand
-    (record {
+    record {
       top = record top {
         has_version = true;
         subcommand_required = true;
         disable_help_subcommand = true;
       };
       subs = [];
-    }) play.top) random.top) threads.top
+    }
+
+-- the name alone calls for nothing; `--help` and `--version` are there, and no word `help`
+abbrev pub lattice : App
+lattice =
+    with_subcommand
+    (with_subcommand (with_subcommand lattice_alone play.top) random.top) threads.top
 
 -- ## What they call for
 

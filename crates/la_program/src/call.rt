@@ -1,9 +1,10 @@
 // What the program is called for.
 ghost use Rattle.std.specs.Prelude.{◌≡◌, false, map, string_bytes, IfOk, IfErr, Some, pos};
 ghost use Rattle.clap.specs.Words.{app_of, found_of, rows_of, rule_of, HasKind, fault_of};
+ghost use Rattle.clap.specs.Words.{with_rule, with_subcommand};
 ghost use Rattle.clap.specs.declared.builder.command.Command.TheViews.{out-Command as fields_of};
 ghost use Rattle.clap.specs.declared.builder.value_parser.ValueParser.TheVariants.{Signed};
-ghost use Rattle.la_program.specs.Calls.{option, play, random, threads, lattice};
+ghost use Rattle.la_program.specs.Calls.{option, play, random, threads, lattice, lattice_alone};
 ghost use Rattle.la_program.specs.Calls.{AreTaken, AreSizesTaken, Calls, IsDraw, IsRun, IsInRange};
 
 use clap::builder::ValueParser;
@@ -63,62 +64,97 @@ fn play_command<'a>(alloc: Global) -> Command<'a>
     Command::new(alloc, "play").about("Plays the script on standard input: lattice play <script")
 }
 
+// The command with one more option with a number.
+fn with_number<'a>(
+    alloc: Global,
+    command: Command<'a>,
+    name: &'a str,
+    parser: ValueParser<'a>,
+    otherwise: &'a str,
+    help: &'a str,
+) -> Result<Command<'a>, AllocError>
+    ensures app { (least most : _) → parser.entry ≡ Signed (pos least) (pos most)
+        → IfOk result (λ made. app_of made ≡ with_rule (app_of command.entry)
+        (option name.entry.now least most otherwise.entry.now)) }
+    ensures local { (fields_of command.entry).has_globals ≡ false
+        → IfOk result (λ made. (fields_of made).has_globals ≡ false) }
+{
+    command.arg(number(alloc, name, parser, otherwise, help))
+}
+
 fn random_command<'a>(alloc: Global) -> Result<Command<'a>, AllocError>
     ensures app { IfOk result (λ made. app_of made ≡ random) }
     ensures local { IfOk result (λ made. (fields_of made).has_globals ≡ false) }
 {
-    let seeds = value_parser!(u32);
-    let sizes = value_parser!(u8).range(1..=8);
-    let counts = value_parser!(u32).range(1..=10_000);
-    let seed = number(alloc, "seed", seeds, "1", "What the draws begin with");
-    let replicas = number(alloc, "replicas", sizes, "3", "How many replicas, 1 to 8");
-    let events = number(
-        alloc,
-        "events",
-        counts,
-        "100",
-        "How many events, 1 to 10000",
+    let start = Command::new(alloc, "random").about(
+        "Draws events from a seed and plays them: lattice random --seed 7 --replicas 5",
     );
-    Command::new(alloc, "random")
-        .about("Draws events from a seed and plays them: lattice random --seed 7 --replicas 5")
-        .arg(seed)?
-        .arg(replicas)?
-        .arg(events)
+    let seeds = value_parser!(u32);
+    let seeded = with_number(
+        alloc,
+        start,
+        "seed",
+        seeds,
+        "1",
+        "What the draws begin with",
+    )?;
+    let sizes = value_parser!(u8).range(1..=8);
+    let help = "How many replicas, 1 to 8";
+    let sized = with_number(alloc, seeded, "replicas", sizes, "3", help)?;
+    let counts = value_parser!(u32).range(1..=10_000);
+    let help = "How many events, 1 to 10000";
+    with_number(alloc, sized, "events", counts, "100", help)
 }
 
 fn threads_command<'a>(alloc: Global) -> Result<Command<'a>, AllocError>
     ensures app { IfOk result (λ made. app_of made ≡ threads) }
     ensures local { IfOk result (λ made. (fields_of made).has_globals ≡ false) }
 {
-    let sizes = value_parser!(u8).range(1..=8);
-    let counts = value_parser!(u32).range(1..=1000);
-    let replicas = number(alloc, "replicas", sizes, "3", "How many replicas, 1 to 8");
-    let each = number(
-        alloc,
-        "each",
-        counts,
-        "10",
-        "How many updates each makes, 1 to 1000",
+    let start = Command::new(alloc, "threads").about(
+        "Runs replicas in threads of their own: lattice threads --replicas 4 --each 50",
     );
-    Command::new(alloc, "threads")
-        .about("Runs replicas in threads of their own: lattice threads --replicas 4 --each 50")
-        .arg(replicas)?
-        .arg(each)
+    let sizes = value_parser!(u8).range(1..=8);
+    let help = "How many replicas, 1 to 8";
+    let sized = with_number(alloc, start, "replicas", sizes, "3", help)?;
+    let counts = value_parser!(u32).range(1..=1000);
+    let help = "How many updates each makes, 1 to 1000";
+    with_number(alloc, sized, "each", counts, "10", help)
 }
 
-fn program<'a>(alloc: Global) -> Result<Command<'a>, AllocError>
-    ensures app { IfOk result (λ made. app_of made ≡ lattice) }
+// The program's command before it has subcommands.
+fn alone<'a>(alloc: Global) -> Command<'a>
+    ensures { app_of result ≡ lattice_alone }
 {
-    let random = random_command(alloc)?;
-    let threads = threads_command(alloc)?;
     Command::new(alloc, "lattice")
         .version("1")
         .about(ABOUT)
         .subcommand_required(true)
         .disable_help_subcommand(true)
-        .subcommand(play_command(alloc))?
-        .subcommand(random)?
-        .subcommand(threads)
+}
+
+fn with_random<'a>(alloc: Global, command: Command<'a>) -> Result<Command<'a>, AllocError>
+    ensures { IfOk result (λ made.
+        app_of made ≡ with_subcommand (app_of command.entry) random.top) }
+{
+    let random = random_command(alloc)?;
+    command.subcommand(random)
+}
+
+fn with_threads<'a>(alloc: Global, command: Command<'a>) -> Result<Command<'a>, AllocError>
+    ensures { IfOk result (λ made.
+        app_of made ≡ with_subcommand (app_of command.entry) threads.top) }
+{
+    let threads = threads_command(alloc)?;
+    command.subcommand(threads)
+}
+
+// Each step owns one command: one that owns three takes a minute to prove.
+fn program<'a>(alloc: Global) -> Result<Command<'a>, AllocError>
+    ensures app { IfOk result (λ made. app_of made ≡ lattice) }
+{
+    let plays = alone(alloc).subcommand(play_command(alloc))?;
+    let draws = with_random(alloc, plays)?;
+    with_threads(alloc, draws)
 }
 
 // The numbers of a draw, each of which is there and in its range.

@@ -122,9 +122,9 @@ pub fn run_boxed<P: Threads + Wait + Sync, R: Read, W: Write, E: Listener>(
     let make = || -> Result<Numbered<Box<dyn Replicated + Send>>, AllocError>
         ensures { IfOk result (λ objects. states_of state objects.items ≡ standard_objects) }
     {
+        let set: Box<dyn Replicated + Send> = Box::new(alloc, OrSet::new(alloc))?;
         let counter: Box<dyn Replicated + Send> = Box::new(alloc, Counter::new(alloc))?;
         let register: Box<dyn Replicated + Send> = Box::new(alloc, MaxRegister::new(alloc))?;
-        let set: Box<dyn Replicated + Send> = Box::new(alloc, OrSet::new(alloc))?;
         numbered(alloc, counter, register, set)
     };
     run_with(rt, alloc, words, input, output, errors, make)

@@ -13,28 +13,6 @@ use std::alloc::Global;
 use std::process::Abort;
 use std::sync::Wait;
 
-/// Lets offers to acceptor 0 through, and no others.
-pub struct OnlyZero;
-
-impl Gate for OnlyZero {
-    fn lets(&self, _from: u8, to: u8, _instance: u8, _ballot: u32) -> bool {
-        to == 0
-    }
-
-    fn inside(&self, _to: u8) {}
-}
-
-/// Lets nothing through.
-pub struct Closed;
-
-impl Gate for Closed {
-    fn lets(&self, _from: u8, _to: u8, _instance: u8, _ballot: u32) -> bool {
-        false
-    }
-
-    fn inside(&self, _to: u8) {}
-}
-
 fn next(rt: &impl Abort, members: &mut Members) -> Member
     ensures { (group : GroupState) (cap replica : ℕ)
         → AreMembersFrom group cap replica members.old
@@ -106,11 +84,12 @@ pub fn resume<R: Wait, G: Gate>(
     }
 }
 
-/// Proposes at object 0, and once more where memory was refused.
+/// Proposes at an object, and once more where memory was refused.
 pub fn decide<R: Wait, G: Gate>(
     rt: &R,
     group: &Group,
     member: &mut Member,
+    commit: u8,
     value: u64,
     rounds: u32,
     gate: &G,
@@ -118,8 +97,8 @@ pub fn decide<R: Wait, G: Gate>(
     requires { IsOf group.now member.old }
     ensures { IsOf group.now member.new }
 {
-    match group.decide(rt, member, 0, value, rounds, gate) {
-        Err(RunnerError::Memory) => group.decide(rt, member, 0, value, rounds, gate),
+    match group.decide(rt, member, commit, value, rounds, gate) {
+        Err(RunnerError::Memory) => group.decide(rt, member, commit, value, rounds, gate),
         end => end,
     }
 }
@@ -141,12 +120,4 @@ pub fn tell(rt: &impl Abort, alloc: Global, group: &Group, from: &mut Member, to
 /// Whether a set has so many updates of each replica.
 pub fn counts(set: &UpdateSet, of: [u32; 3]) -> bool {
     set.count_of(0) == of[0] && set.count_of(1) == of[1] && set.count_of(2) == of[2]
-}
-
-pub fn is_learnt(end: &Result<Learned, RunnerError>, ballot: u32, of: [u32; 3]) -> bool {
-    matches!(end, Ok(learned) if learned.ballot == ballot && counts(&learned.updates, of))
-}
-
-pub fn is_resumed(end: &Result<Option<Learned>, RunnerError>, ballot: u32, of: [u32; 3]) -> bool {
-    matches!(end, Ok(Some(learned)) if learned.ballot == ballot && counts(&learned.updates, of))
 }

@@ -1,35 +1,106 @@
-// Notes between members, in one thread.
-use super::helpers::{Closed, OnlyZero, add, counts, is_resumed, resume, tell, three};
+// Notes between members, as tables.
+use super::steps::{Comes, Does, Has, Lets, Play, Step, plays};
 use la_runner::RunnerError;
-use la_shared::FreeGate;
 
-// What the first two learnt the third one hears of once its offers are let through, and then tells.
-#[test]
-fn a_note_brings_the_larger_view(rt: HostRuntime) {
-    let (group, mut zero, mut one, mut two) = three(&rt, rt.alloc(), &[1, 1, 1]);
-    assert!(rt; add(&rt, &group, &mut zero, 5, 1, &FreeGate).is_ok());
-    assert!(rt; add(&rt, &group, &mut one, 2, 2, &FreeGate).is_ok());
-    let _ = add(&rt, &group, &mut two, 1, 5, &OnlyZero);
-    let resumed = resume(&rt, &group, &mut two, 2, &FreeGate);
-    tell(&rt, rt.alloc(), &group, &mut two, &mut zero);
-    assert!(rt; is_resumed(&resumed, 2, [1, 1, 1]) && counts(zero.view(), [1, 1, 1]));
-}
+const NONE: [bool; 3] = [false, false, false];
+
+// A set is learnt in instance 0.
+const IN_0: [bool; 3] = [true, false, false];
+
+const FIRST: Step = Step(
+    0,
+    Does::Adds(5, 1),
+    Lets::All,
+    Comes::Learns(1, [1, 0, 0]),
+    Has([1, 0, 0], 1, IN_0, None),
+);
+
+const PLAYS: [Play; 3] = [
+    // What the first two learnt the third one hears of once its offers are let through, and then
+    // tells.
+    Play {
+        name: "a note brings the larger view",
+        votes: [1, 1, 1],
+        steps: &[
+            FIRST,
+            Step(
+                1,
+                Does::Adds(2, 2),
+                Lets::All,
+                Comes::Learns(2, [1, 1, 0]),
+                Has([1, 1, 0], 1, IN_0, None),
+            ),
+            Step(
+                2,
+                Does::Adds(1, 5),
+                Lets::ToZero,
+                Comes::Fails(RunnerError::NoMajority),
+                Has([0, 0, 0], 1, NONE, None),
+            ),
+            Step(
+                2,
+                Does::Resumes(2),
+                Lets::All,
+                Comes::Learns(2, [1, 1, 1]),
+                Has([1, 1, 1], 1, IN_0, None),
+            ),
+            Step(
+                0,
+                Does::Meets(2),
+                Lets::All,
+                Comes::Nothing,
+                Has([1, 1, 1], 1, IN_0, None),
+            ),
+        ],
+    },
+    Play {
+        name: "a note brings no smaller view",
+        votes: [1, 1, 1],
+        steps: &[
+            FIRST,
+            Step(
+                0,
+                Does::Meets(1),
+                Lets::All,
+                Comes::Nothing,
+                Has([1, 0, 0], 1, IN_0, None),
+            ),
+            Step(
+                1,
+                Does::Looks,
+                Lets::All,
+                Comes::Nothing,
+                Has([0, 0, 0], 0, NONE, None),
+            ),
+        ],
+    },
+    // Its offers are all lost, and what it is told it shows.
+    Play {
+        name: "a member that reaches nobody learns by notes alone",
+        votes: [1, 1, 1],
+        steps: &[
+            Step(
+                1,
+                Does::Adds(2, 3),
+                Lets::Nothing,
+                Comes::Fails(RunnerError::NoMajority),
+                Has([0, 0, 0], 1, NONE, None),
+            ),
+            FIRST,
+            Step(
+                1,
+                Does::Meets(0),
+                Lets::All,
+                Comes::Nothing,
+                Has([1, 0, 0], 1, NONE, None),
+            ),
+        ],
+    },
+];
 
 #[test]
-fn a_note_brings_no_smaller_view(rt: HostRuntime) {
-    let (group, mut zero, mut one, _two) = three(&rt, rt.alloc(), &[1, 1, 1]);
-    assert!(rt; add(&rt, &group, &mut zero, 5, 1, &FreeGate).is_ok());
-    tell(&rt, rt.alloc(), &group, &mut one, &mut zero);
-    assert!(rt; counts(zero.view(), [1, 0, 0]) && one.view().len() == 0);
-}
-
-// Its offers are all lost, and what it is told it shows.
-#[test]
-fn a_member_that_reaches_nobody_learns_by_notes_alone(rt: HostRuntime) {
-    let (group, mut zero, mut one, _two) = three(&rt, rt.alloc(), &[1, 1, 1]);
-    let end = add(&rt, &group, &mut one, 2, 3, &Closed);
-    assert!(rt; matches!(end, Err(RunnerError::NoMajority)) && one.view().len() == 0);
-    assert!(rt; add(&rt, &group, &mut zero, 5, 1, &FreeGate).is_ok());
-    tell(&rt, rt.alloc(), &group, &mut zero, &mut one);
-    assert!(rt; counts(one.view(), [1, 0, 0]) && one.last_learnt(0).is_none());
+fn notes_are_met(rt: HostRuntime) {
+    for play in &PLAYS {
+        assert!(rt; plays(&rt, rt.alloc(), play), "{}", play.name);
+    }
 }

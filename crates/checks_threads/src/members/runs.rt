@@ -1,61 +1,140 @@
-use super::helpers::{OnlyZero, add, counts, is_learnt, is_resumed, resume, three};
+// Updates of members, as tables.
+use super::steps::{Comes, Does, Has, Lets, Play, Step, plays};
 use la_proposer::Votes;
 use la_runner::{Group, RunnerError};
-use la_shared::FreeGate;
 
-// The second member's first ballot is refused by all, and refined: its update is learnt in the next.
-#[test]
-fn a_refused_update_is_learnt_when_it_resumes(rt: HostRuntime) {
-    let (group, mut zero, mut one, _two) = three(&rt, rt.alloc(), &[1, 1, 1]);
-    let first = add(&rt, &group, &mut zero, 5, 1, &FreeGate);
-    assert!(rt; is_learnt(&first, 1, [1, 0, 0]) && counts(zero.view(), [1, 0, 0]));
-    let second = add(&rt, &group, &mut one, 2, 1, &FreeGate);
-    assert!(rt; matches!(second, Err(RunnerError::TryAgain)) && one.view().len() == 0);
-    let resumed = resume(&rt, &group, &mut one, 1, &FreeGate);
-    assert!(rt; is_resumed(&resumed, 2, [1, 1, 0]) && counts(one.view(), [1, 1, 0]));
-}
+const NONE: [bool; 3] = [false, false, false];
+
+// A set is learnt in instance 0.
+const IN_0: [bool; 3] = [true, false, false];
+
+const NEW: Has = Has([0, 0, 0], 0, NONE, None);
+
+// One update is submitted, and no set is learnt.
+const WAITS: Has = Has([0, 0, 0], 1, NONE, None);
+
+const PLAYS: [Play; 6] = [
+    // The second member's first ballot is refused by all, and refined: its update is learnt in the
+    // next.
+    Play {
+        name: "a refused update is learnt when it resumes",
+        votes: [1, 1, 1],
+        steps: &[
+            Step(
+                0,
+                Does::Adds(5, 1),
+                Lets::All,
+                Comes::Learns(1, [1, 0, 0]),
+                Has([1, 0, 0], 1, IN_0, None),
+            ),
+            Step(
+                1,
+                Does::Adds(2, 1),
+                Lets::All,
+                Comes::Fails(RunnerError::TryAgain),
+                WAITS,
+            ),
+            Step(
+                1,
+                Does::Resumes(1),
+                Lets::All,
+                Comes::Learns(2, [1, 1, 0]),
+                Has([1, 1, 0], 1, IN_0, None),
+            ),
+        ],
+    },
+    Play {
+        name: "nothing is under way once all is learnt",
+        votes: [1, 1, 1],
+        steps: &[
+            Step(0, Does::Resumes(0), Lets::All, Comes::Nothing, NEW),
+            Step(
+                0,
+                Does::Adds(1, 1),
+                Lets::All,
+                Comes::Learns(1, [1, 0, 0]),
+                Has([1, 0, 0], 1, IN_0, None),
+            ),
+            Step(
+                0,
+                Does::Resumes(1),
+                Lets::All,
+                Comes::Nothing,
+                Has([1, 0, 0], 1, IN_0, None),
+            ),
+        ],
+    },
+    // What is let through is no majority, and the ballot stays open for as many rounds as there are.
+    Play {
+        name: "one acceptor of three is no majority",
+        votes: [1, 1, 1],
+        steps: &[
+            Step(
+                2,
+                Does::Adds(1, 5),
+                Lets::ToZero,
+                Comes::Fails(RunnerError::NoMajority),
+                WAITS,
+            ),
+            Step(
+                2,
+                Does::Resumes(1),
+                Lets::All,
+                Comes::Learns(1, [0, 0, 1]),
+                Has([0, 0, 1], 1, IN_0, None),
+            ),
+        ],
+    },
+    Play {
+        name: "without rounds an update is submitted alone",
+        votes: [1, 1, 1],
+        steps: &[
+            Step(
+                0,
+                Does::Adds(1, 0),
+                Lets::All,
+                Comes::Fails(RunnerError::TryAgain),
+                WAITS,
+            ),
+            Step(
+                0,
+                Does::Resumes(1),
+                Lets::All,
+                Comes::Learns(1, [1, 0, 0]),
+                Has([1, 0, 0], 1, IN_0, None),
+            ),
+        ],
+    },
+    // Three votes of five are a majority alone; two of four are half.
+    Play {
+        name: "a heavy acceptor is a majority alone",
+        votes: [3, 1, 1],
+        steps: &[Step(
+            0,
+            Does::Adds(1, 1),
+            Lets::ToZero,
+            Comes::Learns(1, [1, 0, 0]),
+            Has([1, 0, 0], 1, IN_0, None),
+        )],
+    },
+    Play {
+        name: "half the votes are no majority",
+        votes: [2, 1, 1],
+        steps: &[Step(
+            0,
+            Does::Adds(1, 3),
+            Lets::ToZero,
+            Comes::Fails(RunnerError::NoMajority),
+            WAITS,
+        )],
+    },
+];
 
 #[test]
-fn nothing_is_under_way_once_all_is_learnt(rt: HostRuntime) {
-    let (group, mut zero, _one, _two) = three(&rt, rt.alloc(), &[1, 1, 1]);
-    assert!(rt; matches!(resume(&rt, &group, &mut zero, 0, &FreeGate), Ok(None)));
-    let first = add(&rt, &group, &mut zero, 1, 1, &FreeGate);
-    assert!(rt; is_learnt(&first, 1, [1, 0, 0]));
-    assert!(rt; matches!(resume(&rt, &group, &mut zero, 1, &FreeGate), Ok(None)));
-}
-
-// What the gate leaves is no majority, and the ballot stays open for as many rounds as there are.
-#[test]
-fn one_acceptor_of_three_is_no_majority(rt: HostRuntime) {
-    let (group, _zero, _one, mut two) = three(&rt, rt.alloc(), &[1, 1, 1]);
-    let end = add(&rt, &group, &mut two, 1, 5, &OnlyZero);
-    assert!(rt; matches!(end, Err(RunnerError::NoMajority)) && two.submitted() == 1);
-    let resumed = resume(&rt, &group, &mut two, 1, &FreeGate);
-    assert!(rt; is_resumed(&resumed, 1, [0, 0, 1]));
-}
-
-#[test]
-fn without_rounds_an_update_is_submitted_alone(rt: HostRuntime) {
-    let (group, mut zero, _one, _two) = three(&rt, rt.alloc(), &[1, 1, 1]);
-    let end = add(&rt, &group, &mut zero, 1, 0, &FreeGate);
-    assert!(rt; matches!(end, Err(RunnerError::TryAgain)));
-    let resumed = resume(&rt, &group, &mut zero, 1, &FreeGate);
-    assert!(rt; is_resumed(&resumed, 1, [1, 0, 0]));
-}
-
-// Three votes of five are a majority alone; two of four are half.
-#[test]
-fn a_heavy_acceptor_is_a_majority_alone(rt: HostRuntime) {
-    let (group, mut zero, _one, _two) = three(&rt, rt.alloc(), &[3, 1, 1]);
-    let end = add(&rt, &group, &mut zero, 1, 1, &OnlyZero);
-    assert!(rt; is_learnt(&end, 1, [1, 0, 0]));
-}
-
-#[test]
-fn half_the_votes_are_no_majority(rt: HostRuntime) {
-    let (group, mut zero, _one, _two) = three(&rt, rt.alloc(), &[2, 1, 1]);
-    let end = add(&rt, &group, &mut zero, 1, 3, &OnlyZero);
-    assert!(rt; matches!(end, Err(RunnerError::NoMajority)));
+fn updates_are_learnt(rt: HostRuntime) {
+    for play in &PLAYS {
+        assert!(rt; plays(&rt, rt.alloc(), play), "{}", play.name);
+    }
 }
 
 fn is_refused(rt: &HostRuntime, replicas: u8, commits: u8, cap: u32, votes: Votes) -> bool {

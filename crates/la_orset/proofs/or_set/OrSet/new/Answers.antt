@@ -1,15 +1,11 @@
-use Rattle.std.proofs.Common.{◌∙◌, sym, ap, is_some}
-use Rattle.std.specs.Ordering.{nat_cmp}
-use Rattle.std.specs.FinMap as map
-use Rattle.la_object.specs.IdOrder.{id_cmp}
-use Rattle.la_orset.specs.Index.{tags_at, tags_or, is_tag}
+use Rattle.std.proofs.Common.{ap, ◌∙◌}
+use Rattle.la_object.specs.declared.state.State.TheVariants.{Set}
+use Rattle.la_orset.specs.Puts.{adds_of, gone_of}
+use Rattle.la_orset.proofs.Absorbed.{adds_empty, gone_empty, index_empty}
 use Rattle.la_orset.proofs.or_set.OrSet.new.Goals as goal
 
 pub invariant_of-result : goal.invariant_of-result
-invariant_of-result c = record {
-  indexed = λ x id.
-      ap (λ i. map.contains_key (tags_at i x) id) c.new-3.ensures
-      ∙ ap (λ g. map.contains_key (tags_or g) id) (map.get-empty nat_cmp x)
-      ∙ ap is_some (map.get-empty id_cmp id)
-      ∙ sym (ap (is_tag c.new-2.result x id) (ap (λ m. map.get m id) c.new.ensures ∙ map.get-empty id_cmp id));
-}
+invariant_of-result c = record { indexed = index_empty c.new.result _ c.new-3.result c.new.ensures c.new-3.ensures }
+
+pub returns : goal.returns
+returns c = λ i. Set ((ap adds_of c.new.ensures ∙ adds_empty) i) (((λ j. gone_of (c.new-2.ensures j) (c.new.ensures j)) ∙ gone_empty) i)

@@ -1,46 +1,64 @@
-use Rattle.std.proofs.Common.{◌≡◌, Bool, true, false, not, if◌then◌else◌, refl, sym, ap, ◌∙◌, subst}
-use Rattle.std.specs.FinMap as map
-use Rattle.la_object.proofs.lemmas.IdMaps.{taken_back}
+use Rattle.std.proofs.Common.{false, ap, sym, ◌∙◌, subst}
+use Rattle.la_orset.specs.declared.rows.TheConstants.{GONE}
 use Rattle.la_orset.specs.Index.{IsIndex}
-use Rattle.la_orset.proofs.LiveTags.{none_of}
-use Rattle.la_orset.proofs.Held.{put_gone, put_live}
+use Rattle.la_orset.specs.Rows.{known}
+use Rattle.la_orset.specs.Puts.{adds_of, gone_of}
+use Rattle.la_orset.proofs.LiveTags.{either_way}
+use Rattle.la_orset.proofs.Absorbed.{there_adds, adds_none, put_adds, put_gone_same, put_gone_early, index_early, index_live, index_back, no_tag}
 use Rattle.la_orset.proofs.or_set.OrSet.put.Goals as goal
 
-not_true : (b : Bool) → not b ≡ true → b ≡ false
-not_true true h = sym h
-not_true false h = refl
+pub returns-then-has-clause-puts : goal.returns-then-has-clause-puts
+returns-then-has-clause-puts c = there_adds c.args.self.now.puts c.args.id c.args.element (sym c.has.ensures ∙ c.if-has.true)
 
-pub invariant_of-self-then-has : goal.invariant_of-self-then-has
-invariant_of-self-then-has c =
-    let s = c.args.self.now in let id = c.args.id in let x = c.args.element in
-    let new : map.contains_key s.puts id ≡ false = not_true _ (sym c.in_ok-insert_new.ensures.new ∙ c.if-not-branch.false) in
-    let is : c.insert_new.new.self ≡ map.insert s.puts id x = c.in_ok-insert_new.ensures.ok ∙ ap (λ b. if b then s.puts else map.insert s.puts id x) new in
+pub invariant_of-self : goal.invariant_of-self
+invariant_of-self c =
+    let s = c.args.self.now in let id = c.args.id in let k = known (record { number = id.number; place = GONE; element = c.args.element }) in
+    let new = sym c.has.ensures ∙ c.if-has.false in
     record {
-      indexed = subst (λ a. IsIndex a s.gone s.live) (sym is) (put_gone s.puts s.gone id x s.live s.indexed (none_of (map.get s.puts id) new) (sym c.has.ensures ∙ c.if-has.true));
+      indexed = either_way c.insert.result _ _ (IsIndex (adds_of c.insert.new.self) (gone_of s.early c.insert.new.self) s.live) c.insert.ensures.ok c.insert.ensures.err
+          (λ is. subst (λ p. IsIndex (adds_of p) (gone_of s.early p) s.live) (sym is) (index_early s.puts id k new s.early s.live s.indexed (sym c.has-2.ensures ∙ c.if-has-2.true)))
+          (λ is. subst (λ p. IsIndex (adds_of p) (gone_of s.early p) s.live) (sym is) s.indexed);
     }
+
+pub returns-then-has-2-clause-puts : goal.returns-then-has-2-clause-puts
+returns-then-has-2-clause-puts c =
+    let s = c.args.self.now in let id = c.args.id in let k = known (record { number = id.number; place = GONE; element = c.args.element }) in
+    ap adds_of c.in_ok-insert.ensures.ok ∙ put_adds s.puts id k (sym c.has.ensures ∙ c.if-has.false)
+
+pub returns-then-has-2-clause-gone : goal.returns-then-has-2-clause-gone
+returns-then-has-2-clause-gone c =
+    let s = c.args.self.now in let id = c.args.id in let k = known (record { number = id.number; place = GONE; element = c.args.element }) in
+    ap (gone_of s.early) c.in_ok-insert.ensures.ok ∙ put_gone_early s.puts id k (sym c.has.ensures ∙ c.if-has.false) s.early (sym c.has-2.ensures ∙ c.if-has-2.true)
+
+pub insert-requires-2 : goal.insert-requires-2
+insert-requires-2 c =
+    let s = c.args.self.now in let id = c.args.id in
+    no_tag (adds_of s.puts) (gone_of s.early s.puts) id c.args.element s.live s.indexed (adds_none s.puts id (record { element = c.args.element; gone = false }) (sym c.has.ensures ∙ c.if-has.false))
 
 pub invariant_of-self-in-Err : goal.invariant_of-self-in-Err
 invariant_of-self-in-Err c =
-    let s = c.args.self.now in let id = c.args.id in let x = c.args.element in
-    let new : map.contains_key s.puts id ≡ false = not_true _ (sym c.in_ok-insert_new.ensures.new ∙ c.if-not-branch.false) in
-    let is : c.insert_new.new.self ≡ map.insert s.puts id x = c.in_ok-insert_new.ensures.ok ∙ ap (λ b. if b then s.puts else map.insert s.puts id x) new in
-    let back : c.remove.new.self ≡ s.puts = c.remove.ensures ∙ ap (λ m. map.remove m id) is ∙ taken_back s.puts id x (none_of (map.get s.puts id) new) in
+    let s = c.args.self.now in let id = c.args.id in
+    let none = adds_none s.puts id (record { element = c.args.element; gone = false }) (sym c.has.ensures ∙ c.if-has.false) in
     record {
-      indexed = subst (λ l. IsIndex c.remove.new.self s.gone l) (sym c.in-Err.ensures.err) (subst (λ a. IsIndex a s.gone s.live) (sym back) s.indexed);
+      indexed = subst (λ p. IsIndex (adds_of p) (gone_of s.early p) c.remove.new.self) (sym c.in-Err.ensures.err)
+          (index_back (adds_of s.puts) (gone_of s.early s.puts) id c.args.element s.live c.insert-2.new.self c.remove.new.self s.indexed none c.in_ok-place.ensures.ok c.remove.ensures);
     }
-
-pub returns-in-Err-clause-err : goal.returns-in-Err-clause-err
-returns-in-Err-clause-err c =
-    let s = c.args.self.now in let id = c.args.id in let x = c.args.element in
-    let new : map.contains_key s.puts id ≡ false = not_true _ (sym c.in_ok-insert_new.ensures.new ∙ c.if-not-branch.false) in
-    let is : c.insert_new.new.self ≡ map.insert s.puts id x = c.in_ok-insert_new.ensures.ok ∙ ap (λ b. if b then s.puts else map.insert s.puts id x) new in
-    c.remove.ensures ∙ ap (λ m. map.remove m id) is ∙ taken_back s.puts id x (none_of (map.get s.puts id) new)
 
 pub invariant_of-self-in_default : goal.invariant_of-self-in_default
 invariant_of-self-in_default c =
-    let s = c.args.self.now in let id = c.args.id in let x = c.args.element in
-    let new : map.contains_key s.puts id ≡ false = not_true _ (sym c.in_ok-insert_new.ensures.new ∙ c.if-not-branch.false) in
-    let is : c.insert_new.new.self ≡ map.insert s.puts id x = c.in_ok-insert_new.ensures.ok ∙ ap (λ b. if b then s.puts else map.insert s.puts id x) new in
+    let s = c.args.self.now in let id = c.args.id in let k = known (record { number = id.number; place = c.hint_of.result; element = c.args.element }) in
+    let new = sym c.has.ensures ∙ c.if-has.false in
     record {
-      indexed = subst (λ a. IsIndex a s.gone c.insert.new.self) (sym is) (put_live s.puts s.gone id x s.live s.indexed (none_of (map.get s.puts id) new) c.insert.new.self (sym c.has.ensures ∙ c.if-has.false) c.in_default.ensures.ok);
+      indexed = subst (λ p. IsIndex (adds_of p) (gone_of s.early p) c.insert-2.new.self) (sym c.in_default.ensures.ok)
+          (index_live s.puts id k new s.early s.live s.indexed (sym c.has-2.ensures ∙ c.if-has-2.false) c.insert-2.new.self c.hint_of.ensures c.in_ok-place.ensures.ok);
     }
+
+pub returns-clause-puts : goal.returns-clause-puts
+returns-clause-puts c =
+    let s = c.args.self.now in let id = c.args.id in let k = known (record { number = id.number; place = c.hint_of.result; element = c.args.element }) in
+    ap adds_of c.in_default.ensures.ok ∙ put_adds s.puts id k (sym c.has.ensures ∙ c.if-has.false)
+
+pub returns-clause-gone : goal.returns-clause-gone
+returns-clause-gone c =
+    let s = c.args.self.now in let id = c.args.id in let k = known (record { number = id.number; place = c.hint_of.result; element = c.args.element }) in
+    ap (gone_of s.early) c.in_default.ensures.ok ∙ put_gone_same s.puts id k (sym c.has.ensures ∙ c.if-has.false) s.early c.hint_of.ensures

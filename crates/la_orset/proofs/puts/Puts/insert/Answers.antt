@@ -1,0 +1,16 @@
+use Rattle.std.proofs.Common.{◌<◌, [], Some, length, ap, ◌∙◌, subst, arith}
+use Rattle.std.specs.FinMap as map
+use Rattle.std.proofs.lemmas.List.{get_or_default}
+use Rattle.la_object.specs.IdOrder.{id_cmp}
+use Rattle.la_orset.specs.Rows.{known, IsPut}
+use Rattle.la_orset.proofs.ById.{put_columns}
+use Rattle.la_orset.proofs.puts.Puts.insert.Goals as goal
+
+pub returns-clause-ok : goal.returns-clause-ok
+returns-clause-ok c =
+    let columns = c.widen.new.by_replica.items in let id = c.args.id in
+    let k = known (record { number = id.number; place = c.args.place; element = c.args.element }) in
+    let lt : id.replica < length columns = omega (arith, c.in_ok-widen.ensures.ok) in
+    let here = c.index_mut.ensures.value ∙ get_or_default columns id.replica c.index_mut.result.now [] lt in
+    put_columns columns id c.insert.new.self k lt (subst (λ rows. IsPut rows id.number (Some k) c.insert.new.self) here c.in_ok-insert.ensures.ok)
+    ∙ ap (λ m. map.insert m id k) (ap (map.from_entries {R = id_cmp}) c.widen.ensures.same ∙ c.self.view_is)

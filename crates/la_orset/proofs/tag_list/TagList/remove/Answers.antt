@@ -1,0 +1,28 @@
+use Rattle.std.proofs.Common.{◌≡◌, Some, false, sym, ap, ◌∙◌, subst}
+use Rattle.std.specs.List.{slice_get, list_any, swap_remove, IsDistinct}
+use Rattle.std.specs.FinMap as map
+use Rattle.la_object.specs.IdOrder.{id_cmp}
+use Rattle.la_orset.specs.Index.{id_eq, set_of}
+use Rattle.la_orset.proofs.Lists.{at_place, list-taken, list-taken-distinct, list-absent}
+use Rattle.la_orset.proofs.tag_list.TagList.remove.Goals as goal
+
+pub invariant_of-self : goal.invariant_of-self
+invariant_of-self c =
+    let ids = c.self.inside.ids.items in let id = c.args.id in let place = c.in-Some.place in
+    let at = subst (λ ks. slice_get ks place ≡ Some id) c.as_slice.ensures.value c.in-Some.ensures.found in
+    let same : c.swap_remove.result ≡ id = c.swap_remove.ensures.value ∙ sym (at_place ids place id c.swap_remove.result at).1 in
+    subst (IsDistinct id_eq) (sym (c.swap_remove.ensures.items ∙ ap (swap_remove ids place) same)) (list-taken-distinct ids place id c.self.invariant at)
+
+pub returns : goal.returns
+returns c =
+    let ids = c.self.inside.ids.items in let id = c.args.id in let place = c.in-Some.place in
+    let at = subst (λ ks. slice_get ks place ≡ Some id) c.as_slice.ensures.value c.in-Some.ensures.found in
+    let same : c.swap_remove.result ≡ id = c.swap_remove.ensures.value ∙ sym (at_place ids place id c.swap_remove.result at).1 in
+    ap (set_of {R = id_cmp}) (c.swap_remove.ensures.items ∙ ap (swap_remove ids place) same)
+    ∙ list-taken ids place id c.self.invariant at ∙ ap (λ s. map.remove s id) c.self.view_is
+
+pub returns-in_default : goal.returns-in_default
+returns-in_default c =
+    let ids = c.self.inside.ids.items in let id = c.args.id in
+    let none = subst (λ ks. list_any (id_eq id) ks ≡ false) c.as_slice.ensures.value c.in_default.ensures.none in
+    sym c.self.view_is ∙ list-absent ids id none ∙ ap (λ s. map.remove s id) c.self.view_is
