@@ -19,6 +19,9 @@ use la_streams::{
 use la_world::{Node, Received};
 use std::alloc::{AllocError, Global};
 
+// The room that most notes need, in bytes.
+const LINE: usize = 64;
+
 // Answers a submission or a proposal.
 fn put_taken(out: &mut Vec<u8>, call: &Call, node: &Node<Counter>) -> Result<(), AllocError>
     ensures { OnOk result (out.new.items ≡ out.old.items ++ taken_text node.now.replica (called call.now)) }
@@ -110,7 +113,7 @@ pub fn text_of(
 ) -> Result<Vec<u8>, AllocError>
     ensures { IfOk result (λ text. text.items ≡ call_text before (kept_state machine.now.replicas machine.now.node) (called call.now) (given_of given.now)) }
 {
-    let mut out = Vec::new(alloc);
+    let mut out = Vec::with_capacity(alloc, LINE)?;
     put_taken(&mut out, call, &machine.node)?;
     put_receipt(&mut out, &machine.node, before, call, given)?;
     put_mail(&mut out, machine.replicas, given.done.mail.all())?;

@@ -199,7 +199,8 @@ impl Machine for NodeMachine {
     }
 
     fn write(alloc: Global, input: &Input) -> Result<Vec<u8>, AllocError> {
-        let mut line = Vec::new(alloc);
+        // with room for the line's end
+        let mut line = Vec::with_capacity(alloc, input.line().len().saturating_add(1))?;
         line.extend_from_slice(input.line())?;
         Ok(line)
     }
