@@ -52,6 +52,7 @@ enum OnShelf {
     Absorb,
     AbsorbCompatible,
     Ask,
+    AskBy,
     Observe,
     Retire,
 }
@@ -106,6 +107,10 @@ fn shows_between(shelf: &Shelved, made: &Objects) -> bool {
         && are_alive(&made.all, 1)
 }
 
+fn shows_some(shelf: &Shelved, made: &Objects) -> bool {
+    shows_between(shelf, made) || shows(shelf, made, SECOND, 3)
+}
+
 fn is_at(shelf: &Shelved, before: usize, done: u64) -> bool {
     shelf.view().len() as u64 == done.saturating_add(before as u64)
 }
@@ -154,6 +159,17 @@ fn ask(shelf: &Shelved, made: &Objects) -> Came {
     }
 }
 
+// Where the answer is refused the shelf has so much of the second set as it absorbed.
+fn ask_by(shelf: &mut Shelved, made: &Objects) -> Came {
+    if !made.second.contains_all(shelf.view()) {
+        return Some(false);
+    }
+    match shelf.ask_by(&made.second, 1, &Query::Items) {
+        Ok(answer) => Some(has_items(&answer, &[7, 8, 9]) && shows(shelf, made, SECOND, 3)),
+        Err(it) => refused(it == ShelfError::Memory && shows_some(shelf, made)),
+    }
+}
+
 // The tags of element 7.
 fn are_of_seven(tags: &Tags) -> bool {
     tags.len() == 3 && tags.has(id(0, 1)) && tags.has(id(1, 1)) && tags.has(id(2, 1))
@@ -190,6 +206,7 @@ fn on_shelf(shelf: &mut Shelved, made: &Objects, alloc: Global, call: OnShelf) -
         OnShelf::Absorb => absorb(shelf, made),
         OnShelf::AbsorbCompatible => absorb_compatible(shelf, made),
         OnShelf::Ask => ask(shelf, made),
+        OnShelf::AskBy => ask_by(shelf, made),
         OnShelf::Observe => observe(shelf, made),
         OnShelf::Retire => retire(shelf, made),
     }
@@ -207,6 +224,7 @@ fn all_on_shelves(made: &Objects, alloc: Global) -> Came {
         OnShelf::Absorb,
         OnShelf::AbsorbCompatible,
         OnShelf::Ask,
+        OnShelf::AskBy,
         OnShelf::Observe,
         OnShelf::Retire,
     ] {

@@ -1,11 +1,12 @@
 -- What a participant returns: by the set that it learnt in the second agreement.
-use Rattle.std.specs.Prelude.{ℕ, Bool, true, false, List, [], ◌∷◌, Option, option_map, if◌then◌else◌}
+use Rattle.std.specs.Prelude.{ℕ, Bool, true, false, List, [], ◌∷◌, Option, None, option_map, if◌then◌else◌}
 use Rattle.std.specs.List.{list_all}
 use Rattle.la_set.specs.Histories.{Histories}
 use Rattle.la_commit.specs.declared.outcome.Outcome.{Outcome}
 use Rattle.la_commit.specs.declared.outcome.Outcome.TheVariants.{Commit, Adopt}
 use Rattle.la_commit.specs.declared.vote.Vote.{Vote}
 use Rattle.la_commit.specs.Votes.{votes, sole_votes, own_vote}
+use Rattle.la_commit.specs.Instances.{is_second_instance}
 
 -- every vote of a set says that its value is the sole one
 abbrev pub are_all_sole : Histories → Bool
@@ -24,6 +25,10 @@ outcome s own = outcome_by (are_all_sole s) (sole_votes s) own
 -- the same, with the value of the participant's own vote in the set
 abbrev pub outcome_of : (second : Histories) → (participant : ℕ) → Option Outcome
 outcome_of s p = option_map (λ (v : Vote). outcome s v.value) (own_vote s p)
+
+-- the outcome by a set that p learnt in i: where this is a second instance
+abbrev pub outcome_in : (i p : ℕ) → Histories → Option Outcome
+outcome_in i p learnt = if is_second_instance i then outcome_of learnt p else None
 
 abbrev pub value_of : Outcome → ℕ
 value_of (Commit value) = value

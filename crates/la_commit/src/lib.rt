@@ -21,5 +21,5 @@ pub use instance::{
 };
 pub use learnt::own_vote;
 pub use outcome::Outcome;
-pub use participant::{Done, First, Fresh, Second, outcome_of, second_vote};
+pub use participant::{Done, First, Fresh, Second, outcome_in, outcome_of, second_vote};
 pub use vote::Vote;

@@ -1,9 +1,9 @@
 ghost use Rattle.std.specs.Prelude.{◌≡◌, ◌↔◌, IsOk, IfOk, IfErr};
 ghost use Rattle.la_commit.specs.Votes.{first_vote_for, second_vote_for, second_vote, HoldsVote};
-ghost use Rattle.la_commit.specs.Outcomes.{outcome, outcome_of};
+ghost use Rattle.la_commit.specs.Outcomes.{outcome, outcome_of, outcome_in};
 
 use crate::learnt::{all_have, all_sole, first_sole, own_vote};
-use crate::{NotMine, Outcome, Vote};
+use crate::{NotMine, Outcome, Vote, is_second_instance};
 use la_set::UpdateSet;
 use std::marker::Model;
 
@@ -196,4 +196,16 @@ pub fn outcome_of(participant: u8, learnt: &UpdateSet) -> Option<Outcome>
     let vote = own_vote(learnt, participant)?;
     let (_, outcome) = Second::resume(participant, vote).second(learnt).ok()?;
     Some(outcome)
+}
+
+/// The outcome to which a set leads that the participant learnt in this instance of a group: that of
+/// [`outcome_of`] where it is the second instance of an object, and else `None`.
+pub fn outcome_in(instance: u8, participant: u8, learnt: &UpdateSet) -> Option<Outcome>
+    ensures { result ≡ outcome_in instance participant learnt.now }
+{
+    if is_second_instance(instance) {
+        outcome_of(participant, learnt)
+    } else {
+        None
+    }
 }

@@ -100,6 +100,35 @@ impl<B: Replicated> Shelf<B> {
         }
     }
 
+    /// Asks the object under a number once the shelf has absorbed a set that contains the view, as
+    /// [`Shelf::absorb_compatible`] does: the cost is that of what is new, and of the answer.
+    ///
+    /// `NoSuchObject` comes where there is none under the number, and leaves the shelf as it was; else
+    /// `Memory`, after which the shelf may have absorbed some of the set.
+    pub fn ask_by(
+        &mut self,
+        set: &UpdateSet,
+        number: u16,
+        query: &Query,
+    ) -> Result<Answer, ShelfError>
+        requires { IsSubset self.old.view set.now }
+        ensures ok { IfOk result (λ answer.
+            answer_at (record self.old { view = set.now }) number query.now ≡ Some answer) }
+        ensures follows { OnOk result (self.new ≡ record self.old { view = set.now }) }
+        ensures error { IfErr result (IsAskRefusal (kind_at self.old.objects number)) }
+        ensures objects { self.new.objects ≡ self.old.objects }
+        ensures within { IsSubset self.new.view set.now }
+        ensures absent { kind_at self.old.objects number ≡ None → self.new ≡ self.old }
+    {
+        if !self.has(number) {
+            return Err(ShelfError::NoSuchObject);
+        }
+        match self.absorb_compatible(set) {
+            Ok(_) => self.ask(number, query),
+            Err(_) => Err(ShelfError::Memory),
+        }
+    }
+
     /// The live tags of an element of the object under a number, by the view. `NoSuchObject` comes
     /// exactly where there is none, and else `TooManyTags` exactly where the live tags are more than
     /// a `Remove` may name. Up to [`INLINE_TAGS`](la_set::INLINE_TAGS) tags take no memory.

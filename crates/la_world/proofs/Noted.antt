@@ -11,7 +11,7 @@ use Rattle.la_world.specs.declared.journal.Journal.{Journal}
 use Rattle.la_world.specs.declared.speaker.Speaker.{Speaker}
 use Rattle.la_world.specs.declared.step.Step.{Step}
 use Rattle.la_world.specs.Events.{Event}
-use Rattle.la_world.specs.Outcomes.{outcome_in}
+use Rattle.la_commit.specs.Outcomes.{outcome_in}
 use Rattle.la_world.specs.Printable.{named_by, IsPrintable}
 use Rattle.la_world.specs.Shown.{shown_by, learnings_by, step_by}
 use Rattle.la_world.specs.StandsFor.{World, world_of}

@@ -16,7 +16,7 @@ use Rattle.la_replica.specs.Steps.{Step, learnt_in}
 use Rattle.la_replica.specs.Steps as steps
 use Rattle.la_replica.specs.ReplicaState.{ReplicaState, learnt_of, with_instance, sender_of, submits, receives}
 use Rattle.la_world.specs.Votes.{Submission}
-use Rattle.la_world.specs.Outcomes.{outcome_in}
+use Rattle.la_commit.specs.Outcomes.{outcome_in}
 use Rattle.la_world.specs.Calls.{returned_by}
 use Rattle.la_world.specs.Following.{Taken, with_vote, vote_due, then_votes, takes}
 use Rattle.la_world.specs.Nodes.{IsParticipant, OutcomesStayIn, ReturnsIn, outcome_due}

@@ -25,7 +25,8 @@ use Rattle.la_world.specs.Sent.{sent_at, sent}
 use Rattle.la_world.specs.Told.{told_at, told}
 use Rattle.la_world.specs.Ballots.{opened_by, learnt_by, round, is_open}
 use Rattle.la_world.specs.Submissions.{submitted, second_vote_after}
-use Rattle.la_world.specs.Outcomes.{outcome_in, outcome_by}
+use Rattle.la_commit.specs.Outcomes.{outcome_in}
+use Rattle.la_world.specs.Outcomes.{outcome_by}
 use Rattle.la_world.specs.Shown.{shown_by, submitter}
 use Rattle.la_world.specs.Playing.{next_ballot, opens_or_waits, submits, receives, entry, trace}
 use Rattle.la_world.specs.Learnings.{learning_of, learnt}

@@ -21,7 +21,7 @@ use Rattle.la_world.specs.declared.config.Config.{Config}
 use Rattle.la_world.specs.declared.error.WorldError.{WorldError}
 use Rattle.la_world.specs.declared.error.WorldError.TheVariants.{BadConfig, NoSuchReplica, NoSuchCommit, AlreadyProposed, Memory}
 use Rattle.la_world.specs.Groups.{IsConfig}
-use Rattle.la_world.specs.Outcomes.{outcome_in}
+use Rattle.la_commit.specs.Outcomes.{outcome_in}
 use Rattle.la_world.specs.Calls.{returned_by}
 
 pub record NodeState : Type 0 where

@@ -1,11 +1,10 @@
 -- What the participants of adopt-commit objects return: each by the set that it learnt in the
 -- object's second instance.
-use Rattle.std.specs.Prelude.{ℕ, List, filter_map, flat_map, Option, None, option_map, option_and_then, if◌then◌else◌}
+use Rattle.std.specs.Prelude.{ℕ, List, filter_map, flat_map, Option, option_map, option_and_then}
 use Rattle.std.specs.List.{range_with_len}
-use Rattle.la_set.specs.Histories.{Histories}
 use Rattle.la_commit.specs.declared.outcome.Outcome.{Outcome}
-use Rattle.la_commit.specs.Outcomes.{outcome_of}
-use Rattle.la_commit.specs.Instances.{second_instance, is_second_instance}
+use Rattle.la_commit.specs.Outcomes.{outcome_of, outcome_in}
+use Rattle.la_commit.specs.Instances.{second_instance}
 use Rattle.la_replica.specs.Messages.{group}
 use Rattle.la_world.specs.declared.report.Decision.{Decision}
 use Rattle.la_world.specs.declared.step.Opening.{Opening}
@@ -13,11 +12,7 @@ use Rattle.la_world.specs.Groups.{Group, replicas}
 use Rattle.la_world.specs.Trace.{Trace}
 use Rattle.la_world.specs.Learnings.{last_learnt}
 
--- the outcome by a set that r learnt in i: where this is a second instance
-abbrev pub outcome_in : (i r : ℕ) → Histories → Option Outcome
-outcome_in i r learnt = if is_second_instance i then outcome_of learnt r else None
-
--- the same of a learnt ballot
+-- the outcome by a learnt ballot, where this is of a second instance
 abbrev pub outcome_by : Opening → Option Outcome
 outcome_by b = outcome_in b.instance b.replica b.updates
 

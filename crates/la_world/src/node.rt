@@ -352,13 +352,7 @@ impl<B: Replicated> Node<B> {
         ensures within { IsSubset self.new.shelf.view self.new.replica.view }
         ensures absent { kind_at self.old.shelf.objects object ≡ None → self.new ≡ self.old }
     {
-        if !self.shelf.has(object) {
-            return Err(ShelfError::NoSuchObject);
-        }
-        let Ok(()) = self.follow() else {
-            return Err(ShelfError::Memory);
-        };
-        self.shelf.ask(object, query)
+        self.shelf.ask_by(self.replica.view(), object, query)
     }
 
     /// The live tags of an element of an object on the shelf, by the view, which the shelf absorbs

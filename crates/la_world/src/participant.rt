@@ -6,7 +6,7 @@ ghost use Rattle.std.specs.Option.{option_copied};
 ghost use Rattle.la_commit.specs.declared.instance.TheConstants.{MAX_COMMITS};
 ghost use Rattle.la_commit.specs.Instances.{is_first_instance, is_second_instance, commit_of};
 ghost use Rattle.la_commit.specs.Votes.{casts};
-ghost use Rattle.la_commit.specs.Outcomes.{outcome_of};
+ghost use Rattle.la_commit.specs.Outcomes.{outcome_of, outcome_in};
 ghost use Rattle.la_replica.specs.Whole.{Message as MessageOf, Out as OutOf};
 ghost use Rattle.la_replica.specs.Whole.{whole_mail, whole_out};
 ghost use Rattle.la_replica.specs.Received.{received_in};
@@ -16,13 +16,12 @@ ghost use Rattle.la_replica.specs.Steps.{learnt_in};
 ghost use Rattle.la_replica.specs.Changes.{IsPreparedFrom, after_commit, led, LeadsThere};
 ghost use Rattle.la_replica.specs.Refusals.{HasRoom, SubmittingSpares};
 ghost use Rattle.la_world.specs.Votes.{vote_in};
-ghost use Rattle.la_world.specs.Outcomes.{outcome_in};
 ghost use Rattle.la_world.specs.Calls.{returned_by};
 ghost use Rattle.la_world.specs.Following.{VoteFits, takes, with_vote, whole_done};
 
 use crate::done::{Done, Voted};
 use la_commit::{
-    Outcome, Vote, commit_of, is_first_instance, is_second_instance, outcome_of, second_instance,
+    Outcome, Vote, commit_of, is_first_instance, outcome_in, outcome_of, second_instance,
     second_vote,
 };
 use la_replica::{Change, Mail, Message, Out, Replica, ReplicaError, Said};
@@ -45,8 +44,8 @@ pub fn outcome_by(instance: u8, own: u8, learnt: Option<&UpdateSet>) -> Option<O
     ensures { result ≡ option_and_then (outcome_in instance own) (option_copied learnt.entry) }
 {
     match learnt {
-        Some(learnt) if is_second_instance(instance) => outcome_of(own, learnt),
-        _ => None,
+        Some(learnt) => outcome_in(instance, own, learnt),
+        None => None,
     }
 }
 

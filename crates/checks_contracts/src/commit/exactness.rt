@@ -5,7 +5,7 @@ ghost use Rattle.la_commit.specs.Votes.{HoldsVote, first_vote_for};
 
 use la_commit::{
     Done, First, Fresh, MAX_COMMITS, NotMine, Outcome, Second, Vote, commit_of, first_instance,
-    is_first_instance, is_second_instance, laws, outcome_of, own_vote, second_instance,
+    is_first_instance, is_second_instance, laws, outcome_in, outcome_of, own_vote, second_instance,
     second_vote,
 };
 use la_set::{Op, UpdateSet};
@@ -120,6 +120,19 @@ fn outcome_of_is_exact(participant: u8, learnt: &UpdateSet) -> (Option<Outcome>,
     (
         outcome_of(participant, learnt),
         outcome_of(participant, learnt),
+    )
+}
+
+fn outcome_in_is_exact(
+    instance: u8,
+    participant: u8,
+    learnt: &UpdateSet,
+) -> (Option<Outcome>, Option<Outcome>)
+    ensures { result.0 ≡ result.1 }
+{
+    (
+        outcome_in(instance, participant, learnt),
+        outcome_in(instance, participant, learnt),
     )
 }
 

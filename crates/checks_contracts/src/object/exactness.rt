@@ -2,6 +2,7 @@
 // promises equal answers. Where memory may run out for one call and not for the other, it promises
 // them where both succeed; and where both are refused, one refusal.
 ghost use Rattle.std.specs.Prelude.{◌≡◌, IfOk, IfErr, OnOk, OnErr, option_copied};
+ghost use Rattle.la_set.specs.Inclusion.{IsSubset};
 ghost use Rattle.la_set.specs.Join.{IsCompatible};
 ghost use Rattle.la_object.specs.Objects.{HasRoom};
 
@@ -191,6 +192,25 @@ fn absorb_compatible_is_exact<B: Replicated>(
     ensures stopped { IfErr result.0 (λ e. IfErr result.1 (λ f. e ≡ f → one.new ≡ other.new)) }
 {
     (one.absorb_compatible(set), other.absorb_compatible(set))
+}
+
+fn ask_by_is_exact<B: Replicated>(
+    one: &mut Shelf<B>,
+    other: &mut Shelf<B>,
+    set: &UpdateSet,
+    number: u16,
+    query: &Query,
+) -> (Result<Answer, ShelfError>, Result<Answer, ShelfError>)
+    requires shelves { one.old ≡ other.old }
+    requires within { IsSubset one.old.view set.now }
+    ensures answer { IfOk result.0 (λ a. IfOk result.1 (λ b. a ≡ b)) }
+    ensures follows { OnOk result.0 (OnOk result.1 (one.new ≡ other.new)) }
+    ensures refusal { IfErr result.0 (λ e. IfErr result.1 (λ f. e ≡ f)) }
+{
+    (
+        one.ask_by(set, number, query),
+        other.ask_by(set, number, query),
+    )
 }
 
 fn retire_is_exact<B: Replicated>(

@@ -1,5 +1,5 @@
 use Rattle.std.proofs.Common.{rules, ◌<◌, ◌∙◌, length, option_and_then, ap, subst, sym}
-use Rattle.la_world.specs.Outcomes.{outcome_in}
+use Rattle.la_commit.specs.Outcomes.{outcome_in}
 use Rattle.la_world.specs.Events.{Deliver}
 use Rattle.la_world.specs.StandsFor.{StandsFor}
 use Rattle.la_world.specs.Calls.{HoldsInvariant, Plays}
