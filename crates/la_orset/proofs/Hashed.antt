@@ -91,6 +91,12 @@ nat_found es q = get-lookup nat_cmp_total es q ∙ sym (ap (λ t. lookup (t q) e
 pub nat_changed : (es fs : List (ℕ × TagMap)) (x : ℕ) (o : Option TagMap) → ((q : ℕ) → lookup (eqb q) fs ≡ cond (eqb x q) o (lookup (eqb q) es)) → (y : ℕ) → map.get (map.from_entries {R = nat_cmp} fs) y ≡ cond (is_at (nat_cmp x) y) o (map.get (map.from_entries {R = nat_cmp} es) y)
 nat_changed es fs x o h = changed_from es fs x o (by_order eqb (λ q k. is_at (nat_cmp q) k) nat_tests es fs x o h)
 
+pub nat_same : (es fs : List (ℕ × TagMap)) → ((q : ℕ) → lookup (eqb q) fs ≡ lookup (eqb q) es) → map.from_entries {R = nat_cmp} fs ≡ map.from_entries es
+nat_same es fs h = map.same_map nat_cmp_total nat_cmp-IsAntisymmetric _ _ (λ q. nat_found fs q ∙ h q ∙ sym (nat_found es q))
+
+pub nat_changed_same : (es fs gs : List (ℕ × TagMap)) (x : ℕ) (o : Option TagMap) → ((q : ℕ) → lookup (eqb q) fs ≡ cond (eqb x q) o (lookup (eqb q) es)) → map.from_entries {R = nat_cmp} gs ≡ map.from_entries fs → (y : ℕ) → map.get (map.from_entries {R = nat_cmp} gs) y ≡ cond (is_at (nat_cmp x) y) o (map.get (map.from_entries {R = nat_cmp} es) y)
+nat_changed_same es fs gs x o h same y = ap (λ m. map.get m y) same ∙ nat_changed es fs x o h y
+
 pub nat_len : (es : List (ℕ × TagMap)) → IsDistinct eqb (keys_of es) → length es ≡ map.len (map.from_entries {R = nat_cmp} es)
 nat_len [] h = sym (map.len-empty nat_cmp TagMap)
 nat_len (e ∷ es) h =

@@ -1,6 +1,6 @@
 -- Tags in a list, in any order.
 use Rattle.std.proofs.Common.{◌≡◌, ℕ, zero, suc, ◌+◌, ◌≤◌, ◌<◌, ◌⊎◌, ◌↔◌, IsTrue, nat_lt, Bool, true, false, not, ◌&&◌, ◌||◌, cond, List, [], ◌∷◌, ◌++◌, map as list_map, length, take, get_or, Some, AllPairs, Contains, if◌then◌else◌, refl, ap, sym, ◌∙◌, subst, inl, inr, arith}
-use Rattle.std.specs.List.{list_any, slice_get, swap_remove, AllByRecursion, IsDistinct}
+use Rattle.std.specs.List.{list_any, slice_get, insert, remove, swap_remove, AllByRecursion, IsDistinct}
 use Rattle.std.specs.List.Sorted.{IsPermutation, IsStrictlySortedBy}
 use Rattle.std.specs.Cmp.{IsEquivalence, eq_by_cmp_equiv}
 use Rattle.std.specs.FinMap as map
@@ -8,7 +8,7 @@ use Rattle.std.proofs.lemmas.Bool.{false≢true, lt-ltb}
 use Rattle.std.proofs.lemmas.Option.{none-some, same_Some}
 use Rattle.std.proofs.lemmas.List.{take_more}
 use Rattle.std.proofs.lemmas.List.Folds.{list_any-append}
-use Rattle.std.proofs.lemmas.List.Sorted.{IsPermutation-to_front, IsPermutation-swap_remove, list_any-IsPermutation}
+use Rattle.std.proofs.lemmas.List.Sorted.{IsPermutation-to_front, IsPermutation-insert, IsPermutation-remove, IsPermutation-swap_remove, list_any-IsPermutation}
 use Rattle.std.proofs.lemmas.Map.Keys.{IsDistinct-head, IsDistinct-tail, IsDistinct-push, IsDistinct-IsPermutation, IsDistinct-from_sorted, sorted_from_all_adjacent}
 use Rattle.std.proofs.lemmas.Map.Made.{length-le_from_is_member}
 use Rattle.std.proofs.lemmas.Map.Views.{Contains-from_any, list_any-from_Contains}
@@ -41,13 +41,16 @@ same_tags : (s t : TagMap) → ((q : UpdateId) → map.contains_key s q ≡ map.
 same_tags s t h = same_members id_cmp_total id_cmp-IsAntisymmetric s t h
 
 -- one more id
-pub list-put : (ks : List UpdateId) (id : UpdateId) → set_of {R = id_cmp} (ks ++ id ∷ []) ≡ map.insert (set_of ks) id tt
-list-put ks id = same_tags _ _ (λ q.
-    contains-list (ks ++ id ∷ []) q ∙ list_any-IsPermutation (id_eq q) (ks ++ id ∷ []) (id ∷ ks) (IsPermutation-to_front ks id)
-    ∙ sym (contains-more (set_of ks) id q ∙ ap (λ b. id_eq q id || b) (contains-list ks q)))
+module _ (ks : List UpdateId) (i : ℕ) (id : UpdateId) where
+  pub list-put : set_of {R = id_cmp} (insert ks i id) ≡ map.insert (set_of ks) id tt
+  list-put = same_tags _ _ (λ q.
+      contains-list (insert ks i id) q ∙ sym (list_any-IsPermutation (id_eq q) (id ∷ ks) (insert ks i id) (IsPermutation-insert ks i id))
+      ∙ sym (contains-more (set_of ks) id q ∙ ap (λ b. id_eq q id || b) (contains-list ks q)))
 
-pub list-put-distinct : (ks : List UpdateId) (id : UpdateId) → IsDistinct id_eq ks → list_any (id_eq id) ks ≡ false → IsDistinct id_eq (ks ++ id ∷ [])
-list-put-distinct ks id distinct new = IsDistinct-push id_equiv ks id distinct new
+  pub list-put-distinct : IsDistinct id_eq ks → list_any (id_eq id) ks ≡ false → IsDistinct id_eq (insert ks i id)
+  list-put-distinct distinct new =
+      let first = IsDistinct-IsPermutation id_eq id_equiv.symm (ks ++ id ∷ []) (id ∷ ks) (IsPermutation-to_front ks id) (IsDistinct-push id_equiv ks id distinct new) in
+      IsDistinct-IsPermutation id_eq id_equiv.symm (id ∷ ks) (insert ks i id) (IsPermutation-insert ks i id) first
 
 -- an id that is there
 pub list-there : (ks : List UpdateId) (id : UpdateId) → list_any (id_eq id) ks ≡ true → set_of {R = id_cmp} ks ≡ map.insert (set_of ks) id tt
@@ -80,28 +83,31 @@ any-at (k ∷ ks) (suc i) id h = ap (λ b. id_eq id k || b) (any-at ks i id h) �
 pub list-there-at : (ks : List UpdateId) (i : ℕ) (id : UpdateId) → slice_get ks i ≡ Some id → set_of {R = id_cmp} ks ≡ map.insert (set_of ks) id tt
 list-there-at ks i id h = list-there ks id (any-at ks i id h)
 
--- an id is taken out, and the last takes its place
-module _ (ks : List UpdateId) (i : ℕ) (id : UpdateId) (distinct : IsDistinct id_eq ks) (at : slice_get ks i ≡ Some id) where
-  moved : IsPermutation ks (id ∷ swap_remove ks i id)
-  moved = IsPermutation-swap_remove ks i id (at_place ks i id id at).0 (at_place ks i id id at).1
+-- an id is taken out
+module _ (ks rest : List UpdateId) (id : UpdateId) (distinct : IsDistinct id_eq ks) (moved : IsPermutation ks (id ∷ rest)) where
+  still : IsDistinct id_eq (id ∷ rest)
+  still = IsDistinct-IsPermutation id_eq id_equiv.symm ks (id ∷ rest) moved distinct
 
-  still : IsDistinct id_eq (id ∷ swap_remove ks i id)
-  still = IsDistinct-IsPermutation id_eq id_equiv.symm ks (id ∷ swap_remove ks i id) moved distinct
+  pub list-taken-distinct : IsDistinct id_eq rest
+  list-taken-distinct = IsDistinct-tail id_eq id rest still
 
-  pub list-taken-distinct : IsDistinct id_eq (swap_remove ks i id)
-  list-taken-distinct = IsDistinct-tail id_eq id (swap_remove ks i id) still
-
-  pub list-taken : set_of {R = id_cmp} (swap_remove ks i id) ≡ map.remove (set_of ks) id
+  pub list-taken : set_of {R = id_cmp} rest ≡ map.remove (set_of ks) id
   list-taken =
-      let rest = swap_remove ks i id in
       let gone = none-any id_eq id rest (IsDistinct-head id_eq id rest still) in
       same_tags _ _ (λ q.
-      contains-list rest q ∙ by rest gone q (id_eq q id) refl
+      contains-list rest q ∙ by gone q (id_eq q id) refl
       ∙ sym (contains-less (set_of ks) id q ∙ ap (λ b. not (id_eq q id) && b) (contains-list ks q ∙ list_any-IsPermutation (id_eq q) ks (id ∷ rest) moved)))
     where
-      by : (rest : List UpdateId) → list_any (id_eq id) rest ≡ false → (q : UpdateId) (b : Bool) → id_eq q id ≡ b → list_any (id_eq q) rest ≡ (not b && (b || list_any (id_eq q) rest))
-      by rest gone q true is = ap (λ k. list_any (id_eq k) rest) (same-id q id is) ∙ gone
-      by rest gone q false is = refl
+      by : list_any (id_eq id) rest ≡ false → (q : UpdateId) (b : Bool) → id_eq q id ≡ b → list_any (id_eq q) rest ≡ (not b && (b || list_any (id_eq q) rest))
+      by gone q true is = ap (λ k. list_any (id_eq k) rest) (same-id q id is) ∙ gone
+      by gone q false is = refl
+
+-- the places of an id
+pub taken_last : (ks : List UpdateId) (i : ℕ) (id : UpdateId) → slice_get ks i ≡ Some id → IsPermutation ks (id ∷ swap_remove ks i id)
+taken_last ks i id at = IsPermutation-swap_remove ks i id (at_place ks i id id at).0 (at_place ks i id id at).1
+
+pub taken_out : (ks : List UpdateId) (i : ℕ) (id : UpdateId) → slice_get ks i ≡ Some id → IsPermutation ks (id ∷ remove ks i)
+taken_out ks i id at = IsPermutation-remove ks i id (at_place ks i id id at).0 (at_place ks i id id at).1
 
 -- an id that is not there
 pub list-absent : (ks : List UpdateId) (id : UpdateId) → list_any (id_eq id) ks ≡ false → set_of {R = id_cmp} ks ≡ map.remove (set_of ks) id

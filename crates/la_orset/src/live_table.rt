@@ -1,4 +1,5 @@
 ghost use Rattle.std.specs.Prelude.{◌≡◌, false, IfOk, IfErr, OnOk, OnErr};
+ghost use Rattle.std.specs.Ordering.{nat_cmp};
 ghost use Rattle.std.specs.FinMap as map;
 ghost use Rattle.la_object.specs.Refusals.{IsObserveRefusal};
 ghost use Rattle.la_orset.specs.Index.{tags_at, IsWhole, HasTags};
@@ -105,6 +106,7 @@ impl LiveTable {
         let mut tags = TagSet::new(self.alloc);
         tags.insert(id)?;
         self.by_element.insert(element, tags)?;
+        trim(&mut self.by_element);
         Ok(0)
     }
 
@@ -119,7 +121,19 @@ impl LiveTable {
         let there = tags.remove(id, hint);
         if !tags.has_any() {
             self.by_element.remove(&element);
+            trim(&mut self.by_element);
         }
         there
+    }
+}
+
+// Leaves room for a quarter more, where there is for more than half as many, if memory allows.
+fn trim(by_element: &mut HashMap<u64, TagSet>)
+    ensures { map.from_entries {R = nat_cmp} by_element.new.entries
+        ≡ map.from_entries by_element.old.entries }
+{
+    let len = by_element.len();
+    if by_element.capacity() / 3 > len / 2 {
+        by_element.shrink_to(len + len / 4);
     }
 }

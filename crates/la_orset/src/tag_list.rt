@@ -1,4 +1,4 @@
-ghost use Rattle.std.specs.Prelude.{◌≡◌, Some, false, slice_get, IfSome, IfNone, IfOk, IfErr, OnOk, OnErr};
+ghost use Rattle.std.specs.Prelude.{◌≡◌, ◌≤◌, Some, false, length, slice_get, IfSome, IfNone, IfOk, IfErr, OnOk, OnErr};
 ghost use Rattle.std.specs.List.{list_any};
 ghost use Rattle.std.specs.FinMap as map;
 ghost use Rattle.la_object.specs.Refusals.{IsObserveRefusal};
@@ -9,7 +9,8 @@ use la_set::{MAX_TAGS, Tags, UpdateId};
 use std::alloc::{AllocError, Global};
 use std::marker::Model;
 
-/// Live tags of one element, in any order.
+/// Live tags of one element. Up to [`MAX_TAGS`] are kept in ascending order where they come one by
+/// one, so that they are told in it; of more the last takes the place of one that goes.
 #[derive(Drop)]
 pub struct TagList {
     ids: Vec<UpdateId>,
@@ -50,25 +51,32 @@ impl TagList {
         self.ids.len()
     }
 
-    /// Puts a tag that is not there last, at constant cost but for growth. After a refusal nothing
-    /// has changed.
+    /// Puts a tag in that is not there, at constant cost but for growth. After a refusal nothing has
+    /// changed.
     pub fn insert(&mut self, id: UpdateId) -> Result<(), AllocError>
         requires { map.contains_key self.old id ≡ false }
         ensures ok { OnOk result (self.new ≡ map.insert self.old id tt) }
         ensures err { OnErr result (self.new ≡ self.old) }
     {
-        self.ids.push(id)?;
+        make_room(&mut self.ids)?;
+        let place = place_for(self.ids.as_slice(), id);
+        self.ids.insert(place, id)?;
         Ok(())
     }
 
-    /// Takes a tag out, without memory, and answers which tag stands at the hint now. The cost is
-    /// constant where the hint says where the tag stands, and else one pass.
+    /// Takes a tag out, without memory, and answers which tag stands at the hint now, where that may
+    /// have changed and the tags are many. The cost is constant where the hint says where the tag
+    /// stands, and else one pass up to it: hints are wrong for the first [`MAX_TAGS`] alone.
     pub fn remove(&mut self, id: UpdateId, hint: usize) -> Option<UpdateId>
         ensures { self.new ≡ map.remove self.old id }
     {
         let Some(place) = place_of(self.ids.as_slice(), id, hint) else {
             return None;
         };
+        if self.ids.len() <= MAX_TAGS {
+            self.ids.remove(place);
+            return None;
+        }
         self.ids.swap_remove(place);
         self.ids.as_slice().get(hint).copied()
     }
@@ -101,6 +109,38 @@ impl TagList {
         let _ascending = tags.len();
         Ok(tags)
     }
+}
+
+// Room for one more: for four, or for a quarter of what is there; for two at first.
+fn make_room(ids: &mut Vec<UpdateId>) -> Result<(), AllocError>
+    ensures { ids.new.items ≡ ids.old.items }
+{
+    let len = ids.len();
+    if len < ids.capacity() {
+        return Ok(());
+    }
+    let more = if len == 0 {
+        2
+    } else if len < 16 {
+        4
+    } else {
+        len / 4
+    };
+    ids.reserve_exact(more)
+}
+
+// Where an id goes: last, but among few before those above it.
+fn place_for(ids: &[UpdateId], id: UpdateId) -> usize
+    ensures { result ≤ length ids.now }
+{
+    let mut place = ids.len();
+    if place >= MAX_TAGS {
+        return place;
+    }
+    while place > 0 && id < ids[place - 1] {
+        place -= 1;
+    }
+    place
 }
 
 // A place of an id: that which is guessed, or the first, by going through all.

@@ -8,7 +8,7 @@ use Rattle.std.specs.FinMap.{nat_cmp-IsAntisymmetric}
 use Rattle.std.specs.Cmp.{nat_cmp_total}
 use Rattle.la_object.specs.IdOrder.{id_cmp}
 use Rattle.la_orset.specs.Index.{has_any, tags_or, tags_at, HasTags}
-use Rattle.la_orset.proofs.Hashed.{nat_found, nat_changed}
+use Rattle.la_orset.proofs.Hashed.{nat_found, nat_changed, nat_changed_same}
 use Rattle.la_orset.proofs.LiveTags.{has_tags, still_whole, whole-put, put_again, on_err}
 use Rattle.la_orset.proofs.live_table.LiveTable.insert.Goals as goal
 
@@ -53,16 +53,16 @@ returns-in-Some-clause-ok c =
 pub invariant_of-self-2 : goal.invariant_of-self-2
 invariant_of-self-2 c =
     let es = c.self.inside.by_element.entries in let x = c.args.element in
-    let new = c.insert-3.new.self.entries in
-    let changed = nat_changed es new x (Some c.insert-2.new.self) (subst (λ m. (q : ℕ) → lookup (eqb q) new ≡ cond (eqb x q) (Some c.insert-2.new.self) (lookup (eqb q) m.entries)) c.get_mut.follows.holds-at-none c.in_ok-insert-3.ensures.updates.0) in
+    let put = c.insert-3.new.self.entries in let new = c.trim.new.by_element.entries in
+    let changed = nat_changed_same es put new x (Some c.insert-2.new.self) (subst (λ m. (q : ℕ) → lookup (eqb q) put ≡ cond (eqb x q) (Some c.insert-2.new.self) (lookup (eqb q) m.entries)) c.get_mut.follows.holds-at-none c.in_ok-insert-3.ensures.updates.0) c.trim.ensures in
     still_whole (map.from_entries es) (map.from_entries new) x (Some c.insert-2.new.self) changed c.self.invariant
     (whole-put c.new-tags.result c.args.id ∙ ap (λ t. has_any (map.keys t)) (sym c.in_ok-insert-2.ensures.ok))
 
 pub returns-clause-ok : goal.returns-clause-ok
 returns-clause-ok c =
     let es = c.self.inside.by_element.entries in let x = c.args.element in
-    let new = c.insert-3.new.self.entries in
-    let changed = nat_changed es new x (Some c.insert-2.new.self) (subst (λ m. (q : ℕ) → lookup (eqb q) new ≡ cond (eqb x q) (Some c.insert-2.new.self) (lookup (eqb q) m.entries)) c.get_mut.follows.holds-at-none c.in_ok-insert-3.ensures.updates.0) in
+    let put = c.insert-3.new.self.entries in let new = c.trim.new.by_element.entries in
+    let changed = nat_changed_same es put new x (Some c.insert-2.new.self) (subst (λ m. (q : ℕ) → lookup (eqb q) put ≡ cond (eqb x q) (Some c.insert-2.new.self) (lookup (eqb q) m.entries)) c.get_mut.follows.holds-at-none c.in_ok-insert-3.ensures.updates.0) c.trim.ensures in
     let none = nat_found es x ∙ sym c.in_default.ensures.value in
     subst (λ m. HasTags m x (map.insert (tags_at m x) c.args.id tt) (map.from_entries new)) c.self.view_is
     (has_tags (map.from_entries es) (map.from_entries new) x (Some c.insert-2.new.self) changed _

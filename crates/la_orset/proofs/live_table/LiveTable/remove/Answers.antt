@@ -1,11 +1,11 @@
-use Rattle.std.proofs.Common.{rules, ◌≡◌, cond, Some, None, sym, ap, ◌∙◌, subst, refl}
+use Rattle.std.proofs.Common.{cond, Some, None, sym, ap, ◌∙◌, subst, refl}
 use Rattle.std.specs.Option.{IsSome}
 use Rattle.std.specs.BTreeMap.{is_at}
 use Rattle.std.specs.Ordering.{nat_cmp}
 use Rattle.std.specs.FinMap as map
 use Rattle.la_object.proofs.lemmas.IdOrder.{id_cmp_total, id_cmp-IsAntisymmetric}
 use Rattle.la_orset.specs.Index.{tags_or, tags_at, HasTags}
-use Rattle.la_orset.proofs.Hashed.{nat_found, nat_changed}
+use Rattle.la_orset.proofs.Hashed.{nat_found, nat_changed, nat_changed_same}
 use Rattle.la_orset.proofs.Sets.{nothing_in}
 use Rattle.la_orset.proofs.LiveTags.{has_tags, still_whole, whole-none, put_again, twice, taken-empty}
 use Rattle.la_orset.proofs.live_table.LiveTable.remove.Goals as goal
@@ -23,44 +23,24 @@ returns-in_default c =
 pub invariant_of-self-then-not-has_any : goal.invariant_of-self-then-not-has_any
 invariant_of-self-then-not-has_any c =
     let es = c.self.inside.by_element.entries in let x = c.args.element in let w = c.remove-there.new.self in
-    let mid = (c.get_mut.follows.lender w).entries in let new = c.remove.new.self.entries in
+    let mid = (c.get_mut.follows.lender w).entries in let new = c.trim.new.by_element.entries in
     let first = nat_changed es mid x (Some w) ((c.get_mut.follows.holds w).3 (subst IsSome c.in-Some.ensures.value refl)).0 in
-    let second = nat_changed mid new x None c.remove.ensures.updates.0 in
-    still_whole (map.from_entries es) (map.from_entries new) x None
-    (λ y. second y ∙ ap (cond (is_at (nat_cmp x) y) None) (first y) ∙ twice (is_at (nat_cmp x) y) None (Some w) _) c.self.invariant whole-none
-
-pub invariant_of-self-then-not-has_any-2 : goal.invariant_of-self-then-not-has_any-2
-invariant_of-self-then-not-has_any-2 c =
-    let es = c.self.inside.by_element.entries in let x = c.args.element in let w = c.remove-there.new.self in
-    let mid = (c.get_mut.follows.lender w).entries in let new = c.remove.new.self.entries in
-    let first = nat_changed es mid x (Some w) ((c.get_mut.follows.holds w).3 (subst IsSome c.in-Some.ensures.value refl)).0 in
-    let second = nat_changed mid new x None c.remove.ensures.updates.0 in
-    still_whole (map.from_entries es) (map.from_entries new) x None
-    (λ y. second y ∙ ap (cond (is_at (nat_cmp x) y) None) (first y) ∙ twice (is_at (nat_cmp x) y) None (Some w) _) c.self.invariant whole-none
-
-pub invariant_of-self-then-not-has_any-3 : goal.invariant_of-self-then-not-has_any-3
-invariant_of-self-then-not-has_any-3 c =
-    let es = c.self.inside.by_element.entries in let x = c.args.element in let w = c.remove-there.new.self in
-    let mid = (c.get_mut.follows.lender w).entries in let new = c.remove.new.self.entries in
-    let first = nat_changed es mid x (Some w) ((c.get_mut.follows.holds w).3 (subst IsSome c.in-Some.ensures.value refl)).0 in
-    let second = nat_changed mid new x None c.remove.ensures.updates.0 in
+    let second = nat_changed_same mid c.remove.new.self.entries new x None c.remove.ensures.updates.0 c.trim.ensures in
     still_whole (map.from_entries es) (map.from_entries new) x None
     (λ y. second y ∙ ap (cond (is_at (nat_cmp x) y) None) (first y) ∙ twice (is_at (nat_cmp x) y) None (Some w) _) c.self.invariant whole-none
 
 pub returns-then-not-has_any : goal.returns-then-not-has_any
 returns-then-not-has_any c =
     let es = c.self.inside.by_element.entries in let x = c.args.element in let w = c.remove-there.new.self in
-    let mid = (c.get_mut.follows.lender w).entries in let new = c.remove.new.self.entries in
+    let mid = (c.get_mut.follows.lender w).entries in let new = c.trim.new.by_element.entries in
     let first = nat_changed es mid x (Some w) ((c.get_mut.follows.holds w).3 (subst IsSome c.in-Some.ensures.value refl)).0 in
-    let second = nat_changed mid new x None c.remove.ensures.updates.0 in
+    let second = nat_changed_same mid c.remove.new.self.entries new x None c.remove.ensures.updates.0 c.trim.ensures in
     let there = nat_found es x ∙ sym c.in-Some.ensures.value in
     let nothing = nothing_in id_cmp_total id_cmp-IsAntisymmetric w (sym c.has_any.ensures ∙ c.if-not-has_any.true) in
-    let is : c.match-remove.self ≡ map.from_entries {R = nat_cmp} new = search rules in
-    subst (λ n. HasTags c.args.self.now x (map.remove (tags_at c.args.self.now x) c.args.id) n) (sym is)
-    (subst (λ m. HasTags m x (map.remove (tags_at m x) c.args.id) (map.from_entries new)) c.self.view_is
+    subst (λ m. HasTags m x (map.remove (tags_at m x) c.args.id) (map.from_entries new)) c.self.view_is
     (has_tags (map.from_entries es) (map.from_entries new) x None
     (λ y. second y ∙ ap (cond (is_at (nat_cmp x) y) None) (first y) ∙ twice (is_at (nat_cmp x) y) None (Some w) _) _
-    (sym nothing ∙ c.remove-there.ensures ∙ ap (λ g. map.remove (tags_or g) c.args.id) (sym there))))
+    (sym nothing ∙ c.remove-there.ensures ∙ ap (λ g. map.remove (tags_or g) c.args.id) (sym there)))
 
 pub invariant_of-self-else-not-has_any : goal.invariant_of-self-else-not-has_any
 invariant_of-self-else-not-has_any c =
