@@ -128,7 +128,7 @@ impl Rows {
     }
 }
 
-// Room for one more: for 16, or for an eighth of what is there.
+// Room for one more: for 16, or for a quarter of what is there.
 fn make_room(rows: &mut Vec<Row>) -> Result<(), AllocError>
     ensures { rows.new.items ≡ rows.old.items }
 {
@@ -136,7 +136,7 @@ fn make_room(rows: &mut Vec<Row>) -> Result<(), AllocError>
     if len < rows.capacity() {
         return Ok(());
     }
-    let more = if len < 128 { 16 } else { len / 8 };
+    let more = if len < 64 { 16 } else { len / 4 };
     rows.reserve_exact(more)
 }
 
