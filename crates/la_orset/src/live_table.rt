@@ -110,8 +110,8 @@ impl LiveTable {
         Ok(0)
     }
 
-    /// Takes a tag of an element out, without memory, and answers which of the element's tags stands
-    /// at the hint now.
+    /// Takes a tag of an element out, needing no memory, and answers which of the element's many tags
+    /// stands at the hint now.
     pub fn remove(&mut self, element: u64, id: UpdateId, hint: usize) -> Option<UpdateId>
         ensures { HasTags self.old element (map.remove (tags_at self.old element) id) self.new }
     {

@@ -20,10 +20,10 @@ use std::alloc::{AllocError, Global};
 ///
 /// Elements are found by hash, up to 64 in a tree, and what was put by replica and number. A `Put`
 /// whose id is above its replica's others costs the same, but for growth; one that comes late moves
-/// those above it. For each id that it names, a `Remove` costs at most a binary search, and
-/// O(log n) where n ids were named before their Puts. `Has` and `Size` are constant, `Items` sorts e
-/// elements in O(e log e), and `observed` goes through the element's own tags. Elements that were
-/// chosen to share a hash take longer.
+/// those above it. For each id that it names, a `Remove` costs at most a binary search and a pass over
+/// 64 tags, but for giving back room, and O(log n) where n ids were named before their Puts. `Has` and
+/// `Size` are constant, `Items` sorts e elements in O(e log e), and `observed` goes through the
+/// element's own tags. Elements that were chosen to share a hash take longer.
 #[derive(Drop)]
 pub struct OrSet {
     alloc: Global,

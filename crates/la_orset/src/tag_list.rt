@@ -9,8 +9,8 @@ use la_set::{MAX_TAGS, Tags, UpdateId};
 use std::alloc::{AllocError, Global};
 use std::marker::Model;
 
-/// Live tags of one element. Up to [`MAX_TAGS`] are kept in ascending order where they come one by
-/// one, so that they are told in it; of more the last takes the place of one that goes.
+/// Live tags of one element. Up to [`MAX_TAGS`] are kept in ascending order, so that they are soon
+/// told in it, unless there were more: of these the last takes the place of one that goes.
 #[derive(Drop)]
 pub struct TagList {
     ids: Vec<UpdateId>,
@@ -64,9 +64,8 @@ impl TagList {
         Ok(())
     }
 
-    /// Takes a tag out, without memory, and answers which tag stands at the hint now, where that may
-    /// have changed and the tags are many. The cost is constant where the hint says where the tag
-    /// stands, and else one pass up to it: hints are wrong for the first [`MAX_TAGS`] alone.
+    /// Takes a tag out, without memory, and answers which of many tags stands at the hint now. The
+    /// cost is constant where the hint says where the tag stands, and else one pass up to it.
     pub fn remove(&mut self, id: UpdateId, hint: usize) -> Option<UpdateId>
         ensures { self.new ≡ map.remove self.old id }
     {

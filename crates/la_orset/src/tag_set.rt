@@ -77,8 +77,8 @@ impl TagSet {
         result
     }
 
-    /// Takes a tag out, without memory, and answers which tag stands at the hint now. The cost is
-    /// constant where the hint says where the tag stands.
+    /// Takes a tag out, without memory, and answers which of many tags stands at the hint now. The
+    /// cost is constant where the hint says where the tag stands.
     pub fn remove(&mut self, id: UpdateId, hint: usize) -> Option<UpdateId>
         ensures { self.new ≡ map.remove self.old id }
     {
