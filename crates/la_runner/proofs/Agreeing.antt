@@ -1,16 +1,15 @@
 -- Why those that decided in a run agree: by the laws of la_commit, over all logs.
-use Rattle.std.proofs.Common.{◌≡◌, ◌⊎◌, inl, inr, ℕ, ◌<◌, ◌==◌, Bool, true, false, List, [], ◌∷◌, take, map, length, All, Any, Contains, Option, Some, None, option_map, refl, ap, sym, ◌∙◌, subst, arith}
-use Rattle.std.specs.Prelude.{IsTrue, IsSome}
+use Rattle.std.proofs.Common.{◌≡◌, ◌⊎◌, inl, inr, ℕ, ◌<◌, ◌==◌, Bool, true, false, List, [], ◌∷◌, take, length, All, Any, Contains, Option, Some, None, option_map, refl, ap, sym, ◌∙◌, subst, arith}
+use Rattle.std.specs.Prelude.{IsSome}
 use Rattle.std.specs.List.{AllZip, slice_get, slice_index_or}
 use Rattle.std.proofs.lemmas.Bool.{eq-eqb}
 use Rattle.std.proofs.lemmas.List.Sums.{list_all-from_AllPass}
 use Rattle.std.proofs.lemmas.List.Elements.{All-contains_itself}
-use Rattle.std.proofs.lemmas.Option.{same_Some}
 use Rattle.la_set.specs.declared.update.UpdateId.{UpdateId}
 use Rattle.la_set.specs.declared.update.Update.{Update}
 use Rattle.la_set.specs.Histories.{Histories, history, object_op_number, ContainsUpdate, get}
 use Rattle.la_set.specs.ObjectOps.{ObjectOp, update_of}
-use Rattle.la_set.specs.Inclusion.{IsSubset, AreComparable}
+use Rattle.la_set.specs.Inclusion.{AreComparable}
 use Rattle.la_set.proofs.lemmas.Filters.{filter-contains}
 use Rattle.la_commit.specs.declared.outcome.Outcome.{Outcome}
 use Rattle.la_commit.specs.declared.outcome.Outcome.TheVariants.{Commit, Adopt}
@@ -22,7 +21,6 @@ use Rattle.la_commit.specs.Laws.{HasVoteFor}
 use Rattle.la_commit.proofs.lemmas.Agreeing.{sole_values-agree, outcomes-agree, unanimous-commit}
 use Rattle.la_commit.proofs.lemmas.Casting.{votes-cast, own_vote-cast, own_vote-votes}
 use Rattle.la_runner.specs.declared.jobs.Entry.TheVariants.{Decided}
-use Rattle.la_runner.specs.declared.jobs.Job.TheVariants.{Decide}
 use Rattle.la_runner.specs.Entries.{next_number, IsDecided, Answers}
 use Rattle.la_runner.specs.Members.{MemberState, IsCertified}
 use Rattle.la_runner.specs.Runs.{Place, Back, IsBackOf}

@@ -16,11 +16,10 @@ use Rattle.la_proposer.specs.ProposerState.{ProposerState, start}
 use Rattle.la_proposer.proofs.lemmas.Theorems.{start_is}
 use Rattle.la_shared.specs.History.{HasEntry}
 use Rattle.la_shared.specs.Passes.{Known, AcceptorName}
-use Rattle.la_runner.specs.declared.instance.Instance.{Instance}
 use Rattle.la_runner.specs.Certificates.{mine_of, mine_at}
 use Rattle.la_runner.specs.Sound.{IsPassAt, IsSound}
 use Rattle.la_runner.specs.Following.{acceptors_of}
-use Rattle.la_runner.specs.Instances.{InstanceState, state_of, IsInstance, IsLearntSet}
+use Rattle.la_runner.specs.Instances.{InstanceState, IsInstance, IsLearntSet}
 use Rattle.la_runner.specs.Invariant.{IsIn, IsMember}
 use Rattle.la_runner.specs.Members.{MemberState, GroupState, submitted_of}
 use Rattle.la_runner.specs.Participants.{IsParticipant}

@@ -1,10 +1,9 @@
 -- A member that has met a note.
-use Rattle.std.proofs.Common.{◌≡◌, ◌≢◌, ◌⊎◌, inl, inr, ℕ, zero, suc, ◌<◌, ◌≤◌, arith, true, List, [], ◌∷◌, length, map, Option, Some, None, refl, ap, ap₂, sym, ◌∙◌, subst}
+use Rattle.std.proofs.Common.{◌≡◌, inl, inr, ℕ, zero, suc, ◌≤◌, arith, true, List, [], ◌∷◌, length, map, Option, Some, None, refl, ap, ap₂, sym, ◌∙◌, subst}
 use Rattle.std.specs.Prelude.{IfSome}
 use Rattle.std.specs.List.{slice_get, slice_set, slice_index_or}
-use Rattle.std.proofs.lemmas.Option.{slice_get_within}
 use mathlib.Core.List.{IsPrefix}
-use Rattle.la_set.specs.Histories.{Histories, empty}
+use Rattle.la_set.specs.Histories.{Histories}
 use Rattle.la_set.specs.Inclusion.{IsSubset, AreComparable, larger_of}
 use Rattle.la_set.proofs.lemmas.Theorems.{subset-refl}
 use Rattle.la_acceptor.specs.declared.reply.Reply.TheVariants.{Yes}
@@ -13,7 +12,6 @@ use Rattle.la_proposer.specs.Inputs.{all_submitted}
 use Rattle.la_shared.specs.History.{HasYes}
 use Rattle.la_shared.specs.Passes.{Known, Told}
 use Rattle.la_shared.proofs.lemmas.Theorems.{has-prefix, prefix_self}
-use Rattle.la_runner.specs.declared.group.Row.{Row}
 use Rattle.la_runner.specs.declared.instance.Instance.{Instance}
 use Rattle.la_runner.specs.declared.member.Member.TheInside.{Inside}
 use Rattle.la_runner.specs.declared.note.MemberNote.TheInside as notes
@@ -21,15 +19,14 @@ use Rattle.la_runner.specs.Certificates.{seen_at, mine_at, OfMajority}
 use Rattle.la_runner.specs.Fields.{stands_for, note_stands_for}
 use Rattle.la_runner.specs.Following.{acceptors_of}
 use Rattle.la_runner.specs.Instances.{InstanceState, state_of, IsLearntSet, IsInstance, Steps}
-use Rattle.la_runner.specs.Invariant.{IsIn, IsMember}
+use Rattle.la_runner.specs.Invariant.{IsMember}
 use Rattle.la_runner.specs.Members.{MemberState, GroupState, passes_of, submitted_of, submitted_in, learnt_of, last_learnt, view_of, view, acceptors_in, IsOf, GoesOn}
 use Rattle.la_runner.specs.Notes.{told_names, told_at, told_of, Meets, AllMeet, NoteState, IsNote, IsNoteOf, doings, HasMet}
-use Rattle.la_runner.specs.Participants.{IsParticipant}
 use Rattle.la_runner.specs.Rounds.{IsLarger}
 use Rattle.la_runner.specs.Sound.{IsView, IsPassAt}
 use Rattle.la_runner.proofs.Certified.{certificates_compare}
 use Rattle.la_runner.proofs.Going.{follows_refl, view_stays}
-use Rattle.la_runner.proofs.Keeping.{item_at, long_map, get_map, map_set, with_instance, with_state, stays_member, goes_on, goes_on_then, each_instance, participant_same, participants_beside, there}
+use Rattle.la_runner.proofs.Keeping.{item_at, long_map, get_map, map_set, with_instance, stays_member, goes_on, goes_on_then, each_instance, participant_same, participants_beside, there}
 use Rattle.la_runner.proofs.Passing.{map-set_other, on_refl}
 use Rattle.la_runner.proofs.Proposing.{of_after}
 use Rattle.la_runner.proofs.Stepping.{if_some_on, learnt_on}

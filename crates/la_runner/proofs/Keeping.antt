@@ -1,5 +1,5 @@
 -- What a step in one instance leaves of a member.
-use Rattle.std.proofs.Common.{◌≡◌, ◌≢◌, inl, inr, ℕ, zero, suc, ◌+◌, ◌*◌, ◌≤◌, ◌<◌, Bool, true, false, cond, List, [], ◌∷◌, ◌++◌, length, map, Option, Some, None, refl, ap, sym, ◌∙◌, subst, arith}
+use Rattle.std.proofs.Common.{◌≡◌, inl, inr, ℕ, zero, suc, ◌≤◌, ◌<◌, List, [], ◌∷◌, ◌++◌, length, map, Option, Some, None, refl, ap, sym, ◌∙◌, subst, arith}
 use Rattle.std.specs.Prelude.{Result, Ok, Err, IfOk, IfErr, OnOk, IfSome, IsSomeAnd}
 use Rattle.std.specs.List.{slice_get, slice_set, slice_index_or}
 use Rattle.std.proofs.lemmas.Bool.{cases_eq}
@@ -14,7 +14,7 @@ use Rattle.la_commit.specs.Instances.{first_instance, second_instance}
 use Rattle.la_commit.specs.Votes.{second_vote}
 use Rattle.la_proposer.specs.Inputs.{all_submitted}
 use Rattle.la_proposer.specs.Majority.{votes_of}
-use Rattle.la_proposer.specs.ProposerState.{ProposerState, after_submission}
+use Rattle.la_proposer.specs.ProposerState.{after_submission}
 use Rattle.la_shared.specs.Passes.{Known}
 use Rattle.la_shared.proofs.lemmas.Theorems.{prefix_self}
 use Rattle.la_runner.specs.declared.instance.Instance.{Instance}
@@ -26,7 +26,7 @@ use Rattle.la_runner.specs.Following.{acceptors_of}
 use Rattle.la_runner.specs.Instances.{InstanceState, state_of, asking_number, Steps, IsComplete, IsUpdated}
 use Rattle.la_runner.specs.Invariant.{IsIn, IsMember}
 use Rattle.la_runner.specs.Members.{MemberState, InInstance, passes_of, passes_in, submitted_of, submitted_in, is_asking_of, number_of, number_in, number_asking_of, number_asking, learnt_of, last_learnt, view_of, GoesOn, IsOnlyIn, IsLearntIn, IsUpdateOf}
-use Rattle.la_runner.specs.Participants.{HasVoted, IsParticipant}
+use Rattle.la_runner.specs.Participants.{IsParticipant}
 use Rattle.la_runner.specs.declared.error.RunnerError.{RunnerError}
 use Rattle.la_runner.specs.Refusals.{IsRoundsRefusal, IsInstanceRefusal, IsSubmissionRefusal, IsUpdateRefusal, IsRefusedRounds, IsRefusedUpdate}
 use Rattle.la_runner.proofs.Hearing.{submission_number}

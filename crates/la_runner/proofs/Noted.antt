@@ -1,5 +1,5 @@
 -- What a log holds that has a note of each peer.
-use Rattle.std.proofs.Common.{◌≡◌, inl, inr, ℕ, ◌+◌, List, map, length, Some, refl, ap₂, sym, ◌∙◌, subst, option_map}
+use Rattle.std.proofs.Common.{◌≡◌, inl, inr, ℕ, ◌+◌, List, map, length, Some, ap₂, sym, ◌∙◌, subst, option_map}
 use Rattle.std.specs.List.{AllZip, slice_get, slice_index_or}
 use Rattle.std.proofs.lemmas.Option.{slice_get_within, get_or_from_slice_get}
 use Rattle.la_set.specs.Histories.{Histories, empty}

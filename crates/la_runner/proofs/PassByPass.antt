@@ -15,7 +15,7 @@ use Rattle.la_runner.specs.Fields.{stands_for}
 use Rattle.la_runner.specs.Following.{acceptors_of}
 use Rattle.la_runner.specs.Instances.{InstanceState, state_of}
 use Rattle.la_runner.specs.Invariant.{IsMember}
-use Rattle.la_runner.specs.Members.{MemberState, GroupState, passes_of, passes_in, acceptors_in, IsOf}
+use Rattle.la_runner.specs.Members.{MemberState, GroupState, passes_in, acceptors_in, IsOf}
 use Rattle.la_runner.specs.Notes.{told_by, told_of, told_at, Meets, AllMeet, NoteState}
 use Rattle.la_runner.specs.Sound.{IsSound, IsPassAt}
 use Rattle.la_runner.specs.Together.{HasSeen, SeesMore}

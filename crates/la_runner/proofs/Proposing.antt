@@ -1,5 +1,5 @@
 -- Whether a member may propose, what it votes for, and what it decides.
-use Rattle.std.proofs.Common.{◌≡◌, ◌≢◌, ◌⊎◌, inl, inr, ℕ, zero, suc, ◌+◌, ◌*◌, ◌<◌, ◌≤◌, arith, true, false, true≢false, List, [], ◌∷◌, length, map, Option, Some, None, option_map, refl, ap, sym, ◌∙◌, subst}
+use Rattle.std.proofs.Common.{◌≡◌, ◌≢◌, inl, inr, ℕ, zero, suc, ◌<◌, ◌≤◌, arith, true≢false, List, [], ◌∷◌, length, map, Option, Some, None, option_map, refl, ap, sym, ◌∙◌, subst}
 use Rattle.std.specs.Prelude.{IsSome, option_and_then, Result, Ok, Err, IfErr}
 use Rattle.std.specs.List.{slice_get, slice_index_or}
 use Rattle.std.proofs.lemmas.Bool.{cases_eq}
@@ -9,7 +9,6 @@ use Rattle.la_commit.specs.declared.outcome.Outcome.{Outcome}
 use Rattle.la_commit.specs.Instances.{first_instance, second_instance}
 use Rattle.la_commit.specs.Outcomes.{outcome, outcome_of}
 use Rattle.la_commit.specs.Votes.{own_vote, HoldsVote, proposal, casts, first_vote, first_vote_for, second_vote, second_vote_for}
-use Rattle.la_proposer.specs.Inputs.{all_submitted}
 use Rattle.la_runner.specs.declared.error.RunnerError.{RunnerError}
 use Rattle.la_runner.specs.declared.error.RunnerError.TheVariants as errors
 use Rattle.la_runner.specs.declared.group.Row.{Row}
@@ -20,12 +19,12 @@ use Rattle.la_runner.specs.Fields.{stands_for}
 use Rattle.la_runner.specs.Following.{acceptors_of}
 use Rattle.la_runner.specs.Instances.{InstanceState, state_of}
 use Rattle.la_runner.specs.Invariant.{IsMember}
-use Rattle.la_runner.specs.Members.{MemberState, GroupState, passes_of, submitted_of, learnt_of, last_learnt, number_asking_of, number_asking, acceptors_in, IsOf, GoesOn, IsOnlyIn}
-use Rattle.la_runner.specs.Participants.{HasCommit, HasProposed, HasOther, HasVoted, IsVotedSet, IsDecision, MayVote, outcome_in, IsOnlyAt}
+use Rattle.la_runner.specs.Members.{MemberState, GroupState, passes_of, submitted_of, learnt_of, last_learnt, number_asking_of, acceptors_in, IsOf, GoesOn, IsOnlyIn}
+use Rattle.la_runner.specs.Participants.{HasCommit, HasProposed, HasOther, IsVotedSet, IsDecision, MayVote, outcome_in, IsOnlyAt}
 use Rattle.la_runner.specs.Refusals.{IsVoteError, IsRefusedVote, IsRefusedRounds, IsRefusedInEither, IsProposalRefusal, IsRefusedDecision}
-use Rattle.la_runner.proofs.Keeping.{item_at, long_map, get_map, goes_on_then}
+use Rattle.la_runner.proofs.Keeping.{item_at, long_map, get_map}
 use Rattle.la_runner.proofs.Telling.{as_many_rows, acceptors_there}
-use Rattle.la_runner.proofs.Voting.{vote_there, no_vote, taken_in, none_taken, some_is}
+use Rattle.la_runner.proofs.Voting.{vote_there, no_vote, taken_in, none_taken}
 
 pub some_same : {A : Type 0} {a b : A} → Some a ≡ Some b → a ≡ b
 some_same e = cc

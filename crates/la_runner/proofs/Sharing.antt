@@ -1,16 +1,14 @@
 -- One member that hears what others have seen, in plain variables.
-use Rattle.std.proofs.Common.{◌≡◌, ◌⊎◌, inl, inr, ℕ, zero, suc, ◌<◌, ◌≤◌, List, [], ◌∷◌, ◌++◌, ◌+◌, map, take, drop, length, get_or, Option, Some, None, refl, ap, sym, ◌∙◌, subst, arith}
-use Rattle.std.specs.Prelude.{IfSome, IfOk, Result, Ok, Err}
-use Rattle.std.specs.List.{All, AllZip, AllWithin, slice_get, slice_set, slice_index_or}
-use mathlib.Core.List.{IsPrefix}
+use Rattle.std.proofs.Common.{◌≡◌, ◌⊎◌, inl, inr, ℕ, zero, suc, ◌<◌, List, [], ◌∷◌, ◌++◌, ◌+◌, map, take, drop, length, get_or, Option, Some, None, refl, ap, sym, ◌∙◌, subst, arith}
+use Rattle.std.specs.Prelude.{IfSome}
+use Rattle.std.specs.List.{All, AllZip, AllWithin, slice_get, slice_index_or}
 use Rattle.std.proofs.lemmas.Bool.{cases_lt}
-use Rattle.std.proofs.lemmas.List.Elements.{All-nil, All-cons, All-push}
+use Rattle.std.proofs.lemmas.List.Elements.{All-nil, All-cons}
 use Rattle.std.proofs.lemmas.Option.{slice_get_within, get_or_from_slice_get}
 use Rattle.la_object.specs.declared.kind.Kind.{Kind}
 use Rattle.la_object.specs.Shelves.{ShelfState}
-use Rattle.la_set.specs.Histories.{Histories, empty}
+use Rattle.la_set.specs.Histories.{Histories}
 use Rattle.la_set.specs.Inclusion.{IsSubset, AreComparable}
-use Rattle.la_set.proofs.lemmas.Theorems.{subset-antisym}
 use Rattle.la_shared.proofs.lemmas.Theorems.{prefix_self}
 use Rattle.la_runner.specs.declared.jobs.Entry.{Entry}
 use Rattle.la_runner.specs.declared.jobs.Entry.TheVariants.{Learned, Decided, Answer}
@@ -21,11 +19,9 @@ use Rattle.la_runner.specs.declared.jobs.Stopped.TheVariants as cause
 use Rattle.la_runner.specs.Certificates.{seen_at, HasCertificate}
 use Rattle.la_runner.specs.Entries.{set_of, next_number, IsKnownTo, Answers, StopsAt}
 use Rattle.la_runner.specs.Invariant.{IsMember}
-use Rattle.la_runner.specs.Members.{MemberState, GroupState, IsOf, GoesOn, passes_in, view, IsCertified, IsOwnCertified}
-use Rattle.la_runner.specs.Notes.{told_by, told_at, told_in, NoteState, Tells, HasMet, doings}
-use Rattle.la_runner.specs.Rounds.{IsLarger}
+use Rattle.la_runner.specs.Members.{MemberState, GroupState, IsOf, GoesOn, passes_in, IsCertified, IsOwnCertified}
 use Rattle.la_runner.specs.Runs.{Place, Back, back_of, places, IsReady, IsBackOf}
-use Rattle.la_runner.specs.Together.{HasSeen, SeesMore, IsSameLog, IsSeenBy, AreSeen, IsHonest, NamesSet, AllComparable}
+use Rattle.la_runner.specs.Together.{HasSeen, SeesMore, IsSameLog, AreSeen, IsHonest, NamesSet, AllComparable}
 use Rattle.la_runner.proofs.Answering.{goes_on_self}
 use Rattle.la_runner.proofs.Certified.{certificate_stays}
 use Rattle.la_runner.proofs.Ending.{fits_still}
@@ -33,7 +29,6 @@ use Rattle.la_runner.proofs.Keeping.{goes_on_then, item_at}
 use Rattle.la_runner.proofs.Passing.{prefix_trans}
 use Rattle.la_runner.proofs.Proposing.{some_same, none_some}
 use Rattle.la_runner.proofs.Standing.{certified_compare, own_are, view_is, told_or_own}
-use Rattle.la_runner.proofs.Telling.{tells_seen}
 use Rattle.la_runner.proofs.Threading.{all_rest}
 use Rattle.la_runner.proofs.UnderWay.{keeps_done, of_goes}
 use Rattle.la_runner.proofs.Viewing.{empty_within}

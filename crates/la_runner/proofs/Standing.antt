@@ -1,16 +1,13 @@
 -- What is true of every member.
-use Rattle.std.proofs.Common.{◌≡◌, ◌≢◌, ◌⊎◌, inl, inr, ℕ, zero, suc, List, [], ◌∷◌, ◌++◌, Option, Some, None, refl, ap, sym, ◌∙◌, subst}
+use Rattle.std.proofs.Common.{◌≡◌, ◌⊎◌, inl, inr, ℕ, zero, suc, List, [], ◌∷◌, ◌++◌, Option, Some, None, refl, sym, ◌∙◌, subst}
 use Rattle.std.specs.Prelude.{IfSome}
 use Rattle.std.specs.List.{slice_get}
 use Rattle.std.proofs.lemmas.Bool.{cases_eq}
-use Rattle.la_set.specs.declared.update.Update.{Update}
 use Rattle.la_set.specs.ObjectOps.{ObjectOp, object_op_of}
-use Rattle.la_set.specs.Histories.{Histories, history, object_op_number, ContainsUpdate}
+use Rattle.la_set.specs.Histories.{history, object_op_number, ContainsUpdate}
 use Rattle.la_set.proofs.lemmas.Theorems.{object_op-contains}
-use Rattle.la_acceptor.specs.declared.reply.Reply.{Reply}
 use Rattle.la_proposer.specs.Inputs.{all_submitted}
 use Rattle.la_shared.specs.History.{HasEntry}
-use Rattle.la_shared.specs.Passes.{Known}
 use Rattle.la_runner.specs.Certificates.{mine_at, HasCertificate, HasOwnCertificate}
 use Rattle.la_runner.specs.Instances.{InstanceState, IsLearntSet}
 use Rattle.la_runner.specs.Invariant.{IsIn, IsMember}

@@ -24,7 +24,7 @@ use Rattle.la_runner.specs.declared.error.RunnerError.TheVariants as errors
 use Rattle.la_runner.specs.declared.learned.Learned.{Learned}
 use Rattle.la_runner.proofs.Certified.{own_certificate_stays}
 use Rattle.la_runner.proofs.Passing.{prefix_trans, on_refl}
-use Rattle.la_runner.proofs.Going.{follows_refl, follows_trans}
+use Rattle.la_runner.proofs.Going.{follows_trans}
 use Rattle.la_runner.proofs.Viewing.{larger_view, view_on, becomes_larger, empty_within}
 use Rattle.la_runner.proofs.Hearing.{submission_sound, submission_follows, submission_adds, submission_asks}
 use Rattle.la_runner.proofs.Updating.{whole, submitted_is, contains_met}

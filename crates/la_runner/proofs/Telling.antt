@@ -1,19 +1,14 @@
 -- What a member tells of all instances, and what it takes in.
-use Rattle.std.proofs.Common.{◌≡◌, ◌≢◌, ◌⊎◌, inl, inr, ℕ, zero, suc, ◌+◌, ◌<◌, ◌≤◌, arith, List, [], ◌∷◌, ◌++◌, length, map, take, Option, Some, None, refl, ap, ap₂, sym, ◌∙◌, subst, length-append, append_assoc}
+use Rattle.std.proofs.Common.{◌≡◌, inl, inr, ℕ, zero, suc, ◌+◌, ◌<◌, ◌≤◌, arith, List, [], ◌∷◌, ◌++◌, length, map, take, Some, refl, ap, ap₂, sym, ◌∙◌, subst, length-append, append_assoc}
 use Rattle.std.specs.List.{slice_get, slice_set, slice_index_or}
 use Rattle.std.proofs.lemmas.Bool.{cases_eq}
 use Rattle.std.proofs.lemmas.Option.{slice_get_within}
 use Rattle.std.proofs.lemmas.List.{length-set}
 use mathlib.Core.List.{IsPrefix}
-use Rattle.la_set.specs.Histories.{Histories, empty}
-use Rattle.la_set.specs.Inclusion.{IsSubset, AreComparable, larger_of}
-use Rattle.la_set.proofs.lemmas.Theorems.{subset-refl}
-use Rattle.la_acceptor.specs.declared.reply.Reply.TheVariants.{Yes}
-use Rattle.la_proposer.specs.ProposerState.{ProposerState}
-use Rattle.la_proposer.specs.Inputs.{all_submitted}
+use Rattle.la_set.specs.Histories.{Histories}
 use Rattle.la_shared.specs.History.{HasYes}
 use Rattle.la_shared.specs.Passes.{Known, Told, AcceptorName}
-use Rattle.la_shared.proofs.lemmas.Theorems.{has-prefix, prefix_self}
+use Rattle.la_shared.proofs.lemmas.Theorems.{prefix_self}
 use Rattle.la_runner.specs.declared.group.Row.{Row}
 use Rattle.la_runner.specs.declared.instance.Instance.{Instance}
 use Rattle.la_runner.specs.declared.note.InstanceNote.{InstanceNote}
@@ -22,22 +17,17 @@ use Rattle.la_runner.specs.declared.member.Member.TheInside.{Inside}
 use Rattle.la_runner.specs.declared.note.MemberNote.TheInside as notes
 use Rattle.la_runner.specs.Certificates.{seen_of, seen_at, OfMajority}
 use Rattle.la_runner.specs.Fields.{stands_for, note_stands_for}
-use Rattle.la_runner.specs.Following.{acceptors_of, GoOn}
-use Rattle.la_runner.specs.Instances.{InstanceState, state_of, IsInstance, IsLearntSet, Steps}
-use Rattle.la_runner.specs.Invariant.{IsIn, IsMember}
+use Rattle.la_runner.specs.Following.{acceptors_of}
+use Rattle.la_runner.specs.Instances.{InstanceState, state_of}
+use Rattle.la_runner.specs.Invariant.{IsMember}
 use Rattle.la_runner.specs.Members.{MemberState, GroupState, passes_of, passes_in, view, acceptors_in, IsOf}
 use Rattle.la_runner.specs.Notes.{told_by, told_names, told_seen, told_at, told_of, told_in, Meets, AllMeet, NoteState, IsNote, IsNoteOf, Tells}
 use Rattle.la_runner.proofs.Standing.{view_is}
-use Rattle.la_runner.specs.Participants.{IsParticipant}
-use Rattle.la_runner.specs.Rounds.{IsLarger}
-use Rattle.la_runner.specs.Sound.{IsSound, IsView, IsPassAt}
-use Rattle.la_runner.proofs.Certified.{certificates_compare, of_majority}
+use Rattle.la_runner.specs.Sound.{IsSound}
+use Rattle.la_runner.proofs.Certified.{of_majority}
 use Rattle.la_runner.proofs.Fresh.{map_push, take_more}
-use Rattle.la_runner.proofs.Going.{follows_refl, view_stays}
-use Rattle.la_runner.proofs.Keeping.{item_at, long_map, get_map, map_set, with_instance, stays_member, goes_on, goes_on_then, participant_stays, participants_beside, there}
-use Rattle.la_runner.proofs.Passing.{get-set_same, get-set_other, map-set_other, on_refl}
-use Rattle.la_runner.proofs.Stepping.{learnt_on}
-use Rattle.la_runner.proofs.Viewing.{is_larger_set, empty_within}
+use Rattle.la_runner.proofs.Keeping.{item_at, long_map, get_map, map_set}
+use Rattle.la_runner.proofs.Passing.{get-set_same, get-set_other, map-set_other}
 
 -- ## What is told
 

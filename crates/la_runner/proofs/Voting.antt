@@ -1,15 +1,15 @@
 -- A member's votes: what it has submitted in an instance of an adopt-commit object, and learnt there.
-use Rattle.std.proofs.Common.{◌≡◌, ◌≢◌, ◌⊎◌, inl, inr, ℕ, zero, suc, ◌+◌, ◌*◌, ◌<◌, ◌≤◌, arith, Bool, true, false, true≢false, cond, List, [], ◌∷◌, ◌++◌, length, map, Option, Some, None, option_map, refl, ap, sym, ◌∙◌, subst, append-nil}
+use Rattle.std.proofs.Common.{◌≡◌, ◌≢◌, ◌⊎◌, inl, inr, ℕ, ◌+◌, ◌≤◌, arith, Bool, true, false, true≢false, cond, List, [], ◌∷◌, ◌++◌, length, Option, Some, None, option_map, refl, ap, sym, ◌∙◌, subst, append-nil}
 use Rattle.std.specs.Prelude.{IfSome, IsSome, IsSomeAnd, option_and_then, Result, Ok, Err, IfOk, IfErr}
 use Rattle.std.specs.List.{slice_get, slice_set}
 use Rattle.std.proofs.lemmas.Bool.{cases_eq}
 use Rattle.la_set.specs.declared.update.Update.{Update}
 use Rattle.la_set.specs.ObjectOps.{ObjectOp, update_of}
-use Rattle.la_set.specs.Histories.{Histories, history, count}
+use Rattle.la_set.specs.Histories.{Histories, history}
 use Rattle.la_commit.specs.declared.vote.Vote.{Vote}
 use Rattle.la_commit.specs.Instances.{first_instance, second_instance}
-use Rattle.la_commit.specs.Votes.{vote_of, own_vote, HoldsVote, casts, first_vote, first_vote_for, second_vote}
-use Rattle.la_proposer.specs.ProposerState.{ProposerState, submitted, after_submission}
+use Rattle.la_commit.specs.Votes.{vote_of, own_vote, HoldsVote, casts, first_vote_for, second_vote}
+use Rattle.la_proposer.specs.ProposerState.{ProposerState, submitted}
 use Rattle.la_proposer.specs.Inputs.{all_submitted}
 use Rattle.la_proposer.specs.declared.error.ProposerError.{ProposerError}
 use Rattle.la_proposer.specs.declared.error.ProposerError.TheVariants as proposer
@@ -17,13 +17,11 @@ use Rattle.la_proposer.specs.Refusals.{IsSubmitRefusal}
 use Rattle.la_shared.specs.Passes.{Known}
 use Rattle.la_runner.specs.declared.error.RunnerError.{RunnerError}
 use Rattle.la_runner.specs.declared.error.RunnerError.TheVariants as errors
-use Rattle.la_runner.specs.declared.learned.Learned.{Learned}
 use Rattle.la_runner.specs.Certificates.{HasOwnCertificate}
 use Rattle.la_runner.specs.Sound.{IsSound}
 use Rattle.la_runner.specs.Instances.{InstanceState, asking_number, IsLearntSet, IsInstance, Steps, MayCast, HasCast}
-use Rattle.la_runner.specs.Invariant.{IsIn, IsMember}
-use Rattle.la_runner.specs.Members.{MemberState, submitted_of, submitted_in, learnt_of, last_learnt, number_asking}
-use Rattle.la_runner.specs.Participants.{IsParticipant, HasVoted, HasVotedSet, MayVote}
+use Rattle.la_runner.specs.Members.{MemberState, submitted_of, learnt_of, last_learnt, number_asking}
+use Rattle.la_runner.specs.Participants.{IsParticipant, HasVotedSet, MayVote}
 use Rattle.la_runner.specs.Refusals.{of_proposer, IsRoundsRefusal, IsInstanceRefusal, IsSubmissionRefusal, IsUpdateRefusal, IsVoteRefusal, IsVoteError, IsRefusedVote}
 use Rattle.la_runner.proofs.Keeping.{with_instance, there, own_certified, refused_rounds, asking_there, asking_after, participant_stays}
 use Rattle.la_runner.proofs.Passing.{get-set_other}

@@ -1,6 +1,6 @@
 -- A member as a participant of an adopt-commit object: by what it has submitted and learnt in the
 -- object's two instances.
-use Rattle.std.specs.Prelude.{◌≡◌, ◌≢◌, ◌⊎◌, ℕ, ◌<◌, List, [], ◌∷◌, length, slice_get, Option, Some, IsSome, option_and_then}
+use Rattle.std.specs.Prelude.{◌≡◌, ◌≢◌, ◌⊎◌, ℕ, ◌<◌, [], ◌∷◌, length, slice_get, Option, Some, IsSome, option_and_then}
 use Rattle.la_set.specs.Histories.{Histories}
 use Rattle.la_commit.specs.declared.vote.Vote.{Vote}
 use Rattle.la_commit.specs.declared.outcome.Outcome.{Outcome}

@@ -12,7 +12,6 @@ use Rattle.la_set.specs.Histories.{Histories, ContainsUpdate}
 use Rattle.la_set.specs.Inclusion.{IsSubset, AreComparable}
 use Rattle.la_runner.specs.declared.jobs.Entry.{Entry}
 use Rattle.la_runner.specs.declared.jobs.Entry.TheVariants.{Decided}
-use Rattle.la_runner.specs.declared.jobs.Job.{Job}
 use Rattle.la_runner.specs.declared.jobs.Job.TheVariants.{Decide}
 use Rattle.la_runner.specs.Certificates.{seen_at}
 use Rattle.la_runner.specs.Entries.{set_of, IsKnownTo}

@@ -96,7 +96,7 @@ fn decide<R: Wait, G: Gate>(
     }
 }
 
-// Lets the shelf absorb the view, and asks it.
+// Lets the shelf absorb the view, by counts alone, and asks it.
 fn ask<B: Replicated>(
     member: &Member,
     shelf: &mut Shelf<B>,
@@ -115,7 +115,7 @@ fn ask<B: Replicated>(
     let Ok(view) = member.view().copy() else {
         return Err(Stopped::Memory);
     };
-    match shelf.absorb(member.view()) {
+    match shelf.absorb_compatible(member.view()) {
         Ok(_) => {}
         Err(AbsorbError::Smaller) => unreachable!(),
         Err(AbsorbError::Memory { done: _ }) => return Err(Stopped::Memory),

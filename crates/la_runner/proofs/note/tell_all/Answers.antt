@@ -1,8 +1,7 @@
-use Rattle.std.proofs.Common.{◌≡◌, map, length, ap, sym, ◌∙◌, refl, subst, rules, arith, ◌+◌, slice_get, slice_set, Some}
+use Rattle.std.proofs.Common.{◌≡◌, map, length, ap, sym, ◌∙◌, subst, arith, ◌+◌, slice_set}
 use Rattle.la_runner.specs.declared.group.Row.{Row}
 use Rattle.la_runner.specs.Instances.{state_of}
-use Rattle.la_runner.proofs.Keeping.{item_at, long_map}
-use Rattle.la_runner.proofs.Telling.{Telling, names_known, as_many_rows, acceptors_now, here_now, same_after, told_more, told_whole}
+use Rattle.la_runner.proofs.Telling.{Telling, names_known, acceptors_now, here_now, same_after, told_more, told_whole}
 use Rattle.la_runner.proofs.note.tell_all.Goals as goal
 
 pub note-requires : goal.note-requires

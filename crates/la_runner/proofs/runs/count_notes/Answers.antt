@@ -1,4 +1,4 @@
-use Rattle.std.proofs.Common.{◌≡◌, ◌<◌, ◌+◌, map, length, sym, subst, arith}
+use Rattle.std.proofs.Common.{◌<◌, ◌+◌, map, length, sym, subst, arith}
 use Rattle.la_set.specs.Histories.{empty}
 use Rattle.la_runner.specs.Members.{view}
 use Rattle.la_runner.proofs.Keeping.{long_map}

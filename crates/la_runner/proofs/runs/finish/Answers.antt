@@ -1,4 +1,4 @@
-use Rattle.std.proofs.Common.{◌≡◌, map, length, subst, sym, ◌∙◌, ap, arith}
+use Rattle.std.proofs.Common.{map, subst, sym, ◌∙◌, ap, arith}
 use Rattle.std.specs.List.{AllZip}
 use Rattle.la_runner.specs.Runs.{back_of}
 use Rattle.la_runner.specs.Together.{IsSameLog}

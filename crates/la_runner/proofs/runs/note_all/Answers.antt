@@ -1,8 +1,8 @@
-use Rattle.std.proofs.Common.{◌≡◌, map, length, refl, ap, sym, ◌∙◌, arith}
+use Rattle.std.proofs.Common.{◌≡◌, length, refl, ap, sym, ◌∙◌, arith}
 use Rattle.la_runner.specs.Members.{view}
 use Rattle.la_runner.specs.Runs.{back_of}
 use Rattle.la_runner.proofs.Keeping.{item_at, long_map}
-use Rattle.la_runner.proofs.Counting.{noted, all_noted}
+use Rattle.la_runner.proofs.Counting.{noted}
 use Rattle.la_runner.proofs.runs.note_all.Goals as goal
 
 pub loop-at-preserved : goal.loop-at-preserved

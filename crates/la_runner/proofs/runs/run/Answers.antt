@@ -9,7 +9,7 @@ use Rattle.la_runner.proofs.Noted.{views_of, notes_hold, notes_agree}
 use Rattle.la_runner.proofs.Threading.{all_over}
 use Rattle.la_runner.proofs.UnderWay.{of_goes}
 use Rattle.la_runner.proofs.Counting.{ready_all, all_of_map, zip_maps}
-use Rattle.la_runner.proofs.Sharing.{all_worked_more, all_compare, all_honest, places_long, zip_long, back_of_group}
+use Rattle.la_runner.proofs.Sharing.{all_worked_more, all_compare, all_honest, places_long, zip_long}
 use Rattle.la_runner.proofs.runs.run.Goals as goal
 
 pub starts-requires-clause-shelves : goal.starts-requires-clause-shelves

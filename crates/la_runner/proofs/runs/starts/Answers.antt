@@ -1,8 +1,8 @@
-use Rattle.std.proofs.Common.{◌≡◌, map, length, refl, ap, sym, ◌∙◌, arith}
+use Rattle.std.proofs.Common.{◌≡◌, map, length, arith}
 use Rattle.std.specs.Vec.{vec_items}
 use Rattle.std.specs.Vec.Iter.{into_iter_items}
 use Rattle.la_runner.specs.Runs.{place_of, places}
-use Rattle.la_runner.proofs.Counting.{one_begun, all_begun}
+use Rattle.la_runner.proofs.Counting.{all_begun}
 use Rattle.la_runner.proofs.Threading.{none_left}
 use Rattle.la_runner.proofs.runs.starts.Goals as goal
 

@@ -1,4 +1,4 @@
-use Rattle.std.proofs.Common.{◌≡◌, [], ◌∷◌, ◌++◌, map, refl, subst, sym, inr}
+use Rattle.std.proofs.Common.{[], ◌∷◌, ◌++◌, map, refl, subst, sym, inr}
 use Rattle.std.specs.List.{All, AllZip}
 use Rattle.la_runner.specs.Invariant.{IsMember}
 use Rattle.la_runner.specs.Members.{IsOf}

@@ -1,6 +1,5 @@
-use Rattle.std.proofs.Common.{◌≡◌, length, refl, ap, sym, ◌∙◌, arith}
+use Rattle.std.proofs.Common.{refl, ap, sym, ◌∙◌, arith}
 use Rattle.la_runner.specs.declared.group.Row.{Row}
-use Rattle.la_runner.specs.Instances.{state_of}
 use Rattle.la_runner.proofs.PassByPass.{none_of_all, told_of_all, from_names, to_names, to_sound, from_after, next_shown, all_instances}
 use Rattle.la_runner.proofs.showing.show_instances.Goals as goal
 

@@ -4,7 +4,6 @@ use Rattle.la_proposer.specs.Majority.{votes_of}
 use Rattle.la_shared.specs.Passes.{AcceptorName}
 use Rattle.la_runner.specs.declared.group.Row.{Row}
 use Rattle.la_runner.specs.declared.starting.Firsts.{Firsts}
-use Rattle.la_runner.specs.declared.instance.Instance.{Instance}
 use Rattle.la_runner.specs.Instances.{state_of}
 use Rattle.la_runner.specs.Starting.{newcomer, IsNewInstance}
 use Rattle.la_runner.proofs.Passing.{map-set_other}

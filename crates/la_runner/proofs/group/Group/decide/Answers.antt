@@ -1,12 +1,12 @@
-use Rattle.std.proofs.Common.{◌≡◌, Some, sym, ◌∙◌, subst, rules, inl}
+use Rattle.std.proofs.Common.{◌≡◌, Some, sym, ◌∙◌, subst, rules}
 use Rattle.std.specs.Prelude.{IfErr}
-use Rattle.la_commit.specs.Instances.{first_instance, second_instance}
+use Rattle.la_commit.specs.Instances.{second_instance}
 use Rattle.la_commit.specs.Votes.{first_vote_for, second_vote_for}
 use Rattle.la_runner.specs.Members.{IsOnlyIn}
-use Rattle.la_runner.specs.Participants.{HasVotedSet, IsVotedSet}
+use Rattle.la_runner.specs.Participants.{HasVotedSet}
 use Rattle.la_runner.specs.Refusals.{IsRefusedVote, IsRefusedInEither, IsRefusedDecision}
 use Rattle.la_runner.proofs.Keeping.{goes_on_then}
-use Rattle.la_runner.proofs.Proposing.{may_vote_first, may_vote_second, vote_comes, some_same, if_err_on, refused_second, refused_decision, decision, outcome_comes}
+use Rattle.la_runner.proofs.Proposing.{may_vote_first, vote_comes, some_same, if_err_on, refused_second, refused_decision}
 use Rattle.la_runner.proofs.group.Group.decide.Goals as goal
 
 pub vote-requires-clause-may : goal.vote-requires-clause-may

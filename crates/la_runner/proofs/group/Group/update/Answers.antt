@@ -1,9 +1,9 @@
-use Rattle.std.proofs.Common.{◌<◌, subst, sym}
+use Rattle.std.proofs.Common.{subst, sym}
 use Rattle.la_proposer.specs.ProposerState.{op_on}
 use Rattle.la_runner.specs.Fields.{stands_for}
 use Rattle.la_runner.specs.Instances.{state_of}
 use Rattle.la_runner.specs.Members.{IsUpdateOf}
-use Rattle.la_runner.proofs.Keeping.{first_at, is_in, state_at, with_state, with_state_is, with_instance, member_after_first, goes_on_after, only_after, update_of, if_ok, if_err, if_on_ok, submitted_after, refused_update}
+use Rattle.la_runner.proofs.Keeping.{first_at, is_in, state_at, with_state, with_state_is, member_after_first, goes_on_after, only_after, update_of, if_ok, if_err, if_on_ok, submitted_after, refused_update}
 use Rattle.la_runner.proofs.group.Group.update.Goals as goal
 
 pub update-requires-clause-is : goal.update-requires-clause-is

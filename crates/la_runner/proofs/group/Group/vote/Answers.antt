@@ -1,5 +1,4 @@
-use Rattle.std.proofs.Common.{map, ap, sym, ◌∙◌, subst}
-use Rattle.la_runner.specs.declared.group.Row.{Row}
+use Rattle.std.proofs.Common.{ap, sym, ◌∙◌, subst}
 use Rattle.la_runner.specs.Fields.{stands_for}
 use Rattle.la_runner.specs.Instances.{state_of}
 use Rattle.la_runner.specs.Members.{MemberState, GroupState}

@@ -1,4 +1,4 @@
-use Rattle.std.proofs.Common.{◌≡◌, ◌≤◌, length, refl, ap, ◌∙◌, subst, arith, slice_index_or}
+use Rattle.std.proofs.Common.{◌≤◌, length, refl, ap, ◌∙◌, subst, arith, slice_index_or}
 use mathlib.Core.List.{IsPrefix}
 use Rattle.la_shared.specs.Passes.{Known}
 use Rattle.la_runner.specs.Instances.{state_of}

@@ -1,8 +1,7 @@
-use Rattle.std.proofs.Common.{◌≡◌, ◌≢◌, ◌<◌, None, length, map, ap, sym, ◌∙◌, subst, rules, arith}
+use Rattle.std.proofs.Common.{◌≡◌, ◌≢◌, ◌<◌, None, length, ap, sym, ◌∙◌, subst, rules, arith}
 use Rattle.std.specs.List.{slice_index_or}
 use Rattle.la_commit.specs.Instances.{first_instance, second_instance}
 use Rattle.la_commit.specs.Votes.{own_vote}
-use Rattle.la_set.specs.Histories.{Histories}
 use Rattle.la_runner.proofs.Keeping.{item_at}
 use Rattle.la_runner.proofs.Proposing.{commit_there, other_there, no_other_there, some_same, none_some}
 use Rattle.la_runner.proofs.member.Member.may_propose.Goals as goal
