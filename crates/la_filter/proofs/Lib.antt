@@ -1,4 +1,6 @@
 pub mod Turning
+pub mod OptionLines
+pub mod VoteTexts
 pub mod Acting
 pub mod Turns
 pub mod Taking

@@ -1,4 +1,13 @@
 // What the words of `lattice node` say.
+ghost use Rattle.std.specs.Prelude.{◌≡◌, false, map, codes, string_bytes, IfOk, IfErr, pos, ◌≤◌};
+ghost use Rattle.clap.specs.Words.{app_of, found_of, rows_of, rule_of, HasKind, fault_of, with_rule};
+ghost use Rattle.clap.specs.Words.{many_of, new_app};
+ghost use Rattle.clap.specs.declared.builder.value_parser.ValueParser.TheVariants.{Signed};
+ghost use Rattle.la_program.specs.Calls.{option};
+ghost use Rattle.la_filter.specs.Options.{number as number_rule, own as own_rule, votes as votes_rule};
+ghost use Rattle.la_filter.specs.Options.{journal as journal_rule, node_app, AreTaken, IsSaid, IsVotes, Says};
+
+use arrayvec::ArrayVec;
 use clap::builder::ValueParser;
 use clap::{Arg, ArgMatches, Command, Error, value_parser};
 use la_proposer::Votes;
@@ -19,7 +28,11 @@ pub struct Options {
 const ABOUT: &str = "Runs one replica of a group over lines: lattice node --own 0 --journal folder";
 
 // An option with a number.
-fn number<'a>(alloc: Global, name: &'a str, parser: ValueParser<'a>, help: &'a str) -> Arg<'a> {
+fn number<'a>(alloc: Global, name: &'a str, parser: ValueParser<'a>, help: &'a str) -> Arg<'a>
+    ensures rule { (least most : _) → parser.entry ≡ Signed (pos least) (pos most)
+        → rule_of result ≡ number_rule name.entry.now least most }
+    ensures local { result.global ≡ false }
+{
     Arg::new(alloc, name)
         .long(name)
         .value_name("N")
@@ -27,88 +40,126 @@ fn number<'a>(alloc: Global, name: &'a str, parser: ValueParser<'a>, help: &'a s
         .help(help)
 }
 
-fn program<'a>(alloc: Global) -> Result<Command<'a>, AllocError> {
-    let sizes = value_parser!(u8).range(1..=8);
+// The command with one more option with a number, which may be left out.
+fn with_number<'a>(
+    alloc: Global,
+    command: Command<'a>,
+    name: &'a str,
+    parser: ValueParser<'a>,
+    otherwise: &'a str,
+    help: &'a str,
+) -> Result<Command<'a>, AllocError>
+    ensures { (least most : _) → parser.entry ≡ Signed (pos least) (pos most)
+        → IfOk result (λ made. app_of made ≡ with_rule (app_of command.entry)
+        (option name.entry.now least most otherwise.entry.now)) }
+{
+    command.arg(number(alloc, name, parser, help).default_value(otherwise))
+}
+
+fn with_own<'a>(alloc: Global, command: Command<'a>) -> Result<Command<'a>, AllocError>
+    ensures { IfOk result (λ made. app_of made ≡ with_rule (app_of command.entry) own_rule) }
+{
     let places = value_parser!(u8).range(0..=7);
-    let objects = value_parser!(u8).range(0..=16);
-    let caps = value_parser!(u32).range(1..=1_000_000);
-    let weights = value_parser!(u16).range(1..=1000);
-    let replicas = number(alloc, "replicas", sizes, "How many replicas, 1 to 8");
     let own = number(alloc, "own", places, "Which of them this is, from 0");
-    let commits = number(
-        alloc,
-        "commits",
-        objects,
-        "How many adopt-commit objects, 0 to 16",
-    );
-    let cap = number(
-        alloc,
-        "cap",
-        caps,
-        "How many updates it may submit, 1 to 1000000",
-    );
-    let votes = number(
-        alloc,
-        "votes",
-        weights,
-        "The votes of each replica, 1 to 1000",
-    );
+    command.arg(own.required(true))
+}
+
+fn with_votes<'a>(alloc: Global, command: Command<'a>) -> Result<Command<'a>, AllocError>
+    ensures { IfOk result (λ made. app_of made ≡ with_rule (app_of command.entry) votes_rule) }
+{
+    let weights = value_parser!(u16).range(1..=1000);
+    let help = "The votes of each replica, 1 to 1000";
+    let votes = number(alloc, "votes", weights, help);
+    command.arg(votes.num_args(1..=8))
+}
+
+fn with_journal<'a>(alloc: Global, command: Command<'a>) -> Result<Command<'a>, AllocError>
+    ensures { IfOk result (λ made. app_of made ≡ with_rule (app_of command.entry) journal_rule) }
+{
     let journal = Arg::new(alloc, "journal")
         .long("journal")
         .value_name("FOLDER")
         .help("The folder of the journal");
-    Command::new(alloc, "lattice node")
-        .about(ABOUT)
-        .arg(replicas.default_value("3"))?
-        .arg(own.required(true))?
-        .arg(commits.default_value("0"))?
-        .arg(cap.default_value("1000000"))?
-        .arg(votes.num_args(1..=8))?
-        .arg(journal.required(true))
+    command.arg(journal.required(true))
 }
 
-// One vote for each of 1 to 8 replicas.
-fn one_each(replicas: u8) -> Option<Votes> {
-    if replicas < 1 || replicas > 8 {
-        return None;
-    }
-    Some(Votes::one_each(replicas))
+// Each step owns one command: one that owns several takes a minute to prove.
+fn program<'a>(alloc: Global) -> Result<Command<'a>, AllocError>
+    ensures { IfOk result (λ made. app_of made ≡ node_app) }
+{
+    let start = Command::new(alloc, "lattice node").about(ABOUT);
+    let sizes = value_parser!(u8).range(1..=8);
+    let help = "How many replicas, 1 to 8";
+    let sized = with_number(alloc, start, "replicas", sizes, "3", help)?;
+    let placed = with_own(alloc, sized)?;
+    let objects = value_parser!(u8).range(0..=16);
+    let help = "How many adopt-commit objects, 0 to 16";
+    let shared = with_number(alloc, placed, "commits", objects, "0", help)?;
+    let caps = value_parser!(u32).range(1..=1_000_000);
+    let help = "How many updates it may submit, 1 to 1000000";
+    let capped = with_number(alloc, shared, "cap", caps, "1000000", help)?;
+    let voted = with_votes(alloc, capped)?;
+    with_journal(alloc, voted)
 }
 
-// The votes that were given, each of which is a number; one for each replica, where none are.
-fn votes_in(given: &ArgMatches<'_>, replicas: u8) -> Option<Votes> {
+// The votes that were given, where they are those of a group; one for each replica, where none were.
+fn votes_in(given: &ArgMatches<'_>, replicas: u8) -> Option<Votes>
+    requires some { 1 ≤ replicas }
+    requires few { replicas ≤ 8 }
+    ensures { IsVotes (many_of (codes "votes") (rows_of (found_of given.now))) replicas result }
+{
     let Some(values) = given.get_many::<u16>("votes") else {
-        return one_each(replicas);
+        return Some(Votes::one_each(replicas));
     };
-    let mut votes = [0u16; 8];
-    let mut count = 0;
+    let mut votes = ArrayVec::<u16, 8>::new();
     for value in values {
-        if count >= 8 {
+        let Ok(count) = value else {
+            return None;
+        };
+        if votes.try_push(count).is_err() {
             return None;
         }
-        votes[count] = value.unwrap_or(0);
-        count += 1;
     }
-    Votes::new(&votes[..count]).ok()
+    Votes::new(votes.as_slice()).ok()
 }
 
-/// What the words of a command line say, the program's name first. `None` where the votes are none of a
-/// group.
-pub fn command(alloc: Global, words: &[String]) -> Result<Option<Options>, Error> {
-    let given = program(alloc)?.try_get_matches_from(words)?;
-    let replicas = given.get_one::<u8>("replicas").unwrap_or(3);
-    let Some(votes) = votes_in(&given, replicas) else {
+// The options, each number of which is there and in its range.
+fn options_in(alloc: Global, given: &ArgMatches<'_>) -> Result<Option<Options>, AllocError>
+    requires { AreTaken (rows_of (found_of given.now)) }
+    ensures { IfOk result (Says (rows_of (found_of given.now))) }
+{
+    let replicas = given.get_one::<u8>("replicas").unwrap();
+    let own = given.get_one::<u8>("own").unwrap();
+    let commits = given.get_one::<u8>("commits").unwrap();
+    let cap = given.get_one::<u32>("cap").unwrap();
+    let folder = given.get_str("journal").unwrap();
+    let Some(votes) = votes_in(given, replicas) else {
         return Ok(None);
     };
+    let folder = String::from_str(alloc, folder)?;
     let config = Config {
         replicas,
-        commits: given.get_one::<u8>("commits").unwrap_or(0),
-        cap: given.get_one::<u32>("cap").unwrap_or(1_000_000),
+        commits,
+        cap,
         votes,
     };
     Ok(Some(Options {
         config,
-        own: given.get_one::<u8>("own").unwrap_or(0),
-        folder: String::from_str(alloc, given.get_str("journal").unwrap_or(""))?,
+        own,
+        folder,
     }))
+}
+
+/// What the words of a command line say, the program's name first. `None` where the votes are none of a
+/// group.
+///
+/// The options are those that were given, or their defaults, each in its range. An error has a kind that
+/// `clap` finds in the words: they ask for help, or they are mistaken. Or its kind is `OutOfMemory`, which
+/// comes of memory alone.
+pub fn command(alloc: Global, words: &[String]) -> Result<Option<Options>, Error>
+    ensures ok { IfOk result (IsSaid (map string_bytes words.now)) }
+    ensures error { IfErr result (HasKind (fault_of node_app (map string_bytes words.now))) }
+{
+    let given = program(alloc)?.try_get_matches_from(words)?;
+    Ok(options_in(alloc, &given)?)
 }

@@ -1,74 +1,23 @@
 -- What the matches of a command line say of its task.
-use Rattle.std.proofs.Common.{◌≡◌, ◌∙◌, ℕ, List, Option, Some, None, Result, Ok, sym, subst, true, true≢false, ap, ap₂, refl, unwrap_or, option_map, codes, [], ◌∷◌, ◌⊎◌, Bool, cond, is_some, inl, inr, drop, false, ◌≤◌, ◌<◌, ◌^◌, length, arith}
-use Rattle.std.specs.Str.Parse.{ParsesUnsigned, digits_value, without_leading_plus}
+use Rattle.std.proofs.Common.{◌≡◌, ◌∙◌, ℕ, List, Option, Some, None, sym, subst, true, true≢false, ap, ap₂, refl, unwrap_or, option_map, codes, [], ◌∷◌, ◌⊎◌, Bool, cond, is_some, inl, inr, drop, false, length, arith}
+use Rattle.std.specs.Str.Parse.{digits_value, without_leading_plus}
 use Rattle.std.specs.Box.{box_value}
 use Rattle.std.specs.Prelude.{Box}
 use Rattle.clap.specs.declared.parser.matches.ArgMatches.{ArgMatches}
 use Rattle.clap.specs.declared.parser.matches.ArgMatches.TheViews.{out-ArgMatches, out-SubCommand}
 use Rattle.clap.specs.declared.parser.matches.SubCommand.{SubCommand}
-use Rattle.clap.specs.declared.parser.matches.Found.{Found}
-use Rattle.clap.specs.Matches.{ReadsOne}
-use Rattle.clap.specs.Words.{Text, Row, one_text, rows_of, is_simple, is_simple_and_free, subcommand_name_of, subcommand_of, subcommand_rows, subcommand_rows_of, fault_of}
+use Rattle.clap.specs.Words.{Text, Row, is_simple, is_simple_and_free, subcommand_name_of, subcommand_of, subcommand_rows, subcommand_rows_of, fault_of}
 use Rattle.clap.proofs.OnLiterals.{clap_on_literals}
-use Rattle.clap.proofs.WalkLemmas.{one_text-rows}
-use Rattle.std.specs.Option.{IsSome, option_map_or}
-use Rattle.clap.specs.Lexer.{without_minus}
-use Rattle.clap.proofs.CallerReads.{signed_reads}
+use Rattle.std.specs.Option.{option_map_or}
 use Rattle.std.specs.List.{slice_index_or}
 use Rattle.clap.specs.Walk.{Rule, nothing_held, rows_after, settled, walk, answers_to, finished, stop_after, walk_from}
-use Rattle.clap.specs.Simple.{App, Shape, built, filled, new_shape, argument_words, new_app, entered, label_of, names_of, rows_at}
+use Rattle.clap.specs.Simple.{App, Shape, built, filled, new_shape, argument_words, entered, label_of, names_of, rows_at}
 use Rattle.clap.specs.Faults.{check_fault, defaults_fault, entered_fault, level_fault, settle_fault, walk_fault}
-use Rattle.la_program.proofs.Faultless.{AllOne, defaults_there, first_none, level_reads, next_none, some_kinds}
-use Rattle.la_program.specs.Calls.{AreGiven, AreSizesGiven, Calls, IsGiven, IsDraw, IsRun, AreTaken, AreSizesTaken, IsNamed, IsTaken, Names, lattice, option}
+use Rattle.la_program.proofs.lemmas.GivenNumbers.{some_is, some≢none}
+use Rattle.la_program.proofs.lemmas.Faultless.{AllOne, defaults_there, first_none, level_reads, next_none, some_kinds}
+use Rattle.la_program.specs.Calls.{AreGiven, AreSizesGiven, Calls, IsGiven, IsDraw, IsRun, AreTaken, AreSizesTaken, IsNamed, Names, lattice, option}
 use Rattle.la_program.specs.declared.call.Task.{Task}
 use Rattle.la_program.specs.declared.call.Task.TheVariants.{Play, Random, Threads}
-
-some≢none : {X : Type 0} (x : X) → Some x ≡ None → ⊥
-some≢none x e = true≢false (ap (λ o. Rattle.std.specs.Option.is_some o) e)
-
-some_is : {X : Type 0} (x y : X) → Some x ≡ Some y → x ≡ y
-some_is x y e = ap (λ o. unwrap_or o x) e
-
--- a number that was read from the text of an option was given by it
-pub read_is_given : (k : ℕ) {E : Type 0} (G : List ℕ → Result ℕ E → Type 0) (f : Found) (name : Text) (r : Option ℕ) (n : ℕ) → r ≡ Some n
-    → (one_text f name ≡ None → r ≡ None) → ((t : List ℕ) → one_text f name ≡ Some t → ReadsOne G t r)
-    → ((u : List ℕ) (x : Result ℕ E) → G u x → ParsesUnsigned {E = E} k 10 u x) → IsGiven (rows_of f) name n
-read_is_given k {E} G f name r n is none value parses = go (one_text f name) refl
-  where
-    go : (o : Option Text) → one_text f name ≡ o → IsGiven (rows_of f) name n
-    go None e = absurd (some≢none n (sym is ∙ none e))
-    go (Some t) e =
-        let read : ReadsOne G t (Some n) = subst (λ (o : Option ℕ). ReadsOne {T = ℕ} {E = E} G t o) is (value t e) in
-        let parsed : ParsesUnsigned {E = E} k 10 t (Ok n) = parses t (Ok n) read in
-        record {
-          text = t;
-          given = sym (one_text-rows f name) ∙ e;
-          numeral = parsed.0.0;
-          value = parsed.1;
-        }
-
--- where a text stands for a number, the number is read, and is in its range
-number_read : (k : ℕ) {E : Type 0} (G : List ℕ → Result ℕ E → Type 0) (f : Found) (name : Text) (least most : ℕ) (r : Option ℕ)
-    → IsTaken (rows_of f) name least most → most < 2 ^ k → ((t : List ℕ) → one_text f name ≡ Some t → ReadsOne G t r)
-    → ((u : List ℕ) (x : Result ℕ E) → G u x → ParsesUnsigned {E = E} k 10 u x) → (n : ℕ) × (r ≡ Some n) × (least ≤ n) × (n ≤ most)
-number_read k {E} G f name least most r taken fits value parses =
-    signed_reads E G k least most taken.text r (value (without_minus taken.text) (one_text-rows f name ∙ taken.given)) parses fits taken.passed
-
-pub some_number : (k : ℕ) {E : Type 0} (G : List ℕ → Result ℕ E → Type 0) (f : Found) (name : Text) (least most : ℕ) (r : Option ℕ)
-    → IsTaken (rows_of f) name least most → most < 2 ^ k → ((t : List ℕ) → one_text f name ≡ Some t → ReadsOne G t r)
-    → ((u : List ℕ) (x : Result ℕ E) → G u x → ParsesUnsigned {E = E} k 10 u x) → IsSome r
-some_number k {E} G f name least most r taken fits value parses =
-    let read = number_read k {E = E} G f name least most r taken fits value parses in
-    subst (λ (o : Option ℕ). IsSome o) (sym read.1) refl
-
-pub taken_is_given : (k : ℕ) {E : Type 0} (G : List ℕ → Result ℕ E → Type 0) (f : Found) (name : Text) (least most : ℕ) (r : Option ℕ) (n : ℕ)
-    → IsTaken (rows_of f) name least most → most < 2 ^ k → r ≡ Some n
-    → (one_text f name ≡ None → r ≡ None) → ((t : List ℕ) → one_text f name ≡ Some t → ReadsOne G t r)
-    → ((u : List ℕ) (x : Result ℕ E) → G u x → ParsesUnsigned {E = E} k 10 u x) → IsGiven (rows_of f) name n × (least ≤ n) × (n ≤ most)
-taken_is_given k {E} G f name least most r n taken fits is none value parses =
-    let read = number_read k {E = E} G f name least most r taken fits value parses in
-    let same : read.0 ≡ n = some_is _ _ (sym read.1 ∙ is) in
-    (read_is_given k {E = E} G f name r n is none value parses, subst (λ m. least ≤ m) same read.2, subst (λ m. m ≤ most) same read.3)
 
 -- the command with a version, of which a subcommand is wanted, and no subcommand `help` is there
 abbrev pub requires_one : App → App
@@ -139,23 +88,23 @@ no e = absurd (true≢false (sym e))
 
 seed_alone : AllOne seed_rule (shape_at 1).rules
 unfolding clap_on_literals
-seed_alone = (inr (refl, refl, refl, λ e. refl), (inr (refl, refl, refl, λ e. no e), (inr (refl, refl, refl, λ e. no e), (inl refl, tt))))
+seed_alone = (inr (refl, refl, λ e. refl), (inr (refl, refl, λ e. no e), (inr (refl, refl, λ e. no e), (inl refl, tt))))
 
 replicas_alone : AllOne replicas_rule (shape_at 1).rules
 unfolding clap_on_literals
-replicas_alone = (inr (refl, refl, refl, λ e. no e), (inr (refl, refl, refl, λ e. refl), (inr (refl, refl, refl, λ e. no e), (inl refl, tt))))
+replicas_alone = (inr (refl, refl, λ e. no e), (inr (refl, refl, λ e. refl), (inr (refl, refl, λ e. no e), (inl refl, tt))))
 
 events_alone : AllOne events_rule (shape_at 1).rules
 unfolding clap_on_literals
-events_alone = (inr (refl, refl, refl, λ e. no e), (inr (refl, refl, refl, λ e. no e), (inr (refl, refl, refl, λ e. refl), (inl refl, tt))))
+events_alone = (inr (refl, refl, λ e. no e), (inr (refl, refl, λ e. no e), (inr (refl, refl, λ e. refl), (inl refl, tt))))
 
 run_replicas_alone : AllOne replicas_rule (shape_at 2).rules
 unfolding clap_on_literals
-run_replicas_alone = (inr (refl, refl, refl, λ e. refl), (inr (refl, refl, refl, λ e. no e), (inl refl, tt)))
+run_replicas_alone = (inr (refl, refl, λ e. refl), (inr (refl, refl, λ e. no e), (inl refl, tt)))
 
 each_alone : AllOne each_rule (shape_at 2).rules
 unfolding clap_on_literals
-each_alone = (inr (refl, refl, refl, λ e. no e), (inr (refl, refl, refl, λ e. refl), (inl refl, tt)))
+each_alone = (inr (refl, refl, λ e. no e), (inr (refl, refl, λ e. refl), (inl refl, tt)))
 
 module _ (words : List Text) (faultless : level_fault (shape_at 1) [] nothing_held words false [] ≡ []) where
   settled_at_end : List Row

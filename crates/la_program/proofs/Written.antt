@@ -1,5 +1,5 @@
 -- What is written part by part.
-use Rattle.std.proofs.Common.{◌≡◌, ℕ, ◌+◌, ◌-◌, ◌<◌, ◌≤◌, refl, arith, append_assoc, Some, get_or, [], ◌∷◌, List, ◌++◌, length, take, drop, Option, None, ap, sym, ◌∙◌, subst}
+use Rattle.std.proofs.Common.{◌≡◌, ℕ, ◌+◌, ◌-◌, ◌<◌, ◌≤◌, arith, append_assoc, Some, get_or, [], ◌∷◌, List, ◌++◌, length, take, drop, Option, None, ap, sym, ◌∙◌, subst}
 use Rattle.std.specs.Io.KnownBytes.{Appends, Keeps}
 use Rattle.std.proofs.Math.Seq.{take-add}
 use Rattle.std.proofs.lemmas.List.{take_rest, take_more, take-append-drop, flat_map_more, take_all, append-nil}

@@ -1,2 +1,4 @@
 pub mod Always
 pub mod Fronts
+pub mod GivenNumbers
+pub mod Faultless

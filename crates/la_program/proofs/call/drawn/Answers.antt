@@ -1,7 +1,7 @@
 use Rattle.std.proofs.Common.{codes, arith}
 use Rattle.std.specs.Str.Parse.{ParsesUnsigned, ExplainsUnsignedError, HasUnsignedDigitsIfOk}
 use Rattle.clap.specs.Words.{found_of}
-use Rattle.la_program.proofs.CommandLines.{some_number, taken_is_given}
+use Rattle.la_program.proofs.lemmas.GivenNumbers.{some_number, taken_is_given}
 use Rattle.la_program.proofs.call.drawn.Goals as goal
 
 pub unwrap-requires : goal.unwrap-requires

@@ -1,4 +1,4 @@
-use Rattle.std.proofs.Common.{◌≡◌, ◌∙◌, ap, sym, subst, length, map, replicate}
+use Rattle.std.proofs.Common.{◌≡◌, ◌∙◌, ap, sym, subst, length}
 use Rattle.std.proofs.lemmas.List.{length-map, length-replicate}
 use Rattle.la_runner.specs.Runs.{IsRunConfig, IsRunRefusal}
 use Rattle.la_program.specs.Threads.{increments}

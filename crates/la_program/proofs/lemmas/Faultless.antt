@@ -51,10 +51,10 @@ abbrev pub AllHold : Rule → List Row → Type 0
 AllHold a [] = ⊤
 AllHold a (r ∷ rs) = Holds a r × AllHold a rs
 
--- each use of the rule b has one value, and b is the rule a where it has its id; or no use is without a fault
+-- each use of the rule b has a value, and b is the rule a where it has its id; or no use is without a fault
 abbrev pub IsOne : Rule → Rule → Type 0
 IsOne a b = (is_request (action_of b) ≡ true)
-    ⊎ ((action_of b ≡ action.Set) × ((unwrap_or_range b.range).start_inclusive ≡ 1) × (most_values b ≡ 1) × (bytes_eq b.id a.id ≡ true → b ≡ a))
+    ⊎ ((action_of b ≡ action.Set) × ((unwrap_or_range b.range).start_inclusive ≡ 1) × (bytes_eq b.id a.id ≡ true → b ≡ a))
 
 abbrev pub AllOne : Rule → List Rule → Type 0
 AllOne a [] = ⊤
@@ -126,7 +126,7 @@ used_hold a b again (v ∷ vs) rows (inr one) e h =
     let fault : action_fault action.Set again b (v ∷ vs) rows ≡ [] = subst (λ (x : ArgAction). action_fault x again b (v ∷ vs) rows ≡ []) one.0 (next_none _ _ e) in
     let passes = first_none _ _ (next_none (repeat_fault again b.id rows) _ fault) in
     subst (λ (x : ArgAction). AllHold a (used_as x b.id (reading_by b) (v ∷ vs) rows)) (sym one.0)
-    (with_values_hold a b _ v vs _ one.3 passes (without_hold a b.id rows h))
+    (with_values_hold a b _ v vs _ one.2 passes (without_hold a b.id rows h))
 
 -- ---- the walk
 
@@ -272,7 +272,7 @@ default_hold a b rows one e k = go (has_row b.id rows) b.defaults one e
   where
     given : (v : Text) (vs : List Text) → IsOne a b → given_default_fault b (v ∷ vs) ≡ [] → AllHold a (default_rows b.id (reading_by b) (v ∷ vs) rows)
     given v vs (inl request) f = absurd (request_kinds_never (action_of b) request (first_none (request_kinds (action_of b)) (values_fault b (v ∷ vs)) f))
-    given v vs (inr one) f = with_values_hold a b _ v vs rows one.3 (first_none _ _ (next_none (request_kinds (action_of b)) (values_fault b (v ∷ vs)) f)) k
+    given v vs (inr one) f = with_values_hold a b _ v vs rows one.2 (first_none _ _ (next_none (request_kinds (action_of b)) (values_fault b (v ∷ vs)) f)) k
 
     go : (t : Bool) (ds : List Text) → IsOne a b → cond (t || is_empty ds) [] (given_default_fault b ds) ≡ [] → AllHold a (cond t rows (default_rows b.id (reading_by b) ds rows))
     go true ds one f = k

@@ -1,0 +1,11 @@
+use Rattle.std.proofs.Common.{rules, ◌≡◌, ◌∙◌, ap, false}
+use Rattle.std.proofs.lemmas.Result.{IfOk-weaker}
+use Rattle.clap.specs.Words.{app_of, rule_of, with_rule}
+use Rattle.la_filter.specs.Options.{journal}
+use Rattle.la_filter.proofs.options.with_journal.Goals as goal
+
+pub returns : goal.returns
+returns c =
+    let whole : rule_of c.required.result ≡ journal = search rules in
+    let local : c.required.result.global ≡ false = search rules in
+    IfOk-weaker c.arg.result _ _ (λ made h. h.shape local ∙ ap (with_rule (app_of c.args.command)) whole) c.arg.ensures
