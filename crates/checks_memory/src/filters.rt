@@ -6,12 +6,12 @@ ghost use Rattle.la_journal.specs.Durable.{IsSettled};
 use crate::given::{Came, again, holds, refused, second};
 use clap::Error;
 use clap::error::ErrorKind;
-use la_filter::{Filter, NodeFault, Options, command, end_without_options, run, serve};
+use la_filter::{Filter, NodeFault, Options, command, run, serve};
 use la_journal::{Disk, Durable, MemoryDisk, Staged, recover};
 use la_node::NodeMachine;
 use la_object::Shelf;
 use la_orset::OrSet;
-use la_program::{Listener, WriteFailed, flush, write_some};
+use la_program::{Listener, WriteFailed, end_without_call, flush, write_some};
 use la_proposer::Votes;
 use la_set::UpdateSet;
 use la_world::Config;
@@ -316,7 +316,7 @@ fn ends_with_help(alloc: Global, error: &Error) -> Came {
     let mut told = Told {
         bytes: room(alloc)?,
     };
-    match end_without_options(alloc, error, &mut output, &mut told) {
+    match end_without_call(alloc, error, &mut output, &mut told).status {
         0 => Some(output.starts_with(b"Runs one replica") && told.bytes.is_empty()),
         3 => refused(is_memory(&output, &told.bytes)),
         _ => Some(false),
@@ -328,7 +328,7 @@ fn ends_with_mistake(alloc: Global, error: &Error) -> Came {
     let mut told = Told {
         bytes: room(alloc)?,
     };
-    match end_without_options(alloc, error, &mut output, &mut told) {
+    match end_without_call(alloc, error, &mut output, &mut told).status {
         2 => Some(output.is_empty() && told.bytes.starts_with(b"error:")),
         3 => refused(is_memory(&output, &told.bytes)),
         _ => Some(false),
@@ -363,7 +363,7 @@ fn ends_for_memory(alloc: Global, error: &Error) -> Came {
     let mut told = Told {
         bytes: room(alloc)?,
     };
-    let status = end_without_options(alloc, error, &mut output, &mut told);
+    let status = end_without_call(alloc, error, &mut output, &mut told).status;
     refused(status == 3 && is_memory(&output, &told.bytes))
 }
 

@@ -21,4 +21,4 @@ pub use error::NodeFault;
 pub use filter::Filter;
 pub use options::{Options, command};
 pub use serving::serve;
-pub use starting::{end_with, end_without_options, run};
+pub use starting::{end_with, run};

@@ -15,19 +15,18 @@ use crate::serving::serve;
 use crate::shelf::shelf_of;
 use crate::{Filter, NodeFault, Options};
 use arrayvec::ArrayString;
-use clap::Error;
 use la_journal::{Disk, Staged, Unplayed, recover};
 use la_node::{NodeError, NodeMachine};
 use la_object::{Counter, MaxRegister, Replicated, Shelf};
 use la_orset::OrSet;
-use la_program::{Listener, tell_all, write_all};
+use la_program::{Listener, tell_all};
 use la_world::WorldError;
 use std::alloc::{AllocError, Global};
 use std::io::{Read, Write};
 
 type Line = ArrayString<16>;
 
-/// The exit status after a fault.
+// The exit status after a fault.
 fn status_of(fault: NodeFault) -> u8
     ensures { result ≡ status_of fault }
 {
@@ -38,7 +37,7 @@ fn status_of(fault: NodeFault) -> u8
     }
 }
 
-//// The exit status after a fault, which is told.
+/// The exit status after a fault, which is told.
 pub fn end_with<E: Listener>(fault: NodeFault, errors: &mut E) -> u8
     ensures status { result ≡ status_of fault }
     ensures told { Tells E.contents E.refuses errors.old errors.new (end_line fault) }
@@ -48,29 +47,6 @@ pub fn end_with<E: Listener>(fault: NodeFault, errors: &mut E) -> u8
     line.push_str("\n");
     let _ = tell_all(errors, line.as_str().as_bytes());
     status_of(fault)
-}
-
-/// The exit status where words are no options: help is written, and a mistake is told.
-pub fn end_without_options<W: Write, E: Listener>(
-    alloc: Global,
-    error: &Error,
-    output: &mut W,
-    errors: &mut E,
-) -> u8 {
-    if error.kind() == clap::error::ErrorKind::OutOfMemory {
-        return end_with(NodeFault::Memory, errors);
-    }
-    let Ok(text) = format!(in alloc; "{error}") else {
-        return end_with(NodeFault::Memory, errors);
-    };
-    if error.use_stderr() {
-        let _ = tell_all(errors, text.as_bytes());
-        return 2;
-    }
-    match write_all(output, text.as_bytes()) {
-        Ok(()) => 0,
-        Err(_) => end_with(NodeFault::WriteFault, errors),
-    }
 }
 
 // Why a node does not begin whose journal was not played. A line that finds no room says nothing against the journal.

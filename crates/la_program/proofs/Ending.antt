@@ -3,6 +3,7 @@ use Rattle.std.proofs.Common.{◌≡◌, ◌≢◌, ◌∙◌, ℕ, Bool, true, 
 use Rattle.std.proofs.lemmas.Bool.{false≢true}
 use Rattle.clap.specs.Words.{HasKind, IsAmong, fault_of, kind_of}
 use Rattle.clap.specs.declared.error.Error.{Error}
+use Rattle.clap.specs.declared.error.kind.ErrorKind.{ErrorKind}
 use Rattle.clap.specs.declared.error.kind.ErrorKind.TheVariants.{OutOfMemory, DisplayHelp, DisplayVersion}
 use Rattle.la_object.specs.Shelves.{ShelfState}
 use Rattle.la_program.specs.Calls.{lattice, IsText, IsMistaken, AsksForText}
@@ -44,7 +45,7 @@ a_told_fault_is_no_good_end heard f ended tells = told_status heard _ _ ended te
 
 -- without a task, the status 0 is that of a text that was asked for and written
 pub without_task_well : (words : List (List ℕ)) (shelves : List ShelfState) (old new : Standard) (heard : Heard) (ended : Ended)
-    → EndsWithoutTask words old new heard ended → ended.status ≡ 0 → EndsWell words shelves old new heard ended
+    → EndsWithoutTask (fault_of lattice words) old new heard ended → ended.status ≡ 0 → EndsWell words shelves old new heard ended
 without_task_well words shelves old new heard ended (inl shown) zero = inr shown
 without_task_well words shelves old new heard ended (inr (inl it)) zero = absurd (a_told_fault_is_no_good_end heard WriteFault ended it.tells zero)
 without_task_well words shelves old new heard ended (inr (inr (inl it))) zero = absurd (told_status heard it.text 2 ended it.tells (λ e. cc) zero)
@@ -53,13 +54,13 @@ without_task_well words shelves old new heard ended (inr (inr (inr it))) zero = 
 -- ## Words that call for no task
 
 -- the error's kind is one of those of the words, unless memory was refused
-among : (words : List (List ℕ)) (e : Error) → HasKind (fault_of lattice words) e → kind_of e ≢ OutOfMemory → IsAmong (kind_of e) (fault_of lattice words)
-among words e (inl memory) other = absurd (other memory)
-among words e (inr is) other = is
+among : (found : List ErrorKind) (e : Error) → HasKind found e → kind_of e ≢ OutOfMemory → IsAmong (kind_of e) found
+among found e (inl memory) other = absurd (other memory)
+among found e (inr is) other = is
 
-pub words_are_mistaken : (words : List (List ℕ)) (e : Error) → HasKind (fault_of lattice words) e → kind_of e ≢ OutOfMemory
-    → kind_of e ≢ DisplayHelp → kind_of e ≢ DisplayVersion → IsMistaken words
-words_are_mistaken words e has other help version = (kind_of e, among words e has other, ⊎_elim help version)
+pub words_are_mistaken : (found : List ErrorKind) (e : Error) → HasKind found e → kind_of e ≢ OutOfMemory
+    → kind_of e ≢ DisplayHelp → kind_of e ≢ DisplayVersion → IsMistaken found
+words_are_mistaken found e has other help version = (kind_of e, among found e has other, ⊎_elim help version)
 
-pub words_ask_for_text : (words : List (List ℕ)) (e : Error) → HasKind (fault_of lattice words) e → kind_of e ≢ OutOfMemory → IsText (kind_of e) → AsksForText words
-words_ask_for_text words e has other text = (kind_of e, among words e has other, text)
+pub words_ask_for_text : (found : List ErrorKind) (e : Error) → HasKind found e → kind_of e ≢ OutOfMemory → IsText (kind_of e) → AsksForText found
+words_ask_for_text found e has other text = (kind_of e, among found e has other, text)

@@ -151,10 +151,10 @@ pub record Calls (words : List Text) (task : Task) : Type 0 where
 abbrev pub IsText : ErrorKind → Type 0
 IsText kind = (kind ≡ DisplayHelp) ⊎ (kind ≡ DisplayVersion)
 
--- the words ask for help or for the version
-abbrev pub AsksForText : (words : List Text) → Type 0
-AsksForText words = (kind : ErrorKind) × IsAmong kind (fault_of lattice words) × IsText kind
+-- words of which this is found ask for help or for the version
+abbrev pub AsksForText : (found : List ErrorKind) → Type 0
+AsksForText found = (kind : ErrorKind) × IsAmong kind found × IsText kind
 
--- something is wrong with the words
-abbrev pub IsMistaken : (words : List Text) → Type 0
-IsMistaken words = (kind : ErrorKind) × IsAmong kind (fault_of lattice words) × ¬ IsText kind
+-- something is wrong with them
+abbrev pub IsMistaken : (found : List ErrorKind) → Type 0
+IsMistaken found = (kind : ErrorKind) × IsAmong kind found × ¬ IsText kind

@@ -2,6 +2,8 @@
 -- and after, what is told, and how it ends.
 use Rattle.std.specs.Prelude.{◌≡◌, ◌⊎◌, ℕ, ◌<◌, Bool, true, false, List, length, Option, MatchResult}
 use Rattle.std.specs.Io.KnownBytes.{Appends, Keeps}
+use Rattle.clap.specs.Words.{fault_of}
+use Rattle.clap.specs.declared.error.kind.ErrorKind.{ErrorKind}
 use Rattle.la_object.specs.Shelves.{ShelfState}
 use Rattle.la_program.specs.declared.error.PlayFault.{PlayFault}
 use Rattle.la_program.specs.declared.error.PlayFault.TheVariants.{Memory, WriteFault}
@@ -12,7 +14,7 @@ use Rattle.la_program.specs.Streams.{AppendsPrefix, Refuses}
 use Rattle.la_program.specs.Faults.{status_of}
 use Rattle.la_program.specs.Play.{Plays, IsPlayRefusal, PlaysDraw, IsDrawRefusal}
 use Rattle.la_program.specs.Threads.{RunsThreads, IsThreadsRefusal}
-use Rattle.la_program.specs.Calls.{Calls, AsksForText, IsMistaken}
+use Rattle.la_program.specs.Calls.{lattice, Calls, AsksForText, IsMistaken}
 use Rattle.la_program.specs.Texts.{fault_line, no_text_line}
 
 -- what standard error did to lines: the bytes that it holds before and after, and which lines it
@@ -131,8 +133,8 @@ pub record EndsRefused
 
 -- help or the version was asked for and written, and nothing was read or told
 pub record EndsShown
-    (words : List (List ℕ)) (old new : Standard) (heard : Heard) (ended : Ended) : Type 0 where
-  pub asked : AsksForText words
+    (found : List ErrorKind) (old new : Standard) (heard : Heard) (ended : Ended) : Type 0 where
+  pub asked : AsksForText found
   pub unread : new.left ≡ old.left
   pub text : List ℕ
   pub some : 0 < length text
@@ -142,8 +144,8 @@ pub record EndsShown
 
 -- it was asked for, and not all of it was written; that was told
 pub record EndsUnshown
-    (words : List (List ℕ)) (old new : Standard) (heard : Heard) (ended : Ended) : Type 0 where
-  pub asked : AsksForText words
+    (found : List ErrorKind) (old new : Standard) (heard : Heard) (ended : Ended) : Type 0 where
+  pub asked : AsksForText found
   pub unread : new.left ≡ old.left
   pub text : List ℕ
   pub some : 0 < length text
@@ -152,8 +154,8 @@ pub record EndsUnshown
 
 -- the words are mistaken: nothing was read or written, and a text was told
 pub record EndsMistaken
-    (words : List (List ℕ)) (old new : Standard) (heard : Heard) (ended : Ended) : Type 0 where
-  pub mistaken : IsMistaken words
+    (found : List ErrorKind) (old new : Standard) (heard : Heard) (ended : Ended) : Type 0 where
+  pub mistaken : IsMistaken found
   pub unread : new.left ≡ old.left
   pub unwritten : new.written ≡ old.written
   pub text : List ℕ
@@ -166,13 +168,13 @@ pub record EndsStarved (old new : Standard) (heard : Heard) (ended : Ended) : Ty
   pub unwritten : new.written ≡ old.written
   pub tells : TellsFault heard Memory ended
 
--- the words call for no task
+-- words of which this is found call for nothing to be done
 abbrev pub EndsWithoutTask :
-    (words : List (List ℕ)) → (old new : Standard) → Heard → Ended → Type 0
-EndsWithoutTask words old new heard ended =
-    EndsShown words old new heard ended ⊎
-    (EndsUnshown words old new heard ended ⊎
-    (EndsMistaken words old new heard ended ⊎ EndsStarved old new heard ended))
+    (found : List ErrorKind) → (old new : Standard) → Heard → Ended → Type 0
+EndsWithoutTask found old new heard ended =
+    EndsShown found old new heard ended ⊎
+    (EndsUnshown found old new heard ended ⊎
+    (EndsMistaken found old new heard ended ⊎ EndsStarved old new heard ended))
 
 -- what came of the program
 abbrev pub Ends :
@@ -181,11 +183,11 @@ abbrev pub Ends :
 Ends words shelves old new heard ended =
     EndsDone words shelves old new heard ended ⊎
     (EndsDiffering words shelves old new heard ended ⊎
-    (EndsRefused words shelves old new heard ended ⊎ EndsWithoutTask words old new heard ended))
+    (EndsRefused words shelves old new heard ended ⊎ EndsWithoutTask (fault_of lattice words) old new heard ended))
 
 -- what a status of 0 says: a task was done, replicas agreeing where they were run, or a text that was asked for was written whole
 abbrev pub EndsWell :
     (words : List (List ℕ)) → (shelves : List ShelfState) → (old new : Standard) → Heard → Ended →
     Type 0
 EndsWell words shelves old new heard ended =
-    EndsDone words shelves old new heard ended ⊎ EndsShown words old new heard ended
+    EndsDone words shelves old new heard ended ⊎ EndsShown (fault_of lattice words) old new heard ended

@@ -36,7 +36,7 @@ pub use error::PlayFault;
 pub use listener::{Listener, tell_all};
 pub use objects::run_boxed;
 pub use play::{answer_to, fit_any_group, play_random, play_stream};
-pub use program::{Ended, carry_out, end_without_words, run_words, status_of};
+pub use program::{Ended, carry_out, end_without_call, end_without_words, run_words, status_of};
 pub use shelves::{Numbered, fill};
 pub use streams::{
     InputFault, LIMIT, WriteFailed, flush, read_all, write_all, write_pieces, write_some,

@@ -21,7 +21,7 @@ use std::sync::Wait;
 use std::thread::Threads;
 
 // What is shown where `clap` has no text for an error: it states nothing of its texts.
-const SEE_HELP: &str = "see lattice --help\n";
+const SEE_HELP: &str = "see --help\n";
 
 /// How the program ended.
 #[derive(Clone, Copy)]
@@ -102,16 +102,19 @@ fn shown(text: &str) -> &[u8]
     }
 }
 
-// The end of words that call for no task: help and the version are written, and a mistake is told.
-fn end_without_task<W: Write, E: Listener>(
+/// The end of a program whose words are no call, for what `clap` says of them: help and the version are
+/// written, and a mistake is told. Where `clap` has no text for that, it is a line that names `--help`.
+///
+/// The status is 0 where a text that was asked for was written whole, 2 after a mistake, and else that
+/// of `Memory` or `WriteFault`, which is told. Where `errors` does not take what is told, a front of it
+/// was written, and the status is the same.
+pub fn end_without_call<W: Write, E: Listener>(
     alloc: Global,
     error: &Error,
-    words: &[String],
     output: &mut W,
     errors: &mut E,
 ) -> Ended
-    requires { HasKind (fault_of lattice (map string_bytes words.now)) error.now }
-    ensures { (left : _) → EndsWithoutTask (map string_bytes words.now)
+    ensures { (found : _) → HasKind found error.now → (left : _) → EndsWithoutTask found
         (standard left (W.contents output.old)) (standard left (W.contents output.new))
         (heard E.contents E.refuses errors.old errors.new) result }
 {
@@ -168,7 +171,7 @@ pub fn carry_out<P: Threads + Wait + Sync, R: Read, W: Write, E: Listener, B: Re
             },
             Err(fault) => end_with(fault, errors),
         },
-        Err(error) => end_without_task(alloc, &error, words, output, errors),
+        Err(error) => end_without_call(alloc, &error, output, errors),
     }
 }
 
