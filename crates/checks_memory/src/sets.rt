@@ -275,9 +275,16 @@ fn push_tag(tags: &mut Tags, number: u32) -> Came {
     }
 }
 
+fn room_for_tags(alloc: Global) -> Came {
+    match Tags::with_capacity(alloc, 3) {
+        Ok(mut tags) => Some(tags.push(id(7, 1)) == Ok(true) && are_tags(&tags, 1)),
+        Err(_) => refused(true),
+    }
+}
+
 fn tags_go_on(alloc: Global) -> Came {
     let mut tags = tags_of(alloc, 5)?;
-    on_tags(&mut tags, alloc)
+    Some(on_tags(&mut tags, alloc)? && again!(alloc, room_for_tags(alloc))?)
 }
 
 // There is room for eight, and then for more.

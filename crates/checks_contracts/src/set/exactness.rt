@@ -104,6 +104,15 @@ fn tags_new_is_exact(alloc: Global) -> (Tags, Tags)
     (Tags::new(alloc), Tags::new(alloc))
 }
 
+fn tags_with_capacity_are_exact(alloc: Global, count: usize) -> Result<(Tags, Tags), AllocError>
+    ensures { IfOk result (λ both. both.0 ≡ both.1) }
+{
+    Ok((
+        Tags::with_capacity(alloc, count)?,
+        Tags::with_capacity(alloc, count)?,
+    ))
+}
+
 fn tags_len_is_exact(tags: &Tags) -> (usize, usize)
     ensures { result.0 ≡ result.1 }
 {
