@@ -1,5 +1,5 @@
 -- Copies of what was put and of what is gone, which are made one entry after another.
-use Rattle.std.proofs.Common.{◌≡◌, ℕ, zero, suc, ◌+◌, ◌<◌, ◌≤◌, eqb, ◌==◌, Bool, true, false, ◌&&◌, ◌||◌, cond, List, [], ◌∷◌, ◌++◌, map as list_map, length, get_or, drop, if◌then◌else◌, Option, Some, None, is_some, refl, ap, sym, ◌∙◌, subst, inl, inr, arith}
+use Rattle.std.proofs.Common.{◌≡◌, ℕ, zero, suc, ◌+◌, ◌<◌, ◌≤◌, eqb, Bool, true, false, ◌&&◌, ◌||◌, cond, List, [], ◌∷◌, ◌++◌, map as list_map, length, get_or, drop, if◌then◌else◌, Option, Some, None, is_some, refl, ap, sym, ◌∙◌, subst, inl, inr, arith}
 use Rattle.std.specs.List.{list_any}
 use Rattle.std.specs.Map.{lookup}
 use Rattle.std.specs.Ordering.{is_eq, eq_by_cmp}
@@ -18,7 +18,6 @@ use Rattle.std.proofs.Math.Seq.{drop-cons}
 use Rattle.std.proofs.lemmas.List.{drop_all, get_or_default}
 use Rattle.la_object.proofs.lemmas.Sorted.{get-lookup}
 use Rattle.la_orset.specs.declared.rows.Row.{Row}
-use Rattle.la_orset.specs.declared.rows.TheConstants.{GONE}
 use Rattle.la_orset.specs.Index.{id_eq}
 use Rattle.la_orset.specs.Rows.{Known, known, at_number, IsAscending}
 use Rattle.la_orset.specs.Puts.{adds_of, gone_of, row_entry, entries_from, all_added, all_gone}
@@ -53,7 +52,7 @@ added-next adds r rows i row lt is =
     ap (λ rs. all_added adds (list_map (row_entry r) rs)) (drop-cons rows i row lt ∙ (λ j. sym is j ∷ drop (next j) rows))
 
 pub gone-next : (ids : IdSet) (r : ℕ) (rows : List Row) (i : ℕ) (row : Row) → i < length rows → row ≡ get_or rows i row
-    → all_gone ids (list_map (row_entry r) (drop i rows)) ≡ all_gone (if row.place == GONE then set.insert ids (record { replica = r; number = row.number }) else ids) (list_map (row_entry r) (drop (i + 1) rows))
+    → all_gone ids (list_map (row_entry r) (drop i rows)) ≡ all_gone (if row.gone then set.insert ids (record { replica = r; number = row.number }) else ids) (list_map (row_entry r) (drop (i + 1) rows))
 gone-next ids r rows i row lt is =
     let next : suc i ≡ i + 1 = omega arith in
     ap (λ rs. all_gone ids (list_map (row_entry r) rs)) (drop-cons rows i row lt ∙ (λ j. sym is j ∷ drop (next j) rows))

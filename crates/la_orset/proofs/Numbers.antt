@@ -11,7 +11,6 @@ use Rattle.std.proofs.lemmas.Grind.{common_steps}
 use Rattle.std.proofs.lemmas.List.Sorted.{IsNonDecreasingBy-from_default}
 use Rattle.std.proofs.lemmas.List.Edits.{length-insert, get_or-insert_below, get_or-insert_at, get_or-insert_above}
 use Rattle.la_orset.specs.declared.rows.Row.{Row}
-use Rattle.la_orset.specs.declared.rows.TheConstants.{GONE}
 use Rattle.la_orset.specs.Rows.{known, at_number, live_element, named, no_row, number_at, IsAscending, IsAt, IsGapFor, IsPut}
 
 -- no row before a place has the number
@@ -136,37 +135,26 @@ module _ (rows : List Row) (ascending : IsAscending rows) (n i : ℕ) (at : IsAt
   pub read_known : at_number rows n ≡ Some (known row)
   read_known = row_there rows ascending n i at ∙ ap (λ r. Some (known r)) (sym read_is)
 
-  pub answer_live : (row.place == GONE) ≡ false → Some row.element ≡ live_element (at_number rows n)
+  pub answer_live : row.gone ≡ false → Some row.element ≡ live_element (at_number rows n)
   answer_live stays = sym (ap live_element read_known ∙ ap (λ b. if b then None else Some row.element) stays)
 
-  pub answer_gone : (row.place == GONE) ≡ true → None ≡ live_element (at_number rows n)
+  pub answer_gone : row.gone ≡ true → None ≡ live_element (at_number rows n)
   answer_gone gone = sym (ap live_element read_known ∙ ap (λ b. if b then None else Some row.element) gone)
 
-  pub named_put : IsPut rows n (named (at_number rows n)) (set rows i (record { number = row.number; place = GONE; element = row.element }))
-  named_put = subst (λ o. IsPut rows n o (set rows i (record { number = row.number; place = GONE; element = row.element })))
-      (sym (ap named read_known)) (put_there rows ascending n i at (record { number = row.number; place = GONE; element = row.element }) read_number)
+  pub named_put : IsPut rows n (named (at_number rows n)) (set rows i (record { number = row.number; gone = true; element = row.element }))
+  named_put = subst (λ o. IsPut rows n o (set rows i (record { number = row.number; gone = true; element = row.element })))
+      (sym (ap named read_known)) (put_there rows ascending n i at (record { number = row.number; gone = true; element = row.element }) read_number)
 
-  pub named_ascending : IsAscending (set rows i (record { number = row.number; place = GONE; element = row.element }))
-  named_ascending = set_ascending rows ascending n i at (record { number = row.number; place = GONE; element = row.element }) read_number
+  pub named_ascending : IsAscending (set rows i (record { number = row.number; gone = true; element = row.element }))
+  named_ascending = set_ascending rows ascending n i at (record { number = row.number; gone = true; element = row.element }) read_number
 
   put_same : (q : ℕ) (b : Bool) → eqb n q ≡ b → at_number rows q ≡ (if b then Some (known row) else at_number rows q)
   put_same q true is = ap (at_number rows) (sym (eqb-true n q is)) ∙ read_known
   put_same q false is = refl
 
   -- one that was named is not changed
-  pub named_same : (row.place == GONE) ≡ true → IsPut rows n (named (at_number rows n)) rows
+  pub named_same : row.gone ≡ true → IsPut rows n (named (at_number rows n)) rows
   named_same gone = subst (λ o. IsPut rows n o rows) (sym (ap named read_known ∙ ap (λ b. Some (record { element = row.element; gone = b })) (sym gone))) (λ q. put_same q (eqb n q) refl)
-
-  -- nor is what a row with another place says
-  module _ (place : ℕ) (stays : (row.place == GONE) ≡ false) (is_place : (place == GONE) ≡ false) where
-    pub placed_same : (q : ℕ) → at_number (set rows i (record { number = row.number; place = place; element = row.element })) q ≡ at_number rows q
-    placed_same q =
-        put_there rows ascending n i at (record { number = row.number; place = place; element = row.element }) read_number q
-        ∙ ap (λ b. if eqb n q then Some (record { element = row.element; gone = b }) else at_number rows q) (is_place ∙ sym stays)
-        ∙ sym (put_same q (eqb n q) refl)
-
-    pub placed_ascending : IsAscending (set rows i (record { number = row.number; place = place; element = row.element }))
-    placed_ascending = set_ascending rows ascending n i at (record { number = row.number; place = place; element = row.element }) read_number
 
 -- ## Guesses
 

@@ -1,7 +1,6 @@
 -- What was put under the ids of one replica, by their numbers.
-use Rattle.std.specs.Prelude.{◌≡◌, ℕ, ◌<◌, ◌≤◌, ◌==◌, Bool, true, List, [], ◌∷◌, length, if◌then◌else◌, slice_index_or, Option, Some, None}
+use Rattle.std.specs.Prelude.{◌≡◌, ℕ, ◌<◌, ◌≤◌, ◌==◌, Bool, true, false, List, [], ◌∷◌, length, if◌then◌else◌, slice_index_or, Option, Some, None}
 use Rattle.la_orset.specs.declared.rows.Row.{Row}
-use Rattle.la_orset.specs.declared.rows.TheConstants.{GONE}
 
 -- what was put, and whether a Remove named the id of its Put
 pub record Known : Type 0 where
@@ -9,7 +8,7 @@ pub record Known : Type 0 where
   pub gone : Bool
 
 abbrev pub known : Row → Known
-known row = record { element = row.element; gone = row.place == GONE }
+known row = record { element = row.element; gone = row.gone }
 
 -- what was put under a number
 abbrev pub at_number : List Row → ℕ → Option Known
@@ -17,7 +16,7 @@ at_number [] n = None
 at_number (row ∷ rows) n = if n == row.number then Some (known row) else at_number rows n
 
 abbrev pub no_row : Row
-no_row = record { number = 0; place = 0; element = 0 }
+no_row = record { number = 0; gone = false; element = 0 }
 
 abbrev pub number_at : List Row → ℕ → ℕ
 number_at rows i = let row = slice_index_or rows i no_row in row.number

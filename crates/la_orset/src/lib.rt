@@ -12,6 +12,7 @@ mod live;
 mod live_table;
 mod live_tree;
 mod or_set;
+mod packed_row;
 mod puts;
 mod rows;
 mod tag_list;

@@ -1,4 +1,4 @@
-ghost use Rattle.std.specs.Prelude.{◌≡◌, ◌==◌, false, drop, OnOk, OnErr, Some};
+ghost use Rattle.std.specs.Prelude.{◌≡◌, drop, OnOk, OnErr, Some};
 ghost use Rattle.std.specs.FinSet as set;
 ghost use Rattle.la_object.specs.declared.kind.Kind.TheVariants.{OrSet as OrSetKind};
 ghost use Rattle.la_object.specs.declared.state.State.TheVariants.{Set};
@@ -10,7 +10,6 @@ ghost use Rattle.la_orset.specs.Puts.{adds_of, named_of, gone_of, with_named, Ke
 
 use crate::live::Live;
 use crate::puts::Puts;
-use crate::rows::GONE;
 use la_object::{Answer, Ids, Kind, ObserveError, Query, Replicated, State};
 use la_set::{Op, Tags, Update, UpdateId};
 use std::alloc::{AllocError, Global};
@@ -57,11 +56,11 @@ impl OrSet {
             return Ok(());
         }
         if self.early.has(id) {
-            self.puts.insert(id, element, GONE)?;
+            self.puts.insert(id, element, None)?;
             return Ok(());
         }
         let place = self.live.insert(element, id)?;
-        if let Err(refused) = self.puts.insert(id, element, hint_of(place)) {
+        if let Err(refused) = self.puts.insert(id, element, Some(hint_of(place))) {
             self.live.remove(element, id, place);
             return Err(refused);
         }
@@ -130,23 +129,17 @@ fn take_one(puts: &mut Puts, live: &mut Live, id: UpdateId)
         → IsIndex (adds_of puts.old) gone live.old
         → IsIndex (adds_of puts.old) (set.insert gone id) live.new }
 {
-    let Some(row) = puts.name(id) else {
+    let Some(named) = puts.name(id) else {
         return;
     };
-    if let Some(there) = live.remove(row.element, id, row.place as usize) {
-        puts.set_place(there, row.place);
+    if let Some(there) = live.remove(named.element, id, named.place as usize) {
+        puts.set_place(there, named.place);
     }
 }
 
-// The place of a tag as a hint that is none for a tag that is gone.
-fn hint_of(place: usize) -> u32
-    ensures { (result == GONE) ≡ false }
-{
-    if place < GONE as usize {
-        place as u32
-    } else {
-        0
-    }
+// The place of a tag as a hint, which is the first where it is too far to be noted.
+fn hint_of(place: usize) -> u32 {
+    u32::try_from(place).unwrap_or(0)
 }
 
 impl Replicated for OrSet {

@@ -1,10 +1,11 @@
-ghost use Rattle.std.specs.Prelude.{◌≡◌, ◌↔◌, ◌≤◌, length, map as list_map, IsTrue, IfOk, OnOk, OnErr};
+ghost use Rattle.std.specs.Prelude.{◌≡◌, ◌↔◌, ◌≤◌, length, map as list_map, is_none, IsTrue, IfOk, OnOk, OnErr};
 ghost use Rattle.std.specs.Option.{option_map};
 ghost use Rattle.std.specs.FinMap as map;
 ghost use Rattle.la_orset.specs.Rows.{known, live_element};
 ghost use Rattle.la_orset.specs.Puts.{adds_of, gone_of, with_named, entries_from, row_entry, all_added, all_gone};
 
-use crate::rows::{GONE, Row, Rows};
+use crate::packed_row::PackedRow;
+use crate::rows::{Named, Row, Rows};
 use la_object::{Adds, Ids};
 use la_set::UpdateId;
 use std::alloc::{AllocError, Global};
@@ -66,22 +67,26 @@ impl Puts {
         self.by_replica[replica].has(id.number)
     }
 
-    /// Puts an element under an id, with the place of its tag or [`GONE`]. After a refusal nothing
-    /// has changed.
-    ///
-    /// [`GONE`]: crate::rows::GONE
-    pub fn insert(&mut self, id: UpdateId, element: u64, place: u32) -> Result<(), AllocError>
+    /// Puts an element under an id, with the place of its tag, or with none where the id is gone.
+    /// After a refusal nothing has changed.
+    pub fn insert(
+        &mut self,
+        id: UpdateId,
+        element: u64,
+        place: Option<u32>,
+    ) -> Result<(), AllocError>
         ensures ok { OnOk result (self.new ≡ map.insert self.old id
-            (known (record { number = id.number; place = place; element = element }))) }
+            (known (record { number = id.number; gone = is_none place; element = element }))) }
         ensures err { OnErr result (self.new ≡ self.old) }
     {
         let replica = id.replica as usize;
         widen(self.alloc, &mut self.by_replica, replica + 1)?;
-        self.by_replica[replica].insert(Row {
+        let row = Row {
             number: id.number,
-            place,
+            gone: place.is_none(),
             element,
-        })?;
+        };
+        self.by_replica[replica].insert(row, place.unwrap_or(0))?;
         Ok(())
     }
 
@@ -98,8 +103,8 @@ impl Puts {
 
     /// Notes that a `Remove` named the id, and answers what was put under it, where none had named
     /// it.
-    pub fn name(&mut self, id: UpdateId) -> Option<Row>
-        ensures answer { option_map (λ row. row.element) result
+    pub fn name(&mut self, id: UpdateId) -> Option<Named>
+        ensures answer { option_map (λ named. named.element) result
             ≡ live_element (map.get self.old id) }
         ensures named { self.new ≡ with_named self.old id }
     {
@@ -148,10 +153,11 @@ fn widen(alloc: Global, by_replica: &mut Vec<Rows>, least: usize) -> Result<(), 
 }
 
 // Adds the elements of a replica's rows where none is there.
-fn add_rows(adds: &mut Adds, replica: u8, rows: &[Row]) -> Result<(), AllocError>
+fn add_rows(adds: &mut Adds, replica: u8, rows: &[PackedRow]) -> Result<(), AllocError>
     ensures { OnOk result (adds.new ≡ all_added adds.old (list_map (row_entry replica) rows.now)) }
 {
     for row in rows {
+        let row = row.row();
         let id = UpdateId {
             replica,
             number: row.number,
@@ -162,11 +168,12 @@ fn add_rows(adds: &mut Adds, replica: u8, rows: &[Row]) -> Result<(), AllocError
 }
 
 // Adds the ids of a replica's rows that are gone.
-fn name_rows(gone: &mut Ids, replica: u8, rows: &[Row]) -> Result<(), AllocError>
+fn name_rows(gone: &mut Ids, replica: u8, rows: &[PackedRow]) -> Result<(), AllocError>
     ensures { OnOk result (gone.new ≡ all_gone gone.old (list_map (row_entry replica) rows.now)) }
 {
     for row in rows {
-        if row.place == GONE {
+        let row = row.row();
+        if row.gone {
             gone.insert(UpdateId {
                 replica,
                 number: row.number,

@@ -2,25 +2,34 @@ ghost use Rattle.std.specs.Prelude.{◌≡◌, ℕ, [], Some, length, IsTrue, If
 ghost use Rattle.std.specs.Option.{option_map};
 ghost use Rattle.la_orset.specs.Rows.{known, at_number, live_element, named, IsAscending, IsAt, IsGapFor, IsPut};
 
+use crate::packed_row::PackedRow;
+use la_set::MAX_TAGS;
 use std::alloc::{AllocError, Global};
 use std::marker::Model;
 
-/// The place of a Put whose id a `Remove` named.
-pub const GONE: u32 = u32::MAX;
-
-/// A Put: its number among its replica's updates, where its tag stands among those of its element,
-/// which is a hint alone, or [`GONE`], and its element.
+/// A Put: its number among its replica's updates, whether a `Remove` named its id, and its element.
 #[derive(Clone, Copy)]
 pub struct Row {
     pub number: u32,
-    pub place: u32,
+    pub gone: bool,
     pub element: u64,
 }
 
-/// What was put under the ids of one replica, in ascending order of their numbers.
+/// What a `Remove` takes out: an element, and where its tag stands among the element's, which is a
+/// hint alone.
+#[derive(Clone, Copy)]
+pub struct Named {
+    pub element: u64,
+    pub place: u32,
+}
+
+/// What was put under the ids of one replica, in ascending order of their numbers. Beside the rows
+/// stands where the tag of each is among those of its element, as a hint, from the first tag on that
+/// comes behind [`MAX_TAGS`] others: fewer are soon gone through.
 #[derive(Drop)]
 pub struct Rows {
-    rows: Vec<Row>,
+    rows: Vec<PackedRow>,
+    places: Vec<u32>,
 }
 
 impl Model for Rows {
@@ -42,11 +51,12 @@ impl Rows {
     {
         Rows {
             rows: Vec::new(alloc),
+            places: Vec::new(alloc),
         }
     }
 
     /// The rows, in ascending order.
-    pub fn as_slice(&self) -> &[Row]
+    pub fn as_slice(&self) -> &[PackedRow]
         ensures rows { result.now ≡ self.now }
         ensures ascending { IsAscending self.now }
     {
@@ -60,38 +70,46 @@ impl Rows {
         self.search(number).is_ok()
     }
 
-    /// Puts a row in the place of the one with its number, or before those above. After a refusal
-    /// nothing has changed.
-    pub fn insert(&mut self, row: Row) -> Result<(), AllocError>
+    /// Puts a row in the place of the one with its number, or before those above, and notes where its
+    /// tag stands. After a refusal nothing has changed.
+    pub fn insert(&mut self, row: Row, place: u32) -> Result<(), AllocError>
         ensures ok { OnOk result (IsPut self.old row.number (Some (known row)) self.new) }
         ensures err { OnErr result (self.new ≡ self.old) }
     {
         match self.search(row.number) {
-            Ok(place) => {
-                self.rows[place] = row;
+            Ok(at) => {
+                self.rows[at] = PackedRow::new(row);
                 Ok(())
             }
-            Err(place) => {
+            Err(at) => {
                 make_room(&mut self.rows)?;
-                Ok(self.rows.insert(place, row)?)
+                note(&mut self.places, self.rows.len(), at, place)?;
+                Ok(self.rows.insert(at, PackedRow::new(row))?)
             }
         }
     }
 
     /// Notes that a `Remove` named the id, and answers what stood there, where none had named it.
-    pub fn name(&mut self, number: u32) -> Option<Row>
-        ensures answer { option_map (λ row. row.element) result
+    pub fn name(&mut self, number: u32) -> Option<Named>
+        ensures answer { option_map (λ named. named.element) result
             ≡ live_element (at_number self.old number) }
         ensures named { IsPut self.old number (named (at_number self.old number)) self.new }
     {
         match self.search(number) {
-            Ok(place) => {
-                let row = self.rows[place];
-                if row.place == GONE {
+            Ok(at) => {
+                let row = self.rows[at].row();
+                if row.gone {
                     return None;
                 }
-                self.rows[place].place = GONE;
-                Some(row)
+                self.rows[at] = PackedRow::new(Row {
+                    number: row.number,
+                    gone: true,
+                    element: row.element,
+                });
+                Some(Named {
+                    element: row.element,
+                    place: place_at(self.places.as_slice(), at),
+                })
             }
             Err(_) => None,
         }
@@ -99,16 +117,13 @@ impl Rows {
 
     /// Notes where a tag stands now.
     pub fn set_place(&mut self, number: u32, place: u32)
-        ensures { (q : ℕ) → at_number self.new q ≡ at_number self.old q }
+        ensures { self.new ≡ self.old }
     {
-        if place == GONE {
-            return;
-        }
         let Ok(at) = self.search(number) else {
             return;
         };
-        if self.rows[at].place != GONE {
-            self.rows[at].place = place;
+        if at < self.places.len() {
+            self.places[at] = place;
         }
     }
 
@@ -124,42 +139,62 @@ impl Rows {
         if let Some(place) = guess(self.rows.as_slice(), number) {
             return Ok(place);
         }
-        self.rows.binary_search_by_key(&number, |row| row.number)
+        self.rows.binary_search_by_key(&number, |row| row.number())
     }
 }
 
 // Room for one more: for 16, or for a quarter of what is there.
-fn make_room(rows: &mut Vec<Row>) -> Result<(), AllocError>
-    ensures { rows.new.items ≡ rows.old.items }
+fn make_room<T>(items: &mut Vec<T>) -> Result<(), AllocError>
+    ensures { items.new.items ≡ items.old.items }
 {
-    let len = rows.len();
-    if len < rows.capacity() {
+    let len = items.len();
+    if len < items.capacity() {
         return Ok(());
     }
     let more = if len < 64 { 16 } else { len / 4 };
-    rows.reserve_exact(more)
+    items.reserve_exact(more)
+}
+
+// Notes the place of the tag of a row that comes between so many, if one is noted or it is far.
+fn note(places: &mut Vec<u32>, rows: usize, at: usize, place: u32) -> Result<(), AllocError> {
+    if places.is_empty() && (place as usize) < MAX_TAGS {
+        return Ok(());
+    }
+    if places.len() < rows {
+        places.resize(rows, 0)?;
+    }
+    make_room(places)?;
+    if at <= places.len() {
+        places.insert(at, place)?;
+    }
+    Ok(())
+}
+
+// The place that is noted of a row, or the first.
+fn place_at(places: &[u32], at: usize) -> u32 {
+    if at < places.len() { places[at] } else { 0 }
 }
 
 // Whether each number is below this one, by the last.
-fn all_below(rows: &[Row], number: u32) -> bool
+fn all_below(rows: &[PackedRow], number: u32) -> bool
     ensures { IsTrue result → IsAscending rows.now → IsGapFor rows.now number (length rows.now) }
 {
     let len = rows.len();
     if len == 0 {
         return true;
     }
-    rows[len - 1].number < number
+    rows[len - 1].number() < number
 }
 
 // Where a number is if those from the first on follow on one another.
-fn guess(rows: &[Row], number: u32) -> Option<usize>
+fn guess(rows: &[PackedRow], number: u32) -> Option<usize>
     ensures { IfSome result (λ place. IsAt rows.now number place) }
 {
     if rows.len() == 0 {
         return None;
     }
-    let place = number.wrapping_sub(rows[0].number) as usize;
-    if place < rows.len() && rows[place].number == number {
+    let place = number.wrapping_sub(rows[0].number()) as usize;
+    if place < rows.len() && rows[place].number() == number {
         return Some(place);
     }
     None

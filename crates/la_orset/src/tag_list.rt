@@ -97,7 +97,7 @@ impl TagList {
         if self.ids.len() > MAX_TAGS {
             return Err(ObserveError::TooManyTags);
         }
-        let mut tags = Tags::new(alloc);
+        let mut tags = Tags::with_capacity(alloc, self.ids.len())?;
         for id in self.ids.as_slice() {
             // a hint to the prover: tags are in ascending order
             let _ascending = tags.len();

@@ -1,5 +1,4 @@
-use Rattle.std.proofs.Common.{false, ap, sym, ◌∙◌, subst}
-use Rattle.la_orset.specs.declared.rows.TheConstants.{GONE}
+use Rattle.std.proofs.Common.{true, false, refl, ap, sym, ◌∙◌, subst}
 use Rattle.la_orset.specs.Index.{IsIndex}
 use Rattle.la_orset.specs.Rows.{known}
 use Rattle.la_orset.specs.Puts.{adds_of, gone_of}
@@ -12,7 +11,7 @@ returns-then-has-clause-puts c = there_adds c.args.self.now.puts c.args.id c.arg
 
 pub invariant_of-self : goal.invariant_of-self
 invariant_of-self c =
-    let s = c.args.self.now in let id = c.args.id in let k = known (record { number = id.number; place = GONE; element = c.args.element }) in
+    let s = c.args.self.now in let id = c.args.id in let k = known (record { number = id.number; gone = true; element = c.args.element }) in
     let new = sym c.has.ensures ∙ c.if-has.false in
     record {
       indexed = either_way c.insert.result _ _ (IsIndex (adds_of c.insert.new.self) (gone_of s.early c.insert.new.self) s.live) c.insert.ensures.ok c.insert.ensures.err
@@ -22,12 +21,12 @@ invariant_of-self c =
 
 pub returns-then-has-2-clause-puts : goal.returns-then-has-2-clause-puts
 returns-then-has-2-clause-puts c =
-    let s = c.args.self.now in let id = c.args.id in let k = known (record { number = id.number; place = GONE; element = c.args.element }) in
+    let s = c.args.self.now in let id = c.args.id in let k = known (record { number = id.number; gone = true; element = c.args.element }) in
     ap adds_of c.in_ok-insert.ensures.ok ∙ put_adds s.puts id k (sym c.has.ensures ∙ c.if-has.false)
 
 pub returns-then-has-2-clause-gone : goal.returns-then-has-2-clause-gone
 returns-then-has-2-clause-gone c =
-    let s = c.args.self.now in let id = c.args.id in let k = known (record { number = id.number; place = GONE; element = c.args.element }) in
+    let s = c.args.self.now in let id = c.args.id in let k = known (record { number = id.number; gone = true; element = c.args.element }) in
     ap (gone_of s.early) c.in_ok-insert.ensures.ok ∙ put_gone_early s.puts id k (sym c.has.ensures ∙ c.if-has.false) s.early (sym c.has-2.ensures ∙ c.if-has-2.true)
 
 pub insert-requires-2 : goal.insert-requires-2
@@ -46,19 +45,19 @@ invariant_of-self-in-Err c =
 
 pub invariant_of-self-in_default : goal.invariant_of-self-in_default
 invariant_of-self-in_default c =
-    let s = c.args.self.now in let id = c.args.id in let k = known (record { number = id.number; place = c.hint_of.result; element = c.args.element }) in
+    let s = c.args.self.now in let id = c.args.id in let k = known (record { number = id.number; gone = false; element = c.args.element }) in
     let new = sym c.has.ensures ∙ c.if-has.false in
     record {
       indexed = subst (λ p. IsIndex (adds_of p) (gone_of s.early p) c.insert-2.new.self) (sym c.in_default.ensures.ok)
-          (index_live s.puts id k new s.early s.live s.indexed (sym c.has-2.ensures ∙ c.if-has-2.false) c.insert-2.new.self c.hint_of.ensures c.in_ok-place.ensures.ok);
+          (index_live s.puts id k new s.early s.live s.indexed (sym c.has-2.ensures ∙ c.if-has-2.false) c.insert-2.new.self refl c.in_ok-place.ensures.ok);
     }
 
 pub returns-clause-puts : goal.returns-clause-puts
 returns-clause-puts c =
-    let s = c.args.self.now in let id = c.args.id in let k = known (record { number = id.number; place = c.hint_of.result; element = c.args.element }) in
+    let s = c.args.self.now in let id = c.args.id in let k = known (record { number = id.number; gone = false; element = c.args.element }) in
     ap adds_of c.in_default.ensures.ok ∙ put_adds s.puts id k (sym c.has.ensures ∙ c.if-has.false)
 
 pub returns-clause-gone : goal.returns-clause-gone
 returns-clause-gone c =
-    let s = c.args.self.now in let id = c.args.id in let k = known (record { number = id.number; place = c.hint_of.result; element = c.args.element }) in
-    ap (gone_of s.early) c.in_default.ensures.ok ∙ put_gone_same s.puts id k (sym c.has.ensures ∙ c.if-has.false) s.early c.hint_of.ensures
+    let s = c.args.self.now in let id = c.args.id in let k = known (record { number = id.number; gone = false; element = c.args.element }) in
+    ap (gone_of s.early) c.in_default.ensures.ok ∙ put_gone_same s.puts id k (sym c.has.ensures ∙ c.if-has.false) s.early refl

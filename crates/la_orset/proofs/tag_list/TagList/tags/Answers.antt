@@ -1,8 +1,9 @@
-use Rattle.std.proofs.Common.{◌≡◌, ◌≤◌, take, length, refl, inl, inr, sym, ap, ◌∙◌, arith}
+use Rattle.std.proofs.Common.{◌≡◌, ◌<◌, ◌≤◌, take, length, refl, inl, inr, sym, ap, ◌∙◌, arith}
 use Rattle.std.specs.List.{list_any}
 use Rattle.std.specs.FinMap as map
 use Rattle.std.proofs.lemmas.Bool.{cases_lt, false≢true}
 use Rattle.std.proofs.lemmas.List.{take_all, length-take}
+use Rattle.std.proofs.lemmas.Result.{err_from_is_err_and}
 use Rattle.la_orset.specs.Index.{id_eq}
 use Rattle.la_orset.proofs.Lists.{length-list, pushed_at, no_more, ascending-list}
 use Rattle.la_orset.proofs.tag_list.TagList.tags.Goals as goal
@@ -12,6 +13,17 @@ returns-then-len-gt-MAX_TAGS-clause-error c =
     let ids = c.self.inside.ids.items in
     let whole : length (map.keys c.args.self.now) ≡ length ids = ap (λ s. length (map.keys s)) (sym c.self.view_is) ∙ length-list ids c.self.invariant in
     omega (arith, whole, c.self.inside.ids.ok, c.if-len-gt-MAX_TAGS.true, c.len.ensures)
+
+pub returns-in_err-tags-clause-error : goal.returns-in_err-tags-clause-error
+returns-in_err-tags-clause-error c =
+    let ids = c.self.inside.ids.items in
+    let whole : length (map.keys c.args.self.now) ≡ length ids = ap (λ s. length (map.keys s)) (sym c.self.view_is) ∙ length-list ids c.self.invariant in
+    let many : 2 < c.len-2.result = elim (cases_lt 2 c.len-2.result) [
+      | inl lt ↦ lt
+      | inr le ↦ absurd (false≢true (c.in_err-tags.ensures.room le))
+    ] in
+    let refused = err_from_is_err_and c.from_residual.result c.from_residual.ensures.1 in
+    rw (refused.1, refused.2) (omega (arith, whole, many, c.len-2.ensures, c.self.inside.ids.ok), omega (arith, whole, c.if-len-gt-MAX_TAGS.false, c.len.ensures, c.self.inside.ids.ok))
 
 pub returns-in_default-clause-error : goal.returns-in_default-clause-error
 returns-in_default-clause-error c =
