@@ -51,7 +51,6 @@ pub mod Participants
 pub mod Worlds
 pub mod Noted
 pub mod Returned
-pub mod Playback
 pub mod OwnFirst
 pub mod Staying
 pub mod SubmittedVotes
