@@ -17,6 +17,7 @@ mod puts;
 mod rows;
 mod tag_list;
 mod tag_set;
+mod vectors;
 
 pub use chain::Chain;
 pub use or_set::OrSet;

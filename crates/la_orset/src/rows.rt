@@ -3,6 +3,7 @@ ghost use Rattle.std.specs.Option.{option_map};
 ghost use Rattle.la_orset.specs.Rows.{known, at_number, live_element, named, IsAscending, IsAt, IsGapFor, IsPut};
 
 use crate::packed_row::PackedRow;
+use crate::vectors::insert_at;
 use la_set::MAX_TAGS;
 use std::alloc::{AllocError, Global};
 use std::marker::Model;
@@ -84,7 +85,8 @@ impl Rows {
             Err(at) => {
                 make_room(&mut self.rows)?;
                 note(&mut self.places, self.rows.len(), at, place)?;
-                Ok(self.rows.insert(at, PackedRow::new(row))?)
+                insert_at(&mut self.rows, at, PackedRow::new(row))?;
+                Ok(())
             }
         }
     }
@@ -164,10 +166,10 @@ fn note(places: &mut Vec<u32>, rows: usize, at: usize, place: u32) -> Result<(),
         places.resize(rows, 0)?;
     }
     make_room(places)?;
-    if at <= places.len() {
-        places.insert(at, place)?;
+    if at > places.len() {
+        return Ok(());
     }
-    Ok(())
+    insert_at(places, at, place)
 }
 
 // The place that is noted of a row, or the first.

@@ -4,6 +4,7 @@ ghost use Rattle.std.specs.FinMap as map;
 ghost use Rattle.la_object.specs.Refusals.{IsObserveRefusal};
 ghost use Rattle.la_orset.specs.Index.{has_any, set_of, id_eq};
 
+use crate::vectors::insert_at;
 use la_object::ObserveError;
 use la_set::{MAX_TAGS, Tags, UpdateId};
 use std::alloc::{AllocError, Global};
@@ -60,7 +61,7 @@ impl TagList {
     {
         make_room(&mut self.ids)?;
         let place = place_for(self.ids.as_slice(), id);
-        self.ids.insert(place, id)?;
+        insert_at(&mut self.ids, place, id)?;
         Ok(())
     }
 

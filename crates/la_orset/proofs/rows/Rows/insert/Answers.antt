@@ -14,8 +14,8 @@ pub invariant_of-self-in-Err : goal.invariant_of-self-in-Err
 invariant_of-self-in-Err c =
     let rows = c.make_room.new.items.items in
     let gap = subst (λ rows. IsGapFor rows c.args.row.number c.in-Err.at) (sym (c.make_room.ensures ∙ c.self.view_is)) c.in-Err.ensures.absent in
-    rw c.in_ok-insert-in-Err.ensures.items (insert_ascending rows c.args.row.number c.in-Err.at gap c.new-in-Err.result (ap (λ (row : Row). row.number) c.new-in-Err.ensures) (subst IsAscending (sym c.make_room.ensures) c.self.invariant))
+    rw c.in_ok-insert_at-in-Err.ensures.ok (insert_ascending rows c.args.row.number c.in-Err.at gap c.new-in-Err.result (ap (λ (row : Row). row.number) c.new-in-Err.ensures) (subst IsAscending (sym c.make_room.ensures) c.self.invariant))
 
-pub returns-in_ok-insert-in-Err-clause-ok : goal.returns-in_ok-insert-in-Err-clause-ok
-returns-in_ok-insert-in-Err-clause-ok c =
-    rw (c.in_ok-insert-in-Err.ensures.items, c.make_room.ensures, c.self.view_is, c.new-in-Err.ensures) (put_between _ _ _ c.in-Err.ensures.absent c.args.row refl)
+pub returns-in_ok-insert_at-in-Err-clause-ok : goal.returns-in_ok-insert_at-in-Err-clause-ok
+returns-in_ok-insert_at-in-Err-clause-ok c =
+    rw (c.in_ok-insert_at-in-Err.ensures.ok, c.make_room.ensures, c.self.view_is, c.new-in-Err.ensures) (put_between _ _ _ c.in-Err.ensures.absent c.args.row refl)
