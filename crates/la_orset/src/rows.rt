@@ -3,7 +3,7 @@ ghost use Rattle.std.specs.Option.{option_map};
 ghost use Rattle.la_orset.specs.Rows.{known, at_number, live_element, named, IsAscending, IsAt, IsGapFor, IsPut};
 
 use crate::packed_row::PackedRow;
-use crate::vectors::insert_at;
+use crate::vectors::{growth_of, insert_at};
 use la_set::MAX_TAGS;
 use std::alloc::{AllocError, Global};
 use std::marker::Model;
@@ -24,9 +24,9 @@ pub struct Named {
     pub place: u32,
 }
 
-/// What was put under the ids of one replica, in ascending order of their numbers. Beside the rows
-/// stands where the tag of each is among those of its element, as a hint, from the first tag on that
-/// comes behind [`MAX_TAGS`] others: fewer are soon gone through.
+/// What was put under the ids of one replica, in ascending order of their numbers. Once a tag came
+/// behind [`MAX_TAGS`] others of its element, it is noted beside each row where its tag stands, as a
+/// hint alone. Fewer are soon gone through.
 #[derive(Drop)]
 pub struct Rows {
     rows: Vec<PackedRow>,
@@ -145,7 +145,7 @@ impl Rows {
     }
 }
 
-// Room for one more: for 16, or for a quarter of what is there.
+// Room for one more: for 16, or for a quarter of what is there, or half where that is much.
 fn make_room<T>(items: &mut Vec<T>) -> Result<(), AllocError>
     ensures { items.new.items ≡ items.old.items }
 {
@@ -153,11 +153,12 @@ fn make_room<T>(items: &mut Vec<T>) -> Result<(), AllocError>
     if len < items.capacity() {
         return Ok(());
     }
-    let more = if len < 64 { 16 } else { len / 4 };
+    let more = if len < 64 { 16 } else { growth_of(len) };
     items.reserve_exact(more)
 }
 
-// Notes the place of the tag of a row that comes between so many, if one is noted or it is far.
+// Notes where the tag of a row stands that is to come at a place among so many rows, where it is far
+// or others are noted.
 fn note(places: &mut Vec<u32>, rows: usize, at: usize, place: u32) -> Result<(), AllocError> {
     if places.is_empty() && (place as usize) < MAX_TAGS {
         return Ok(());

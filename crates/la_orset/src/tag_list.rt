@@ -4,7 +4,7 @@ ghost use Rattle.std.specs.FinMap as map;
 ghost use Rattle.la_object.specs.Refusals.{IsObserveRefusal};
 ghost use Rattle.la_orset.specs.Index.{has_any, set_of, id_eq};
 
-use crate::vectors::insert_at;
+use crate::vectors::{growth_of, insert_at};
 use la_object::ObserveError;
 use la_set::{MAX_TAGS, Tags, UpdateId};
 use std::alloc::{AllocError, Global};
@@ -111,7 +111,8 @@ impl TagList {
     }
 }
 
-// Room for one more: for four, or for a quarter of what is there; for two at first.
+// Room for one more: for four, or for a quarter of what is there, or half where that is much; for two
+// at first.
 fn make_room(ids: &mut Vec<UpdateId>) -> Result<(), AllocError>
     ensures { ids.new.items ≡ ids.old.items }
 {
@@ -124,7 +125,7 @@ fn make_room(ids: &mut Vec<UpdateId>) -> Result<(), AllocError>
     } else if len < 16 {
         4
     } else {
-        len / 4
+        growth_of(len)
     };
     ids.reserve_exact(more)
 }
