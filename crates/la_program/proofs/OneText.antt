@@ -25,8 +25,8 @@ abbrev text_for : List ShelfState → ℕ → Said → List ℕ
 text_for shelves n said =
     let g = group_with said.group (kinds_of (take n shelves)) in
     (version_line said.version ++ codes "\n" ++ (codes "replicas " ++ decimal n ++ codes " commits " ++ decimal said.group.commits ++ codes " cap " ++ decimal said.group.cap ++ codes "\n") ++ votes_text said.version said.group.votes)
-    ++ lines_text 1 (lines g (map event_of said.events)) ++ views_text 0 (views g (trace_of g (map event_of said.events)))
-    ++ decisions_text (decisions g (trace_of g (map event_of said.events)))
+    ++ lines_text 1 (lines g (map event_of said.events))
+    ++ (views_text 0 (views g (trace_of g (map event_of said.events))) ++ decisions_text (decisions g (trace_of g (map event_of said.events))))
 
 abbrev text_of_said : List ShelfState → Said → List ℕ
 text_of_said shelves said = text_for shelves (length said.group.votes) said

@@ -21,12 +21,7 @@ use Rattle.la_program.specs.declared.streams.InputFault.{InputFault}
 use Rattle.la_program.specs.declared.streams.InputFault.TheVariants as input
 use Rattle.la_program.specs.declared.streams.TheConstants.{LIMIT}
 
--- the text of the report of a run with the shelves of its group
-pub text_of_run : (version : Version) (c : Config) (events : List Event) (shelves used : List ShelfState) (made : Report) (text : List ℕ) → used ≡ shelves_of c shelves
-    → made ≡ report c (kinds_of used) (map event_of events) → text ≡ text_of version made → text ≡ text_by version c events shelves
-text_of_run version c events shelves used made text u m t = t ∙ ap (text_of version) (m ∙ ap (λ (s : List ShelfState). report c (kinds_of s) (map event_of events)) u)
-
--- the same of events that were drawn
+-- the text of the report of events that were drawn
 pub draw_is_answered : (shelves : List ShelfState) (seed replicas count : ℕ) (c : Config) (events : List Event) (text : List ℕ) → IsRandomGroup replicas c
     → events ≡ random_events seed replicas count → text ≡ text_by One c events shelves → AnswersDraw shelves seed replicas count text
 draw_is_answered shelves seed replicas count c events text group drawn is =

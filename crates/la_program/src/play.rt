@@ -1,10 +1,11 @@
-ghost use Rattle.std.specs.Prelude.{◌≡◌, ◌↔◌, ◌+◌, ◌<◌, ◌≤◌, ◌^◌, length};
+ghost use Rattle.std.specs.Prelude.{◌≡◌, ◌↔◌, ◌+◌, ◌<◌, ◌≤◌, ◌^◌, [], length};
 ghost use Rattle.std.specs.Prelude.{IsTrue, IfOk, IfErr, OnOk};
 ghost use Rattle.la_world.specs.Groups.{IsConfig};
+ghost use Rattle.la_world.specs.StandsFor.{StandsFor};
 ghost use Rattle.la_script.specs.Pieces.{joined};
 ghost use Rattle.la_program.specs.declared.error.PlayFault.TheVariants.{WriteFault};
 ghost use Rattle.la_program.specs.Streams.{TakesAtMost, Writes, WritesPrefix};
-ghost use Rattle.la_program.specs.Play.{FitAnyGroup, text_by, IsRandomGroup};
+ghost use Rattle.la_program.specs.Play.{FitAnyGroup, shelves_of, text_by, IsRandomGroup};
 ghost use Rattle.la_program.specs.Play.{Answers, IsAnswerRefusal, Plays, IsPlayRefusal};
 ghost use Rattle.la_program.specs.Play.{PlaysDraw, IsDrawRefusal};
 
@@ -12,9 +13,9 @@ use crate::PlayFault;
 use crate::streams::{LIMIT, read_all, write_pieces};
 use la_object::{Replicated, Shelf};
 use la_proposer::{MAX_CAP, Votes};
-use la_script::{Pieces, Version, pieces_of, random_events, read};
+use la_script::{Pieces, Version, put_ending, put_header, put_numbered, random_events, read};
 use la_set::REPLICAS;
-use la_world::{Config, Event, WorldError, are_unused, run};
+use la_world::{Config, Event, Steps, World, WorldError, are_unused};
 use std::alloc::{AllocError, Global};
 use std::io::{Read, Write};
 
@@ -26,8 +27,32 @@ pub fn fit_any_group<B: Replicated>(shelves: &[Shelf<B>]) -> bool
     shelves.len() == REPLICAS as usize && are_unused(shelves)
 }
 
-// The text that the report of these events has in a version, played with as many of the shelves as
-// the group has replicas. The other shelves are dropped.
+// A new world of a group that can be played, with as many of the shelves as it has replicas. The other
+// shelves are dropped.
+fn world_of<B: Replicated>(
+    alloc: Global,
+    config: Config,
+    shelves: Vec<Shelf<B>>,
+) -> Result<World<B>, AllocError>
+    requires config { IsConfig config }
+    requires shelves { FitAnyGroup shelves.items }
+    ensures config { IfOk result (λ world. world.config ≡ config) }
+    ensures shelves { IfOk result (λ world. world.shelves ≡ shelves_of config shelves.items) }
+    ensures stands { IfOk result (λ world. StandsFor world []) }
+{
+    let mut used = shelves;
+    used.truncate(config.replicas as usize);
+    match World::new(alloc, config, used) {
+        Ok(world) => Ok(world),
+        Err(WorldError::Memory) => Err(AllocError),
+        // The group can be played, and its shelves fit: then only memory is refused, by the clause
+        // `error` of `World::new`.
+        Err(_) => unreachable!(),
+    }
+}
+
+// The text that the report of these events has in a version, played with the first of the shelves.
+// Each line is put down as its event is played, and not kept.
 fn text_of<B: Replicated>(
     alloc: Global,
     version: Version,
@@ -39,15 +64,16 @@ fn text_of<B: Replicated>(
     requires shelves { FitAnyGroup shelves.items }
     ensures { IfOk result (λ pieces. joined pieces ≡ text_by version config events.now shelves.items) }
 {
-    let mut used = shelves;
-    used.truncate(config.replicas as usize);
-    match run(alloc, config, used, events) {
-        Ok(report) => pieces_of(alloc, version, &report),
-        Err(WorldError::Memory) => Err(AllocError),
-        // The group can be played, and its shelves fit: then only memory is refused, by the clause
-        // `error` of `run`.
-        Err(_) => unreachable!(),
+    let mut world = world_of(alloc, config, shelves)?;
+    let mut text = Pieces::new(alloc);
+    put_header(&mut text, version, &config)?;
+    for (index, event) in events.iter().enumerate() {
+        let line = world.play_line(event)?;
+        put_numbered(&mut text, index + 1, &line)?;
     }
+    let report = world.into_report(Steps::new(alloc))?;
+    put_ending(&mut text, &report)?;
+    Ok(text)
 }
 
 /// The text of the report of the script that the bytes are, in its version and in pieces, played
