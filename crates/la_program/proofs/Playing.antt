@@ -1,19 +1,13 @@
 -- What is written for what was played, and what stands after a play that was refused before that.
-use Rattle.std.proofs.Common.{◌≡◌, ◌∙◌, ◌+◌, ℕ, List, Option, map, refl, ap, arith}
+use Rattle.std.proofs.Common.{◌≡◌, ◌∙◌, ◌+◌, ℕ, List, Option, refl, ap, arith}
 use Rattle.std.proofs.KnownBytes.{Keeps-refl}
 use Rattle.la_object.specs.Shelves.{ShelfState}
 use Rattle.la_world.specs.declared.config.Config.{Config}
 use Rattle.la_world.specs.declared.event.Event.{Event}
-use Rattle.la_world.specs.declared.report.Report.{Report}
-use Rattle.la_world.specs.Events.{event_of}
-use Rattle.la_world.specs.Report.{report}
-use Rattle.la_world.specs.StandsFor.{kinds_of}
-use Rattle.la_script.specs.declared.script.Version.{Version}
 use Rattle.la_script.specs.declared.script.Version.TheVariants.{One}
 use Rattle.la_script.specs.RandomEvents.{random_events}
-use Rattle.la_script.specs.Text.{text_of}
 use Rattle.la_program.specs.Faults.{of_input}
-use Rattle.la_program.specs.Play.{FitAnyGroup, shelves_of, text_by, IsRandomGroup, AnswersDraw, ReadsInput, IsAnswerRefusal, IsPlayRefusal}
+use Rattle.la_program.specs.Play.{FitAnyGroup, text_by, IsRandomGroup, AnswersDraw, ReadsInput, IsAnswerRefusal, IsPlayRefusal}
 use Rattle.la_program.specs.Streams.{Takes, TakesAtMost}
 use Rattle.la_program.specs.declared.error.PlayFault.{PlayFault}
 use Rattle.la_program.specs.declared.error.PlayFault.TheVariants as fault

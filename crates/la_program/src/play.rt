@@ -1,4 +1,4 @@
-ghost use Rattle.std.specs.Prelude.{◌≡◌, ◌↔◌, ◌+◌, ◌<◌, ◌≤◌, ◌^◌, [], length};
+ghost use Rattle.std.specs.Prelude.{◌≡◌, ◌↔◌, ◌+◌, ◌<◌, ◌≤◌, ◌^◌, [], ◌∷◌, ◌++◌, length};
 ghost use Rattle.std.specs.Prelude.{IsTrue, IfOk, IfErr, OnOk};
 ghost use Rattle.la_world.specs.Groups.{IsConfig};
 ghost use Rattle.la_world.specs.StandsFor.{StandsFor};
@@ -13,7 +13,9 @@ use crate::PlayFault;
 use crate::streams::{LIMIT, read_all, write_pieces};
 use la_object::{Replicated, Shelf};
 use la_proposer::{MAX_CAP, Votes};
-use la_script::{Pieces, Version, put_ending, put_header, put_numbered, random_events, read};
+use la_script::{
+    Events, Pieces, Version, put_ending, put_header, put_numbered, random_events, read,
+};
 use la_set::REPLICAS;
 use la_world::{Config, Event, Steps, World, WorldError, are_unused};
 use std::alloc::{AllocError, Global};
@@ -52,28 +54,46 @@ fn world_of<B: Replicated>(
 }
 
 // The text that the report of these events has in a version, played with the first of the shelves.
-// Each line is put down as its event is played, and not kept.
+// Each line is put down as its event is played, and neither is kept.
 fn text_of<B: Replicated>(
     alloc: Global,
     version: Version,
     config: Config,
-    events: &[Event],
+    events: Events,
     shelves: Vec<Shelf<B>>,
 ) -> Result<Pieces, AllocError>
     requires config { IsConfig config }
     requires shelves { FitAnyGroup shelves.items }
-    ensures { IfOk result (λ pieces. joined pieces ≡ text_by version config events.now shelves.items) }
+    ensures { IfOk result (λ pieces. joined pieces ≡ text_by version config events shelves.items) }
 {
     let mut world = world_of(alloc, config, shelves)?;
     let mut text = Pieces::new(alloc);
     put_header(&mut text, version, &config)?;
-    for (index, event) in events.iter().enumerate() {
-        let line = world.play_line(event)?;
+    let count = events.len();
+    let mut left = Vec::from(events);
+    left.reverse();
+    for index in 0..count {
+        let event = take_last(&mut left);
+        let line = world.play_line(&event)?;
         put_numbered(&mut text, index + 1, &line)?;
     }
     let report = world.into_report(Steps::new(alloc))?;
     put_ending(&mut text, &report)?;
     Ok(text)
+}
+
+// Takes the last event out. Where the list has room for twice as many as are left, room is given back.
+fn take_last(left: &mut Vec<Event>) -> Event
+    requires { 0 < length left.old.items }
+    ensures { left.old.items ≡ left.new.items ++ result ∷ [] }
+{
+    let Some(event) = left.pop() else {
+        unreachable!()
+    };
+    if left.len() < left.capacity() / 2 {
+        left.shrink_to_fit();
+    }
+    event
 }
 
 /// The text of the report of the script that the bytes are, in its version and in pieces, played
@@ -95,8 +115,7 @@ pub fn answer_to<B: Replicated>(
     ensures error { IfErr result (IsAnswerRefusal input.now) }
 {
     let script = read(alloc, input)?;
-    let events = script.events.all();
-    let pieces = text_of(alloc, script.version, script.config, events, shelves)?;
+    let pieces = text_of(alloc, script.version, script.config, script.events, shelves)?;
     Ok(pieces)
 }
 
@@ -185,12 +204,6 @@ pub fn play_random<W: Write, B: Replicated>(
         return Err(PlayFault::BadConfig);
     }
     let events = random_events(alloc, u64::from(seed), replicas, count)?;
-    let text = text_of(
-        alloc,
-        Version::One,
-        random_group(replicas),
-        events.all(),
-        shelves,
-    )?;
+    let text = text_of(alloc, Version::One, random_group(replicas), events, shelves)?;
     write_out(writer, &text)
 }
