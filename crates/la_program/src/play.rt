@@ -119,6 +119,23 @@ pub fn answer_to<B: Replicated>(
     Ok(pieces)
 }
 
+// The same of bytes that are let go once they are read.
+fn answer_once<B: Replicated>(
+    alloc: Global,
+    input: Vec<u8>,
+    shelves: Vec<Shelf<B>>,
+) -> Result<Pieces, PlayFault>
+    requires short { length input.items < 2 ^ 32 }
+    requires shelves { FitAnyGroup shelves.items }
+    ensures ok { IfOk result (λ pieces. Answers shelves.items input.items (joined pieces)) }
+    ensures error { IfErr result (IsAnswerRefusal input.items) }
+{
+    let script = read(alloc, &input)?;
+    drop(input);
+    let pieces = text_of(alloc, script.version, script.config, script.events, shelves)?;
+    Ok(pieces)
+}
+
 // Writes a text. Where it fails, the first bytes were written.
 pub(crate) fn write_out<W: Write>(writer: &mut W, text: &Pieces) -> Result<(), PlayFault>
     ensures ok { OnOk result (Writes W.contents writer.old writer.new (joined text.now)) }
@@ -159,7 +176,7 @@ pub fn play_stream<R: Read, W: Write, B: Replicated>(
         return Err(PlayFault::BadConfig);
     }
     let input = read_all(alloc, reader)?;
-    let text = answer_to(alloc, &input, shelves)?;
+    let text = answer_once(alloc, input, shelves)?;
     write_out(writer, &text)
 }
 
