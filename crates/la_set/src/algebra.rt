@@ -152,8 +152,10 @@ impl UpdateSet {
     fn has_no_more(&self, other: &UpdateSet) -> bool
         ensures { IsTrue result ↔ HasNoMore self.now other.now }
     {
+        let mine = self.counts();
+        let theirs = other.counts();
         for replica in 0..REPLICAS {
-            if self.count_of(replica) > other.count_of(replica) {
+            if mine.of(replica) > theirs.of(replica) {
                 return false;
             }
         }
