@@ -221,12 +221,13 @@ impl UpdateSet {
         ensures limit { length (lent_items result) ≤ MAX_NUMBER }
     {
         let list = list_in(&self.of, replica);
-        let len = len_in(&self.of, replica);
-        let left = self.cut.leaves(replica, len);
-        if left < len {
-            return first(list, left as usize);
+        if replica != self.cut.replica {
+            return list;
         }
-        list
+        if len_in(&self.of, replica) <= self.cut.len {
+            return list;
+        }
+        first(list, self.cut.len as usize)
     }
 
     // What the set allocates with. The contract also tells that no number is over the limit.
