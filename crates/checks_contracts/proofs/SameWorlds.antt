@@ -15,6 +15,7 @@ use Rattle.la_world.specs.declared.error.WorldError.{WorldError}
 use Rattle.la_world.specs.declared.error.WorldError.TheVariants.{BadConfig, NoSuchReplica, Full, NoSuchMessage, NoSuchCommit, AlreadyProposed, NoSuchObject, TooManyTags, Memory}
 use Rattle.la_world.specs.declared.error.Refusal.{Refusal}
 use Rattle.la_world.specs.declared.error.Refusal.TheVariants as named
+use Rattle.la_world.specs.declared.report.Line.{Line}
 use Rattle.la_world.specs.declared.report.Line.TheVariants.{Done}
 use Rattle.la_world.specs.declared.step.Step.{Step}
 use Rattle.la_world.specs.Groups.{Group, group_of, replicas, kinds_on}
@@ -23,11 +24,11 @@ use Rattle.la_world.specs.Trace.{Trace}
 use Rattle.la_world.specs.Playing.{trace, shelf_of}
 use Rattle.la_world.specs.Views.{view}
 use Rattle.la_world.specs.Learnings.{learnt}
-use Rattle.la_world.specs.Report.{refused, line_of}
+use Rattle.la_world.specs.Report.{refused, line_of, Run, and_event}
 use Rattle.la_world.specs.ReplicaStates.{replica_states}
 use Rattle.la_world.specs.StandsFor.{World, kinds_of, group_in, StandsFor}
 use Rattle.la_world.specs.Told.{told}
-use Rattle.la_world.specs.Calls.{IsMakingRefusal, IsPlayRefusal, Plays, Keeps, may_absorb, IsSameUnless, tags_of, IsTagsRefusal}
+use Rattle.la_world.specs.Calls.{IsMakingRefusal, IsPlayRefusal, Plays, GoesOn, Keeps, may_absorb, IsSameUnless, tags_of, IsTagsRefusal}
 use Rattle.checks_contracts.specs.Alike.{AreAlike, AreOfOneGroup}
 
 -- ## Worlds
@@ -176,11 +177,41 @@ pub kept_agree : (w v : World) → AreOfOneGroup w v → (x y : World) → Keeps
 kept_agree w v one x y h k events stands also =
     alike x y events (h.stands events stands) (k.stands events also) (record { config = h.config ∙ one.config ∙ sym k.config; kinds = h.kinds ∙ one.kinds ∙ sym k.kinds })
 
-pub unchanged_agree : (w v : World) → AreOfOneGroup w v → (a b : Result Step WorldError) (x y : World) → OnErr a (Keeps w x) → OnErr b (Keeps v y)
+pub unchanged_agree : {A E : Type 0} (w v : World) → AreOfOneGroup w v → (a b : Result A E) (x y : World) → OnErr a (Keeps w x) → OnErr b (Keeps v y)
     → (events : Past) → StandsFor w events → StandsFor v events → IfErr a (λ _. IfErr b (λ _. AreAlike x y))
 unchanged_agree w v one (Ok s) b x y h k events stands also = tt
 unchanged_agree w v one (Err d) (Ok u) x y h k events stands also = tt
 unchanged_agree w v one (Err d) (Err f) x y h k events stands also = kept_agree w v one x y h k events stands also
+
+-- ## Lines
+
+abbrev pub HasLine : {E : Type 0} → World → Event → Result Line E → World → Type 0
+HasLine w e r after = (ran : Run) → StandsFor w ran.accepted → IfOk r (λ line. GoesOn w ran e line after)
+
+same_line : (w v : World) → AreOfOneGroup w v → (e : Event) (ran : Run) (a b : Line) (x y : World) → GoesOn w ran e a x → GoesOn v ran e b y → a ≡ b
+same_line w v one e ran a b x y h k =
+    let same : a ∷ ran.lines ≡ b ∷ ran.lines = sym h.lines ∙ of_one_group (λ g. (and_event g ran e).lines) w v one ∙ k.lines in cc
+
+pub lines_agree : {E : Type 0} (w v : World) → AreOfOneGroup w v → (e : Event) (a b : Result Line E) (x y : World) → HasLine w e a x → HasLine v e b y
+    → (ran : Run) → StandsFor w ran.accepted → StandsFor v ran.accepted → IfOk a (λ s. IfOk b (λ u. s ≡ u))
+lines_agree w v one e a b x y h k ran stands also = go a b (h ran stands) (k ran also)
+  where
+    go : (a b : Result Line E) → IfOk a (λ s. GoesOn w ran e s x) → IfOk b (λ s. GoesOn v ran e s y) → IfOk a (λ s. IfOk b (λ u. s ≡ u))
+    go (Ok s) (Ok u) p q = same_line w v one e ran s u x y p q
+    go (Ok s) (Err d) p q = tt
+    go (Err d) b p q = tt
+
+pub line_worlds_agree : {E : Type 0} (w v : World) → AreOfOneGroup w v → (e : Event) (a b : Result Line E) (x y : World) → HasLine w e a x → HasLine v e b y
+    → (ran : Run) → StandsFor w ran.accepted → StandsFor v ran.accepted → IfOk a (λ _. IfOk b (λ _. AreAlike x y))
+line_worlds_agree w v one e a b x y h k ran stands also = go a b (h ran stands) (k ran also)
+  where
+    go : (a b : Result Line E) → IfOk a (λ s. GoesOn w ran e s x) → IfOk b (λ s. GoesOn v ran e s y) → IfOk a (λ _. IfOk b (λ _. AreAlike x y))
+    go (Ok s) (Ok u) p q =
+        alike x y _ p.stands (subst (StandsFor y) (sym (of_one_group (λ g. (and_event g ran e).accepted) w v one)) q.stands) (record { config = p.config ∙ one.config ∙ sym q.config; kinds = p.kinds ∙ one.kinds ∙ sym q.kinds })
+    go (Ok s) (Err d) p q = tt
+    go (Err d) b p q = tt
+
+-- ## What is refused
 
 named_changes_nothing : (w x : World) (v : Event) (d : WorldError) → IsSameUnless (may_absorb v d) w x → d ≢ Memory → x ≡ w
 named_changes_nothing w x (Submit r object_op) d h not = h

@@ -1,16 +1,16 @@
 // Callers that promise what only exact contracts let them: each calls a function twice, knows
 // nothing but its contract, and has one answer.
-ghost use Rattle.std.specs.Prelude.{◌≡◌, ◌<◌, ◌≤◌, ◌^◌, length, IfOk, IfSome, IsTrue};
+ghost use Rattle.std.specs.Prelude.{◌≡◌, ◌<◌, ◌≤◌, ◌^◌, length, IfOk, IfSome, IsTrue, OnOk};
 ghost use Rattle.la_proposer.specs.Majority.{votes_of};
 ghost use Rattle.la_script.specs.Scripts.{said_by};
 ghost use Rattle.la_script.specs.Pieces.{joined};
-ghost use Rattle.la_world.specs.Printable.{IsPrintableReport};
+ghost use Rattle.la_world.specs.Printable.{IsPrintableLine, IsPrintableReport};
 
 use la_script::{
     Events, Pieces, ReadError, Script, ScriptFault, Stretch, Text, Version, pieces_of, print,
-    random_events, read,
+    put_ending, put_header, put_numbered, random_events, read,
 };
-use la_world::{Event, Report};
+use la_world::{Config, Event, Line, Report};
 use std::alloc::{AllocError, AllocFailed, Global};
 
 fn scripts_are_one(alloc: Global, bytes: &[u8]) -> Result<(Script, Script), ReadError>
@@ -77,6 +77,46 @@ fn pieces_are_one(
         pieces_of(alloc, version, report)?,
         pieces_of(alloc, version, report)?,
     ))
+}
+
+// Behind equal texts the same is put.
+fn headers_are_one(
+    one: &mut Pieces,
+    other: &mut Pieces,
+    version: Version,
+    config: &Config,
+) -> Result<(), AllocError>
+    requires { joined one.old ≡ joined other.old }
+    ensures { OnOk result (joined one.new ≡ joined other.new) }
+{
+    put_header(one, version, config)?;
+    put_header(other, version, config)
+}
+
+fn lines_are_one(
+    one: &mut Pieces,
+    other: &mut Pieces,
+    number: usize,
+    line: &Line,
+) -> Result<(), AllocError>
+    requires printable { IsPrintableLine line.now }
+    requires same { joined one.old ≡ joined other.old }
+    ensures { OnOk result (joined one.new ≡ joined other.new) }
+{
+    put_numbered(one, number, line)?;
+    put_numbered(other, number, line)
+}
+
+fn endings_are_one(
+    one: &mut Pieces,
+    other: &mut Pieces,
+    report: &Report,
+) -> Result<(), AllocError>
+    requires { joined one.old ≡ joined other.old }
+    ensures { OnOk result (joined one.new ≡ joined other.new) }
+{
+    put_ending(one, report)?;
+    put_ending(other, report)
 }
 
 // Version 1 shows no votes: reports that differ in the votes alone have one text in it.

@@ -8,6 +8,7 @@ ghost use Rattle.la_world.specs.declared.error.WorldError.TheVariants.{NoSuchRep
 ghost use Rattle.la_world.specs.declared.error.WorldError.TheVariants.{NoSuchObject as NoObjectIs};
 ghost use Rattle.la_world.specs.declared.error.WorldError.TheVariants.{TooManyTags as ManyIs};
 ghost use Rattle.la_world.specs.Events.{Past};
+ghost use Rattle.la_world.specs.Report.{Run};
 ghost use Rattle.la_world.specs.StandsFor.{StandsFor};
 ghost use Rattle.la_world.specs.Calls.{IsGroup, IsFollowing};
 ghost use Rattle.checks_contracts.specs.Alike.{AreAlike, AreOfOneGroup};
@@ -17,7 +18,8 @@ use la_object::{Replicated, Shelf};
 use la_replica::Message;
 use la_set::{Tags, UpdateSet};
 use la_world::{
-    Config, Event, Learnt, Report, Step, Steps, World, WorldError, are_unused, empty_shelves, run,
+    Config, Event, Learnt, Line, Report, Step, Steps, World, WorldError, are_unused, empty_shelves,
+    run,
 };
 use std::alloc::{AllocError, Global};
 
@@ -76,6 +78,24 @@ fn play_is_exact<B: Replicated>(
         → IfErr result.0 (λ _. IfErr result.1 (λ _. AreAlike one.new other.new)) }
 {
     (one.play(event), other.play(event))
+}
+
+fn play_line_is_exact<B: Replicated>(
+    one: &mut World<B>,
+    other: &mut World<B>,
+    event: &Event,
+) -> (Result<Line, AllocError>, Result<Line, AllocError>)
+    requires group { AreOfOneGroup one.old other.old }
+    requires one_counts { one.old.count + 1 < 2 ^ 64 }
+    requires other_counts { other.old.count + 1 < 2 ^ 64 }
+    ensures lines { (ran : Run) → StandsFor one.old ran.accepted → StandsFor other.old ran.accepted
+        → IfOk result.0 (λ a. IfOk result.1 (λ b. a ≡ b)) }
+    ensures worlds { (ran : Run) → StandsFor one.old ran.accepted → StandsFor other.old ran.accepted
+        → IfOk result.0 (λ _. IfOk result.1 (λ _. AreAlike one.new other.new)) }
+    ensures unchanged { (events : Past) → StandsFor one.old events → StandsFor other.old events
+        → IfErr result.0 (λ _. IfErr result.1 (λ _. AreAlike one.new other.new)) }
+{
+    (one.play_line(event), other.play_line(event))
 }
 
 // Want of memory alone may let a shelf absorb.
