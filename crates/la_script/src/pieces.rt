@@ -114,6 +114,9 @@ impl Pieces {
         requires { replica < REPLICAS }
         ensures { OnOk result (Adds self.old self.new (front behind replica count)) }
     {
+        if count == 0 {
+            return Ok(());
+        }
         let kept = &mut self.ids[replica as usize];
         kept.grow(count as usize)?;
         let ids = kept.front(behind, count as usize);

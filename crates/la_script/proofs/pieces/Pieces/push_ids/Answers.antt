@@ -1,11 +1,14 @@
-use Rattle.std.proofs.Common.{◌≡◌, ◌<◌, ◌≤◌, length, set, ap, ◌∙◌, arith}
+use Rattle.std.proofs.Common.{◌≡◌, ◌<◌, ◌≤◌, ◌++◌, length, set, append-nil, ap, sym, ◌∙◌, arith}
 use Rattle.std.specs.Str.{IsUtf8}
-use Rattle.la_script.specs.Pieces.{front}
+use Rattle.la_script.specs.Pieces.{front, joined}
 use Rattle.la_script.specs.Laid.{IsLaid, kept_of}
-use Rattle.la_script.proofs.IdFronts.{front-utf8}
+use Rattle.la_script.proofs.IdFronts.{front_none, front-utf8}
 use Rattle.la_script.proofs.Laying.{grown_whose, grown_laid, grown_ready, laid_if, joined_if, laid_next, joined_next}
 use Rattle.la_script.proofs.pieces.Pieces.push_ids.Goals as goal
 use Rattle.la_script.proofs.pieces.Pieces.push_ids.Goals.{In_ok-grow}
+
+pub returns-then-count-eq0 : goal.returns-then-count-eq0
+returns-then-count-eq0 c = sym (append-nil (joined c.args.self.now)) ∙ ap (λ t. joined c.args.self.now ++ t) (front_none c.args.behind c.args.replica c.args.count c.if-count-eq0.true)
 
 there : (c : In_ok-grow) → c.args.replica < length c.self.inside.ids
 there c = omega arith
