@@ -107,11 +107,7 @@ fn lines_are_one(
     put_numbered(other, number, line)
 }
 
-fn endings_are_one(
-    one: &mut Pieces,
-    other: &mut Pieces,
-    report: &Report,
-) -> Result<(), AllocError>
+fn endings_are_one(one: &mut Pieces, other: &mut Pieces, report: &Report) -> Result<(), AllocError>
     requires { joined one.old ≡ joined other.old }
     ensures { OnOk result (joined one.new ≡ joined other.new) }
 {
