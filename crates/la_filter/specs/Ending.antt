@@ -2,6 +2,8 @@
 use Rattle.std.specs.Prelude.{◌≡◌, ◌⊎◌, ℕ, List, [], ◌∷◌, ◌++◌, codes, Option}
 use Rattle.la_object.specs.declared.kind.Kind.{Kind}
 use Rattle.la_object.specs.declared.kind.Kind.TheVariants.{Counter, MaxRegister, OrSet}
+use Rattle.la_object.specs.declared.state.State.{State}
+use Rattle.la_object.specs.Objects.{start}
 use Rattle.la_world.specs.declared.config.Config.{Config}
 use Rattle.la_streams.specs.Streams.{Tells, TellsAll}
 use Rattle.la_filter.specs.declared.error.NodeFault.{NodeFault}
@@ -13,6 +15,11 @@ use Rattle.la_filter.specs.Starting.{Runs, IsRunRefusal}
 -- the objects on a node's shelf
 abbrev pub node_objects : List (ℕ × Kind)
 node_objects = (1, Counter) ∷ (2, MaxRegister) ∷ (3, OrSet) ∷ []
+
+-- objects of those kinds, in their start states
+abbrev pub AreAtStart : {B : Type 0} (state : B → State) (counter register set : B) → Type 0
+AreAtStart state counter register set =
+    (state counter ≡ start Counter) × (state register ≡ start MaxRegister) × (state set ≡ start OrSet)
 
 -- the exit status after a fault
 abbrev pub status_of : NodeFault → ℕ

@@ -6,9 +6,9 @@ ghost use Rattle.la_object.specs.declared.kind.Kind.TheVariants.{OrSet as SetKin
 ghost use Rattle.la_object.specs.Objects.{start};
 ghost use Rattle.la_streams.specs.Streams.{Tells, TellsAll};
 ghost use Rattle.la_filter.specs.Faults.{of_journal};
-ghost use Rattle.la_filter.specs.Ending.{status_of, end_line, Ends};
-ghost use Rattle.la_filter.specs.Crashes.{LeavesOfRun};
-ghost use Rattle.la_filter.specs.Starting.{at_start, Runs, IsRunRefusal};
+ghost use Rattle.la_filter.specs.Ending.{status_of, end_line, AreAtStart, Ends};
+ghost use Rattle.la_filter.specs.Crashes.{LeftBy};
+ghost use Rattle.la_filter.specs.Starting.{Runs, IsRunRefusal};
 
 use crate::names::end_name;
 use crate::serving::serve;
@@ -76,10 +76,12 @@ fn start<R: Read, W: Write, E: Listener, D: Disk, B: Replicated>(
 ) -> Result<(), NodeFault>
     requires { shelf.view ≡ empty }
     ensures ok { OnOk result (Runs shelf.objects options.now.config options.now.own (D.seen disk)
-        (TellsAll E.contents E.refuses errors.old errors.new) (LeavesOfRun D.seen D.may_leave D.moment D.left_since (at_start options.now.config options.now.own) disk)
+        (TellsAll E.contents E.refuses errors.old errors.new)
+        (LeftBy D.seen D.may_leave D.moment D.left_since options.now disk)
         (R.remaining input.old) (R.remaining input.new) (W.contents output.old) (W.contents output.new)) }
     ensures err { IfErr result (IsRunRefusal shelf.objects options.now.config options.now.own (D.seen disk)
-        (TellsAll E.contents E.refuses errors.old errors.new) (LeavesOfRun D.seen D.may_leave D.moment D.left_since (at_start options.now.config options.now.own) disk)
+        (TellsAll E.contents E.refuses errors.old errors.new)
+        (LeftBy D.seen D.may_leave D.moment D.left_since options.now disk)
         (R.remaining input.old) (R.remaining input.new) (W.contents output.old) (W.contents output.new)) }
 {
     let machine = match NodeMachine::new(alloc, options.config, options.own) {
@@ -104,7 +106,7 @@ fn three<B: Replicated>(counter: B, register: B, set: B) -> (B, B, B)
     requires counter { B.state counter ≡ start CounterKind }
     requires register { B.state register ≡ start RegisterKind }
     requires set { B.state set ≡ start SetKind }
-    ensures { (B.state result.0 ≡ start CounterKind) × (B.state result.1 ≡ start RegisterKind) × (B.state result.2 ≡ start SetKind) }
+    ensures { AreAtStart B.state result.0 result.1 result.2 }
 {
     (counter, register, set)
 }
@@ -128,8 +130,9 @@ fn run_with<
 ) -> u8
     requires callable { F.pre make }
     requires made { (made : _) → F.post make made
-        → IfOk made (λ o. (B.state o.0 ≡ start CounterKind) × (B.state o.1 ≡ start RegisterKind) × (B.state o.2 ≡ start SetKind)) }
-    ensures { Ends E.contents E.refuses (LeavesOfRun D.seen D.may_leave D.moment D.left_since (at_start options.now.config options.now.own) disk)
+        → IfOk made (λ o. AreAtStart B.state o.0 o.1 o.2) }
+    ensures { Ends E.contents E.refuses
+        (LeftBy D.seen D.may_leave D.moment D.left_since options.now disk)
         options.now.config options.now.own (D.seen disk)
         (R.remaining input.old) (R.remaining input.new) (W.contents output.old) (W.contents output.new)
         errors.old errors.new result }
@@ -156,7 +159,8 @@ pub fn run<R: Read, W: Write, E: Listener, D: Disk>(
     output: &mut W,
     errors: &mut E,
 ) -> u8
-    ensures { Ends E.contents E.refuses (LeavesOfRun D.seen D.may_leave D.moment D.left_since (at_start options.now.config options.now.own) disk)
+    ensures { Ends E.contents E.refuses
+        (LeftBy D.seen D.may_leave D.moment D.left_since options.now disk)
         options.now.config options.now.own (D.seen disk)
         (R.remaining input.old) (R.remaining input.new) (W.contents output.old) (W.contents output.new)
         errors.old errors.new result }
