@@ -15,6 +15,7 @@ use Rattle.la_set.proofs.lemmas.SetHistories.{count_past}
 use Rattle.la_set.proofs.Representation.{represented-from, IsRepresentation-from}
 use Rattle.la_set.proofs.lemmas.Inclusions.{compatible-agree}
 use Rattle.la_set.proofs.lemmas.Joins.{history-join}
+use Rattle.la_set.proofs.Walks.{longer_is, shorter_is}
 
 -- a list, and then what another has beyond it, of two replica's lists
 joined-numbered : (r : ℕ) (h k : List ObjectOp) → numbered r 1 h ++ drop (length (numbered r 1 h)) (numbered r 1 k) ≡ numbered r 1 (joined h k)
@@ -24,7 +25,7 @@ joined-numbered r h k =
     ∙ sym (numbered-append r 1 h (drop (length h) k))
 
 -- a union of sets within the limit is within it
-join-within : (a b : Histories) → IsWithinLimit a → ((r : ℕ) → r < 8 → count b r ≤ 1000000) → IsWithinLimit (join a b)
+pub join-within : (a b : Histories) → IsWithinLimit a → ((r : ℕ) → r < 8 → count b r ≤ 1000000) → IsWithinLimit (join a b)
 join-within a b in_a in_b r =
     let many = ap length (history-join a b r) ∙ length-append (history a r) (drop (count a r) (history b r)) in
     let more = length-drop (count a r) (history b r) in
@@ -94,6 +95,17 @@ agree-compatible a b fits r n k x y lt in_a in_b =
 
 pub agree-lists : (a b : Histories) → IsCompatible a b → (r : ℕ) (us vs : List Update) → us ≡ numbered r 1 (history a r) → vs ≡ numbered r 1 (history b r) → AgreeBelow us vs (length us)
 agree-lists a b fits r us vs is_us is_vs k x y lt in_us in_vs = agree-compatible a b fits r (length us) k x y lt (ap (λ ws. slice_get ws k) (sym is_us) ∙ in_us) (ap (λ ws. slice_get ws k) (sym is_vs) ∙ in_vs)
+
+-- the longer of the two is that of the join
+pub longer-first : (a b : Histories) (r : ℕ) → count b r ≤ count a r → numbered r 1 (history a r) ≡ numbered r 1 (history (join a b) r)
+longer-first a b r le = ap (numbered r 1) (shorter_is (history a r) (history b r) le ∙ sym (history-join a b r))
+
+pub longer-second : (a b : Histories) → IsCompatible a b → (r : ℕ) → count a r ≤ count b r → numbered r 1 (history b r) ≡ numbered r 1 (history (join a b) r)
+longer-second a b fits r le =
+    let us = numbered r 1 (history a r) in let vs = numbered r 1 (history b r) in
+    longer_is us vs (agree-lists a b fits r us vs refl refl) (omega (arith, le, length-numbered r 1 (history a r), length-numbered r 1 (history b r)))
+    ∙ joined-numbered r (history a r) (history b r)
+    ∙ ap (numbered r 1) (sym (history-join a b r))
 
 -- ## A list that catches up with another, item by item
 

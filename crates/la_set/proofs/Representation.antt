@@ -1,12 +1,16 @@
 -- A set that is kept as eight lists: what each list is, and what an edit of one keeps.
-use Rattle.std.proofs.Common.{◌≡◌, ◌≢◌, ℕ, zero, suc, ◌+◌, ◌<◌, ◌≤◌, List, [], ◌∷◌, ◌++◌, length, take, get_or, map, set, replicate, refl, ap, sym, ◌∙◌, subst, arith, inl, inr}
-use Rattle.std.proofs.lemmas.List.{length-set, get_or-set_same, get_or-set_other, get_or_default, get_or-replicate, length-map, take_all}
+use Rattle.std.proofs.Common.{◌≡◌, ◌≢◌, ℕ, zero, suc, ◌+◌, ◌<◌, ◌≤◌, List, [], ◌∷◌, ◌++◌, length, take, get_or, map, min, set, replicate, refl, ap, sym, ◌∙◌, subst, arith, inl, inr}
+use Rattle.std.proofs.lemmas.List.{length-set, get_or-set_same, get_or-set_other, get_or_default, get_or-replicate, length-map, length-take, take_all}
 use Rattle.std.proofs.lemmas.Bool.{cases_eq, cases_lt}
+use Rattle.std.proofs.Math.Nat.{min_comm}
 use Rattle.la_set.specs.declared.update.Update.{Update}
 use Rattle.la_set.specs.ObjectOps.{ObjectOp, object_op_of, update_of}
+use Rattle.la_set.specs.declared.counts.Counts.{Counts}
+use Rattle.la_set.specs.Counts.{count_in, from_counts, counts_of, zero_counts}
 use Rattle.la_set.specs.Histories.{Histories, empty, history, count, with_history, truncate, numbered, IsWithinLimit}
-use Rattle.la_set.specs.Representation.{represented, IsRepresentation}
-use Rattle.la_set.proofs.lemmas.NumberedLists.{object_ops-numbered, numbered-append, take-numbered}
+use Rattle.la_set.specs.Representation.{represented, lengths_of, IsRepresentation}
+use Rattle.la_set.proofs.lemmas.NumberedLists.{object_ops-numbered, length-numbered, numbered-append, take-numbered}
+use Rattle.la_set.proofs.lemmas.Counting.{count_in-from_counts, same_counts, capped_at, capped_at-own, capped_at-other}
 use Rattle.la_set.proofs.lemmas.SetHistories.{history-from_histories, same_histories, history-with_same, history-with_other, history-empty, count-edited, count-shortened, count_past, shortened-none}
 
 -- a list of lists that holds each replica's updates
@@ -23,6 +27,13 @@ IsRepresentation-from lists s eight each within =
 pub list_at : (lists : List (List Update)) (s : Histories) (r : ℕ) (d : List Update) → r < 8 → IsRepresentation lists → represented lists ≡ s → get_or lists r d ≡ numbered r 1 (history s r)
 list_at lists s r d lt keeps is = get_or_default lists r d [] (omega (arith, keeps.eight)) ∙ keeps.in_order r lt ∙ ap (λ t. numbered r 1 (history t r)) is
 
+pub list-within : (lists : List (List Update)) → IsRepresentation lists → (r : ℕ) → r < 8 → length (get_or lists r []) ≤ 1000000
+list-within lists keeps r lt = omega (arith, ap length (keeps.in_order r lt), length-numbered r 1 (history (represented lists) r), keeps.within r)
+
+-- how long a list is
+pub length-at : (lists : List (List Update)) (c : Counts) (r : ℕ) → r < 8 → c ≡ lengths_of lists → count_in c r ≡ length (get_or lists r [])
+length-at lists c r lt is = ap (λ k. count_in k r) is ∙ count_in-from_counts (λ q. length (get_or lists q [])) r lt
+
 -- ## One list that is cut
 
 -- and where none is
@@ -37,6 +48,9 @@ cut-within s q n within r = elim (cases_lt q 8) [
     | inr ne ↦ omega (arith, ap length (history-with_other s q (take n (history s q)) r ne), within r)
   ]
 ]
+
+pub cut-limit : (lists : List (List Update)) (s : Histories) (q n : ℕ) → IsRepresentation lists → truncate (represented lists) q n ≡ s → IsWithinLimit s
+cut-limit lists s q n keeps is = subst IsWithinLimit is (cut-within (represented lists) q n keeps.within)
 
 module _ (lists : List (List Update)) (s : Histories) (q n r : ℕ) (d : List Update) (lt : r < 8) (keeps : IsRepresentation lists) (is : truncate (represented lists) q n ≡ s) where
   whole : get_or lists r d ≡ numbered r 1 (history (represented lists) r)
@@ -55,6 +69,18 @@ module _ (lists : List (List Update)) (s : Histories) (q n r : ℕ) (d : List Up
 
   pub cut-list_short : r ≡ q → length (get_or lists r d) ≤ n → get_or lists r d ≡ numbered r 1 (history s r)
   cut-list_short e few = sym (take_all n (get_or lists r d) few) ∙ cut-list_own e
+
+  pub cut-count_other : r ≢ q → length (get_or lists r d) ≡ count s r
+  cut-count_other ne = ap length (cut-list_other ne) ∙ length-numbered r 1 (history s r)
+
+  pub cut-count_own : r ≡ q → min (length (get_or lists r d)) n ≡ count s r
+  cut-count_own e = min_comm (length (get_or lists r d)) n ∙ sym (length-take n (get_or lists r d)) ∙ ap length (cut-list_own e) ∙ length-numbered r 1 (history s r)
+
+pub cut-counts : (lists : List (List Update)) (s : Histories) (q n : ℕ) (c : Counts) → IsRepresentation lists → truncate (represented lists) q n ≡ s → c ≡ lengths_of lists → from_counts (capped_at c q n) ≡ counts_of s
+cut-counts lists s q n c keeps is are = same_counts (capped_at c q n) (count s) (λ r lt. elim (cases_eq r q) [
+  | inl e ↦ capped_at-own c q n r e ∙ ap (λ k. min k n) (length-at lists c r lt are) ∙ cut-count_own lists s q n r [] lt keeps is e
+  | inr ne ↦ capped_at-other c q n r ne ∙ length-at lists c r lt are ∙ cut-count_other lists s q n r [] lt keeps is ne
+])
 
 -- one list in the place of another
 module _ (lists : List (List Update)) (s : Histories) (r : ℕ) (us : List Update) (known : r < 8) (eight : length lists ≡ 8) (each : (q : ℕ) → q < 8 → get_or lists q [] ≡ numbered q 1 (history s q)) (listed : us ≡ numbered r 1 (map object_op_of us)) where
@@ -83,6 +109,9 @@ pushed-list s u list next e =
 -- eight empty lists
 pub none_each : (r : ℕ) → r < 8 → get_or (replicate 8 []) r [] ≡ numbered r 1 (history empty r)
 none_each r lt = get_or-replicate 8 r [] [] lt ∙ ap (numbered r 1) (sym (history-empty r))
+
+pub none-lengths : zero_counts ≡ lengths_of (replicate 8 [])
+none-lengths = same_counts (λ r. 0) (λ r. length (get_or (replicate 8 []) r [])) (λ r lt. sym (ap length (get_or-replicate 8 r [] [] lt)))
 
 -- eight lists, each that of one replica
 pub eight_each : (s : Histories) (a b c d e f g h : List Update)

@@ -2,12 +2,13 @@
 ghost use Rattle.std.specs.Prelude.{◌≡◌, ◌+◌, ◌++◌, ◌<◌, ◌≤◌, ◌↔◌, []};
 ghost use Rattle.std.specs.Prelude.{ℕ, length, List, take, reverse, slice_get, Some, IsOk, IsTrue};
 ghost use Rattle.std.specs.Prelude.{IfOk, IfErr, OnOk, OnErr, MatchOption};
-ghost use Rattle.la_set.specs.Histories.{updates};
+ghost use Rattle.la_set.specs.Histories.{updates, updates_of};
 ghost use Rattle.la_set.specs.Inclusion.{IsSubset, is_subset, IsOrderOf};
 ghost use Rattle.la_set.specs.Inclusion.{AreComparable, is_larger, larger_of};
 ghost use Rattle.la_set.specs.Join.{HasNoMore, IsCompatible, IsLeastClash, join, joined};
 ghost use Rattle.la_set.specs.Difference.{beyond, unmatched};
 ghost use Rattle.la_set.specs.Counts.{within};
+ghost use Rattle.la_set.specs.Representation.{represented, IsRepresentation};
 ghost use Rattle.la_set.specs.declared.set.TheConstants.{MAX_NUMBER};
 ghost use Rattle.la_set.specs.Links.{lent_items};
 ghost use Rattle.la_set.specs.Refusals.{IsUnionRefusal};
@@ -152,8 +153,10 @@ impl UpdateSet {
     fn has_no_more(&self, other: &UpdateSet) -> bool
         ensures { IsTrue result ↔ HasNoMore self.now other.now }
     {
+        let mine = self.counts();
+        let theirs = other.counts();
         for replica in 0..REPLICAS {
-            if self.count_of(replica) > other.count_of(replica) {
+            if mine.of(replica) > theirs.of(replica) {
                 return false;
             }
         }
@@ -245,13 +248,43 @@ impl UpdateSet {
             *self = other.copy()?;
             return Ok(());
         }
-        let alloc = self.allocator();
-        let mut of = self.histories()?;
-        for replica in 0..REPLICAS {
-            of[replica as usize].extend_from(other.history_of(replica))?;
-        }
-        *self = UpdateSet::keeping(alloc, of)?;
+        let of = self.longer_histories(other)?;
+        *self = UpdateSet::keeping(self.allocator(), of)?;
         Ok(())
+    }
+
+    // Of each replica the longer of the two sets' lists, shared.
+    fn longer_histories(&self, other: &UpdateSet) -> Result<[History<Update>; 8], AllocError>
+        requires { IsCompatible self.now other.now }
+        ensures keeps { IfOk result (λ of. IsRepresentation of) }
+        ensures join { IfOk result (λ of. represented of ≡ join self.now other.now) }
+    {
+        // a hint to the prover: no number is over the limit
+        let _ = self.allocator();
+        let _ = other.allocator();
+        Ok([
+            self.longer_history(other, 0)?,
+            self.longer_history(other, 1)?,
+            self.longer_history(other, 2)?,
+            self.longer_history(other, 3)?,
+            self.longer_history(other, 4)?,
+            self.longer_history(other, 5)?,
+            self.longer_history(other, 6)?,
+            self.longer_history(other, 7)?,
+        ])
+    }
+
+    // The longer of the two sets' lists of a replica, shared: the lengths are compared, and of the
+    // shorter nothing is looked at.
+    fn longer_history(&self, other: &UpdateSet, replica: u8) -> Result<History<Update>, AllocError>
+        requires known { replica < REPLICAS }
+        requires compatible { IsCompatible self.now other.now }
+        ensures { IfOk result (λ list. list ≡ updates_of (join self.now other.now) replica) }
+    {
+        if self.count_of(replica) < other.count_of(replica) {
+            return History::of(other.history_of(replica));
+        }
+        History::of(self.history_of(replica))
     }
 }
 

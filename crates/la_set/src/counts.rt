@@ -1,4 +1,4 @@
-ghost use Rattle.std.specs.Prelude.{◌≡◌, ◌<◌, ℕ, length, min, slice_index_or};
+ghost use Rattle.std.specs.Prelude.{◌≡◌, ◌<◌, ◌==◌, ℕ, length, min, slice_index_or, if◌then◌else◌};
 ghost use Rattle.la_set.specs.Counts.{count_in, from_counts, zero_counts};
 
 use crate::REPLICAS;
@@ -36,6 +36,19 @@ impl Counts {
         ensures each { (r : ℕ) → r < REPLICAS → slice_index_or result r 0 ≡ count_in self.now r }
     {
         self.of
+    }
+
+    // The same, but at most so many of a replica.
+    pub(crate) fn capped(self, replica: u8, most: u32) -> Counts
+        ensures { result ≡ from_counts (λ r.
+            if r == replica then min (count_in self r) most else count_in self r) }
+    {
+        let mut of = self.of;
+        if replica < REPLICAS {
+            let at = replica as usize;
+            of[at] = of[at].min(most);
+        }
+        Counts { of }
     }
 
     /// Of each replica the smaller of the two.

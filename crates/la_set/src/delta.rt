@@ -2,9 +2,9 @@ ghost use Rattle.std.specs.Prelude.{◌≡◌, ◌+◌, ◌≤◌, ◌<◌, ◌+
 ghost use Rattle.std.specs.Prelude.{IsOk, IfOk, IfErr, IfSome, OnOk, OnErr, Some, None, IsTrue, ◌↔◌, take};
 ghost use Rattle.std.specs.Option.{option_copied};
 ghost use Rattle.la_set.specs.Links.{lent_items};
-ghost use Rattle.la_set.specs.Histories.{history, updates_of, push, IsNext, IsWithinLimit};
+ghost use Rattle.la_set.specs.Histories.{history, updates_of, push, IsNext};
 ghost use Rattle.la_set.specs.Representation.{represented, IsRepresentation, IsFront, GrowsFrom};
-ghost use Rattle.la_set.specs.Counts.{count_in, counts_of, HasCounts, within};
+ghost use Rattle.la_set.specs.Counts.{count_in, HasCounts, within};
 ghost use Rattle.la_set.specs.Deltas.{over, delta_over, rebuilt, pushed, AreNext, AgreesWithin};
 ghost use Rattle.la_set.specs.Deltas.{IsOver, IsRebuildRefusal};
 
@@ -134,33 +134,13 @@ impl Delta {
 }
 
 impl UpdateSet {
-    /// How many updates of each replica there are, at most [`MAX_NUMBER`] each, at constant cost.
-    pub fn counts(&self) -> Counts
-        ensures counts { result ≡ counts_of self.now }
-        ensures limit { IsWithinLimit self.now }
-    {
-        // a hint to the prover: no number is over the limit
-        let _ = self.allocator();
-        Counts {
-            of: [
-                self.count_of(0),
-                self.count_of(1),
-                self.count_of(2),
-                self.count_of(3),
-                self.count_of(4),
-                self.count_of(5),
-                self.count_of(6),
-                self.count_of(7),
-            ],
-        }
-    }
-
     /// Whether there are so many updates of each replica, or more.
     pub fn has_counts(&self, counts: Counts) -> bool
         ensures { IsTrue result ↔ HasCounts self.now counts }
     {
+        let mine = self.counts();
         for replica in 0..REPLICAS {
-            if counts.of(replica) > self.count_of(replica) {
+            if counts.of(replica) > mine.of(replica) {
                 return false;
             }
         }
@@ -354,9 +334,10 @@ impl UpdateSet {
         requires { HasCounts self.now base }
         ensures { result ≡ length (over self.now base) }
     {
+        let counts = self.counts();
         let mut all = 0;
         for replica in 0..REPLICAS {
-            all += (self.count_of(replica) - base.of(replica)) as usize;
+            all += (counts.of(replica) - base.of(replica)) as usize;
         }
         all
     }
@@ -366,13 +347,13 @@ impl UpdateSet {
         requires { HasCounts self.now base }
         ensures { option_copied result ≡ slice_get (over self.now base) place }
     {
+        let counts = self.counts();
         let mut left = place;
         for replica in 0..REPLICAS {
-            let mine = self.history_of(replica);
             let skipped = base.of(replica) as usize;
-            let count = len_of(mine) - skipped;
+            let count = counts.of(replica) as usize - skipped;
             if left < count {
-                return item_at(mine, skipped + left);
+                return item_at(self.history_of(replica), skipped + left);
             }
             left -= count;
         }

@@ -4,6 +4,7 @@ ghost use Rattle.la_set.specs.Histories.{history, updates_of, with_history, trun
 ghost use Rattle.la_set.specs.Representation.{represented, IsRepresentation};
 
 use crate::history::{History, first, len_of, step_back};
+use crate::lists::Lists;
 use crate::set::Cut;
 use crate::{REPLICAS, Update, UpdateSet};
 use std::alloc::{AllocError, Global};
@@ -15,7 +16,7 @@ use std::sync::Arc;
 #[derive(Drop)]
 pub struct Ready {
     alloc: Global,
-    of: Arc<[History<Update>; 8]>,
+    of: Arc<Lists>,
 }
 
 impl Model for Ready {
@@ -54,7 +55,7 @@ impl UpdateSet {
         of[replica as usize] = History::of(other.history_of(replica))?;
         Ok(Ready {
             alloc,
-            of: Arc::new(alloc, of)?,
+            of: Arc::new(alloc, Lists::of(of))?,
         })
     }
 

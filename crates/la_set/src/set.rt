@@ -1,17 +1,19 @@
-ghost use Rattle.std.specs.Prelude.{◌≡◌, ◌≢◌, ◌+◌, ◌<◌, ◌≤◌, [], length, map, take, slice_get};
-ghost use Rattle.std.specs.Prelude.{slice_index_or, IsOk, IfOk, IfErr, OnOk, OnErr};
+ghost use Rattle.std.specs.Prelude.{◌≡◌, ◌≢◌, ◌+◌, ◌<◌, ◌≤◌, [], length, map, min, take};
+ghost use Rattle.std.specs.Prelude.{slice_get, slice_index_or, IsOk, IfOk, IfErr, OnOk, OnErr};
 ghost use Rattle.std.specs.Option.{option_copied};
 ghost use Rattle.la_set.specs.ObjectOps.{object_op_of};
 ghost use Rattle.la_set.specs.Histories.{empty, count, get, last_update, updates, updates_of};
 ghost use Rattle.la_set.specs.Histories.{numbered, with_history, push, pop, truncate};
 ghost use Rattle.la_set.specs.Histories.{IsNext, IsWithinLimit};
+ghost use Rattle.la_set.specs.Counts.{counts_of};
 ghost use Rattle.la_set.specs.Refusals.{IsPushRefusal};
 ghost use Rattle.la_set.specs.Links.{lent_items};
-ghost use Rattle.la_set.specs.Representation.{represented, lists_of, AreListsOf};
+ghost use Rattle.la_set.specs.Representation.{represented, lengths_of, lists_of, AreListsOf};
 ghost use Rattle.la_set.specs.Representation.{IsRepresentation};
 
-use crate::history::{History, Lent, first, item_at, len_of};
-use crate::{SetError, Update, UpdateId};
+use crate::history::{History, Lent, first, item_at};
+use crate::lists::Lists;
+use crate::{Counts, SetError, Update, UpdateId};
 use std::alloc::{AllocError, Global};
 use std::marker::Model;
 use std::sync::Arc;
@@ -24,12 +26,11 @@ pub const MAX_NUMBER: u32 = 1_000_000;
 
 /// A set of updates, one for each id, in which each replica's numbers run from 1 without a gap.
 ///
-/// It keeps a list for each replica, in the order of the numbers. The lists lie behind one pointer,
-/// and copies share them: what is added to one copy, the others don't see.
-#[derive(Drop)]
+/// It keeps a list for each replica, in the order of the numbers. The lists and their lengths lie
+/// behind one pointer, and copies share them: what is added to one copy, the others don't see.
 pub struct UpdateSet {
     alloc: Global,
-    of: Option<Arc<[History<Update>; 8]>>,
+    of: Option<Arc<Lists>>,
     cut: Cut,
 }
 
@@ -59,6 +60,18 @@ impl Model for UpdateSet {
     ghost invariant = { λ s. IsRepresentation (lists_of s.of) };
 }
 
+// A hint to the prover: a derived drop would be written out, with its branch, into who drops a set.
+impl Drop for UpdateSet {
+    fn drop(self) {
+        let UpdateSet {
+            alloc: _,
+            of,
+            cut: _,
+        } = self;
+        drop(of);
+    }
+}
+
 impl UpdateSet {
     /// The empty set, which takes no memory.
     pub fn new(alloc: Global) -> UpdateSet
@@ -80,7 +93,15 @@ impl UpdateSet {
         if replica >= REPLICAS {
             return 0;
         }
-        len_of(self.history_of(replica)) as u32
+        self.cut.leaves(replica, len_in(&self.of, replica))
+    }
+
+    /// How many updates of each replica there are, at most [`MAX_NUMBER`] each, at constant cost.
+    pub fn counts(&self) -> Counts
+        ensures counts { result ≡ counts_of self.now }
+        ensures limit { IsWithinLimit self.now }
+    {
+        counts_in(&self.of).capped(self.cut.replica, self.cut.len)
     }
 
     /// How many updates there are, at most 8,000,000. The cost is constant.
@@ -88,9 +109,10 @@ impl UpdateSet {
         ensures len { result ≡ length (updates self.now) }
         ensures limit { result ≤ 8000000 }
     {
+        let counts = self.counts();
         let mut all = 0;
         for replica in 0..REPLICAS {
-            all += self.count_of(replica) as usize;
+            all += counts.of(replica) as usize;
         }
         all
     }
@@ -109,12 +131,12 @@ impl UpdateSet {
     pub fn at(&self, place: usize) -> Option<&Update>
         ensures { option_copied result ≡ slice_get (updates self.now) place }
     {
+        let counts = self.counts();
         let mut left = place;
         for replica in 0..REPLICAS {
-            let mine = self.history_of(replica);
-            let count = len_of(mine);
+            let count = counts.of(replica) as usize;
             if left < count {
-                return item_at(mine, left);
+                return item_at(self.history_of(replica), left);
             }
             left -= count;
         }
@@ -198,7 +220,14 @@ impl UpdateSet {
         ensures updates { lent_items result ≡ updates_of self.now replica }
         ensures limit { length (lent_items result) ≤ MAX_NUMBER }
     {
-        shown(list_of(&self.of, replica), replica, self.cut)
+        let list = list_in(&self.of, replica);
+        if replica != self.cut.replica {
+            return list;
+        }
+        if len_in(&self.of, replica) <= self.cut.len {
+            return list;
+        }
+        first(list, self.cut.len as usize)
     }
 
     // What the set allocates with. The contract also tells that no number is over the limit.
@@ -232,13 +261,13 @@ impl UpdateSet {
     {
         Ok(UpdateSet {
             alloc,
-            of: Some(Arc::new(alloc, of)?),
+            of: Some(Arc::new(alloc, Lists::of(of))?),
             cut: UNCUT,
         })
     }
 
     // The set that keeps these lists, one of them cut.
-    pub(crate) fn cut(alloc: Global, of: Arc<[History<Update>; 8]>, cut: Cut) -> UpdateSet
+    pub(crate) fn cut(alloc: Global, of: Arc<Lists>, cut: Cut) -> UpdateSet
         requires { IsRepresentation of.value }
         ensures { result ≡ truncate (represented of.value) cut.replica cut.len }
     {
@@ -277,26 +306,48 @@ impl UpdateSet {
     }
 }
 
+impl Cut {
+    // How many it leaves of a replica's so many updates.
+    fn leaves(self, replica: u8, len: u32) -> u32
+        ensures own { replica ≡ self.replica → result ≡ min len self.len }
+        ensures other { replica ≢ self.replica → result ≡ len }
+    {
+        if replica == self.replica {
+            len.min(self.len)
+        } else {
+            len
+        }
+    }
+}
+
 // A replica's list, of those that a set's pointer leads to.
-fn list_of(of: &Option<Arc<[History<Update>; 8]>>, replica: u8) -> Lent<'_, Update>
-    requires known { replica < REPLICAS }
-    requires eight { length (lists_of of.now) ≡ REPLICAS }
+fn list_in(of: &Option<Arc<Lists>>, replica: u8) -> Lent<'_, Update>
+    requires { replica < REPLICAS }
     ensures { lent_items result ≡ slice_index_or (lists_of of.now) replica [] }
 {
     match of {
-        Some(of) => of[replica as usize].link(),
+        Some(of) => of.link(replica),
         None => None,
     }
 }
 
-// What a set has of a replica's list, where it is cut.
-fn shown(list: Lent<'_, Update>, replica: u8, cut: Cut) -> Lent<'_, Update>
-    ensures own { replica ≡ cut.replica
-        → lent_items result ≡ take cut.len (lent_items list.entry) }
-    ensures other { replica ≢ cut.replica → lent_items result ≡ lent_items list.entry }
+// How long that list is, without a look at its items.
+fn len_in(of: &Option<Arc<Lists>>, replica: u8) -> u32
+    requires { replica < REPLICAS }
+    ensures { result ≡ length (slice_index_or (lists_of of.now) replica []) }
 {
-    if replica == cut.replica && len_of(list) > cut.len as usize {
-        return first(list, cut.len as usize);
+    match of {
+        Some(of) => of.len_of(replica),
+        None => 0,
     }
-    list
+}
+
+// How long each of them is.
+fn counts_in(of: &Option<Arc<Lists>>) -> Counts
+    ensures { result ≡ lengths_of (lists_of of.now) }
+{
+    match of {
+        Some(of) => of.counts(),
+        None => Counts::zero(),
+    }
 }

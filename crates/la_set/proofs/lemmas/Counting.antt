@@ -1,7 +1,7 @@
 -- Counts, and a set within them.
-use Rattle.std.proofs.Common.{◌≡◌, ℕ, zero, suc, ◌<◌, ◌≤◌, cond, get_or, [], ◌∷◌, length, take, refl, ap, sym, ◌∙◌, arith, inl, inr}
-use Rattle.std.proofs.lemmas.List.{length-take, ext_get_or}
-use Rattle.std.proofs.lemmas.Bool.{cases_lt, lt-ltb, le-ltb}
+use Rattle.std.proofs.Common.{◌≡◌, ◌≢◌, ℕ, zero, suc, ◌<◌, ◌≤◌, cond, eqb, get_or, set, min, [], ◌∷◌, length, take, refl, ap, sym, ◌∙◌, arith, inl, inr}
+use Rattle.std.proofs.lemmas.List.{length-take, length-set, ext_get_or, get_or-set_same, get_or-set_other}
+use Rattle.std.proofs.lemmas.Bool.{cases_lt, cases_eq, lt-ltb, le-ltb, eq-eqb, ne_eqb}
 use Rattle.la_set.specs.declared.counts.Counts.{Counts}
 use Rattle.la_set.specs.Histories.{Histories, history, count}
 use Rattle.la_set.specs.Counts.{count_in, from_counts, counts_of, HasCounts, within}
@@ -38,6 +38,9 @@ pub same_counts : (f g : ℕ → ℕ) → ((r : ℕ) → r < 8 → f r ≡ g r) 
 unfolding from_counts
 same_counts f g e = λ i. record { of = e 0 (omega arith) i ∷ e 1 (omega arith) i ∷ e 2 (omega arith) i ∷ e 3 (omega arith) i ∷ e 4 (omega arith) i ∷ e 5 (omega arith) i ∷ e 6 (omega arith) i ∷ e 7 (omega arith) i ∷ [] }
 
+pub count-at : (s : Histories) (c : Counts) (r n : ℕ) → c ≡ counts_of s → n ≡ count_in c r → n ≡ count s r
+count-at s c r n is at = at ∙ ap (λ k. count_in k r) is ∙ count_in-counts_of s r
+
 -- a set within counts
 pub history-within : (s : Histories) (c : Counts) (r : ℕ) → history (within s c) r ≡ take (count_in c r) (history s r)
 unfolding within
@@ -61,3 +64,27 @@ pub eight-counts : (c : Counts) → length c.of ≡ 8 → c ≡ from_counts (λ 
 unfolding from_counts
 eight-counts c eight = let f : ℕ → ℕ = λ r. get_or c.of r 0 in
     ap {B = Counts} (λ numbers. record { of = numbers }) (ext_get_or 0 c.of (from_counts f).of eight (λ r lt. sym (sym (count_in-known (from_counts f) r (omega (arith, lt, eight))) ∙ count_in-from_counts f r (omega (arith, lt, eight)))))
+
+-- counts, one of them capped
+abbrev pub capped_at : Counts → ℕ → ℕ → ℕ → ℕ
+capped_at c q n r = cond (eqb r q) (min (count_in c r) n) (count_in c r)
+
+module _ (c : Counts) (q n : ℕ) where
+  pub capped_at-own : (r : ℕ) → r ≡ q → capped_at c q n r ≡ min (count_in c r) n
+  capped_at-own r e = ap (λ b. cond b (min (count_in c r) n) (count_in c r)) (eq-eqb r q e)
+
+  pub capped_at-other : (r : ℕ) → r ≢ q → capped_at c q n r ≡ count_in c r
+  capped_at-other r ne = ap (λ b. cond b (min (count_in c r) n) (count_in c r)) (ne_eqb r q ne)
+
+  pub capped-known : (m : ℕ) → length c.of ≡ 8 → q < 8 → m ≡ min (get_or c.of q 0) n → record { of = set c.of q m } ≡ from_counts (capped_at c q n)
+  capped-known m eight lt is = eight-counts (record { of = set c.of q m }) (length-set c.of q m ∙ eight) ∙ same_counts (λ r. get_or (set c.of q m) r 0) (capped_at c q n) (λ r few. elim (cases_eq r q) [
+    | inl e ↦
+        ap (λ p. get_or (set c.of q m) p 0) e
+        ∙ get_or-set_same c.of q m 0 (omega (arith, lt, eight))
+        ∙ is ∙ ap (λ k. min k n) (sym (count_in-known c q lt) ∙ ap (count_in c) (sym e))
+        ∙ sym (capped_at-own r e)
+    | inr ne ↦ get_or-set_other c.of q r m 0 ne ∙ sym (count_in-known c r few) ∙ sym (capped_at-other r ne)
+  ])
+
+  pub capped-past : length c.of ≡ 8 → 8 ≤ q → c ≡ from_counts (capped_at c q n)
+  capped-past eight past = eight-counts c eight ∙ same_counts (λ r. get_or c.of r 0) (capped_at c q n) (λ r few. sym (count_in-known c r few) ∙ sym (capped_at-other r (λ e. absurd (omega (arith, e, few, past)))))

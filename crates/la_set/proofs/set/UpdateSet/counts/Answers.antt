@@ -1,11 +1,14 @@
-use Rattle.std.proofs.Common.{◌∷◌, []}
-use Rattle.la_set.specs.Counts.{from_counts}
+use Rattle.std.proofs.Common.{◌∙◌}
+use Rattle.la_set.specs.Representation.{lists_of}
+use Rattle.la_set.proofs.Representation.{cut-counts, cut-limit}
 use Rattle.la_set.proofs.set.UpdateSet.counts.Goals as goal
 
 pub returns-clause-counts : goal.returns-clause-counts
-unfolding from_counts
-returns-clause-counts c = λ i. record {
-  of =
-      c.count_of.ensures.count i ∷ c.count_of-2.ensures.count i ∷ c.count_of-3.ensures.count i ∷ c.count_of-4.ensures.count i
-      ∷ c.count_of-5.ensures.count i ∷ c.count_of-6.ensures.count i ∷ c.count_of-7.ensures.count i ∷ c.count_of-8.ensures.count i ∷ [];
-}
+returns-clause-counts c =
+    let cut = c.self.inside.cut in
+    c.capped.ensures ∙ cut-counts (lists_of c.self.inside.of) c.args.self.now cut.replica cut.len c.counts_in.result c.self.invariant c.self.view_is c.counts_in.ensures
+
+pub returns-clause-limit : goal.returns-clause-limit
+returns-clause-limit c =
+    let cut = c.self.inside.cut in
+    cut-limit (lists_of c.self.inside.of) c.args.self.now cut.replica cut.len c.self.invariant c.self.view_is

@@ -1,23 +1,30 @@
-use Rattle.std.proofs.Common.{◌≡◌, ap, sym, ◌∙◌, subst, map, length, arith}
+use Rattle.std.proofs.Common.{◌≡◌, ap, sym, ◌∙◌, subst, set, map, length, arith}
 use Rattle.la_set.specs.ObjectOps.{object_op_of}
 use Rattle.la_set.specs.Histories.{history, numbered, with_history}
 use Rattle.la_set.specs.Representation.{represented, IsRepresentation}
 use Rattle.la_set.proofs.lemmas.NumberedLists.{object_ops-numbered}
-use Rattle.la_set.proofs.Representation.{numbered-object_ops, represented-edited, IsRepresentation-edited}
+use Rattle.la_set.proofs.Representation.{list-within, numbered-object_ops, represented-edited, IsRepresentation-edited}
 use Rattle.la_set.proofs.set.UpdateSet.with_updates_of.Goals as goal
+use Rattle.la_set.proofs.set.UpdateSet.with_updates_of.Goals.{In_ok-of-2}
+
+edited-keeps : (c : In_ok-of-2) → IsRepresentation (set c.in_ok-of.of c.args.replica c.in_ok-of-2.field-0)
+edited-keeps c =
+    let r = c.args.replica in let us = c.in_ok-of-2.field-0 in
+    let is : us ≡ numbered r 1 (history c.args.other.now r) = c.in_ok-of-2.ensures ∙ c.history_of.ensures.updates in
+    IsRepresentation-edited c.in_ok-of.of c.args.self.now r us c.requires c.in_ok-of.ensures.eight c.in_ok-of.ensures.each (numbered-object_ops us r _ is)
+    (omega (arith, ap length c.in_ok-of-2.ensures, c.history_of.ensures.limit)) c.allocator-alloc.ensures
+
+pub of-requires-2 : goal.of-requires-2
+of-requires-2 c = list-within _ (edited-keeps (goal.at.of-requires-2 c).In_ok-of-2)
 
 pub invariant_of-result : goal.invariant_of-result
 invariant_of-result c =
-    let s = c.args.self.now in let r = c.args.replica in let us = c.in_ok-of-2.field-0 in
-    let is : us ≡ numbered r 1 (history c.args.other.now r) = c.in_ok-of-2.ensures ∙ c.history_of.ensures.updates in
-    subst IsRepresentation (sym c.in_ok-new.ensures.ok)
-    (IsRepresentation-edited c.in_ok-of.of s r us c.requires c.in_ok-of.ensures.eight c.in_ok-of.ensures.each (numbered-object_ops us r _ is)
-    (omega (arith, ap length c.in_ok-of-2.ensures, c.history_of.ensures.limit)) c.allocator-alloc.ensures)
+    subst IsRepresentation (sym (c.in_ok-new.ensures.ok ∙ c.of-2.ensures)) (edited-keeps (goal.at.invariant_of-result c).In_ok-of-2)
 
 pub returns : goal.returns
 returns c =
     let s = c.args.self.now in let r = c.args.replica in let us = c.in_ok-of-2.field-0 in
     let is : us ≡ numbered r 1 (history c.args.other.now r) = c.in_ok-of-2.ensures ∙ c.history_of.ensures.updates in
-    ap represented c.in_ok-new.ensures.ok
+    ap represented (c.in_ok-new.ensures.ok ∙ c.of-2.ensures)
     ∙ represented-edited c.in_ok-of.of s r us c.requires c.in_ok-of.ensures.eight c.in_ok-of.ensures.each (numbered-object_ops us r _ is)
     ∙ ap (with_history s r) (ap (map object_op_of) is ∙ object_ops-numbered r 1 (history c.args.other.now r))
