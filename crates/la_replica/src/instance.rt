@@ -260,6 +260,7 @@ impl Instance {
 
     // Prepares what a message to this instance asks for, which is admitted with this verdict, and
     // by which the view is taken or not.
+    #[inline(always)]
     pub fn prepare(
         &self,
         alloc: Global,
@@ -301,6 +302,7 @@ impl Instance {
     }
 
     // Prepares the answer to an offer.
+    #[inline(always)]
     fn prepare_answer(
         &self,
         alloc: Global,
@@ -332,6 +334,7 @@ impl Instance {
     }
 
     // Prepares to hear a reply. One that does not count, or leaves the ballot open, sends nothing.
+    #[inline(always)]
     fn prepare_hearing(
         &self,
         alloc: Global,
@@ -398,6 +401,7 @@ impl Instance {
     }
 
     // Does what was prepared from this very instance. It can't be refused, and takes no memory.
+    #[inline(always)]
     pub fn commit(
         &mut self,
         accepted: Option<UpdateSet>,
@@ -448,6 +452,7 @@ fn set_if(taken: bool, set: &UpdateSet) -> Result<Option<UpdateSet>, AllocError>
 }
 
 // The answer to an offer: the reply is said, and a copy goes back.
+#[inline(always)]
 fn answered(
     alloc: Global,
     message: Whole<'_>,
@@ -470,6 +475,7 @@ fn answered(
 }
 
 // Prepares to take a told set as the view, or not.
+#[inline(always)]
 fn prepare_tell(
     alloc: Global,
     sender: &Sender,

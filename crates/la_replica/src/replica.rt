@@ -256,6 +256,7 @@ impl Replica {
     /// No updates are compared: the counts of sets that fit tell which contains which. The cost is
     /// that of the acceptor's or the proposer's step, and of a copy of each set that is said, sent
     /// or kept, which share it; and of a delta that was made from a list, that of the list.
+    #[inline(always)]
     pub fn prepare_fitting(&self, message: &Message) -> Result<(Out, Change), AllocError>
         requires fits { FitsReceiver self.now (received_in self.now message.now) }
         requires stands { StandsIn self.now message.now }
@@ -277,6 +278,7 @@ impl Replica {
     /// Does what was prepared from this very replica, at constant cost. It takes no memory. What was
     /// prepared in another instance stays prepared. A change that is dropped is a step that did not
     /// happen.
+    #[inline(always)]
     pub fn commit(&mut self, change: Change)
         requires { IsPreparedFrom self.old change }
         ensures done { after_commit self.old change ≡ Some self.new }
@@ -374,6 +376,7 @@ impl Replica {
     }
 
     // Prepares to receive a message that fits all that the replica knows.
+    #[inline(always)]
     fn prepare_whole(&self, message: Whole<'_>) -> Result<(Out, Change), AllocError>
         requires { FitsReceiver self.now (lent_message message) }
         ensures step { IfOk result (λ prepared. receives self.now (lent_message message.entry)
@@ -428,6 +431,7 @@ impl Replica {
 
     // Prepares what an admitted message asks for, with this verdict, and by which the view is taken
     // or not.
+    #[inline(always)]
     fn prepare_as(
         &self,
         message: Whole<'_>,

@@ -15,6 +15,7 @@ pub struct Done {
 
 impl Done {
     // What a replica did that cast no second vote.
+    #[inline(always)]
     pub(crate) fn without_vote(out: Out) -> Done
         ensures { result ≡ record { said = out.said; voted = None; mail = out.mail } }
     {

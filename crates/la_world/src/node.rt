@@ -283,6 +283,7 @@ impl<B: Replicated> Node<B> {
     }
 
     // The same, with a copy of the set that it learns, if it learns one.
+    #[inline(always)]
     pub(crate) fn take(
         &mut self,
         message: &Message,

@@ -62,6 +62,7 @@ pub fn returned(replica: &Replica, commit: u8) -> Option<Outcome>
 // second vote, it casts this in the same step: both are prepared from what stands, and then both
 // are committed. A copy of what is learnt is answered too. It is refused for want of memory alone,
 // and only where a set would be learnt.
+#[inline(always)]
 pub fn take_prepared(
     receiver: &mut Replica,
     message: &Message,
@@ -132,6 +133,7 @@ fn commit_both(
 }
 
 // A copy of the set that is learnt, if one is.
+#[inline(always)]
 fn learnt_copy(said: &Said) -> Result<Option<UpdateSet>, AllocError>
     ensures ok { IfOk result (λ learnt. learnt ≡ learnt_in said.now) }
     ensures err { OnErr result (IsSome (learnt_in said.now)) }

@@ -113,6 +113,7 @@ impl<B: Replicated> World<B> {
     /// so that an event takes memory for what it adds: one update for a submission or a vote, its
     /// mail, and a learning's entry. A question costs what the view has gained since the last one to
     /// this replica, and the answer.
+    #[inline(always)]
     pub fn play(&mut self, event: &Event) -> Result<Step, WorldError>
         requires { self.old.count + 1 < 2 ^ 64 }
         ensures step { (events : Past) → StandsFor self.old events →

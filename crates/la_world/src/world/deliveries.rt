@@ -13,6 +13,7 @@ use la_object::Replicated;
 use std::alloc::AllocError;
 
 impl<B: Replicated> World<B> {
+    #[inline(always)]
     pub(super) fn deliver(&mut self, number: u64) -> Result<Step, WorldError>
         requires { self.old.count + 1 < 2 ^ 64 }
         ensures step { (events : Past) → StandsFor self.old events →
@@ -32,6 +33,7 @@ impl<B: Replicated> World<B> {
     }
 
     // Delivers a message that was sent, which is refused for want of memory alone.
+    #[inline(always)]
     fn take_delivery(&mut self, number: usize) -> Result<Step, AllocError>
         requires count { self.old.count + 1 < 2 ^ 64 }
         requires known { number < length self.old.messages }
