@@ -1,7 +1,8 @@
-ghost use Rattle.std.specs.Prelude.{◌≡◌, ℕ, ◌<◌, [], length, slice_get, option_map, IfOk, OnOk};
+ghost use Rattle.std.specs.Prelude.{◌≡◌, ℕ, ◌<◌, ◌≤◌, [], length, take, slice_get, option_map, IfOk, OnOk};
 ghost use Rattle.std.specs.Fmt.{decimal, signed_decimal};
 ghost use Rattle.la_set.specs.declared.set.TheConstants.{REPLICAS};
 ghost use Rattle.la_script.specs.Pieces.{words_and_ids, front, joined, Adds};
+ghost use Rattle.la_script.specs.Laid.{end_of};
 
 use crate::Text;
 use crate::id_text::IdText;
@@ -22,15 +23,14 @@ pub struct Stretch<'a> {
     pub ids: &'a [u8],
 }
 
-/// Which words are a stretch's, whose first ids stand behind them and how many, and whether they
-/// stand behind other ids.
+/// Where the words of a stretch end, whose first ids stand behind them and how many, and whether
+/// they stand behind other ids. Its words begin where those of the stretch before it end.
 #[derive(Clone, Copy)]
 pub struct Cut {
-    start: usize,
     end: usize,
-    behind: bool,
-    replica: u8,
     count: u32,
+    replica: u8,
+    behind: bool,
 }
 
 /// A text in pieces: stretches, and the words behind the last of them.
@@ -41,8 +41,6 @@ pub struct Cut {
 pub struct Pieces {
     words: Vec<u8>,
     cuts: Vec<Cut>,
-    // From where on words are in no stretch yet.
-    done: usize,
     // The text of each replica's ids.
     ids: [IdText; 8],
 }
@@ -54,9 +52,17 @@ impl Model for Pieces {
 
     ghost use Rattle.la_script.specs.Laid.{parts_of, IsLaid};
 
-    ghost view = { λ p. parts_of p.words.items p.cuts.items p.done };
+    ghost view = { λ p. parts_of p.words.items p.cuts.items };
 
-    ghost invariant = { λ p. IsLaid p.words.items p.cuts.items p.done p.ids };
+    ghost invariant = { λ p. IsLaid p.words.items p.cuts.items p.ids };
+}
+
+// Where the first cuts, as many as are said, end.
+fn end_of_first(cuts: &[Cut], count: usize) -> usize
+    requires { count ≤ length cuts.now }
+    ensures { result ≡ end_of 0 (take count cuts.now) }
+{
+    if count == 0 { 0 } else { cuts[count - 1].end }
 }
 
 impl Pieces {
@@ -67,7 +73,6 @@ impl Pieces {
         Pieces {
             words: Vec::new(alloc),
             cuts: Vec::new(alloc),
-            done: 0,
             ids: [
                 IdText::new(alloc, 0),
                 IdText::new(alloc, 1),
@@ -114,21 +119,21 @@ impl Pieces {
         requires { replica < REPLICAS }
         ensures { OnOk result (Adds self.old self.new (front behind replica count)) }
     {
+        if count == 0 {
+            return Ok(());
+        }
         let kept = &mut self.ids[replica as usize];
         kept.grow(count as usize)?;
         let ids = kept.front(behind, count as usize);
         if ids.len() < SHORT {
             return self.words.extend_from_slice(ids);
         }
-        let (start, end) = (self.done, self.words.len());
         self.cuts.push(Cut {
-            start,
-            end,
-            behind,
-            replica,
+            end: self.words.len(),
             count,
+            replica,
+            behind,
         })?;
-        self.done = end;
         Ok(())
     }
 
@@ -144,12 +149,12 @@ impl Pieces {
         ensures { option_map words_and_ids result ≡ slice_get self.now.stretches place }
     {
         let Cut {
-            start,
             end,
-            behind,
-            replica,
             count,
+            replica,
+            behind,
         } = *self.cuts.get(place)?;
+        let start = end_of_first(&self.cuts, place);
         Some(Stretch {
             words: &self.words[start..end],
             ids: self.ids[replica as usize].front(behind, count as usize),
@@ -160,7 +165,7 @@ impl Pieces {
     pub fn rest(&self) -> &[u8]
         ensures { result.now ≡ self.now.rest }
     {
-        &self.words[self.done..]
+        &self.words[end_of_first(&self.cuts, self.cuts.len())..]
     }
 
     // The pieces joined, at linear cost.

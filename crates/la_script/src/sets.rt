@@ -20,10 +20,11 @@ pub fn put_id(out: &mut Pieces, id: UpdateId) -> Result<(), AllocError>
 pub fn put_set(out: &mut Pieces, set: &UpdateSet) -> Result<(), AllocError>
     ensures { OnOk result (Adds out.old out.new (set_text set.now)) }
 {
+    let counts = set.counts();
     let mut behind = false;
     out.push_str("{")?;
     for replica in 0..REPLICAS {
-        let count = set.count_of(replica);
+        let count = counts.of(replica);
         out.push_ids(behind, replica, count)?;
         behind |= count > 0;
     }

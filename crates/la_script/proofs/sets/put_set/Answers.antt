@@ -1,6 +1,8 @@
 use Rattle.std.proofs.Common.{◌≡◌, ◌++◌, codes, ap, ◌∙◌, arith, append_assoc}
 use Rattle.std.proofs.lemmas.Result.{on_ok_weaker}
+use Rattle.la_set.specs.Counts.{count_in}
 use Rattle.la_set.specs.Histories.{count}
+use Rattle.la_set.proofs.lemmas.Counting.{count_in-counts_of}
 use Rattle.la_script.specs.Text.{ids_text, ids_of, set_text}
 use Rattle.la_script.specs.Pieces.{front, ids_before, joined}
 use Rattle.la_script.proofs.SetIds.{ids-all, text_more, behind_more}
@@ -24,13 +26,16 @@ returns c = on_ok_weaker c.push_str-2.result (λ e. e ∙ all c) c.push_str-2.en
 
 pub loop-replica-preserved : goal.loop-replica-preserved
 loop-replica-preserved c =
-    let counts = count c.args.set.now in
+    let s = c.args.set.now in
     let r = c.loop-replica.replica in
-    let before = ids_text (ids_before counts r) in
+    let n = c.of-count.result in
+    let behind = c.loop-replica.behind in
+    let before = ids_text (ids_before (count s) r) in
+    let is : n ≡ count s r = c.of-count.ensures ∙ ap (λ k. count_in k r) c.counts-counts.ensures.counts ∙ count_in-counts_of s r in
     record {
       text =
-          c.in_ok-push_ids.ensures ∙ ap (λ t. t ++ front c.loop-replica.behind r c.count_of-count.result) c.loop-replica.invariant.text
-          ∙ append_assoc (joined c.push_str.new.self) before (front c.loop-replica.behind r c.count_of-count.result)
-          ∙ ap (λ t. joined c.push_str.new.self ++ t) (text_more counts r c.count_of-count.result c.loop-replica.behind c.count_of-count.ensures.count c.loop-replica.invariant.behind);
-      behind = behind_more counts r c.count_of-count.result c.loop-replica.behind c.count_of-count.ensures.count c.loop-replica.invariant.behind;
+          c.in_ok-push_ids.ensures ∙ ap (λ t. t ++ front behind r n) c.loop-replica.invariant.text
+          ∙ append_assoc (joined c.push_str.new.self) before (front behind r n)
+          ∙ ap (λ t. joined c.push_str.new.self ++ t) (text_more (count s) r n behind is c.loop-replica.invariant.behind);
+      behind = behind_more (count s) r n behind is c.loop-replica.invariant.behind;
     }
