@@ -16,7 +16,7 @@ fn put_items(out: &mut Pieces, items: &[u64]) -> Result<(), AllocError>
     };
     out.push_number(*first)?;
     for item in others {
-        out.push_str(" ")?;
+        out.push_ascii(b' ')?;
         out.push_number(*item)?;
     }
     Ok(())
@@ -56,7 +56,7 @@ pub fn put_answer(out: &mut Pieces, answer: &Answer) -> Result<(), AllocError>
         Answer::Items(items) => {
             out.push_str("items [")?;
             put_items(out, items.all())?;
-            out.push_str("]")
+            out.push_ascii(b']')
         }
         Answer::Foreign => out.push_str("foreign"),
     }

@@ -1,4 +1,4 @@
-ghost use Rattle.std.specs.Prelude.{◌≡◌, ℕ, ◌<◌, ◌≤◌, [], length, take, slice_get, option_map, IfOk, OnOk};
+ghost use Rattle.std.specs.Prelude.{◌≡◌, ℕ, ◌<◌, ◌∷◌, ◌≤◌, [], length, take, slice_get, option_map, IfOk, OnOk};
 ghost use Rattle.std.specs.Fmt.{decimal, signed_decimal};
 ghost use Rattle.la_set.specs.declared.set.TheConstants.{REPLICAS};
 ghost use Rattle.la_script.specs.Pieces.{words_and_ids, front, joined, Adds};
@@ -92,6 +92,15 @@ impl Pieces {
         ensures { OnOk result (Adds self.old self.new words.now) }
     {
         self.words.extend_from_slice(words.as_bytes())
+    }
+
+    // Adds a letter of ASCII.
+    pub(crate) fn push_ascii(&mut self, letter: u8) -> Result<(), AllocError>
+        requires { letter < 128 }
+        ensures { OnOk result (Adds self.old self.new (letter ∷ [])) }
+    {
+        self.words.push(letter)?;
+        Ok(())
     }
 
     /// Adds a number in decimal.

@@ -12,7 +12,7 @@ pub fn put_id(out: &mut Pieces, id: UpdateId) -> Result<(), AllocError>
 {
     let UpdateId { replica, number } = id;
     out.push_number(u64::from(replica))?;
-    out.push_str(".")?;
+    out.push_ascii(b'.')?;
     out.push_number(u64::from(number))
 }
 
@@ -22,11 +22,11 @@ pub fn put_set(out: &mut Pieces, set: &UpdateSet) -> Result<(), AllocError>
 {
     let counts = set.counts();
     let mut behind = false;
-    out.push_str("{")?;
+    out.push_ascii(b'{')?;
     for replica in 0..REPLICAS {
         let count = counts.of(replica);
         out.push_ids(behind, replica, count)?;
         behind |= count > 0;
     }
-    out.push_str("}")
+    out.push_ascii(b'}')
 }
