@@ -5,6 +5,7 @@ ghost use Rattle.std.specs.Prelude.{
   ◌+◌,
   ◌<◌,
   ◌≤◌,
+  [],
   ◌++◌,
   length,
   IfOk,
@@ -16,8 +17,16 @@ ghost use Rattle.std.specs.Prelude.{
 ghost use Rattle.std.specs.Io.KnownBytes.{Consumes, IsAtEnd, Keeps, WriteAppends};
 ghost use Rattle.la_script.specs.Pieces.{joined};
 ghost use Rattle.la_program.specs.declared.streams.InputFault.TheVariants.{Memory};
-ghost use Rattle.la_program.specs.Streams.{ReadsAll, Takes, TakesAtMost, Writes, WritesPrefix};
+ghost use Rattle.la_program.specs.Streams.{
+  ReadsAll,
+  Takes,
+  TakesAtMost,
+  Writes,
+  WritesPrefix,
+  WritesAllBut,
+};
 
+use arrayvec::ArrayVec;
 use la_script::{Pieces, Stretch};
 use std::alloc::{AllocError, Global};
 use std::io::{Read, Write};
@@ -26,8 +35,11 @@ use thiserror::Error;
 /// The most bytes that an input may have.
 pub const LIMIT: usize = 16_777_216;
 
-// The most bytes that a read asks for.
+// The most bytes that a read asks for, and that are held before they are written.
 const CHUNK: usize = 8192;
+
+// The last bytes of a text, which are not written yet.
+type Held = ArrayVec<u8, CHUNK>;
 
 /// Why not all of an input was read.
 #[derive(Clone, Copy, Debug, PartialEq, Eq, Error)]
@@ -169,32 +181,69 @@ pub fn write_all<W: Write>(writer: &mut W, bytes: &[u8]) -> Result<(), WriteFail
     flush(writer)
 }
 
-// Writes the words of a stretch, and then its ids.
-fn put_stretch<W: Write>(writer: &mut W, stretch: &Stretch<'_>) -> Result<(), WriteFailed>
-    ensures ok { OnOk result (Writes W.contents writer.old writer.new
-        (stretch.now.words.now ++ stretch.now.ids.now)) }
-    ensures err { OnErr result (WritesPrefix W.contents writer.old writer.new
-        (stretch.now.words.now ++ stretch.now.ids.now)) }
+// Writes what is held, and then nothing is. Where a write fails, the writer has taken a front of it.
+fn put_held<W: Write>(writer: &mut W, held: &mut Held) -> Result<(), WriteFailed>
+    ensures ok { OnOk result (Writes W.contents writer.old writer.new held.old.items) }
+    ensures none { OnOk result (held.new.items ≡ []) }
+    ensures err { OnErr result (WritesPrefix W.contents writer.old writer.new held.old.items) }
 {
-    put_bytes(writer, stretch.words)?;
-    put_bytes(writer, stretch.ids)
+    put_bytes(writer, held.as_slice())?;
+    held.clear();
+    Ok(())
 }
 
-/// Writes the pieces of a text one after another, each from where it lies, and then flushes the
-/// writer. It takes no memory.
+// Holds the bytes behind what is held. Where they don't fit, this is written first; where they are
+// more than can be held, they are written from where they lie.
+fn gather<W: Write>(writer: &mut W, held: &mut Held, bytes: &[u8]) -> Result<(), WriteFailed>
+    ensures ok { OnOk result (WritesAllBut W.contents writer.old writer.new
+        held.new.items (held.old.items ++ bytes.now)) }
+    ensures err { OnErr result (WritesPrefix W.contents writer.old writer.new
+        (held.old.items ++ bytes.now)) }
+{
+    if held.try_extend_from_slice(bytes).is_ok() {
+        return Ok(());
+    }
+    put_held(writer, held)?;
+    if held.try_extend_from_slice(bytes).is_ok() {
+        return Ok(());
+    }
+    put_bytes(writer, bytes)
+}
+
+// The words of a stretch, and then its ids, behind what is held.
+fn gather_stretch<W: Write>(
+    writer: &mut W,
+    held: &mut Held,
+    stretch: &Stretch<'_>,
+) -> Result<(), WriteFailed>
+    ensures ok { OnOk result (WritesAllBut W.contents writer.old writer.new
+        held.new.items (held.old.items ++ (stretch.now.words.now ++ stretch.now.ids.now))) }
+    ensures err { OnErr result (WritesPrefix W.contents writer.old writer.new
+        (held.old.items ++ (stretch.now.words.now ++ stretch.now.ids.now))) }
+{
+    gather(writer, held, stretch.words)?;
+    gather(writer, held, stretch.ids)
+}
+
+/// Writes the pieces of a text one after another, and then flushes the writer. Short pieces are
+/// gathered, up to 8,192 bytes, and written at once; one that is longer than that is written from
+/// where it lies. It takes no memory.
 ///
 /// It is refused where [`write_all`] would be, and then the writer has taken a front of the text.
-/// The cost is that of the writes: one for each piece, where a write takes all that it is given.
+/// The cost is that of the writes, and of a copy of the short pieces. Where a write takes all that it
+/// is given, any two writes that follow each other have more than 8,192 bytes together.
 pub fn write_pieces<W: Write>(writer: &mut W, pieces: &Pieces) -> Result<(), WriteFailed>
     ensures ok { OnOk result (Writes W.contents writer.old writer.new (joined pieces.now)) }
     ensures err { OnErr result (WritesPrefix W.contents writer.old writer.new (joined pieces.now)) }
 {
+    let mut held = Held::new();
     for place in 0..pieces.len() {
         let Some(stretch) = pieces.at(place) else {
             unreachable!()
         };
-        put_stretch(writer, &stretch)?;
+        gather_stretch(writer, &mut held, &stretch)?;
     }
-    put_bytes(writer, pieces.rest())?;
+    gather(writer, &mut held, pieces.rest())?;
+    put_held(writer, &mut held)?;
     flush(writer)
 }
