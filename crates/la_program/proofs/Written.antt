@@ -1,5 +1,5 @@
 -- What is written part by part.
-use Rattle.std.proofs.Common.{◌≡◌, ℕ, ◌+◌, ◌-◌, ◌<◌, ◌≤◌, arith, append_assoc, Some, get_or, [], ◌∷◌, List, ◌++◌, length, take, drop, Option, None, Result, Ok, Err, OnErr, false, true≢false, ap, sym, ◌∙◌, subst}
+use Rattle.std.proofs.Common.{◌≡◌, ℕ, ◌+◌, ◌-◌, ◌<◌, ◌≤◌, arith, append_assoc, Some, get_or, [], ◌∷◌, List, ◌++◌, length, take, drop, Option, None, Bool, false, cond, ap, sym, ◌∙◌, subst}
 use Rattle.std.specs.Io.KnownBytes.{Appends, Keeps}
 use Rattle.std.proofs.Math.Seq.{take-add}
 use Rattle.std.proofs.lemmas.List.{take_rest, take_more, take-append-drop, flat_map_more, take_all, append-nil}
@@ -7,8 +7,6 @@ use Rattle.std.proofs.KnownBytes.{Appends-trans, Appends-kept}
 use Rattle.std.specs.List.{flat_map, slice_get}
 use Rattle.std.proofs.lemmas.Option.{slice_get_within, get_or_from_slice_get}
 use Rattle.std.proofs.lemmas.Grind.{flat_map-append}
-use Rattle.std.specs.Result.{is_ok}
-use Rattle.arrayvec.specs.ArrayVec.{ArrayVec}
 use Rattle.la_object.specs.Shelves.{ShelfState}
 use Rattle.la_script.specs.Pieces.{Parts, stretch_text, joined}
 use Rattle.la_program.specs.Streams.{AppendsPrefix, AppendsAllBut}
@@ -84,10 +82,9 @@ module _ (a b c : Option (List ℕ)) (held bytes : List ℕ) (written : Appends 
   pub none_is_held : (after : List ℕ) → after ≡ [] → Appends b c bytes → AppendsAllBut a c after (held ++ bytes)
   none_is_held after none wrote = (held ++ bytes, Appends-trans a b c held bytes written wrote, ap (λ t. (held ++ bytes) ++ t) none ∙ append-nil (held ++ bytes))
 
--- what a vector has, where more was refused
-pub unchanged : {T E : Type 0} {new old : ArrayVec ℕ} (r : Result T E) → false ≡ is_ok r → OnErr r (new ≡ old) → new.items ≡ old.items
-unchanged (Ok x) refused same = absurd (true≢false (sym refused))
-unchanged (Err e) refused same = ap (λ (v : ArrayVec ℕ). v.items) same
+-- what is held, where more does not fit
+pub unchanged : (fits : Bool) (more held new : List ℕ) → fits ≡ false → new ≡ cond fits more held → new ≡ held
+unchanged fits more held new not is = is ∙ ap (λ b. cond b more held) not
 
 -- the stretch that comes next, and what is behind it
 module _ (p : Parts) (place : ℕ) (words ids : List ℕ) (here : Some (words, ids) ≡ slice_get p.stretches place) where

@@ -21,6 +21,7 @@
 
 mod call;
 mod error;
+mod held;
 pub mod laws;
 mod listener;
 mod objects;

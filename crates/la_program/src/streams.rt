@@ -26,7 +26,7 @@ ghost use Rattle.la_program.specs.Streams.{
   WritesAllBut,
 };
 
-use arrayvec::ArrayVec;
+use crate::held::Held;
 use la_script::{Pieces, Stretch};
 use std::alloc::{AllocError, Global};
 use std::io::{Read, Write};
@@ -35,11 +35,8 @@ use thiserror::Error;
 /// The most bytes that an input may have.
 pub const LIMIT: usize = 16_777_216;
 
-// The most bytes that a read asks for, and that are held before they are written.
+// The most bytes that a read asks for.
 const CHUNK: usize = 8192;
-
-// The last bytes of a text, which are not written yet.
-type Held = ArrayVec<u8, CHUNK>;
 
 /// Why not all of an input was read.
 #[derive(Clone, Copy, Debug, PartialEq, Eq, Error)]
@@ -183,11 +180,11 @@ pub fn write_all<W: Write>(writer: &mut W, bytes: &[u8]) -> Result<(), WriteFail
 
 // Writes what is held, and then nothing is. Where a write fails, the writer has taken a front of it.
 fn put_held<W: Write>(writer: &mut W, held: &mut Held) -> Result<(), WriteFailed>
-    ensures ok { OnOk result (Writes W.contents writer.old writer.new held.old.items) }
-    ensures none { OnOk result (held.new.items ≡ []) }
-    ensures err { OnErr result (WritesPrefix W.contents writer.old writer.new held.old.items) }
+    ensures ok { OnOk result (Writes W.contents writer.old writer.new held.old) }
+    ensures none { OnOk result (held.new ≡ []) }
+    ensures err { OnErr result (WritesPrefix W.contents writer.old writer.new held.old) }
 {
-    put_bytes(writer, held.as_slice())?;
+    put_bytes(writer, held.all())?;
     held.clear();
     Ok(())
 }
@@ -196,15 +193,15 @@ fn put_held<W: Write>(writer: &mut W, held: &mut Held) -> Result<(), WriteFailed
 // more than can be held, they are written from where they lie.
 fn gather<W: Write>(writer: &mut W, held: &mut Held, bytes: &[u8]) -> Result<(), WriteFailed>
     ensures ok { OnOk result (WritesAllBut W.contents writer.old writer.new
-        held.new.items (held.old.items ++ bytes.now)) }
+        held.new (held.old ++ bytes.now)) }
     ensures err { OnErr result (WritesPrefix W.contents writer.old writer.new
-        (held.old.items ++ bytes.now)) }
+        (held.old ++ bytes.now)) }
 {
-    if held.try_extend_from_slice(bytes).is_ok() {
+    if held.add(bytes) {
         return Ok(());
     }
     put_held(writer, held)?;
-    if held.try_extend_from_slice(bytes).is_ok() {
+    if held.add(bytes) {
         return Ok(());
     }
     put_bytes(writer, bytes)
@@ -217,9 +214,9 @@ fn gather_stretch<W: Write>(
     stretch: &Stretch<'_>,
 ) -> Result<(), WriteFailed>
     ensures ok { OnOk result (WritesAllBut W.contents writer.old writer.new
-        held.new.items (held.old.items ++ (stretch.now.words.now ++ stretch.now.ids.now))) }
+        held.new (held.old ++ (stretch.now.words.now ++ stretch.now.ids.now))) }
     ensures err { OnErr result (WritesPrefix W.contents writer.old writer.new
-        (held.old.items ++ (stretch.now.words.now ++ stretch.now.ids.now))) }
+        (held.old ++ (stretch.now.words.now ++ stretch.now.ids.now))) }
 {
     gather(writer, held, stretch.words)?;
     gather(writer, held, stretch.ids)

@@ -22,18 +22,18 @@ pub returns-in_err-put_held-clause-err : goal.returns-in_err-put_held-clause-err
 returns-in_err-put_held-clause-err g c =
     let all : length c.args.pieces.now.stretches ≤ c.loop-place.place = omega arith in
     let before = rest_next c.args.pieces.now c.loop-place.place all c.rest.result.now c.rest.ensures _ _ _ _ c.loop-place.invariant _ c.in_ok-gather.ensures.ok in
-    always_err c.from_residual-in_err-put_held.result (held_part _ _ _ c.gather.new.held.items (joined c.args.pieces.now) before c.in_err-put_held.ensures.err)
+    always_err c.from_residual-in_err-put_held.result (held_part _ _ _ c.gather.new.held (joined c.args.pieces.now) before c.in_err-put_held.ensures.err)
 
 pub returns-clause-ok : goal.returns-clause-ok
 returns-clause-ok g c =
     let all : length c.args.pieces.now.stretches ≤ c.loop-place.place = omega arith in
     let before = rest_next c.args.pieces.now c.loop-place.place all c.rest.result.now c.rest.ensures _ _ _ _ c.loop-place.invariant _ c.in_ok-gather.ensures.ok in
-    let wrote = held_all _ _ _ c.gather.new.held.items (joined c.args.pieces.now) before c.in_ok-put_held.ensures.ok in
+    let wrote = held_all _ _ _ c.gather.new.held (joined c.args.pieces.now) before c.in_ok-put_held.ensures.ok in
     always_ok c.flush.result (kept_all _ _ _ (joined c.args.pieces.now) wrote c.flush.ensures)
 
 pub returns-clause-err : goal.returns-clause-err
 returns-clause-err g c =
     let all : length c.args.pieces.now.stretches ≤ c.loop-place.place = omega arith in
     let before = rest_next c.args.pieces.now c.loop-place.place all c.rest.result.now c.rest.ensures _ _ _ _ c.loop-place.invariant _ c.in_ok-gather.ensures.ok in
-    let wrote = held_all _ _ _ c.gather.new.held.items (joined c.args.pieces.now) before c.in_ok-put_held.ensures.ok in
+    let wrote = held_all _ _ _ c.gather.new.held (joined c.args.pieces.now) before c.in_ok-put_held.ensures.ok in
     always_err c.flush.result (prefix_all _ _ (joined c.args.pieces.now) (kept_all _ _ _ (joined c.args.pieces.now) wrote c.flush.ensures))

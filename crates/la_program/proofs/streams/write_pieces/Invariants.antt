@@ -6,4 +6,4 @@ use Rattle.la_program.proofs.streams.write_pieces.Given as goal
 
 abbrev pub invariant-loop-place : goal.invariant-loop-place
 invariant-loop-place g l =
-    AppendsAllBut (g.W.Write.contents l.initial.writer) (g.W.Write.contents l.writer) l.held.items (flat_map stretch_text (take l.place l.pieces.stretches))
+    AppendsAllBut (g.W.Write.contents l.initial.writer) (g.W.Write.contents l.writer) l.held (flat_map stretch_text (take l.place l.pieces.stretches))
