@@ -11,7 +11,7 @@ use Rattle.la_set.specs.Histories.{Histories, empty, history, count, with_histor
 use Rattle.la_set.specs.Representation.{represented, lengths_of, IsRepresentation}
 use Rattle.la_set.proofs.lemmas.NumberedLists.{object_ops-numbered, length-numbered, numbered-append, take-numbered}
 use Rattle.la_set.proofs.lemmas.Counting.{count_in-from_counts, same_counts, capped_at, capped_at-own, capped_at-other}
-use Rattle.la_set.proofs.lemmas.SetHistories.{history-from_histories, same_histories, history-with_same, history-with_other, history-empty, count-edited, count-shortened, count_past, shortened-none}
+use Rattle.la_set.proofs.lemmas.SetHistories.{history-from_histories, same_histories, history-with_same, history-with_other, history-empty, count-edited, count-shortened, count_past}
 
 -- a list of lists that holds each replica's updates
 pub represented-from : (lists : List (List Update)) (s : Histories) → ((r : ℕ) → r < 8 → get_or lists r [] ≡ numbered r 1 (history s r)) → represented lists ≡ s
@@ -37,8 +37,8 @@ length-at lists c r lt is = ap (λ k. count_in k r) is ∙ count_in-from_counts 
 -- ## One list that is cut
 
 -- and where none is
-pub uncut : (lists : List (List Update)) → IsRepresentation lists → truncate (represented lists) 0 1000000 ≡ represented lists
-uncut lists keeps = sym (shortened-none (represented lists) 0 1000000 (keeps.within 0))
+pub uncut : (lists : List (List Update)) → truncate (represented lists) 8 0 ≡ represented lists
+uncut lists = same_histories _ _ (λ r lt. history-with_other (represented lists) 8 _ r (λ e. absurd (omega (arith, e, lt))))
 
 pub cut-within : (s : Histories) (q n : ℕ) → IsWithinLimit s → IsWithinLimit (truncate s q n)
 cut-within s q n within r = elim (cases_lt q 8) [

@@ -41,10 +41,10 @@ pub(crate) struct Cut {
     pub(crate) len: u32,
 }
 
-// No list is longer than this.
+// There is no such replica: no list is cut.
 const UNCUT: Cut = Cut {
-    replica: 0,
-    len: MAX_NUMBER,
+    replica: REPLICAS,
+    len: 0,
 };
 
 impl Model for UpdateSet {

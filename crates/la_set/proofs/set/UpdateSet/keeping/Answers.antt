@@ -8,4 +8,4 @@ pub of-requires : goal.of-requires
 of-requires c = list-within c.args.of c.requires
 
 pub returns : goal.returns
-returns c = ap (λ lists. truncate (represented lists) 0 1000000) (c.in_ok-new.ensures.ok ∙ c.of.ensures) ∙ uncut c.args.of c.requires
+returns c = ap (λ lists. truncate (represented lists) 8 0) (c.in_ok-new.ensures.ok ∙ c.of.ensures) ∙ uncut c.args.of
