@@ -3,11 +3,14 @@ use Rattle.la_acceptor.specs.declared.reply.Reply.TheVariants.{Yes}
 use Rattle.la_shared.specs.History.{HasEntry, HasYes}
 use denote.Param.Send.{sendable}
 use Rattle.std.proofs.Crossing as heap
-use Rattle.la_shared.proofs.lemmas.Theorems.{set_sync, pass_send, acceptor_sync}
+use Rattle.la_shared.proofs.lemmas.Theorems.{set_send, set_sync, pass_send, acceptor_sync}
 use Rattle.uses.proofs.passes.ask_both.Goals as goal
 
 pub join-mine-requires-send-F : goal.join-mine-requires-send-F
 join-mine-requires-send-F g c κs within = let r = c.type_bounds.sync-R in search (pass_send, set_sync, acceptor_sync, heap.crosses, sendable) depth 60 fits 20000
+
+pub join-mine-requires-send-A : goal.join-mine-requires-send-A
+join-mine-requires-send-A g c κs within = search (pass_send, set_send, heap.crosses, sendable) depth 60 fits 20000
 
 pub returns : goal.returns
 returns g c first second =
