@@ -1,5 +1,5 @@
 // Bytes on their way to a writer.
-ghost use Rattle.std.specs.Prelude.{◌≡◌, ◌≤◌, ◌++◌, [], length, take, if◌then◌else◌};
+ghost use Rattle.std.specs.Prelude.{◌≡◌, ◌↔◌, ◌+◌, ◌≤◌, ◌++◌, [], length, take, IsTrue, if◌then◌else◌};
 
 use std::marker::Model;
 
@@ -45,7 +45,8 @@ impl Held {
     // Holds the bytes behind what is held, or none of them where they don't fit. Answers whether they
     // do.
     pub(crate) fn add(&mut self, bytes: &[u8]) -> bool
-        ensures { self.new ≡ (if result then self.old ++ bytes.now else self.old) }
+        ensures held { self.new ≡ (if result then self.old ++ bytes.now else self.old) }
+        ensures fits { IsTrue result ↔ (length self.old + length bytes.now ≤ ROOM) }
     {
         if bytes.len() > ROOM - self.len {
             return false;
