@@ -41,8 +41,12 @@ pub record LeavesOfRun {D : Type 0} (seen : D → List ℕ) (may_leave : D → L
   pub left : Leaves seen may_leave moment left_since n recovered final turns last
 
 -- the same of a node with these options
-abbrev pub LeftBy : {D : Type 0} (seen : D → List ℕ) (may_leave : D → List ℕ → Type 0) (moment : D → ℕ) (left_since : D → ℕ → List ℕ → Type 0) (options : Options) (disk : D) → KeptState → (turns last : List Turn) → Type 0
-LeftBy seen may_leave moment left_since options disk = LeavesOfRun seen may_leave moment left_since (at_start options.config options.own) disk
+abbrev pub LeftBy :
+    {D : Type 0} (seen : D → List ℕ) (may_leave : D → List ℕ → Type 0) (moment : D → ℕ)
+    (left_since : D → ℕ → List ℕ → Type 0) (options : Options) (disk : D) →
+    KeptState → (turns last : List Turn) → Type 0
+LeftBy seen may_leave moment left_since options disk =
+    LeavesOfRun seen may_leave moment left_since (at_start options.config options.own) disk
 
 -- all lines that were staged are on the disk, behind those that were there
 pub record Commits {D : Type 0} (seen : D → List ℕ) (may_leave : D → List ℕ → Type 0) (staged : List ℕ) (old new : D) : Type 0 where
