@@ -1,5 +1,8 @@
 // la_acceptor: offers that are answered by a refusal.
-use crate::given::{Came, Does, Row, again, holds, is_no, is_of, refused, set_of};
+use crate::again;
+use crate::found::{is_no, is_of};
+use crate::given::{Came, Does, Row, refused, set_of};
+use crate::holds::holds;
 use la_acceptor::{Acceptor, AcceptorError, Reply};
 use la_set::UpdateSet;
 use std::alloc::Global;

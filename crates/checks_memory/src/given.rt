@@ -1,8 +1,6 @@
 // What came of a call whose memory may be refused, and updates from tables.
-use la_acceptor::Reply;
 use la_set::{Counts, Delta, Op, Tags, Update, UpdateId, UpdateSet, Updates};
 use std::alloc::Global;
-use std::process::Abort;
 
 /// Whether a call answered as it is stored, and all is as it must be then; `None` where memory was refused and
 /// what it was called on stands.
@@ -14,16 +12,15 @@ pub fn refused(stands: bool) -> Came {
 }
 
 /// Makes a call, and once more where memory was refused: what came of it then, `None` where there is no memory.
+#[macro_export]
 macro_rules! again {
     ($alloc:expr, $call:expr) => {
         match $call {
             Some(well) => Some(well),
-            None => $crate::given::second($alloc, $call),
+            None => $crate::second($alloc, $call),
         }
     };
 }
-
-pub(crate) use again;
 
 /// What comes of a call that was made again, where this came: it may be refused again only where there is no
 /// memory.
@@ -33,11 +30,6 @@ pub fn second(alloc: Global, came: Came) -> Came {
     } else {
         came
     }
-}
-
-/// Stops a test whose scenes did not end well.
-pub fn holds(rt: &impl Abort, came: Came) {
-    assert!(rt; came != Some(false), "a scene");
 }
 
 /// What an update of a table does.
@@ -124,66 +116,4 @@ pub fn delta_of(alloc: Global, rows: &[Row]) -> Option<Delta> {
         }
     }
     Some(Delta::new(Counts::zero(), more))
-}
-
-/// Whether these are the tags 7.1 to this number of them.
-pub fn are_tags(tags: &Tags, count: u32) -> bool {
-    for number in 1..=count {
-        if !tags.has(id(7, number)) {
-            return false;
-        }
-    }
-    tags.len() == count as usize
-}
-
-pub fn is_done(op: &Op, does: Does) -> bool {
-    match (op, does) {
-        (Op::Inc(it), Does::Inc(by)) => *it == by,
-        (Op::Put(it), Does::Put(element)) => *it == element,
-        (Op::Remove(it), Does::Remove(count)) => are_tags(it, count),
-        _ => false,
-    }
-}
-
-pub fn is_row(update: &Update, row: &Row) -> bool {
-    let (object, replica, number, does) = *row;
-    update.id == id(replica, number) && update.object == object && is_done(&update.op, does)
-}
-
-/// Whether a list has these updates, in their order.
-pub fn are_rows(updates: &[Update], rows: &[Row]) -> bool {
-    if updates.len() != rows.len() {
-        return false;
-    }
-    for (update, row) in updates.iter().zip(rows) {
-        if !is_row(update, row) {
-            return false;
-        }
-    }
-    true
-}
-
-fn has_at(set: &UpdateSet, place: usize, row: &Row) -> bool {
-    match set.at(place) {
-        Some(update) => is_row(update, row),
-        None => false,
-    }
-}
-
-/// Whether a set has these updates, in their order, and no others.
-pub fn is_of(set: &UpdateSet, rows: &[Row]) -> bool {
-    for (place, row) in rows.iter().enumerate() {
-        if !has_at(set, place, row) {
-            return false;
-        }
-    }
-    set.len() == rows.len()
-}
-
-/// Whether a reply refuses by these updates.
-pub fn is_no(reply: &Reply, rows: &[Row]) -> bool {
-    match reply {
-        Reply::No(set) => is_of(set, rows),
-        Reply::Yes => false,
-    }
 }

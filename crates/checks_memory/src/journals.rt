@@ -2,7 +2,9 @@
 ghost use Rattle.std.specs.Prelude.{◌≡◌, false};
 ghost use Rattle.la_journal.specs.Durable.{IsSettled};
 
-use crate::given::{Came, again, holds, refused, second};
+use crate::again;
+use crate::given::{Came, refused, second};
+use crate::holds::holds;
 use checks_journal::{Move, Tally};
 use la_journal::{
     Contents, Disk, DiskError, Durable, MemoryDisk, Refused, Staged, Uncommitted, Uncompacted,

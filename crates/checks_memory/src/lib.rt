@@ -1,29 +1,21 @@
-//! Tests of what stands after memory was refused: for each public function that allocates a scene, which
-//! `SCENES` names.
+//! Tests of what stands after memory was refused, below worlds: for each public function that allocates a
+//! scene, which `SCENES` names; and what scenes are made of. `checks_world_memory` has those of worlds and above.
 #![tactic(auto)]
 
 #[cfg(test)]
 mod acceptors;
-#[cfg(test)]
 mod counted;
 #[cfg(test)]
-mod filters;
-#[cfg(test)]
+mod found;
 mod given;
 #[cfg(test)]
+mod holds;
+#[cfg(test)]
 mod journals;
-#[cfg(test)]
-mod lines;
-#[cfg(test)]
-mod machines;
-#[cfg(test)]
-mod nodes;
 #[cfg(test)]
 mod objects;
 #[cfg(test)]
 mod orsets;
-#[cfg(test)]
-mod programs;
 #[cfg(test)]
 mod proposers;
 #[cfg(test)]
@@ -31,12 +23,7 @@ mod replicas;
 #[cfg(test)]
 mod runners;
 #[cfg(test)]
-mod scripts;
-#[cfg(test)]
 mod sets;
-#[cfg(test)]
-mod streams;
-#[cfg(test)]
-mod texts;
-#[cfg(test)]
-mod worlds;
+
+pub use counted::{Counted, are_alive, make_counted};
+pub use given::{Came, Does, Row, delta_of, refused, second, set_of};

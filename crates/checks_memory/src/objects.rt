@@ -1,6 +1,9 @@
 // la_object: shelves, whose objects count, and ids and elements alone.
+use crate::again;
 use crate::counted::{Counted, are_alive, make_counted};
-use crate::given::{Came, Does, Row, again, holds, id, is_of, refused, set_of, tags_of};
+use crate::found::is_of;
+use crate::given::{Came, Does, Row, id, refused, set_of, tags_of};
+use crate::holds::holds;
 use la_object::{AbsorbError, Adds, Answer, Ids, Query, Shelf, ShelfError, State};
 use la_orset::OrSet;
 use la_set::{Tags, UpdateSet};

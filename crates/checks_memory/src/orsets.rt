@@ -1,5 +1,7 @@
 // la_orset, and what la_object asks of an object: a set alone, and one in a box; chains.
-use crate::given::{Came, Does, Row, again, holds, id, refused, update_of};
+use crate::again;
+use crate::given::{Came, Does, Row, id, refused, update_of};
+use crate::holds::holds;
 use la_object::{Answer, ObserveError, Query, Replicated, State};
 use la_orset::{Chain, OrSet};
 use la_set::{Tags, Update};

@@ -1,5 +1,8 @@
 // la_proposer: one proposer's way from a submission to what it learns.
-use crate::given::{Came, Does, Row, again, holds, is_of, op_of, refused, set_of};
+use crate::again;
+use crate::found::is_of;
+use crate::given::{Came, Does, Row, op_of, refused, set_of};
+use crate::holds::holds;
 use la_acceptor::Reply;
 use la_proposer::{Ballot, Heard, Proposer, ProposerError, Status, Votes};
 use la_set::Op;

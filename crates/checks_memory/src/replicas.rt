@@ -1,5 +1,8 @@
 // la_replica: one replica's way through submissions and messages; mail.
-use crate::given::{Came, Does, Row, again, delta_of, holds, is_of, op_of, refused, set_of};
+use crate::again;
+use crate::found::is_of;
+use crate::given::{Came, Does, Row, delta_of, op_of, refused, set_of};
+use crate::holds::holds;
 use la_acceptor::Reply;
 use la_proposer::Votes;
 use la_replica::{Body, Mail, Message, Out, Replica, ReplicaError, Said};

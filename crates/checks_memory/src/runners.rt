@@ -2,7 +2,10 @@
 ghost use Rattle.std.specs.Prelude.{◌≡◌, IfSome};
 ghost use Rattle.la_runner.specs.Members.{IsOf};
 
-use crate::given::{Came, Does, Row, again, holds, is_no, is_of, refused, set_of};
+use crate::again;
+use crate::found::{is_no, is_of};
+use crate::given::{Came, Does, Row, refused, set_of};
+use crate::holds::holds;
 use la_acceptor::AcceptorError;
 use la_commit::Outcome;
 use la_proposer::Votes;

@@ -1,8 +1,8 @@
 // la_set: sets, deltas, lists and tags.
-use crate::given::{
-    Came, Does, Row, again, are_rows, are_tags, holds, id, is_of, is_row, refused, set_of, tags_of,
-    update_of,
-};
+use crate::again;
+use crate::found::{are_rows, are_tags, is_of, is_row};
+use crate::given::{Came, Does, Row, id, refused, set_of, tags_of, update_of};
+use crate::holds::holds;
 use la_set::{Counts, Delta, Op, Ready, SetError, Tags, Update, UpdateSet, Updates};
 use std::alloc::{AllocError, Global};
 

@@ -1,15 +1,9 @@
-//! Tests of worlds and of what stands on them: of what no contract says. `checks` has those of the
-//! layers below.
+//! Tests of worlds and scripts: of what no contract says. `checks` has those of the layers below, `checks_nodes`
+//! those of nodes.
 #![tactic(auto)]
 
 #[cfg(test)]
-mod callers;
-#[cfg(test)]
 mod holds;
-#[cfg(test)]
-mod lines;
-#[cfg(test)]
-mod nodes;
 #[cfg(test)]
 mod script;
 #[cfg(test)]

@@ -4,7 +4,6 @@ mod configs;
 mod events;
 mod making;
 mod million;
-mod nodes;
 mod plays;
 mod proposals;
 mod questions;

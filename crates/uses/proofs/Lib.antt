@@ -11,4 +11,3 @@ mod Mapped
 mod Together
 mod Leasing
 pub mod CarriedLines
-mod Served

@@ -5,4 +5,3 @@ pub mod Commits
 pub mod Kept
 pub mod Numbers
 pub mod Leases
-pub mod Serving

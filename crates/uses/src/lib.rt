@@ -5,7 +5,6 @@
 pub mod acceptors;
 pub mod commits;
 pub mod deltas;
-pub mod filters;
 pub mod groups;
 pub mod journals;
 pub mod kept;
@@ -20,5 +19,4 @@ pub mod replicas;
 pub mod restarts;
 pub mod scripts;
 pub mod sets;
-pub mod streams;
 pub mod worlds;

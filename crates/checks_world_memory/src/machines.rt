@@ -1,5 +1,6 @@
 // la_node: a node of a group of one, as a machine.
-use crate::given::{Came, again, holds, refused};
+use crate::holds::holds;
+use checks_memory::{Came, again, refused};
 use la_journal::Machine;
 use la_lines::LineError;
 use la_node::{Input, NodeError, NodeMachine};

@@ -1,7 +1,7 @@
 // la_world: worlds, runs and reports.
-use crate::counted::{Counted, are_alive};
-use crate::given::{Came, again, holds, refused};
+use crate::holds::holds;
 use crate::texts::{ALONE, Row, VOTES, shelves_of};
+use checks_memory::{Came, Counted, again, are_alive, refused};
 use la_orset::OrSet;
 use la_script::{Script, read};
 use la_world::{Event, Report, Steps, World, WorldError, empty_shelves, run};

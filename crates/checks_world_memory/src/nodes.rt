@@ -1,7 +1,7 @@
 // la_world: a node of a group of one, from its start to the retirement of its object.
-use crate::counted::{Counted, are_alive, make_counted};
-use crate::given::{Came, Does, Row, again, delta_of, holds, refused};
+use crate::holds::holds;
 use crate::texts::{Shelved, shelf_of};
+use checks_memory::{Came, Counted, Does, Row, again, are_alive, delta_of, make_counted, refused};
 use la_object::{Answer, Query, ShelfError, State};
 use la_orset::OrSet;
 use la_proposer::Votes;

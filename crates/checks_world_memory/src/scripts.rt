@@ -2,8 +2,9 @@
 ghost use Rattle.std.specs.Prelude.{IfSome};
 ghost use Rattle.la_world.specs.Printable.{IsPrintableReport};
 
-use crate::given::{Came, again, holds, refused};
+use crate::holds::holds;
 use crate::texts::{ALONE, Row, VOTES, is_text, shelves_of};
+use checks_memory::{Came, again, refused};
 use la_object::{Answer, Items};
 use la_script::{
     Events, Pieces, ReadError, Script, Version, pieces_of, print, put_answer, random_events, read,

@@ -2,7 +2,7 @@
 ghost use Rattle.std.specs.Prelude.{◌≡◌, [], false, IfOk};
 ghost use Rattle.la_set.specs.Inclusion.{IsSubset};
 ghost use Rattle.la_journal.specs.Durable.{IsSettled};
-ghost use Rattle.uses.specs.Serving.{IsServed};
+ghost use Rattle.uses_filter.specs.Serving.{IsServed};
 
 use la_filter::{Filter, NodeFault, serve};
 use la_journal::Disk;

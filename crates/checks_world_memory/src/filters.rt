@@ -3,7 +3,8 @@ ghost use Rattle.std.specs.Prelude.{◌≡◌, [], false, IfSome};
 ghost use Rattle.la_set.specs.Inclusion.{IsSubset};
 ghost use Rattle.la_journal.specs.Durable.{IsSettled};
 
-use crate::given::{Came, again, holds, refused, second};
+use crate::holds::holds;
+use checks_memory::{Came, again, refused, second};
 use clap::Error;
 use clap::error::ErrorKind;
 use la_filter::{Filter, NodeFault, Options, command, run, serve};

@@ -3,7 +3,8 @@ ghost use Rattle.std.specs.Prelude.{◌≡◌, true};
 ghost use Rattle.std.specs.Io.KnownBytes.{IsAtEnd};
 ghost use Rattle.la_streams.specs.Streams.{ahead};
 
-use crate::given::{Came, Does, Row, again, holds, refused, second, set_of};
+use crate::holds::holds;
+use checks_memory::{Came, Does, Row, again, refused, second, set_of};
 use la_commit::Outcome;
 use la_lines::{Call, read};
 use la_object::Answer;

@@ -1,7 +1,7 @@
 // la_program: what is read and answered; streams and command lines are swept through the program.
-use crate::counted::{Counted, are_alive, make_counted};
-use crate::given::{Came, again, holds, refused};
+use crate::holds::holds;
 use crate::texts::{ALONE, Row, Shelved, VOTES, is_text, shelves_of};
+use checks_memory::{Came, Counted, again, are_alive, make_counted, refused};
 use la_object::ShelfError;
 use la_orset::OrSet;
 use la_program::{InputFault, Numbered, PlayFault, answer_to, fill, fit_any_group, read_all};

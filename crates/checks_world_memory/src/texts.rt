@@ -1,5 +1,5 @@
 // Scripts with their reports, as runs/ has them, and shelves for them whose objects count.
-use crate::counted::{Counted, make_counted};
+use checks_memory::{Counted, make_counted};
 use la_object::Shelf;
 use la_orset::OrSet;
 use la_script::Pieces;

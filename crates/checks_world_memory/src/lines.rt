@@ -1,5 +1,6 @@
 // la_lines: calls as lines.
-use crate::given::{Came, again, holds, refused};
+use crate::holds::holds;
+use checks_memory::{Came, again, refused};
 use la_lines::{Call, LineError, named, put_message, read, read_bounded, write};
 use std::alloc::Global;
 
