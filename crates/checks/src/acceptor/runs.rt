@@ -30,7 +30,7 @@ const BOTH: &[Row] = &[
 ];
 
 // How an offer is answered: by a Yes, by a No, or by the clash at 0.1.
-#[derive(Clone, Copy, PartialEq, Eq)]
+#[derive(Clone, Copy)]
 enum Told {
     Yes,
     No,
@@ -70,11 +70,11 @@ fn offer(
 }
 
 fn is_told(reply: &Result<Reply, AcceptorError>, told: Told, accepted: &UpdateSet) -> bool {
-    match reply {
-        Ok(Reply::Yes) => told == Told::Yes,
-        Ok(Reply::No(joined)) => told == Told::No && joined.same(accepted),
-        Err(AcceptorError::Clash(at)) => told == Told::Clash && *at == id(0, 1),
-        Err(AcceptorError::Memory) => false,
+    match (reply, told) {
+        (Ok(Reply::Yes), Told::Yes) => true,
+        (Ok(Reply::No(joined)), Told::No) => joined.same(accepted),
+        (Err(AcceptorError::Clash(at)), Told::Clash) => *at == id(0, 1),
+        _ => false,
     }
 }
 
@@ -136,19 +136,22 @@ const KNOWN: [Known; 4] = [
     (ACCEPTED, 0, &[(0, 1, 5), (0, 2, 7)], true),
 ];
 
-// Whether an offer that a delta makes of what is accepted would be answered.
-fn admits_beyond(acceptor: &Acceptor, delta: &Delta) -> Result<(), AcceptorError> {
+// Whether an offer that a delta makes of what is accepted would be answered, or clash at 0.2; `None` where memory
+// is refused.
+fn goes_beyond(acceptor: &Acceptor, delta: &Delta, clashes: bool) -> Option<bool> {
     la_set::laws::rebuilding_keeps_the_base();
-    match acceptor.accepted().with(delta) {
-        Ok(offered) => acceptor.admit_offer_beyond(&offered, delta.base()),
-        Err(_) => Err(AcceptorError::Memory),
-    }
+    let offered = acceptor.accepted().with(delta).ok()?;
+    Some(match acceptor.admit_offer_beyond(&offered, delta.base()) {
+        Ok(()) => !clashes,
+        Err(AcceptorError::Clash(at)) => clashes && at == id(0, 2),
+        Err(AcceptorError::Memory) => false,
+    })
 }
 
-fn is_admitted(acceptor: &Acceptor, delta: &Delta, awaited: Result<(), AcceptorError>) -> bool {
-    match admits_beyond(acceptor, delta) {
-        Err(AcceptorError::Memory) => admits_beyond(acceptor, delta) == awaited,
-        told => told == awaited,
+fn is_admitted(acceptor: &Acceptor, delta: &Delta, clashes: bool) -> bool {
+    match goes_beyond(acceptor, delta, clashes) {
+        Some(well) => well,
+        None => goes_beyond(acceptor, delta, clashes) == Some(true),
     }
 }
 
@@ -159,12 +162,7 @@ fn offers_are_admitted_beyond_a_base(rt: &impl Abort, alloc: Global) {
         holds(rt, "an answer", answers(&mut acceptor, &accepted));
         let base = Counts::from([*shared, 0, 0, 0, 0, 0, 0, 0]);
         let delta = delta_over(rt, alloc, base, more);
-        let awaited = if *clashes {
-            Err(AcceptorError::Clash(id(0, 2)))
-        } else {
-            Ok(())
-        };
-        holds(rt, "an offer", is_admitted(&acceptor, &delta, awaited));
+        holds(rt, "an offer", is_admitted(&acceptor, &delta, *clashes));
     }
 }
 
