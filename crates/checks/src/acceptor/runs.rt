@@ -69,34 +69,31 @@ fn offer(
     }
 }
 
-fn is_told(reply: &Result<Reply, AcceptorError>, told: Told, accepted: &UpdateSet) -> bool {
-    match (reply, told) {
+// Whether an offer is answered so; a No tells what is accepted then.
+fn goes_so(rt: &impl Abort, acceptor: &mut Acceptor, offered: &UpdateSet, told: Told) -> bool {
+    match (offer(rt, acceptor, offered), told) {
         (Ok(Reply::Yes), Told::Yes) => true,
-        (Ok(Reply::No(joined)), Told::No) => joined.same(accepted),
-        (Err(AcceptorError::Clash(at)), Told::Clash) => *at == id(0, 1),
+        (Ok(Reply::No(joined)), Told::No) => joined.same(acceptor.accepted()),
+        (Err(AcceptorError::Clash(at)), Told::Clash) => at == id(0, 1),
         _ => false,
     }
 }
 
-// Whether an offer is answered so, and this is accepted then.
-fn goes_so(
-    rt: &impl Abort,
-    acceptor: &mut Acceptor,
-    offered: &UpdateSet,
-    told: Told,
-    accepted: &UpdateSet,
-) -> bool {
-    let reply = offer(rt, acceptor, offered);
-    is_told(&reply, told, accepted) && acceptor.accepted().same(accepted)
+fn is_offered(rt: &impl Abort, alloc: Global, acceptor: &mut Acceptor, rows: &[Row], told: Told) {
+    let offered = set_of(rt, alloc, rows);
+    holds(rt, "an offer", goes_so(rt, acceptor, &offered, told));
+}
+
+fn is_accepted(rt: &impl Abort, alloc: Global, acceptor: &Acceptor, rows: &[Row]) {
+    let accepted = set_of(rt, alloc, rows);
+    holds(rt, "what is accepted", acceptor.accepted().same(&accepted));
 }
 
 fn offers_are_answered(rt: &impl Abort, alloc: Global) {
     let mut acceptor = Acceptor::new(alloc);
     for (offered, told, accepted) in &OFFERS {
-        let offered = set_of(rt, alloc, offered);
-        let accepted = set_of(rt, alloc, accepted);
-        let goes_so = goes_so(rt, &mut acceptor, &offered, *told, &accepted);
-        holds(rt, "an offer", goes_so);
+        is_offered(rt, alloc, &mut acceptor, offered, *told);
+        is_accepted(rt, alloc, &acceptor, accepted);
     }
 }
 
@@ -141,25 +138,29 @@ const KNOWN: [Known; 4] = [
 fn goes_beyond(acceptor: &Acceptor, delta: &Delta, clashes: bool) -> Option<bool> {
     la_set::laws::rebuilding_keeps_the_base();
     let offered = acceptor.accepted().with(delta).ok()?;
-    Some(match acceptor.admit_offer_beyond(&offered, delta.base()) {
+    let answer = acceptor.admit_offer_beyond(&offered, delta.base());
+    Some(match answer {
         Ok(()) => !clashes,
-        Err(AcceptorError::Clash(at)) => clashes && at == id(0, 2),
-        Err(AcceptorError::Memory) => false,
+        Err(refusal) => clashes && refusal == AcceptorError::Clash(id(0, 2)),
     })
 }
 
 fn is_admitted(acceptor: &Acceptor, delta: &Delta, clashes: bool) -> bool {
-    match goes_beyond(acceptor, delta, clashes) {
-        Some(well) => well,
-        None => goes_beyond(acceptor, delta, clashes) == Some(true),
-    }
+    goes_beyond(acceptor, delta, clashes) == Some(true)
+        || goes_beyond(acceptor, delta, clashes) == Some(true)
+}
+
+// An acceptor that has accepted these updates.
+fn acceptor_of(rt: &impl Abort, alloc: Global, updates: &[Given]) -> Acceptor {
+    let mut acceptor = Acceptor::new(alloc);
+    let accepted = given::set_of(rt, alloc, updates);
+    holds(rt, "an answer", answers(&mut acceptor, &accepted));
+    acceptor
 }
 
 fn offers_are_admitted_beyond_a_base(rt: &impl Abort, alloc: Global) {
     for (accepted, shared, more, clashes) in &KNOWN {
-        let mut acceptor = Acceptor::new(alloc);
-        let accepted = given::set_of(rt, alloc, accepted);
-        holds(rt, "an answer", answers(&mut acceptor, &accepted));
+        let acceptor = acceptor_of(rt, alloc, accepted);
         let base = Counts::from([*shared, 0, 0, 0, 0, 0, 0, 0]);
         let delta = delta_over(rt, alloc, base, more);
         holds(rt, "an offer", is_admitted(&acceptor, &delta, *clashes));

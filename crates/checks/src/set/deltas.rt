@@ -84,23 +84,23 @@ fn lists(rt: &impl Abort, delta: &Delta, ids: &[(u8, u32)]) -> bool {
     delta.len() == ids.len() && more.len() == ids.len() && delta.at(ids.len()).is_none()
 }
 
+// Whether what a set has beyond a base are these.
+fn is_beyond(rt: &impl Abort, set: &UpdateSet, base: [u32; 8], ids: &[(u8, u32)]) -> bool {
+    let delta = over(rt, set, base);
+    lists(rt, &delta, ids) && delta.base().of(0) == base[0] && delta.base().of(8) == 0
+}
+
+fn differ_by_base(rt: &impl Abort, set: &UpdateSet) -> bool {
+    !over(rt, set, ONE_OF_0).same(&over(rt, set, NONE))
+}
+
 fn a_delta_has_what_is_beyond(rt: &impl Abort, alloc: Global) {
     let sent = set_of(rt, alloc, SENT);
-    let one = over(rt, &sent, ONE_OF_0);
-    holds(
-        rt,
-        "the base",
-        one.base().of(0) == 1 && one.base().of(8) == 0,
-    );
-    holds(rt, "the second", lists(rt, &one, &[(0, 2)]));
-    let both = over(rt, &sent, NONE);
-    holds(rt, "both", lists(rt, &both, &[(0, 1), (0, 2)]));
-    holds(
-        rt,
-        "none",
-        lists(rt, &over(rt, &sent, [2, 0, 0, 0, 0, 0, 0, 0]), &[]),
-    );
-    holds(rt, "another base", !one.same(&both));
+    let all = [2, 0, 0, 0, 0, 0, 0, 0];
+    holds(rt, "the second", is_beyond(rt, &sent, ONE_OF_0, &[(0, 2)]));
+    holds(rt, "both", is_beyond(rt, &sent, NONE, &[(0, 1), (0, 2)]));
+    holds(rt, "none", is_beyond(rt, &sent, all, &[]));
+    holds(rt, "another base", differ_by_base(rt, &sent));
 }
 
 fn is_the_sent(rt: &impl Abort, set: &UpdateSet, delta: &Delta, sent: &UpdateSet) -> bool {
@@ -108,14 +108,25 @@ fn is_the_sent(rt: &impl Abort, set: &UpdateSet, delta: &Delta, sent: &UpdateSet
         && matches!(with(set, &copy_of(rt, delta)), Ok(made) if made.same(sent))
 }
 
+fn are_one(made: &Delta, shared: &Delta) -> bool {
+    made.same(shared) && shared.same(made)
+}
+
+fn rebuilds(rt: &impl Abort, alloc: Global, delta: &Delta, sent: &UpdateSet) {
+    let has = set_of(rt, alloc, &SENT[0..1]);
+    holds(rt, "what was sent", is_the_sent(rt, &has, delta, sent));
+}
+
 fn a_list_says_the_same(rt: &impl Abort, alloc: Global) {
     let sent = set_of(rt, alloc, SENT);
-    let shared = over(rt, &sent, ONE_OF_0);
     let made = listed(rt, alloc, ONE_OF_0, &SENT[1..2]);
-    holds(rt, "they are one", made.same(&shared) && shared.same(&made));
-    let has = set_of(rt, alloc, &SENT[0..1]);
-    holds(rt, "of a set", is_the_sent(rt, &has, &shared, &sent));
-    holds(rt, "of a list", is_the_sent(rt, &has, &made, &sent));
+    holds(
+        rt,
+        "they are one",
+        are_one(&made, &over(rt, &sent, ONE_OF_0)),
+    );
+    rebuilds(rt, alloc, &over(rt, &sent, ONE_OF_0), &sent);
+    rebuilds(rt, alloc, &made, &sent);
     holds(rt, "it has all", is_the_sent(rt, &sent, &made, &sent));
 }
 
@@ -152,12 +163,15 @@ fn answers(
     }
 }
 
+fn is_rebuilt(rt: &impl Abort, alloc: Global, (has, base, more, answer): &Rebuilt) -> bool {
+    let delta = listed(rt, alloc, *base, more);
+    let made = with(&set_of(rt, alloc, has), &delta);
+    answers(rt, alloc, made, *answer)
+}
+
 fn deltas_are_taken_or_refused(rt: &impl Abort, alloc: Global) {
-    for (has, base, more, answer) in &REBUILT {
-        let set = set_of(rt, alloc, has);
-        let delta = listed(rt, alloc, *base, more);
-        let made = with(&set, &delta);
-        holds(rt, "a delta", answers(rt, alloc, made, *answer));
+    for rebuilt in &REBUILT {
+        holds(rt, "a delta", is_rebuilt(rt, alloc, rebuilt));
     }
 }
 
@@ -186,12 +200,15 @@ fn clashes_with(set: &UpdateSet, delta: &Delta, awaited: Option<UpdateId>) -> bo
     }
 }
 
+fn is_found(rt: &impl Abort, alloc: Global, (has, base, more, clash): &Clash) -> bool {
+    let delta = listed(rt, alloc, *base, more);
+    let awaited = clash.map(|(replica, number)| id(replica, number));
+    clashes_with(&set_of(rt, alloc, has), &delta, awaited)
+}
+
 fn clashes_are_found_beyond_a_base(rt: &impl Abort, alloc: Global) {
-    for (has, base, more, clash) in &CLASHES {
-        let set = set_of(rt, alloc, has);
-        let delta = listed(rt, alloc, *base, more);
-        let awaited = clash.map(|(replica, number)| id(replica, number));
-        holds(rt, "a clash", clashes_with(&set, &delta, awaited));
+    for clash in &CLASHES {
+        holds(rt, "a clash", is_found(rt, alloc, clash));
     }
 }
 

@@ -95,11 +95,14 @@ pub fn push(
     }
 }
 
+fn pushes(rt: &impl Abort, alloc: Global, set: &mut UpdateSet, row: &Row) -> bool {
+    push(rt, alloc, set, row).is_ok()
+}
+
 pub fn set_of(rt: &impl Abort, alloc: Global, rows: &[Row]) -> UpdateSet {
     let mut set = UpdateSet::new(alloc);
     for row in rows {
-        let pushed = push(rt, alloc, &mut set, row);
-        holds(rt, "a push", pushed.is_ok());
+        holds(rt, "a push", pushes(rt, alloc, &mut set, row));
     }
     set
 }
