@@ -39,12 +39,15 @@ fn shelves_for(rt: &impl Abort, alloc: Global, config: Config) -> Vec<Shelf<Coun
 
 fn is_no_world(rt: &impl Abort, alloc: Global, config: Config) -> bool {
     let shelves = shelves_for(rt, alloc, config);
-    World::new(alloc, config, shelves).err() == Some(WorldError::BadConfig)
+    matches!(
+        World::new(alloc, config, shelves),
+        Err(WorldError::BadConfig)
+    )
 }
 
 fn is_no_run(rt: &impl Abort, alloc: Global, config: Config) -> bool {
     let shelves = shelves_for(rt, alloc, config);
-    run(alloc, config, shelves, &[]).err() == Some(WorldError::BadConfig)
+    matches!(run(alloc, config, shelves, &[]), Err(WorldError::BadConfig))
 }
 
 fn no_world_has_a_value_out_of_its_range(rt: &impl Abort, alloc: Global) {

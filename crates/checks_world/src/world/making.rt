@@ -113,7 +113,10 @@ fn is_no_world(alloc: Global, shelves: Vec<Counters>) -> bool {
 }
 
 fn is_no_run(alloc: Global, shelves: Vec<Counters>) -> bool {
-    run(alloc, three(), shelves, &[]).err() == Some(WorldError::BadConfig)
+    matches!(
+        run(alloc, three(), shelves, &[]),
+        Err(WorldError::BadConfig)
+    )
 }
 
 fn there_is_a_shelf_for_each_replica(rt: &impl Abort, alloc: Global) {
