@@ -2,7 +2,7 @@
 use crate::cuts::{FIRST_REPORT, FIRST_SCRIPT};
 use crate::helpers::shows;
 use crate::more_rows::SEED_1;
-use crate::streams::{End, narrow_writer, slow_reader, wide_writer};
+use crate::streams::{End, Narrow, narrow_writer, slow_reader, wide_writer};
 use la_program::{PlayFault, end_without_words, run_boxed, status_of};
 use la_script::{FaultName, ScriptFault};
 use std::alloc::{AllocError, Global};
@@ -236,7 +236,20 @@ fn words_of(alloc: Global, words: &[&str]) -> Result<Vec<String>, AllocError> {
     Ok(all)
 }
 
-// Calls the program with these words.
+// The status of the program, called with these words.
+fn status_of_words<R: Threads + Wait + Sync>(
+    rt: &R,
+    alloc: Global,
+    words: &[String],
+    case: &Case,
+    output: &mut Narrow,
+    errors: &mut Narrow,
+) -> u8 {
+    let mut input = slow_reader(case.script.as_bytes(), 7, case.fails_at);
+    run_boxed(rt, alloc, words, &mut input, output, errors)
+}
+
+// What comes of these words.
 fn call_with<R: Threads + Wait + Sync>(
     rt: &R,
     alloc: Global,
@@ -246,8 +259,7 @@ fn call_with<R: Threads + Wait + Sync>(
     let words = words_of(alloc, words)?;
     let mut output = narrow_writer(alloc, case.room, End::Fails);
     let mut errors = narrow_writer(alloc, case.errors_room, End::Fails);
-    let mut input = slow_reader(case.script.as_bytes(), 7, case.fails_at);
-    let status = run_boxed(rt, alloc, &words, &mut input, &mut output, &mut errors);
+    let status = status_of_words(rt, alloc, &words, case, &mut output, &mut errors);
     Ok(Came {
         status,
         written: output.taken,
@@ -255,7 +267,7 @@ fn call_with<R: Threads + Wait + Sync>(
     })
 }
 
-// What comes of these words, or `None` for want of memory.
+// The same, or `None` for want of memory.
 fn call<R: Threads + Wait + Sync>(
     rt: &R,
     alloc: Global,
