@@ -44,12 +44,17 @@ impl<B: Replicated> Replicated for Counted<B> {
     }
 }
 
-/// An observed-remove set that counts.
-pub fn make_counted(alloc: Global, all: &Arc<()>) -> Option<Counted<OrSet>> {
+/// An object that counts; `None` where the count has no room.
+pub fn counting<B: Replicated>(inner: B, all: &Arc<()>) -> Option<Counted<B>> {
     Some(Counted {
-        inner: OrSet::new(alloc),
+        inner,
         _alive: all.clone().ok()?,
     })
+}
+
+/// An observed-remove set that counts.
+pub fn make_counted(alloc: Global, all: &Arc<()>) -> Option<Counted<OrSet>> {
+    counting(OrSet::new(alloc), all)
 }
 
 /// Whether so many are alive.

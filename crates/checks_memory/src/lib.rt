@@ -25,5 +25,5 @@ mod runners;
 #[cfg(test)]
 mod sets;
 
-pub use counted::{Counted, are_alive, make_counted};
+pub use counted::{Counted, are_alive, counting, make_counted};
 pub use given::{Came, Does, Row, delta_of, refused, second, set_of};

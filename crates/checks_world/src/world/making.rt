@@ -1,52 +1,14 @@
 // Shelves that don't fit their group: no world has them, and they are dropped. The objects share a
 // count of those that are alive.
 use crate::holds::holds;
-use la_object::{Answer, Counter, Kind, ObserveError, Query, Replicated, Shelf, State};
+use checks_memory::{Counted, counting};
+use la_object::{Counter, Shelf};
 use la_proposer::Votes;
-use la_set::{Op, Tags, Update, UpdateId, UpdateSet};
+use la_set::{Op, Update, UpdateId, UpdateSet};
 use la_world::{Config, World, WorldError, run};
-use std::alloc::{AllocError, Global};
+use std::alloc::Global;
 use std::process::Abort;
 use std::sync::Arc;
-
-// An object that is counted while it is alive.
-#[derive(Drop)]
-struct Counted<B: Replicated> {
-    inner: B,
-    _alive: Arc<()>,
-}
-
-impl<B: Replicated> Replicated for Counted<B> {
-    ghost state = { λ c. B.state c.inner };
-
-    fn kind(&self) -> Kind {
-        self.inner.kind()
-    }
-
-    fn fresh(&self) -> bool {
-        self.inner.fresh()
-    }
-
-    fn has_room(&self) -> bool {
-        self.inner.has_room()
-    }
-
-    fn absorb(&mut self, update: &Update) -> Result<(), AllocError> {
-        self.inner.absorb(update)
-    }
-
-    fn ask(&self, query: &Query) -> Result<Answer, AllocError> {
-        self.inner.ask(query)
-    }
-
-    fn observed(&self, element: u64) -> Result<Tags, ObserveError> {
-        self.inner.observed(element)
-    }
-
-    fn state(&self) -> Result<State, AllocError> {
-        self.inner.state()
-    }
-}
 
 type Counters = Shelf<Counted<Counter>>;
 
@@ -67,10 +29,7 @@ fn alive(rt: &impl Abort, alloc: Global) -> Arc<()> {
 }
 
 fn counter(rt: &impl Abort, alloc: Global, all: &Arc<()>) -> Counted<Counter> {
-    Counted {
-        inner: Counter::new(alloc),
-        _alive: all.clone().expect(rt, "a count has room"),
-    }
+    counting(Counter::new(alloc), all).expect(rt, "a count has room")
 }
 
 fn adds(rt: &impl Abort, alloc: Global, shelf: &mut Counters, all: &Arc<()>) -> bool {
