@@ -44,7 +44,9 @@ impl<B: Replicated> World<B> {
         let message = &self.journal.messages[number];
         let (instance, to) = (message.instance, message.to);
         // `laws::deliveries_fit`: what was sent fits its receiver, so that only memory is left.
-        let (done, learnt) = self.nodes[to as usize].take(message)?;
+        let Ok((done, learnt)) = self.nodes[to as usize].take(message) else {
+            return Err(WorldError::Memory);
+        };
         let speaker = Speaker {
             replicas: self.config.replicas,
             replica: to,
