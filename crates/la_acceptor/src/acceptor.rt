@@ -121,6 +121,9 @@ impl Acceptor {
             let reply = reply_from(&self.accepted, offered)?;
             return Ok((reply, None));
         }
+        if offered.contains_compatible(&self.accepted) {
+            return Ok((Reply::Yes, Some(offered.copy()?)));
+        }
         let mut joined = self.accepted.copy()?;
         joined.join_compatible(offered)?;
         let reply = reply_from(&joined, offered)?;

@@ -306,8 +306,12 @@ impl<B: Replicated> Node<B> {
         ensures stays { OutcomesStayIn self.old.replica self.new.replica }
         ensures err { OnErr result (self.new ≡ self.old) }
     {
-        let (out, change) = self.replica.prepare_fitting(message)?;
-        let taken = take_prepared(&mut self.replica, message, out, change)?;
+        let Ok((out, change)) = self.replica.prepare_fitting(message) else {
+            return Err(AllocError);
+        };
+        let Ok(taken) = take_prepared(&mut self.replica, message, out, change) else {
+            return Err(AllocError);
+        };
         Ok(taken)
     }
 

@@ -1,5 +1,6 @@
 // The delivery of a message that was sent.
 ghost use Rattle.std.specs.Prelude.{◌≡◌, ◌+◌, ◌<◌, ◌^◌, length, IfOk, IfErr, OnErr};
+ghost use Rattle.la_world.specs.declared.error.WorldError.TheVariants.{Memory};
 ghost use Rattle.la_world.specs.Events.{Past, Deliver};
 ghost use Rattle.la_world.specs.Printable.{IsPrintable};
 ghost use Rattle.la_world.specs.StandsFor.{StandsFor};
@@ -10,7 +11,6 @@ use crate::participant::outcome_by;
 use crate::speaker::Speaker;
 use crate::{Step, WorldError};
 use la_object::Replicated;
-use std::alloc::AllocError;
 
 impl<B: Replicated> World<B> {
     #[inline(always)]
@@ -26,27 +26,27 @@ impl<B: Replicated> World<B> {
         if number >= self.sent() {
             return Err(WorldError::NoSuchMessage);
         }
-        match self.take_delivery(number as usize) {
-            Ok(step) => Ok(step),
-            Err(AllocError) => Err(WorldError::Memory),
-        }
+        self.take_delivery(number as usize)
     }
 
     // Delivers a message that was sent, which is refused for want of memory alone.
     #[inline(always)]
-    fn take_delivery(&mut self, number: usize) -> Result<Step, AllocError>
+    fn take_delivery(&mut self, number: usize) -> Result<Step, WorldError>
         requires count { self.old.count + 1 < 2 ^ 64 }
         requires known { number < length self.old.messages }
         ensures step { (events : Past) → StandsFor self.old events →
             IfOk result (λ step. Plays self.old events (Deliver number) step self.new) }
         ensures printable { IfOk result IsPrintable }
+        ensures error { IfErr result (λ e. e ≡ Memory) }
         ensures err { OnErr result (self.new ≡ self.old) }
     {
         self.journal.reserve(self.config.replicas)?;
         let message = &self.journal.messages[number];
         let (instance, to) = (message.instance, message.to);
         // `laws::deliveries_fit`: what was sent fits its receiver, so that only memory is left.
-        let (done, learnt) = self.nodes[to as usize].take(message)?;
+        let Ok((done, learnt)) = self.nodes[to as usize].take(message) else {
+            return Err(WorldError::Memory);
+        };
         let speaker = Speaker {
             replicas: self.config.replicas,
             replica: to,

@@ -36,25 +36,25 @@ take-requires-clause-agrees g c κs live =
     let found = read_node c.self.inside.nodes.items c.index-message.result.now.to (receiver_known c.self.invariant c.args.number is) c.index_mut.ensures.value in
     message_agrees (receiver_at c.self.inside.config c.self.inside.nodes.items c.self.inside.journal c.self.invariant c.args.number is found)
 
-pub invariant_of-self-in_err-done : goal.invariant_of-self-in_err-done
-invariant_of-self-in_err-done g c =
+pub invariant_of-self-in_default : goal.invariant_of-self-in_default
+invariant_of-self-in_default g c =
     let to = c.index-message.result.now.to in
     let is = read_message c.self.view_is c.args.number c.requires.known c.reserve.ensures.messages c.index-message.ensures in
     let found = read_node c.self.inside.nodes.items to (receiver_known c.self.invariant c.args.number is) c.index_mut.ensures.value in
-    subst HoldsInvariant (sym (unchanged c.self.inside.nodes.items to c.index_mut.result.now found c.self.inside.config c.take.new.self c.reserve.new.self c.in_err-done.ensures.err))
+    subst HoldsInvariant (sym (unchanged c.self.inside.nodes.items to c.index_mut.result.now found c.self.inside.config c.take.new.self c.reserve.new.self c.in_default.ensures.err))
     (holds_reserved c.self.invariant c.reserve.new.self c.reserve.ensures.messages c.reserve.ensures.learnt c.reserve.ensures.count)
 
 pub note-requires-clause-known : goal.note-requires-clause-known
 note-requires-clause-known g c =
     let is = read_message c.self.view_is c.args.number c.requires.known c.reserve.ensures.messages c.index-message.ensures in
     let found = read_node c.self.inside.nodes.items c.index-message.result.now.to (receiver_known c.self.invariant c.args.number is) c.index_mut.ensures.value in
-    delivery_known (receiver_at c.self.inside.config c.self.inside.nodes.items c.self.inside.journal c.self.invariant c.args.number is found) c.in_ok-done.done c.take.new.self.replica c.in_ok-done.ensures.learnt c.in_ok-done.ensures.step c.in_ok-done.ensures.told
+    delivery_known (receiver_at c.self.inside.config c.self.inside.nodes.items c.self.inside.journal c.self.invariant c.args.number is found) c.in-Ok.done c.take.new.self.replica c.in-Ok.ensures.learnt c.in-Ok.ensures.step c.in-Ok.ensures.told
 
 pub note-requires-clause-few : goal.note-requires-clause-few
 note-requires-clause-few g c =
     let is = read_message c.self.view_is c.args.number c.requires.known c.reserve.ensures.messages c.index-message.ensures in
     let found = read_node c.self.inside.nodes.items c.index-message.result.now.to (receiver_known c.self.invariant c.args.number is) c.index_mut.ensures.value in
-    delivery_few (receiver_at c.self.inside.config c.self.inside.nodes.items c.self.inside.journal c.self.invariant c.args.number is found) c.in_ok-done.done c.take.new.self.replica c.in_ok-done.ensures.learnt c.in_ok-done.ensures.step c.in_ok-done.ensures.told
+    delivery_few (receiver_at c.self.inside.config c.self.inside.nodes.items c.self.inside.journal c.self.invariant c.args.number is found) c.in-Ok.done c.take.new.self.replica c.in-Ok.ensures.learnt c.in-Ok.ensures.step c.in-Ok.ensures.told
 
 pub invariant_of-self-2 : goal.invariant_of-self-2
 invariant_of-self-2 g c =
@@ -63,10 +63,10 @@ invariant_of-self-2 g c =
     let is = read_message c.self.view_is c.args.number c.requires.known c.reserve.ensures.messages c.index-message.ensures in
     let found = read_node c.self.inside.nodes.items message.to (receiver_known c.self.invariant c.args.number is) c.index_mut.ensures.value in
     let d = receiver_at c.self.inside.config c.self.inside.nodes.items c.self.inside.journal c.self.invariant c.args.number is found in
-    let n = delivery_noted d c.in_ok-done.learnt (c.outcome_by.ensures ∙ ap (option_and_then (outcome_in message.instance message.to)) c.as_ref.ensures.value) c.reserve.new.self c.note.new.self c.in_ok-done.done
+    let n = delivery_noted d c.in-Ok.learnt (c.outcome_by.ensures ∙ ap (option_and_then (outcome_in message.instance message.to)) c.as_ref.ensures.value) c.reserve.new.self c.note.new.self c.in-Ok.done
     c.reserve.ensures.messages c.reserve.ensures.learnt c.reserve.ensures.count c.note.ensures.step c.note.ensures.messages c.note.ensures.learnt c.note.ensures.count c.note.ensures.numbers in
-    subst HoldsInvariant (sym (stepped c.self.inside.nodes.items message.to c.index_mut.result.now found c.self.inside.config made c.note.new.self c.in_ok-done.ensures.shelf))
-    (noted_holds n message.to made.replica (delivery_invariant d c.in_ok-done.done made.replica c.in_ok-done.ensures.learnt c.in_ok-done.ensures.step c.in_ok-done.ensures.told))
+    subst HoldsInvariant (sym (stepped c.self.inside.nodes.items message.to c.index_mut.result.now found c.self.inside.config made c.note.new.self c.in-Ok.ensures.shelf))
+    (noted_holds n message.to made.replica (delivery_invariant d c.in-Ok.done made.replica c.in-Ok.ensures.learnt c.in-Ok.ensures.step c.in-Ok.ensures.told))
 
 pub returns-clause-step : goal.returns-clause-step
 returns-clause-step g c events stands =
@@ -75,11 +75,11 @@ returns-clause-step g c events stands =
     let is = read_message c.self.view_is c.args.number c.requires.known c.reserve.ensures.messages c.index-message.ensures in
     let found = read_node c.self.inside.nodes.items message.to (receiver_known c.self.invariant c.args.number is) c.index_mut.ensures.value in
     let d = receiver_at c.self.inside.config c.self.inside.nodes.items c.self.inside.journal c.self.invariant c.args.number is found in
-    let n = delivery_noted d c.in_ok-done.learnt (c.outcome_by.ensures ∙ ap (option_and_then (outcome_in message.instance message.to)) c.as_ref.ensures.value) c.reserve.new.self c.note.new.self c.in_ok-done.done
+    let n = delivery_noted d c.in-Ok.learnt (c.outcome_by.ensures ∙ ap (option_and_then (outcome_in message.instance message.to)) c.as_ref.ensures.value) c.reserve.new.self c.note.new.self c.in-Ok.done
     c.reserve.ensures.messages c.reserve.ensures.learnt c.reserve.ensures.count c.note.ensures.step c.note.ensures.messages c.note.ensures.learnt c.note.ensures.count c.note.ensures.numbers in
-    subst (Plays c.args.self.now events (Deliver c.args.number) c.note.result) (sym (stepped c.self.inside.nodes.items message.to c.index_mut.result.now found c.self.inside.config made c.note.new.self c.in_ok-done.ensures.shelf))
+    subst (Plays c.args.self.now events (Deliver c.args.number) c.note.result) (sym (stepped c.self.inside.nodes.items message.to c.index_mut.result.now found c.self.inside.config made c.note.new.self c.in-Ok.ensures.shelf))
     (noted_plays n message.to made.replica c.self.view_is events (Deliver c.args.number)
-    (delivery_played d c.in_ok-done.done made.replica c.in_ok-done.ensures.learnt c.in_ok-done.ensures.step c.in_ok-done.ensures.told events (subst (λ v. StandsFor v events) (sym c.self.view_is) stands)))
+    (delivery_played d c.in-Ok.done made.replica c.in-Ok.ensures.learnt c.in-Ok.ensures.step c.in-Ok.ensures.told events (subst (λ v. StandsFor v events) (sym c.self.view_is) stands)))
 
 pub returns-clause-printable : goal.returns-clause-printable
 returns-clause-printable g c =
@@ -87,6 +87,6 @@ returns-clause-printable g c =
     let is = read_message c.self.view_is c.args.number c.requires.known c.reserve.ensures.messages c.index-message.ensures in
     let found = read_node c.self.inside.nodes.items message.to (receiver_known c.self.invariant c.args.number is) c.index_mut.ensures.value in
     let d = receiver_at c.self.inside.config c.self.inside.nodes.items c.self.inside.journal c.self.invariant c.args.number is found in
-    let n = delivery_noted d c.in_ok-done.learnt (c.outcome_by.ensures ∙ ap (option_and_then (outcome_in message.instance message.to)) c.as_ref.ensures.value) c.reserve.new.self c.note.new.self c.in_ok-done.done
+    let n = delivery_noted d c.in-Ok.learnt (c.outcome_by.ensures ∙ ap (option_and_then (outcome_in message.instance message.to)) c.as_ref.ensures.value) c.reserve.new.self c.note.new.self c.in-Ok.done
     c.reserve.ensures.messages c.reserve.ensures.learnt c.reserve.ensures.count c.note.ensures.step c.note.ensures.messages c.note.ensures.learnt c.note.ensures.count c.note.ensures.numbers in
-    noted_prints n (delivery_is_named d c.in_ok-done.done c.take.new.self.replica c.in_ok-done.ensures.learnt c.in_ok-done.ensures.step c.in_ok-done.ensures.told)
+    noted_prints n (delivery_is_named d c.in-Ok.done c.take.new.self.replica c.in-Ok.ensures.learnt c.in-Ok.ensures.step c.in-Ok.ensures.told)
