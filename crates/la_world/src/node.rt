@@ -306,6 +306,7 @@ impl<B: Replicated> Node<B> {
         ensures stays { OutcomesStayIn self.old.replica self.new.replica }
         ensures err { OnErr result (self.new ≡ self.old) }
     {
+        // The results are wide, and a `?` would copy each once more.
         let Ok((out, change)) = self.replica.prepare_fitting(message) else {
             return Err(AllocError);
         };
