@@ -3,7 +3,7 @@ ghost use Rattle.std.specs.Prelude.{IfSome};
 ghost use Rattle.la_world.specs.Printable.{IsPrintableReport};
 
 use crate::holds::holds;
-use crate::texts::{ALONE, Row, VOTES, is_text, shelves_of};
+use crate::texts::{ALONE, Row, VOTES, is_text, len_of, shelves_of};
 use checks_memory::{Came, again, refused};
 use la_object::{Answer, Items};
 use la_script::{
@@ -46,10 +46,10 @@ fn put(pieces: &mut Pieces, alloc: Global, what: Puts) -> Result<(), AllocError>
 
 // A text to which something was added stands only where that came to an end.
 fn add(pieces: &mut Pieces, alloc: Global, what: Puts, text: &str) -> Came {
-    let before = pieces.rest().len();
+    let before = len_of(pieces);
     match put(pieces, alloc, what) {
         Ok(()) => Some(is_text(pieces, text)),
-        Err(_) => refused(before <= pieces.rest().len()),
+        Err(_) => refused(before <= len_of(pieces)),
     }
 }
 

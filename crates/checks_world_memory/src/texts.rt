@@ -31,9 +31,33 @@ pub const VOTES: Row = (
      9 learnt r1 i4 b1 {1.1} commit 9\nview 0 {}\nview 1 {}\nview 2 {}\noutcome 1 1 commit 9\n",
 );
 
-/// Whether pieces are this text, which has no long set.
+/// Whether pieces are this text.
 pub fn is_text(pieces: &Pieces, text: &str) -> bool {
-    pieces.len() == 0 && pieces.rest() == text.as_bytes()
+    let mut walk = pieces.walk();
+    let mut left = text.as_bytes();
+    for _ in 0..u64::MAX {
+        let Some(piece) = walk.next() else {
+            break;
+        };
+        let Some(rest) = left.strip_prefix(piece.bytes()) else {
+            return false;
+        };
+        left = rest;
+    }
+    left.is_empty()
+}
+
+/// How many bytes pieces have.
+pub fn len_of(pieces: &Pieces) -> usize {
+    let mut walk = pieces.walk();
+    let mut all = 0usize;
+    for _ in 0..u64::MAX {
+        let Some(piece) = walk.next() else {
+            break;
+        };
+        all = all.saturating_add(piece.bytes().len());
+    }
+    all
 }
 
 /// A shelf with a set under 3.

@@ -1,14 +1,10 @@
 -- What is written part by part.
-use Rattle.std.proofs.Common.{◌≡◌, ℕ, ◌+◌, ◌-◌, ◌<◌, ◌≤◌, arith, append_assoc, Some, get_or, [], ◌∷◌, List, ◌++◌, length, take, drop, Option, None, Bool, false, cond, ap, sym, ◌∙◌, subst}
+use Rattle.std.proofs.Common.{◌≡◌, ℕ, ◌+◌, ◌-◌, arith, append_assoc, Some, [], List, ◌++◌, length, take, drop, Option, None, Bool, false, cond, refl, ap, sym, ◌∙◌, subst}
 use Rattle.std.specs.Io.KnownBytes.{Appends, Keeps}
 use Rattle.std.proofs.Math.Seq.{take-add}
-use Rattle.std.proofs.lemmas.List.{take_rest, take_more, take-append-drop, flat_map_more, take_all, append-nil}
+use Rattle.std.proofs.lemmas.List.{take_rest, take_all, append-nil}
 use Rattle.std.proofs.KnownBytes.{Appends-trans, Appends-kept}
-use Rattle.std.specs.List.{flat_map, slice_get}
-use Rattle.std.proofs.lemmas.Option.{slice_get_within, get_or_from_slice_get}
-use Rattle.std.proofs.lemmas.Grind.{flat_map-append}
 use Rattle.la_object.specs.Shelves.{ShelfState}
-use Rattle.la_script.specs.Pieces.{Parts, stretch_text, joined}
 use Rattle.la_program.specs.Streams.{AppendsPrefix, AppendsAllBut}
 use Rattle.la_program.proofs.lemmas.Fronts.{prefix_more, prefix_behind}
 use Rattle.la_program.specs.Play.{FitAnyGroup, ReadsInput, Answers, Plays, PlaysPrefix}
@@ -86,43 +82,26 @@ module _ (a b c : Option (List ℕ)) (held bytes : List ℕ) (written : Appends 
 pub unchanged : (fits : Bool) (more held new : List ℕ) → fits ≡ false → new ≡ cond fits more held → new ≡ held
 unchanged fits more held new not is = is ∙ ap (λ b. cond b more held) not
 
--- the stretch that comes next, and what is behind it
-module _ (p : Parts) (place : ℕ) (words ids : List ℕ) (here : Some (words, ids) ≡ slice_get p.stretches place) where
-  pub one_more : flat_map stretch_text (take place p.stretches) ++ (words ++ ids) ≡ flat_map stretch_text (take (place + 1) p.stretches)
-  one_more =
-      let xs = p.stretches in
-      let lt : place < length xs = slice_get_within xs place (words, ids) (sym here) in
-      let is : get_or xs place (words, ids) ≡ (words, ids) = get_or_from_slice_get xs place (words, ids) (words, ids) (sym here) in
-      flat_map_more stretch_text [] (take place xs) (words, ids)
-      ∙ ap (λ (x : List ℕ × List ℕ). flat_map stretch_text (take place xs ++ x ∷ [])) (sym is)
-      ∙ ap (flat_map stretch_text) (sym (take_more xs place (words, ids) lt))
+-- the piece that comes next in a text, what is held before it, and what is left behind it
+module _ (a b c : Option (List ℕ)) (held left bytes rest text : List ℕ) (before : AppendsAllBut a b (held ++ left) text) (is : left ≡ bytes ++ rest) where
+  all_is : ((before.0 ++ held) ++ bytes) ++ rest ≡ text
+  all_is =
+      append_assoc (before.0 ++ held) bytes rest ∙ append_assoc before.0 held (bytes ++ rest)
+      ∙ ap (λ t. before.0 ++ (held ++ t)) (sym is) ∙ before.2
 
-  pub stretch_front : (a b c : Option (List ℕ)) (held : List ℕ) → AppendsAllBut a b held (flat_map stretch_text (take place p.stretches)) → AppendsPrefix b c (held ++ (words ++ ids))
-      → AppendsPrefix a c (joined p)
-  unfolding joined
-  stretch_front a b c held before front =
-      let xs = p.stretches in
-      let rest = flat_map stretch_text (drop (place + 1) xs) ++ p.rest in
-      subst (AppendsPrefix a c)
-      (ap (λ t. t ++ rest) one_more
-      ∙ sym (append_assoc (flat_map stretch_text (take (place + 1) xs)) (flat_map stretch_text (drop (place + 1) xs)) p.rest)
-      ∙ ap (λ t. t ++ p.rest) (sym (flat_map-append stretch_text (take (place + 1) xs) (drop (place + 1) xs)) ∙ ap (flat_map stretch_text) (take-append-drop (place + 1) xs)))
-      (prefix_more a c (flat_map stretch_text (take place xs) ++ (words ++ ids)) rest (held_front a b c held (flat_map stretch_text (take place xs)) before (words ++ ids) front))
+  pub piece_next : (after : List ℕ) → AppendsAllBut b c after (held ++ bytes) → AppendsAllBut a c (after ++ rest) text
+  piece_next after now =
+      let next = held_more a b c held (before.0 ++ held) (before.0, before.1, refl) after bytes now in (
+        next.0,
+        next.1,
+        sym (append_assoc next.0 after rest) ∙ ap (λ t. t ++ rest) next.2 ∙ all_is,
+      )
 
-  pub stretch_next : (a b c : Option (List ℕ)) (held after : List ℕ) → AppendsAllBut a b held (flat_map stretch_text (take place p.stretches)) → AppendsAllBut b c after (held ++ (words ++ ids))
-      → AppendsAllBut a c after (flat_map stretch_text (take (place + 1) p.stretches))
-  stretch_next a b c held after before now =
-      subst (AppendsAllBut a c after) one_more (held_more a b c held (flat_map stretch_text (take place p.stretches)) before after (words ++ ids) now)
+  pub piece_front : AppendsPrefix b c (held ++ bytes) → AppendsPrefix a c text
+  piece_front front =
+      subst (AppendsPrefix a c) all_is
+      (prefix_more a c ((before.0 ++ held) ++ bytes) rest (held_front a b c held (before.0 ++ held) (before.0, before.1, refl) bytes front))
 
--- behind all stretches comes the rest
-module _ (p : Parts) (place : ℕ) (all : length p.stretches ≤ place) (rest : List ℕ) (is : rest ≡ p.rest) where
-  pub whole : flat_map stretch_text (take place p.stretches) ++ rest ≡ joined p
-  unfolding joined
-  whole = ap (λ xs. flat_map stretch_text xs ++ rest) (take_all place p.stretches all) ∙ ap (λ t. flat_map stretch_text p.stretches ++ t) is
-
-  module _ (a b c : Option (List ℕ)) (held : List ℕ) (before : AppendsAllBut a b held (flat_map stretch_text (take place p.stretches))) where
-    pub rest_next : (after : List ℕ) → AppendsAllBut b c after (held ++ rest) → AppendsAllBut a c after (joined p)
-    rest_next after now = subst (AppendsAllBut a c after) whole (held_more a b c held (flat_map stretch_text (take place p.stretches)) before after rest now)
-
-    pub rest_front : AppendsPrefix b c (held ++ rest) → AppendsPrefix a c (joined p)
-    rest_front front = subst (AppendsPrefix a c) whole (held_front a b c held (flat_map stretch_text (take place p.stretches)) before rest front)
+-- nothing is left but what is held
+pub held_alone : (a b : Option (List ℕ)) (held left text : List ℕ) → AppendsAllBut a b (held ++ left) text → left ≡ [] → AppendsAllBut a b held text
+held_alone a b held left text before none = (before.0, before.1, ap (λ t. before.0 ++ t) (sym (append-nil held)) ∙ ap (λ t. before.0 ++ (held ++ t)) (sym none) ∙ before.2)

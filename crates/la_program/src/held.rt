@@ -44,6 +44,7 @@ impl Held {
 
     // Holds the bytes behind what is held, or none of them where they don't fit. Answers whether they
     // do.
+    #[inline(always)]
     pub(crate) fn add(&mut self, bytes: &[u8]) -> bool
         ensures held { self.new ≡ (if result then self.old ++ bytes.now else self.old) }
         ensures fits { IsTrue result ↔ (length self.old + length bytes.now ≤ ROOM) }

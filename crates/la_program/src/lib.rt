@@ -19,6 +19,8 @@
 //! and `play_threads` its tasks.
 #![tactic(auto)]
 
+// What is marked `inline(always)` is called for each event, and hands on wide values.
+
 mod call;
 mod error;
 mod held;

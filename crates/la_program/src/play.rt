@@ -2,7 +2,6 @@ ghost use Rattle.std.specs.Prelude.{◌≡◌, ◌↔◌, ◌+◌, ◌<◌, ◌�
 ghost use Rattle.std.specs.Prelude.{IsTrue, IfOk, IfErr, OnOk};
 ghost use Rattle.la_world.specs.Groups.{IsConfig};
 ghost use Rattle.la_world.specs.StandsFor.{StandsFor};
-ghost use Rattle.la_script.specs.Pieces.{joined};
 ghost use Rattle.la_program.specs.declared.error.PlayFault.TheVariants.{WriteFault};
 ghost use Rattle.la_program.specs.Streams.{TakesAtMost, Writes, WritesPrefix};
 ghost use Rattle.la_program.specs.Play.{FitAnyGroup, shelves_of, text_by, IsRandomGroup};
@@ -64,7 +63,7 @@ fn text_of<B: Replicated>(
 ) -> Result<Pieces, AllocError>
     requires config { IsConfig config }
     requires shelves { FitAnyGroup shelves.items }
-    ensures { IfOk result (λ pieces. joined pieces ≡ text_by version config events shelves.items) }
+    ensures { IfOk result (λ pieces. pieces ≡ text_by version config events shelves.items) }
 {
     let mut world = world_of(alloc, config, shelves)?;
     let mut text = Pieces::new(alloc);
@@ -111,7 +110,7 @@ pub fn answer_to<B: Replicated>(
 ) -> Result<Pieces, PlayFault>
     requires short { length input.now < 2 ^ 32 }
     requires shelves { FitAnyGroup shelves.items }
-    ensures ok { IfOk result (λ pieces. Answers shelves.items input.now (joined pieces)) }
+    ensures ok { IfOk result (λ pieces. Answers shelves.items input.now pieces) }
     ensures error { IfErr result (IsAnswerRefusal input.now) }
 {
     let script = read(alloc, input)?;
@@ -127,7 +126,7 @@ fn answer_once<B: Replicated>(
 ) -> Result<Pieces, PlayFault>
     requires short { length input.items < 2 ^ 32 }
     requires shelves { FitAnyGroup shelves.items }
-    ensures ok { IfOk result (λ pieces. Answers shelves.items input.items (joined pieces)) }
+    ensures ok { IfOk result (λ pieces. Answers shelves.items input.items pieces) }
     ensures error { IfErr result (IsAnswerRefusal input.items) }
 {
     let script = read(alloc, &input)?;
@@ -138,9 +137,9 @@ fn answer_once<B: Replicated>(
 
 // Writes a text. Where it fails, the first bytes were written.
 pub(crate) fn write_out<W: Write>(writer: &mut W, text: &Pieces) -> Result<(), PlayFault>
-    ensures ok { OnOk result (Writes W.contents writer.old writer.new (joined text.now)) }
+    ensures ok { OnOk result (Writes W.contents writer.old writer.new text.now) }
     ensures error { IfErr result (λ fault. (fault ≡ WriteFault)
-        × WritesPrefix W.contents writer.old writer.new (joined text.now)) }
+        × WritesPrefix W.contents writer.old writer.new text.now) }
 {
     match write_pieces(writer, text) {
         Ok(()) => Ok(()),

@@ -15,7 +15,6 @@ ghost use Rattle.std.specs.Prelude.{
   IsErrOf,
 };
 ghost use Rattle.std.specs.Io.KnownBytes.{Consumes, IsAtEnd, Keeps, WriteAppends};
-ghost use Rattle.la_script.specs.Pieces.{joined};
 ghost use Rattle.la_program.specs.declared.streams.InputFault.TheVariants.{Memory};
 ghost use Rattle.la_program.specs.Streams.{
   ReadsAll,
@@ -27,7 +26,7 @@ ghost use Rattle.la_program.specs.Streams.{
 };
 
 use crate::held::Held;
-use la_script::{Pieces, Stretch};
+use la_script::Pieces;
 use std::alloc::{AllocError, Global};
 use std::io::{Read, Write};
 use thiserror::Error;
@@ -191,6 +190,7 @@ fn put_held<W: Write>(writer: &mut W, held: &mut Held) -> Result<(), WriteFailed
 
 // Holds the bytes behind what is held. Where they don't fit, this is written first; where they are
 // more than can be held, they are written from where they lie.
+#[inline(always)]
 fn gather<W: Write>(writer: &mut W, held: &mut Held, bytes: &[u8]) -> Result<(), WriteFailed>
     ensures ok { OnOk result (WritesAllBut W.contents writer.old writer.new
         held.new (held.old ++ bytes.now)) }
@@ -207,21 +207,6 @@ fn gather<W: Write>(writer: &mut W, held: &mut Held, bytes: &[u8]) -> Result<(),
     put_bytes(writer, bytes)
 }
 
-// The words of a stretch, and then its ids, behind what is held.
-fn gather_stretch<W: Write>(
-    writer: &mut W,
-    held: &mut Held,
-    stretch: &Stretch<'_>,
-) -> Result<(), WriteFailed>
-    ensures ok { OnOk result (WritesAllBut W.contents writer.old writer.new
-        held.new (held.old ++ (stretch.now.words.now ++ stretch.now.ids.now))) }
-    ensures err { OnErr result (WritesPrefix W.contents writer.old writer.new
-        (held.old ++ (stretch.now.words.now ++ stretch.now.ids.now))) }
-{
-    gather(writer, held, stretch.words)?;
-    gather(writer, held, stretch.ids)
-}
-
 /// Writes the pieces of a text one after another, and then flushes the writer. Short pieces are
 /// gathered, up to 8,192 bytes, and written at once; one that is longer than that is written from
 /// where it lies. It takes no memory.
@@ -230,17 +215,14 @@ fn gather_stretch<W: Write>(
 /// The cost is that of the writes, and of a copy of the short pieces. Where a write takes all that it
 /// is given, any two writes that follow each other have more than 8,192 bytes together.
 pub fn write_pieces<W: Write>(writer: &mut W, pieces: &Pieces) -> Result<(), WriteFailed>
-    ensures ok { OnOk result (Writes W.contents writer.old writer.new (joined pieces.now)) }
-    ensures err { OnErr result (WritesPrefix W.contents writer.old writer.new (joined pieces.now)) }
+    ensures ok { OnOk result (Writes W.contents writer.old writer.new pieces.now) }
+    ensures err { OnErr result (WritesPrefix W.contents writer.old writer.new pieces.now) }
 {
     let mut held = Held::new();
-    for place in 0..pieces.len() {
-        let Some(stretch) = pieces.at(place) else {
-            unreachable!()
-        };
-        gather_stretch(writer, &mut held, &stretch)?;
+    let mut walk = pieces.walk();
+    while let Some(piece) = walk.next() {
+        gather(writer, &mut held, piece.bytes())?;
     }
-    gather(writer, &mut held, pieces.rest())?;
     put_held(writer, &mut held)?;
     flush(writer)
 }

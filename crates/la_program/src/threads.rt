@@ -3,7 +3,7 @@ ghost use Rattle.std.specs.Prelude.{◌≡◌, ◌⊎◌, ◌↔◌, ◌≤◌, 
 ghost use Rattle.la_runner.specs.Members.{view};
 ghost use Rattle.la_runner.specs.Runs.{back_of};
 ghost use Rattle.la_runner.specs.Starting.{AreMembersFrom, IsGroup};
-ghost use Rattle.la_script.specs.Pieces.{Adds, joined};
+ghost use Rattle.la_script.specs.Pieces.{Adds};
 ghost use Rattle.la_program.specs.declared.error.PlayFault.TheVariants.{Memory, NoThread};
 ghost use Rattle.la_program.specs.Play.{FitAnyGroup};
 ghost use Rattle.la_program.specs.Threads.{AreLogs, Agree, RunsThreads, IsThreadsRefusal, increments};
@@ -214,7 +214,7 @@ pub fn text_of_logs<B: Replicated>(
     logs: &Logs<B>,
     agreed: bool,
 ) -> Result<Pieces, AllocError>
-    ensures { IfOk result (λ pieces. joined pieces ≡ threads_text replicas each
+    ensures { IfOk result (λ pieces. pieces ≡ threads_text replicas each
         (map (λ l. back_of l.replica l.member l.shelf l.entries.items l.stopped) logs.now.items) agreed) }
 {
     let mut out = Pieces::new(alloc);

@@ -304,6 +304,7 @@ impl Proposer {
     /// is the verdict of the counted replies with this one among them, or `None` where it would not
     /// count, and be ignored. The refused set is not looked at. It takes no memory, and the cost is
     /// constant.
+    #[inline(always)]
     pub fn verdict(&self, from: u8, ballot: u32, refusal: Option<&UpdateSet>) -> Option<Verdict>
         ensures { IsVerdictOf self.now from ballot (reply_carrying refusal.entry) result }
     {

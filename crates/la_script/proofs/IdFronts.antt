@@ -62,10 +62,15 @@ unfolding front
 front_first r zero = refl
 front_first r (suc n) = refl
 
-pub front_some : (r n : ℕ) → 0 < n → 0 < length (front true r n)
+pub front_some : (b : Bool) (r n : ℕ) → 0 < n → 0 < length (front b r n)
 unfolding front
-front_some r zero lt = absurd (omega arith)
-front_some r (suc n) lt = search (rules, arith)
+front_some true r zero lt = absurd (omega arith)
+front_some true r (suc n) lt = search (rules, arith)
+front_some false r zero lt = absurd (omega arith)
+front_some false r (suc n) lt =
+    let id : UpdateId = record { replica = r; number = 1 } in
+    let one : length (codes ".") ≡ 1 = omega arith in
+    omega (arith, length-append (id_text id) (others_text (ids_from r 2 n)), length-append (decimal r ++ codes ".") (decimal 1), length-append (decimal r) (codes "."))
 
 -- ids are ASCII
 ascii_id : (id : UpdateId) → id.replica < 2 ^ 64 → id.number < 2 ^ 64 → IsAscii (id_text id)

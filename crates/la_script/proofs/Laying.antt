@@ -1,17 +1,20 @@
 -- Texts in pieces: what is added, and what is kept.
-use Rattle.std.proofs.Common.{◌≡◌, ℕ, zero, suc, Bool, true, false, cond, Some, None, Result, Ok, Err, OnOk, ◌+◌, ◌-◌, ◌<◌, ◌≤◌, List, [], ◌∷◌, ◌++◌, length, take, drop, get_or, set, All, refl, ap, sym, subst, ◌∙◌, inl, inr, arith, append-nil, append_assoc, length-append, length-drop}
-use Rattle.std.specs.List.{flat_map, slice_get}
+use Rattle.std.proofs.Common.{◌≡◌, ℕ, zero, suc, Bool, true, false, cond, Result, Ok, Err, OnOk, ◌+◌, ◌-◌, ◌<◌, ◌≤◌, List, [], ◌∷◌, ◌++◌, length, take, drop, get_or, set, All, refl, ap, sym, subst, ◌∙◌, inl, inr, arith, append-nil, append_assoc, length-append, length-drop, length-take}
 use Rattle.std.specs.Str.{IsUtf8}
-use Rattle.std.proofs.lemmas.Bool.{cases_eq}
-use Rattle.std.proofs.lemmas.Grind.{flat_map-append}
-use Rattle.std.proofs.lemmas.List.{take-append-le, drop-append-le, take_rest, take_more, take_all, drop_all, flat_map_more, get_or_default, get_or-set_same, get_or-set_other}
-use Rattle.std.proofs.lemmas.List.Elements.{All-nil, All-weaker, All-push, All-head, All-tail}
-use Rattle.std.proofs.lemmas.Str.{IsUtf8-append, IsUtf8-nil}
-use Rattle.std.proofs.lemmas.Option.{slice_get_within, slice_get_past, get_or_from_slice_get}
 use Rattle.std.specs.Result.{is_ok}
-use Rattle.la_script.specs.declared.pieces.Cut.{Cut}
-use Rattle.la_script.specs.Pieces.{front, Parts, stretch_text, joined}
-use Rattle.la_script.specs.Laid.{stretch_of, stretches_from, end_of, parts_of, kept_of, AreOrdered, IsCut, IsLaid}
+use Rattle.std.proofs.lemmas.Bool.{cases_eq}
+use Rattle.std.proofs.lemmas.List.{take-append-le, drop-append-le, take-append-drop, drop-drop, drop_all, get_or_append_left, get_or_default, get_or-set_same, get_or-set_other}
+use Rattle.std.proofs.lemmas.List.Elements.{All-push, All-head, All-tail}
+use Rattle.std.proofs.lemmas.Str.{IsUtf8-append, IsUtf8-nil}
+use Rattle.la_script.specs.declared.marks.Mark.{Mark}
+use Rattle.la_script.specs.declared.marks.Mark.TheVariants.{Words, Ids, MoreIds, Counted, Ignored, Kept, Yes}
+use Rattle.la_script.specs.declared.marks.Plain.TheVariants as plain
+use Rattle.la_script.specs.Pieces.{front}
+use Rattle.la_script.specs.Plain.{plain_line}
+use Rattle.la_script.specs.Marks.{words_of, numbers_of, mark_text, ids_mark, words_in, IsLine, IsRun, AddsRuns, AddsMark}
+use Rattle.la_script.specs.Laid.{laid_text, kept_of, AreIds, IsReady, AreReady, AreOwn, IsLaid}
+use Rattle.la_script.proofs.IdFronts.{front_some}
+use Rattle.la_script.proofs.PlainLines.{line_some}
 
 -- each replica's text is its own still, and has the ids that it had
 pub record Grows (ids grown : List (ℕ × ℕ)) : Type 0 where
@@ -32,25 +35,42 @@ grows ids r text lt whose more = record {
   ];
 }
 
-cut_grown : (words : List ℕ) (ids grown : List (ℕ × ℕ)) → Grows ids grown → (c : Cut) → IsCut words ids c → IsCut words grown c
-cut_grown words ids grown g c is = record { within = is.within; known = is.known; ready = omega (arith, is.ready, g.more c.replica is.known) }
+-- ## Ids that have grown
 
-pub laid_grown : (words : List ℕ) (cuts : List Cut) (ids grown : List (ℕ × ℕ)) → IsLaid words cuts ids → Grows ids grown → IsLaid words cuts grown
-laid_grown words cuts ids grown is g = record {
-  each = All-weaker (IsCut words ids) (IsCut words grown) (cut_grown words ids grown g) cuts is.each;
-  ordered = is.ordered;
-  whose = λ r lt. g.whose r lt ∙ is.whose r lt;
-  utf8 = is.utf8;
-}
+module _ (ids grown : List (ℕ × ℕ)) (g : Grows ids grown) where
+  ids_grown : (r n : ℕ) → AreIds ids r n → AreIds grown r n
+  ids_grown r n is = record { known = is.known; some = is.some; ready = omega (arith, is.ready, g.more r is.known) }
 
--- no words and no stretches
-pub laid_none : (words : List ℕ) (cuts : List Cut) (ids : List (ℕ × ℕ)) → words ≡ [] → cuts ≡ [] → ((r : ℕ) → r < 8 → (kept_of ids r).0 ≡ r) → IsLaid words cuts ids
-unfolding joined
-laid_none words cuts ids no_words no_cuts whose = rw (no_words, no_cuts) (record { each = All-nil (IsCut [] ids); ordered = tt; whose = whose; utf8 = IsUtf8-nil })
+  ready_grown : (m : Mark) (words numbers : List ℕ) → IsReady ids m words numbers → IsReady grown m words numbers
+  ready_grown (Words n) words numbers is = is
+  ready_grown (Ids r) words numbers is = (is.0, ids_grown r _ is.1)
+  ready_grown (MoreIds r) words numbers is = (is.0, ids_grown r _ is.1)
+  ready_grown Counted words numbers is = is
+  ready_grown Ignored words numbers is = is
+  ready_grown Kept words numbers is = is
+  ready_grown Yes words numbers is = is
 
-pub joined_none : (words : List ℕ) (cuts : List Cut) → words ≡ [] → cuts ≡ [] → joined (parts_of words cuts) ≡ []
-unfolding joined
-joined_none words cuts no_words no_cuts = rw (no_words, no_cuts) refl
+  each_grown : (marks : List Mark) (words numbers : List ℕ) → AreReady ids marks words numbers → AreReady grown marks words numbers
+  each_grown [] words numbers is = is
+  each_grown (m ∷ marks) words numbers is =
+      (ready_grown m words numbers is.0, each_grown marks (drop (words_of m) words) (drop (numbers_of m) numbers) is.1)
+
+  pub laid_grown : (marks : List Mark) (words numbers : List ℕ) (marked : ℕ) → IsLaid marks words numbers marked ids → IsLaid marks words numbers marked grown
+  laid_grown marks words numbers marked is = record {
+    each = each_grown marks words numbers is.each;
+    whose = λ r lt. g.whose r lt ∙ is.whose r lt;
+    all = is.all;
+    utf8 = is.utf8;
+  }
+
+-- ## Nothing yet
+
+pub laid_none : (marks : List Mark) (words numbers : List ℕ) (ids : List (ℕ × ℕ)) → marks ≡ [] → words ≡ [] → numbers ≡ [] → AreOwn ids → IsLaid marks words numbers 0 ids
+laid_none marks words numbers ids no_marks no_words no_numbers whose =
+    rw (no_marks, no_words, no_numbers) (record { each = refl; whose = whose; all = refl; utf8 = IsUtf8-nil })
+
+pub text_none : (marks : List Mark) (words numbers : List ℕ) → marks ≡ [] → words ≡ [] → laid_text marks words numbers ≡ []
+text_none marks words numbers no_marks no_words = rw (no_marks, no_words) refl
 
 -- the eight replicas' texts, one after another
 module _ (a b c d e f g h : ℕ × ℕ) (a_is : a ≡ (0, 0)) (b_is : b ≡ (1, 0)) (c_is : c ≡ (2, 0)) (d_is : d ≡ (3, 0)) (e_is : e ≡ (4, 0)) (f_is : f ≡ (5, 0)) (g_is : g ≡ (6, 0)) (h_is : h ≡ (7, 0)) where
@@ -66,187 +86,339 @@ module _ (a b c d e f g h : ℕ × ℕ) (a_is : a ≡ (0, 0)) (b_is : b ≡ (1, 
   each_own (suc (suc (suc (suc (suc (suc (suc (suc r)))))))) lt = absurd (omega arith)
 
 -- one replica's text is read, and has grown
-module _ (words : List ℕ) (cuts : List Cut) (ids : List (ℕ × ℕ)) (r : ℕ) (d new : ℕ × ℕ) (is : IsLaid words cuts ids) (known : r < 8) (there : r < length ids) (same : new.0 ≡ (get_or ids r d).0) (more : (get_or ids r d).1 ≤ new.1) where
+module _ (marks : List Mark) (words numbers : List ℕ) (marked : ℕ) (ids : List (ℕ × ℕ)) (r : ℕ) (d new : ℕ × ℕ) (is : IsLaid marks words numbers marked ids) (known : r < 8) (there : r < length ids) (same : new.0 ≡ (get_or ids r d).0) (more : (get_or ids r d).1 ≤ new.1) where
   old_is : get_or ids r d ≡ kept_of ids r
   old_is = get_or_default ids r d (0, 0) there
 
   pub grown_whose : new.0 ≡ r
   grown_whose = same ∙ ap (λ (t : ℕ × ℕ). t.0) old_is ∙ is.whose r known
 
-  pub grown_laid : IsLaid words cuts (set ids r new)
+  pub grown_laid : IsLaid marks words numbers marked (set ids r new)
   grown_laid =
       let count : (get_or ids r d).1 ≡ (kept_of ids r).1 = ap (λ (t : ℕ × ℕ). t.1) old_is in
-      laid_grown words cuts ids (set ids r new) is (grows ids r new there (same ∙ ap (λ (t : ℕ × ℕ). t.0) old_is) (omega arith))
+      laid_grown ids (set ids r new) (grows ids r new there (same ∙ ap (λ (t : ℕ × ℕ). t.0) old_is) (omega arith)) marks words numbers marked is
 
-  pub grown_ready : (n : ℕ) → n ≤ new.1 → n ≤ (kept_of (set ids r new) r).1
-  grown_ready n le =
+  pub grown_ready : (n : ℕ) → 0 < n → n ≤ new.1 → AreIds (set ids r new) r n
+  grown_ready n some le =
       let count : (kept_of (set ids r new) r).1 ≡ new.1 = ap (λ (t : ℕ × ℕ). t.1) (get_or-set_same ids r new (0, 0) there) in
-      omega arith
+      record { known = known; some = some; ready = omega arith }
 
--- the stretches end within the words
-pub end_within : (words : List ℕ) (ids : List (ℕ × ℕ)) (start : ℕ) (cuts : List Cut) → start ≤ length words → All (IsCut words ids) cuts → end_of start cuts ≤ length words
-end_within words ids start [] le all = le
-end_within words ids start (c ∷ cuts) le all =
-    let here = All-head (IsCut words ids) c cuts all in
-    end_within words ids c.end cuts here.within (All-tail (IsCut words ids) c cuts all)
+-- ## The marks' texts, and the words behind them
 
--- ## Further words
+abbrev marked_text : List Mark → (words numbers : List ℕ) → List ℕ
+marked_text [] words numbers = []
+marked_text (m ∷ marks) words numbers = mark_text m words numbers ++ marked_text marks (drop (words_of m) words) (drop (numbers_of m) numbers)
 
-module _ (words more : List ℕ) (ids : List (ℕ × ℕ)) where
-  cut_longer : (c : Cut) → IsCut words ids c → IsCut (words ++ more) ids c
-  cut_longer c is = record { within = omega (arith, is.within, length-append words more); known = is.known; ready = is.ready }
+drop_both : (m n : ℕ) (xs : List ℕ) → drop n (drop m xs) ≡ drop (m + n) xs
+drop_both m n xs = drop-drop n m xs
 
-  stretch_same : (start : ℕ) (c : Cut) → start ≤ c.end → IsCut words ids c → stretch_of (words ++ more) start c ≡ stretch_of words start c
-  stretch_same start c le is =
-      ap (λ (t : List ℕ). (t, front c.behind c.replica c.count))
-      (ap (take (c.end - start)) (drop-append-le start words more (omega (arith, le, is.within)))
-      ∙ take-append-le (c.end - start) (drop start words) more (omega (arith, le, is.within, length-drop start words)))
+text_split : (marks : List Mark) (words numbers : List ℕ) → laid_text marks words numbers ≡ marked_text marks words numbers ++ drop (words_in marks) words
+text_split [] words numbers = refl
+text_split (m ∷ marks) words numbers =
+    let w = drop (words_of m) words in
+    let n = drop (numbers_of m) numbers in
+    ap (λ t. mark_text m words numbers ++ t) (text_split marks w n)
+    ∙ sym (append_assoc (mark_text m words numbers) (marked_text marks w n) (drop (words_in marks) w))
+    ∙ ap (λ t. (mark_text m words numbers ++ marked_text marks w n) ++ t) (drop_both (words_of m) (words_in marks) words)
 
-  stretches_same : (start : ℕ) (cuts : List Cut) → AreOrdered start cuts → All (IsCut words ids) cuts → stretches_from (words ++ more) start cuts ≡ stretches_from words start cuts
-  stretches_same start [] ordered all = refl
-  stretches_same start (c ∷ cuts) ordered all =
-      let here = stretch_same start c ordered.0 (All-head (IsCut words ids) c cuts all) in
-      let rest = stretches_same c.end cuts ordered.1 (All-tail (IsCut words ids) c cuts all) in
-      cc
+-- a mark that is ready takes no more words and numbers than there are
+module _ (ids : List (ℕ × ℕ)) where
+  enough_words : (m : Mark) (words numbers : List ℕ) → IsReady ids m words numbers → words_of m ≤ length words
+  enough_words (Words n) words numbers is = is.1
+  enough_words (Ids r) words numbers is = omega arith
+  enough_words (MoreIds r) words numbers is = omega arith
+  enough_words Counted words numbers is = omega arith
+  enough_words Ignored words numbers is = omega arith
+  enough_words Kept words numbers is = omega arith
+  enough_words Yes words numbers is = omega arith
 
-  pub joined_words : (cuts : List Cut) → IsLaid words cuts ids → joined (parts_of (words ++ more) cuts) ≡ joined (parts_of words cuts) ++ more
-  unfolding joined
-  joined_words cuts is =
-      ap (λ ss. flat_map stretch_text ss ++ drop (end_of 0 cuts) (words ++ more)) (stretches_same 0 cuts is.ordered is.each)
-      ∙ ap (λ t. flat_map stretch_text (stretches_from words 0 cuts) ++ t) (drop-append-le (end_of 0 cuts) words more (end_within words ids 0 cuts (omega arith) is.each))
-      ∙ sym (append_assoc (flat_map stretch_text (stretches_from words 0 cuts)) (drop (end_of 0 cuts) words) more)
+  enough_numbers : (m : Mark) (words numbers : List ℕ) → IsReady ids m words numbers → numbers_of m ≤ length numbers
+  enough_numbers (Words n) words numbers is = omega arith
+  enough_numbers (Ids r) words numbers is = is.0
+  enough_numbers (MoreIds r) words numbers is = is.0
+  enough_numbers Counted words numbers is = is
+  enough_numbers Ignored words numbers is = is
+  enough_numbers Kept words numbers is = is
+  enough_numbers Yes words numbers is = is
 
-  pub laid_words : (cuts : List Cut) → IsLaid words cuts ids → IsUtf8 more → IsLaid (words ++ more) cuts ids
-  laid_words cuts is utf8 = record {
-    each = All-weaker (IsCut words ids) (IsCut (words ++ more) ids) cut_longer cuts is.each;
-    ordered = is.ordered;
+  pub words_within : (marks : List Mark) (words numbers : List ℕ) → AreReady ids marks words numbers → words_in marks ≤ length words
+  words_within [] words numbers is = omega arith
+  words_within (m ∷ marks) words numbers is =
+      omega (arith, enough_words m words numbers is.0, words_within marks (drop (words_of m) words) (drop (numbers_of m) numbers) is.1, length-drop (words_of m) words)
+
+-- what is kept has no more words with a mark than words
+pub marked_within : (marks : List Mark) (words numbers : List ℕ) (marked : ℕ) (ids : List (ℕ × ℕ)) → IsLaid marks words numbers marked ids → marked ≤ length words
+marked_within marks words numbers marked ids is = omega (arith, is.all, words_within ids marks words numbers is.each)
+
+-- nothing was added
+pub laid_same : (marks new : List Mark) (words numbers all_numbers : List ℕ) (marked : ℕ) (ids : List (ℕ × ℕ)) → IsLaid marks words numbers marked ids → new ≡ marks → all_numbers ≡ numbers → IsLaid new words all_numbers marked ids
+laid_same marks new words numbers all_numbers marked ids is same_marks same_numbers = rw (same_marks, same_numbers) is
+
+-- ## Further words and numbers
+
+module _ (ids : List (ℕ × ℕ)) (words numbers ws ns : List ℕ) where
+  -- what a mark takes stays the same
+  mark_same : (m : Mark) → IsReady ids m words numbers → mark_text m (words ++ ws) (numbers ++ ns) ≡ mark_text m words numbers
+  mark_same (Words n) is = take-append-le n words ws is.1
+  mark_same (Ids r) is = ap (front false r) (get_or_append_left numbers ns 0 0 is.0)
+  mark_same (MoreIds r) is = ap (front true r) (get_or_append_left numbers ns 0 0 is.0)
+  mark_same Counted is = ap (λ k. plain_line k plain.Counted) (get_or_append_left numbers ns 0 0 is)
+  mark_same Ignored is = ap (λ k. plain_line k plain.Ignored) (get_or_append_left numbers ns 0 0 is)
+  mark_same Kept is = ap (λ k. plain_line k plain.Kept) (get_or_append_left numbers ns 0 0 is)
+  mark_same Yes is =
+      ap (λ k. plain_line k (plain.Yes (get_or (numbers ++ ns) 1 0))) (get_or_append_left numbers ns 0 0 (omega arith))
+      ∙ ap (λ k. plain_line (get_or numbers 0 0) (plain.Yes k)) (get_or_append_left numbers ns 0 1 is)
+
+  ids_same : (r : ℕ) → 1 ≤ length numbers → AreIds ids r (get_or numbers 0 0) → AreIds ids r (get_or (numbers ++ ns) 0 0)
+  ids_same r some is = subst (AreIds ids r) (sym (get_or_append_left numbers ns 0 0 some)) is
+
+  ready_same : (m : Mark) → IsReady ids m words numbers → IsReady ids m (words ++ ws) (numbers ++ ns)
+  ready_same (Words n) is = (is.0, omega (arith, is.1, length-append words ws))
+  ready_same (Ids r) is = (omega (arith, is.0, length-append numbers ns), ids_same r is.0 is.1)
+  ready_same (MoreIds r) is = (omega (arith, is.0, length-append numbers ns), ids_same r is.0 is.1)
+  ready_same Counted is = omega (arith, length-append numbers ns)
+  ready_same Ignored is = omega (arith, length-append numbers ns)
+  ready_same Kept is = omega (arith, length-append numbers ns)
+  ready_same Yes is = omega (arith, length-append numbers ns)
+
+-- marks behind others, whose words come behind those of the others, and whose numbers too
+module _ (ids : List (ℕ × ℕ)) (more : List Mark) (ws ns : List ℕ) where
+  pub text_append : (marks : List Mark) (words numbers : List ℕ) → AreReady ids marks words numbers
+      → laid_text (marks ++ more) (words ++ ws) (numbers ++ ns) ≡ marked_text marks words numbers ++ laid_text more (drop (words_in marks) words ++ ws) ns
+  text_append [] words numbers is = ap (λ n. laid_text more (words ++ ws) (n ++ ns)) is
+  text_append (m ∷ marks) words numbers is =
+      let w = drop (words_of m) words in
+      let n = drop (numbers_of m) numbers in
+      ap (λ t. t ++ laid_text (marks ++ more) (drop (words_of m) (words ++ ws)) (drop (numbers_of m) (numbers ++ ns))) (mark_same ids words numbers ws ns m is.0)
+      ∙ ap (λ t. mark_text m words numbers ++ laid_text (marks ++ more) t (drop (numbers_of m) (numbers ++ ns))) (drop-append-le (words_of m) words ws (enough_words ids m words numbers is.0))
+      ∙ ap (λ t. mark_text m words numbers ++ laid_text (marks ++ more) (w ++ ws) t) (drop-append-le (numbers_of m) numbers ns (enough_numbers ids m words numbers is.0))
+      ∙ ap (λ t. mark_text m words numbers ++ t) (text_append marks w n is.1)
+      ∙ sym (append_assoc (mark_text m words numbers) (marked_text marks w n) (laid_text more (drop (words_in marks) w ++ ws) ns))
+      ∙ ap (λ t. (mark_text m words numbers ++ marked_text marks w n) ++ laid_text more (t ++ ws) ns) (drop_both (words_of m) (words_in marks) words)
+
+  pub ready_append : (marks : List Mark) (words numbers : List ℕ) → AreReady ids marks words numbers → AreReady ids more (drop (words_in marks) words ++ ws) ns → AreReady ids (marks ++ more) (words ++ ws) (numbers ++ ns)
+  ready_append [] words numbers is next = subst (λ n. AreReady ids more (words ++ ws) (n ++ ns)) (sym is) next
+  ready_append (m ∷ marks) words numbers is next =
+      let w = drop (words_of m) words in
+      let n = drop (numbers_of m) numbers in
+      let next_is = subst (λ t. AreReady ids more (t ++ ws) ns) (sym (drop_both (words_of m) (words_in marks) words)) next in
+      let rest = ready_append marks w n is.1 next_is in (
+        ready_same ids words numbers ws ns m is.0,
+        subst (λ t. AreReady ids (marks ++ more) t (drop (numbers_of m) (numbers ++ ns))) (sym (drop-append-le (words_of m) words ws (enough_words ids m words numbers is.0)))
+            (subst (λ t. AreReady ids (marks ++ more) (w ++ ws) t) (sym (drop-append-le (numbers_of m) numbers ns (enough_numbers ids m words numbers is.0))) rest),
+      )
+
+-- ## Words behind all
+
+module _ (marks : List Mark) (words more numbers : List ℕ) (marked : ℕ) (ids : List (ℕ × ℕ)) (is : IsLaid marks words numbers marked ids) where
+  pub text_words : laid_text marks (words ++ more) numbers ≡ laid_text marks words numbers ++ more
+  text_words =
+      ap (λ ms. laid_text ms (words ++ more) numbers) (sym (append-nil marks))
+      ∙ ap (λ n. laid_text (marks ++ []) (words ++ more) n) (sym (append-nil numbers))
+      ∙ text_append ids [] more [] marks words numbers is.each
+      ∙ sym (append_assoc (marked_text marks words numbers) (drop (words_in marks) words) more)
+      ∙ ap (λ t. t ++ more) (sym (text_split marks words numbers))
+
+  pub laid_words : IsUtf8 more → IsLaid marks (words ++ more) numbers marked ids
+  laid_words utf8 = record {
+    each =
+        subst (λ ms. AreReady ids ms (words ++ more) numbers) (append-nil marks)
+        (subst (λ n. AreReady ids (marks ++ []) (words ++ more) n) (append-nil numbers) (ready_append ids [] more [] marks words numbers is.each refl));
     whose = is.whose;
-    utf8 = subst IsUtf8 (sym (joined_words cuts is)) (IsUtf8-append _ _ is.utf8 utf8);
+    all = is.all;
+    utf8 = subst IsUtf8 (sym text_words) (IsUtf8-append _ _ is.utf8 utf8);
   }
 
 -- words that were added, unless memory was refused
-module _ {T E : Type 0} (r : Result T E) (words more text new : List ℕ) (cuts : List Cut) (ids : List (ℕ × ℕ)) (is : IsLaid words cuts ids) (same : more ≡ text) where
-  pub laid_if : IsUtf8 text → new ≡ cond (is_ok r) (words ++ more) words → IsLaid new cuts ids
-  laid_if utf8 is_new = subst (λ ws. IsLaid ws cuts ids) (sym is_new) (by_case (is_ok r))
+module _ {T E : Type 0} (r : Result T E) (marks : List Mark) (words more text new numbers : List ℕ) (marked : ℕ) (ids : List (ℕ × ℕ)) (is : IsLaid marks words numbers marked ids) (same : more ≡ text) where
+  pub laid_if : IsUtf8 text → new ≡ cond (is_ok r) (words ++ more) words → IsLaid marks new numbers marked ids
+  laid_if utf8 is_new = subst (λ ws. IsLaid marks ws numbers marked ids) (sym is_new) (by_case (is_ok r))
     where
-      by_case : (b : Bool) → IsLaid (cond b (words ++ more) words) cuts ids
-      by_case true = laid_words words more ids cuts is (subst IsUtf8 (sym same) utf8)
+      by_case : (b : Bool) → IsLaid marks (cond b (words ++ more) words) numbers marked ids
+      by_case true = laid_words marks words more numbers marked ids is (subst IsUtf8 (sym same) utf8)
       by_case false = is
 
-pub joined_if : {T E : Type 0} (r : Result T E) (words more text new : List ℕ) (cuts : List Cut) (ids : List (ℕ × ℕ)) (old : Parts) → IsLaid words cuts ids → more ≡ text → parts_of words cuts ≡ old → new ≡ cond (is_ok r) (words ++ more) words → OnOk r (joined (parts_of new cuts) ≡ joined old ++ text)
-joined_if (Ok x) words more text new cuts ids old is same view is_new =
-    ap (λ ws. joined (parts_of ws cuts)) is_new ∙ joined_words words more ids cuts is ∙ ap (λ p. joined p ++ more) view ∙ ap (λ t. joined old ++ t) same
-joined_if (Err e) words more text new cuts ids old is same view is_new = tt
+pub text_if : {T E : Type 0} (r : Result T E) (marks : List Mark) (words more text new numbers : List ℕ) (marked : ℕ) (ids : List (ℕ × ℕ)) (old : List ℕ) → IsLaid marks words numbers marked ids → more ≡ text → laid_text marks words numbers ≡ old → new ≡ cond (is_ok r) (words ++ more) words → OnOk r (laid_text marks new numbers ≡ old ++ text)
+text_if (Ok x) marks words more text new numbers marked ids old is same view is_new =
+    ap (λ ws. laid_text marks ws numbers) is_new ∙ text_words marks words more numbers marked ids is ∙ ap (λ t. t ++ more) view ∙ ap (λ t. old ++ t) same
+text_if (Err e) marks words more text new numbers marked ids old is same view is_new = tt
 
--- ## A further stretch
+-- ## A further mark
 
-stretches_push : (words : List ℕ) (start : ℕ) (cuts : List Cut) (c : Cut) → stretches_from words start (cuts ++ c ∷ []) ≡ stretches_from words start cuts ++ stretch_of words (end_of start cuts) c ∷ []
-stretches_push words start [] c = refl
-stretches_push words start (d ∷ cuts) c = ap (λ ss. stretch_of words start d ∷ ss) (stretches_push words d.end cuts c)
+-- a mark that takes no words says the same whatever words are left
+text_alone : (m : Mark) (words numbers : List ℕ) → words_of m ≡ 0 → mark_text m words numbers ≡ mark_text m [] numbers
+text_alone (Words n) words numbers none = rw none refl
+text_alone (Ids r) words numbers none = refl
+text_alone (MoreIds r) words numbers none = refl
+text_alone Counted words numbers none = refl
+text_alone Ignored words numbers none = refl
+text_alone Kept words numbers none = refl
+text_alone Yes words numbers none = refl
 
-end_push : (start : ℕ) (cuts : List Cut) (c : Cut) → end_of start (cuts ++ c ∷ []) ≡ c.end
-end_push start [] c = refl
-end_push start (d ∷ cuts) c = end_push d.end cuts c
+no_words_left : (words : List ℕ) → 0 ≡ length words → words ≡ []
+no_words_left [] none = refl
+no_words_left (w ∷ words) none = absurd (omega arith)
 
-ordered_push : (start : ℕ) (cuts : List Cut) (c : Cut) → AreOrdered start cuts → end_of start cuts ≤ c.end → AreOrdered start (cuts ++ c ∷ [])
-ordered_push start [] c ordered le = (le, tt)
-ordered_push start (d ∷ cuts) c ordered le = (ordered.0, ordered_push d.end cuts c ordered.1 le)
+-- runs of all words that are left, and then a mark that takes no words
+module _ (m : Mark) (numbers : List ℕ) (no_words : words_of m ≡ 0) where
+  runs_text : (runs : List Mark) (words : List ℕ) → All IsRun runs → words_in runs ≡ length words → laid_text (runs ++ m ∷ []) words numbers ≡ words ++ mark_text m [] numbers
+  runs_text [] words each all =
+      rw (no_words_left words all) (ap (λ t. mark_text m [] numbers ++ t) (drop_all (words_of m) [] (omega arith)) ∙ append-nil (mark_text m [] numbers))
+  runs_text (Words n ∷ runs) words each all =
+      let rest : words_in runs ≡ length (drop n words) = omega (arith, length-drop n words) in
+      ap (λ t. take n words ++ t) (runs_text runs (drop n words) (All-tail IsRun (Words n) runs each) rest)
+      ∙ sym (append_assoc (take n words) (drop n words) (mark_text m [] numbers))
+      ∙ ap (λ t. t ++ mark_text m [] numbers) (take-append-drop n words)
+  runs_text (Ids r ∷ runs) words each all = absurd (All-head IsRun (Ids r) runs each)
+  runs_text (MoreIds r ∷ runs) words each all = absurd (All-head IsRun (MoreIds r) runs each)
+  runs_text (Counted ∷ runs) words each all = absurd (All-head IsRun Counted runs each)
+  runs_text (Ignored ∷ runs) words each all = absurd (All-head IsRun Ignored runs each)
+  runs_text (Kept ∷ runs) words each all = absurd (All-head IsRun Kept runs each)
+  runs_text (Yes ∷ runs) words each all = absurd (All-head IsRun Yes runs each)
 
-module _ (words : List ℕ) (cuts : List Cut) (b : Bool) (r n : ℕ) where
-  abbrev next_cut : Cut
-  next_cut = record { end = length words; count = n; replica = r; behind = b }
+  module _ (ids : List (ℕ × ℕ)) (ready : IsReady ids m [] numbers) (takes : length numbers ≡ numbers_of m) where
+    runs_ready : (runs : List Mark) (words : List ℕ) → All IsRun runs → words_in runs ≡ length words → AreReady ids (runs ++ m ∷ []) words numbers
+    runs_ready [] words each all = rw (no_words_left words all) (ready, drop_all (numbers_of m) numbers (omega arith))
+    runs_ready (Words n ∷ runs) words each all =
+        let rest : words_in runs ≡ length (drop n words) = omega (arith, length-drop n words) in
+        ((All-head IsRun (Words n) runs each, omega arith), runs_ready runs (drop n words) (All-tail IsRun (Words n) runs each) rest)
+    runs_ready (Ids r ∷ runs) words each all = absurd (All-head IsRun (Ids r) runs each)
+    runs_ready (MoreIds r ∷ runs) words each all = absurd (All-head IsRun (MoreIds r) runs each)
+    runs_ready (Counted ∷ runs) words each all = absurd (All-head IsRun Counted runs each)
+    runs_ready (Ignored ∷ runs) words each all = absurd (All-head IsRun Ignored runs each)
+    runs_ready (Kept ∷ runs) words each all = absurd (All-head IsRun Kept runs each)
+    runs_ready (Yes ∷ runs) words each all = absurd (All-head IsRun Yes runs each)
 
-  pub joined_cut : joined (parts_of words (cuts ++ next_cut ∷ [])) ≡ joined (parts_of words cuts) ++ front b r n
-  unfolding joined
-  joined_cut =
-      let stretches = stretches_from words 0 cuts in
-      let before = flat_map stretch_text stretches in
-      let start = end_of 0 cuts in
-      ap (λ ss. flat_map stretch_text ss ++ drop (end_of 0 (cuts ++ next_cut ∷ [])) words) (stretches_push words 0 cuts next_cut)
-      ∙ ap (λ k. flat_map stretch_text (stretches ++ stretch_of words start next_cut ∷ []) ++ drop k words) (end_push 0 cuts next_cut)
-      ∙ ap (λ t. t ++ drop (length words) words) (flat_map-append stretch_text stretches (stretch_of words start next_cut ∷ []))
-      ∙ ap (λ t. (before ++ ((take (length words - start) (drop start words) ++ front b r n) ++ [])) ++ t) (drop_all (length words) words (omega arith))
-      ∙ append-nil _
-      ∙ ap (λ t. before ++ t) (append-nil _)
-      ∙ ap (λ t. before ++ (t ++ front b r n)) (take_rest words start)
-      ∙ sym (append_assoc before (drop start words) (front b r n))
+words_in-append : (xs ys : List Mark) → words_in (xs ++ ys) ≡ words_in xs + words_in ys
+words_in-append [] ys = omega arith
+words_in-append (x ∷ xs) ys = omega (arith, words_in-append xs ys)
 
-  pub laid_cut : (ids : List (ℕ × ℕ)) → IsLaid words cuts ids → r < 8 → n ≤ (kept_of ids r).1 → IsUtf8 (front b r n) → IsLaid words (cuts ++ next_cut ∷ []) ids
-  laid_cut ids is known ready utf8 = record {
-    each = All-push (IsCut words ids) cuts next_cut is.each (record { within = omega arith; known = known; ready = ready });
-    ordered = ordered_push 0 cuts next_cut is.ordered (end_within words ids 0 cuts (omega arith) is.each);
-    whose = is.whose;
-    utf8 = subst IsUtf8 (sym joined_cut) (IsUtf8-append _ _ is.utf8 utf8);
-  }
+-- a run more
+pub runs_more : (before marks after : List Mark) (count n all : ℕ) → AddsRuns count before marks → 0 < n → after ≡ marks ++ Words n ∷ [] → all ≡ count + n → AddsRuns all before after
+runs_more before marks after count n all adds some is sum = (
+  adds.0 ++ Words n ∷ [],
+  is ∙ ap (λ ms. ms ++ Words n ∷ []) adds.1 ∙ append_assoc before adds.0 (Words n ∷ []),
+  All-push IsRun adds.0 (Words n) adds.2 some,
+  omega (arith, adds.3, words_in-append adds.0 (Words n ∷ [])),
+)
 
--- the stretch that was added, and the list with it
-module _ (words : List ℕ) (cuts new : List Cut) (end : ℕ) (b : Bool) (r n : ℕ) (ends : end ≡ length words) (is_new : new ≡ cuts ++ (record { end = end; count = n; replica = r; behind = b }) ∷ []) where
-  same_cuts : new ≡ cuts ++ next_cut words cuts b r n ∷ []
-  same_cuts = is_new ∙ ap (λ k. cuts ++ (record { end = k; count = n; replica = r; behind = b }) ∷ []) ends
+-- the words that had no mark have one now, and a mark stands behind them
+module _ (marks new : List Mark) (words numbers more all_numbers : List ℕ) (marked count : ℕ) (ids : List (ℕ × ℕ)) (m : Mark) (is : IsLaid marks words numbers marked ids) (left : count ≡ length words - marked) (adds : AddsMark count m marks new) (is_numbers : all_numbers ≡ numbers ++ more) (no_words : words_of m ≡ 0) where
+  abbrev runs : List Mark
+  runs = adds.1.0
 
-  pub laid_next : (ids : List (ℕ × ℕ)) → IsLaid words cuts ids → r < 8 → n ≤ (kept_of ids r).1 → IsUtf8 (front b r n) → IsLaid words new ids
-  laid_next ids is known ready utf8 = subst (λ cs. IsLaid words cs ids) (sym same_cuts) (laid_cut words cuts b r n ids is known ready utf8)
+  abbrev words_left : List ℕ
+  words_left = drop (words_in marks) words
 
-  pub joined_next : (old : Parts) → parts_of words cuts ≡ old → joined (parts_of words new) ≡ joined old ++ front b r n
-  joined_next old view = ap (λ cs. joined (parts_of words cs)) same_cuts ∙ joined_cut words cuts b r n ∙ ap (λ p. joined p ++ front b r n) view
+  new_is : new ≡ marks ++ (runs ++ m ∷ [])
+  new_is = adds.2 ∙ ap (λ ms. ms ++ m ∷ []) adds.1.1 ∙ append_assoc marks runs (m ∷ [])
 
--- ## The pieces, one after another
+  all_left : words_in runs ≡ length (words_left ++ [])
+  all_left = omega (arith, adds.1.3, is.all, length-drop (words_in marks) words, length-append words_left [])
 
-pub join_more : (text words ids : List ℕ) (xs : List (List ℕ × List ℕ)) (i : ℕ) → text ≡ flat_map stretch_text (take i xs) → Some (words, ids) ≡ slice_get xs i → (text ++ words) ++ ids ≡ flat_map stretch_text (take (i + 1) xs)
-join_more text words ids xs i so_far here =
-    let lt : i < length xs = slice_get_within xs i (words, ids) (sym here) in
-    let is : get_or xs i (words, ids) ≡ (words, ids) = get_or_from_slice_get xs i (words, ids) (words, ids) (sym here) in
-    append_assoc text words ids
-    ∙ ap (λ t. t ++ (words ++ ids)) so_far
-    ∙ flat_map_more stretch_text [] (take i xs) (words, ids)
-    ∙ ap (λ (x : List ℕ × List ℕ). flat_map stretch_text (take i xs ++ x ∷ [])) (sym is)
-    ∙ ap (flat_map stretch_text) (sym (take_more xs i (words, ids) lt))
+  pub text_mark : laid_text new words all_numbers ≡ laid_text marks words numbers ++ mark_text m [] more
+  text_mark =
+      ap (λ ms. laid_text ms words all_numbers) new_is
+      ∙ ap (λ n. laid_text (marks ++ (runs ++ m ∷ [])) words n) is_numbers
+      ∙ ap (λ w. laid_text (marks ++ (runs ++ m ∷ [])) w (numbers ++ more)) (sym (append-nil words))
+      ∙ text_append ids (runs ++ m ∷ []) [] more marks words numbers is.each
+      ∙ ap (λ t. marked_text marks words numbers ++ t) (runs_text m more no_words runs (words_left ++ []) adds.1.2 all_left)
+      ∙ ap (λ t. marked_text marks words numbers ++ (t ++ mark_text m [] more)) (append-nil words_left)
+      ∙ sym (append_assoc (marked_text marks words numbers) words_left (mark_text m [] more))
+      ∙ ap (λ t. t ++ mark_text m [] more) (sym (text_split marks words numbers))
 
-pub join_all : (p : Parts) (i : ℕ) → length p.stretches ≤ i → flat_map stretch_text (take i p.stretches) ++ p.rest ≡ joined p
-unfolding joined
-join_all p i le = ap (λ xs. flat_map stretch_text xs ++ p.rest) (take_all i p.stretches le)
+  pub text_next : (old : List ℕ) → laid_text marks words numbers ≡ old → laid_text new words all_numbers ≡ old ++ mark_text m [] more
+  text_next old view = text_mark ∙ ap (λ t. t ++ mark_text m [] more) view
 
--- ## The stretch at a place
+  pub laid_mark : IsReady ids m [] more → length more ≡ numbers_of m → IsUtf8 (mark_text m [] more) → (at : ℕ) → at ≡ length words → IsLaid new words all_numbers at ids
+  laid_mark ready takes utf8 at end =
+      let there = runs_ready m more no_words ids ready takes runs (words_left ++ []) adds.1.2 all_left in
+      let each = ready_append ids (runs ++ m ∷ []) [] more marks words numbers is.each there in
+      let within = words_within ids marks words numbers is.each in
+      let sum : words_in new ≡ words_in (marks ++ (runs ++ m ∷ [])) = ap words_in new_is in
+      record {
+        each =
+            subst (λ ms. AreReady ids ms words all_numbers) (sym new_is)
+            (subst (λ n. AreReady ids (marks ++ (runs ++ m ∷ [])) words n) (sym is_numbers)
+            (subst (λ w. AreReady ids (marks ++ (runs ++ m ∷ [])) w (numbers ++ more)) (append-nil words) each));
+        whose = is.whose;
+        all = omega (arith, sum, within, is.all, adds.1.3, words_in-append marks (runs ++ m ∷ []), words_in-append runs (m ∷ []));
+        utf8 = subst IsUtf8 (sym text_mark) (IsUtf8-append _ _ is.utf8 utf8);
+      }
 
-pub length_stretches : (words : List ℕ) (start : ℕ) (cuts : List Cut) → length (stretches_from words start cuts) ≡ length cuts
-length_stretches words start [] = refl
-length_stretches words start (c ∷ cuts) = ap suc (length_stretches words c.end cuts)
+-- the mark of ids
+module _ (b : Bool) (r n : ℕ) where
+  ids_text_is : mark_text (ids_mark b r) [] (n ∷ []) ≡ front b r n
+  ids_text_is = elim b as (λ v. mark_text (ids_mark v r) [] (n ∷ []) ≡ front v r n) [ true ↦ refl | false ↦ refl ]
 
--- where it begins, and where the stretches before it end
-pub end_at : (start : ℕ) (cuts : List Cut) (i : ℕ) (d : Cut) → i < length cuts → (get_or cuts i d).end ≡ end_of start (take (suc i) cuts)
-end_at start [] i d lt = absurd (omega arith)
-end_at start (c ∷ cuts) zero d lt = refl
-end_at start (c ∷ cuts) (suc i) d lt = end_at c.end cuts i d (omega arith)
+  no_ids_words : words_of (ids_mark b r) ≡ 0
+  no_ids_words = elim b as (λ v. words_of (ids_mark v r) ≡ 0) [ true ↦ refl | false ↦ refl ]
 
-stretches_at : (words : List ℕ) (start : ℕ) (cuts : List Cut) (place : ℕ) (cut : Cut) → place < length cuts → cut ≡ get_or cuts place cut → Some (stretch_of words (end_of start (take place cuts)) cut) ≡ slice_get (stretches_from words start cuts) place
-stretches_at words start [] place cut lt read = absurd (omega arith)
-stretches_at words start (c ∷ cuts) zero cut lt read = ap (λ (k : Cut). Some (stretch_of words start k)) read
-stretches_at words start (c ∷ cuts) (suc place) cut lt read = stretches_at words c.end cuts place cut (omega arith) read
+  one_number : 1 ≡ numbers_of (ids_mark b r)
+  one_number = elim b as (λ v. 1 ≡ numbers_of (ids_mark v r)) [ true ↦ refl | false ↦ refl ]
 
-pub no_stretch_at : (words : List ℕ) (cuts : List Cut) (place : ℕ) (now : Parts) → parts_of words cuts ≡ now → length cuts ≤ place → None ≡ slice_get now.stretches place
-no_stretch_at words cuts place now view le =
-    let past : length (stretches_from words 0 cuts) ≤ place = omega (arith, le, length_stretches words 0 cuts) in
-    sym (slice_get_past (stretches_from words 0 cuts) place past) ∙ ap (λ (p : Parts). slice_get p.stretches place) view
+  ids_ready : (ids : List (ℕ × ℕ)) → AreIds ids r n → IsReady ids (ids_mark b r) [] (n ∷ [])
+  ids_ready ids is =
+      let one : 1 ≤ length (n ∷ []) = omega arith in
+      elim b as (λ v. IsReady ids (ids_mark v r) [] (n ∷ [])) [ true ↦ (one, is) | false ↦ (one, is) ]
 
-pub ordered_at : (start : ℕ) (cuts : List Cut) (place : ℕ) (cut : Cut) → place < length cuts → cut ≡ get_or cuts place cut → AreOrdered start cuts → end_of start (take place cuts) ≤ cut.end
-ordered_at start [] place cut lt read ordered = absurd (omega arith)
-ordered_at start (c ∷ cuts) zero cut lt read ordered = subst (λ (k : Cut). start ≤ k.end) (sym read) ordered.0
-ordered_at start (c ∷ cuts) (suc place) cut lt read ordered = ordered_at c.end cuts place cut (omega arith) read ordered.1
+module _ (marks new : List Mark) (words numbers all_numbers : List ℕ) (marked count : ℕ) (ids : List (ℕ × ℕ)) (b : Bool) (r n : ℕ) (m : Mark) (m_is : m ≡ ids_mark b r) (is : IsLaid marks words numbers marked ids) (left : count ≡ length words - marked) (adds : AddsMark count m marks new) (is_numbers : all_numbers ≡ numbers ++ n ∷ []) where
+  adds_ids : AddsMark count (ids_mark b r) marks new
+  adds_ids = subst (λ k. AddsMark count k marks new) m_is adds
 
-module _ (words : List ℕ) (cuts : List Cut) (ids : List (ℕ × ℕ)) (place : ℕ) (cut : Cut) (lt : place < length cuts) (read : cut ≡ get_or cuts place cut) where
-  pub cut_at : IsLaid words cuts ids → IsCut words ids cut
-  cut_at is = subst (IsCut words ids) (sym read) (is.each place cut lt)
+  pub ids_next : (old : List ℕ) → laid_text marks words numbers ≡ old → laid_text new words all_numbers ≡ old ++ front b r n
+  ids_next old view =
+      text_next marks new words numbers (n ∷ []) all_numbers marked count ids (ids_mark b r) is left adds_ids is_numbers (no_ids_words b r n) old view
+      ∙ ap (λ t. old ++ t) (ids_text_is b r n)
 
-  pub stretch_at : (now : Parts) → parts_of words cuts ≡ now → (some_words some_ids : List ℕ) → (start : ℕ) → start ≡ end_of 0 (take place cuts) → some_words ≡ take (cut.end - start) (drop start words) → some_ids ≡ front cut.behind cut.replica cut.count
-      → Some (some_words, some_ids) ≡ slice_get now.stretches place
-  stretch_at now view some_words some_ids start begins words_is ids_is =
-      ap (λ (t : List ℕ). Some (t, some_ids)) words_is
-      ∙ ap (λ (t : List ℕ). Some (take (cut.end - start) (drop start words), t)) ids_is
-      ∙ ap (λ k. Some (stretch_of words k cut)) begins
-      ∙ stretches_at words 0 cuts place cut lt read
-      ∙ ap (λ (p : Parts). slice_get p.stretches place) view
+  pub ids_laid : AreIds ids r n → IsUtf8 (front b r n) → (at : ℕ) → at ≡ length words → IsLaid new words all_numbers at ids
+  ids_laid ready utf8 at end =
+      laid_mark marks new words numbers (n ∷ []) all_numbers marked count ids (ids_mark b r) is left adds_ids is_numbers (no_ids_words b r n)
+      (ids_ready b r n ids ready) (one_number b r n) (subst IsUtf8 (sym (ids_text_is b r n)) utf8) at end
 
-  pub ids_at : IsLaid words cuts ids → (d : ℕ × ℕ) → cut.replica < length ids → (get_or ids cut.replica d).0 ≡ cut.replica
-  ids_at is d there =
-      let c = cut_at is in
-      ap (λ (t : ℕ × ℕ). t.0) (get_or_default ids cut.replica d (0, 0) there) ∙ is.whose cut.replica c.known
+-- the mark of a line
+line_no_words : (m : Mark) (numbers : List ℕ) → IsLine m numbers → words_of m ≡ 0
+line_no_words (Words n) numbers is = absurd is
+line_no_words (Ids r) numbers is = refl
+line_no_words (MoreIds r) numbers is = refl
+line_no_words Counted numbers is = refl
+line_no_words Ignored numbers is = refl
+line_no_words Kept numbers is = refl
+line_no_words Yes numbers is = refl
+
+line_takes : (m : Mark) (numbers : List ℕ) → IsLine m numbers → length numbers ≡ numbers_of m
+line_takes (Words n) numbers is = absurd is
+line_takes (Ids r) numbers is = absurd is
+line_takes (MoreIds r) numbers is = absurd is
+line_takes Counted numbers is = is
+line_takes Ignored numbers is = is
+line_takes Kept numbers is = is
+line_takes Yes numbers is = is
+
+line_ready : (ids : List (ℕ × ℕ)) (m : Mark) (numbers : List ℕ) → IsLine m numbers → IsReady ids m [] numbers
+line_ready ids (Words n) numbers is = absurd is
+line_ready ids (Ids r) numbers is = absurd is
+line_ready ids (MoreIds r) numbers is = absurd is
+line_ready ids Counted numbers is = omega arith
+line_ready ids Ignored numbers is = omega arith
+line_ready ids Kept numbers is = omega arith
+line_ready ids Yes numbers is = omega arith
+
+module _ (marks new : List Mark) (words numbers more all_numbers : List ℕ) (marked count : ℕ) (ids : List (ℕ × ℕ)) (m : Mark) (line : IsLine m more) (is : IsLaid marks words numbers marked ids) (left : count ≡ length words - marked) (adds : AddsMark count m marks new) (is_numbers : all_numbers ≡ numbers ++ more) where
+  pub line_next : (old : List ℕ) → laid_text marks words numbers ≡ old → laid_text new words all_numbers ≡ old ++ mark_text m [] more
+  line_next old view = text_next marks new words numbers more all_numbers marked count ids m is left adds is_numbers (line_no_words m more line) old view
+
+  pub line_laid : IsUtf8 (mark_text m [] more) → (at : ℕ) → at ≡ length words → IsLaid new words all_numbers at ids
+  line_laid utf8 at end =
+      laid_mark marks new words numbers more all_numbers marked count ids m is left adds is_numbers (line_no_words m more line) (line_ready ids m more line) (line_takes m more line) utf8 at end
+
+-- ## What a mark stands for is not empty
+
+pub mark_some : (ids : List (ℕ × ℕ)) (m : Mark) (words numbers : List ℕ) → IsReady ids m words numbers → 0 < length (mark_text m words numbers)
+mark_some ids (Words n) words numbers is = omega (arith, is.0, is.1, length-take n words)
+mark_some ids (Ids r) words numbers is = front_some false r (get_or numbers 0 0) is.1.some
+mark_some ids (MoreIds r) words numbers is = front_some true r (get_or numbers 0 0) is.1.some
+mark_some ids Counted words numbers is = line_some _ plain.Counted
+mark_some ids Ignored words numbers is = line_some _ plain.Ignored
+mark_some ids Kept words numbers is = line_some _ plain.Kept
+mark_some ids Yes words numbers is = line_some _ (plain.Yes _)

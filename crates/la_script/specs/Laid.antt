@@ -1,54 +1,64 @@
--- How a text in pieces is kept: all words one after another, and for each stretch where its words
--- end, and whose first ids stand behind them, and how many. The texts of the ids are kept ready.
-use Rattle.std.specs.Prelude.{◌≡◌, ℕ, ◌+◌, ◌-◌, ◌<◌, ◌≤◌, true, List, [], ◌∷◌, length, take, drop, slice_index, slice_index_or, All}
+-- How a text in pieces is kept: marks, and all words and all numbers that they take, one after
+-- another. Words that no mark takes stand behind all else. The texts of the ids are kept ready.
+use Rattle.std.specs.Prelude.{◌≡◌, ℕ, ◌+◌, ◌<◌, ◌≤◌, true, List, [], ◌∷◌, ◌++◌, length, drop, slice_index, slice_index_or}
 use Rattle.std.specs.Str.{IsUtf8}
 use Rattle.la_set.specs.declared.set.TheConstants.{REPLICAS}
-use Rattle.la_script.specs.declared.pieces.Cut.{Cut}
-use Rattle.la_script.specs.Pieces.{front, Parts, joined}
+use Rattle.la_script.specs.declared.marks.Mark.{Mark}
+use Rattle.la_script.specs.declared.marks.Mark.TheVariants.{Words, Ids, MoreIds, Counted, Ignored, Kept, Yes}
+use Rattle.la_script.specs.Pieces.{front}
+use Rattle.la_script.specs.Marks.{words_of, numbers_of, mark_text, words_in}
 
 -- the text of a replica's first ids, each with a space before it, and the places where they end
 pub record IsIdText (replica : ℕ) (text ends : List ℕ) : Type 0 where
   pub is : text ≡ front true replica (length ends)
   pub each : (k : ℕ) → k < length ends → slice_index ends k ≡ length (front true replica (k + 1))
 
--- the stretch whose words begin at this place
-abbrev pub stretch_of : (words : List ℕ) → (start : ℕ) → Cut → List ℕ × List ℕ
-stretch_of words start c =
-    (take (c.end - start) (drop start words), front c.behind c.replica c.count)
-
--- the stretches, the first of which begins at this place, and each other one where the one before
--- it ends
-abbrev pub stretches_from : (words : List ℕ) → (start : ℕ) → List Cut → List (List ℕ × List ℕ)
-stretches_from words start [] = []
-stretches_from words start (c ∷ cuts) = stretch_of words start c ∷ stretches_from words c.end cuts
-
--- where the last of them ends
-abbrev pub end_of : (start : ℕ) → List Cut → ℕ
-end_of start [] = start
-end_of start (c ∷ cuts) = end_of c.end cuts
-
--- the words behind the last stretch are all that are left
-abbrev pub parts_of : (words : List ℕ) → List Cut → Parts
-parts_of words cuts =
-    record { stretches = stretches_from words 0 cuts; rest = drop (end_of 0 cuts) words }
+-- the text: each mark's in turn, and then the words that are left
+abbrev pub laid_text : List Mark → (words numbers : List ℕ) → List ℕ
+laid_text [] words numbers = words
+laid_text (m ∷ marks) words numbers =
+    mark_text m words numbers ++
+    laid_text marks (drop (words_of m) words) (drop (numbers_of m) numbers)
 
 -- of a replica, by its number: whose the kept text is, and how many ids it has
 abbrev pub kept_of : List (ℕ × ℕ) → ℕ → ℕ × ℕ
 kept_of ids r = slice_index_or ids r (0, 0)
 
--- none of them ends before it begins
-abbrev pub AreOrdered : (start : ℕ) → List Cut → Type 0
-AreOrdered start [] = Unit {0}
-AreOrdered start (c ∷ cuts) = (start ≤ c.end) × AreOrdered c.end cuts
+-- so many ids of a replica are ready, and there are some
+pub record AreIds (ids : List (ℕ × ℕ)) (replica count : ℕ) : Type 0 where
+  pub known : replica < REPLICAS
+  pub some : 0 < count
+  pub ready : count ≤ (kept_of ids replica).1
 
--- the stretch ends within the words, and its ids are ready
-pub record IsCut (words : List ℕ) (ids : List (ℕ × ℕ)) (c : Cut) : Type 0 where
-  pub within : c.end ≤ length words
-  pub known : c.replica < REPLICAS
-  pub ready : c.count ≤ (kept_of ids c.replica).1
+-- what a mark takes is there, and what it stands for is ready
+abbrev pub IsReady : (ids : List (ℕ × ℕ)) → Mark → (words numbers : List ℕ) → Type 0
+IsReady ids (Words n) words numbers = (0 < n) × (n ≤ length words)
+IsReady ids (Ids r) words numbers = (1 ≤ length numbers) × AreIds ids r (slice_index numbers 0)
+IsReady ids (MoreIds r) words numbers = (1 ≤ length numbers) × AreIds ids r (slice_index numbers 0)
+IsReady ids Counted words numbers = 1 ≤ length numbers
+IsReady ids Ignored words numbers = 1 ≤ length numbers
+IsReady ids Kept words numbers = 1 ≤ length numbers
+IsReady ids Yes words numbers = 2 ≤ length numbers
 
-pub record IsLaid (words : List ℕ) (cuts : List Cut) (ids : List (ℕ × ℕ)) : Type 0 where
-  pub each : All (IsCut words ids) cuts
-  pub ordered : AreOrdered 0 cuts
-  pub whose : (r : ℕ) → r < REPLICAS → (kept_of ids r).0 ≡ r
-  pub utf8 : IsUtf8 (joined (parts_of words cuts))
+-- each mark finds what it takes, and no number is left
+abbrev pub AreReady : (ids : List (ℕ × ℕ)) → List Mark → (words numbers : List ℕ) → Type 0
+AreReady ids [] words numbers = numbers ≡ []
+AreReady ids (m ∷ marks) words numbers =
+    IsReady ids m words numbers ×
+    AreReady ids marks (drop (words_of m) words) (drop (numbers_of m) numbers)
+
+-- each replica's text is its own
+abbrev pub AreOwn : (ids : List (ℕ × ℕ)) → Type 0
+AreOwn ids = (r : ℕ) → r < REPLICAS → (kept_of ids r).0 ≡ r
+
+-- a text that is walked along
+pub record IsWalked (marks : List Mark) (words numbers : List ℕ) (ids : List (ℕ × ℕ)) : Type 0 where
+  pub each : AreReady ids marks words numbers
+  pub whose : AreOwn ids
+
+-- a text that is kept; so many of its words have a mark
+pub record IsLaid (marks : List Mark) (words numbers : List ℕ) (marked : ℕ) (ids : List (ℕ × ℕ)) : Type 0 where
+  pub each : AreReady ids marks words numbers
+  pub whose : AreOwn ids
+  pub all : marked ≡ words_in marks
+  pub utf8 : IsUtf8 (laid_text marks words numbers)

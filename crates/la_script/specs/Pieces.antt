@@ -1,10 +1,7 @@
--- A text in pieces: words, and behind them ids of one replica, from its first on. What the ids of a
--- set say is a function of its counts, so each text of ids is a front of the text of a replica's
--- ids.
+-- A text in pieces: words, and ids of one replica, from its first on. What the ids of a set say is
+-- a function of its counts, so each text of ids is a front of the text of a replica's ids.
 use Rattle.std.specs.Prelude.{◌≡◌, ℕ, zero, suc, ◌++◌, Bool, true, false, List, [], ◌∷◌, if◌then◌else◌}
-use Rattle.std.specs.List.{flat_map}
 use Rattle.la_set.specs.declared.update.UpdateId.{UpdateId}
-use Rattle.la_script.specs.declared.pieces.Stretch.{Stretch}
 use Rattle.la_script.specs.Text.{others_text, ids_text}
 
 -- k ids of a replica, the first of which has the number n
@@ -30,23 +27,6 @@ abbrev pub ids_before : (counts : ℕ → ℕ) → (r : ℕ) → List UpdateId
 ids_before counts zero = []
 ids_before counts (suc r) = ids_before counts r ++ ids_from r 1 (counts r)
 
--- what a text in pieces is: stretches, each of words and the ids behind them, and the words behind
--- the last of them
-pub record Parts : Type 0 where
-  pub stretches : List (List ℕ × List ℕ)
-  pub rest : List ℕ
-
--- a stretch as it is given to a caller
-abbrev pub words_and_ids : Stretch → List ℕ × List ℕ
-words_and_ids s = (s.words.now, s.ids.now)
-
-abbrev pub stretch_text : List ℕ × List ℕ → List ℕ
-stretch_text s = s.0 ++ s.1
-
--- the pieces one after another
-unfoldable pub joined : Parts → List ℕ
-joined p = flat_map stretch_text p.stretches ++ p.rest
-
 -- the text was put behind what was there
-abbrev pub Adds : (before after : Parts) → (text : List ℕ) → Type 0
-Adds before after text = joined after ≡ joined before ++ text
+abbrev pub Adds : (before after text : List ℕ) → Type 0
+Adds before after text = after ≡ before ++ text

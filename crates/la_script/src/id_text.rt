@@ -1,5 +1,5 @@
 // The text of one replica's first ids, which is kept ready.
-ghost use Rattle.std.specs.Prelude.{◌≡◌, ℕ, ◌+◌, ◌<◌, ◌≤◌, ◌++◌, true, codes, length, OnOk, OnErr};
+ghost use Rattle.std.specs.Prelude.{◌≡◌, ℕ, ◌+◌, ◌<◌, ◌≤◌, ◌++◌, [], ◌∷◌, true, codes, length, OnOk, OnErr};
 ghost use Rattle.la_script.specs.Text.{id_text};
 ghost use Rattle.la_script.specs.Pieces.{front};
 
@@ -18,7 +18,7 @@ pub struct IdText {
     replica: u8,
     text: Vec<u8>,
     // Where each id ends.
-    ends: Vec<usize>,
+    ends: Vec<u32>,
 }
 
 impl Model for IdText {
@@ -44,6 +44,18 @@ fn piece_of(replica: u8, number: usize) -> IdPiece
     piece.push_str(".");
     piece.push_str(Buffer::new().format(number));
     piece
+}
+
+// Adds where an id ends: refused also where that is 2^32 or more.
+fn push_end(ends: &mut Vec<u32>, end: usize) -> Result<(), AllocError>
+    ensures ok { OnOk result (ends.new.items ≡ ends.old.items ++ end ∷ []) }
+    ensures err { OnErr result (ends.new.items ≡ ends.old.items) }
+{
+    let Ok(end) = u32::try_from(end) else {
+        return Err(AllocError);
+    };
+    ends.push(end)?;
+    Ok(())
 }
 
 impl IdText {
@@ -91,7 +103,7 @@ impl IdText {
         ensures ids { result.now ≡ front true self.now.0 count }
         ensures some { 0 < length result.now }
     {
-        &self.text[..self.ends[count - 1]]
+        &self.text[..self.ends[count - 1] as usize]
     }
 
     fn len(&self) -> usize
@@ -109,7 +121,7 @@ impl IdText {
         let before = self.text.len();
         let piece = piece_of(self.replica, number);
         self.text.extend_from_slice(piece.as_str().as_bytes())?;
-        if self.ends.push(self.text.len()).is_err() {
+        if push_end(&mut self.ends, self.text.len()).is_err() {
             self.text.truncate(before);
             return Err(AllocError);
         }

@@ -1,11 +1,15 @@
-ghost use Rattle.std.specs.Prelude.{◌≡◌, ℕ, ◌<◌, ◌∷◌, ◌≤◌, [], length, take, slice_get, option_map, IfOk, OnOk};
+ghost use Rattle.std.specs.Prelude.{◌≡◌, ◌<◌, ◌∷◌, [], IfOk, OnOk};
 ghost use Rattle.std.specs.Fmt.{decimal, signed_decimal};
+ghost use Rattle.std.specs.Str.{IsUtf8};
 ghost use Rattle.la_set.specs.declared.set.TheConstants.{REPLICAS};
-ghost use Rattle.la_script.specs.Pieces.{words_and_ids, front, joined, Adds};
-ghost use Rattle.la_script.specs.Laid.{end_of};
+ghost use Rattle.la_script.specs.Pieces.{front, Adds};
+ghost use Rattle.la_script.specs.Plain.{plain_line};
+ghost use Rattle.la_script.specs.Marks.{ids_mark, mark_text, IsLine};
 
 use crate::Text;
 use crate::id_text::IdText;
+use crate::marks::{Mark, Plain, add_mark, make_room};
+use crate::walk::Walk;
 use itoa::Buffer;
 use std::alloc::{AllocError, Global};
 use std::marker::Model;
@@ -13,66 +17,55 @@ use std::marker::Model;
 // Texts of ids with fewer bytes are copied, so that no piece is small.
 const SHORT: usize = 32;
 
-/// A stretch of a text: words, and behind them ids of one replica.
-#[derive(Clone, Copy)]
-pub struct Stretch<'a> {
-    /// The words, which may end within a line and have the lines before it.
-    pub words: &'a [u8],
-    /// The ids, with single spaces between them, and one before them where they stand behind
-    /// others. They lie in a text that many stretches share.
-    pub ids: &'a [u8],
-}
-
-/// Where the words of a stretch end, whose first ids stand behind them and how many, and whether
-/// they stand behind other ids. Its words begin where those of the stretch before it end.
-#[derive(Clone, Copy)]
-pub struct Cut {
-    end: usize,
-    count: u32,
-    replica: u8,
-    behind: bool,
-}
-
-/// A text in pieces: stretches, and the words behind the last of them.
+/// A text in pieces: words, ids of one replica, and lines of few words.
 ///
-/// It takes memory for the words, for each stretch, and for the longest text of ids of each
-/// replica, and not for each text of ids.
+/// It takes memory for the words, some six bytes for a text of ids and for a line of few words, and
+/// the longest text of ids of each replica; not for each text of ids.
 #[derive(Drop)]
 pub struct Pieces {
+    marks: Vec<Mark>,
     words: Vec<u8>,
-    cuts: Vec<Cut>,
+    numbers: Vec<u32>,
+    // How many of the words have a mark: the others come behind all that has one.
+    marked: usize,
     // The text of each replica's ids.
     ids: [IdText; 8],
 }
 
 impl Model for Pieces {
-    ghost use Rattle.la_script.specs.Pieces.{Parts};
+    ghost use Rattle.std.specs.Prelude.{ℕ, List};
 
-    ghost Value = { Parts };
+    // The text.
+    ghost Value = { List ℕ };
 
-    ghost use Rattle.la_script.specs.Laid.{parts_of, IsLaid};
+    ghost use Rattle.la_script.specs.Laid.{laid_text, IsLaid};
 
-    ghost view = { λ p. parts_of p.words.items p.cuts.items };
+    ghost view = { λ p. laid_text p.marks.items p.words.items p.numbers.items };
 
-    ghost invariant = { λ p. IsLaid p.words.items p.cuts.items p.ids };
+    ghost invariant = { λ p. IsLaid p.marks.items p.words.items p.numbers.items p.marked p.ids };
 }
 
-// Where the first cuts, as many as are said, end.
-fn end_of_first(cuts: &[Cut], count: usize) -> usize
-    requires { count ≤ length cuts.now }
-    ensures { result ≡ end_of 0 (take count cuts.now) }
+// The mark of ids.
+fn ids_mark(behind: bool, replica: u8) -> Mark
+    ensures { result ≡ ids_mark behind replica }
 {
-    if count == 0 { 0 } else { cuts[count - 1].end }
+    if behind {
+        Mark::MoreIds(replica)
+    } else {
+        Mark::Ids(replica)
+    }
 }
 
 impl Pieces {
     /// The empty text, which takes no memory.
     pub fn new(alloc: Global) -> Pieces
-        ensures { joined result ≡ [] }
+        ensures { result ≡ [] }
     {
         Pieces {
+            marks: Vec::new(alloc),
             words: Vec::new(alloc),
-            cuts: Vec::new(alloc),
+            numbers: Vec::new(alloc),
+            marked: 0,
             ids: [
                 IdText::new(alloc, 0),
                 IdText::new(alloc, 1),
@@ -86,8 +79,16 @@ impl Pieces {
         }
     }
 
+    // Makes room for some lines.
+    pub(crate) fn reserve_lines(&mut self) -> Result<(), AllocError>
+        ensures { self.new ≡ self.old }
+    {
+        make_room(&mut self.marks, &mut self.numbers)
+    }
+
     /// Adds words. The refusal, as that of the other additions, is for want of memory, and leaves no
     /// text to go on with.
+    #[inline(always)]
     pub fn push_str(&mut self, words: &str) -> Result<(), AllocError>
         ensures { OnOk result (Adds self.old self.new words.now) }
     {
@@ -95,6 +96,7 @@ impl Pieces {
     }
 
     // Adds a letter of ASCII.
+    #[inline(always)]
     pub(crate) fn push_ascii(&mut self, letter: u8) -> Result<(), AllocError>
         requires { letter < 128 }
         ensures { OnOk result (Adds self.old self.new (letter ∷ [])) }
@@ -104,6 +106,7 @@ impl Pieces {
     }
 
     /// Adds a number in decimal.
+    #[inline(always)]
     pub fn push_number(&mut self, number: u64) -> Result<(), AllocError>
         ensures { OnOk result (Adds self.old self.new (decimal number)) }
     {
@@ -137,61 +140,57 @@ impl Pieces {
         if ids.len() < SHORT {
             return self.words.extend_from_slice(ids);
         }
-        self.cuts.push(Cut {
-            end: self.words.len(),
-            count,
-            replica,
-            behind,
-        })?;
+        let mark = ids_mark(behind, replica);
+        let words = self.words.len() - self.marked;
+        add_mark(&mut self.marks, &mut self.numbers, words, mark, &[count])?;
+        self.marked = self.words.len();
         Ok(())
     }
 
-    /// How many stretches there are.
-    pub fn len(&self) -> usize
-        ensures { result ≡ length self.now.stretches }
+    // Adds a mark of a line with its numbers.
+    #[inline(always)]
+    fn push_line(&mut self, mark: Mark, numbers: &[u32]) -> Result<(), AllocError>
+        requires line { IsLine mark numbers.now }
+        requires text { IsUtf8 (mark_text mark [] numbers.now) }
+        ensures { OnOk result (Adds self.old self.new (mark_text mark [] numbers.now)) }
     {
-        self.cuts.len()
+        let words = self.words.len() - self.marked;
+        add_mark(&mut self.marks, &mut self.numbers, words, mark, numbers)?;
+        self.marked = self.words.len();
+        Ok(())
     }
 
-    /// The stretch at a place, from 0, at constant cost.
-    pub fn at(&self, place: usize) -> Option<Stretch<'_>>
-        ensures { option_map words_and_ids result ≡ slice_get self.now.stretches place }
+    // Adds a line of few words, at constant cost, and no text of it.
+    #[inline(always)]
+    pub(crate) fn push_plain(&mut self, number: u32, line: Plain) -> Result<(), AllocError>
+        ensures { OnOk result (Adds self.old self.new (plain_line number line)) }
     {
-        let Cut {
-            end,
-            count,
-            replica,
-            behind,
-        } = *self.cuts.get(place)?;
-        let start = end_of_first(&self.cuts, place);
-        Some(Stretch {
-            words: &self.words[start..end],
-            ids: self.ids[replica as usize].front(behind, count as usize),
-        })
+        match line {
+            Plain::Counted => self.push_line(Mark::Counted, &[number]),
+            Plain::Ignored => self.push_line(Mark::Ignored, &[number]),
+            Plain::Kept => self.push_line(Mark::Kept, &[number]),
+            Plain::Yes(message) => self.push_line(Mark::Yes, &[number, message]),
+        }
     }
 
-    /// The words behind the last stretch.
-    pub fn rest(&self) -> &[u8]
-        ensures { result.now ≡ self.now.rest }
+    /// A walk along the text, from its start, which takes no memory.
+    pub fn walk(&self) -> Walk<'_>
+        ensures { result ≡ self.now }
     {
-        &self.words[end_of_first(&self.cuts, self.cuts.len())..]
+        Walk::new(&self.marks, &self.words, &self.numbers, &self.ids)
     }
 
     // The pieces joined, at linear cost.
     pub(crate) fn join(&self, alloc: Global) -> Result<Text, AllocError>
-        ensures { IfOk result (λ text. text ≡ joined self.now) }
+        ensures { IfOk result (λ text. text ≡ self.now) }
     {
-        // A hint to the prover: with a field its invariant is read, by which all pieces are UTF-8.
+        // A hint to the prover: with a field its invariant is read, by which the text is UTF-8.
         let _ = &self.words;
         let mut text = Vec::new(alloc);
-        for place in 0..self.len() {
-            let Some(stretch) = self.at(place) else {
-                unreachable!()
-            };
-            text.extend_from_slice(stretch.words)?;
-            text.extend_from_slice(stretch.ids)?;
+        let mut walk = self.walk();
+        while let Some(piece) = walk.next() {
+            text.extend_from_slice(piece.bytes())?;
         }
-        text.extend_from_slice(self.rest())?;
         match String::from_utf8(text) {
             Ok(text) => Ok(Text::from(text)),
             Err(_) => unreachable!(),

@@ -6,12 +6,15 @@ use Rattle.std.proofs.Math.Nat.{min_comm}
 use Rattle.la_set.specs.declared.update.Update.{Update}
 use Rattle.la_set.specs.ObjectOps.{ObjectOp, object_op_of, update_of}
 use Rattle.la_set.specs.declared.counts.Counts.{Counts}
-use Rattle.la_set.specs.Counts.{count_in, from_counts, counts_of, zero_counts}
+use Rattle.la_set.specs.Counts.{count_in, from_counts, counts_of}
 use Rattle.la_set.specs.Histories.{Histories, empty, history, count, with_history, truncate, numbered, IsWithinLimit}
 use Rattle.la_set.specs.Representation.{represented, lengths_of, IsRepresentation}
+use Rattle.la_set.specs.declared.kept.Cut.{Cut}
+use Rattle.la_set.specs.declared.kept.Kept.{Kept}
+use Rattle.la_set.specs.Kept.{lists_of, cut_of, cut_to, stored}
 use Rattle.la_set.proofs.lemmas.NumberedLists.{object_ops-numbered, length-numbered, numbered-append, take-numbered}
 use Rattle.la_set.proofs.lemmas.Counting.{count_in-from_counts, same_counts, capped_at, capped_at-own, capped_at-other}
-use Rattle.la_set.proofs.lemmas.SetHistories.{history-from_histories, same_histories, history-with_same, history-with_other, history-empty, count-edited, count-shortened, count_past}
+use Rattle.la_set.proofs.lemmas.SetHistories.{history-from_histories, same_histories, history-with_same, history-with_other, history-empty, count-edited, count-shortened, count_past, shortened-none}
 
 -- a list of lists that holds each replica's updates
 pub represented-from : (lists : List (List Update)) (s : Histories) → ((r : ℕ) → r < 8 → get_or lists r [] ≡ numbered r 1 (history s r)) → represented lists ≡ s
@@ -37,8 +40,11 @@ length-at lists c r lt is = ap (λ k. count_in k r) is ∙ count_in-from_counts 
 -- ## One list that is cut
 
 -- and where none is
-pub uncut : (lists : List (List Update)) → truncate (represented lists) 8 0 ≡ represented lists
-uncut lists = same_histories _ _ (λ r lt. history-with_other (represented lists) 8 _ r (λ e. absurd (omega (arith, e, lt))))
+pub uncut : (lists : List (List Update)) (n : ℕ) → truncate (represented lists) 8 n ≡ represented lists
+uncut lists n = same_histories _ _ (λ r lt. history-with_other (represented lists) 8 _ r (λ e. absurd (omega (arith, e, lt))))
+
+pub stored-uncut : (kept : Kept) → (cut_of kept).replica ≡ 8 → stored kept ≡ represented (lists_of kept)
+stored-uncut kept is = ap (λ q. truncate (represented (lists_of kept)) q (cut_of kept).len) is ∙ uncut (lists_of kept) (cut_of kept).len
 
 pub cut-within : (s : Histories) (q n : ℕ) → IsWithinLimit s → IsWithinLimit (truncate s q n)
 cut-within s q n within r = elim (cases_lt q 8) [
@@ -49,38 +55,48 @@ cut-within s q n within r = elim (cases_lt q 8) [
   ]
 ]
 
-pub cut-limit : (lists : List (List Update)) (s : Histories) (q n : ℕ) → IsRepresentation lists → truncate (represented lists) q n ≡ s → IsWithinLimit s
-cut-limit lists s q n keeps is = subst IsWithinLimit is (cut-within (represented lists) q n keeps.within)
+pub cut-limit : (kept : Kept) (s : Histories) → IsRepresentation (lists_of kept) → stored kept ≡ s → IsWithinLimit s
+cut-limit kept s keeps is = subst IsWithinLimit is (cut-within (represented (lists_of kept)) (cut_of kept).replica (cut_of kept).len keeps.within)
 
-module _ (lists : List (List Update)) (s : Histories) (q n r : ℕ) (d : List Update) (lt : r < 8) (keeps : IsRepresentation lists) (is : truncate (represented lists) q n ≡ s) where
-  whole : get_or lists r d ≡ numbered r 1 (history (represented lists) r)
-  whole = list_at lists (represented lists) r d lt keeps refl
+module _ (kept : Kept) (s : Histories) (cut : Cut) (keeps : IsRepresentation (lists_of kept)) (is_cut : cut ≡ cut_of kept) (stores : stored kept ≡ s) where
+  abbrev lists : List (List Update)
+  lists = lists_of kept
 
-  pub cut-list_other : r ≢ q → get_or lists r d ≡ numbered r 1 (history s r)
-  cut-list_other ne = whole ∙ ap (numbered r 1) (sym (history-with_other (represented lists) q _ r ne)) ∙ ap (λ t. numbered r 1 (history t r)) is
+  abbrev whole : Histories
+  whole = represented lists
 
-  pub cut-list_own : r ≡ q → take n (get_or lists r d) ≡ numbered r 1 (history s r)
-  cut-list_own e =
-      ap (take n) whole
-      ∙ take-numbered r 1 n (history (represented lists) r)
-      ∙ ap (λ p. numbered r 1 (take n (history (represented lists) p))) e
-      ∙ ap (numbered r 1) (sym (history-with_same (represented lists) q _ r (omega (arith, lt, e)) e))
-      ∙ ap (λ t. numbered r 1 (history t r)) is
+  is : cut_to cut whole ≡ s
+  is = ap (λ at. cut_to at whole) is_cut ∙ stores
 
-  pub cut-list_short : r ≡ q → length (get_or lists r d) ≤ n → get_or lists r d ≡ numbered r 1 (history s r)
-  cut-list_short e few = sym (take_all n (get_or lists r d) few) ∙ cut-list_own e
+  module _ (r : ℕ) (d : List Update) (lt : r < 8) where
+    list-whole : get_or lists r d ≡ numbered r 1 (history whole r)
+    list-whole = list_at lists whole r d lt keeps refl
 
-  pub cut-count_other : r ≢ q → length (get_or lists r d) ≡ count s r
-  cut-count_other ne = ap length (cut-list_other ne) ∙ length-numbered r 1 (history s r)
+    pub cut-list_other : r ≢ cut.replica → get_or lists r d ≡ numbered r 1 (history s r)
+    cut-list_other ne = list-whole ∙ ap (numbered r 1) (sym (history-with_other whole cut.replica _ r ne)) ∙ ap (λ t. numbered r 1 (history t r)) is
 
-  pub cut-count_own : r ≡ q → min (length (get_or lists r d)) n ≡ count s r
-  cut-count_own e = min_comm (length (get_or lists r d)) n ∙ sym (length-take n (get_or lists r d)) ∙ ap length (cut-list_own e) ∙ length-numbered r 1 (history s r)
+    pub cut-list_own : r ≡ cut.replica → take cut.len (get_or lists r d) ≡ numbered r 1 (history s r)
+    cut-list_own e =
+        ap (take cut.len) list-whole
+        ∙ take-numbered r 1 cut.len (history whole r)
+        ∙ ap (λ p. numbered r 1 (take cut.len (history whole p))) e
+        ∙ ap (numbered r 1) (sym (history-with_same whole cut.replica _ r (omega (arith, lt, e)) e))
+        ∙ ap (λ t. numbered r 1 (history t r)) is
 
-pub cut-counts : (lists : List (List Update)) (s : Histories) (q n : ℕ) (c : Counts) → IsRepresentation lists → truncate (represented lists) q n ≡ s → c ≡ lengths_of lists → from_counts (capped_at c q n) ≡ counts_of s
-cut-counts lists s q n c keeps is are = same_counts (capped_at c q n) (count s) (λ r lt. elim (cases_eq r q) [
-  | inl e ↦ capped_at-own c q n r e ∙ ap (λ k. min k n) (length-at lists c r lt are) ∙ cut-count_own lists s q n r [] lt keeps is e
-  | inr ne ↦ capped_at-other c q n r ne ∙ length-at lists c r lt are ∙ cut-count_other lists s q n r [] lt keeps is ne
-])
+    pub cut-list_short : r ≡ cut.replica → length (get_or lists r d) ≤ cut.len → get_or lists r d ≡ numbered r 1 (history s r)
+    cut-list_short e few = sym (take_all cut.len (get_or lists r d) few) ∙ cut-list_own e
+
+    pub cut-count_other : r ≢ cut.replica → length (get_or lists r d) ≡ count s r
+    cut-count_other ne = ap length (cut-list_other ne) ∙ length-numbered r 1 (history s r)
+
+    pub cut-count_own : r ≡ cut.replica → min (length (get_or lists r d)) cut.len ≡ count s r
+    cut-count_own e = min_comm (length (get_or lists r d)) cut.len ∙ sym (length-take cut.len (get_or lists r d)) ∙ ap length (cut-list_own e) ∙ length-numbered r 1 (history s r)
+
+  pub cut-counts : (c : Counts) → c ≡ lengths_of lists → from_counts (capped_at c cut.replica cut.len) ≡ counts_of s
+  cut-counts c are = same_counts (capped_at c cut.replica cut.len) (count s) (λ r lt. elim (cases_eq r cut.replica) [
+    | inl e ↦ capped_at-own c cut.replica cut.len r e ∙ ap (λ k. min k cut.len) (length-at lists c r lt are) ∙ cut-count_own r [] lt e
+    | inr ne ↦ capped_at-other c cut.replica cut.len r ne ∙ length-at lists c r lt are ∙ cut-count_other r [] lt ne
+  ])
 
 -- one list in the place of another
 module _ (lists : List (List Update)) (s : Histories) (r : ℕ) (us : List Update) (known : r < 8) (eight : length lists ≡ 8) (each : (q : ℕ) → q < 8 → get_or lists q [] ≡ numbered q 1 (history s q)) (listed : us ≡ numbered r 1 (map object_op_of us)) where
@@ -110,8 +126,11 @@ pushed-list s u list next e =
 pub none_each : (r : ℕ) → r < 8 → get_or (replicate 8 []) r [] ≡ numbered r 1 (history empty r)
 none_each r lt = get_or-replicate 8 r [] [] lt ∙ ap (numbered r 1) (sym (history-empty r))
 
-pub none-lengths : zero_counts ≡ lengths_of (replicate 8 [])
-none-lengths = same_counts (λ r. 0) (λ r. length (get_or (replicate 8 []) r [])) (λ r lt. sym (ap length (get_or-replicate 8 r [] [] lt)))
+-- of these nothing is cut
+pub cut-nothing : (q n : ℕ) → represented (replicate 8 []) ≡ truncate (represented (replicate 8 [])) q n
+cut-nothing q n =
+    let none = represented-from (replicate 8 []) empty none_each in
+    shortened-none (represented (replicate 8 [])) q n (omega (arith, ap (λ s. count s q) none, ap length (history-empty q)))
 
 -- eight lists, each that of one replica
 pub eight_each : (s : Histories) (a b c d e f g h : List Update)

@@ -8,6 +8,8 @@ pub mod Join
 pub mod Difference
 pub mod Agreement
 pub mod Representation
+pub mod Kept
 pub mod Refusals
 pub mod Counts
 pub mod Deltas
+pub mod Short

@@ -1,4 +1,4 @@
-ghost use Rattle.std.specs.Prelude.{◌≡◌, ◌<◌, ◌==◌, ℕ, length, min, slice_index_or, if◌then◌else◌};
+ghost use Rattle.std.specs.Prelude.{◌≡◌, ◌<◌, ◌==◌, ◌++◌, ℕ, length, min, slice_index_or, if◌then◌else◌};
 ghost use Rattle.la_set.specs.Counts.{count_in, from_counts, zero_counts};
 
 use crate::REPLICAS;
@@ -28,6 +28,17 @@ impl Counts {
             return 0;
         }
         self.of[replica as usize]
+    }
+
+    // Those of replicas 0 to 3, and those of replicas 4 to 7.
+    pub(crate) fn of_fours(low: [u32; 4], high: [u32; 4]) -> Counts
+        ensures { result.of ≡ low ++ high }
+    {
+        Counts {
+            of: [
+                low[0], low[1], low[2], low[3], high[0], high[1], high[2], high[3],
+            ],
+        }
     }
 
     // The eight numbers.

@@ -1,8 +1,8 @@
 ghost use Rattle.std.specs.Prelude.{◌≡◌, ◌+◌, ◌≤◌, ◌<◌, ◌++◌, [], ◌∷◌, length, slice_get, drop, reverse};
-ghost use Rattle.std.specs.Prelude.{IsOk, IfOk, IfErr, IfSome, OnOk, OnErr, Some, None, IsTrue, ◌↔◌, take};
+ghost use Rattle.std.specs.Prelude.{IsOk, IfOk, IfErr, IfSome, OnOk, OnErr, Some, None, IsSome, IsTrue, ◌↔◌, take};
 ghost use Rattle.std.specs.Option.{option_copied};
 ghost use Rattle.la_set.specs.Links.{lent_items};
-ghost use Rattle.la_set.specs.Histories.{history, updates_of, push, IsNext};
+ghost use Rattle.la_set.specs.Histories.{history, updates_of, push, IsNext, IsWithinLimit};
 ghost use Rattle.la_set.specs.Representation.{represented, IsRepresentation, IsFront, GrowsFrom};
 ghost use Rattle.la_set.specs.Counts.{count_in, HasCounts, within};
 ghost use Rattle.la_set.specs.Deltas.{over, delta_over, rebuilt, pushed, AreNext, AgreesWithin};
@@ -133,6 +133,25 @@ impl Delta {
     }
 }
 
+impl Delta {
+    // The set that it was made of.
+    pub(crate) fn into_set(self) -> UpdateSet
+        requires { IsSome self.made_of }
+        ensures set { self ≡ delta_over result self.base }
+        ensures base { HasCounts result self.base }
+        ensures limit { IsWithinLimit result }
+    {
+        match self.more {
+            More::Whole(set) => {
+                // a hint to the prover: no number is over the limit
+                let _ = set.allocator();
+                set
+            }
+            More::Listed(_) => unreachable!(),
+        }
+    }
+}
+
 impl UpdateSet {
     /// Whether there are so many updates of each replica, or more.
     pub fn has_counts(&self, counts: Counts) -> bool
@@ -148,6 +167,7 @@ impl UpdateSet {
     }
 
     /// The set as a delta over this base, at constant cost: it shares the set, and takes no memory.
+    #[inline(always)]
     pub fn over(&self, base: Counts) -> Result<Delta, AllocError>
         requires { HasCounts self.now base }
         ensures { IfOk result (λ delta. delta ≡ delta_over self.now base) }

@@ -1,83 +1,102 @@
 // The lists that a set keeps, and how long each is.
-ghost use Rattle.std.specs.Prelude.{◌≡◌, ◌≤◌, ◌<◌, ℕ, [], length, slice_index_or};
+ghost use Rattle.std.specs.Prelude.{◌≡◌, ◌≤◌, ◌<◌, ◌↔◌, ℕ, [], ◌++◌, length, map, replicate};
+ghost use Rattle.std.specs.Prelude.{slice_index_or, IsTrue};
 ghost use Rattle.la_set.specs.Links.{lent_items};
-ghost use Rattle.la_set.specs.Representation.{lengths_of};
+ghost use Rattle.la_set.specs.Representation.{four_of};
 
 use crate::history::{History, Lent, len_of};
-use crate::{Counts, MAX_NUMBER, REPLICAS, Update};
+use crate::{MAX_NUMBER, Update};
 use std::marker::Model;
 
-// Eight lists of updates, one for each replica. Their lengths lie beside them, so that who asks for
-// one follows no pointer to a list's last item.
+// Four replicas' lists of updates. Their lengths lie beside them, so that who asks for one follows
+// no pointer to a list's last item.
 #[derive(Drop)]
-pub(crate) struct Lists {
-    lists: [History<Update>; 8],
-    counts: Counts,
+pub(crate) struct FourLists {
+    lists: [History<Update>; 4],
+    lens: [u32; 4],
 }
 
-impl Model for Lists {
-    ghost use Rattle.std.specs.Prelude.{◌≡◌, List};
+impl Model for FourLists {
+    ghost use Rattle.std.specs.Prelude.{◌≡◌, List, map, length};
     ghost use Rattle.la_set.specs.declared.update.Update.{Update};
 
     ghost Value = { List (List Update) };
 
-    ghost use Rattle.la_set.specs.Representation.{lengths_of};
+    ghost use Rattle.la_set.specs.Representation.{four_of};
 
     ghost view = { λ l. l.lists };
 
-    ghost invariant = { λ l. l.counts ≡ lengths_of l.lists };
+    ghost invariant = { λ l. l.lens ≡ map length (four_of l.lists) };
 }
 
-impl Lists {
+// All replicas' lists: those of 0 to 3, and those of 4 to 7.
+#[derive(Drop)]
+pub(crate) struct EightLists {
+    pub(crate) low: FourLists,
+    pub(crate) high: FourLists,
+}
+
+impl FourLists {
     // These lists, whose lengths are looked up.
-    pub(crate) fn of(lists: [History<Update>; 8]) -> Lists
-        requires { (r : ℕ) → r < REPLICAS → length (slice_index_or lists r []) ≤ MAX_NUMBER }
+    pub(crate) fn of(lists: [History<Update>; 4]) -> FourLists
+        requires { (place : ℕ) → place < 4 → length (slice_index_or lists place []) ≤ MAX_NUMBER }
         ensures { result ≡ lists }
     {
-        let counts = Counts {
-            of: [
-                len_at(&lists, 0),
-                len_at(&lists, 1),
-                len_at(&lists, 2),
-                len_at(&lists, 3),
-                len_at(&lists, 4),
-                len_at(&lists, 5),
-                len_at(&lists, 6),
-                len_at(&lists, 7),
-            ],
-        };
-        Lists { lists, counts }
+        let lens = [
+            len_at(&lists, 0),
+            len_at(&lists, 1),
+            len_at(&lists, 2),
+            len_at(&lists, 3),
+        ];
+        FourLists { lists, lens }
     }
 
-    // What leads to a replica's list.
-    pub(crate) fn link(&self, replica: u8) -> Lent<'_, Update>
-        requires { replica < REPLICAS }
-        ensures { lent_items result ≡ slice_index_or self.now replica [] }
+    // What leads to the list at a place.
+    pub(crate) fn link(&self, place: u8) -> Lent<'_, Update>
+        requires { place < 4 }
+        ensures { lent_items result ≡ slice_index_or self.now place [] }
     {
-        self.lists[replica as usize].link()
+        self.lists[place as usize].link()
     }
 
     // How long it is.
-    pub(crate) fn len_of(&self, replica: u8) -> u32
-        requires { replica < REPLICAS }
-        ensures { result ≡ length (slice_index_or self.now replica []) }
+    pub(crate) fn len_of(&self, place: u8) -> u32
+        requires { place < 4 }
+        ensures { result ≡ length (slice_index_or self.now place []) }
     {
-        self.counts.of(replica)
+        self.lens[place as usize]
     }
 
-    // How long each list is.
-    pub(crate) fn counts(&self) -> Counts
-        ensures { result ≡ lengths_of self.now }
+    // How long each of them is.
+    pub(crate) fn lens(&self) -> [u32; 4]
+        ensures { result ≡ map length (four_of self.now) }
     {
-        self.counts
+        self.lens
+    }
+
+    // Whether none of them has an update.
+    pub(crate) fn are_empty(&self) -> bool
+        ensures { IsTrue result ↔ (four_of self.now ≡ replicate 4 []) }
+    {
+        self.lens == [0; 4]
     }
 }
 
-// How long a replica's list is, by its last item.
-fn len_at(lists: &[History<Update>; 8], replica: u8) -> u32
-    requires known { replica < REPLICAS }
-    requires few { length (slice_index_or lists.now replica []) ≤ MAX_NUMBER }
-    ensures { result ≡ length (slice_index_or lists.now replica []) }
+// The first four of eight, and the others.
+pub(crate) fn halves<T>(of: [T; 8]) -> ([T; 4], [T; 4])
+    ensures all { result.0 ++ result.1 ≡ of }
+    ensures low { length result.0 ≡ 4 }
+    ensures high { length result.1 ≡ 4 }
 {
-    len_of(lists[replica as usize].link()) as u32
+    let [of_0, of_1, of_2, of_3, of_4, of_5, of_6, of_7] = of;
+    ([of_0, of_1, of_2, of_3], [of_4, of_5, of_6, of_7])
+}
+
+// How long the list at a place is, by its last item.
+fn len_at(lists: &[History<Update>; 4], place: u8) -> u32
+    requires known { place < 4 }
+    requires few { length (slice_index_or lists.now place []) ≤ MAX_NUMBER }
+    ensures { result ≡ length (slice_index_or lists.now place []) }
+{
+    len_of(lists[place as usize].link()) as u32
 }

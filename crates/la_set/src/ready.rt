@@ -1,22 +1,19 @@
 // What a set needs to take another's updates as its own, a run of them at a time.
 ghost use Rattle.std.specs.Prelude.{◌≡◌, ◌<◌, map, take, drop, IfOk};
 ghost use Rattle.la_set.specs.Histories.{history, updates_of, with_history, truncate};
-ghost use Rattle.la_set.specs.Representation.{represented, IsRepresentation};
 
 use crate::history::{History, first, len_of, step_back};
-use crate::lists::Lists;
-use crate::set::Cut;
+use crate::kept::{Cut, Kept};
 use crate::{REPLICAS, Update, UpdateSet};
 use std::alloc::{AllocError, Global};
 use std::marker::Model;
-use std::sync::Arc;
 
 /// A set that is held ready: it becomes a set of updates, one of its lists cut or whole, without
 /// memory.
 #[derive(Drop)]
 pub struct Ready {
     alloc: Global,
-    of: Arc<Lists>,
+    of: Kept,
 }
 
 impl Model for Ready {
@@ -25,10 +22,11 @@ impl Model for Ready {
     ghost Value = { Histories };
 
     ghost use Rattle.la_set.specs.Representation.{represented, IsRepresentation};
+    ghost use Rattle.la_set.specs.Kept.{lists_of};
 
-    ghost view = { λ r. represented r.of.value };
+    ghost view = { λ r. represented (lists_of r.of) };
 
-    ghost invariant = { λ r. IsRepresentation r.of.value };
+    ghost invariant = { λ r. IsRepresentation (lists_of r.of) };
 }
 
 impl Ready {
@@ -55,7 +53,7 @@ impl UpdateSet {
         of[replica as usize] = History::of(other.history_of(replica))?;
         Ok(Ready {
             alloc,
-            of: Arc::new(alloc, Lists::of(of))?,
+            of: Kept::keeping(alloc, of)?,
         })
     }
 

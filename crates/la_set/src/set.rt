@@ -1,5 +1,5 @@
-ghost use Rattle.std.specs.Prelude.{◌≡◌, ◌≢◌, ◌+◌, ◌<◌, ◌≤◌, [], length, map, min, take};
-ghost use Rattle.std.specs.Prelude.{slice_get, slice_index_or, IsOk, IfOk, IfErr, OnOk, OnErr};
+ghost use Rattle.std.specs.Prelude.{◌≡◌, ◌<◌, ◌≤◌, length, map, slice_get};
+ghost use Rattle.std.specs.Prelude.{IsOk, IfOk, IfErr, OnOk, OnErr};
 ghost use Rattle.std.specs.Option.{option_copied};
 ghost use Rattle.la_set.specs.ObjectOps.{object_op_of};
 ghost use Rattle.la_set.specs.Histories.{empty, count, get, last_update, updates, updates_of};
@@ -8,15 +8,14 @@ ghost use Rattle.la_set.specs.Histories.{IsNext, IsWithinLimit};
 ghost use Rattle.la_set.specs.Counts.{counts_of};
 ghost use Rattle.la_set.specs.Refusals.{IsPushRefusal};
 ghost use Rattle.la_set.specs.Links.{lent_items};
-ghost use Rattle.la_set.specs.Representation.{represented, lengths_of, lists_of, AreListsOf};
-ghost use Rattle.la_set.specs.Representation.{IsRepresentation};
+ghost use Rattle.la_set.specs.Representation.{represented, AreListsOf, IsRepresentation};
+ghost use Rattle.la_set.specs.Kept.{lists_of, cut_to};
 
 use crate::history::{History, Lent, first, item_at};
-use crate::lists::Lists;
+use crate::kept::{Cut, Kept};
 use crate::{Counts, SetError, Update, UpdateId};
 use std::alloc::{AllocError, Global};
 use std::marker::Model;
-use std::sync::Arc;
 
 /// How many replicas a group may have: their numbers are 0 to 7.
 pub const REPLICAS: u8 = 8;
@@ -30,32 +29,18 @@ pub const MAX_NUMBER: u32 = 1_000_000;
 /// behind one pointer, and copies share them: what is added to one copy, the others don't see.
 pub struct UpdateSet {
     alloc: Global,
-    of: Option<Arc<Lists>>,
-    cut: Cut,
+    of: Kept,
 }
-
-// Where one of a set's lists is cut: of this replica the set has only the first so many.
-#[derive(Clone, Copy)]
-pub(crate) struct Cut {
-    pub(crate) replica: u8,
-    pub(crate) len: u32,
-}
-
-// There is no such replica: no list is cut.
-const UNCUT: Cut = Cut {
-    replica: REPLICAS,
-    len: 0,
-};
 
 impl Model for UpdateSet {
     ghost use Rattle.la_set.specs.Histories.{Histories};
 
     ghost Value = { Histories };
 
-    ghost use Rattle.la_set.specs.Histories.{truncate};
-    ghost use Rattle.la_set.specs.Representation.{represented, lists_of, IsRepresentation};
+    ghost use Rattle.la_set.specs.Representation.{IsRepresentation};
+    ghost use Rattle.la_set.specs.Kept.{lists_of, stored};
 
-    ghost view = { λ s. truncate (represented (lists_of s.of)) s.cut.replica s.cut.len };
+    ghost view = { λ s. stored s.of };
 
     ghost invariant = { λ s. IsRepresentation (lists_of s.of) };
 }
@@ -63,11 +48,7 @@ impl Model for UpdateSet {
 // A hint to the prover: a derived drop would be written out, with its branch, into who drops a set.
 impl Drop for UpdateSet {
     fn drop(self) {
-        let UpdateSet {
-            alloc: _,
-            of,
-            cut: _,
-        } = self;
+        let UpdateSet { alloc: _, of } = self;
         drop(of);
     }
 }
@@ -79,8 +60,7 @@ impl UpdateSet {
     {
         UpdateSet {
             alloc,
-            of: None,
-            cut: UNCUT,
+            of: Kept::Empty,
         }
     }
 
@@ -93,7 +73,7 @@ impl UpdateSet {
         if replica >= REPLICAS {
             return 0;
         }
-        self.cut.leaves(replica, len_in(&self.of, replica))
+        self.of.cut().leaves(replica, self.of.len_of(replica))
     }
 
     /// How many updates of each replica there are, at most [`MAX_NUMBER`] each, at constant cost.
@@ -101,7 +81,8 @@ impl UpdateSet {
         ensures counts { result ≡ counts_of self.now }
         ensures limit { IsWithinLimit self.now }
     {
-        counts_in(&self.of).capped(self.cut.replica, self.cut.len)
+        let cut = self.of.cut();
+        self.of.counts().capped(cut.replica, cut.len)
     }
 
     /// How many updates there are, at most 8,000,000. The cost is constant.
@@ -145,17 +126,13 @@ impl UpdateSet {
 
     /// A copy, which shares all updates, at constant cost. It takes no memory, and is refused only
     /// where the set has as many copies as can be counted.
+    #[inline(always)]
     pub fn copy(&self) -> Result<UpdateSet, AllocError>
         ensures { IfOk result (λ copy. copy ≡ self.now) }
     {
-        let of = match &self.of {
-            Some(of) => Some(Arc::try_clone(of)?),
-            None => None,
-        };
         Ok(UpdateSet {
             alloc: self.alloc,
-            of,
-            cut: self.cut,
+            of: self.of.copy()?,
         })
     }
 
@@ -220,14 +197,15 @@ impl UpdateSet {
         ensures updates { lent_items result ≡ updates_of self.now replica }
         ensures limit { length (lent_items result) ≤ MAX_NUMBER }
     {
-        let list = list_in(&self.of, replica);
-        if replica != self.cut.replica {
+        let list = self.of.list(replica);
+        let cut = self.of.cut();
+        if replica != cut.replica {
             return list;
         }
-        if len_in(&self.of, replica) <= self.cut.len {
+        if self.of.len_of(replica) <= cut.len {
             return list;
         }
-        first(list, self.cut.len as usize)
+        first(list, cut.len as usize)
     }
 
     // What the set allocates with. The contract also tells that no number is over the limit.
@@ -261,20 +239,18 @@ impl UpdateSet {
     {
         Ok(UpdateSet {
             alloc,
-            of: Some(Arc::new(alloc, Lists::of(of))?),
-            cut: UNCUT,
+            of: Kept::keeping(alloc, of)?,
         })
     }
 
-    // The set that keeps these lists, one of them cut.
-    pub(crate) fn cut(alloc: Global, of: Arc<Lists>, cut: Cut) -> UpdateSet
-        requires { IsRepresentation of.value }
-        ensures { result ≡ truncate (represented of.value) cut.replica cut.len }
+    // The set that keeps these lists, cut here, and nowhere else.
+    pub(crate) fn cut(alloc: Global, of: Kept, cut: Cut) -> UpdateSet
+        requires { IsRepresentation (lists_of of) }
+        ensures { result ≡ cut_to cut (represented (lists_of of)) }
     {
         UpdateSet {
             alloc,
-            of: Some(of),
-            cut,
+            of: of.cut_at(cut),
         }
     }
 
@@ -303,51 +279,5 @@ impl UpdateSet {
         let mut list = History::of(self.history_of(replica))?;
         list.push(self.alloc, update)?;
         self.put(replica, list)
-    }
-}
-
-impl Cut {
-    // How many it leaves of a replica's so many updates.
-    fn leaves(self, replica: u8, len: u32) -> u32
-        ensures own { replica ≡ self.replica → result ≡ min len self.len }
-        ensures other { replica ≢ self.replica → result ≡ len }
-    {
-        if replica == self.replica {
-            len.min(self.len)
-        } else {
-            len
-        }
-    }
-}
-
-// A replica's list, of those that a set's pointer leads to.
-fn list_in(of: &Option<Arc<Lists>>, replica: u8) -> Lent<'_, Update>
-    requires { replica < REPLICAS }
-    ensures { lent_items result ≡ slice_index_or (lists_of of.now) replica [] }
-{
-    match of {
-        Some(of) => of.link(replica),
-        None => None,
-    }
-}
-
-// How long that list is, without a look at its items.
-fn len_in(of: &Option<Arc<Lists>>, replica: u8) -> u32
-    requires { replica < REPLICAS }
-    ensures { result ≡ length (slice_index_or (lists_of of.now) replica []) }
-{
-    match of {
-        Some(of) => of.len_of(replica),
-        None => 0,
-    }
-}
-
-// How long each of them is.
-fn counts_in(of: &Option<Arc<Lists>>) -> Counts
-    ensures { result ≡ lengths_of (lists_of of.now) }
-{
-    match of {
-        Some(of) => of.counts(),
-        None => Counts::zero(),
     }
 }

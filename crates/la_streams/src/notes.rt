@@ -1,7 +1,6 @@
 // Lines that a node writes: messages, and notes, which begin with `#`.
 ghost use Rattle.std.specs.Prelude.{◌≡◌, ◌++◌, ◌∷◌, [], codes, IfOk, OnOk};
 ghost use Rattle.std.specs.Fmt.{decimal};
-ghost use Rattle.la_script.specs.Pieces.{joined};
 ghost use Rattle.la_lines.specs.Joined.{spaced};
 ghost use Rattle.la_lines.specs.MessageLines.{count_words};
 ghost use Rattle.la_streams.specs.Notes.{outcome_word, mail_text};
@@ -146,16 +145,12 @@ pub fn put_outcome(
 
 // Writes the pieces of a text.
 fn put_pieces(out: &mut Vec<u8>, pieces: &Pieces) -> Result<(), AllocError>
-    ensures { OnOk result (out.new.items ≡ out.old.items ++ joined pieces.now) }
+    ensures { OnOk result (out.new.items ≡ out.old.items ++ pieces.now) }
 {
-    for place in 0..pieces.len() {
-        let Some(stretch) = pieces.at(place) else {
-            unreachable!()
-        };
-        out.extend_from_slice(stretch.words)?;
-        out.extend_from_slice(stretch.ids)?;
+    let mut walk = pieces.walk();
+    while let Some(piece) = walk.next() {
+        out.extend_from_slice(piece.bytes())?;
     }
-    out.extend_from_slice(pieces.rest())?;
     Ok(())
 }
 

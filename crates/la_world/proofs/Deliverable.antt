@@ -17,7 +17,7 @@ use Rattle.la_replica.specs.declared.message.Body.TheVariants as body
 use Rattle.la_replica.specs.Whole.{set_of}
 use Rattle.la_replica.specs.ReplicaState.{ReplicaState}
 use Rattle.la_replica.specs.Received.{Told, refusal_over, told_in_body, told_at, rebuilt_of, StandsAt, AgreesAt, IsCarried, StandsIn, AgreesIn, IsCarriedIn}
-use Rattle.la_world.specs.Told.{IsMadeBody, IsMade}
+use Rattle.la_replica.specs.Stored.{IsMadeBody, IsMade}
 use Rattle.la_world.proofs.Receivers.{compatible_from}
 
 -- what a delta needs, to stand for the set that it was made of

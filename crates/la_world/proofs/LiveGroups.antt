@@ -24,7 +24,8 @@ use Rattle.la_replica.specs.Received.{received_in, IsCarriedIn}
 use Rattle.la_replica.specs.Bases.{offered_by, AreToldIn, AreToldFrom}
 use Rattle.la_replica.proofs.lemmas.Carrying.{carried_received, carried_offers}
 use Rattle.la_replica.proofs.lemmas.Alike.{alike_refl, alike_trans, alike_received}
-use Rattle.la_world.specs.Told.{offered_to, told_at, told, IsMade}
+use Rattle.la_replica.specs.Stored.{IsMade}
+use Rattle.la_world.specs.Told.{offered_to, told_at, told}
 use Rattle.la_world.proofs.Tellings.{told_are_made}
 use Rattle.la_world.proofs.ToldMail.{told_of, told_as, sent_sides}
 use Rattle.la_world.proofs.Deliverable.{IsDeliverableAt, deliverable_carried}
@@ -56,7 +57,7 @@ use Rattle.la_world.specs.Promises.{KeepsPromises}
 use Rattle.la_world.specs.LiveGroups.{LearntSet, LiveGroup, Call, Submitted, Proposed, Received, Looked, silence, submission, makes, MayAccept, learnt_from, learnt_by_call, IsStep, IsStart, Reaches, IsReached, IsAmong, told_by_calls, replicas_of, event_of, events_of, live_group_of, learnt_set_of, StandsForEvents, decisions_of}
 use Rattle.la_world.specs.LiveGroups.{LiveGroupsStandForEvents, LiveGroupsKeepAll, LiveLearntAreComparable, LiveViewsAreComparable, LiveNodesAreOneHistory, NewNodesAreLive, NetworksMayLose, SubmissionsKeepLive, ProposalsKeepLive, ReceiptsKeepLive, LooksKeepLive}
 use Rattle.la_world.specs.Kept as kept
-use Rattle.la_world.specs.Unheard.{MayKeep, UnheardCallsKeepLive}
+use Rattle.la_world.specs.Unheard.{UnheardCallsKeepLive}
 use Rattle.la_world.proofs.Lists.{AllIn, AllIn_at, IsIn_get, contains_IsIn, IsIn_contains, IsIn_mapped, IsIn_place, get_mapped, made_at}
 use Rattle.la_world.proofs.Openings.{IsOf}
 use Rattle.la_world.proofs.Traces.{holds}

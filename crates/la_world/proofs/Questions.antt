@@ -32,7 +32,8 @@ use Rattle.la_world.specs.Groups.{Group, group_of, replicas, kinds_on, IsConfig}
 use Rattle.la_world.specs.Events.{Event, Ask}
 use Rattle.la_world.specs.Trace.{Trace}
 use Rattle.la_world.specs.Sent.{sent}
-use Rattle.la_world.specs.Told.{told, IsMade}
+use Rattle.la_replica.specs.Stored.{IsMade}
+use Rattle.la_world.specs.Told.{told}
 use Rattle.la_world.specs.Views.{view}
 use Rattle.la_world.specs.Playing.{answer_of, shelf_of, entry, trace}
 use Rattle.la_world.specs.Learnings.{learnt}

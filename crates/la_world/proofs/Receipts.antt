@@ -20,7 +20,8 @@ use Rattle.la_world.specs.Sent.{sent}
 use Rattle.la_world.specs.Playing.{trace}
 use Rattle.la_world.specs.ReplicaStates.{replica_state}
 use Rattle.la_world.specs.StandsFor.{IsLegal}
-use Rattle.la_world.specs.Told.{told, IsMade}
+use Rattle.la_replica.specs.Stored.{IsMade}
+use Rattle.la_world.specs.Told.{told}
 use Rattle.la_world.specs.Following.{DeliveriesFit}
 use Rattle.la_world.proofs.Lists.{AllIn_at, IsIn_get}
 use Rattle.la_world.proofs.Legal.{legal_between}

@@ -24,7 +24,8 @@ use Rattle.la_world.specs.Acceptors.{accepted}
 use Rattle.la_world.specs.Ballots.{ballots, round}
 use Rattle.la_world.specs.Hearing.{reported}
 use Rattle.la_world.specs.Playing.{counts, trace}
-use Rattle.la_world.specs.Told.{told_body, told_over, base_of, offered_to, told_at, told, IsMadeBody, IsMade, StandsBody, ToldMessagesStand}
+use Rattle.la_replica.specs.Stored.{IsMadeBody, IsMade}
+use Rattle.la_world.specs.Told.{told_body, told_over, base_of, offered_to, told_at, told, StandsBody, ToldMessagesStand}
 use Rattle.la_world.proofs.Lists.{IsIn, IsIn_get, AllIn, AllIn-append, AllIn-each, AllIn-map, AllIn-made, AllIn_at}
 use Rattle.la_world.proofs.Accepted.{accepted_more}
 use Rattle.la_world.proofs.EventCases.{EventCases, silent, opens, answers_offer, refines, learns, Step}

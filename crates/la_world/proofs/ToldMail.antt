@@ -25,7 +25,8 @@ use Rattle.la_world.specs.Sent.{sender_for, ballot_of, offers_for, offers_for_ne
 use Rattle.la_world.specs.Ballots.{opened_by, learnt_by}
 use Rattle.la_world.specs.Hearing as hearing
 use Rattle.la_world.specs.ReplicaStates.{reports, proposer_state, instance_of, replica_state}
-use Rattle.la_world.specs.Told.{told_body, told_over, base_in, base_of, offered_to, told_at, IsMadeBody, IsMade}
+use Rattle.la_replica.specs.Stored.{IsMadeBody, IsMade}
+use Rattle.la_world.specs.Told.{told_body, told_over, base_in, base_of, offered_to, told_at}
 use Rattle.la_world.proofs.Lists.{AllIn, AllIn-append, AllIn-made, get_made, made_at}
 use Rattle.la_world.proofs.Quorum.{tells_all, group_within}
 

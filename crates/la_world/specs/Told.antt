@@ -60,16 +60,6 @@ unfoldable pub told : (n : ℕ) → Trace → List code.Message
 told n [] = []
 told n (x ∷ t) = told n t ++ told_at n x t
 
--- a delta was made of a set
-abbrev pub IsMadeBody : code_body.Body → Type 0
-IsMadeBody (body.Offer d) = d ≡ delta_over (set_of d) d.base
-IsMadeBody body.Yes = Unit {0}
-IsMadeBody (body.No d) = d ≡ delta_over (set_of d) d.base
-IsMadeBody (body.Tell told) = Unit {0}
-
-abbrev pub IsMade : code.Message → Type 0
-IsMade m = IsMadeBody m.body
-
 -- ## What its receiver has
 
 -- the set that it was made of has its base; that of an offer lies in what its receiver has accepted,

@@ -27,7 +27,7 @@ use crate::shelves::are_unused;
 use crate::{Config, Decisions, Event, Learnings, Node, Report, Step, Steps, Views, WorldError};
 use la_commit::Outcome;
 use la_object::{Replicated, Shelf};
-use la_replica::Message;
+use la_replica::StoredMessage;
 use la_set::UpdateSet;
 use std::alloc::{AllocError, Global};
 use std::marker::Model;
@@ -154,6 +154,7 @@ impl<B: Replicated> World<B> {
     }
 
     // The same, by what kind of event it is.
+    #[inline(always)]
     fn take_event(&mut self, event: &Event) -> Result<Step, WorldError>
         requires { self.old.count + 1 < 2 ^ 64 }
         ensures step { (events : Past) → StandsFor self.old events →
@@ -206,7 +207,7 @@ impl<B: Replicated> World<B> {
     /// The message with a number, from 0 in the order in which they were sent; `None` where fewer
     /// were sent.
     #[tactic(auto, using(crate::proofs::Worlds::message_found, crate::proofs::Worlds::message_told))]
-    pub fn message(&self, number: u64) -> Option<&Message>
+    pub fn message(&self, number: u64) -> Option<&StoredMessage>
         ensures value { option_copied result ≡ slice_get self.now.messages number }
         ensures stands { (events : Past) → StandsFor self.now events →
             StandsForMessage (option_copied result) (slice_get (sent_in self.now events) number) }
@@ -216,7 +217,7 @@ impl<B: Replicated> World<B> {
         self.stored_message(number)
     }
 
-    fn stored_message(&self, number: u64) -> Option<&Message>
+    fn stored_message(&self, number: u64) -> Option<&StoredMessage>
         ensures { option_copied result ≡ slice_get self.now.messages number }
     {
         self.journal.messages.get(number as usize)

@@ -3,7 +3,6 @@ ghost use Rattle.std.specs.Prelude.{◌≡◌, ◌<◌, ◌^◌, ◌↔◌, IsTr
 ghost use Rattle.std.specs.Io.KnownBytes.{Appends};
 ghost use Rattle.clap.specs.Words.{kind_of};
 ghost use Rattle.clap.specs.declared.error.kind.ErrorKind.TheVariants.{OutOfMemory};
-ghost use Rattle.la_script.specs.Pieces.{joined};
 ghost use Rattle.la_program.specs.Play.{FitAnyGroup};
 ghost use Rattle.la_program.specs.Texts.{fault_line};
 
@@ -49,7 +48,7 @@ fn answer_to_is_exact<B: Replicated>(
     requires short { length input.now < 2 ^ 32 }
     requires shelves { FitAnyGroup shelves.items }
     requires others { others.items ≡ shelves.items }
-    ensures { IfSome result (λ texts. joined texts.0 ≡ joined texts.1) }
+    ensures { IfSome result (λ texts. texts.0 ≡ texts.1) }
 {
     let first = answer_to(alloc, input, shelves).ok()?;
     let second = answer_to(alloc, input, others).ok()?;

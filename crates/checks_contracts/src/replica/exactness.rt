@@ -5,13 +5,14 @@ ghost use Rattle.la_proposer.specs.Majority.{votes_of};
 ghost use Rattle.la_replica.specs.declared.error.ReplicaError.TheVariants.{Memory as MemoryIs};
 ghost use Rattle.la_replica.specs.Whole.{whole_out};
 ghost use Rattle.la_replica.specs.Received.{received_in, StandsIn, AgreesIn};
+ghost use Rattle.la_replica.specs.Stored.{IsMade};
 ghost use Rattle.la_replica.specs.Changes.{IsPreparedFrom, led};
 ghost use Rattle.la_replica.specs.Fitting.{FitsReceiver};
 
 use la_acceptor::AcceptorError;
 use la_commit::{MAX_COMMITS, laws};
 use la_proposer::{Heard, MAX_CAP, ProposerError, Votes};
-use la_replica::{Body, Change, Mail, Message, Out, Replica, ReplicaError, Said};
+use la_replica::{Body, Change, Mail, Message, Out, Replica, ReplicaError, Said, StoredMessage};
 use la_set::{Op, UpdateSet};
 use smallvec::SmallVec;
 use std::alloc::{AllocError, Global};
@@ -46,6 +47,40 @@ fn acknowledgements_are_copied(
     ensures body { result.1 ≡ Ok Body.Yes }
 {
     (message.copy(), message.body.copy())
+}
+
+fn stored_messages_are_exact(
+    alloc: Global,
+    message: Message,
+    again: Message,
+) -> (StoredMessage, StoredMessage)
+    requires made { IsMade message }
+    requires one { message ≡ again }
+    ensures { result.0 ≡ result.1 }
+{
+    (
+        StoredMessage::of(alloc, message),
+        StoredMessage::of(alloc, again),
+    )
+}
+
+fn stored_parts_are_exact(stored: &StoredMessage) -> ((u8, u8), (u8, u8))
+    ensures { result.0 ≡ result.1 }
+{
+    (
+        (stored.instance(), stored.to()),
+        (stored.instance(), stored.to()),
+    )
+}
+
+// A stored message is handed out as it was stored; an acknowledgement always.
+fn stored_message_is_exact(
+    stored: &StoredMessage,
+) -> (Result<Message, AllocError>, Result<Message, AllocError>)
+    ensures ok { IfOk result.0 (λ one. IfOk result.1 (λ other. one ≡ other)) }
+    ensures yes { stored.now.body ≡ Body.Yes → result.0 ≡ Ok stored.now }
+{
+    (stored.message(), stored.message())
 }
 
 fn messages_are_the_same_alike(message: &Message, other: &Message) -> (bool, bool)

@@ -3,11 +3,11 @@
 ghost use Rattle.std.specs.Prelude.{◌≡◌, ◌<◌, ◌≤◌, ◌^◌, length, IfOk, IfSome, IsTrue, OnOk};
 ghost use Rattle.la_proposer.specs.Majority.{votes_of};
 ghost use Rattle.la_script.specs.Scripts.{said_by};
-ghost use Rattle.la_script.specs.Pieces.{joined};
+ghost use Rattle.la_script.specs.Walks.{bytes_of};
 ghost use Rattle.la_world.specs.Printable.{IsPrintableLine, IsPrintableReport};
 
 use la_script::{
-    Events, Pieces, ReadError, Script, ScriptFault, Stretch, Text, Version, pieces_of, print,
+    Events, Piece, Pieces, ReadError, Script, ScriptFault, Text, Version, Walk, pieces_of, print,
     put_ending, put_header, put_numbered, random_events, read,
 };
 use la_world::{Config, Event, Line, Report};
@@ -71,7 +71,7 @@ fn pieces_are_one(
     report: &Report,
 ) -> Result<(Pieces, Pieces), AllocError>
     requires { IsPrintableReport report.now }
-    ensures { IfOk result (λ both. joined both.0 ≡ joined both.1) }
+    ensures { IfOk result (λ both. both.0 ≡ both.1) }
 {
     Ok((
         pieces_of(alloc, version, report)?,
@@ -86,8 +86,8 @@ fn headers_are_one(
     version: Version,
     config: &Config,
 ) -> Result<(), AllocError>
-    requires { joined one.old ≡ joined other.old }
-    ensures { OnOk result (joined one.new ≡ joined other.new) }
+    requires { one.old ≡ other.old }
+    ensures { OnOk result (one.new ≡ other.new) }
 {
     put_header(one, version, config)?;
     put_header(other, version, config)
@@ -100,16 +100,16 @@ fn lines_are_one(
     line: &Line,
 ) -> Result<(), AllocError>
     requires printable { IsPrintableLine line.now }
-    requires same { joined one.old ≡ joined other.old }
-    ensures { OnOk result (joined one.new ≡ joined other.new) }
+    requires same { one.old ≡ other.old }
+    ensures { OnOk result (one.new ≡ other.new) }
 {
     put_numbered(one, number, line)?;
     put_numbered(other, number, line)
 }
 
 fn endings_are_one(one: &mut Pieces, other: &mut Pieces, report: &Report) -> Result<(), AllocError>
-    requires { joined one.old ≡ joined other.old }
-    ensures { OnOk result (joined one.new ≡ joined other.new) }
+    requires { one.old ≡ other.old }
+    ensures { OnOk result (one.new ≡ other.new) }
 {
     put_ending(one, report)?;
     put_ending(other, report)
@@ -133,29 +133,28 @@ fn votes_are_not_shown_in_version_one(
     ))
 }
 
-fn len_of_pieces_is_exact(pieces: &Pieces) -> (usize, usize)
+fn walk_is_exact(pieces: &Pieces) -> (Walk<'_>, Walk<'_>)
     ensures { result.0 ≡ result.1 }
 {
-    (pieces.len(), pieces.len())
+    (pieces.walk(), pieces.walk())
 }
 
-fn stretch_is_exact(pieces: &Pieces, place: usize) -> Option<(Stretch<'_>, Stretch<'_>)>
-    ensures words { IfSome result (λ both. both.0.words.now ≡ both.1.words.now) }
-    ensures ids { IfSome result (λ both. both.0.ids.now ≡ both.1.ids.now) }
-{
-    Some((pieces.at(place)?, pieces.at(place)?))
-}
-
-fn stretch_is_there_or_not(pieces: &Pieces, place: usize) -> (bool, bool)
-    ensures { result.0 ≡ result.1 }
-{
-    (pieces.at(place).is_some(), pieces.at(place).is_some())
-}
-
-fn rest_is_exact(pieces: &Pieces) -> (&[u8], &[u8])
+fn piece_is_exact<'a>(piece: &'a Piece<'a>) -> (&'a [u8], &'a [u8])
     ensures { result.0.now ≡ result.1.now }
 {
-    (pieces.rest(), pieces.rest())
+    (piece.bytes(), piece.bytes())
+}
+
+// A walk gives the whole text, and comes to an end, since no piece is empty.
+fn walked(alloc: Global, pieces: &Pieces) -> Result<Vec<u8>, AllocError>
+    ensures { IfOk result (λ text. text.items ≡ pieces.now) }
+{
+    let mut text = Vec::new(alloc);
+    let mut walk = pieces.walk();
+    while let Some(piece) = walk.next() {
+        text.extend_from_slice(piece.bytes())?;
+    }
+    Ok(text)
 }
 
 fn bytes_are_exact(text: &Text) -> (&[u8], &[u8])

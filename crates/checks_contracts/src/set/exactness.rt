@@ -2,7 +2,7 @@
 // promises equal answers. Where memory may run out for one call and not for the other, it promises
 // them where both succeed; and where both are refused, one refusal.
 ghost use Rattle.std.specs.Prelude.{◌≡◌, ◌<◌, ◌↔◌, map, IsTrue, IfOk, IfErr, OnOk, OnErr};
-ghost use Rattle.std.specs.Prelude.{option_copied};
+ghost use Rattle.std.specs.Prelude.{option_copied, IsSome};
 ghost use Rattle.la_set.specs.declared.error.SetError.TheVariants.{Memory};
 ghost use Rattle.la_set.specs.Inclusion.{IsSubset, AreComparable};
 ghost use Rattle.la_set.specs.Join.{IsCompatible};
@@ -10,8 +10,8 @@ ghost use Rattle.la_set.specs.Counts.{HasCounts, within};
 ghost use Rattle.la_set.specs.Deltas.{IsOver, AgreesWithin};
 
 use la_set::{
-    Counts, Delta, Op, REPLICAS, Ready, Sequence, SetError, Tags, Update, UpdateId, UpdateSet,
-    Updates, laws,
+    Counts, Delta, Op, REPLICAS, Ready, Sequence, SetError, SharedDelta, Tags, Update, UpdateId,
+    UpdateSet, Updates, laws,
 };
 use std::alloc::{AllocError, Global};
 use std::cmp::Ordering;
@@ -522,6 +522,34 @@ fn delta_copies_are_one(delta: &Delta) -> Result<(Delta, Delta), AllocError>
     ensures { IfOk result (λ both. both.0 ≡ both.1) }
 {
     Ok((delta.copy()?, delta.copy()?))
+}
+
+// A delta of a set is what it was made of, however it is kept.
+fn shared_deltas_are_exact(delta: Delta, again: Delta) -> (SharedDelta, SharedDelta)
+    requires made { IsSome delta.made_of }
+    requires one { delta ≡ again }
+    ensures { result.0 ≡ result.1 }
+{
+    (SharedDelta::of(delta), SharedDelta::of(again))
+}
+
+fn all_is_exact(updates: UpdateSet, again: UpdateSet) -> (SharedDelta, SharedDelta)
+    requires { updates ≡ again }
+    ensures { result.0 ≡ result.1 }
+{
+    (SharedDelta::all(updates), SharedDelta::all(again))
+}
+
+fn shared_updates_are_exact(delta: &SharedDelta) -> (&UpdateSet, &UpdateSet)
+    ensures { result.0.now ≡ result.1.now }
+{
+    (delta.updates(), delta.updates())
+}
+
+fn shared_delta_is_exact(delta: &SharedDelta) -> Result<(Delta, Delta), AllocError>
+    ensures { IfOk result (λ both. both.0 ≡ both.1) }
+{
+    Ok((delta.delta()?, delta.delta()?))
 }
 
 fn delta_same_is_exact(delta: &Delta, other: &Delta) -> (bool, bool)

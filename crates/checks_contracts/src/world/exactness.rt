@@ -15,7 +15,7 @@ ghost use Rattle.checks_contracts.specs.Alike.{AreAlike, AreOfOneGroup};
 
 use la_commit::Outcome;
 use la_object::{Replicated, Shelf};
-use la_replica::Message;
+use la_replica::StoredMessage;
 use la_set::{Tags, UpdateSet};
 use la_world::{
     Config, Event, Learnt, Line, Report, Step, Steps, World, WorldError, are_unused, empty_shelves,
@@ -179,7 +179,7 @@ fn sent_is_exact<B: Replicated>(world: &World<B>) -> (u64, u64)
 fn message_is_exact<B: Replicated>(
     world: &World<B>,
     number: u64,
-) -> (Option<&Message>, Option<&Message>)
+) -> (Option<&StoredMessage>, Option<&StoredMessage>)
     ensures { option_copied result.0 ≡ option_copied result.1 }
 {
     (world.message(number), world.message(number))

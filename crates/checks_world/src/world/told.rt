@@ -41,8 +41,8 @@ const TOLD: [(u64, [u32; 8], &[u32]); 6] = [
     (14, FIRST, &[2]),
 ];
 
-fn delta_at(world: &World<Counter>, number: u64) -> Option<&Delta> {
-    match &world.message(number)?.body {
+fn delta_at(world: &World<Counter>, number: u64) -> Option<Delta> {
+    match world.message(number)?.message().ok()?.body {
         Body::Offer(delta) | Body::No(delta) => Some(delta),
         Body::Yes | Body::Tell(_) => None,
     }
@@ -64,7 +64,7 @@ fn tells(delta: &Delta, base: [u32; 8], numbers: &[u32]) -> bool {
 
 fn are_told(world: &World<Counter>) -> bool {
     for (number, base, numbers) in &TOLD {
-        if !matches!(delta_at(world, *number), Some(delta) if tells(delta, *base, numbers)) {
+        if !matches!(&delta_at(world, *number), Some(delta) if tells(delta, *base, numbers)) {
             return false;
         }
     }

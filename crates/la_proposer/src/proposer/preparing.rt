@@ -72,6 +72,7 @@ impl Proposer {
     ///
     /// The cost is that of copies that share; of a learning that opens a ballot also that of one
     /// [`UpdateSet::join_compatible`], and of a refinement that of one for each counted refusal.
+    #[inline(always)]
     pub fn prepare_reply(
         &self,
         verdict: Option<Verdict>,
@@ -99,6 +100,7 @@ impl Proposer {
 
     /// Does what was prepared from this very proposer, at constant cost. It takes no memory. A change
     /// that is dropped is a step that did not happen.
+    #[inline(always)]
     pub fn commit(&mut self, change: Change)
         requires { IsPreparedFrom self.old change }
         ensures { self.new ≡ after_commit self.old change }

@@ -40,11 +40,11 @@ impl<B: Replicated> World<B> {
         ensures error { IfErr result (λ e. e ≡ Memory) }
         ensures err { OnErr result (self.new ≡ self.old) }
     {
+        let message = self.journal.message(number)?;
         self.journal.reserve(self.config.replicas)?;
-        let message = &self.journal.messages[number];
         let (instance, to) = (message.instance, message.to);
         // `laws::deliveries_fit`: what was sent fits its receiver, so that only memory is left.
-        let Ok((done, learnt)) = self.nodes[to as usize].take(message) else {
+        let Ok((done, learnt)) = self.nodes[to as usize].take(&message) else {
             return Err(WorldError::Memory);
         };
         let speaker = Speaker {

@@ -1,9 +1,10 @@
 // Events by which a replica submits: updates of its objects, and proposals to adopt-commit objects.
 ghost use Rattle.std.specs.Prelude.{◌≡◌, ℕ, ◌+◌, ◌*◌, ◌<◌, ◌≤◌, ◌^◌, [], ◌++◌, length, Some, None};
-ghost use Rattle.std.specs.Prelude.{IfOk, IfErr, OnOk, OnErr};
+ghost use Rattle.std.specs.Prelude.{All, IfOk, IfErr, OnOk, OnErr};
 ghost use Rattle.la_set.specs.ObjectOps.{ObjectOp};
 ghost use Rattle.la_proposer.specs.ProposerState.{op_on};
 ghost use Rattle.la_commit.specs.declared.instance.TheConstants.{MAX_COMMITS};
+ghost use Rattle.la_replica.specs.Stored.{IsMade};
 ghost use Rattle.la_world.specs.Nodes.{replicas_of};
 ghost use Rattle.la_world.specs.Events.{Past, Submit, Decide, submission_of};
 ghost use Rattle.la_world.specs.Printable.{IsPrintable};
@@ -140,6 +141,7 @@ impl<B: Replicated> World<B> {
 fn note_submission(journal: &mut Journal, replicas: u8, instance: u8, replica: u8, out: Out) -> Step
     requires known { replica < replicas }
     requires few { length out.mail ≤ 2 * replicas }
+    requires made { All IsMade out.mail }
     requires count { journal.old.count + 1 < 2 ^ 64 }
     requires messages_room { HasRoomToSend journal.old replicas }
     requires learnt_room { HasRoomToLearn journal.old }

@@ -1,6 +1,5 @@
 use Rattle.std.proofs.Common.{rules, Err, ap, subst, sym, refl}
 use Rattle.std.proofs.lemmas.Result.{IfErr-weaker, on_ok_weaker, err_from_is_err_and}
-use Rattle.la_script.specs.Pieces.{joined}
 use Rattle.la_program.specs.declared.error.PlayFault.{PlayFault}
 use Rattle.la_program.specs.Play.{FitAnyGroup, ReadsInput, IsPlayRefusal}
 use Rattle.la_program.proofs.Playing.{input_is_refused, answer_is_refused}
@@ -34,7 +33,7 @@ returns-clause-ok g c =
     let fit : FitAnyGroup c.args.shelves.items = search rules in
     let read : ReadsInput (g.R.Read.remaining c.args.reader.now) (g.R.Read.remaining c.read_all.new.reader) c.in_ok-input.input.items =
     record { all = c.in_ok-input.ensures.all; short = c.in_ok-input.ensures.short } in
-    on_ok_weaker c.write_out.result (plays c.args.shelves.items fit _ _ _ _ _ _ (joined c.in_ok-text.text) read refl c.in_ok-text.ensures.ok) c.write_out.ensures.ok
+    on_ok_weaker c.write_out.result (plays c.args.shelves.items fit _ _ _ _ _ _ c.in_ok-text.text read refl c.in_ok-text.ensures.ok) c.write_out.ensures.ok
 
 pub returns-clause-error : goal.returns-clause-error
 returns-clause-error g c =
@@ -46,7 +45,7 @@ returns-clause-error g c =
     let read : ReadsInput left left_after c.in_ok-input.input.items = record { all = c.in_ok-input.ensures.all; short = c.in_ok-input.ensures.short } in
     IfErr-weaker c.write_out.result _ _
     (λ f w. subst (λ (e : PlayFault). IsPlayRefusal c.args.shelves.items left left_after old new e) (sym w.0)
-    (plays_prefix c.args.shelves.items fit left left_after old new _ _ (joined c.in_ok-text.text) read refl c.in_ok-text.ensures.ok w.1))
+    (plays_prefix c.args.shelves.items fit left left_after old new _ _ c.in_ok-text.text read refl c.in_ok-text.ensures.ok w.1))
     c.write_out.ensures.error
 
 pub returns-clause-taken : goal.returns-clause-taken

@@ -1,4 +1,3 @@
-use Rattle.la_script.specs.Pieces.{joined}
 use Rattle.la_program.specs.Play.{shelves_of}
 use Rattle.la_program.proofs.Putting.{HasPut}
 use Rattle.la_program.proofs.UsedUp.{AreLeft}
@@ -6,6 +5,6 @@ use Rattle.la_program.proofs.play.text_of.Given as goal
 
 abbrev pub invariant-loop-index : goal.invariant-loop-index
 invariant-loop-index g l = record {
-  put : HasPut l.fn.version l.fn.config (shelves_of l.fn.config l.fn.shelves.items) l.fn.events l.index l.world (joined l.text);
+  put : HasPut l.fn.version l.fn.config (shelves_of l.fn.config l.fn.shelves.items) l.fn.events l.index l.world l.text;
   left : AreLeft l.fn.events l.left.items l.index;
 }

@@ -1,9 +1,10 @@
-use Rattle.std.proofs.Common.{take}
-use Rattle.std.specs.List.{flat_map}
-use Rattle.la_script.specs.Pieces.{stretch_text}
+use Rattle.std.proofs.Common.{◌++◌, length}
 use Rattle.la_program.specs.Streams.{AppendsAllBut}
 use Rattle.la_program.proofs.streams.write_pieces.Given as goal
 
-abbrev pub invariant-loop-place : goal.invariant-loop-place
-invariant-loop-place g l =
-    AppendsAllBut (g.W.Write.contents l.initial.writer) (g.W.Write.contents l.writer) l.held (flat_map stretch_text (take l.place l.pieces.stretches))
+abbrev pub invariant-loop-piece : goal.invariant-loop-piece
+invariant-loop-piece g l =
+    AppendsAllBut (g.W.Write.contents l.initial.writer) (g.W.Write.contents l.writer) (l.held ++ l.walk) l.pieces
+
+abbrev pub decreases-loop-piece : goal.decreases-loop-piece
+decreases-loop-piece g l = length l.walk

@@ -1,10 +1,9 @@
 use Rattle.std.proofs.Common.{◌≡◌, ◌++◌, drop, map}
 use Rattle.la_runner.specs.Runs.{back_of}
-use Rattle.la_script.specs.Pieces.{joined}
 use Rattle.la_program.specs.Threads.{logs_text}
 use Rattle.la_program.proofs.threads.put_logs.Given as goal
 
 abbrev pub invariant-loop-replica : goal.invariant-loop-replica
 invariant-loop-replica g l =
-    joined l.out ++ logs_text l.replica (map (λ x. back_of x.replica x.member x.shelf x.entries.items x.stopped) (drop l.replica l.logs))
-    ≡ joined l.initial.out ++ logs_text 0 (map (λ x. back_of x.replica x.member x.shelf x.entries.items x.stopped) l.logs)
+    l.out ++ logs_text l.replica (map (λ x. back_of x.replica x.member x.shelf x.entries.items x.stopped) (drop l.replica l.logs))
+    ≡ l.initial.out ++ logs_text 0 (map (λ x. back_of x.replica x.member x.shelf x.entries.items x.stopped) l.logs)

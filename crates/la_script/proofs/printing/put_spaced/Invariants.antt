@@ -1,8 +1,7 @@
 use Rattle.std.proofs.Common.{◌≡◌, ◌++◌, drop}
 use Rattle.la_proposer.specs.Majority.{votes_of}
-use Rattle.la_script.specs.Pieces.{joined}
 use Rattle.la_script.specs.Text.{spaced_text}
 use Rattle.la_script.proofs.printing.put_spaced.Given as goal
 
 abbrev pub invariant-loop-replica : goal.invariant-loop-replica
-invariant-loop-replica l = joined l.out ++ spaced_text (drop l.replica (votes_of l.votes)) ≡ joined l.initial.out ++ spaced_text (votes_of l.votes)
+invariant-loop-replica l = l.out ++ spaced_text (drop l.replica (votes_of l.votes)) ≡ l.initial.out ++ spaced_text (votes_of l.votes)

@@ -4,15 +4,15 @@ use Rattle.la_set.specs.Counts.{count_in}
 use Rattle.la_set.specs.Histories.{count}
 use Rattle.la_set.proofs.lemmas.Counting.{count_in-counts_of}
 use Rattle.la_script.specs.Text.{ids_text, ids_of, set_text}
-use Rattle.la_script.specs.Pieces.{front, ids_before, joined}
+use Rattle.la_script.specs.Pieces.{front, ids_before}
 use Rattle.la_script.proofs.SetIds.{ids-all, text_more, behind_more}
 use Rattle.la_script.proofs.sets.put_set.Goals as goal
 use Rattle.la_script.proofs.sets.put_set.Goals.{After-push_ascii-2}
 
-all : (c : After-push_ascii-2) → joined c.loop-replica.out ++ codes "}" ≡ joined c.args.out.now ++ set_text c.args.set.now
+all : (c : After-push_ascii-2) → c.loop-replica.out ++ codes "}" ≡ c.args.out.now ++ set_text c.args.set.now
 all c =
     let s = c.args.set.now in
-    let old = joined c.args.out.now in
+    let old = c.args.out.now in
     let eight : c.loop-replica.replica ≡ 8 = omega arith in
     ap (λ t. t ++ codes "}")
     (c.loop-replica.invariant.text
@@ -35,7 +35,7 @@ loop-replica-preserved c =
     record {
       text =
           c.in_ok-push_ids.ensures ∙ ap (λ t. t ++ front behind r n) c.loop-replica.invariant.text
-          ∙ append_assoc (joined c.push_ascii.new.self) before (front behind r n)
-          ∙ ap (λ t. joined c.push_ascii.new.self ++ t) (text_more (count s) r n behind is c.loop-replica.invariant.behind);
+          ∙ append_assoc (c.push_ascii.new.self) before (front behind r n)
+          ∙ ap (λ t. c.push_ascii.new.self ++ t) (text_more (count s) r n behind is c.loop-replica.invariant.behind);
       behind = behind_more (count s) r n behind is c.loop-replica.invariant.behind;
     }

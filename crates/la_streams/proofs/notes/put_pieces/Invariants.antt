@@ -1,7 +1,8 @@
-use Rattle.std.proofs.Common.{◌≡◌, ◌++◌, take}
-use Rattle.std.specs.List.{flat_map}
-use Rattle.la_script.specs.Pieces.{stretch_text}
+use Rattle.std.proofs.Common.{◌≡◌, ◌++◌, length}
 use Rattle.la_streams.proofs.notes.put_pieces.Given as goal
 
-abbrev pub invariant-loop-place : goal.invariant-loop-place
-invariant-loop-place l = l.out.items ≡ l.initial.out.items ++ flat_map stretch_text (take l.place l.pieces.stretches)
+abbrev pub invariant-loop-piece : goal.invariant-loop-piece
+invariant-loop-piece l = l.out.items ++ l.walk ≡ l.initial.out.items ++ l.pieces
+
+abbrev pub decreases-loop-piece : goal.decreases-loop-piece
+decreases-loop-piece l = length l.walk

@@ -24,4 +24,4 @@ pub returns-clause-ids : goal.returns-clause-ids
 returns-clause-ids c = is_front (goal.at-returns-clause-ids c).After-index
 
 pub returns-clause-some : goal.returns-clause-some
-returns-clause-some c = let is : length (take c.index.result.now c.deref.result.now) ≡ length (front true c.args.self.now.0 c.args.count) = ap length (is_front (goal.at-returns-clause-some c).After-index) in omega (arith, front_some c.args.self.now.0 c.args.count c.requires.some)
+returns-clause-some c = let is : length (take c.index.result.now c.deref.result.now) ≡ length (front true c.args.self.now.0 c.args.count) = ap length (is_front (goal.at-returns-clause-some c).After-index) in omega (arith, front_some true c.args.self.now.0 c.args.count c.requires.some)

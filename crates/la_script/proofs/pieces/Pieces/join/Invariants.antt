@@ -1,7 +1,8 @@
-use Rattle.std.proofs.Common.{◌≡◌, take}
-use Rattle.std.specs.List.{flat_map}
-use Rattle.la_script.specs.Pieces.{stretch_text}
+use Rattle.std.proofs.Common.{◌≡◌, ◌++◌, length}
 use Rattle.la_script.proofs.pieces.Pieces.join.Given as goal
 
-abbrev pub invariant-loop-place : goal.invariant-loop-place
-invariant-loop-place l = l.text.items ≡ flat_map stretch_text (take l.place l.self.stretches)
+abbrev pub invariant-loop-piece : goal.invariant-loop-piece
+invariant-loop-piece l = l.text.items ++ l.walk ≡ l.self
+
+abbrev pub decreases-loop-piece : goal.decreases-loop-piece
+decreases-loop-piece l = length l.walk

@@ -1,11 +1,13 @@
-use Rattle.std.proofs.Common.{ap, ◌∙◌}
-use Rattle.la_set.specs.Histories.{truncate}
-use Rattle.la_set.specs.Representation.{represented}
-use Rattle.la_set.proofs.Representation.{list-within, uncut}
+use Rattle.std.proofs.Common.{ap, sym, subst, ◌∙◌}
+use Rattle.la_set.specs.Representation.{represented, IsRepresentation}
+use Rattle.la_set.proofs.Representation.{list-within, stored-uncut}
 use Rattle.la_set.proofs.set.UpdateSet.keeping.Goals as goal
 
-pub of-requires : goal.of-requires
-of-requires c = list-within c.args.of c.requires
+pub keeping-requires : goal.keeping-requires
+keeping-requires c = list-within c.args.of c.requires
+
+pub invariant_of-result : goal.invariant_of-result
+invariant_of-result c = subst IsRepresentation (sym c.in_ok-keeping.ensures.lists) c.requires
 
 pub returns : goal.returns
-returns c = ap (λ lists. truncate (represented lists) 8 0) (c.in_ok-new.ensures.ok ∙ c.of.ensures) ∙ uncut c.args.of
+returns c = stored-uncut c.in_ok-keeping.field-0 c.in_ok-keeping.ensures.uncut ∙ ap represented c.in_ok-keeping.ensures.lists

@@ -8,4 +8,4 @@ pub invariant_of-result : goal.invariant_of-result
 invariant_of-result c = IsRepresentation-from _ empty refl none_each (λ r. omega (arith, ap length (history-empty r)))
 
 pub returns : goal.returns
-returns c = uncut _ ∙ represented-from _ empty none_each
+returns c = uncut _ 0 ∙ represented-from _ empty none_each

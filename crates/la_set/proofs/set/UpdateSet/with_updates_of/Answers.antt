@@ -14,17 +14,17 @@ edited-keeps c =
     IsRepresentation-edited c.in_ok-of.of c.args.self.now r us c.requires c.in_ok-of.ensures.eight c.in_ok-of.ensures.each (numbered-object_ops us r _ is)
     (omega (arith, ap length c.in_ok-of-2.ensures, c.history_of.ensures.limit)) c.allocator-alloc.ensures
 
-pub of-requires-2 : goal.of-requires-2
-of-requires-2 c = list-within _ (edited-keeps (goal.at.of-requires-2 c).In_ok-of-2)
+pub keeping-requires : goal.keeping-requires
+keeping-requires c = list-within _ (edited-keeps (goal.at.keeping-requires c).In_ok-of-2)
 
 pub invariant_of-result : goal.invariant_of-result
 invariant_of-result c =
-    subst IsRepresentation (sym (c.in_ok-new.ensures.ok ∙ c.of-2.ensures)) (edited-keeps (goal.at.invariant_of-result c).In_ok-of-2)
+    subst IsRepresentation (sym c.in_ok-keeping.ensures.lists) (edited-keeps (goal.at.invariant_of-result c).In_ok-of-2)
 
 pub returns : goal.returns
 returns c =
     let s = c.args.self.now in let r = c.args.replica in let us = c.in_ok-of-2.field-0 in
     let is : us ≡ numbered r 1 (history c.args.other.now r) = c.in_ok-of-2.ensures ∙ c.history_of.ensures.updates in
-    ap represented (c.in_ok-new.ensures.ok ∙ c.of-2.ensures)
+    ap represented c.in_ok-keeping.ensures.lists
     ∙ represented-edited c.in_ok-of.of s r us c.requires c.in_ok-of.ensures.eight c.in_ok-of.ensures.each (numbered-object_ops us r _ is)
     ∙ ap (with_history s r) (ap (map object_op_of) is ∙ object_ops-numbered r 1 (history c.args.other.now r))

@@ -3,7 +3,8 @@ use Rattle.la_commit.specs.Outcomes.{outcome_in}
 use Rattle.la_world.specs.Events.{Deliver}
 use Rattle.la_world.specs.StandsFor.{StandsFor}
 use Rattle.la_world.specs.Calls.{HoldsInvariant, Plays}
-use Rattle.la_world.proofs.Worlds.{receiver_known, read_message, message_fits, message_stands, message_agrees, delivery_known, delivery_few, delivery_is_named, delivery_played, delivery_invariant}
+use Rattle.la_world.proofs.Worlds.{receiver_known, message_fits, message_stands, message_agrees, delivery_known, delivery_few, delivery_is_named, delivery_played, delivery_invariant}
+use Rattle.la_world.proofs.ToldMail.{told_made}
 use Rattle.la_world.proofs.WorldNodes.{node_known, read_node, receiver_at, stepped, unchanged}
 use Rattle.la_world.proofs.Noted.{holds_reserved, delivery_noted, noted_holds, noted_plays, noted_prints}
 use Rattle.la_world.proofs.world.World.take_delivery.Goals as goal
@@ -13,54 +14,57 @@ invariant_of-self g c = holds_reserved c.self.invariant c.reserve.new.self c.res
 
 pub index_mut-requires : goal.index_mut-requires
 index_mut-requires g c =
-    let to = c.index-message.result.now.to in
-    let is = read_message c.self.view_is c.args.number c.requires.known c.reserve.ensures.messages c.index-message.ensures in
+    let to = c.in_ok-message.message.to in
+    let is = c.in_ok-message.ensures in
     let known : to < length c.self.inside.nodes.items = node_known c.self.inside.nodes.items to (receiver_known c.self.invariant c.args.number is) in
     search rules
 
 pub take-requires-clause-fits : goal.take-requires-clause-fits
 take-requires-clause-fits g c κs live =
-    let is = read_message c.self.view_is c.args.number c.requires.known c.reserve.ensures.messages c.index-message.ensures in
-    let found = read_node c.self.inside.nodes.items c.index-message.result.now.to (receiver_known c.self.invariant c.args.number is) c.index_mut.ensures.value in
+    let is = c.in_ok-message.ensures in
+    let found = read_node c.self.inside.nodes.items c.in_ok-message.message.to (receiver_known c.self.invariant c.args.number is) c.index_mut.ensures.value in
     message_fits (receiver_at c.self.inside.config c.self.inside.nodes.items c.self.inside.journal c.self.invariant c.args.number is found)
 
 pub take-requires-clause-stands : goal.take-requires-clause-stands
 take-requires-clause-stands g c κs live =
-    let is = read_message c.self.view_is c.args.number c.requires.known c.reserve.ensures.messages c.index-message.ensures in
-    let found = read_node c.self.inside.nodes.items c.index-message.result.now.to (receiver_known c.self.invariant c.args.number is) c.index_mut.ensures.value in
+    let is = c.in_ok-message.ensures in
+    let found = read_node c.self.inside.nodes.items c.in_ok-message.message.to (receiver_known c.self.invariant c.args.number is) c.index_mut.ensures.value in
     message_stands (receiver_at c.self.inside.config c.self.inside.nodes.items c.self.inside.journal c.self.invariant c.args.number is found)
 
 pub take-requires-clause-agrees : goal.take-requires-clause-agrees
 take-requires-clause-agrees g c κs live =
-    let is = read_message c.self.view_is c.args.number c.requires.known c.reserve.ensures.messages c.index-message.ensures in
-    let found = read_node c.self.inside.nodes.items c.index-message.result.now.to (receiver_known c.self.invariant c.args.number is) c.index_mut.ensures.value in
+    let is = c.in_ok-message.ensures in
+    let found = read_node c.self.inside.nodes.items c.in_ok-message.message.to (receiver_known c.self.invariant c.args.number is) c.index_mut.ensures.value in
     message_agrees (receiver_at c.self.inside.config c.self.inside.nodes.items c.self.inside.journal c.self.invariant c.args.number is found)
 
 pub invariant_of-self-in_default : goal.invariant_of-self-in_default
 invariant_of-self-in_default g c =
-    let to = c.index-message.result.now.to in
-    let is = read_message c.self.view_is c.args.number c.requires.known c.reserve.ensures.messages c.index-message.ensures in
+    let to = c.in_ok-message.message.to in
+    let is = c.in_ok-message.ensures in
     let found = read_node c.self.inside.nodes.items to (receiver_known c.self.invariant c.args.number is) c.index_mut.ensures.value in
     subst HoldsInvariant (sym (unchanged c.self.inside.nodes.items to c.index_mut.result.now found c.self.inside.config c.take.new.self c.reserve.new.self c.in_default.ensures.err))
     (holds_reserved c.self.invariant c.reserve.new.self c.reserve.ensures.messages c.reserve.ensures.learnt c.reserve.ensures.count)
 
 pub note-requires-clause-known : goal.note-requires-clause-known
 note-requires-clause-known g c =
-    let is = read_message c.self.view_is c.args.number c.requires.known c.reserve.ensures.messages c.index-message.ensures in
-    let found = read_node c.self.inside.nodes.items c.index-message.result.now.to (receiver_known c.self.invariant c.args.number is) c.index_mut.ensures.value in
+    let is = c.in_ok-message.ensures in
+    let found = read_node c.self.inside.nodes.items c.in_ok-message.message.to (receiver_known c.self.invariant c.args.number is) c.index_mut.ensures.value in
     delivery_known (receiver_at c.self.inside.config c.self.inside.nodes.items c.self.inside.journal c.self.invariant c.args.number is found) c.in-Ok.done c.take.new.self.replica c.in-Ok.ensures.learnt c.in-Ok.ensures.step c.in-Ok.ensures.told
 
 pub note-requires-clause-few : goal.note-requires-clause-few
 note-requires-clause-few g c =
-    let is = read_message c.self.view_is c.args.number c.requires.known c.reserve.ensures.messages c.index-message.ensures in
-    let found = read_node c.self.inside.nodes.items c.index-message.result.now.to (receiver_known c.self.invariant c.args.number is) c.index_mut.ensures.value in
+    let is = c.in_ok-message.ensures in
+    let found = read_node c.self.inside.nodes.items c.in_ok-message.message.to (receiver_known c.self.invariant c.args.number is) c.index_mut.ensures.value in
     delivery_few (receiver_at c.self.inside.config c.self.inside.nodes.items c.self.inside.journal c.self.invariant c.args.number is found) c.in-Ok.done c.take.new.self.replica c.in-Ok.ensures.learnt c.in-Ok.ensures.step c.in-Ok.ensures.told
+
+pub note-requires-clause-made : goal.note-requires-clause-made
+note-requires-clause-made g c = told_made c.take.new.self.replica _ c.in-Ok.done.mail c.in-Ok.ensures.told
 
 pub invariant_of-self-2 : goal.invariant_of-self-2
 invariant_of-self-2 g c =
-    let message = c.index-message.result.now in
+    let message = c.in_ok-message.message in
     let made = c.take.new.self in
-    let is = read_message c.self.view_is c.args.number c.requires.known c.reserve.ensures.messages c.index-message.ensures in
+    let is = c.in_ok-message.ensures in
     let found = read_node c.self.inside.nodes.items message.to (receiver_known c.self.invariant c.args.number is) c.index_mut.ensures.value in
     let d = receiver_at c.self.inside.config c.self.inside.nodes.items c.self.inside.journal c.self.invariant c.args.number is found in
     let n = delivery_noted d c.in-Ok.learnt (c.outcome_by.ensures ∙ ap (option_and_then (outcome_in message.instance message.to)) c.as_ref.ensures.value) c.reserve.new.self c.note.new.self c.in-Ok.done
@@ -70,9 +74,9 @@ invariant_of-self-2 g c =
 
 pub returns-clause-step : goal.returns-clause-step
 returns-clause-step g c events stands =
-    let message = c.index-message.result.now in
+    let message = c.in_ok-message.message in
     let made = c.take.new.self in
-    let is = read_message c.self.view_is c.args.number c.requires.known c.reserve.ensures.messages c.index-message.ensures in
+    let is = c.in_ok-message.ensures in
     let found = read_node c.self.inside.nodes.items message.to (receiver_known c.self.invariant c.args.number is) c.index_mut.ensures.value in
     let d = receiver_at c.self.inside.config c.self.inside.nodes.items c.self.inside.journal c.self.invariant c.args.number is found in
     let n = delivery_noted d c.in-Ok.learnt (c.outcome_by.ensures ∙ ap (option_and_then (outcome_in message.instance message.to)) c.as_ref.ensures.value) c.reserve.new.self c.note.new.self c.in-Ok.done
@@ -83,8 +87,8 @@ returns-clause-step g c events stands =
 
 pub returns-clause-printable : goal.returns-clause-printable
 returns-clause-printable g c =
-    let message = c.index-message.result.now in
-    let is = read_message c.self.view_is c.args.number c.requires.known c.reserve.ensures.messages c.index-message.ensures in
+    let message = c.in_ok-message.message in
+    let is = c.in_ok-message.ensures in
     let found = read_node c.self.inside.nodes.items message.to (receiver_known c.self.invariant c.args.number is) c.index_mut.ensures.value in
     let d = receiver_at c.self.inside.config c.self.inside.nodes.items c.self.inside.journal c.self.invariant c.args.number is found in
     let n = delivery_noted d c.in-Ok.learnt (c.outcome_by.ensures ∙ ap (option_and_then (outcome_in message.instance message.to)) c.as_ref.ensures.value) c.reserve.new.self c.note.new.self c.in-Ok.done

@@ -7,6 +7,8 @@ use Rattle.la_replica.specs.Bases.{AreToldFrom}
 use Rattle.la_world.specs.Events.{Decide}
 use Rattle.la_world.specs.StandsFor.{StandsFor, refused_in}
 use Rattle.la_world.specs.Calls.{HoldsInvariant, IsSubmission, Plays}
+use Rattle.la_set.specs.Counts.{zero_counts}
+use Rattle.la_world.proofs.ToldMail.{told_of, told_made}
 use Rattle.la_world.proofs.Worlds.{submission_known, submission_few, submission_is_named, done_by, submission_played, submission_invariant}
 use Rattle.la_world.proofs.WorldNodes.{node_known, read_node, submitter_at, stepped, unchanged}
 use Rattle.la_world.proofs.Noted.{holds_reserved, submission_noted, noted_holds, noted_plays, noted_prints}
@@ -52,6 +54,10 @@ note_submission-requires-clause-few g c =
     let is = subst (λ i. submits c.index_mut.result.now.replica i (first_vote c.args.commit c.args.value) ≡ Some (whole_out c.in-Ok.out, made.replica)) (sym c.first_instance.ensures) c.in-Ok.ensures.step in
     let told : (offered : Counts) → AreToldFrom made.replica c.first_instance.result offered c.in-Ok.out.mail = λ offered. subst (λ j. AreToldFrom made.replica j offered c.in-Ok.out.mail) (sym c.first_instance.ensures) (c.in-Ok.ensures.told offered) in
     submission_few s c.in-Ok.out made.replica is told
+
+pub note_submission-requires-clause-made : goal.note_submission-requires-clause-made
+note_submission-requires-clause-made g c =
+    told_made c.propose.new.self.replica zero_counts c.in-Ok.out.mail (told_of c.propose.new.self.replica _ zero_counts c.in-Ok.out.mail (c.in-Ok.ensures.told zero_counts))
 
 pub invariant_of-self-2 : goal.invariant_of-self-2
 invariant_of-self-2 g c =

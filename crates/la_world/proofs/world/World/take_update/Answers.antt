@@ -3,6 +3,8 @@ use Rattle.la_proposer.specs.ProposerState.{op_on}
 use Rattle.la_world.specs.Events.{Submit}
 use Rattle.la_world.specs.StandsFor.{StandsFor, refused_in}
 use Rattle.la_world.specs.Calls.{HoldsInvariant, IsSubmission, Plays}
+use Rattle.la_set.specs.Counts.{zero_counts}
+use Rattle.la_world.proofs.ToldMail.{told_of, told_made}
 use Rattle.la_world.proofs.Worlds.{submission_known, submission_few, submission_is_named, done_by, submission_played, submission_invariant}
 use Rattle.la_world.proofs.WorldNodes.{node_known, read_node, submitter_at, stepped, unchanged}
 use Rattle.la_world.proofs.Noted.{holds_reserved, submission_noted, noted_holds, noted_plays, noted_prints}
@@ -46,6 +48,10 @@ note_submission-requires-clause-few g c =
     let s = submitter_at c.self.inside.config c.self.inside.nodes.items c.self.inside.journal c.self.invariant c.self.view_is e 0 r (op_on c.args.object c.args.op) event c.requires.allowed found in
     let is = c.in-Ok.ensures.step in
     submission_few s c.in-Ok.out made.replica is c.in-Ok.ensures.told
+
+pub note_submission-requires-clause-made : goal.note_submission-requires-clause-made
+note_submission-requires-clause-made g c =
+    told_made c.submit.new.self.replica zero_counts c.in-Ok.out.mail (told_of c.submit.new.self.replica 0 zero_counts c.in-Ok.out.mail (c.in-Ok.ensures.told zero_counts))
 
 pub invariant_of-self-2 : goal.invariant_of-self-2
 invariant_of-self-2 g c =

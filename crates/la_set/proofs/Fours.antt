@@ -1,0 +1,82 @@
+-- Lists, four at a time.
+use Rattle.std.proofs.Common.{◌≡◌, ℕ, zero, suc, ◌+◌, ◌<◌, ◌≤◌, ◌%◌, List, [], ◌∷◌, ◌++◌, length, get_or, map, refl, ap, ap₂, sym, ◌∙◌, arith, inl, inr}
+use Rattle.std.proofs.lemmas.Bool.{cases_lt}
+use Rattle.std.proofs.lemmas.List.{same_lists, get_or_default}
+use Rattle.la_set.specs.declared.update.Update.{Update}
+use Rattle.la_set.specs.declared.counts.Counts.{Counts}
+use Rattle.la_set.specs.Counts.{from_counts}
+use Rattle.la_set.specs.Representation.{four_of, lengths_of}
+
+-- the list of a replica, of two times four
+pub four-low : (low high : List (List Update)) (r : ℕ) → r < 4 → get_or (four_of low ++ four_of high) r [] ≡ get_or low (r % 4) []
+four-low low high zero lt = refl
+four-low low high (suc zero) lt = refl
+four-low low high (suc (suc zero)) lt = refl
+four-low low high (suc (suc (suc zero))) lt = refl
+four-low low high (suc (suc (suc (suc r)))) lt = absurd (omega arith)
+
+pub four-high : (low high : List (List Update)) (r : ℕ) → 4 ≤ r → r < 8 → get_or (four_of low ++ four_of high) r [] ≡ get_or high (r % 4) []
+four-high low high zero le lt = absurd (omega arith)
+four-high low high (suc zero) le lt = absurd (omega arith)
+four-high low high (suc (suc zero)) le lt = absurd (omega arith)
+four-high low high (suc (suc (suc zero))) le lt = absurd (omega arith)
+four-high low high (suc (suc (suc (suc zero)))) le lt = refl
+four-high low high (suc (suc (suc (suc (suc zero))))) le lt = refl
+four-high low high (suc (suc (suc (suc (suc (suc zero)))))) le lt = refl
+four-high low high (suc (suc (suc (suc (suc (suc (suc zero))))))) le lt = refl
+four-high low high (suc (suc (suc (suc (suc (suc (suc (suc r)))))))) le lt = absurd (omega arith)
+
+-- and that of no lists
+pub none-eight : (r : ℕ) → r < 8 → get_or (four_of [] ++ four_of []) r [] ≡ []
+none-eight r lt = elim (cases_lt r 4) [ inl low ↦ four-low [] [] r low | inr high ↦ four-high [] [] r high lt ]
+
+-- how long each of eight is, by the lengths of four and four
+pub four-counts : (c : Counts) (low high : List (List Update)) → c.of ≡ map length (four_of low) ++ map length (four_of high) → c ≡ lengths_of (four_of low ++ four_of high)
+unfolding from_counts
+four-counts c low high e = λ i. record { of = e i }
+
+-- ## What arrays are read as
+
+pub four-read : {T : Type 0} (xs : List T) (d : T) → length xs ≡ 4 → get_or xs 0 d ∷ get_or xs 1 d ∷ get_or xs 2 d ∷ get_or xs 3 d ∷ [] ≡ xs
+four-read [] d is = absurd (omega arith)
+four-read (a ∷ []) d is = absurd (omega arith)
+four-read (a ∷ b ∷ []) d is = absurd (omega arith)
+four-read (a ∷ b ∷ c ∷ []) d is = absurd (omega arith)
+four-read (a ∷ b ∷ c ∷ e ∷ []) d is = refl
+four-read (a ∷ b ∷ c ∷ e ∷ f ∷ xs) d is = absurd (omega arith)
+
+pub fours-read : {T : Type 0} (xs ys : List T) (d : T) → length xs ≡ 4 → length ys ≡ 4
+    → get_or xs 0 d ∷ get_or xs 1 d ∷ get_or xs 2 d ∷ get_or xs 3 d ∷ get_or ys 0 d ∷ get_or ys 1 d ∷ get_or ys 2 d ∷ get_or ys 3 d ∷ [] ≡ xs ++ ys
+fours-read xs ys d four_xs four_ys = ap₂ (λ us vs. us ++ vs) (four-read xs d four_xs) (four-read ys d four_ys)
+
+-- the lists of two halves
+module _ (low high of : List (List Update)) (four_low : length low ≡ 4) (four_high : length high ≡ 4) (is : low ++ high ≡ of) where
+  pub fours-are : four_of low ++ four_of high ≡ of
+  fours-are = fours-read low high [] four_low four_high ∙ is
+
+  pub low-within : (n : ℕ) → ((r : ℕ) → r < 8 → length (get_or of r []) ≤ n) → (k : ℕ) → k < 4 → length (get_or low k []) ≤ n
+  low-within n each k lt = omega (arith, each k (omega arith), ap (λ us. length (get_or us k [])) fours-are, ap length (four-low low high k lt), ap (λ m. length (get_or low m [])) {x = k % 4} {y = k} (omega arith))
+
+  pub high-within : (n : ℕ) → ((r : ℕ) → r < 8 → length (get_or of r []) ≤ n) → (k : ℕ) → k < 4 → length (get_or high k []) ≤ n
+  high-within n each k lt = omega (arith, each (4 + k) (omega arith), ap (λ us. length (get_or us (4 + k) [])) fours-are, ap length (four-high low high (4 + k) (omega arith) (omega arith)), ap (λ m. length (get_or high m [])) {x = (4 + k) % 4} {y = k} (omega arith))
+
+-- eight items, read one after another
+pub eight-read : {T : Type 0} (xs : List T) (a b c d e f g h : T) → length xs ≡ 8
+    → a ≡ get_or xs 0 a → b ≡ get_or xs 1 b → c ≡ get_or xs 2 c → d ≡ get_or xs 3 d
+    → e ≡ get_or xs 4 e → f ≡ get_or xs 5 f → g ≡ get_or xs 6 g → h ≡ get_or xs 7 h
+    → a ∷ b ∷ c ∷ d ∷ e ∷ f ∷ g ∷ h ∷ [] ≡ xs
+eight-read {T} xs a b c d e f g h eight at_0 at_1 at_2 at_3 at_4 at_5 at_6 at_7 = same_lists _ xs (sym eight) each
+  where
+    at : (k : ℕ) (x y : T) → k < 8 → x ≡ get_or xs k x → x ≡ get_or xs k y
+    at k x y lt e = e ∙ get_or_default xs k x y (omega (arith, eight))
+
+    each : (k : ℕ) (y : T) → k < 8 → get_or (a ∷ b ∷ c ∷ d ∷ e ∷ f ∷ g ∷ h ∷ []) k y ≡ get_or xs k y
+    each zero y lt = at 0 a y lt at_0
+    each (suc zero) y lt = at 1 b y lt at_1
+    each (suc (suc zero)) y lt = at 2 c y lt at_2
+    each (suc (suc (suc zero))) y lt = at 3 d y lt at_3
+    each (suc (suc (suc (suc zero)))) y lt = at 4 e y lt at_4
+    each (suc (suc (suc (suc (suc zero))))) y lt = at 5 f y lt at_5
+    each (suc (suc (suc (suc (suc (suc zero)))))) y lt = at 6 g y lt at_6
+    each (suc (suc (suc (suc (suc (suc (suc zero))))))) y lt = at 7 h y lt at_7
+    each (suc (suc (suc (suc (suc (suc (suc (suc k)))))))) y lt = absurd (omega arith)
