@@ -1,5 +1,5 @@
 -- Lists, four at a time.
-use Rattle.std.proofs.Common.{◌≡◌, ℕ, zero, suc, ◌+◌, ◌<◌, ◌≤◌, ◌%◌, List, [], ◌∷◌, ◌++◌, length, get_or, map, refl, ap, ap₂, sym, ◌∙◌, arith, inl, inr}
+use Rattle.std.proofs.Common.{◌≡◌, ℕ, zero, suc, ◌<◌, ◌≤◌, ◌%◌, List, [], ◌∷◌, ◌++◌, length, get_or, map, refl, ap₂, sym, ◌∙◌, arith, inl, inr}
 use Rattle.std.proofs.lemmas.Bool.{cases_lt}
 use Rattle.std.proofs.lemmas.List.{same_lists, get_or_default}
 use Rattle.la_set.specs.declared.update.Update.{Update}
@@ -53,12 +53,6 @@ fours-read xs ys d four_xs four_ys = ap₂ (λ us vs. us ++ vs) (four-read xs d 
 module _ (low high of : List (List Update)) (four_low : length low ≡ 4) (four_high : length high ≡ 4) (is : low ++ high ≡ of) where
   pub fours-are : four_of low ++ four_of high ≡ of
   fours-are = fours-read low high [] four_low four_high ∙ is
-
-  pub low-within : (n : ℕ) → ((r : ℕ) → r < 8 → length (get_or of r []) ≤ n) → (k : ℕ) → k < 4 → length (get_or low k []) ≤ n
-  low-within n each k lt = omega (arith, each k (omega arith), ap (λ us. length (get_or us k [])) fours-are, ap length (four-low low high k lt), ap (λ m. length (get_or low m [])) {x = k % 4} {y = k} (omega arith))
-
-  pub high-within : (n : ℕ) → ((r : ℕ) → r < 8 → length (get_or of r []) ≤ n) → (k : ℕ) → k < 4 → length (get_or high k []) ≤ n
-  high-within n each k lt = omega (arith, each (4 + k) (omega arith), ap (λ us. length (get_or us (4 + k) [])) fours-are, ap length (four-high low high (4 + k) (omega arith) (omega arith)), ap (λ m. length (get_or high m [])) {x = (4 + k) % 4} {y = k} (omega arith))
 
 -- eight items, read one after another
 pub eight-read : {T : Type 0} (xs : List T) (a b c d e f g h : T) → length xs ≡ 8

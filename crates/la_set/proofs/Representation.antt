@@ -30,9 +30,6 @@ IsRepresentation-from lists s eight each within =
 pub list_at : (lists : List (List Update)) (s : Histories) (r : ℕ) (d : List Update) → r < 8 → IsRepresentation lists → represented lists ≡ s → get_or lists r d ≡ numbered r 1 (history s r)
 list_at lists s r d lt keeps is = get_or_default lists r d [] (omega (arith, keeps.eight)) ∙ keeps.in_order r lt ∙ ap (λ t. numbered r 1 (history t r)) is
 
-pub list-within : (lists : List (List Update)) → IsRepresentation lists → (r : ℕ) → r < 8 → length (get_or lists r []) ≤ 1000000
-list-within lists keeps r lt = omega (arith, ap length (keeps.in_order r lt), length-numbered r 1 (history (represented lists) r), keeps.within r)
-
 -- how long a list is
 pub length-at : (lists : List (List Update)) (c : Counts) (r : ℕ) → r < 8 → c ≡ lengths_of lists → count_in c r ≡ length (get_or lists r [])
 length-at lists c r lt is = ap (λ k. count_in k r) is ∙ count_in-from_counts (λ q. length (get_or lists q [])) r lt

@@ -1,4 +1,5 @@
 pub mod Links
+pub mod Counted
 pub mod Ids
 pub mod Tags
 pub mod ObjectOps

@@ -64,7 +64,14 @@ impl<T> Model for Node<T> {
 /// however many lists have it; a copy is one more owner of the last node; and any place is found in
 /// logarithmic time.
 pub struct History<T> {
-    last: Link<T>,
+    of: Counted<T>,
+}
+
+// What leads to a list, and how long that is, so that who asks follows no pointer. Both take two
+// words: fields lie in the order in which they are written, so the pointer comes last.
+enum Counted<T> {
+    Empty,
+    Items { len: u32, last: Arc<Node<T>> },
 }
 
 impl<T> Model for History<T> {
@@ -72,15 +79,20 @@ impl<T> Model for History<T> {
 
     ghost Value = { List T };
 
-    ghost use Rattle.la_set.specs.Links.{items_of};
+    ghost use Rattle.la_set.specs.Counted.{counted_items, IsCounted};
 
-    ghost view = { λ h. items_of h.last };
+    ghost view = { λ h. counted_items h.of };
+
+    ghost invariant = { λ h. IsCounted h.of };
 }
 
 impl<T: Drop> Drop for History<T> {
     fn drop(self) {
-        let History { last } = self;
-        release(last);
+        let History { of } = self;
+        match of {
+            Counted::Empty => {}
+            Counted::Items { len: _, last } => release(Some(last)),
+        }
     }
 }
 
@@ -111,7 +123,30 @@ impl<T> History<T> {
     pub fn link(&self) -> Lent<'_, T>
         ensures { lent_items result ≡ self.now }
     {
-        self.last.as_ref()
+        match &self.of {
+            Counted::Empty => None,
+            Counted::Items { last, .. } => Some(last),
+        }
+    }
+
+    /// How many items it has, at constant cost.
+    pub fn len(&self) -> u32
+        ensures { result ≡ length self.now }
+    {
+        match &self.of {
+            Counted::Empty => 0,
+            Counted::Items { len, .. } => *len,
+        }
+    }
+
+    // The list that ends with a node.
+    fn ending(last: Arc<Node<T>>) -> History<T>
+        ensures { result ≡ last.value }
+    {
+        let len = last.len;
+        History {
+            of: Counted::Items { len, last },
+        }
     }
 
     /// A list of what a link leads to, which shares all items, at constant cost. It takes no
@@ -119,8 +154,9 @@ impl<T> History<T> {
     pub fn of(link: Lent<'_, T>) -> Result<History<T>, AllocError>
         ensures { IfOk result (λ list. list ≡ lent_items link.entry) }
     {
-        Ok(History {
-            last: copy_of(link)?,
+        Ok(match link {
+            None => History { of: Counted::Empty },
+            Some(node) => History::ending(Arc::try_clone(node)?),
         })
     }
 
@@ -159,8 +195,8 @@ impl<T> History<T> {
         ensures ok { OnOk result (self.new ≡ self.old ++ item ∷ []) }
         ensures err { OnErr result (self.new ≡ self.old) }
     {
-        let last = longer(alloc, self.last.as_ref(), item)?;
-        self.last = Some(last);
+        let last = longer(alloc, self.link(), item)?;
+        *self = History::ending(last);
         Ok(())
     }
 }

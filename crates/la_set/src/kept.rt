@@ -8,7 +8,7 @@ ghost use Rattle.la_set.specs.Kept.{lists_of, cut_of, cut_to, stored};
 
 use crate::history::{History, Lent};
 use crate::lists::{EightLists, FourLists, halves};
-use crate::{Counts, MAX_NUMBER, REPLICAS, Update};
+use crate::{Counts, REPLICAS, Update};
 use std::alloc::{AllocError, Global};
 use std::sync::Arc;
 
@@ -48,7 +48,6 @@ const UNCUT: Cut = Cut {
 impl Kept {
     // These lists, in one block, which is the small one where it can be.
     pub(crate) fn keeping(alloc: Global, of: [History<Update>; 8]) -> Result<Kept, AllocError>
-        requires { (r : ℕ) → r < REPLICAS → length (slice_index_or of r []) ≤ MAX_NUMBER }
         ensures lists { IfOk result (λ kept. lists_of kept ≡ of) }
         ensures uncut { IfOk result (λ kept. (cut_of kept).replica ≡ REPLICAS) }
     {

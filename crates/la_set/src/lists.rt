@@ -1,32 +1,26 @@
-// The lists that a set keeps, and how long each is.
-ghost use Rattle.std.specs.Prelude.{◌≡◌, ◌≤◌, ◌<◌, ◌↔◌, ℕ, [], ◌++◌, length, map, replicate};
+// The lists that a set keeps.
+ghost use Rattle.std.specs.Prelude.{◌≡◌, ◌<◌, ◌↔◌, [], ◌++◌, length, map, replicate};
 ghost use Rattle.std.specs.Prelude.{slice_index_or, IsTrue};
 ghost use Rattle.la_set.specs.Links.{lent_items};
 ghost use Rattle.la_set.specs.Representation.{four_of};
 
-use crate::history::{History, Lent, len_of};
-use crate::{MAX_NUMBER, Update};
+use crate::Update;
+use crate::history::{History, Lent};
 use std::marker::Model;
 
-// Four replicas' lists of updates. Their lengths lie beside them, so that who asks for one follows
-// no pointer to a list's last item.
+// Four replicas' lists of updates.
 #[derive(Drop)]
 pub(crate) struct FourLists {
     lists: [History<Update>; 4],
-    lens: [u32; 4],
 }
 
 impl Model for FourLists {
-    ghost use Rattle.std.specs.Prelude.{◌≡◌, List, map, length};
+    ghost use Rattle.std.specs.Prelude.{List};
     ghost use Rattle.la_set.specs.declared.update.Update.{Update};
 
     ghost Value = { List (List Update) };
 
-    ghost use Rattle.la_set.specs.Representation.{four_of};
-
     ghost view = { λ l. l.lists };
-
-    ghost invariant = { λ l. l.lens ≡ map length (four_of l.lists) };
 }
 
 // All replicas' lists: those of 0 to 3, and those of 4 to 7.
@@ -37,18 +31,11 @@ pub(crate) struct EightLists {
 }
 
 impl FourLists {
-    // These lists, whose lengths are looked up.
+    // These lists.
     pub(crate) fn of(lists: [History<Update>; 4]) -> FourLists
-        requires { (place : ℕ) → place < 4 → length (slice_index_or lists place []) ≤ MAX_NUMBER }
         ensures { result ≡ lists }
     {
-        let lens = [
-            len_at(&lists, 0),
-            len_at(&lists, 1),
-            len_at(&lists, 2),
-            len_at(&lists, 3),
-        ];
-        FourLists { lists, lens }
+        FourLists { lists }
     }
 
     // What leads to the list at a place.
@@ -64,21 +51,26 @@ impl FourLists {
         requires { place < 4 }
         ensures { result ≡ length (slice_index_or self.now place []) }
     {
-        self.lens[place as usize]
+        self.lists[place as usize].len()
     }
 
     // How long each of them is.
     pub(crate) fn lens(&self) -> [u32; 4]
         ensures { result ≡ map length (four_of self.now) }
     {
-        self.lens
+        [
+            self.lists[0].len(),
+            self.lists[1].len(),
+            self.lists[2].len(),
+            self.lists[3].len(),
+        ]
     }
 
     // Whether none of them has an update.
     pub(crate) fn are_empty(&self) -> bool
         ensures { IsTrue result ↔ (four_of self.now ≡ replicate 4 []) }
     {
-        self.lens == [0; 4]
+        self.lens() == [0; 4]
     }
 }
 
@@ -90,13 +82,4 @@ pub(crate) fn halves<T>(of: [T; 8]) -> ([T; 4], [T; 4])
 {
     let [of_0, of_1, of_2, of_3, of_4, of_5, of_6, of_7] = of;
     ([of_0, of_1, of_2, of_3], [of_4, of_5, of_6, of_7])
-}
-
-// How long the list at a place is, by its last item.
-fn len_at(lists: &[History<Update>; 4], place: u8) -> u32
-    requires known { place < 4 }
-    requires few { length (slice_index_or lists.now place []) ≤ MAX_NUMBER }
-    ensures { result ≡ length (slice_index_or lists.now place []) }
-{
-    len_of(lists[place as usize].link()) as u32
 }

@@ -1,13 +1,7 @@
 use Rattle.std.proofs.Common.{[], ◌++◌, ap, ap₂, sym, ◌∙◌}
 use Rattle.la_set.specs.Representation.{four_of}
-use Rattle.la_set.proofs.Fours.{fours-are, low-within, high-within}
+use Rattle.la_set.proofs.Fours.{fours-are}
 use Rattle.la_set.proofs.kept.Kept.keeping.Goals as goal
-
-pub of-low-requires : goal.of-low-requires
-of-low-requires c = low-within c.halves-low.result.0 c.halves-low.result.1 c.args.of c.halves-low.ensures.low c.halves-low.ensures.high c.halves-low.ensures.all 1000000 c.requires
-
-pub of-high-requires : goal.of-high-requires
-of-high-requires c = high-within c.halves-low.result.0 c.halves-low.result.1 c.args.of c.halves-low.ensures.low c.halves-low.ensures.high c.halves-low.ensures.all 1000000 c.requires
 
 pub returns-then-are_empty-clause-lists : goal.returns-then-are_empty-clause-lists
 returns-then-are_empty-clause-lists c =

@@ -1,10 +1,7 @@
 use Rattle.std.proofs.Common.{ap, sym, subst, ◌∙◌}
 use Rattle.la_set.specs.Representation.{represented, IsRepresentation}
-use Rattle.la_set.proofs.Representation.{list-within, stored-uncut}
+use Rattle.la_set.proofs.Representation.{stored-uncut}
 use Rattle.la_set.proofs.set.UpdateSet.keeping.Goals as goal
-
-pub keeping-requires : goal.keeping-requires
-keeping-requires c = list-within c.args.of c.requires
 
 pub invariant_of-result : goal.invariant_of-result
 invariant_of-result c = subst IsRepresentation (sym c.in_ok-keeping.ensures.lists) c.requires

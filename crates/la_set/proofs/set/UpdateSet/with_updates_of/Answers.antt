@@ -3,7 +3,7 @@ use Rattle.la_set.specs.ObjectOps.{object_op_of}
 use Rattle.la_set.specs.Histories.{history, numbered, with_history}
 use Rattle.la_set.specs.Representation.{represented, IsRepresentation}
 use Rattle.la_set.proofs.lemmas.NumberedLists.{object_ops-numbered}
-use Rattle.la_set.proofs.Representation.{list-within, numbered-object_ops, represented-edited, IsRepresentation-edited}
+use Rattle.la_set.proofs.Representation.{numbered-object_ops, represented-edited, IsRepresentation-edited}
 use Rattle.la_set.proofs.set.UpdateSet.with_updates_of.Goals as goal
 use Rattle.la_set.proofs.set.UpdateSet.with_updates_of.Goals.{In_ok-of-2}
 
@@ -13,9 +13,6 @@ edited-keeps c =
     let is : us ≡ numbered r 1 (history c.args.other.now r) = c.in_ok-of-2.ensures ∙ c.history_of.ensures.updates in
     IsRepresentation-edited c.in_ok-of.of c.args.self.now r us c.requires c.in_ok-of.ensures.eight c.in_ok-of.ensures.each (numbered-object_ops us r _ is)
     (omega (arith, ap length c.in_ok-of-2.ensures, c.history_of.ensures.limit)) c.allocator-alloc.ensures
-
-pub keeping-requires : goal.keeping-requires
-keeping-requires c = list-within _ (edited-keeps (goal.at.keeping-requires c).In_ok-of-2)
 
 pub invariant_of-result : goal.invariant_of-result
 invariant_of-result c =
