@@ -6,7 +6,14 @@ use Rattle.std.specs.Option.{is_some}
 use Rattle.std.proofs.lemmas.List.{same_from_push, take_more, take-append-drop, drop_all, length-take}
 use Rattle.std.proofs.lemmas.Option.{slice_get_within, slice_get-get_or, same_Some, none-some}
 use Rattle.std.proofs.lemmas.Bool.{cases_eq, cases_lt, false≢true, true≢false}
+use Rattle.std.specs.Global.{Global}
+use Rattle.std.specs.declared.sync.Arc.{Arc}
 use Rattle.la_set.specs.Agreement.{AgreeBelow, IsFirstDifference, StartsWith}
+
+-- one more than the items of a link, where it leads to some
+abbrev pub steps_left : {T : Type 0} → Option (Arc (List T) Global) → ℕ
+steps_left None = 0
+steps_left (Some a) = suc (length a.value)
 
 -- the lists have no two items at a place
 abbrev pub AgreeAt : {T : Type 0} → List T → List T → ℕ → Type 0

@@ -8,6 +8,7 @@ pub mod Inclusion
 pub mod Join
 pub mod Difference
 pub mod Agreement
+pub mod Back
 pub mod Representation
 pub mod Kept
 pub mod Refusals

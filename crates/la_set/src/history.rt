@@ -3,6 +3,7 @@ ghost use Rattle.std.specs.Prelude.{length, take, drop, slice_get, IsTrue, IfOk,
 ghost use Rattle.std.specs.Prelude.{MatchOption};
 ghost use Rattle.std.specs.Option.{option_copied};
 ghost use Rattle.la_set.specs.Links.{items_of, lent_items};
+ghost use Rattle.la_set.specs.Back.{count_before, before, jumped, IsBack};
 ghost use Rattle.la_set.specs.Agreement.{Agree, AgreeBelow, IsFirstDifference, StartsWith};
 ghost use Rattle.la_set.specs.Join.{joined};
 
@@ -26,28 +27,43 @@ pub type Link<T> = Option<Arc<Node<T>>>;
 /// A link, lent.
 pub type Lent<'a, T> = Option<&'a Arc<Node<T>>>;
 
-/// An item with all that stands before it. `jump` leads to the first so many of the items before
-/// it.
+/// An item with all that stands before it.
+#[cycle(node)]
 #[derive(Drop)]
 pub struct Node<T> {
     item: T,
-    len: u32,
-    prev: Link<T>,
-    jump: Link<T>,
+    back: Back<T>,
+}
+
+// What stands before an item: how many items, what leads to them, and where the jump leads, to the
+// first so many of them. All takes three words: fields lie in the order in which they are written.
+#[cycle(node)]
+#[derive(Drop)]
+enum Back<T> {
+    // No items.
+    Nothing,
+    // The jump leads to none of them.
+    Behind {
+        len: u32,
+        prev: Arc<Node<T>>,
+    },
+    Jumping {
+        len: u32,
+        prev: Arc<Node<T>>,
+        jump: Arc<Node<T>>,
+    },
 }
 
 impl<T> Model for Node<T> {
-    ghost use Rattle.std.specs.Prelude.{◌≡◌, List, ◌+◌, ◌++◌, ◌∷◌, [], take, length};
+    ghost use Rattle.std.specs.Prelude.{List, ◌++◌, ◌∷◌, [], length};
 
     ghost Value = { List T };
 
-    ghost use Rattle.la_set.specs.Links.{items_of};
-    ghost use Rattle.la_set.specs.Agreement.{StartsWith};
+    ghost use Rattle.la_set.specs.Back.{before, IsBack};
 
-    ghost view = { λ n. items_of n.prev ++ n.item ∷ [] };
+    ghost view = { λ n. before n.back ++ n.item ∷ [] };
 
-    ghost invariant = { λ n. (n.len ≡ length (items_of n.prev) + 1)
-        × StartsWith (items_of n.prev) (items_of n.jump) };
+    ghost invariant = { λ n. IsBack n.back };
 
     ghost size = { length };
 
@@ -96,6 +112,72 @@ impl<T: Drop> Drop for History<T> {
     }
 }
 
+impl<T> Back<T> {
+    // How many items stand there.
+    fn len(&self) -> u32
+        ensures { result ≡ count_before self.now }
+    {
+        match self {
+            Back::Nothing => 0,
+            Back::Behind { len, .. } | Back::Jumping { len, .. } => *len,
+        }
+    }
+
+    // What leads to all of them.
+    fn prev(&self) -> Lent<'_, T>
+        ensures { lent_items result ≡ before self.now }
+    {
+        match self {
+            Back::Nothing => None,
+            Back::Behind { prev, .. } | Back::Jumping { prev, .. } => Some(prev),
+        }
+    }
+
+    // What leads to the first so many of them.
+    fn jump(&self) -> Lent<'_, T>
+        ensures { lent_items result ≡ jumped self.now }
+    {
+        match self {
+            Back::Nothing | Back::Behind { .. } => None,
+            Back::Jumping { jump, .. } => Some(jump),
+        }
+    }
+
+    // The same as a link of its own; what leads to the first so many is let go.
+    fn into_prev(self) -> Link<T>
+    where
+        T: Drop,
+        ensures { items_of result ≡ before self }
+    {
+        match self {
+            Back::Nothing => None,
+            Back::Behind { len: _, prev } => Some(prev),
+            Back::Jumping { len: _, prev, jump } => {
+                drop(jump);
+                Some(prev)
+            }
+        }
+    }
+
+    // What stands before an item that comes behind all that a node has, and the jump from there.
+    fn behind(node: &Arc<Node<T>>, jump: Lent<'_, T>) -> Result<Back<T>, AllocError>
+    where
+        T: Drop,
+        requires few { length node.now.value < MAX_LEN }
+        requires front { StartsWith node.now.value (lent_items jump) }
+        ensures before { IfOk result (λ back. before back ≡ node.now.value) }
+        ensures stands { IfOk result (λ back. IsBack back) }
+    {
+        let len = len_at(node);
+        let prev = Arc::try_clone(node)?;
+        let Some(jump) = jump else {
+            return Ok(Back::Behind { len, prev });
+        };
+        let jump = Arc::try_clone(jump)?;
+        Ok(Back::Jumping { len, prev, jump })
+    }
+}
+
 // Lets a link go. The nodes that go with it go one after another, and not one within the other, so
 // that the stack doesn't grow with the list.
 fn release<T: Drop>(link: Link<T>) {
@@ -103,15 +185,9 @@ fn release<T: Drop>(link: Link<T>) {
     while let Some(node) = at {
         at = match Arc::into_inner(node) {
             Some(node) => {
-                let Node {
-                    item,
-                    len: _,
-                    prev,
-                    jump,
-                } = node;
-                drop(jump);
+                let Node { item, back } = node;
                 drop(item);
-                prev
+                back.into_prev()
             }
             None => None,
         };
@@ -143,7 +219,7 @@ impl<T> History<T> {
     fn ending(last: Arc<Node<T>>) -> History<T>
         ensures { result ≡ last.value }
     {
-        let len = last.len;
+        let len = len_at(&last);
         History {
             of: Counted::Items { len, last },
         }
@@ -269,23 +345,14 @@ pub fn len_of<T>(link: Lent<'_, T>) -> usize
 {
     match link {
         None => 0,
-        Some(node) => len_at(node),
+        Some(node) => len_at(node) as usize,
     }
 }
 
-fn len_at<T>(node: &Node<T>) -> usize
+fn len_at<T>(node: &Node<T>) -> u32
     ensures { result ≡ length node.now }
 {
-    node.len as usize
-}
-
-fn copy_of<T>(link: Lent<'_, T>) -> Result<Link<T>, AllocError>
-    ensures { IfOk result (λ copy. items_of copy ≡ lent_items link.entry) }
-{
-    match link {
-        None => Ok(None),
-        Some(node) => Ok(Some(Arc::try_clone(node)?)),
-    }
+    node.back.len() + 1
 }
 
 /// The last item, and what stands before it, at constant cost.
@@ -295,10 +362,13 @@ pub fn step_back<T>(link: Lent<'_, T>) -> Step<'_, T>
 {
     match link {
         None => unreachable!(),
-        Some(node) => Step {
-            item: &node.item,
-            prev: node.prev.as_ref(),
-        },
+        Some(node) => {
+            let Node { item, back } = &**node;
+            Step {
+                item,
+                prev: back.prev(),
+            }
+        }
     }
 }
 
@@ -326,11 +396,11 @@ fn nearer<T>(link: Lent<'_, T>, len: usize) -> Lent<'_, T>
         Some(node) => {
             // a hint to the prover: the pointer is followed once, so that the test and the answer
             // speak of one node
-            let node: &Node<T> = node;
-            if len_of(node.jump.as_ref()) >= len {
-                node.jump.as_ref()
+            let back = &node.back;
+            if len_of(back.jump()) >= len {
+                back.jump()
             } else {
-                node.prev.as_ref()
+                back.prev()
             }
         }
     }
@@ -341,14 +411,11 @@ fn longer<T: Drop>(alloc: Global, link: Lent<'_, T>, item: T) -> Result<Arc<Node
     requires { length (lent_items link) < MAX_LEN }
     ensures { IfOk result (λ node. node.value ≡ lent_items link.entry ++ item ∷ []) }
 {
-    let jump = copy_of(far_back(link))?;
-    let node = Node {
-        item,
-        len: len_of(link) as u32 + 1,
-        prev: copy_of(link)?,
-        jump,
+    let back = match link {
+        None => Back::Nothing,
+        Some(node) => Back::behind(node, far_back(link))?,
     };
-    Ok(Arc::new(alloc, node)?)
+    Ok(Arc::new(alloc, Node { item, back })?)
 }
 
 // Where the jump of a node behind this link leads: as far again as the last two jumps, where these
@@ -371,6 +438,6 @@ fn jump_of<T>(link: Lent<'_, T>) -> Lent<'_, T>
 {
     match link {
         None => link,
-        Some(node) => node.jump.as_ref(),
+        Some(node) => node.back.jump(),
     }
 }
