@@ -54,11 +54,12 @@ impl Counts {
         ensures { result ≡ from_counts (λ r.
             if r == replica then min (count_in self r) most else count_in self r) }
     {
-        let mut of = self.of;
-        if replica < REPLICAS {
-            let at = replica as usize;
-            of[at] = of[at].min(most);
+        if replica >= REPLICAS {
+            return self;
         }
+        let mut of = self.of;
+        let at = replica as usize;
+        of[at] = of[at].min(most);
         Counts { of }
     }
 

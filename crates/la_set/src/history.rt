@@ -86,7 +86,8 @@ pub struct History<T> {
 // What leads to a list, and how long that is, so that who asks follows no pointer. Both take two
 // words: fields lie in the order in which they are written, so the pointer comes last.
 enum Counted<T> {
-    Empty,
+    // Here too the length is kept, in the same place, so that no test comes before it is read.
+    Empty { len: u32 },
     Items { len: u32, last: Arc<Node<T>> },
 }
 
@@ -106,7 +107,7 @@ impl<T: Drop> Drop for History<T> {
     fn drop(self) {
         let History { of } = self;
         match of {
-            Counted::Empty => {}
+            Counted::Empty { len: _ } => {}
             Counted::Items { len: _, last } => release(Some(last)),
         }
     }
@@ -200,7 +201,7 @@ impl<T> History<T> {
         ensures { lent_items result ≡ self.now }
     {
         match &self.of {
-            Counted::Empty => None,
+            Counted::Empty { .. } => None,
             Counted::Items { last, .. } => Some(last),
         }
     }
@@ -210,8 +211,7 @@ impl<T> History<T> {
         ensures { result ≡ length self.now }
     {
         match &self.of {
-            Counted::Empty => 0,
-            Counted::Items { len, .. } => *len,
+            Counted::Empty { len } | Counted::Items { len, .. } => *len,
         }
     }
 
@@ -231,7 +231,9 @@ impl<T> History<T> {
         ensures { IfOk result (λ list. list ≡ lent_items link.entry) }
     {
         Ok(match link {
-            None => History { of: Counted::Empty },
+            None => History {
+                of: Counted::Empty { len: 0 },
+            },
             Some(node) => History::ending(Arc::try_clone(node)?),
         })
     }
