@@ -1,6 +1,8 @@
 // What the definitions mean: laws over every history, which no code runs.
 ghost use Rattle.std.specs.Prelude.{◌≡◌, ◌⊎◌, List, ◌∷◌, ◌++◌};
 ghost use mathlib.Core.List.{IsPrefix};
+ghost use Rattle.la_set.specs.Counts.{counts_of};
+ghost use Rattle.la_set.specs.declared.counts.Counts.{Counts};
 ghost use Rattle.la_set.specs.Histories.{Histories};
 ghost use Rattle.la_set.specs.Inclusion.{IsSubset};
 ghost use Rattle.la_set.specs.Join.{IsCompatible};
@@ -8,6 +10,7 @@ ghost use Rattle.la_acceptor.specs.Answer.{answer};
 ghost use Rattle.la_acceptor.specs.Offers.{AreAnswered, accepted_after};
 ghost use Rattle.la_shared.specs.declared.entry.Entry.{Entry};
 ghost use Rattle.la_shared.specs.History.{accepted_by, offers, IsLegal, HasEntry, HasYes};
+ghost use Rattle.la_shared.specs.Bases.{AgreesWith};
 ghost use Rattle.la_shared.specs.Passes.{Known, Extends, IsPass};
 
 use la_acceptor::Reply;
@@ -58,4 +61,19 @@ pub fn what_was_seen_stays()
         → IsPass pass → HasEntry pass.mine set reply → HasEntry pass.seen set reply }
     ensures beginnings { (one other history : List Entry)
         → IsPrefix one history → IsPrefix other history → IsPrefix one other ⊎ IsPrefix other one }
+{}
+
+/// What is accepted only grows along a history; so a set that agrees with it within some counts does
+/// so ever after. It agrees as far as a set went that was offered there and lies in it. A refusal
+/// contains the offer.
+pub fn agreements_stay()
+    ensures grows { (seen longer : List Entry)
+        → IsPrefix seen longer → IsSubset (accepted_by seen) (accepted_by longer) }
+    ensures longer { (seen longer : List Entry) (base : Counts) (set : Histories)
+        → IsPrefix seen longer → AgreesWith base seen set → AgreesWith base longer set }
+    ensures offered { (history : List Entry) (set larger : Histories) (reply : Reply)
+        → IsLegal history → HasEntry history set reply → IsSubset set larger
+        → AgreesWith (counts_of set) history larger }
+    ensures refused { (old new : Known) (set refused : Histories)
+        → Extends set (Reply.No refused) old new → IsSubset set refused }
 {}

@@ -1,6 +1,7 @@
 ghost use Rattle.la_shared.specs.Passes.{IsPass};
 
 use crate::turns::Ticketed;
+use la_set::Counts;
 use std::marker::Model;
 
 /// What one caller knows of a shared acceptor. A contract sees the acceptor, the pass's number, the
@@ -13,9 +14,12 @@ pub struct Pass {
     pub(crate) seat: Ticketed,
     // A value of no bytes cannot lie in a row that is indexed.
     pub(crate) acceptor: u8,
+    // How many updates its last answered offer had; none before the first.
+    pub(crate) offered: Counts,
 }
 
 impl Model for Pass {
+    ghost use Rattle.la_shared.specs.Bases.{IsOwnOffer};
     ghost use Rattle.la_shared.specs.Passes.{Known};
     ghost use Rattle.la_shared.specs.Seats.{IsAtRest, known};
 
@@ -23,7 +27,8 @@ impl Model for Pass {
 
     ghost view = { λ pass. known pass.seat };
 
-    ghost invariant = { λ pass. IsAtRest pass.seat };
+    ghost invariant = { λ pass.
+        IsAtRest pass.seat × IsOwnOffer pass.offered pass.seat.me.0.mine };
 }
 
 impl Pass {

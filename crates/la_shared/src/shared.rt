@@ -1,11 +1,17 @@
-ghost use Rattle.std.specs.Prelude.{◌≡◌, [], None, IfOk, OnErr};
+ghost use Rattle.std.specs.Prelude.{◌≡◌, [], None, IfOk, OnOk, IfErr, OnErr};
 ghost use mathlib.Core.List.{IsPrefix};
+ghost use Rattle.la_set.specs.Counts.{within};
+ghost use Rattle.la_set.specs.Histories.{Histories};
+ghost use Rattle.la_set.specs.Join.{IsCompatible, join};
+ghost use Rattle.la_acceptor.specs.Answer.{answer};
+ghost use Rattle.la_acceptor.specs.Refusals.{IsOfferRefusal};
+ghost use Rattle.la_shared.specs.Bases.{AgreesWith, HasOffers, IsAcceptedSince};
 ghost use Rattle.la_shared.specs.Passes.{Extends, HasNumber, IsNewcomer, IsPass};
 
 use crate::table::Core;
 use crate::{Gate, Note, Pass};
-use la_acceptor::{AcceptorError, Reply};
-use la_set::UpdateSet;
+use la_acceptor::{Acceptor, AcceptorError, Reply};
+use la_set::{Counts, UpdateSet};
 use std::alloc::{AllocError, Global};
 use std::marker::{Brand, Model};
 use std::sync::Wait;
@@ -38,6 +44,7 @@ impl SharedAcceptor {
         let pass = Pass {
             seat,
             acceptor: number,
+            offered: Counts::zero(),
         };
         Ok((SharedAcceptor { number, core }, pass))
     }
@@ -54,6 +61,7 @@ impl SharedAcceptor {
         Pass {
             seat: other,
             acceptor: self.number,
+            offered: Counts::zero(),
         }
     }
 
@@ -82,13 +90,66 @@ impl SharedAcceptor {
         ensures ok { IfOk result (λ reply. Extends set.now reply pass.old pass.new) }
         ensures err { OnErr result (
             (pass.new.seen ≡ pass.old.seen) × (pass.new.mine ≡ pass.old.mine)) }
+        ensures refusal { IfErr result (λ e. (u : Histories)
+            × IsAcceptedSince pass.old.seen u × IsOfferRefusal u set.now e) }
+        ensures pass { IsPass pass.new }
+    {
+        self.offer_beyond(rt, pass, set, Counts::zero(), gate)
+    }
+
+    /// The same of an offer that contains each that this pass has offered. What the last of them had
+    /// was accepted then, and so it is now: only what the offer and the accepted set have beyond that
+    /// is compared while no other offer is answered.
+    pub fn offer_grown<R: Wait, G: Gate>(
+        &self,
+        rt: &R,
+        pass: &mut Pass,
+        set: &UpdateSet,
+        gate: &G,
+    ) -> Result<Reply, AcceptorError>
+        requires acceptor { pass.old.acceptor ≡ self.now }
+        requires grown { HasOffers pass.old.mine set.now }
+        ensures acceptor { pass.new.acceptor ≡ self.now }
+        ensures number { HasNumber pass.old.number pass.new.number }
+        ensures ok { IfOk result (λ reply. Extends set.now reply pass.old pass.new) }
+        ensures err { OnErr result (
+            (pass.new.seen ≡ pass.old.seen) × (pass.new.mine ≡ pass.old.mine)) }
+        ensures refusal { IfErr result (λ e. (u : Histories)
+            × IsAcceptedSince pass.old.seen u × IsOfferRefusal u set.now e) }
+        ensures pass { IsPass pass.new }
+    {
+        let base = pass.offered;
+        self.offer_beyond(rt, pass, set, base, gate)
+    }
+
+    /// The same of an offer that is known to have within these counts what was accepted by all that
+    /// the pass has seen: what is accepted only grows, so it has them in its turn too, and only what
+    /// both have beyond them is compared while no other offer is answered.
+    pub fn offer_beyond<R: Wait, G: Gate>(
+        &self,
+        rt: &R,
+        pass: &mut Pass,
+        set: &UpdateSet,
+        base: Counts,
+        gate: &G,
+    ) -> Result<Reply, AcceptorError>
+        requires acceptor { pass.old.acceptor ≡ self.now }
+        requires agrees { AgreesWith base pass.old.seen set.now }
+        ensures acceptor { pass.new.acceptor ≡ self.now }
+        ensures number { HasNumber pass.old.number pass.new.number }
+        ensures ok { IfOk result (λ reply. Extends set.now reply pass.old pass.new) }
+        ensures err { OnErr result (
+            (pass.new.seen ≡ pass.old.seen) × (pass.new.mine ≡ pass.old.mine)) }
+        ensures refusal { IfErr result (λ e. (u : Histories)
+            × IsAcceptedSince pass.old.seen u × IsOfferRefusal u set.now e) }
         ensures pass { IsPass pass.new }
     {
         let mut acceptor = self.core.take(rt, &mut pass.seat);
         gate.inside(self.number);
-        match acceptor.offer(set) {
+        match answer_beyond(&mut acceptor, set, base) {
             Ok(reply) => {
                 self.core.record::<Brand>(&mut pass.seat, set, &reply);
+                pass.offered = set.counts();
                 self.core.put_back(&mut pass.seat, acceptor);
                 Ok(reply)
             }
@@ -126,4 +187,24 @@ impl SharedAcceptor {
         let Note { seat, acceptor: _ } = note;
         self.core.meet(&mut pass.seat, seat);
     }
+}
+
+// The acceptor's step, for an offer that has within these counts what is accepted. Its place is
+// la_acceptor, as `Acceptor::offer_beyond`.
+fn answer_beyond(
+    acceptor: &mut Acceptor,
+    offered: &UpdateSet,
+    base: Counts,
+) -> Result<Reply, AcceptorError>
+    requires { within acceptor.old base ≡ within offered.now base }
+    ensures reply { IfOk result (λ reply. reply ≡ answer acceptor.old offered.now) }
+    ensures accepted { OnOk result (acceptor.new ≡ join acceptor.old offered.now) }
+    ensures compatible { OnOk result (IsCompatible acceptor.old offered.now) }
+    ensures error { IfErr result (IsOfferRefusal acceptor.old offered.now) }
+    ensures err { OnErr result (acceptor.new ≡ acceptor.old) }
+{
+    acceptor.admit_offer_beyond(offered, base)?;
+    let (reply, accepted) = acceptor.prepare_offer(offered)?;
+    acceptor.commit(accepted);
+    Ok(reply)
 }

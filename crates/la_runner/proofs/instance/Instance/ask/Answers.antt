@@ -1,5 +1,6 @@
 use Rattle.std.proofs.Common.{sym, subst, ◌<◌}
 use Rattle.la_runner.proofs.Asked.{goes_of, learnt_of, stays_of, vain_of, at_place}
+use Rattle.la_runner.proofs.Larger.{grown_at}
 use Rattle.la_runner.proofs.instance.Instance.ask.Goals as goal
 
 pub returns-clause-goes : goal.returns-clause-goes
@@ -25,3 +26,10 @@ returns-clause-stays g c =
 
 pub returns-clause-vain : goal.returns-clause-vain
 returns-clause-vain g c = vain_of c.args.self.now.proposer c.ask_one.new.proposer c.index_mut.result.now c.ask_one.new.pass c.ask_one.result c.ask_one.ensures.err
+
+pub ask_one-requires-clause-grown : goal.ask_one-requires-clause-grown
+ask_one-requires-clause-grown g c κs w =
+    let ps = c.args.self.now.passes.items in
+    let within = subst (λ n. c.args.from < n) (sym c.requires.sound.sizes) c.requires.known in
+    let at = at_place ps c.args.from c.index_mut.result.now within c.index_mut.ensures.value in
+    grown_at c.args.self.now.proposer ps c.args.from c.index_mut.result.now c.requires.sound at

@@ -1,4 +1,4 @@
-use Rattle.la_shared.proofs.shared.SharedAcceptor.offer.Given as goal
+use Rattle.la_shared.proofs.shared.SharedAcceptor.offer_beyond.Given as goal
 
 abbrev pub ghosts-record : goal.ghosts-record
 ghosts-record g a = record { set = a.set.now; reply = a.reply.now }
