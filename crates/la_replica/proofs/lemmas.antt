@@ -1,3 +1,5 @@
 pub mod Growing
 pub mod Carrying
 pub mod Alike
+pub mod Rebasing
+pub mod Parcelling

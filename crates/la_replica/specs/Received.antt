@@ -119,6 +119,20 @@ IsKnownWithin x b Yes = Unit {0}
 IsKnownWithin x b (No s) = within x.proposer.updates b ≡ within s b
 IsKnownWithin x b (Tell s) = Unit {0}
 
+-- within these counts a told set has what the view has
+abbrev pub IsToldWithin : (view : Histories) → Counts → Body → Type 0
+IsToldWithin view b (Offer s) = Unit {0}
+IsToldWithin view b Yes = Unit {0}
+IsToldWithin view b (No s) = Unit {0}
+IsToldWithin view b (Tell s) = within view b ≡ within s b
+
+-- the same of a message as it comes
+abbrev pub IsTellWithin : (view : Histories) → Counts → code_body.Body → Type 0
+IsTellWithin view b (body.Offer d) = Unit {0}
+IsTellWithin view b body.Yes = Unit {0}
+IsTellWithin view b (body.No d) = Unit {0}
+IsTellWithin view b (body.Tell told) = within view b ≡ within told b
+
 -- ## What it is where it came from
 
 -- what its delta stands for here is the set that it was made of

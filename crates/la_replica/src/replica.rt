@@ -9,6 +9,7 @@ ghost use Rattle.la_proposer.specs.ProposerState.{op_on};
 ghost use Rattle.la_replica.specs.Whole.{lent_message, lent_body, whole_out, whole_mail};
 ghost use Rattle.la_replica.specs.Received.{received_in, rebuilt_in, StandsIn, AgreesIn};
 ghost use Rattle.la_replica.specs.Received.{made_at, IsLentIn, IsNotToldIn, IsKnownWithin};
+ghost use Rattle.la_replica.specs.Received.{IsToldWithin, IsTellWithin};
 ghost use Rattle.la_replica.specs.Bases.{offered_by, AreToldIn, AreToldFrom, AreToldAfter};
 ghost use Rattle.la_replica.specs.Bases.{AreToldThere};
 ghost use Rattle.la_replica.specs.ReplicaState.{ReplicaState, start, submits, receives, sender_of};
@@ -22,13 +23,15 @@ ghost use Rattle.la_replica.specs.Memory.{IsFree};
 ghost use Rattle.la_replica.specs.Changes.{IsPreparedFrom, after_commit, led, AreSameIn, LeadsThere};
 ghost use Rattle.la_replica.specs.Changes.{IsVerdictOn, candidate, is_taken};
 ghost use Rattle.la_replica.specs.Again.{again};
+ghost use Rattle.la_replica.specs.Parcels.{IsOpened, OpensIn, IsOpenRefusal};
+ghost use Rattle.la_replica.specs.Parcels.{unwrapped, UnwrapsBody};
 
 use crate::change::agreed_next;
 use crate::instance::Instance;
 use crate::sender::Sender;
 use crate::view::{is_taken, is_taken_fitting};
 use crate::whole::{Whole, WholeBody};
-use crate::{Change, Mail, Message, Out, ReplicaError};
+use crate::{Change, Mail, Message, Out, Parcel, ReplicaError};
 use la_commit::MAX_COMMITS;
 use la_proposer::{Verdict, Votes};
 use la_set::{Counts, Op, UpdateSet};
@@ -240,10 +243,48 @@ impl Replica {
             → IsFree self.now (received_in self.now message.now) → IsOk result }
         ensures error { IfErr result (IsReceiptRefusal self.now message.now) }
     {
+        self.prepare_beyond(message, Counts::zero())
+    }
+
+    /// Prepares to receive a parcel, whose told set is rebuilt over the view: so that is compared with
+    /// the view beyond its base alone.
+    #[tactic(auto, using(crate::proofs::lemmas::Parcelling::unwrapped_within))]
+    pub fn prepare_parcel(&self, parcel: Parcel) -> Result<(Out, Change), ReplicaError>
+        ensures step { IfOk result (λ prepared.
+            receives self.now (received_in self.now (unwrapped self.now.view parcel))
+            ≡ led self.now (whole_out prepared.0) prepared.1) }
+        ensures from { IfOk result (λ prepared. IsPreparedFrom self.now prepared.1) }
+        ensures unwraps { IfOk result (λ _. UnwrapsBody self.now.view parcel.content) }
+        ensures stands { IfOk result (λ _. StandsIn self.now (unwrapped self.now.view parcel)) }
+    {
+        let told = parcel.content.told();
+        let message = parcel.over(&self.view)?;
+        self.prepare_beyond(&message, told)
+    }
+
+    // The same, where within these counts a told set is known to have what the view has.
+    fn prepare_beyond(&self, message: &Message, told: Counts) -> Result<(Out, Change), ReplicaError>
+        requires { IsTellWithin self.now.view told message.now.body }
+        ensures step { IfOk result (λ prepared. receives self.now (received_in self.now message.now)
+            ≡ led self.now (whole_out prepared.0) prepared.1) }
+        ensures from { IfOk result (λ prepared. IsPreparedFrom self.now prepared.1) }
+        ensures told { IfOk result (λ prepared. AreToldAfter self.now prepared.1
+            (offered_by (received_in self.now message.now)) prepared.0.mail) }
+        ensures instance { IfOk result (λ prepared.
+            prepared.1.instance ≡ message.now.instance) }
+        ensures stands { IfOk result (λ _. StandsIn self.now message.now) }
+        ensures fits { IfOk result (λ _.
+            IsReceivable self.now (received_in self.now message.now)) }
+        ensures spares { IfOk result (λ _.
+            ReceivingSpares self.now (received_in self.now message.now)) }
+        ensures free { IsNotToldIn self.now message.now
+            → IsFree self.now (received_in self.now message.now) → IsOk result }
+        ensures error { IfErr result (IsReceiptRefusal self.now message.now) }
+    {
         let set = self.rebuilt(message)?;
         let whole = Whole::of(message, set.as_ref());
         let verdict = self.admit_message(whole, message.body.base())?;
-        let known = self.known(verdict, whole);
+        let known = self.known(verdict, whole, told);
         let taken = is_taken(&self.view, self.candidate(verdict, whole), known);
         Ok(self.prepare_as(whole, verdict, taken)?)
     }
@@ -318,6 +359,20 @@ impl Replica {
             self.instances[instance as usize].again(&mut mail, &sender)?;
         }
         Ok(mail)
+    }
+
+    /// A parcel as a message: a told set is rebuilt over what is accepted here in its instance; an offer
+    /// and a refusal are handed on. Of its own only a told set is copied, at the cost of what it has over
+    /// its base. In this order: `NoSuchInstance`; of a told set `NoBase`, `Gap`, `Memory`.
+    pub fn opened(&self, parcel: Parcel) -> Result<Message, ReplicaError>
+        ensures ok { IfOk result (IsOpened self.now parcel) }
+        ensures stands { IfOk result (λ _. OpensIn self.now parcel) }
+        ensures error { IfErr result (IsOpenRefusal self.now parcel) }
+    {
+        match self.instances.get(parcel.instance as usize) {
+            Some(at) => Ok(at.opened(parcel)?),
+            None => Err(ReplicaError::NoSuchInstance),
+        }
     }
 
     // What the delta of a message to this replica stands for, where it is looked at.
@@ -417,14 +472,16 @@ impl Replica {
 
     // Within which counts the view is known to have what the candidate has: a set that is learnt is
     // that of the ballot.
-    fn known(&self, verdict: Option<Verdict>, message: Whole<'_>) -> Counts
-        requires { message.instance < length self.now.instances }
+    fn known(&self, verdict: Option<Verdict>, message: Whole<'_>, told: Counts) -> Counts
+        requires there { message.instance < length self.now.instances }
+        requires told { IsToldWithin self.now.view told (lent_body message.body) }
         ensures { InInstance self.now message.entry.instance (λ x.
             IfSome (candidate x verdict (lent_message message.entry)) (λ s.
             within self.now.view result ≡ within s result)) }
     {
         match (message.body, verdict) {
             (WholeBody::Yes | WholeBody::No(_), Some(Verdict::Learns)) => self.agreed,
+            (WholeBody::Tell(_), _) => told,
             _ => Counts::zero(),
         }
     }

@@ -89,7 +89,7 @@ impl UpdateSet {
         requires { within self.now base ≡ within other.now base }
         ensures { result ≡ is_larger other.now self.now }
     {
-        self.contains_beyond(other, base) && !self.has_no_more(other)
+        !self.has_no_more(other) && self.contains_beyond(other, base)
     }
 
     /// The same where no id has two updates in the two: by the counts alone, at constant cost.

@@ -77,5 +77,7 @@ pub mod Voters
 pub mod Returning
 pub mod Nodes
 pub mod LiveGroups
+pub mod RebasedReceipts
+pub mod RebasedGroups
 mod Repeats
 mod Kept

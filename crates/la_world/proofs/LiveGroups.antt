@@ -420,7 +420,7 @@ proposals_live nodes network r node made k value out live at first step told = �
 -- a message on the network is received as the one that was sent
 module _ (c : Config) (group : LiveGroup) (events : Past) (stands : StandsForEvents c group events) (r : ℕ) (node : NodeState) (found : slice_get group.nodes r ≡ Some node) (place : ℕ) (n : code.Message)
     (at : slice_get (told (replicas (live_group_of c)) (trace (live_group_of c) events)) place ≡ Some n) (to : n.to ≡ r) where
-  sent_there : slice_get group.sent place ≡ Some (whole_of n)
+  pub sent_there : slice_get group.sent place ≡ Some (whole_of n)
   sent_there = ap (λ ms. slice_get ms place) stands.led.sent ∙ told_sent (live_group_of c) events stands.led.legal stands.config.group.cap_most place n at
 
   n_carried : IsCarriedIn node.replica n
@@ -431,12 +431,12 @@ module _ (c : Config) (group : LiveGroup) (events : Past) (stands : StandsForEve
       subst (λ q. IsCarriedIn q n) (ap (replica_state g t) to ∙ sym (is_state c group events stands r node found))
       (deliverable_carried (replica_state g t n.to) n (AllIn_at IsMade (told (replicas g) t) n (told_are_made g events) (IsIn_get (told (replicas g) t) place n at)) (subst (λ o. IsSomeAnd o (λ x. IsDeliverableAt x n)) (sym there) deliverable))
 
-  takes_sent : takes node.replica (received_in node.replica n) ≡ takes node.replica (whole_of n)
+  pub takes_sent : takes node.replica (received_in node.replica n) ≡ takes node.replica (whole_of n)
   takes_sent =
       ap (option_and_then (λ (made : Out × ReplicaState). then_votes made (vote_due n.instance node.replica.own made.0.said)))
       (carried_received node.replica n n_carried)
 
-  offers_sent : offered_by (received_in node.replica n) ≡ offered_by (whole_of n)
+  pub offers_sent : offered_by (received_in node.replica n) ≡ offered_by (whole_of n)
   offers_sent = carried_offers node.replica n n_carried
 
 pub receipts_live : ReceiptsKeepLive
@@ -462,7 +462,7 @@ looks_live nodes network r node made live at same = ∥∥₁_map live (λ is. s
 
 -- what a call came to, where it came to this replica
 module _ {A : Type 0} where
-  came_to : (o : Option (A × ReplicaState)) (after : ReplicaState) → option_map (λ (made : A × ReplicaState). made.1) o ≡ Some after → (a : A) × (o ≡ Some (a, after))
+  pub came_to : (o : Option (A × ReplicaState)) (after : ReplicaState) → option_map (λ (made : A × ReplicaState). made.1) o ≡ Some after → (a : A) × (o ≡ Some (a, after))
   came_to None after e = absurd (none-some after e)
   came_to (Some made) after e = (made.0, ap (λ s. Some (made.0, s)) (same_Some made.1 after e))
 
