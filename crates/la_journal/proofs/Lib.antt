@@ -1,4 +1,9 @@
 mod Goes
+mod SaidSo
+mod SaidGroups
+mod ManyLives
+mod Recorded
+mod TornRecords
 mod TornLines
 mod Groups
 mod Leading

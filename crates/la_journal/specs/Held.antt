@@ -1,8 +1,9 @@
 -- What is known of a file, as a disk sees it: each by the bytes, by how many of them are on the disk,
 -- and by what is noted of the past.
-use Rattle.std.specs.Prelude.{ℕ, ◌-◌, List, length, vec_len, vec_capacity}
+use Rattle.std.specs.Prelude.{ℕ, ◌-◌, ◌≤◌, List, length, vec_len, vec_capacity}
 use Rattle.la_journal.specs.declared.contents.Contents.{Contents}
-use Rattle.la_journal.specs.Outcomes.{LeftOf, LeftSince, only_left}
+use Rattle.la_journal.specs.Note.{now_of}
+use Rattle.la_journal.specs.Outcomes.{LeftAt, LeftSince, only_left, left_now}
 
 abbrev pub bytes_of : Contents → List ℕ
 bytes_of contents = contents.bytes.items
@@ -23,11 +24,15 @@ abbrev pub moment_of : Contents → ℕ
 moment_of contents = length contents.past.events
 
 abbrev pub may_leave_of : Contents → List ℕ → Type 0
-may_leave_of contents c = LeftOf contents.kept contents.bytes.items c
+may_leave_of contents c = LeftAt (now_of contents.past.events) c
 
 abbrev pub left_since_of : Contents → ℕ → List ℕ → Type 0
-left_since_of contents t c = LeftSince contents.past.events contents.kept contents.bytes.items t c
+left_since_of contents t c = LeftSince contents.past.events t c
 
 -- since this moment there is no other
 pub only_now_of : (contents : Contents) (c : List ℕ) → left_since_of contents (moment_of contents) c → may_leave_of contents c
-only_now_of contents c left = only_left contents.past.events contents.kept contents.bytes.items c left
+only_now_of contents c left = only_left contents.past.events c left
+
+-- this moment is one of those since an earlier one
+pub counts_now_of : (contents : Contents) (t : ℕ) (c : List ℕ) → t ≤ moment_of contents → may_leave_of contents c → left_since_of contents t c
+counts_now_of contents t c le left = left_now contents.past.events t c le left

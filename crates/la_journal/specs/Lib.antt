@@ -7,5 +7,8 @@ pub mod Note
 pub mod Outcomes
 pub mod Held
 pub mod Starts
+pub mod Served
+pub mod ServedGroups
+pub mod Commits
 pub mod Snapshots
 pub mod Staging

@@ -1,5 +1,6 @@
 // The type alone: what its calls cite names it.
-ghost use Rattle.std.specs.Prelude.{◌≤◌, length};
+ghost use Rattle.std.specs.Prelude.{◌≡◌, ◌∷◌, ◌≤◌, length};
+ghost use Rattle.la_journal.specs.Note.{now_of, first_of};
 
 use crate::record::Record;
 
@@ -15,4 +16,6 @@ pub struct Contents {
     pub(crate) past: Record,
     pub(crate) failures: Record,
     ghost within: { kept ≤ length bytes.items },
+    // and that is among what a crash may leave now
+    ghost held: { first_of (now_of past.events) ≡ kept ∷ bytes.items },
 }

@@ -1,6 +1,8 @@
 // What becomes of the contents of a file.
-ghost use Rattle.std.specs.Prelude.{◌≡◌, ◌++◌, ◌+◌, ◌≤◌, [], List, ℕ, length, vec_len, OnOk};
+ghost use Rattle.std.specs.Prelude.{◌≡◌, ◌⊎◌, ◌++◌, ◌+◌, ◌≤◌, [], List, ℕ, length, vec_len, OnOk};
 ghost use Rattle.la_journal.specs.Disk.{Only, Follows, Torn, Elapses};
+ghost use Rattle.la_journal.specs.Note.{now_of};
+ghost use Rattle.la_journal.specs.Outcomes.{LeftAt};
 ghost use Rattle.la_journal.specs.Held.{bytes_of, kept_of, room_of, faults_of, moment_of, may_leave_of, left_since_of};
 
 use crate::Contents;
@@ -8,14 +10,21 @@ use crate::record::Record;
 use std::alloc::{AllocError, Global};
 
 impl Contents {
-    /// A file that holds these bytes. How many of them are on the disk is not known.
-    pub fn found(bytes: Vec<u8>) -> Contents
-        ensures { bytes_of result ≡ bytes.items }
+    /// A file of another process, that holds these bytes. Until the first sync or replacement a crash leaves what that
+    /// one may have left, or these bytes.
+    pub fn found(bytes: Vec<u8>, left: Record) -> Contents
+        ensures bytes { bytes_of result ≡ bytes.items }
+        ensures crash { (c : List ℕ) → may_leave_of result c → (c ≡ bytes.items) ⊎ LeftAt (now_of left.events) c }
+        ensures seen { may_leave_of result bytes.items }
+        ensures moment { moment_of result ≡ length left.events + 1 }
     {
+        let kept = bytes.len();
+        let mut past = left;
+        past.note(&[kept as u64, 0], &bytes);
         Contents {
             bytes,
-            kept: 0,
-            past: Record::new(),
+            kept,
+            past,
             failures: Record::new(),
         }
     }
@@ -24,14 +33,26 @@ impl Contents {
     pub fn stored(bytes: Vec<u8>) -> Contents
         ensures bytes { bytes_of result ≡ bytes.items }
         ensures kept { kept_of result ≡ length bytes.items }
+        ensures durable { Only bytes.items (may_leave_of result) }
+        ensures seen { may_leave_of result bytes.items }
     {
         let kept = bytes.len();
+        let mut past = Record::new();
+        past.note(&[kept as u64], &bytes);
         Contents {
             bytes,
             kept,
-            past: Record::new(),
+            past,
             failures: Record::new(),
         }
+    }
+
+    /// What a crash may leave, at this moment and the earlier ones.
+    pub fn left(self) -> Record
+        ensures { result.events ≡ self.past.events }
+    {
+        let Contents { past, .. } = self;
+        past
     }
 
     /// The bytes that a read returns.
@@ -69,7 +90,7 @@ impl Contents {
         ensures time { Elapses (moment_of self.old) (moment_of self.new) (left_since_of self.old) (left_since_of self.new) (may_leave_of self.new) }
         ensures faults { faults_of self.new ≡ faults_of self.old }
     {
-        self.past.note(&[self.kept as u64], &self.bytes);
+        self.past.note(&[], bytes);
         let _there_is_room = self.bytes.extend_from_slice(bytes);
     }
 
@@ -82,8 +103,8 @@ impl Contents {
         ensures time { Elapses (moment_of self.old) (moment_of self.new) (left_since_of self.old) (left_since_of self.new) (may_leave_of self.new) }
         ensures faults { faults_of self.new ≡ faults_of self.old }
     {
-        self.past.note(&[self.kept as u64], &self.bytes);
         self.kept = self.bytes.len();
+        self.past.note(&[self.kept as u64], &self.bytes);
     }
 
     /// Other bytes stand in the place of these, all of them on the disk.
@@ -94,8 +115,8 @@ impl Contents {
         ensures time { Elapses (moment_of self.old) (moment_of self.new) (left_since_of self.old) (left_since_of self.new) (may_leave_of self.new) }
         ensures faults { faults_of self.new ≡ faults_of self.old }
     {
-        self.past.note(&[self.kept as u64], &self.bytes);
         self.kept = bytes.len();
+        self.past.note(&[self.kept as u64], &bytes);
         self.bytes = bytes;
     }
 
@@ -104,6 +125,7 @@ impl Contents {
         ensures bytes { bytes_of self.new ≡ bytes_of self.old }
         ensures kept { kept_of self.new ≡ kept_of self.old }
         ensures crash { (c : List ℕ) → may_leave_of self.new c → may_leave_of self.old c }
+        ensures still { (c : List ℕ) → may_leave_of self.old c → may_leave_of self.new c }
         ensures time { Elapses (moment_of self.old) (moment_of self.new) (left_since_of self.old) (left_since_of self.new) (may_leave_of self.new) }
         ensures faults { faults_of self.new ≡ faults_of self.old + 1 }
     {

@@ -5,6 +5,7 @@ ghost use Rattle.la_journal.specs.Lines.{lines};
 ghost use Rattle.la_journal.specs.Machine.{after, steps, LeadsToSome};
 ghost use Rattle.la_journal.specs.Durable.{IsSameOr};
 ghost use Rattle.la_journal.specs.Starts.{IsStart};
+ghost use Rattle.la_journal.specs.Served.{LivesAreOneRun};
 
 use crate::{Disk, Machine};
 
@@ -43,4 +44,10 @@ pub fn lives_follow_one_another<M: Machine>()
         → after M.named_state M.named M.step start c ≡ Some next
         → LeadsToSome (after M.named_state M.named M.step start) M.step later next d
         → (n : ℕ) × (m : ℕ) × (after M.named_state M.named M.step start d ≡ steps M.step (take n calls ++ take m later) first) }
+{}
+
+/// Over any number of lives: the last file leads to where one list of calls leads, made of the first some of each
+/// life's, with all that it answered.
+pub fn lives_are_one_run<M: Machine>()
+    ensures { (start : M.State) → LivesAreOneRun (after M.named_state M.named M.step start) M.step }
 {}

@@ -1,7 +1,6 @@
 // A file in memory that fails and crashes as a test wants.
-ghost use Rattle.std.specs.Prelude.{◌≡◌, ◌≤◌, ◌+◌, length, IfOk};
-ghost use Rattle.std.proofs.Common.{inl};
-ghost use Rattle.la_journal.specs.Held.{bytes_of, kept_of, room_of, faults_of, moment_of, may_leave_of, left_since_of, only_now_of};
+ghost use Rattle.std.specs.Prelude.{◌≡◌, ◌⊎◌, ◌≤◌, ◌+◌, List, ℕ, length, IfOk};
+ghost use Rattle.la_journal.specs.Held.{bytes_of, kept_of, room_of, faults_of, moment_of, may_leave_of, left_since_of, only_now_of, counts_now_of};
 ghost use Rattle.la_journal.specs.Disk.{IsTorn, Only};
 
 use crate::{Contents, Disk, DiskError, DiskFault};
@@ -23,6 +22,7 @@ impl MemoryDisk {
     pub fn new(alloc: Global, bytes: Vec<u8>) -> MemoryDisk
         ensures bytes { bytes_of result.contents ≡ bytes.items }
         ensures kept { kept_of result.contents ≡ length bytes.items }
+        ensures stored { Only bytes.items (may_leave_of result.contents) }
     {
         MemoryDisk {
             alloc,
@@ -72,6 +72,26 @@ impl MemoryDisk {
     }
 }
 
+impl MemoryDisk {
+    /// What another process finds after a crash, as by [`crash`](MemoryDisk::crash): until it has synced or replaced
+    /// the file, a crash leaves what this one may have left.
+    pub fn restart(self, written: usize, zeros: usize) -> Result<MemoryDisk, AllocError>
+        ensures read { IfOk result (λ found. may_leave_of self.contents (bytes_of found.contents)) }
+        ensures crash { IfOk result (λ found. (c : List ℕ) → may_leave_of found.contents c → (c ≡ bytes_of found.contents) ⊎ may_leave_of self.contents c) }
+        ensures moment { IfOk result (λ found. moment_of found.contents ≡ moment_of self.contents + 1) }
+    {
+        let left = self.crash(written, zeros)?;
+        let alloc = self.alloc;
+        let bytes = left.bytes().to_vec(alloc)?;
+        Ok(MemoryDisk {
+            alloc,
+            contents: Contents::found(bytes, self.contents.left()),
+            most: usize::MAX,
+            syncs: u32::MAX,
+        })
+    }
+}
+
 // Takes one of what is left, if there is one.
 fn take_one(left: &mut u32) -> bool {
     if *left == 0 {
@@ -112,7 +132,7 @@ impl Disk for MemoryDisk {
 
     ghost room = { λ d. room_of d.contents };
 
-    ghost counts_now = { λ _ _ _ _ now. inl now };
+    ghost counts_now = { λ d t c le left. counts_now_of d.contents t c le left };
 
     ghost only_now = { λ d c left. only_now_of d.contents c left };
 

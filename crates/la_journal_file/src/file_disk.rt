@@ -1,11 +1,10 @@
 // A real file as a disk.
 ghost use Rattle.std.specs.Prelude.{◌≡◌};
-ghost use Rattle.std.proofs.Common.{inl};
-ghost use Rattle.la_journal.specs.Held.{bytes_of, room_of, faults_of, moment_of, may_leave_of, left_since_of, only_now_of};
+ghost use Rattle.la_journal.specs.Held.{bytes_of, room_of, faults_of, moment_of, may_leave_of, left_since_of, only_now_of, counts_now_of};
 
 use crate::FolderLock;
 use crate::folder_lock::path_of;
-use la_journal::{Contents, Disk, DiskError, DiskFault};
+use la_journal::{Contents, Disk, DiskError, DiskFault, Record};
 use std::alloc::{AllocError, Global};
 use std::fs::{OpenFile, OpenOptions};
 use std::io::{self, Read, Write};
@@ -43,7 +42,7 @@ impl<R: Files + Drop> FileDisk<R> {
             rt,
             alloc,
             file,
-            contents: Contents::found(bytes),
+            contents: Contents::found(bytes, Record::of_another()),
             path,
             next,
             lock,
@@ -80,7 +79,7 @@ impl<R: Files + Drop> Disk for FileDisk<R> {
 
     ghost room = { λ d. room_of d.contents };
 
-    ghost counts_now = { λ _ _ _ _ now. inl now };
+    ghost counts_now = { λ d t c le left. counts_now_of d.contents t c le left };
 
     ghost only_now = { λ d c left. only_now_of d.contents c left };
 

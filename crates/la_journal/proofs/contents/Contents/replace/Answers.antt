@@ -1,8 +1,8 @@
 use Rattle.std.proofs.Common.{◌≤◌, length, rules}
-use Rattle.la_journal.proofs.Goes.{all_kept}
+use Rattle.la_journal.proofs.Goes.{noted_alone}
 use Rattle.la_journal.proofs.contents.Contents.replace.Goals as goal
 
 pub returns-clause-durable : goal.returns-clause-durable
-returns-clause-durable c =
+returns-clause-durable c f left =
     let long : length c.args.bytes.items ≤ c.len-self.result = search rules in
-    all_kept c.len-self.result c.args.bytes.items long
+    noted_alone c.note.new.self.events c.len-self.result c.deref.result.now c.args.bytes.items f c.deref.ensures.value long c.args.self.now.past.events c.note.ensures left

@@ -1,7 +1,8 @@
-use Rattle.std.proofs.Common.{◌≡◌, ◌++◌, ◌≤◌, List, ℕ, length, take, drop, ap, ◌∙◌, subst, arith, rules}
+use Rattle.std.proofs.Common.{◌≡◌, ◌++◌, ◌≤◌, List, ℕ, length, take, drop, ap, ◌∙◌, sym, subst, arith, rules}
 use Rattle.la_journal.specs.Disk.{IsTorn}
 use Rattle.la_journal.specs.Outcomes.{LeftOf}
-use Rattle.la_journal.proofs.Goes.{all_kept}
+use Rattle.la_journal.specs.Note.{now_of}
+use Rattle.la_journal.proofs.Goes.{held_left}
 use Rattle.la_journal.proofs.Groups.{tail_is}
 use Rattle.la_journal.proofs.memory_disk.MemoryDisk.crash.Goals as goal
 
@@ -15,9 +16,8 @@ returns-clause-left c =
     let torn : IsTorn (drop kept bytes) c.in_ok-torn.torn.items =
     subst (λ (b : List ℕ). IsTorn (drop kept b) c.in_ok-torn.torn.items) c.bytes-bytes.ensures
     (subst (λ (r : List ℕ). IsTorn r c.in_ok-torn.torn.items) (tail_is kept c.bytes-bytes.result.now) c.in_ok-torn.ensures) in
-    subst (λ (k : ℕ). LeftOf k bytes c.new.result.contents.bytes.items) c.kept-kept.ensures.value (c.in_ok-torn.torn.items, torn, is)
+    held_left c.args.self.now.contents.kept bytes (now_of c.args.self.now.contents.past.events) c.new.result.contents.bytes.items c.args.self.now.contents.held
+    (subst (λ (k : ℕ). LeftOf k bytes c.new.result.contents.bytes.items) c.kept-kept.ensures.value (c.in_ok-torn.torn.items, torn, is))
 
 pub returns-clause-stored : goal.returns-clause-stored
-returns-clause-stored c =
-    let all : length c.new.result.contents.bytes.items ≤ c.new.result.contents.kept = omega (arith, c.new.ensures.kept, ap length c.new.ensures.bytes) in
-    all_kept c.new.result.contents.kept c.new.result.contents.bytes.items all
+returns-clause-stored c f left = c.new.ensures.stored f left ∙ sym c.new.ensures.bytes

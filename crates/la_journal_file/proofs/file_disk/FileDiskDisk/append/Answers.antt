@@ -1,16 +1,12 @@
-use Rattle.std.proofs.Common.{inl, inr, ⊎_elim, ℕ, List, sym, subst, arith}
-use Rattle.la_journal.specs.Held.{may_leave_of}
-use Rattle.la_journal.specs.Outcomes.{LeftOf}
+use Rattle.std.proofs.Common.{inl, inr, ⊎_elim, arith}
 use Rattle.la_journal_file.proofs.file_disk.FileDiskDisk.append.Goals as goal
 
 pub returns-then-is_err-clause-time : goal.returns-then-is_err-clause-time
 returns-then-is_err-clause-time g c =
     let first = c.append.ensures.time in
     let second = c.fail.ensures.time in
-    let same : (f : List ℕ) → may_leave_of c.append.new.self f → may_leave_of c.fail.new.self f =
-    λ f left. subst (λ (k : ℕ). LeftOf k c.fail.new.self.bytes.items f) (sym c.fail.ensures.kept) (subst (λ (b : List ℕ). LeftOf c.append.new.self.kept b f) (sym c.fail.ensures.bytes) left) in
     record {
       later = omega (arith, first.later, second.later);
-      nothing_else = λ t f le left. ⊎_elim (λ was. ⊎_elim (λ old. inl old) (λ now. inr (same f now)) (first.nothing_else t f le was)) (λ now. inr now) (second.nothing_else t f (omega (arith, le, first.later)) left);
+      nothing_else = λ t f le left. ⊎_elim (λ was. ⊎_elim (λ old. inl old) (λ now. inr (c.fail.ensures.still f now)) (first.nothing_else t f le was)) (λ now. inr now) (second.nothing_else t f (omega (arith, le, first.later)) left);
       keeps = λ t f le was. second.keeps t f (omega (arith, le, first.later)) (first.keeps t f le was);
     }
