@@ -68,7 +68,26 @@ impl Acceptor {
         ensures err { OnErr result (self.new ≡ self.old) }
         ensures again { offered.now ≡ self.old → result ≡ Ok Reply.Yes }
     {
-        self.admit_offer(offered)?;
+        self.offer_beyond(offered, Counts::zero())
+    }
+
+    /// The same of an offer that is known to have within these counts what is accepted: only what both
+    /// have beyond them is compared. It is [`Acceptor::admit_offer_beyond`],
+    /// [`Acceptor::prepare_offer`] and [`Acceptor::commit`], at the cost of the three.
+    pub fn offer_beyond(
+        &mut self,
+        offered: &UpdateSet,
+        base: Counts,
+    ) -> Result<Reply, AcceptorError>
+        requires { within self.old base ≡ within offered.now base }
+        ensures reply { IfOk result (λ reply. reply ≡ answer self.old offered.now) }
+        ensures accepted { OnOk result (self.new ≡ join self.old offered.now) }
+        ensures compatible { OnOk result (IsCompatible self.old offered.now) }
+        ensures error { IfErr result (IsOfferRefusal self.old offered.now) }
+        ensures err { OnErr result (self.new ≡ self.old) }
+        ensures again { offered.now ≡ self.old → result ≡ Ok Reply.Yes }
+    {
+        self.admit_offer_beyond(offered, base)?;
         let (reply, accepted) = self.prepare_offer(offered)?;
         self.commit(accepted);
         Ok(reply)

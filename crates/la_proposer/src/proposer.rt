@@ -1,6 +1,7 @@
 ghost use Rattle.std.specs.Prelude.{◌≡◌, ◌≢◌, true, false, ◌<◌, ◌≤◌, length, IfOk, IfErr, OnOk};
 ghost use Rattle.std.specs.Prelude.{OnErr, IfSome, option_copied};
-ghost use Rattle.la_set.specs.Histories.{empty};
+ghost use Rattle.la_set.specs.Histories.{Histories, empty};
+ghost use Rattle.la_set.specs.Inclusion.{IsSubset};
 ghost use Rattle.la_set.specs.Counts.{within};
 ghost use Rattle.la_proposer.specs.Majority.{votes_of};
 ghost use Rattle.la_proposer.specs.Tally.{reply_carrying, has_counted};
@@ -225,7 +226,56 @@ impl Proposer {
         ensures error { IfErr result (IsReplyRefusal self.old from ballot reply) }
         ensures err { OnErr result (self.new ≡ self.old) }
     {
-        let verdict = self.admit_reply(from, ballot, refusal_of(&reply))?;
+        self.hear(from, ballot, reply, Counts::zero())
+    }
+
+    /// The same of a reply whose refused set, if it has one, contains the last ballot's set, as that
+    /// of an acceptor does to which it was offered: only what the refused set has beyond the ballot's
+    /// is compared, and the cost is that.
+    pub fn reply_grown(
+        &mut self,
+        from: u8,
+        ballot: u32,
+        reply: Reply,
+    ) -> Result<Heard, ProposerError>
+        requires grown { (refused : Histories)
+            → reply ≡ Reply.No refused → IsSubset self.old.updates refused }
+        ensures in_group { IfOk result (λ _. from < length self.old.votes) }
+        ensures fits { IfOk result (λ _. ReplyFits self.old from ballot reply) }
+        ensures spares { IfOk result (λ _. ReplySpares self.old from ballot reply) }
+        ensures ignored { IsIgnored self.old from ballot → result ≡ Ok Heard.Ignored }
+        ensures counted { OnlyCounts self.old from ballot reply → result ≡ Ok Heard.Counted }
+        ensures heard { IfOk result (λ heard. heard ≡ heard_of self.old from ballot reply) }
+        ensures ok { OnOk result (self.new ≡ after_reply self.old from ballot reply) }
+        ensures error { IfErr result (IsReplyRefusal self.old from ballot reply) }
+        ensures err { OnErr result (self.new ≡ self.old) }
+    {
+        let base = self.updates().counts();
+        self.hear(from, ballot, reply, base)
+    }
+
+    // Hears a reply whose refused set, if it has one, has within these counts what the last ballot's
+    // set has.
+    fn hear(
+        &mut self,
+        from: u8,
+        ballot: u32,
+        reply: Reply,
+        base: Counts,
+    ) -> Result<Heard, ProposerError>
+        requires known { (refused : Histories) → reply ≡ Reply.No refused
+            → within self.old.updates base ≡ within refused base }
+        ensures in_group { IfOk result (λ _. from < length self.old.votes) }
+        ensures fits { IfOk result (λ _. ReplyFits self.old from ballot reply) }
+        ensures spares { IfOk result (λ _. ReplySpares self.old from ballot reply) }
+        ensures ignored { IsIgnored self.old from ballot → result ≡ Ok Heard.Ignored }
+        ensures counted { OnlyCounts self.old from ballot reply → result ≡ Ok Heard.Counted }
+        ensures heard { IfOk result (λ heard. heard ≡ heard_of self.old from ballot reply) }
+        ensures ok { OnOk result (self.new ≡ after_reply self.old from ballot reply) }
+        ensures error { IfErr result (IsReplyRefusal self.old from ballot reply) }
+        ensures err { OnErr result (self.new ≡ self.old) }
+    {
+        let verdict = self.admit_reply_beyond(from, ballot, refusal_of(&reply), base)?;
         let (heard, change) = self.prepare_reply(verdict, from, ballot, reply)?;
         self.commit(change);
         Ok(heard)

@@ -1,5 +1,5 @@
 ghost use Rattle.std.specs.Prelude.{◌≡◌, ◌≢◌, true, ◌<◌, ◌≤◌, length, IfOk, OnOk, OnErr, IfErr, IfSome};
-ghost use Rattle.la_proposer.specs.ProposerState.{counts, heard_of, after_reply};
+ghost use Rattle.la_proposer.specs.ProposerState.{counts};
 ghost use Rattle.la_proposer.specs.Invariant.{IsProposerState};
 ghost use Rattle.la_runner.specs.Refusals.{IsOfferRefusal};
 ghost use Rattle.la_runner.specs.Asking.{Asks, AsksInVain};
@@ -8,15 +8,9 @@ ghost use Rattle.la_runner.specs.Following.{acceptors_of, Goes, IsLearnt, IfLear
 ghost use Rattle.la_runner.specs.Rounds.{IsLast, IsOpenAfter};
 ghost use Rattle.la_shared.specs.Passes.{IsPass};
 ghost use Rattle.la_shared.specs.Bases.{HasOffers};
-ghost use Rattle.la_set.specs.Histories.{Histories};
-ghost use Rattle.la_set.specs.Inclusion.{IsSubset};
-ghost use Rattle.la_proposer.specs.Tally.{reply_carrying};
-ghost use Rattle.la_proposer.specs.Clashes.{ReplyFits};
-ghost use Rattle.la_proposer.specs.Refusals.{IsReplyRefusal};
 
 use crate::RunnerError;
-use la_acceptor::Reply;
-use la_proposer::{Heard, Proposer, ProposerError, Status};
+use la_proposer::{Heard, Proposer, Status};
 use la_set::UpdateSet;
 use la_shared::{Gate, Pass, SharedAcceptor};
 use std::sync::Wait;
@@ -146,42 +140,8 @@ fn ask_one<R: Wait, G: Gate>(
         return Ok(Heard::Ignored);
     };
     let reply = acceptor.offer_grown(rt, pass, proposer.updates(), gate)?;
-    let heard = hear(proposer, from, number, reply)?;
+    let heard = proposer.reply_grown(from, number, reply)?;
     // a hint to the prover: its contract tells what holds of every proposer
     let _state = proposer.status();
     Ok(heard)
-}
-
-// `Proposer::reply`, of a reply to the ballot's set: a refusal contains that set, so only what it has
-// beyond it is compared. Its place is la_proposer, as `Proposer::reply_grown`.
-fn hear(
-    proposer: &mut Proposer,
-    from: u8,
-    ballot: u32,
-    reply: Reply,
-) -> Result<Heard, ProposerError>
-    requires grown { (refused : Histories) → reply ≡ Reply.No refused
-        → IsSubset proposer.old.updates refused }
-    ensures in_group { IfOk result (λ _. from < length proposer.old.votes) }
-    ensures fits { IfOk result (λ _. ReplyFits proposer.old from ballot reply) }
-    ensures heard { IfOk result (λ heard. heard ≡ heard_of proposer.old from ballot reply) }
-    ensures ok { OnOk result (proposer.new ≡ after_reply proposer.old from ballot reply) }
-    ensures error { IfErr result (IsReplyRefusal proposer.old from ballot reply) }
-    ensures err { OnErr result (proposer.new ≡ proposer.old) }
-{
-    let base = proposer.updates().counts();
-    let verdict = proposer.admit_reply_beyond(from, ballot, refusal_of(&reply), base)?;
-    let (heard, change) = proposer.prepare_reply(verdict, from, ballot, reply)?;
-    proposer.commit(change);
-    Ok(heard)
-}
-
-// The set that a reply refuses an offer with, if it does. A copy of la_proposer's.
-fn refusal_of(reply: &Reply) -> Option<&UpdateSet>
-    ensures { reply_carrying result ≡ reply.now }
-{
-    match reply {
-        Reply::Yes => None,
-        Reply::No(refused) => Some(refused),
-    }
 }

@@ -15,3 +15,4 @@ pub mod Agreements
 pub mod Theorems
 pub mod Crossing
 pub mod Counting
+pub mod WithinCounts

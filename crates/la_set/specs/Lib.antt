@@ -13,5 +13,6 @@ pub mod Representation
 pub mod Kept
 pub mod Refusals
 pub mod Counts
+pub mod AgreeWithin
 pub mod Deltas
 pub mod Short

@@ -1,22 +1,21 @@
 -- What an offer has in common with what was accepted stays so.
-use Rattle.std.proofs.Common.{◌≡◌, ◌∙◌, ℕ, ◌≤◌, inl, inr, Bool, true, false, if◌then◌else◌, Option, List, [], ◌∷◌, ◌++◌, refl, sym, ap, subst, arith}
-use Rattle.std.proofs.lemmas.Bool.{cases_lt}
+use Rattle.std.proofs.Common.{◌≡◌, ℕ, inl, inr, Bool, true, false, if◌then◌else◌, Option, List, [], ◌∷◌, ◌++◌, refl, sym, subst}
 use mathlib.Core.List.{IsPrefix}
 use Rattle.la_set.specs.declared.counts.Counts.{Counts}
-use Rattle.la_set.specs.Counts.{count_in, counts_of, zero_counts, HasCounts, within}
-use Rattle.la_set.proofs.lemmas.Counting.{count_in-counts_of, count_in-from_counts, count_in-past}
+use Rattle.la_set.specs.AgreeWithin.{AgreeWithin}
+use Rattle.la_set.specs.Counts.{counts_of}
 use Rattle.la_set.specs.Histories.{Histories, empty}
 use Rattle.la_acceptor.specs.declared.reply.Reply.{Reply}
 use Rattle.la_acceptor.specs.declared.reply.Reply.TheVariants.{Yes, No}
 use Rattle.la_set.specs.Inclusion.{IsSubset, is_subset}
 use Rattle.la_set.specs.Join.{join}
-use Rattle.la_set.proofs.lemmas.Inclusions.{subset-refl, subset-count, compatible-within}
-use Rattle.la_set.proofs.lemmas.Theorems.{same-within, within-zero, subset-join_left, contains-join}
+use Rattle.la_set.proofs.lemmas.Theorems.{subset-refl, subset-join_left, contains-join}
+use Rattle.la_set.proofs.lemmas.WithinCounts.{agree_grown, agree_by, none_agreed}
 use Rattle.la_shared.specs.declared.entry.Entry.{Entry}
 use Rattle.la_shared.specs.History.{entry, accepted, accepted_by, LegalFrom, IsLegal, HasEntry}
 use Rattle.la_shared.specs.Passes.{Known, Owns, Extends}
 use Rattle.la_shared.proofs.Acknowledgements.{owns-has, entry_fits, entry_answers}
-use Rattle.la_shared.specs.Bases.{AgreeWithin, AgreesWith, IsAcceptedSince, IsOwnOffer, HasOffers}
+use Rattle.la_shared.specs.Bases.{AgreesWith, IsAcceptedSince, IsOwnOffer, HasOffers}
 
 -- what is accepted only grows
 pub accepted_grows : (u : Histories) (xs : List Entry) → IsSubset u (accepted u xs)
@@ -30,37 +29,17 @@ accepted_append u (x ∷ xs) ys = accepted_append (join u x.set) xs ys
 pub since_grows : (seen between : List Entry) → IsSubset (accepted_by seen) (accepted_by (seen ++ between))
 since_grows seen between = subst (IsSubset (accepted_by seen)) (sym (accepted_append empty seen between)) (accepted_grows (accepted_by seen) between)
 
-has_more : (b : Counts) (s t : Histories) → HasCounts s b → IsSubset s t → HasCounts t b
-has_more b s t has sub r = omega (arith, has r, subset-count s t sub r)
+-- what agrees with what was accepted does so ever after
+pub agree_longer : (b : Counts) (seen longer : List Entry) (set : Histories)
+    → IsPrefix seen longer → AgreesWith b seen set → AgreesWith b longer set
+agree_longer b seen longer set p h = subst (λ l. AgreesWith b l set) p.1
+    (agree_grown b (accepted_by seen) (accepted_by (seen ++ p.0)) set set (since_grows seen p.0) (subset-refl set) h)
 
-within_grown : (b : Counts) (s t : Histories) → HasCounts s b → IsSubset s t → within t b ≡ within s b
-within_grown b s t has sub = sym (same-within s t b has (has_more b s t has sub) (compatible-within s t t sub (subset-refl t)))
-
--- an agreement stays where either set grows
-pub agree_grown : (b : Counts) (s t u v : Histories) → IsSubset s t → IsSubset u v → AgreeWithin b s u → AgreeWithin b t v
-agree_grown b s t u v p q h = record {
-  first = has_more b s t h.first p;
-  second = has_more b u v h.second q;
-  same = within_grown b s t h.first p ∙ h.same ∙ sym (within_grown b u v h.second q);
-}
-
--- what is accepted in a later turn agrees as what was seen did
-pub agree_since : (b : Counts) (seen : List Entry) (set u : Histories) → AgreesWith b seen set → IsAcceptedSince seen u → AgreeWithin b u set
-agree_since b seen set u h since = subst (λ w. AgreeWithin b w set) (sym since.1)
-    (agree_grown b (accepted_by seen) (accepted_by (seen ++ since.0)) set set (since_grows seen since.0) (subset-refl set) h)
-
-pub agree_longer : (b : Counts) (seen longer : List Entry) (set : Histories) → IsPrefix seen longer → AgreesWith b seen set → AgreesWith b longer set
-agree_longer b seen longer set p h = agree_since b seen set (accepted_by longer) h (p.0, ap accepted_by (sym p.1))
-
-none_of : (r : ℕ) → count_in zero_counts r ≡ 0
-none_of r = elim (cases_lt r 8) [
-  | inl lt ↦ count_in-from_counts (λ q. 0) r lt
-  | inr le ↦ count_in-past zero_counts r le
-]
-
--- whatever two sets are, they agree within no counts
-pub none_agreed : (s t : Histories) → AgreeWithin zero_counts s t
-none_agreed s t = record { first = λ r. omega (arith, none_of r); second = λ r. omega (arith, none_of r); same = within-zero s t }
+-- so in a later turn
+pub agree_since : (b : Counts) (seen : List Entry) (set u : Histories)
+    → AgreesWith b seen set → IsAcceptedSince seen u → AgreeWithin b u set
+agree_since b seen set u h since = subst (λ w. AgreeWithin b w set) (sym since.2)
+    (agree_longer b seen (seen ++ since.0) set (since.0, refl) h)
 
 -- ## What was offered is accepted
 
@@ -69,13 +48,6 @@ offered_within u [] s r l e = elim e [ ]
 offered_within u (x ∷ xs) s r l (inl e) = subst (λ z. IsSubset z (accepted (join u x.set) xs)) e.0
     (λ v there. accepted_grows (join u x.set) xs v (contains-join u x.set l.0 v (inr there)))
 offered_within u (x ∷ xs) s r l (inr e) = offered_within (join u x.set) xs s r l.2 e
-
-all_there : (s : Histories) → HasCounts s (counts_of s)
-all_there s r = omega (arith, count_in-counts_of s r)
-
--- what a set has, each that contains it has within that set's counts
-pub agree_by : (s t u : Histories) → IsSubset s t → IsSubset s u → AgreeWithin (counts_of s) t u
-agree_by s t u p q = agree_grown (counts_of s) s t s u p q (record { first = all_there s; second = all_there s; same = refl })
 
 -- an offer that contains the pass's own ones agrees as far as the last of them went
 pub own_agrees : (num : Option ℕ) (seen mine : List Entry) (base : Counts) (set : Histories) → IsLegal seen → Owns num seen mine → IsOwnOffer base mine → HasOffers mine set → AgreesWith base seen set

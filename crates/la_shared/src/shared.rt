@@ -1,16 +1,11 @@
-ghost use Rattle.std.specs.Prelude.{◌≡◌, [], None, IfOk, OnOk, IfErr, OnErr};
+ghost use Rattle.std.specs.Prelude.{◌≡◌, [], None, IfOk, IfErr, OnErr};
 ghost use mathlib.Core.List.{IsPrefix};
-ghost use Rattle.la_set.specs.Counts.{within};
-ghost use Rattle.la_set.specs.Histories.{Histories};
-ghost use Rattle.la_set.specs.Join.{IsCompatible, join};
-ghost use Rattle.la_acceptor.specs.Answer.{answer};
-ghost use Rattle.la_acceptor.specs.Refusals.{IsOfferRefusal};
-ghost use Rattle.la_shared.specs.Bases.{AgreesWith, HasOffers, IsAcceptedSince};
+ghost use Rattle.la_shared.specs.Bases.{AgreesWith, HasOffers, IsRefusedSince};
 ghost use Rattle.la_shared.specs.Passes.{Extends, HasNumber, IsNewcomer, IsPass};
 
 use crate::table::Core;
 use crate::{Gate, Note, Pass};
-use la_acceptor::{Acceptor, AcceptorError, Reply};
+use la_acceptor::{AcceptorError, Reply};
 use la_set::{Counts, UpdateSet};
 use std::alloc::{AllocError, Global};
 use std::marker::{Brand, Model};
@@ -90,8 +85,7 @@ impl SharedAcceptor {
         ensures ok { IfOk result (λ reply. Extends set.now reply pass.old pass.new) }
         ensures err { OnErr result (
             (pass.new.seen ≡ pass.old.seen) × (pass.new.mine ≡ pass.old.mine)) }
-        ensures refusal { IfErr result (λ e. (u : Histories)
-            × IsAcceptedSince pass.old.seen u × IsOfferRefusal u set.now e) }
+        ensures refusal { IfErr result (IsRefusedSince pass.old.seen set.now) }
         ensures pass { IsPass pass.new }
     {
         self.offer_beyond(rt, pass, set, Counts::zero(), gate)
@@ -114,8 +108,7 @@ impl SharedAcceptor {
         ensures ok { IfOk result (λ reply. Extends set.now reply pass.old pass.new) }
         ensures err { OnErr result (
             (pass.new.seen ≡ pass.old.seen) × (pass.new.mine ≡ pass.old.mine)) }
-        ensures refusal { IfErr result (λ e. (u : Histories)
-            × IsAcceptedSince pass.old.seen u × IsOfferRefusal u set.now e) }
+        ensures refusal { IfErr result (IsRefusedSince pass.old.seen set.now) }
         ensures pass { IsPass pass.new }
     {
         let base = pass.offered;
@@ -140,13 +133,12 @@ impl SharedAcceptor {
         ensures ok { IfOk result (λ reply. Extends set.now reply pass.old pass.new) }
         ensures err { OnErr result (
             (pass.new.seen ≡ pass.old.seen) × (pass.new.mine ≡ pass.old.mine)) }
-        ensures refusal { IfErr result (λ e. (u : Histories)
-            × IsAcceptedSince pass.old.seen u × IsOfferRefusal u set.now e) }
+        ensures refusal { IfErr result (IsRefusedSince pass.old.seen set.now) }
         ensures pass { IsPass pass.new }
     {
         let mut acceptor = self.core.take(rt, &mut pass.seat);
         gate.inside(self.number);
-        match answer_beyond(&mut acceptor, set, base) {
+        match acceptor.offer_beyond(set, base) {
             Ok(reply) => {
                 self.core.record::<Brand>(&mut pass.seat, set, &reply);
                 pass.offered = set.counts();
@@ -187,24 +179,4 @@ impl SharedAcceptor {
         let Note { seat, acceptor: _ } = note;
         self.core.meet(&mut pass.seat, seat);
     }
-}
-
-// The acceptor's step, for an offer that has within these counts what is accepted. Its place is
-// la_acceptor, as `Acceptor::offer_beyond`.
-fn answer_beyond(
-    acceptor: &mut Acceptor,
-    offered: &UpdateSet,
-    base: Counts,
-) -> Result<Reply, AcceptorError>
-    requires { within acceptor.old base ≡ within offered.now base }
-    ensures reply { IfOk result (λ reply. reply ≡ answer acceptor.old offered.now) }
-    ensures accepted { OnOk result (acceptor.new ≡ join acceptor.old offered.now) }
-    ensures compatible { OnOk result (IsCompatible acceptor.old offered.now) }
-    ensures error { IfErr result (IsOfferRefusal acceptor.old offered.now) }
-    ensures err { OnErr result (acceptor.new ≡ acceptor.old) }
-{
-    acceptor.admit_offer_beyond(offered, base)?;
-    let (reply, accepted) = acceptor.prepare_offer(offered)?;
-    acceptor.commit(accepted);
-    Ok(reply)
 }

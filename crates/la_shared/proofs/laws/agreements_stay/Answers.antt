@@ -2,7 +2,8 @@ use Rattle.std.proofs.Common.{subst, ap}
 use Rattle.la_set.specs.Histories.{empty}
 use Rattle.la_set.specs.Inclusion.{IsSubset}
 use Rattle.la_shared.specs.History.{accepted_by}
-use Rattle.la_shared.proofs.Bases.{since_grows, agree_longer, agree_by, offered_within, refusal_contains}
+use Rattle.la_set.proofs.lemmas.WithinCounts.{agree_by}
+use Rattle.la_shared.proofs.Bases.{since_grows, agree_longer, offered_within, refusal_contains}
 use Rattle.la_shared.proofs.laws.agreements_stay.Goals as goal
 
 pub returns-clause-grows : goal.returns-clause-grows

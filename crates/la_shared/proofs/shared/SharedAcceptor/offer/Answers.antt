@@ -1,5 +1,5 @@
 use Rattle.la_shared.specs.History.{accepted_by}
-use Rattle.la_shared.proofs.Bases.{none_agreed}
+use Rattle.la_set.proofs.lemmas.WithinCounts.{none_agreed}
 use Rattle.la_shared.proofs.shared.SharedAcceptor.offer.Goals as goal
 
 pub offer_beyond-requires-clause-agrees : goal.offer_beyond-requires-clause-agrees

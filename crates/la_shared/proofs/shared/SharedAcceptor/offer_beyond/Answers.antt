@@ -15,8 +15,8 @@ record-requires-clause-turn g c = search rules
 pub put_back-requires-clause-turn : goal.put_back-requires-clause-turn
 put_back-requires-clause-turn g c = search rules
 
-pub answer_beyond-requires : goal.answer_beyond-requires
-answer_beyond-requires g c =
+pub offer_beyond-requires : goal.offer_beyond-requires
+offer_beyond-requires g c =
     let agrees = subst (λ (k : Known). AgreesWith c.args.base k.seen c.args.set.now) (sym c.pass.view_is) c.requires.agrees in
     (agree_since c.args.base c.pass.inside.seat.me.0.seen c.args.set.now _ agrees c.take-acceptor.ensures.since).same
 
