@@ -2,7 +2,8 @@
 -- from this very replica.
 use Rattle.std.specs.Prelude.{◌≡◌, ℕ, ◌==◌, Bool, false, slice_get, Option, Some, None, option_map, unwrap_or, IfSome, if◌then◌else◌}
 use Rattle.la_set.specs.declared.counts.Counts.{Counts}
-use Rattle.la_set.specs.Counts.{counts_of, HasCounts, within}
+use Rattle.la_set.specs.AgreeWithin.{AgreeWithin}
+use Rattle.la_set.specs.Counts.{counts_of}
 use Rattle.la_set.specs.ObjectOps.{ObjectOp}
 use Rattle.la_set.specs.Histories.{Histories}
 use Rattle.la_set.specs.Inclusion.{IsSubset, is_larger}
@@ -52,12 +53,6 @@ abbrev pub step_by : Instance → (view : Histories) → Out → Change → Step
 step_by x view out c = step_of out (at_after x c) (view_next view c.view)
 
 -- ## How far the view agrees with the sets of instance 0's ballots
-
--- two sets have these counts, and the same within them
-pub record AgreeWithin (b : Counts) (s t : Histories) : Type 0 where
-  pub first : HasCounts s b
-  pub second : HasCounts t b
-  pub same : within s b ≡ within t b
 
 -- what a change leaves: the view and the ballot's set have only grown; and where it says how far they
 -- agree, so far they do
