@@ -15,6 +15,17 @@ from typing import NamedTuple
 BENCH = Path(__file__).resolve().parent
 TOP = BENCH.parent
 MEBIBYTE = 2**20
+REPLICA = ("la_set", "la_acceptor", "la_proposer", "la_commit", "la_replica", "la_object", "la_world")
+# The Rattle programs, and which of our crates each stands on.
+PROGRAMS = {
+    "deltas": REPLICA,
+    "growth": (*REPLICA, "la_script"),
+    "questions": REPLICA,
+    "sets": ("la_set", "la_object", "la_orset"),
+    "shared": ("la_set", "la_acceptor", "la_shared"),
+    "shelf": ("la_set", "la_object"),
+    "threads": ("la_set", "la_acceptor", "la_shared", "la_proposer", "la_commit", "la_object", "la_runner"),
+}
 
 
 class Cost(NamedTuple):
@@ -32,22 +43,33 @@ def build_plain(folder: Path, name: str, *flags: str) -> Path:
     return program
 
 
-def build_rattle(folder: Path, name: str, libraries: Sequence[str], others: Sequence[str]) -> Path:
-    """Proves and builds the program of NAME.rt.txt by LLVM, in a workspace with a copy of these of our
-    crates, lowest first, and of what is proved of them in crates/*/out. The others are the kit's."""
-    source = folder / "crates" / name / "src"
-    source.mkdir(parents=True)
-    shutil.copy(BENCH / f"{name}.rt.txt", source / "main.rt")
+def make_workspace(folder: Path, names: Sequence[str]) -> None:
+    """Makes a workspace of the programs NAME.rt.txt, with their proofs in proofs/NAME, over a copy of our crates that
+    they stand on, and of what is proved of these in crates/*/out."""
+    ours = {library for name in names for library in PROGRAMS[name]}
     lines = (TOP / "crates.txt").read_text().splitlines()
-    needed = [line for line in lines if line.split(":")[0] in libraries]
-    listed = f"{name}: {' '.join([*libraries, *others])}"
-    (folder / "crates.txt").write_text("\n".join([*needed, listed, ""]))
-    shutil.copy(TOP / "HANDLES", folder)
-    for crate in libraries:
+    lines = [line for line in lines if line.split(":")[0].split(" ")[0] in ours]
+    for crate in ours:
         shutil.copytree(TOP / "crates" / crate, folder / "crates" / crate)
+    for name in names:
+        crate = folder / "crates" / name
+        (crate / "src").mkdir(parents=True)
+        shutil.copy(BENCH / f"{name}.rt.txt", crate / "src" / "main.rt")
+        for file in (BENCH / "proofs" / name).glob("*/*.antt.txt"):
+            (crate / "proofs" / file.parent.name).mkdir(parents=True, exist_ok=True)
+            shutil.copy(file, crate / "proofs" / file.parent.name / file.stem)
+        lines.append(f"{name}: {' '.join(PROGRAMS[name])} anyhow")
+    (folder / "crates.txt").write_text("\n".join([*lines, ""]))
+    shutil.copy(TOP / "HANDLES", folder)
     subprocess.run(["git", "init", "-q", "."], cwd=folder, check=True)
-    subprocess.run(["rt", "run"], cwd=source.parent, stdout=sys.stderr, check=True)
-    return source.parent / "out" / name
+
+
+def build_rattle(folder: Path, name: str, *words: str) -> Path:
+    """Proves and builds the program of NAME.rt.txt by LLVM, and runs it once, with these words."""
+    make_workspace(folder, [name])
+    crate = folder / "crates" / name
+    subprocess.run(["rt", "run", "--", *words], cwd=crate, stdout=sys.stderr, check=True)
+    return crate / "out" / name
 
 
 class Runner:
