@@ -31,18 +31,21 @@ fn copies_are_one(acceptor: &Acceptor) -> Result<(Acceptor, Acceptor), AllocErro
     Ok((acceptor.copy()?, acceptor.copy()?))
 }
 
-fn offer_is_exact(
+// What is known to be the same is not compared, and the answer is one.
+fn offer_beyond_is_exact(
     one: &mut Acceptor,
     other: &mut Acceptor,
     offered: &UpdateSet,
+    base: Counts,
 ) -> (Result<Reply, AcceptorError>, Result<Reply, AcceptorError>)
-    requires { one.old ≡ other.old }
+    requires same { one.old ≡ other.old }
+    requires known { within one.old base ≡ within offered.now base }
     ensures reply { IfOk result.0 (λ a. IfOk result.1 (λ b. a ≡ b)) }
     ensures accepted { OnOk result.0 (OnOk result.1 (one.new ≡ other.new)) }
     ensures refusal { IfErr result.0 (λ e. IfErr result.1 (λ f. e ≡ f)) }
     ensures unchanged { OnErr result.0 (OnErr result.1 (one.new ≡ other.new)) }
 {
-    (one.offer(offered), other.offer(offered))
+    (one.offer_beyond(offered, base), other.offer(offered))
 }
 
 // No memory is taken, so that the answers are one.

@@ -3,6 +3,8 @@ ghost use Rattle.std.specs.Prelude.{◌≡◌, ◌≢◌, ◌↔◌, ◌<◌, �
 ghost use Rattle.std.specs.Prelude.{true, length, IsTrue, IsOk, IfOk, IfErr, OnOk, OnErr};
 ghost use Rattle.std.specs.Prelude.{IfSome, option_copied};
 ghost use Rattle.la_set.specs.Counts.{within};
+ghost use Rattle.la_set.specs.Histories.{Histories};
+ghost use Rattle.la_set.specs.Inclusion.{IsSubset};
 ghost use Rattle.la_proposer.specs.Majority.{votes_of};
 ghost use Rattle.la_proposer.specs.Clashes.{ReplyFits};
 ghost use Rattle.la_proposer.specs.Refusals.{ReplySpares, IsVerdictOf};
@@ -182,7 +184,8 @@ fn commit_is_exact(one: &mut Proposer, other: &mut Proposer, changes: (Change, C
     other.commit(changes.1);
 }
 
-fn reply_is_exact(
+// What a refused set is known to contain is not compared, and the answer is one.
+fn reply_grown_is_exact(
     one: &mut Proposer,
     other: &mut Proposer,
     from: u8,
@@ -191,6 +194,8 @@ fn reply_is_exact(
 ) -> (Hears, Hears)
     requires same { one.old ≡ other.old }
     requires replies { replies.0 ≡ replies.1 }
+    requires grown { (refused : Histories)
+        → replies.0 ≡ Reply.No refused → IsSubset one.old.updates refused }
     ensures answers { IfOk result.0 (λ a. IfOk result.1 (λ b. a ≡ b)) }
     ensures steps { OnOk result.0 (OnOk result.1 (one.new ≡ other.new)) }
     ensures refusals { IfErr result.0 (λ e. IfErr result.1 (λ f.
@@ -199,7 +204,7 @@ fn reply_is_exact(
     ensures stays { OnErr result.0 (one.new ≡ one.old) }
 {
     (
-        one.reply(from, ballot, replies.0),
+        one.reply_grown(from, ballot, replies.0),
         other.reply(from, ballot, replies.1),
     )
 }

@@ -13,7 +13,7 @@ const NEW: Has = Has([0, 0, 0], 0, NONE, None);
 // One update is submitted, and no set is learnt.
 const WAITS: Has = Has([0, 0, 0], 1, NONE, None);
 
-const PLAYS: [Play; 6] = [
+const PLAYS: [Play; 8] = [
     // The second member's first ballot is refused by all, and refined: its update is learnt in the
     // next.
     Play {
@@ -40,6 +40,77 @@ const PLAYS: [Play; 6] = [
                 Lets::All,
                 Comes::Learns(2, [1, 1, 0]),
                 Has([1, 1, 0], 1, IN_0, None),
+            ),
+        ],
+    },
+    // Of the acceptors that it asks again one had answered its first ballot, and the others none.
+    Play {
+        name: "a member resumes where one acceptor answered and another refused",
+        votes: [1, 1, 1],
+        steps: &[
+            Step(
+                2,
+                Does::Adds(1, 1),
+                Lets::ToZero,
+                Comes::Fails(RunnerError::NoMajority),
+                WAITS,
+            ),
+            Step(
+                0,
+                Does::Adds(5, 2),
+                Lets::All,
+                Comes::Learns(2, [1, 0, 1]),
+                Has([1, 0, 1], 1, IN_0, None),
+            ),
+            Step(
+                2,
+                Does::Resumes(1),
+                Lets::All,
+                Comes::Fails(RunnerError::TryAgain),
+                WAITS,
+            ),
+            Step(
+                2,
+                Does::Resumes(1),
+                Lets::All,
+                Comes::Learns(2, [1, 0, 1]),
+                Has([1, 0, 1], 1, IN_0, None),
+            ),
+        ],
+    },
+    // The heavy acceptor acknowledges while a refusal is counted, whose set is never joined: what its
+    // acceptor told is not what the next offer has.
+    Play {
+        name: "a heavy acknowledgement learns beside a refusal",
+        votes: [1, 1, 3],
+        steps: &[
+            Step(
+                1,
+                Does::Adds(2, 1),
+                Lets::ToZero,
+                Comes::Fails(RunnerError::NoMajority),
+                WAITS,
+            ),
+            Step(
+                0,
+                Does::Adds(5, 1),
+                Lets::All,
+                Comes::Learns(1, [1, 0, 0]),
+                Has([1, 0, 0], 1, IN_0, None),
+            ),
+            Step(
+                0,
+                Does::Adds(1, 1),
+                Lets::All,
+                Comes::Learns(2, [2, 0, 0]),
+                Has([2, 0, 0], 2, IN_0, None),
+            ),
+            Step(
+                1,
+                Does::Resumes(2),
+                Lets::All,
+                Comes::Learns(2, [2, 1, 0]),
+                Has([2, 1, 0], 1, IN_0, None),
             ),
         ],
     },

@@ -4,7 +4,7 @@ ghost use Rattle.std.specs.Prelude.{◌≡◌};
 
 use la_acceptor::{AcceptorError, Reply};
 use la_set::{Op, Update, UpdateId, UpdateSet};
-use la_shared::{Gate, Pass, SharedAcceptor};
+use la_shared::{FreeGate, Gate, Pass, SharedAcceptor, laws};
 use std::alloc::Global;
 use std::process::Abort;
 use std::sync::Wait;
@@ -33,6 +33,29 @@ pub fn offer<R: Wait, G: Gate>(
         Err(AcceptorError::Memory) => shared.offer(rt, pass, set, gate),
         first => first,
     }
+}
+
+/// Offers a set that is answered, and then a larger one, of which only what is beyond the first is
+/// compared: what comes of that. `None` where the first is not answered, or the second is not larger.
+pub fn offer_beyond<R: Wait>(
+    rt: &R,
+    shared: &SharedAcceptor,
+    pass: &mut Pass,
+    set: &UpdateSet,
+    larger: &UpdateSet,
+) -> Option<Result<Reply, AcceptorError>>
+    requires { pass.old.acceptor ≡ shared.now }
+    ensures { pass.new.acceptor ≡ shared.now }
+{
+    laws::what_was_seen_stays();
+    laws::agreements_stay();
+    let Ok(_reply) = shared.offer(rt, pass, set, &FreeGate) else {
+        return None;
+    };
+    if !larger.contains_all(set) {
+        return None;
+    }
+    Some(shared.offer_beyond(rt, pass, larger, set.counts(), &FreeGate))
 }
 
 fn update(replica: u8, number: u32, by: u32) -> Update {
