@@ -64,12 +64,13 @@ impl SharedAcceptor {
     /// served, takes what is accepted, calls [`Gate::inside`], answers by the acceptor's rule, records
     /// the entry, puts back what is accepted now, and serves the next ticket.
     ///
-    /// `Clash` comes where an id has two different updates, in the offer and in what was accepted,
-    /// and names the least such id; `Memory` where a growth was refused. After either nothing is
-    /// recorded, what was accepted is as it was, and the turn has passed on.
+    /// `Clash` comes exactly where an id has two different updates, in the offer and in what was
+    /// accepted, and names the least such id; `Memory` where a growth was refused. After either
+    /// nothing is recorded, what was accepted is as it was, and the turn has passed on.
     ///
-    /// The cost is that of the acceptor's step, and of the wait for the turn, in which the
-    /// thread yields the processor after each look. Whoever looks first has the next turn. No
+    /// The cost is that of [`Acceptor::offer`](la_acceptor::Acceptor::offer), which compares all
+    /// that both sets have, and of the wait for the turn, in which the thread yields the processor
+    /// after each look. Whoever looks first has the next turn. No
     /// clause says that a turn ever comes: it does not where a caller in its turn never ends, and an
     /// offer that finds 2^62 tickets drawn waits for ever.
     pub fn offer<R: Wait, G: Gate>(
@@ -91,9 +92,11 @@ impl SharedAcceptor {
         self.offer_beyond(rt, pass, set, Counts::zero(), gate)
     }
 
-    /// The same of an offer that contains each that this pass has offered. What the last of them had
-    /// was accepted then, and so it is now: only what the offer and the accepted set have beyond that
-    /// is compared while no other offer is answered.
+    /// [`SharedAcceptor::offer`], of a set that contains each set which this pass has offered: with its
+    /// answers and refusals, and what stands after them. What the last answered one had was accepted
+    /// then, and is so ever since; so only what the offer and the accepted set have beyond that is
+    /// compared while the turn is held, and the cost is that. For a pass that has made no offer it is
+    /// that of `offer`.
     pub fn offer_grown<R: Wait, G: Gate>(
         &self,
         rt: &R,
@@ -115,9 +118,10 @@ impl SharedAcceptor {
         self.offer_beyond(rt, pass, set, base, gate)
     }
 
-    /// The same of an offer that is known to have within these counts what was accepted by all that
-    /// the pass has seen: what is accepted only grows, so it has them in its turn too, and only what
-    /// both have beyond them is compared while no other offer is answered.
+    /// [`SharedAcceptor::offer`], of a set that is known to have within these counts what was accepted
+    /// by all that the pass has seen: with its answers and refusals, and what stands after them. What
+    /// is accepted only grows, and has them in the offer's turn too; so only what both have beyond them
+    /// is compared while the turn is held, and the cost is that.
     pub fn offer_beyond<R: Wait, G: Gate>(
         &self,
         rt: &R,
