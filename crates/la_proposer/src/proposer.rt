@@ -22,7 +22,7 @@ use crate::{Ballot, Change, Heard, ProposerError, Status, Votes};
 use la_acceptor::Reply;
 use la_set::{Counts, Op, UpdateSet};
 use smallvec::SmallVec;
-use std::alloc::Global;
+use std::alloc::{AllocError, Global};
 use std::marker::Model;
 
 /// The largest number that a ballot may have.
@@ -86,6 +86,23 @@ impl Proposer {
             submissions: UpdateSet::new(alloc),
             reported: [Counts::zero(); 8],
         }
+    }
+
+    /// A copy. It is refused for want of memory alone. The cost is that of copying two sets and the
+    /// counted refusals, whose updates are shared.
+    pub fn copy(&self) -> Result<Proposer, AllocError>
+        ensures { IfOk result (λ copy. copy ≡ self.now) }
+    {
+        Ok(Proposer {
+            own: self.own,
+            cap: self.cap,
+            votes: self.votes,
+            last: self.last.copy()?,
+            is_asking: self.is_asking,
+            tally: tally::copy_tally(&self.tally)?,
+            submissions: self.submissions.copy()?,
+            reported: self.reported,
+        })
     }
 
     /// Whether a ballot is open, and its number. Its contract also tells what holds of every

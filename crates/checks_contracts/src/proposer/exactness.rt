@@ -184,6 +184,12 @@ fn commit_is_exact(one: &mut Proposer, other: &mut Proposer, changes: (Change, C
     other.commit(changes.1);
 }
 
+fn copies_are_one(proposer: &Proposer) -> Result<(Proposer, Proposer), AllocError>
+    ensures { IfOk result (λ both. both.0 ≡ both.1) }
+{
+    Ok((proposer.copy()?, proposer.copy()?))
+}
+
 // What a refused set is known to contain is not compared, and the answer is one.
 fn reply_grown_is_exact(
     one: &mut Proposer,
