@@ -60,6 +60,19 @@ impl Instance {
         }
     }
 
+    pub fn copy(&self) -> Result<Instance, AllocError>
+        ensures { IfOk result (λ copy. copy ≡ self.now) }
+    {
+        Ok(Instance {
+            acceptor: self.acceptor.copy()?,
+            proposer: self.proposer.copy()?,
+            learnt: match &self.learnt {
+                Some(learnt) => Some(learnt.copy()?),
+                None => None,
+            },
+        })
+    }
+
     // Prepares a submission: its ballot opens, or it waits.
     pub fn prepare_submission(
         &self,

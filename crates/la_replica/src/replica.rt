@@ -96,6 +96,20 @@ impl Replica {
         })
     }
 
+    /// A copy. It is refused for want of memory alone. The cost is that of copying every set that it
+    /// holds, whose updates are shared.
+    pub fn copy(&self) -> Result<Replica, AllocError>
+        ensures { IfOk result (λ copy. copy ≡ self.now) }
+    {
+        Ok(Replica {
+            votes: self.votes,
+            own: self.own,
+            instances: copy_instances(&self.instances)?,
+            view: self.view.copy()?,
+            agreed: self.agreed,
+        })
+    }
+
     /// Which replica of its group it is. The group has at most 8, and the proposers of all its
     /// instances are this replica of that group.
     pub fn own(&self) -> u8
@@ -526,4 +540,15 @@ impl Replica {
             instance,
         }
     }
+}
+
+// A copy of a list of instances.
+fn copy_instances(instances: &Vec<Instance>) -> Result<Vec<Instance>, AllocError>
+    ensures { IfOk result (λ copy. copy.items ≡ instances.now.items) }
+{
+    let mut copy = Vec::with_capacity(*instances.allocator(), instances.len())?;
+    for instance in instances {
+        copy.push(instance.copy()?)?;
+    }
+    Ok(copy)
 }

@@ -38,6 +38,12 @@ fn message_copies_are_one(message: &Message) -> Result<(Message, Message), Alloc
     Ok((message.copy()?, message.copy()?))
 }
 
+fn replica_copies_are_one(replica: &Replica) -> Result<(Replica, Replica), AllocError>
+    ensures { IfOk result (λ both. both.0 ≡ both.1) }
+{
+    Ok((replica.copy()?, replica.copy()?))
+}
+
 // A copy of an acknowledgement takes no memory.
 fn acknowledgements_are_copied(
     message: &Message,
