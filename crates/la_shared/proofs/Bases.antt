@@ -3,7 +3,6 @@ use Rattle.std.proofs.Common.{◌≡◌, ℕ, inl, inr, Bool, true, false, if◌
 use mathlib.Core.List.{IsPrefix}
 use Rattle.la_set.specs.declared.counts.Counts.{Counts}
 use Rattle.la_set.specs.AgreeWithin.{AgreeWithin}
-use Rattle.la_set.specs.Counts.{counts_of}
 use Rattle.la_set.specs.Histories.{Histories, empty}
 use Rattle.la_acceptor.specs.declared.reply.Reply.{Reply}
 use Rattle.la_acceptor.specs.declared.reply.Reply.TheVariants.{Yes, No}

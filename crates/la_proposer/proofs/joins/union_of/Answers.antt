@@ -1,5 +1,4 @@
 use Rattle.std.proofs.Common.{◌≡◌, IfOk, sym, subst, ◌∙◌}
-use Rattle.la_set.specs.Join.{join}
 use Rattle.la_set.proofs.lemmas.Inclusions.{compatible-sym}
 use Rattle.la_set.proofs.lemmas.Decisions.{is_subset-Decides}
 use Rattle.la_set.proofs.lemmas.Joins.{join-subset}

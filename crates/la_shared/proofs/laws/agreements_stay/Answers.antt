@@ -1,4 +1,4 @@
-use Rattle.std.proofs.Common.{subst, ap}
+use Rattle.std.proofs.Common.{subst}
 use Rattle.la_set.specs.Histories.{empty}
 use Rattle.la_set.specs.Inclusion.{IsSubset}
 use Rattle.la_shared.specs.History.{accepted_by}
