@@ -50,6 +50,21 @@ const OFFERS: [Offer; 7] = [
     (SECOND, Told::No, BOTH),
 ];
 
+const OF_0: &[Row] = &[(0, 1, Does::Inc(5))];
+
+const OF_1: &[Row] = &[(1, 1, Does::Inc(2))];
+
+const OF_TWO: &[Row] = &[(0, 1, Does::Inc(5)), (1, 1, Does::Inc(2))];
+
+const OTHER_OF_0: &[Row] = &[(0, 1, Does::Inc(6))];
+
+const OFFERS_OF_TWO: [Offer; 4] = [
+    (OF_0, Told::Yes, OF_0),
+    (OF_1, Told::No, OF_TWO),
+    (OF_TWO, Told::Yes, OF_TWO),
+    (OTHER_OF_0, Told::Clash, OF_TWO),
+];
+
 fn offer(
     rt: &impl Abort,
     acceptor: &mut Acceptor,
@@ -89,35 +104,26 @@ fn is_accepted(rt: &impl Abort, alloc: Global, acceptor: &Acceptor, rows: &[Row]
     holds(rt, "what is accepted", acceptor.accepted().same(&accepted));
 }
 
-fn offers_are_answered(rt: &impl Abort, alloc: Global) {
+// Each offer is answered so, at a copy of what the last one left.
+fn offers_are_answered(rt: &impl Abort, alloc: Global, offers: &[Offer]) {
     let mut acceptor = Acceptor::new(alloc);
-    for (offered, told, accepted) in &OFFERS {
+    for (offered, told, accepted) in offers {
         is_offered(rt, alloc, &mut acceptor, offered, *told);
         is_accepted(rt, alloc, &acceptor, accepted);
+        acceptor = copied(rt, &acceptor);
+    }
+}
+
+fn copied(rt: &impl Abort, acceptor: &Acceptor) -> Acceptor {
+    match acceptor.copy() {
+        Ok(copy) => copy,
+        Err(_) => acceptor.copy().expect(rt, "memory is there again"),
     }
 }
 
 // Whether an offer is answered, once more where memory was refused.
 fn answers(acceptor: &mut Acceptor, offered: &UpdateSet) -> bool {
     acceptor.offer(offered).is_ok() || acceptor.offer(offered).is_ok()
-}
-
-fn is_copied(acceptor: &Acceptor, accepted: &UpdateSet) -> bool {
-    match acceptor.copy() {
-        Ok(copy) => copy.accepted().same(accepted),
-        Err(_) => false,
-    }
-}
-
-fn is_copied_again(acceptor: &Acceptor, accepted: &UpdateSet) -> bool {
-    is_copied(acceptor, accepted) || is_copied(acceptor, accepted)
-}
-
-fn an_acceptor_is_copied(rt: &impl Abort, alloc: Global) {
-    let mut acceptor = Acceptor::new(alloc);
-    let first = set_of(rt, alloc, FIRST);
-    holds(rt, "an answer", answers(&mut acceptor, &first));
-    holds(rt, "a copy", is_copied_again(&acceptor, &first));
 }
 
 // What is accepted, the counts of replica 0 that an offer is known to share with it, what comes beyond
@@ -169,8 +175,8 @@ fn offers_are_admitted_beyond_a_base(rt: &impl Abort, alloc: Global) {
 
 #[test]
 fn acceptors(rt: HostRuntime) {
-    offers_are_answered(&rt, rt.alloc());
-    an_acceptor_is_copied(&rt, rt.alloc());
+    offers_are_answered(&rt, rt.alloc(), &OFFERS);
+    offers_are_answered(&rt, rt.alloc(), &OFFERS_OF_TWO);
     offers_are_admitted_beyond_a_base(&rt, rt.alloc());
     laws::replies_tell_what_is_accepted();
     laws::accepted_grows();

@@ -51,12 +51,21 @@ pub struct Play {
     pub steps: &'static [Step],
 }
 
-/// Plays a table at one proposer: what each reply would come to is asked, and then it is heard.
+/// Plays a table at one proposer, each step at a copy of what the last one left: what each reply would
+/// come to is asked, and then it is heard.
 pub fn plays(rt: &impl Abort, alloc: Global, play: &Play) {
     let votes = Votes::new(play.votes).expect(rt, "votes of a group");
     let mut proposer = proposer_of(rt, alloc, play, votes);
     for step in play.steps {
         holds(rt, play.name, goes_so(rt, alloc, &mut proposer, step));
+        proposer = copied(rt, &proposer);
+    }
+}
+
+fn copied(rt: &impl Abort, proposer: &Proposer) -> Proposer {
+    match proposer.copy() {
+        Ok(copy) => copy,
+        Err(_) => proposer.copy().expect(rt, "memory is there again"),
     }
 }
 

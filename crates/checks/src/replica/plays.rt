@@ -61,11 +61,19 @@ pub struct Play {
     pub steps: &'static [Step],
 }
 
-/// Plays a table at one replica.
+/// Plays a table at one replica, each step at a copy of what the last one left.
 pub fn plays(rt: &impl Abort, alloc: Global, play: &Play) {
     let mut replica = fresh(rt, alloc);
     for step in play.steps {
         holds(rt, play.name, goes_so(rt, alloc, &mut replica, step));
+        replica = copied(rt, &replica);
+    }
+}
+
+fn copied(rt: &impl Abort, replica: &Replica) -> Replica {
+    match replica.copy() {
+        Ok(copy) => copy,
+        Err(_) => replica.copy().expect(rt, "memory is there again"),
     }
 }
 
