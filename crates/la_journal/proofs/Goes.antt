@@ -125,9 +125,9 @@ noted_alone past kept bytes all c same long before is left =
     alone kept bytes c (subst (λ (b : List ℕ). length b ≤ kept) (sym same) long) (subst (λ (p : List Moment). LeftAt (now_of p) c) is left) ∙ same
 
 -- or one more
-pub noted_more : (past : List Moment) (kept n : ℕ) (bytes all c : List ℕ) → bytes ≡ all → length all ≤ kept → (before : List Moment) → past ≡ next_of (kept ∷ n ∷ []) bytes before → LeftAt (now_of past) c → (c ≡ all) ⊎ LeftAt (now_of before) c
-noted_more past kept n bytes all c same long before is left = elim (subst (λ (p : List Moment). LeftAt (now_of p) c) is left) [
-  | inl this ↦ inl (all_kept kept bytes (subst (λ (b : List ℕ). length b ≤ kept) (sym same) long) c this ∙ same)
+pub noted_more : (past : List Moment) (kept n : ℕ) (bytes all c : List ℕ) → bytes ≡ all → (before : List Moment) → past ≡ next_of (kept ∷ n ∷ []) bytes before → LeftAt (now_of past) c → LeftOf kept all c ⊎ LeftAt (now_of before) c
+noted_more past kept n bytes all c same before is left = elim (subst (λ (p : List Moment). LeftAt (now_of p) c) is left) [
+  | inl this ↦ inl (subst (λ (b : List ℕ). LeftOf kept b c) same this)
   | inr was ↦ inr was
 ]
 

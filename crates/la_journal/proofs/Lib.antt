@@ -1,6 +1,8 @@
 mod Goes
-mod SaidSo
-mod SaidGroups
+mod Spoilt
+mod Again
+mod Given
+mod Parts
 mod ManyLives
 mod Recorded
 mod TornRecords

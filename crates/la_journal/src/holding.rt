@@ -2,7 +2,7 @@
 ghost use Rattle.std.specs.Prelude.{◌≡◌, ◌⊎◌, ◌++◌, ◌+◌, ◌≤◌, [], List, ℕ, length, vec_len, OnOk};
 ghost use Rattle.la_journal.specs.Disk.{Only, Follows, Torn, Elapses};
 ghost use Rattle.la_journal.specs.Note.{now_of};
-ghost use Rattle.la_journal.specs.Outcomes.{LeftAt};
+ghost use Rattle.la_journal.specs.Outcomes.{LeftOf, LeftAt, LeftSince};
 ghost use Rattle.la_journal.specs.Held.{bytes_of, kept_of, room_of, faults_of, moment_of, may_leave_of, left_since_of};
 
 use crate::Contents;
@@ -10,15 +10,18 @@ use crate::record::Record;
 use std::alloc::{AllocError, Global};
 
 impl Contents {
-    /// A file of another process, that holds these bytes. Until the first sync or replacement a crash leaves what that
-    /// one may have left, or these bytes.
-    pub fn found(bytes: Vec<u8>, left: Record) -> Contents
+    /// A file that a process finds which starts behind another one: it holds these bytes, and the first `kept` of them
+    /// are on the disk. Until the first sync or replacement a crash leaves some of these bytes, or what the earlier
+    /// process may have left.
+    pub fn found(bytes: Vec<u8>, kept: usize, left: Record) -> Contents
+        requires { kept ≤ length bytes.items }
         ensures bytes { bytes_of result ≡ bytes.items }
-        ensures crash { (c : List ℕ) → may_leave_of result c → (c ≡ bytes.items) ⊎ LeftAt (now_of left.events) c }
+        ensures kept { kept_of result ≡ kept }
+        ensures crash { (c : List ℕ) → may_leave_of result c → LeftOf kept bytes.items c ⊎ LeftAt (now_of left.events) c }
         ensures seen { may_leave_of result bytes.items }
-        ensures moment { moment_of result ≡ length left.events + 1 }
+        ensures time { Elapses (length left.events) (moment_of result)
+            (LeftSince left.events) (left_since_of result) (may_leave_of result) }
     {
-        let kept = bytes.len();
         let mut past = left;
         past.note(&[kept as u64, 0], &bytes);
         Contents {
@@ -47,7 +50,7 @@ impl Contents {
         }
     }
 
-    /// What a crash may leave, at this moment and the earlier ones.
+    /// What a crash may leave, at this moment and at the earlier ones, for whoever finds the file next.
     pub fn left(self) -> Record
         ensures { result.events ≡ self.past.events }
     {
