@@ -3,6 +3,7 @@ mod Spoilt
 mod Again
 mod Given
 mod Parts
+mod GroupCalls
 mod ManyLives
 mod Recorded
 mod TornRecords

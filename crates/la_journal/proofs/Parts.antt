@@ -1,11 +1,12 @@
 -- A part of the calls is served, behind those that were served before.
-use Rattle.std.proofs.Common.{◌≡◌, inl, inr, ⊎_elim, ℕ, ◌+◌, ◌<◌, ◌≤◌, List, [], ◌∷◌, ◌++◌, Option, Some, Bool, false, map, length, take, refl, sym, ◌∙◌, ap, subst, arith, append_assoc}
+use Rattle.std.proofs.Common.{◌≡◌, inl, inr, ⊎_elim, ℕ, ◌+◌, ◌<◌, ◌≤◌, List, [], ◌∷◌, ◌++◌, Option, Some, Bool, true, false, map, length, take, refl, sym, ◌∙◌, ap, subst, arith, append_assoc}
+use Rattle.std.specs.Global.{Vec}
 use Rattle.std.proofs.Math.Seq.{take-append-add}
-use Rattle.std.proofs.lemmas.List.{take-append-le, take_all, length-append}
+use Rattle.std.proofs.lemmas.List.{take-append-le, take_all, length-append, length-map}
 use Rattle.la_journal.specs.Disk.{LeavesOnly}
 use Rattle.la_journal.specs.Machine.{steps, steps_from, replies_from, replies, LeadsToSome}
-use Rattle.la_journal.specs.Served.{Said, given_since, answers_of, answered, Answers, LeadsToAtLeast, KeepsAll, IsUnserved}
-use Rattle.la_journal.specs.Durable.{IsRefusal}
+use Rattle.la_journal.specs.Served.{Said, together, unless_none, given_since, answers_of, answered, Answers, LeadsToAtLeast, KeepsAll, IsUnserved}
+use Rattle.la_journal.specs.Durable.{IsRefusal, IsStop}
 use Rattle.la_journal.specs.declared.durable.Refused.{Refused as RefusedOf}
 use Rattle.la_journal.specs.declared.durable.Refused.TheVariants.{Machine, Memory, Disk, Closed}
 use Rattle.la_journal.specs.declared.outlet.Unserved.{Unserved}
@@ -156,3 +157,31 @@ refused_alone lacks_memory before closed f f' o o' stepped (Machine refusal) was
 refused_alone lacks_memory before closed f f' o o' stepped Memory was is = (refl, is.1)
 refused_alone lacks_memory before closed f f' o o' stepped Disk was is = (refl, is.1, is.2)
 refused_alone lacks_memory before closed f f' o o' stepped Closed was is = cc (was, is.0)
+
+-- a group that stopped is a part that is not served whole
+pub stopped : {S R : Type 0} (lacks_memory : R → Type 0) (closed : Bool) (f f' o o' many taken : ℕ) (steps : ℕ → Option S) (why : RefusedOf R)
+    → IsStop lacks_memory false closed f f' many taken steps why → IsUnserved lacks_memory closed f f' o o' many taken steps (Refused why)
+stopped lacks_memory closed f f' o o' many taken steps (Machine refusal) is = is
+stopped lacks_memory closed f f' o o' many taken steps Memory is = is.1
+stopped lacks_memory closed f f' o o' many taken steps Disk is = is.1
+stopped lacks_memory closed f f' o o' many taken steps Closed is = is.1
+
+pub not_closed : (closed : Bool) (n : ℕ) → (closed ≡ true → n ≡ 0) → 0 < n → closed ≡ false
+not_closed true n none some = absurd (omega (arith, none refl, some))
+not_closed false n none some = refl
+
+-- what is given out of a group, where there is something
+pub answers_given : {X A : Type 0} (answer : X → A) (m : ℕ) (v : Vec X) (items : List X) → items ≡ v.items → answers_of (together answer) (unless_none items (record { moment = m; item = v })) ≡ map answer v.items
+answers_given answer m v [] is = ap (map answer) is
+answers_given answer m v (x ∷ items) is = refl
+
+pub keeps_given : {S C X A : Type 0} (answer : X → A) (now : ℕ) (left_since : ℕ → List ℕ → Type 0) (leads : List ℕ → Option S) (step : S → C → Option S) (group : List C) (between : S)
+    (m : ℕ) (v : Vec X) (items : List X) → items ≡ v.items → length v.items ≤ length group → m ≤ now
+    → (0 < length v.items → (c : List ℕ) → left_since m c → leads c ≡ steps step (take (length v.items) group) between)
+    → KeepsAll (together answer) now left_since leads step group between (unless_none items (record { moment = m; item = v }))
+keeps_given answer now left_since leads step group between m v [] is le late durable = tt
+keeps_given answer now left_since leads step group between m v (x ∷ items) is le late durable = (
+  late,
+  λ c left. (length v.items, omega (arith, length-map v.items answer), le, durable (omega (arith, ap length is)) c left),
+  tt,
+)

@@ -24,6 +24,11 @@ alone answer item = answer item ∷ []
 abbrev pub together : {O A : Type 0} (answer : O → A) → Vec O → List A
 together answer items = map answer items.items
 
+-- answers that are given out together, where there are any
+abbrev pub unless_none : {O X : Type 0} → List X → Said O → List (Said O)
+unless_none [] said = []
+unless_none (x ∷ rest) said = said ∷ []
+
 -- the answers in what was given out, the oldest first
 abbrev pub answers_of : {O A : Type 0} (answers_in : O → List A) → List (Said O) → List A
 answers_of answers_in [] = []

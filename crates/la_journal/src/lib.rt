@@ -36,6 +36,6 @@ pub use memory_disk::MemoryDisk;
 pub use outlet::{Outlet, OutletFault, Unserved};
 pub use record::Record;
 pub use recovery::{Unplayed, recover};
-pub use serving::serve_all;
+pub use serving::{serve_all, serve_groups};
 pub use staging::{Staged, Uncommitted, Unstaged};
 pub use starts::start_again;

@@ -2,6 +2,7 @@ use Rattle.std.proofs.Common.{◌≡◌, ℕ, ◌+◌, ◌<◌, ◌≤◌, List,
 use Rattle.std.proofs.lemmas.List.{length-map}
 use Rattle.la_journal.specs.Lines.{lines}
 use Rattle.la_journal.specs.Machine.{calls, after, steps}
+use Rattle.la_journal.specs.declared.outlet.Unserved.TheVariants.{Refused}
 use Rattle.la_journal.specs.Served.{Said, alone, answered, given_since, KeepsAll}
 use Rattle.la_journal.proofs.StepsMore.{next_of, split_at, long_take}
 use Rattle.la_journal.proofs.Given.{since_more}
@@ -59,11 +60,14 @@ returns-in-Err-clause-cause g c =
     let taken = answered (alone g.M.Machine.answer) (g.O.Outlet.said c.args.outlet.now) (g.O.Outlet.said c.loop-input.outlet) in
     let many : taken ≡ length done = inv.so.many in
     let within : k ≤ length all = omega (arith, c.loop-input-test.true, length-map c.args.inputs.now g.M.Machine.call) in
-    cause_more g.M.Machine.lacks_memory c.handle.new.self.closed _ _ _ _ _ _ (length c.args.inputs.now) 1 taken 0
-    (λ (_ : ℕ). g.M.Machine.step between call) (λ (n : ℕ). steps g.M.Machine.step (take n all) first) _ inv.disk_faults inv.outlet_faults
+    let f = g.D.Disk.faults c.loop-input.durable.disk in
+    let f' = g.D.Disk.faults c.handle.new.self.disk in
+    let o = g.O.Outlet.faults c.loop-input.outlet in
+    cause_more g.M.Machine.lacks_memory c.handle.new.self.closed (g.D.Disk.faults c.args.durable.now.disk) f f' (g.O.Outlet.faults c.args.outlet.now) o o (length c.args.inputs.now) 1 taken 0
+    (λ (_ : ℕ). g.M.Machine.step between call) (λ (n : ℕ). steps g.M.Machine.step (take n all) first) (Refused c.in-Err.why) inv.disk_faults inv.outlet_faults
     (λ _. omega (arith, many, long_take k all within, c.loop-input-test.true))
     (λ _. ap (λ (n : ℕ). steps g.M.Machine.step (take (n + 1) all) first) many ∙ state_more g.M.Machine.step all done group rest split first between inv.led 1 (omega arith))
-    (refused_alone g.M.Machine.lacks_memory c.loop-input.durable.closed c.handle.new.self.closed _ _ _ _ (g.M.Machine.step between call) c.in-Err.why inv.unclosed c.in-Err.ensures.cause)
+    (refused_alone g.M.Machine.lacks_memory c.loop-input.durable.closed c.handle.new.self.closed f f' o o (g.M.Machine.step between call) c.in-Err.why inv.unclosed c.in-Err.ensures.cause)
 
 pub returns-in-Err-give-clause-answers : goal.returns-in-Err-give-clause-answers
 returns-in-Err-give-clause-answers g c =
