@@ -193,7 +193,7 @@ fn reserve(disk: &mut MemoryDisk) -> Came {
 }
 
 fn crash(disk: &MemoryDisk) -> Came {
-    match disk.crash(1, 1) {
+    match disk.crash(&[false, true]) {
         Ok(left) => Some(is_text(&left, TORN)),
         Err(_) => refused(is_text(disk, TORN)),
     }

@@ -9,8 +9,7 @@ module _ {S C : Type 0} (leads : List ℕ → Option S) (step : S → C → Opti
   one_run first [] file are = ([], refl, are)
   one_run first (l ∷ lives) file are =
       let later = one_run are.1 lives file are.4 in
-      let n = are.2.0 in
-      (
+      let n = are.2.0 in (
         take n l.calls ++ later.0,
         (n, later.0, are.2.1, are.2.2, refl, later.1),
         later.2

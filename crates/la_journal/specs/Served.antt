@@ -59,7 +59,7 @@ KeepsAll answers_in now left_since leads step calls first [] = ⊤
 KeepsAll answers_in now left_since leads step calls first (s ∷ before) =
     (s.moment ≤ now)
     × ((c : List ℕ) → left_since s.moment c
-        → LeadsToAtLeast leads step (length (answers_of answers_in (s ∷ before))) calls first c)
+    → LeadsToAtLeast leads step (length (answers_of answers_in (s ∷ before))) calls first c)
     × KeepsAll answers_in now left_since leads step calls first before
 
 -- Of so many calls the first some were taken, and then serving stopped for a cause: the next one is refused, or the

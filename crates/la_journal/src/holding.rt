@@ -3,7 +3,7 @@ ghost use Rattle.std.specs.Prelude.{◌≡◌, ◌⊎◌, ◌++◌, ◌+◌, ◌
 ghost use Rattle.la_journal.specs.Disk.{Only, Follows, Torn, Elapses};
 ghost use Rattle.la_journal.specs.Note.{now_of};
 ghost use Rattle.la_journal.specs.Outcomes.{LeftOf, LeftAt, LeftSince};
-ghost use Rattle.la_journal.specs.Held.{bytes_of, kept_of, room_of, faults_of, moment_of, may_leave_of, left_since_of};
+ghost use Rattle.la_journal.specs.Held.{bytes_of, kept_of, room_of, faults_of, moment_of, may_leave_of, left_since_of, TimeGoesOn};
 
 use crate::Contents;
 use crate::record::Record;
@@ -19,6 +19,7 @@ impl Contents {
         ensures kept { kept_of result ≡ kept }
         ensures crash { (c : List ℕ) → may_leave_of result c → LeftOf kept bytes.items c ⊎ LeftAt (now_of left.events) c }
         ensures seen { may_leave_of result bytes.items }
+        ensures moment { moment_of result ≡ length left.events + 1 }
         ensures time { Elapses (length left.events) (moment_of result)
             (LeftSince left.events) (left_since_of result) (may_leave_of result) }
     {
@@ -38,6 +39,7 @@ impl Contents {
         ensures kept { kept_of result ≡ length bytes.items }
         ensures durable { Only bytes.items (may_leave_of result) }
         ensures seen { may_leave_of result bytes.items }
+        ensures moment { moment_of result ≡ 1 }
     {
         let kept = bytes.len();
         let mut past = Record::new();
@@ -78,7 +80,8 @@ impl Contents {
         ensures ok { OnOk result (more ≤ room_of self.new) }
         ensures bytes { bytes_of self.new ≡ bytes_of self.old }
         ensures crash { (c : List ℕ) → may_leave_of self.new c → may_leave_of self.old c }
-        ensures time { Elapses (moment_of self.old) (moment_of self.new) (left_since_of self.old) (left_since_of self.new) (may_leave_of self.new) }
+        ensures time { TimeGoesOn self.old self.new }
+        ensures moment { moment_of self.new ≡ moment_of self.old }
         ensures faults { faults_of self.new ≡ faults_of self.old }
     {
         self.bytes.reserve(more)
@@ -90,7 +93,8 @@ impl Contents {
         ensures bytes { bytes_of self.new ≡ bytes_of self.old ++ bytes.now }
         ensures kept { kept_of self.new ≡ kept_of self.old }
         ensures crash { Follows (Torn bytes.now) (may_leave_of self.old) (may_leave_of self.new) }
-        ensures time { Elapses (moment_of self.old) (moment_of self.new) (left_since_of self.old) (left_since_of self.new) (may_leave_of self.new) }
+        ensures time { TimeGoesOn self.old self.new }
+        ensures moment { moment_of self.new ≡ moment_of self.old + 1 }
         ensures faults { faults_of self.new ≡ faults_of self.old }
     {
         self.past.note(&[], bytes);
@@ -103,7 +107,8 @@ impl Contents {
         ensures kept { kept_of self.new ≡ length (bytes_of self.old) }
         ensures durable { Only (bytes_of self.old) (may_leave_of self.new) }
         ensures crash { (c : List ℕ) → may_leave_of self.new c → may_leave_of self.old c }
-        ensures time { Elapses (moment_of self.old) (moment_of self.new) (left_since_of self.old) (left_since_of self.new) (may_leave_of self.new) }
+        ensures time { TimeGoesOn self.old self.new }
+        ensures moment { moment_of self.new ≡ moment_of self.old + 1 }
         ensures faults { faults_of self.new ≡ faults_of self.old }
     {
         self.kept = self.bytes.len();
@@ -115,7 +120,8 @@ impl Contents {
         ensures bytes { bytes_of self.new ≡ bytes.items }
         ensures kept { kept_of self.new ≡ length bytes.items }
         ensures durable { Only bytes.items (may_leave_of self.new) }
-        ensures time { Elapses (moment_of self.old) (moment_of self.new) (left_since_of self.old) (left_since_of self.new) (may_leave_of self.new) }
+        ensures time { TimeGoesOn self.old self.new }
+        ensures moment { moment_of self.new ≡ moment_of self.old + 1 }
         ensures faults { faults_of self.new ≡ faults_of self.old }
     {
         self.kept = bytes.len();
@@ -129,7 +135,8 @@ impl Contents {
         ensures kept { kept_of self.new ≡ kept_of self.old }
         ensures crash { (c : List ℕ) → may_leave_of self.new c → may_leave_of self.old c }
         ensures still { (c : List ℕ) → may_leave_of self.old c → may_leave_of self.new c }
-        ensures time { Elapses (moment_of self.old) (moment_of self.new) (left_since_of self.old) (left_since_of self.new) (may_leave_of self.new) }
+        ensures time { TimeGoesOn self.old self.new }
+        ensures moment { moment_of self.new ≡ moment_of self.old }
         ensures faults { faults_of self.new ≡ faults_of self.old + 1 }
     {
         self.failures.note(&[], &[]);

@@ -1,21 +1,25 @@
 // A file in memory that fails and crashes as a test wants.
-ghost use Rattle.std.specs.Prelude.{◌≡◌, ◌≤◌, List, ℕ, length, IfOk, if◌then◌else◌};
-ghost use Rattle.la_journal.specs.Disk.{Only, Elapses};
+ghost use Rattle.std.specs.Prelude.{◌≡◌, ◌≤◌, ◌+◌, List, ℕ, length, IfOk, if◌then◌else◌};
+ghost use Rattle.la_journal.specs.Disk.{Only};
 ghost use Rattle.la_journal.specs.Outcomes.{spoilt_by, left_by};
-ghost use Rattle.la_journal.specs.Held.{bytes_of, kept_of, room_of, faults_of, moment_of, may_leave_of, left_since_of, only_now_of, counts_now_of};
+ghost use Rattle.la_journal.specs.Held.{bytes_of, kept_of, room_of, faults_of, moment_of};
+ghost use Rattle.la_journal.specs.Held.{may_leave_of, left_since_of, TimeGoesOn, only_now_of, counts_now_of};
 ghost use Rattle.la_journal.specs.Starts.{IsStart};
 
 use crate::{Contents, Disk, DiskError, DiskFault};
 use std::alloc::{AllocError, Global};
 
 /// A disk in memory, for tests. It takes so many bytes and no more, and so many syncs and no more;
-/// [`crash`](MemoryDisk::crash) gives what a crash leaves of it.
+/// [`crash`](MemoryDisk::crash) gives what a crash leaves of it. It has a clock, which each append, sync and
+/// replacement moves on by one; where that has come to its end, at 2^64 - 1, it fails.
 #[derive(Drop)]
 pub struct MemoryDisk {
     alloc: Global,
     contents: Contents,
     most: usize,
     syncs: u32,
+    clock: u64,
+    ghost on_time: { clock ≡ moment_of contents },
 }
 
 impl MemoryDisk {
@@ -31,6 +35,7 @@ impl MemoryDisk {
             contents: Contents::stored(bytes),
             most: usize::MAX,
             syncs: u32::MAX,
+            clock: 1,
         }
     }
 
@@ -56,6 +61,13 @@ impl MemoryDisk {
         self.contents.bytes()
     }
 
+    /// The moment, by its clock.
+    pub fn moment(&self) -> u64
+        ensures { result ≡ moment_of self.now.contents }
+    {
+        self.clock
+    }
+
     /// What a crash leaves: what is on the disk, and of the rest as many bytes as there are marks for, the first ones,
     /// each as it was written, or as 0 where its mark in `spoilt` is true. All of that is on the disk that comes back.
     pub fn crash(&self, spoilt: &[bool]) -> Result<MemoryDisk, AllocError>
@@ -71,8 +83,8 @@ impl MemoryDisk {
 
     /// What another process finds after a crash, as by [`crash`](MemoryDisk::crash), of a process that died with this
     /// disk. No more of it is on the disk than there was: until the other process has synced or replaced the file, a
-    /// crash leaves what this one may have left. It is not full and does not fail. Where memory is refused, this disk
-    /// is dropped.
+    /// crash leaves what this one may have left. It is not full and does not fail. Where memory is refused, or the clock
+    /// has come to its end, this disk is dropped.
     pub fn restart(self, spoilt: &[bool]) -> Result<MemoryDisk, AllocError>
         ensures bytes { IfOk result (λ found. bytes_of found.contents
             ≡ left_by spoilt.now (kept_of self.contents) (bytes_of self.contents)) }
@@ -80,17 +92,21 @@ impl MemoryDisk {
         ensures start { IfOk result (λ found. (t : ℕ) → t ≤ moment_of self.contents
             → IsStart (λ d. bytes_of d.contents) (λ d c. may_leave_of d.contents c) (left_since_of self.contents t) found) }
         ensures crash { IfOk result (λ found. (c : List ℕ) → may_leave_of found.contents c → may_leave_of self.contents c) }
-        ensures time { IfOk result (λ found. Elapses (moment_of self.contents) (moment_of found.contents)
-            (left_since_of self.contents) (left_since_of found.contents) (may_leave_of found.contents)) }
+        ensures time { IfOk result (λ found. TimeGoesOn self.contents found.contents) }
     {
+        if self.clock == u64::MAX {
+            return Err(AllocError);
+        }
         let bytes = self.left_by(spoilt)?;
         let kept = self.contents.kept();
+        let clock = self.clock + 1;
         let alloc = self.alloc;
         Ok(MemoryDisk {
             alloc,
             contents: Contents::found(bytes, kept, self.contents.left()),
             most: usize::MAX,
             syncs: u32::MAX,
+            clock,
         })
     }
 
@@ -162,6 +178,11 @@ impl Disk for MemoryDisk {
     }
 
     fn append(&mut self, bytes: &[u8]) -> Result<(), DiskFault> {
+        if self.clock == u64::MAX {
+            self.contents.fail();
+            return Err(DiskFault);
+        }
+        self.clock += 1;
         let free = self.most.saturating_sub(self.contents.bytes().len());
         if free < bytes.len() {
             self.contents.append(&bytes[..free]);
@@ -173,20 +194,22 @@ impl Disk for MemoryDisk {
     }
 
     fn sync(&mut self) -> Result<(), DiskFault> {
-        if !take_one(&mut self.syncs) {
+        if self.clock == u64::MAX || !take_one(&mut self.syncs) {
             self.contents.fail();
             return Err(DiskFault);
         }
+        self.clock += 1;
         self.contents.sync();
         Ok(())
     }
 
     fn replace(&mut self, bytes: &[u8]) -> Result<(), DiskError> {
         let copy = bytes.to_vec(self.alloc)?;
-        if self.most < bytes.len() || !take_one(&mut self.syncs) {
+        if self.clock == u64::MAX || self.most < bytes.len() || !take_one(&mut self.syncs) {
             self.contents.fail();
             return Err(DiskError::Failed);
         }
+        self.clock += 1;
         self.contents.replace(copy);
         Ok(())
     }

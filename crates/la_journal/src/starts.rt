@@ -28,9 +28,12 @@ pub fn start_again<M: Machine>(
         × IsSettled (λ d. bytes_of d.contents) (λ d c. may_leave_of d.contents c) node.disk) }
     ensures keeps { (t k : ℕ) (first : M.State) (calls : List M.Call) → t ≤ moment_of dead.contents
         → ((c : List ℕ) → left_since_of dead.contents t c
-            → LeadsToAtLeast (after M.named_state M.named M.step (M.state start)) M.step k calls first c)
-        → IfOk result (λ node. (c : List ℕ) → left_since_of node.disk.contents t c
-            → LeadsToAtLeast (after M.named_state M.named M.step (M.state start)) M.step k calls first c) }
+        → LeadsToAtLeast (after M.named_state M.named M.step (M.state start)) M.step k calls first c)
+        → IfOk result (λ node.
+        LeadsToAtLeast (after M.named_state M.named M.step (M.state start)) M.step k calls first
+        (bytes_of node.disk.contents)
+        × ((c : List ℕ) → left_since_of node.disk.contents t c
+        → LeadsToAtLeast (after M.named_state M.named M.step (M.state start)) M.step k calls first c)) }
     ensures cause { IfErr result (IsCauseOf M.lacks_memory 0 1
         (left_by spoilt.now (kept_of dead.contents) (bytes_of dead.contents))
         (after M.named_state M.named M.step (M.state start)

@@ -204,13 +204,12 @@ pub fn answer_and_compact<M: Snapshot, D: Disk>(
     Ok(output)
 }
 
-/// Takes a lease, and then the power fails: so many of the bytes that were not on the disk were
-/// written, and so many 0 in place of the next. The machine that starts then finds it taken.
+/// Takes a lease, and then the power fails, whatever that spoils of what was not on the disk. The machine that
+/// starts then finds it taken.
 pub fn taken_for_good(
     alloc: Global,
     journal: Vec<u8>,
-    written: usize,
-    zeros: usize,
+    spoilt: &[bool],
 ) -> Option<Durable<Lease, MemoryDisk>>
     ensures { IfSome result (λ lease. lease.machine.taken ≡ true) }
 {
@@ -221,7 +220,7 @@ pub fn taken_for_good(
     let Ok(_) = lease.handle(alloc, &Ask::Take) else {
         return None;
     };
-    let Ok(left) = lease.disk.crash(written, zeros) else {
+    let Ok(left) = lease.disk.crash(spoilt) else {
         return None;
     };
     match start(alloc, Lease { taken: false }, left) {

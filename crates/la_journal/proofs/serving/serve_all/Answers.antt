@@ -212,13 +212,13 @@ loop-input-preserved g c =
           (so_more g.M.Machine.step all done group rest split first between inv.led (alone g.M.Machine.answer) g.M.Machine.answers old before now more inv.so c.give.ensures.said 1 (omega arith) refl refl (ap (λ a. a ∷ []) c.in-Ok.ensures.answer));
       leads = λ start was. c.in-Ok.ensures.leads done_so.0 start (inv.leads start was);
       keeps = λ start was.
-    let leads = after g.M.Machine.named_state g.M.Machine.named g.M.Machine.step start in
-    subst (KeepsAll (alone g.M.Machine.answer) (g.D.Disk.moment c.handle.new.self.disk) (g.D.Disk.left_since c.handle.new.self.disk) leads g.M.Machine.step all first) (sym (since_more more old before now inv.so.behind c.give.ensures.said))
-    (keeps_more g.M.Machine.step all done group rest split first between inv.led leads g.D.Disk.moment g.D.Disk.left_since (alone g.M.Machine.answer) c.loop-input.durable.disk c.handle.new.self.disk (given_since old before) more inv.so.many
-    (c.handle.ensures.any_moment inv.unclosed start (inv.leads start was)) (inv.keeps start was)
-    (omega arith, λ f left. (1, omega arith, omega arith, ap leads (done_so.1.durable f (g.met.D.Disk.only_now c.handle.new.self.disk f left)) ∙ c.in-Ok.ensures.leads done_so.0 start (inv.leads start was) ∙ sym done_so.3), tt));
+          let leads = after g.M.Machine.named_state g.M.Machine.named g.M.Machine.step start in
+          subst (KeepsAll (alone g.M.Machine.answer) (g.D.Disk.moment c.handle.new.self.disk) (g.D.Disk.left_since c.handle.new.self.disk) leads g.M.Machine.step all first) (sym (since_more more old before now inv.so.behind c.give.ensures.said))
+          (keeps_more g.M.Machine.step all done group rest split first between inv.led leads g.D.Disk.moment g.D.Disk.left_since (alone g.M.Machine.answer) c.loop-input.durable.disk c.handle.new.self.disk (given_since old before) more inv.so.many
+          (c.handle.ensures.any_moment inv.unclosed start (inv.leads start was)) (inv.keeps start was)
+          (omega arith, λ f left. (1, omega arith, omega arith, ap leads (done_so.1.durable f (g.met.D.Disk.only_now c.handle.new.self.disk f left)) ∙ c.in-Ok.ensures.leads done_so.0 start (inv.leads start was) ∙ sym done_so.3), tt));
       any_moment = λ start was.
-    let leads = after g.M.Machine.named_state g.M.Machine.named g.M.Machine.step start in
-    leaves_more g.M.Machine.step all done group rest split first between inv.led leads g.D.Disk.moment g.D.Disk.left_since c.args.durable.now.disk c.loop-input.durable.disk c.handle.new.self.disk
-    (inv.any_moment start was) (c.handle.ensures.any_moment inv.unclosed start (inv.leads start was));
+          let leads = after g.M.Machine.named_state g.M.Machine.named g.M.Machine.step start in
+          leaves_more g.M.Machine.step all done group rest split first between inv.led leads g.D.Disk.moment g.D.Disk.left_since c.args.durable.now.disk c.loop-input.durable.disk c.handle.new.self.disk
+          (inv.any_moment start was) (c.handle.ensures.any_moment inv.unclosed start (inv.leads start was));
     }

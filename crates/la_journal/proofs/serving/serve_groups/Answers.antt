@@ -340,15 +340,15 @@ loop-group-preserved g c =
           (so_more g.M.Machine.step all done group rest split first between inv.led (together g.M.Machine.answer) g.M.Machine.answers old before now more inv.so c.give_out.ensures.said n within many full (given ∙ said_so.answers));
       leads = λ start was. said_so.leads whole.0 start (inv.leads start was);
       keeps = λ start was.
-    let leads = after g.M.Machine.named_state g.M.Machine.named g.M.Machine.step start in
-    subst (KeepsAll (together g.M.Machine.answer) (g.D.Disk.moment c.take_group-taken.new.durable.disk) (g.D.Disk.left_since c.take_group-taken.new.durable.disk) leads g.M.Machine.step all first) (sym (since_more more old before now inv.so.behind c.give_out.ensures.said))
-    (keeps_more g.M.Machine.step all done group rest split first between inv.led leads g.D.Disk.moment g.D.Disk.left_since (together g.M.Machine.answer) c.loop-group.durable.disk c.take_group-taken.new.durable.disk (given_since old before) more inv.so.many
-    (said_so.any_moment start (inv.leads start was)) (inv.keeps start was)
-    (keeps_given g.M.Machine.answer (g.D.Disk.moment c.take_group-taken.new.durable.disk) (g.D.Disk.left_since c.take_group-taken.new.durable.disk) leads g.M.Machine.step group between (g.D.Disk.moment c.take_group-taken.new.durable.disk) c.take_group-taken.new.answers items refl within (omega arith)
-    (λ some f left. let is_open = not_closed c.take_group-taken.new.durable.closed n said_so.closed some in
-    ap leads ((said_so.open is_open).durable f (g.met.D.Disk.only_now c.take_group-taken.new.durable.disk f left)) ∙ said_so.leads is_open start (inv.leads start was) ∙ sym (said_so.state is_open))));
+          let leads = after g.M.Machine.named_state g.M.Machine.named g.M.Machine.step start in
+          subst (KeepsAll (together g.M.Machine.answer) (g.D.Disk.moment c.take_group-taken.new.durable.disk) (g.D.Disk.left_since c.take_group-taken.new.durable.disk) leads g.M.Machine.step all first) (sym (since_more more old before now inv.so.behind c.give_out.ensures.said))
+          (keeps_more g.M.Machine.step all done group rest split first between inv.led leads g.D.Disk.moment g.D.Disk.left_since (together g.M.Machine.answer) c.loop-group.durable.disk c.take_group-taken.new.durable.disk (given_since old before) more inv.so.many
+          (said_so.any_moment start (inv.leads start was)) (inv.keeps start was)
+          (keeps_given g.M.Machine.answer (g.D.Disk.moment c.take_group-taken.new.durable.disk) (g.D.Disk.left_since c.take_group-taken.new.durable.disk) leads g.M.Machine.step group between (g.D.Disk.moment c.take_group-taken.new.durable.disk) c.take_group-taken.new.answers items refl within (omega arith)
+          (λ some f left. let is_open = not_closed c.take_group-taken.new.durable.closed n said_so.closed some in
+          ap leads ((said_so.open is_open).durable f (g.met.D.Disk.only_now c.take_group-taken.new.durable.disk f left)) ∙ said_so.leads is_open start (inv.leads start was) ∙ sym (said_so.state is_open))));
       any_moment = λ start was.
-    let leads = after g.M.Machine.named_state g.M.Machine.named g.M.Machine.step start in
-    leaves_more g.M.Machine.step all done group rest split first between inv.led leads g.D.Disk.moment g.D.Disk.left_since c.args.durable.now.disk c.loop-group.durable.disk c.take_group-taken.new.durable.disk
-    (inv.any_moment start was) (said_so.any_moment start (inv.leads start was));
+          let leads = after g.M.Machine.named_state g.M.Machine.named g.M.Machine.step start in
+          leaves_more g.M.Machine.step all done group rest split first between inv.led leads g.D.Disk.moment g.D.Disk.left_since c.args.durable.now.disk c.loop-group.durable.disk c.take_group-taken.new.durable.disk
+          (inv.any_moment start was) (said_so.any_moment start (inv.leads start was));
     }
