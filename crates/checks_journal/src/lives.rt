@@ -10,6 +10,7 @@ use la_journal::{
     Disk, Durable, MemoryDisk, Refused, Unserved, recover, serve_all, serve_groups, start_again,
 };
 use std::alloc::Global;
+use std::process::Abort;
 
 // After so many syncs the disk fails; what a crash then leaves of the last line; where the next life begins.
 type Life = (u32, &'static [bool], u64);
@@ -25,8 +26,8 @@ const LIVES: &[(Life, Life)] = &[
 
 // One life, and the start of the next one: what was given out are the numbers that follow one another from where it
 // began, as many as there were syncs, and the next one has them.
-fn lives(
-    rt: &HostRuntime,
+fn lives<A: Abort + Copy + Drop>(
+    rt: &A,
     alloc: Global,
     mut node: Durable<Tally, MemoryDisk>,
     life: &Life,
@@ -112,7 +113,7 @@ const GROUPS: &[(u32, &[bool], usize, u64)] = &[
     (2, &[], 2, 3),
 ];
 
-fn groups_of(rt: &HostRuntime, alloc: Global) -> Vec<Vec<Move>> {
+fn groups_of(rt: &impl Abort, alloc: Global) -> Vec<Vec<Move>> {
     let Ok(groups) = two_groups(alloc) else {
         panic!(rt; "out of memory");
     };

@@ -3,17 +3,18 @@ ghost use Rattle.std.specs.Prelude.{◌≡◌, []};
 
 use la_journal::{MemoryDisk, Outlet, OutletFault};
 use std::alloc::Global;
+use std::process::Abort;
 
 /// What was given out, and the moment of a disk in memory then. It stops a test that has no memory for it.
 #[derive(Drop)]
-pub struct Told<T: Drop> {
-    rt: HostRuntime,
+pub struct Told<A: Abort + Copy + Drop, T: Drop> {
+    rt: A,
     pub given: Vec<(u64, T)>,
 }
 
-impl<T: Drop> Told<T> {
+impl<A: Abort + Copy + Drop, T: Drop> Told<A, T> {
     /// Nothing yet.
-    pub fn new(rt: &HostRuntime, alloc: Global) -> Told<T> {
+    pub fn new(rt: &A, alloc: Global) -> Told<A, T> {
         Told {
             rt: *rt,
             given: Vec::new(alloc),
@@ -21,7 +22,7 @@ impl<T: Drop> Told<T> {
     }
 }
 
-impl<T: Drop> Outlet<MemoryDisk> for Told<T> {
+impl<A: Abort + Copy + Drop, T: Drop> Outlet<MemoryDisk> for Told<A, T> {
     ghost use Rattle.checks_journal.specs.Told.{told};
 
     type Item = T;

@@ -110,10 +110,13 @@ ghost use Rattle.la_journal.specs.Disk.{Only};
 ghost use Rattle.la_journal.specs.Lines.{lines};
 ghost use Rattle.la_journal.specs.Machine.{after, calls, LeadsToSome};
 ghost use Rattle.la_journal.specs.Durable.{IsSettled};
+ghost use Rattle.la_journal.specs.Served.{alone, answered, LeadsToAtLeast};
 ghost use Rattle.la_journal.specs.Starts.{IsStart};
 ghost use Rattle.la_journal.specs.declared.durable.Refused.TheVariants.{Machine as ByMachine};
 
-use la_journal::{Disk, Durable, MemoryDisk, Refused, Unplayed, laws, recover};
+use la_journal::{
+    Disk, Durable, MemoryDisk, Outlet, Refused, Unplayed, laws, recover, serve_all, start_again,
+};
 use la_journal_file::{FileDisk, FolderLock};
 use std::io;
 
@@ -226,6 +229,34 @@ pub fn taken_for_good(
     match start(alloc, Lease { taken: false }, left) {
         Ok(lease) => Some(lease),
         Err(_) => None,
+    }
+}
+
+/// Serves the inputs, and then the process dies, and a crash spoils what it may. Who starts again comes to where the
+/// first some of the inputs lead, all that were answered among them.
+pub fn serve_and_start_again<M: Machine, O: Outlet<MemoryDisk, Item = M::Output>>(
+    node: Durable<M, MemoryDisk>,
+    alloc: Global,
+    inputs: &[M::Input],
+    outlet: &mut O,
+    spoilt: &[bool],
+    anew: M,
+) -> Result<Durable<M, MemoryDisk>, Unplayed<M::Refusal>>
+    requires settled { IsSettled ⟦<MemoryDisk as Disk>⟧.seen ⟦<MemoryDisk as Disk>⟧.may_leave node.disk }
+    requires unclosed { node.closed ≡ false }
+    requires leads { after M.named_state M.named M.step (M.state anew) (⟦<MemoryDisk as Disk>⟧.seen node.disk)
+        ≡ Some (M.state node.machine) }
+    ensures { IfOk result (λ again.
+        LeadsToAtLeast (after M.named_state M.named M.step (M.state anew)) M.step
+        (answered (alone M.answer) (O.said outlet.old) (O.said outlet.new))
+        (calls M.call inputs.now) (M.state node.machine) (⟦<MemoryDisk as Disk>⟧.seen again.disk)) }
+{
+    let mut node = node;
+    let _all_or_some = serve_all(alloc, &mut node, inputs, outlet);
+    let Durable { disk, .. } = node;
+    match start_again(alloc, disk, spoilt, anew) {
+        Ok(again) => Ok(again),
+        Err(why) => Err(why),
     }
 }
 
