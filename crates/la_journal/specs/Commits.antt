@@ -1,4 +1,4 @@
--- A journal of groups, each with its record behind it.
+-- A journal of groups, each with its record behind it, and what a crash leaves of it.
 use Rattle.std.specs.Prelude.{◌≡◌, ◌≢◌, ◌⊎◌, ⊤, ℕ, Bool, true, false, List, [], ◌∷◌, ◌++◌, if◌then◌else◌, ◌==◌, ◌&&◌}
 use Rattle.la_journal.specs.Disk.{IsTorn}
 use Rattle.la_journal.specs.Lines.{IsClean}

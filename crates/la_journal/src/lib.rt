@@ -7,8 +7,10 @@
 //!
 //! `specs/` has the definitions: `Lines` and `Journal` (what a file says), `Machine` (where it leads),
 //! `Disk` (what a crash may leave), `Durable` (when a machine stands on its journal, and why a call
-//! is refused), `Outcomes` (what was written of a file's [`Contents`]), `Starts`; [`laws`] has what
-//! holds over a crash and a new start.
+//! is refused), `Note` and `Outcomes` (what is noted of a file's [`Contents`], and what a crash might have
+//! left of it), `Starts`, `Served` (what was given out, and what a crash keeps of it), `Lives` (processes one
+//! after another), `Commits` (journals whose groups end in records); [`laws`] has what holds over a crash
+//! and a new start.
 #![tactic(auto)]
 
 mod compaction;
