@@ -1,7 +1,7 @@
 -- What is given out, piece by piece.
-use Rattle.std.proofs.Common.{◌≡◌, ℕ, ◌+◌, ◌-◌, ◌≤◌, List, [], ◌∷◌, ◌++◌, Option, Some, None, length, take, refl, sym, ◌∙◌, ap, subst, arith, append_assoc}
+use Rattle.std.proofs.Common.{◌≡◌, ℕ, ◌+◌, ◌-◌, List, [], ◌∷◌, ◌++◌, Option, Some, None, length, take, refl, sym, ◌∙◌, ap, arith, append_assoc}
 use Rattle.std.proofs.lemmas.List.{append-nil, take_at, length-append}
-use Rattle.la_journal.specs.Machine.{goes_on, steps_from, replies_from}
+use Rattle.la_journal.specs.Machine.{steps_from, replies_from}
 use Rattle.la_journal.specs.Served.{Said, given_since, answers_of, answered}
 use Rattle.la_journal.proofs.StepsMore.{none_stays}
 

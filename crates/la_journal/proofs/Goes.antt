@@ -2,7 +2,7 @@
 use Rattle.std.proofs.Common.{◌≡◌, ◌⊎◌, inl, inr, ⊎_elim, ℕ, zero, suc, ◌≤◌, List, [], ◌∷◌, ◌++◌, length, take, drop, refl, sym, ◌∙◌, ap, subst, arith, append_assoc, take-append-drop}
 use Rattle.std.proofs.lemmas.List.{append-nil, take_all, drop_all}
 use Rattle.la_journal.specs.Disk.{IsTorn, Torn, Elapses}
-use Rattle.la_journal.specs.Note.{Event, Moment, grown, now_of, next_of, first_of}
+use Rattle.la_journal.specs.Note.{Moment, grown, now_of, next_of, first_of}
 use Rattle.la_journal.specs.Outcomes.{LeftOf, LeftAt, LeftSince}
 
 -- no time

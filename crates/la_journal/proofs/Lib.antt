@@ -1,6 +1,5 @@
 mod Goes
 mod Spoilt
-mod Again
 mod Given
 mod Parts
 mod GroupCalls

@@ -1,7 +1,7 @@
 -- Lives one after another.
-use Rattle.std.proofs.Common.{◌≡◌, ℕ, List, [], ◌∷◌, ◌++◌, Option, Some, take, refl, sym, ◌∙◌, ap}
+use Rattle.std.proofs.Common.{ℕ, List, [], ◌∷◌, ◌++◌, Option, Some, take, refl, sym, ◌∙◌, ap}
 use Rattle.la_journal.specs.Machine.{steps_from}
-use Rattle.la_journal.specs.Lives.{Life, AreLives, AreMadeOf, LivesAreOneRun}
+use Rattle.la_journal.specs.Lives.{LivesAreOneRun}
 use Rattle.la_journal.proofs.StepsMore.{from_append}
 
 module _ {S C : Type 0} (leads : List ℕ → Option S) (step : S → C → Option S) where

@@ -1,11 +1,11 @@
 -- A torn group is not read.
-use Rattle.std.proofs.Common.{◌≡◌, ◌≢◌, ◌⊎◌, inl, inr, arith, ℕ, Bool, true, false, List, [], ◌∷◌, ◌++◌, refl, sym, ◌∙◌, ap, subst, append_assoc, length}
+use Rattle.std.proofs.Common.{◌≡◌, ◌⊎◌, inl, inr, arith, ℕ, Bool, true, false, List, [], ◌∷◌, ◌++◌, refl, sym, ◌∙◌, ap, subst, append_assoc, length}
 use Rattle.std.specs.Prelude.{if◌then◌else◌, ◌==◌, ◌&&◌}
 use Rattle.std.proofs.lemmas.List.{append-nil, length-append}
-use Rattle.std.proofs.lemmas.Bool.{cases_eq, false≢true}
+use Rattle.std.proofs.lemmas.Bool.{false≢true}
 use Rattle.std.proofs.lemmas.Bool.Decides.{nat_tests}
 use Rattle.la_journal.specs.Disk.{IsTorn}
-use Rattle.la_journal.specs.Commits.{same_bytes, is_record, Records, groups_from, groups, HasNoEnd, HasNoZero, IsGroup, AreRecords, IsSpoilt, NoneCollides, NoneMatches, TornGroupsAreNotRead}
+use Rattle.la_journal.specs.Commits.{same_bytes, is_record, Records, groups_from, HasNoEnd, HasNoZero, IsGroup, AreRecords, IsSpoilt, NoneCollides, TornGroupsAreNotRead}
 use Rattle.la_journal.proofs.Recorded.{step_end, step_byte}
 
 spoilt_append : (xs ys xt yt : List ℕ) → IsSpoilt xs xt → IsSpoilt ys yt → IsSpoilt (xs ++ ys) (xt ++ yt)

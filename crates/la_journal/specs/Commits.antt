@@ -1,7 +1,6 @@
 -- A journal of groups, each with its record behind it, and what a crash leaves of it.
 use Rattle.std.specs.Prelude.{◌≡◌, ◌≢◌, ◌⊎◌, ⊤, ℕ, Bool, true, false, List, [], ◌∷◌, ◌++◌, if◌then◌else◌, ◌==◌, ◌&&◌}
 use Rattle.la_journal.specs.Disk.{IsTorn}
-use Rattle.la_journal.specs.Lines.{IsClean}
 
 -- whether the bytes are the same
 abbrev pub same_bytes : List ℕ → List ℕ → Bool

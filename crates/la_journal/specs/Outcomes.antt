@@ -3,7 +3,7 @@ use Rattle.std.specs.Prelude.{◌≡◌, ◌⊎◌, ℕ, ◌≤◌, ◌<◌, Boo
 use Rattle.std.proofs.Common.{arith}
 use mathlib.Core.Logic.{inl, inr}
 use Rattle.la_journal.specs.Disk.{IsTorn}
-use Rattle.la_journal.specs.Note.{Event, Moment, now_of}
+use Rattle.la_journal.specs.Note.{Moment, now_of}
 
 -- what is on the disk stays, and of the rest a crash keeps the first some, as they are or as 0
 abbrev pub LeftOf : ℕ → List ℕ → List ℕ → Type 0

@@ -1,8 +1,7 @@
-use Rattle.std.proofs.Common.{◌≤◌, ℕ, List, ⊎_elim, sym, ◌∙◌, ap, arith}
+use Rattle.std.proofs.Common.{ℕ, List, ⊎_elim, sym, ◌∙◌, ap, arith}
 use Rattle.la_journal.specs.Machine.{after}
-use Rattle.la_journal.specs.Held.{bytes_of, moment_of, may_leave_of, counts_now_of}
+use Rattle.la_journal.specs.Held.{bytes_of, may_leave_of, counts_now_of}
 use Rattle.la_journal.proofs.Leading.{same_lines}
-use Rattle.la_journal.proofs.Again.{cause_there}
 use Rattle.la_journal.proofs.starts.start_again.Goals as goal
 
 pub returns-in-Ok-recover-clause-keeps : goal.returns-in-Ok-recover-clause-keeps

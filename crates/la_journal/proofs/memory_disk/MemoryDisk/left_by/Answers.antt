@@ -1,4 +1,4 @@
-use Rattle.std.proofs.Common.{◌≡◌, ◌++◌, List, ℕ, take, drop, ap, ◌∙◌, rules}
+use Rattle.std.proofs.Common.{◌≡◌, ◌++◌, take, drop, ap, ◌∙◌, rules}
 use Rattle.la_journal.specs.Outcomes.{spoilt_by, left_by}
 use Rattle.la_journal.proofs.Groups.{tail_is}
 use Rattle.la_journal.proofs.memory_disk.MemoryDisk.left_by.Goals as goal

@@ -1,4 +1,4 @@
-use Rattle.std.proofs.Common.{◌≡◌, ◌≤◌, ℕ, List, length, sym, subst, ◌∙◌}
+use Rattle.std.proofs.Common.{◌≤◌, ℕ, List, length, sym, subst, ◌∙◌}
 use Rattle.la_journal.specs.Disk.{Elapses}
 use Rattle.la_journal.specs.Note.{Moment}
 use Rattle.la_journal.specs.Outcomes.{LeftSince}
