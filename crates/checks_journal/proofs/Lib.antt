@@ -1,1 +1,2 @@
 mod Ups
+mod Telling

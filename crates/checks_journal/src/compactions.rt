@@ -2,7 +2,7 @@
 ghost use Rattle.std.specs.Prelude.{◌≡◌, false};
 ghost use Rattle.la_journal.specs.Durable.{IsSettled};
 
-use crate::given::{Start, disk_of, holds, started, tally_over};
+use crate::given::{KEPT, SPOILT, Start, disk_of, holds, started, tally_over};
 use crate::{Move, Tally};
 use la_journal::{Disk, Durable, MemoryDisk, Refused, Uncompacted};
 use std::alloc::Global;
@@ -75,8 +75,13 @@ fn a_state_and_a_failed_sync(rt: HostRuntime) {
         "a failure",
         matches!(node.handle(alloc, &Move::Up), Err(Refused::Disk)),
     );
-    for (written, zeros, total) in [(0, 0, 2), (0, 2, 2), (1, 1, 2), (2, 0, 3)] {
-        let Ok(left) = node.disk.crash(written, zeros) else {
+    for (spoilt, total) in [
+        (&[] as &[bool], 2),
+        (&[SPOILT, SPOILT], 2),
+        (&[KEPT, SPOILT], 2),
+        (&[KEPT, KEPT], 3),
+    ] {
+        let Ok(left) = node.disk.crash(spoilt) else {
             panic!(rt; "out of memory");
         };
         holds(&rt, "a crash", started(alloc, left) == Start::At(total));

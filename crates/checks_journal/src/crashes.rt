@@ -1,7 +1,28 @@
 // What starts find, and what crashes leave of one call and of many.
-use crate::given::{Start, disk_of, holds, started};
+use crate::given::{KEPT, SPOILT, Start, disk_of, holds, started};
 use crate::{Move, MoveError, Tally, counted};
 use la_journal::{Refused, recover};
+
+// What crashes leave of a line behind another one.
+pub const ONE_LINE: &[(&[bool], Start)] = &[
+    (&[], Start::At(1)),
+    (&[SPOILT, SPOILT], Start::At(1)),
+    (&[SPOILT, KEPT], Start::At(1)),
+    (&[KEPT], Start::At(1)),
+    (&[KEPT, SPOILT], Start::At(1)),
+    (&[KEPT, KEPT], Start::At(2)),
+    (&[KEPT, KEPT, SPOILT], Start::At(2)),
+];
+
+// And of two lines: where the first one is spoilt and the second is not, it is no torn file.
+pub const TWO_LINES: &[(&[bool], Start)] = &[
+    (&[], Start::At(1)),
+    (&[KEPT, SPOILT], Start::At(1)),
+    (&[KEPT, KEPT, SPOILT, SPOILT], Start::At(2)),
+    (&[KEPT, KEPT, KEPT], Start::At(2)),
+    (&[KEPT, KEPT, KEPT, KEPT], Start::At(3)),
+    (&[SPOILT, KEPT, KEPT, KEPT], Start::Damaged(2)),
+];
 
 #[test]
 fn starts(rt: HostRuntime) {
@@ -45,18 +66,11 @@ fn a_failed_sync(rt: HostRuntime) {
         "an end",
         matches!(node.handle(alloc, &Move::Up), Err(Refused::Closed)),
     );
-    for (written, zeros, total) in [
-        (0, 0, 1),
-        (0, 2, 1),
-        (1, 0, 1),
-        (1, 1, 1),
-        (2, 0, 2),
-        (9, 9, 2),
-    ] {
-        let Ok(left) = node.disk.crash(written, zeros) else {
+    for (spoilt, start) in ONE_LINE {
+        let Ok(left) = node.disk.crash(spoilt) else {
             panic!(rt; "out of memory");
         };
-        holds(&rt, "a crash", started(alloc, left) == Start::At(total));
+        holds(&rt, "a crash", started(alloc, left) == *start);
     }
 }
 
@@ -139,11 +153,11 @@ fn many_and_a_failed_sync(rt: HostRuntime) {
     let done = node.handle_all(alloc, &[Move::Up, Move::Up], &mut answers);
     holds(&rt, "a failure", matches!(done, Err(Refused::Disk)));
     holds(&rt, "no answer", answers.is_empty());
-    for (written, zeros, total) in [(0, 0, 1), (1, 1, 1), (2, 2, 2), (3, 0, 2), (4, 0, 3)] {
-        let Ok(left) = node.disk.crash(written, zeros) else {
+    for (spoilt, start) in TWO_LINES {
+        let Ok(left) = node.disk.crash(spoilt) else {
             panic!(rt; "out of memory");
         };
-        holds(&rt, "a crash", started(alloc, left) == Start::At(total));
+        holds(&rt, "a crash", started(alloc, left) == *start);
     }
 }
 

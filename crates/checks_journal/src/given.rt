@@ -1,10 +1,16 @@
 // Journals as text, and what a start on them comes to.
+ghost use Rattle.std.specs.Prelude.{◌≡◌, false};
 ghost use Rattle.la_journal.specs.Durable.{IsSettled};
 
 use crate::Tally;
 use la_journal::{Disk, Durable, MemoryDisk, Unplayed, recover};
 use std::alloc::Global;
 use std::process::Abort;
+
+/// The marks of a crash: a byte as it was written, and one that is spoilt.
+pub const KEPT: bool = false;
+
+pub const SPOILT: bool = true;
 
 /// Stops a test that has found this to be false.
 pub fn holds(rt: &impl Abort, what: &str, found: bool) {
@@ -21,7 +27,8 @@ pub fn disk_of(rt: &impl Abort, alloc: Global, text: &str) -> MemoryDisk {
 
 /// A tally over a disk; where memory is refused once, the second start has it.
 pub fn tally_over(rt: &impl Abort, alloc: Global, disk: MemoryDisk) -> Durable<Tally, MemoryDisk>
-    ensures { IsSettled ⟦<MemoryDisk as Disk>⟧.seen ⟦<MemoryDisk as Disk>⟧.may_leave result.disk }
+    ensures settled { IsSettled ⟦<MemoryDisk as Disk>⟧.seen ⟦<MemoryDisk as Disk>⟧.may_leave result.disk }
+    ensures unclosed { result.closed ≡ false }
 {
     let disk = match recover(alloc, Tally { total: 0 }, disk) {
         Ok(node) => return node,

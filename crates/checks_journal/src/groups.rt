@@ -1,6 +1,7 @@
 // Calls whose lines are put on the disk together.
 ghost use Rattle.std.specs.Prelude.{◌≡◌};
 
+use crate::crashes::TWO_LINES;
 use crate::given::{Start, disk_of, holds, started, tally_over};
 use crate::{Move, Tally};
 use la_journal::{Disk, Staged, Uncommitted, Unstaged, recover};
@@ -36,7 +37,7 @@ fn together(rt: HostRuntime) {
         group.durable.disk.bytes() == b"u\nu\nd\n".as_slice(),
     );
     holds(&rt, "no line more", group.commit().is_ok());
-    let Ok(left) = group.durable.disk.crash(0, 0) else {
+    let Ok(left) = group.durable.disk.crash(&[]) else {
         panic!(rt; "out of memory");
     };
     holds(&rt, "a start", started(alloc, left) == Start::At(1));
@@ -60,17 +61,10 @@ fn in_part(rt: HostRuntime) {
     holds(&rt, "an end", closed == Err(Uncommitted::Closed));
     let refused = group.stage(alloc, &Move::Up);
     holds(&rt, "no more", matches!(refused, Err(Unstaged::Closed)));
-    for (written, zeros, start) in [
-        (0, 0, Start::At(1)),
-        (1, 1, Start::At(1)),
-        (2, 0, Start::At(2)),
-        (2, 2, Start::At(2)),
-        (4, 0, Start::At(3)),
-        (9, 9, Start::At(3)),
-    ] {
-        let Ok(left) = group.durable.disk.crash(written, zeros) else {
+    for (spoilt, start) in TWO_LINES {
+        let Ok(left) = group.durable.disk.crash(spoilt) else {
             panic!(rt; "out of memory");
         };
-        holds(&rt, "a crash", started(alloc, left) == start);
+        holds(&rt, "a crash", started(alloc, left) == *start);
     }
 }

@@ -12,7 +12,11 @@ mod given;
 #[cfg(test)]
 mod groups;
 mod kept;
+#[cfg(test)]
+mod lives;
 mod tally;
+#[cfg(test)]
+mod told;
 
 pub use kept::counted_in;
 pub use tally::{Move, MoveError, Stopped, Tally, counted};

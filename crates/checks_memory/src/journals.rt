@@ -8,7 +8,7 @@ use crate::holds::holds;
 use checks_journal::{Move, Tally};
 use la_journal::{
     Contents, Disk, DiskError, Durable, MemoryDisk, Refused, Staged, Uncommitted, Uncompacted,
-    Unplayed, Unstaged, recover,
+    Unplayed, Unstaged, recover, start_again,
 };
 use std::alloc::Global;
 
@@ -51,6 +51,24 @@ fn recovers(alloc: Global) -> Came {
     match starts(alloc, disk) {
         Ok(well) => Some(well),
         Err(disk) => second(alloc, starts_again(alloc, disk)),
+    }
+}
+
+// A refused restart leaves nothing: each try has a disk of its own.
+fn restarts(alloc: Global) -> Came {
+    let disk = disk_of(alloc, TORN)?;
+    match disk.restart(&[]) {
+        Ok(found) => Some(is_text(&found, TORN)),
+        Err(_) => None,
+    }
+}
+
+fn starts_anew(alloc: Global) -> Came {
+    let disk = disk_of(alloc, WHOLE)?;
+    match start_again(alloc, disk, &[], Tally { total: 0 }) {
+        Ok(node) => Some(node.machine.total == 2 && is_text(&node.disk, WHOLE)),
+        Err(Unplayed::Memory) => None,
+        Err(_) => Some(false),
     }
 }
 
@@ -193,7 +211,7 @@ fn reserve(disk: &mut MemoryDisk) -> Came {
 }
 
 fn crash(disk: &MemoryDisk) -> Came {
-    match disk.crash(1, 1) {
+    match disk.crash(&[false, true]) {
         Ok(left) => Some(is_text(&left, TORN)),
         Err(_) => refused(is_text(disk, TORN)),
     }
@@ -236,6 +254,8 @@ fn has_contents(alloc: Global) -> Came {
 fn scenes(alloc: Global) -> Came {
     Some(
         recovers(alloc)?
+            && again!(alloc, restarts(alloc))?
+            && again!(alloc, starts_anew(alloc))?
             && handles(alloc)?
             && handles_all(alloc)?
             && commits(alloc)?

@@ -297,7 +297,7 @@ fn leases(alloc: Global) -> Option<bool> {
 }
 
 fn leases_stay(alloc: Global) -> Option<bool> {
-    let lease = taken_for_good(alloc, Vec::new(alloc), 0, 0)?;
+    let lease = taken_for_good(alloc, Vec::new(alloc), &[])?;
     Some(lease.machine.taken)
 }
 

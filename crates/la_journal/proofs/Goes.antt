@@ -2,7 +2,7 @@
 use Rattle.std.proofs.Common.{◌≡◌, ◌⊎◌, inl, inr, ⊎_elim, ℕ, zero, suc, ◌≤◌, List, [], ◌∷◌, ◌++◌, length, take, drop, refl, sym, ◌∙◌, ap, subst, arith, append_assoc, take-append-drop}
 use Rattle.std.proofs.lemmas.List.{append-nil, take_all, drop_all}
 use Rattle.la_journal.specs.Disk.{IsTorn, Torn, Elapses}
-use Rattle.la_journal.specs.Note.{Event, Moment, grown, now_of, next_of, first_of}
+use Rattle.la_journal.specs.Note.{Moment, grown, now_of, next_of, first_of}
 use Rattle.la_journal.specs.Outcomes.{LeftOf, LeftAt, LeftSince}
 
 -- no time
@@ -125,9 +125,9 @@ noted_alone past kept bytes all c same long before is left =
     alone kept bytes c (subst (λ (b : List ℕ). length b ≤ kept) (sym same) long) (subst (λ (p : List Moment). LeftAt (now_of p) c) is left) ∙ same
 
 -- or one more
-pub noted_more : (past : List Moment) (kept n : ℕ) (bytes all c : List ℕ) → bytes ≡ all → length all ≤ kept → (before : List Moment) → past ≡ next_of (kept ∷ n ∷ []) bytes before → LeftAt (now_of past) c → (c ≡ all) ⊎ LeftAt (now_of before) c
-noted_more past kept n bytes all c same long before is left = elim (subst (λ (p : List Moment). LeftAt (now_of p) c) is left) [
-  | inl this ↦ inl (all_kept kept bytes (subst (λ (b : List ℕ). length b ≤ kept) (sym same) long) c this ∙ same)
+pub noted_more : (past : List Moment) (kept n : ℕ) (bytes all c : List ℕ) → bytes ≡ all → (before : List Moment) → past ≡ next_of (kept ∷ n ∷ []) bytes before → LeftAt (now_of past) c → LeftOf kept all c ⊎ LeftAt (now_of before) c
+noted_more past kept n bytes all c same before is left = elim (subst (λ (p : List Moment). LeftAt (now_of p) c) is left) [
+  | inl this ↦ inl (subst (λ (b : List ℕ). LeftOf kept b c) same this)
   | inr was ↦ inr was
 ]
 

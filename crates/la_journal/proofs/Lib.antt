@@ -1,6 +1,8 @@
 mod Goes
-mod SaidSo
-mod SaidGroups
+mod Spoilt
+mod Given
+mod Parts
+mod GroupCalls
 mod ManyLives
 mod Recorded
 mod TornRecords

@@ -1,9 +1,9 @@
 -- Groups with their records are read back.
-use Rattle.std.proofs.Common.{◌≡◌, ◌⊎◌, inl, inr, arith, ℕ, Bool, true, false, List, [], ◌∷◌, ◌++◌, refl, sym, ◌∙◌, ap, subst, append_assoc}
+use Rattle.std.proofs.Common.{◌≡◌, inl, inr, arith, ℕ, Bool, true, false, List, [], ◌∷◌, ◌++◌, refl, sym, ◌∙◌, ap, append_assoc}
 use Rattle.std.specs.Prelude.{if◌then◌else◌, ◌==◌, ◌&&◌}
 use Rattle.std.proofs.lemmas.List.{append-nil}
 use Rattle.std.proofs.lemmas.Bool.Decides.{nat_tests}
-use Rattle.la_journal.specs.Commits.{same_bytes, is_record, Records, groups_from, groups, with_records, last_record, HasNoEnd, IsGroup, AreGroups, AreRecords, NoneMatches, IsTheseOrOneMore, ReadingGivesGroups}
+use Rattle.la_journal.specs.Commits.{same_bytes, is_record, Records, groups_from, groups, with_records, last_record, HasNoEnd, IsGroup, AreGroups, AreRecords, ReadingGivesGroups}
 
 same_self : (xs : List ℕ) → same_bytes xs xs ≡ true
 same_self [] = refl

@@ -1,5 +1,5 @@
 -- One call more.
-use Rattle.std.proofs.Common.{◌≡◌, ℕ, zero, suc, ◌+◌, ◌<◌, List, [], ◌∷◌, ◌++◌, Option, Some, None, map, length, take, get_or, refl, sym, ◌∙◌, ap, subst}
+use Rattle.std.proofs.Common.{◌≡◌, ℕ, zero, suc, ◌+◌, ◌<◌, ◌≤◌, List, [], ◌∷◌, ◌++◌, Option, Some, None, map, length, take, drop, get_or, refl, sym, ◌∙◌, ap, subst, arith, append_assoc, take-append-drop}
 use Rattle.std.proofs.lemmas.List.{take_more, length-map}
 use Rattle.std.proofs.lemmas.Option.{none-some}
 use Rattle.la_journal.specs.Machine.{goes_on, steps_from, replies_from}
@@ -38,3 +38,16 @@ pub next_of : {I J : Type 0} (f : I → J) (xs : List I) (k : ℕ) (item : I) �
 next_of f xs k item within is =
     take_more (map f xs) k (f item) (subst (λ n. k < n) (sym (length-map xs f)) within)
     ∙ ap (λ y. take k (map f xs) ++ y ∷ []) (at_map f xs k item ∙ sym (ap f is))
+
+-- what stands before one, it, and what stands behind it
+pub split_at : {I J : Type 0} (f : I → J) (xs : List I) (k : ℕ) (item : I) → k < length xs → item ≡ get_or xs k item
+    → map f xs ≡ take k (map f xs) ++ ((f item ∷ []) ++ drop (k + 1) (map f xs))
+split_at f xs k item within is =
+    sym (take-append-drop (k + 1) (map f xs))
+    ∙ ap (λ l. l ++ drop (k + 1) (map f xs)) (next_of f xs k item within is)
+    ∙ append_assoc (take k (map f xs)) (f item ∷ []) (drop (k + 1) (map f xs))
+
+pub long_take : {A : Type 0} (k : ℕ) (xs : List A) → k ≤ length xs → length (take k xs) ≡ k
+long_take zero xs le = refl
+long_take (suc k) [] le = absurd (omega (arith, le))
+long_take (suc k) (x ∷ xs) le = let rest = long_take k xs (omega (arith, le)) in omega (arith, rest)

@@ -1,6 +1,5 @@
 -- Bytes that a crash kept all of.
-use Rattle.std.proofs.Common.{◌≡◌, inl, inr, ℕ, zero, suc, ◌+◌, ◌≤◌, List, [], ◌∷◌, ◌++◌, length, take, refl, arith}
-use Rattle.std.specs.Prelude.{replicate}
+use Rattle.std.proofs.Common.{◌≡◌, inl, ℕ, zero, suc, List, [], ◌∷◌, ◌++◌, take, refl}
 use Rattle.la_journal.specs.Disk.{IsTorn, Torn}
 
 pub all_kept : (bytes : List ℕ) → IsTorn bytes bytes
@@ -9,14 +8,6 @@ all_kept (b ∷ bytes) = (inl refl, all_kept bytes)
 
 pub whole : (bytes old c : List ℕ) → c ≡ old ++ bytes → Torn bytes old c
 whole bytes old c is = (bytes, all_kept bytes, is)
-
--- the first some of the bytes, and then some that are 0
-pub tears : (bytes : List ℕ) (written zeros : ℕ) → written + zeros ≤ length bytes → IsTorn bytes (take written bytes ++ replicate zeros 0)
-tears bytes zero zero le = tt
-tears [] zero (suc zeros) le = absurd (omega (arith, le))
-tears (b ∷ bytes) zero (suc zeros) le = (inr refl, tears bytes zero zeros (omega (arith, le)))
-tears [] (suc written) zeros le = absurd (omega (arith, le))
-tears (b ∷ bytes) (suc written) zeros le = (inl refl, tears bytes written zeros (omega (arith, le)))
 
 -- what is torn of some of the bytes is torn of all
 torn_front : (n : ℕ) (bytes torn : List ℕ) → IsTorn (take n bytes) torn → IsTorn bytes torn
@@ -27,8 +18,3 @@ torn_front (suc n) (b ∷ bytes) (t ∷ torn) is = (is.0, torn_front n bytes tor
 
 pub front_of : (n : ℕ) (bytes old c : List ℕ) → Torn (take n bytes) old c → Torn bytes old c
 front_of n bytes old c torn = (torn.0, torn_front n bytes torn.0 torn.1, torn.2)
-
-pub short : (written more : ℕ) (bytes : List ℕ) → length (take written bytes) ≤ written + more
-short zero more bytes = omega arith
-short (suc written) more [] = omega arith
-short (suc written) more (b ∷ bytes) = omega (arith, short written more bytes)

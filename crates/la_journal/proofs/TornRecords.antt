@@ -1,11 +1,11 @@
 -- A torn group is not read.
-use Rattle.std.proofs.Common.{◌≡◌, ◌≢◌, ◌⊎◌, inl, inr, arith, ℕ, Bool, true, false, List, [], ◌∷◌, ◌++◌, refl, sym, ◌∙◌, ap, subst, append_assoc, length}
+use Rattle.std.proofs.Common.{◌≡◌, ◌⊎◌, inl, inr, arith, ℕ, Bool, true, false, List, [], ◌∷◌, ◌++◌, refl, sym, ◌∙◌, ap, subst, append_assoc, length}
 use Rattle.std.specs.Prelude.{if◌then◌else◌, ◌==◌, ◌&&◌}
 use Rattle.std.proofs.lemmas.List.{append-nil, length-append}
-use Rattle.std.proofs.lemmas.Bool.{cases_eq, false≢true}
+use Rattle.std.proofs.lemmas.Bool.{false≢true}
 use Rattle.std.proofs.lemmas.Bool.Decides.{nat_tests}
 use Rattle.la_journal.specs.Disk.{IsTorn}
-use Rattle.la_journal.specs.Commits.{same_bytes, is_record, Records, groups_from, groups, HasNoEnd, HasNoZero, IsGroup, AreRecords, IsSpoilt, NoneCollides, NoneMatches, TornGroupsAreNotRead}
+use Rattle.la_journal.specs.Commits.{same_bytes, is_record, Records, groups_from, HasNoEnd, HasNoZero, IsGroup, AreRecords, IsSpoilt, NoneCollides, TornGroupsAreNotRead}
 use Rattle.la_journal.proofs.Recorded.{step_end, step_byte}
 
 spoilt_append : (xs ys xt yt : List ℕ) → IsSpoilt xs xt → IsSpoilt ys yt → IsSpoilt (xs ++ ys) (xt ++ yt)
@@ -44,9 +44,6 @@ either false = inr refl
 ends_not : (t b : ℕ) → (t ≡ b) ⊎ (t ≡ 0) → (b == 10) ≡ false → (t == 10) ≡ false
 ends_not t b (inl same) is = ap (λ (x : ℕ). x == 10) same ∙ is
 ends_not t b (inr zero) is = ap (λ (x : ℕ). x == 10) zero
-
-
-
 
 -- a line that a crash spoilt begins as a record's only where it did so before
 spoilt_first : (line torn : List ℕ) → IsSpoilt line torn → is_record line ≡ false → is_record torn ≡ false
@@ -139,22 +136,22 @@ module _ (record_of : Records) (are : AreRecords record_of) (before next : List 
       | inl end ↦ elim (scan_group (got ++ (line ++ 10 ∷ [])) [] (p ++ b ∷ []) g [] torn
           (subst (IsSpoilt (p ++ b ∷ [])) (append_assoc got line (10 ∷ []) ∙ sym (append-nil (got ++ (line ++ 10 ∷ [])))) (spoilt_append p (b ∷ []) (got ++ line) (10 ∷ []) so (ten_or t end is.0)))
           (append_assoc p (b ∷ []) g ∙ whole) (after_end t end is.0 group) refl (λ e. refl) is.1) [
-        | inl empty ↦ inl (step_end record_of are before got line torn t end not ∙ empty)
-        | inr all ↦ inr (ap (λ (x : ℕ). (got ++ line) ++ x ∷ torn) (ten_is t end) ∙ sym (append_assoc (got ++ line) (10 ∷ []) torn) ∙ ap (λ (l : List ℕ). l ++ torn) (append_assoc got line (10 ∷ []) ∙ sym (append-nil (got ++ (line ++ 10 ∷ [])))) ∙ all)
-      ]
+            | inl empty ↦ inl (step_end record_of are before got line torn t end not ∙ empty)
+            | inr all ↦ inr (ap (λ (x : ℕ). (got ++ line) ++ x ∷ torn) (ten_is t end) ∙ sym (append_assoc (got ++ line) (10 ∷ []) torn) ∙ ap (λ (l : List ℕ). l ++ torn) (append_assoc got line (10 ∷ []) ∙ sym (append-nil (got ++ (line ++ 10 ∷ [])))) ∙ all)
+          ]
       | inr go ↦ elim (goes t go is.0 group) [
         | inl fresh ↦ elim (scan_group got (line ++ t ∷ []) (p ++ b ∷ []) g [] torn
-          (subst (IsSpoilt (p ++ b ∷ [])) (append_assoc got line (t ∷ [])) (spoilt_append p (b ∷ []) (got ++ line) (t ∷ []) so (is.0, tt)))
-          (append_assoc p (b ∷ []) g ∙ whole) fresh (still line b t line_o g not begun is.0 go group) (λ e. absurd (not_empty line t e)) is.1) [
-          | inl empty ↦ inl (step_byte record_of are before got line torn t go ∙ empty)
-          | inr all ↦ inr (sym (append_assoc (got ++ line) (t ∷ []) torn) ∙ ap (λ (l : List ℕ). l ++ torn) (append_assoc got line (t ∷ [])) ∙ all)
-        ]
+            (subst (IsSpoilt (p ++ b ∷ [])) (append_assoc got line (t ∷ [])) (spoilt_append p (b ∷ []) (got ++ line) (t ∷ []) so (is.0, tt)))
+            (append_assoc p (b ∷ []) g ∙ whole) fresh (still line b t line_o g not begun is.0 go group) (λ e. absurd (not_empty line t e)) is.1) [
+              | inl empty ↦ inl (step_byte record_of are before got line torn t go ∙ empty)
+              | inr all ↦ inr (sym (append_assoc (got ++ line) (t ∷ []) torn) ∙ ap (λ (l : List ℕ). l ++ torn) (append_assoc got line (t ∷ [])) ∙ all)
+            ]
         | inr same ↦ elim (scan_group got (line ++ t ∷ []) (p ++ b ∷ []) g (line_o ++ b ∷ []) torn
-          (subst (IsSpoilt (p ++ b ∷ [])) (append_assoc got line (t ∷ [])) (spoilt_append p (b ∷ []) (got ++ line) (t ∷ []) so (is.0, tt)))
-          (append_assoc p (b ∷ []) g ∙ whole) same (still line b t line_o g not begun is.0 go group) (λ e. absurd (not_empty line t e)) is.1) [
-          | inl empty ↦ inl (step_byte record_of are before got line torn t go ∙ empty)
-          | inr all ↦ inr (sym (append_assoc (got ++ line) (t ∷ []) torn) ∙ ap (λ (l : List ℕ). l ++ torn) (append_assoc got line (t ∷ [])) ∙ all)
-        ]
+            (subst (IsSpoilt (p ++ b ∷ [])) (append_assoc got line (t ∷ [])) (spoilt_append p (b ∷ []) (got ++ line) (t ∷ []) so (is.0, tt)))
+            (append_assoc p (b ∷ []) g ∙ whole) same (still line b t line_o g not begun is.0 go group) (λ e. absurd (not_empty line t e)) is.1) [
+              | inl empty ↦ inl (step_byte record_of are before got line torn t go ∙ empty)
+              | inr all ↦ inr (sym (append_assoc (got ++ line) (t ∷ []) torn) ∙ ap (λ (l : List ℕ). l ++ torn) (append_assoc got line (t ∷ [])) ∙ all)
+            ]
       ]
     ]
       where

@@ -1,8 +1,8 @@
--- A journal of groups, each with its record behind it.
+-- A journal of groups, each with its record behind it, and what a crash leaves of it.
 use Rattle.std.specs.Prelude.{◌≡◌, ◌≢◌, ◌⊎◌, ⊤, ℕ, Bool, true, false, List, [], ◌∷◌, ◌++◌, if◌then◌else◌, ◌==◌, ◌&&◌}
 use Rattle.la_journal.specs.Disk.{IsTorn}
-use Rattle.la_journal.specs.Lines.{IsClean}
 
+-- whether the bytes are the same
 abbrev pub same_bytes : List ℕ → List ℕ → Bool
 same_bytes [] [] = true
 same_bytes [] (y ∷ ys) = false
@@ -26,12 +26,17 @@ groups_from record_of before got line [] = []
 groups_from record_of before got line (b ∷ bytes) =
     if b == 10
     then (if is_record line
-          then (if same_bytes line (record_of before got) then got ∷ groups_from record_of line [] [] bytes else [])
-          else groups_from record_of before (got ++ (line ++ 10 ∷ [])) [] bytes)
+    then (if same_bytes line (record_of before got) then got ∷ groups_from record_of line [] [] bytes else [])
+    else groups_from record_of before (got ++ (line ++ 10 ∷ [])) [] bytes)
     else groups_from record_of before got (line ++ b ∷ []) bytes
 
+-- the groups that a file has, behind its first record
 abbrev pub groups : Records → (first : List ℕ) → List ℕ → List (List ℕ)
 groups record_of first bytes = groups_from record_of first [] [] bytes
+
+-- a group's bytes and its record, behind a record
+abbrev pub with_record : Records → (before group : List ℕ) → List ℕ
+with_record record_of before group = group ++ (record_of before group ++ 10 ∷ [])
 
 -- the bytes of these groups, each with its record, behind a record
 abbrev pub with_records : Records → (before : List ℕ) → List (List ℕ) → List ℕ
@@ -51,8 +56,11 @@ HasNoEnd (b ∷ line) = ((b == 10) ≡ false) × HasNoEnd line
 -- whole lines, none a record's
 abbrev pub IsGroup : (line : List ℕ) → List ℕ → Type 0
 IsGroup line [] = line ≡ []
-IsGroup line (b ∷ bytes) = (((b == 10) ≡ true) × (is_record line ≡ false) × IsGroup [] bytes) ⊎ (((b == 10) ≡ false) × IsGroup (line ++ b ∷ []) bytes)
+IsGroup line (b ∷ bytes) =
+    (((b == 10) ≡ true) × (is_record line ≡ false) × IsGroup [] bytes)
+    ⊎ (((b == 10) ≡ false) × IsGroup (line ++ b ∷ []) bytes)
 
+-- each is a group
 abbrev pub AreGroups : List (List ℕ) → Type 0
 AreGroups [] = ⊤
 AreGroups (g ∷ gs) = IsGroup [] g × AreGroups gs
@@ -61,7 +69,7 @@ AreGroups (g ∷ gs) = IsGroup [] g × AreGroups gs
 abbrev pub AreRecords : Records → Type 0
 AreRecords record_of = (before group : List ℕ) → (is_record (record_of before group) ≡ true) × HasNoEnd (record_of before group)
 
--- THE PREMISE on the crash: what it left of a group that was not synced is the whole group, or has no whole record
+-- The premise on a crash: what it left of a group that was not synced is the whole group, or has no whole record
 -- that matches what stands before it.
 abbrev pub NoneMatches : Records → (before : List ℕ) → (whole : List ℕ) → List ℕ → Type 0
 NoneMatches record_of before whole torn = (torn ≡ whole) ⊎ (groups record_of before torn ≡ [])
@@ -76,7 +84,8 @@ abbrev pub ReadingGivesGroups : Type 0
 ReadingGivesGroups =
     (record_of : Records) (first : List ℕ) (these : List (List ℕ)) (next torn : List ℕ) →
     AreRecords record_of → AreGroups these → IsGroup [] next →
-    NoneMatches record_of (last_record record_of first these) (with_records record_of (last_record record_of first these) (next ∷ [])) torn →
+    let last = last_record record_of first these in
+    NoneMatches record_of last (with_record record_of last next) torn →
     IsTheseOrOneMore these next (groups record_of first (with_records record_of first these ++ torn))
 
 -- What a crash leaves of bytes, each as it was written or as 0: as many as there were.
@@ -91,14 +100,16 @@ abbrev pub HasNoZero : List ℕ → Type 0
 HasNoZero [] = ⊤
 HasNoZero (b ∷ line) = (b ≢ 0) × HasNoZero line
 
--- THE PREMISE on the digest alone: no spoilt group has the record of the group that was written.
+-- The premise on the digest alone: no spoilt group has the record of the group that was written.
 abbrev pub NoneCollides : Records → (before group : List ℕ) → Type 0
-NoneCollides record_of before group = (spoilt : List ℕ) → IsSpoilt group spoilt → record_of before spoilt ≡ record_of before group → spoilt ≡ group
+NoneCollides record_of before group =
+    (spoilt : List ℕ) → IsSpoilt group spoilt → record_of before spoilt ≡ record_of before group → spoilt ≡ group
 
 -- So where a crash keeps the first some of the bytes that were not synced, each as it was written or as 0.
 abbrev pub TornGroupsAreNotRead : Type 0
 TornGroupsAreNotRead =
     (record_of : Records) (before next torn : List ℕ) →
-    AreRecords record_of → ((group : List ℕ) → HasNoZero (record_of before group)) → IsGroup [] next → NoneCollides record_of before next →
-    IsTorn (next ++ (record_of before next ++ 10 ∷ [])) torn →
-    NoneMatches record_of before (next ++ (record_of before next ++ 10 ∷ [])) torn
+    AreRecords record_of → ((group : List ℕ) → HasNoZero (record_of before group)) →
+    IsGroup [] next → NoneCollides record_of before next →
+    IsTorn (with_record record_of before next) torn →
+    NoneMatches record_of before (with_record record_of before next) torn

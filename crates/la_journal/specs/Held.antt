@@ -2,6 +2,7 @@
 -- and by what is noted of the past.
 use Rattle.std.specs.Prelude.{ℕ, ◌-◌, ◌≤◌, List, length, vec_len, vec_capacity}
 use Rattle.la_journal.specs.declared.contents.Contents.{Contents}
+use Rattle.la_journal.specs.Disk.{Elapses}
 use Rattle.la_journal.specs.Note.{now_of}
 use Rattle.la_journal.specs.Outcomes.{LeftAt, LeftSince, only_left, left_now}
 
@@ -29,10 +30,15 @@ may_leave_of contents c = LeftAt (now_of contents.past.events) c
 abbrev pub left_since_of : Contents → ℕ → List ℕ → Type 0
 left_since_of contents t c = LeftSince contents.past.events t c
 
+-- time went on from the one to the other
+abbrev pub TimeGoesOn : Contents → Contents → Type 0
+TimeGoesOn old new = Elapses (moment_of old) (moment_of new) (left_since_of old) (left_since_of new) (may_leave_of new)
+
 -- since this moment there is no other
 pub only_now_of : (contents : Contents) (c : List ℕ) → left_since_of contents (moment_of contents) c → may_leave_of contents c
 only_now_of contents c left = only_left contents.past.events c left
 
 -- this moment is one of those since an earlier one
-pub counts_now_of : (contents : Contents) (t : ℕ) (c : List ℕ) → t ≤ moment_of contents → may_leave_of contents c → left_since_of contents t c
+pub counts_now_of : (contents : Contents) (t : ℕ) (c : List ℕ)
+    → t ≤ moment_of contents → may_leave_of contents c → left_since_of contents t c
 counts_now_of contents t c le left = left_now contents.past.events t c le left

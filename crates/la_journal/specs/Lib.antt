@@ -8,7 +8,7 @@ pub mod Outcomes
 pub mod Held
 pub mod Starts
 pub mod Served
-pub mod ServedGroups
+pub mod Lives
 pub mod Commits
 pub mod Snapshots
 pub mod Staging

@@ -1,5 +1,6 @@
 -- What a machine comes to by calls, and by what a journal says.
-use Rattle.std.specs.Prelude.{◌≡◌, List, [], ◌∷◌, ℕ, ◌≤◌, Bool, true, false, Option, Some, None, map, length, take}
+use Rattle.std.specs.Prelude.{◌≡◌, List, [], ◌∷◌, ◌++◌, ℕ, ◌≤◌, Bool, true, false, Option, Some, None, map, length, take}
+use Rattle.std.specs.Global.{Vec}
 use Rattle.la_journal.specs.Journal.{state_in, says}
 
 -- the input that was read is the one that the line names
@@ -14,6 +15,11 @@ texts call text inputs = map (λ input. text (call input)) inputs
 -- the calls of these inputs
 abbrev pub calls : {I C : Type 0} (call : I → C) → List I → List C
 calls call inputs = map call inputs
+
+-- the calls of all these groups, in their order
+abbrev pub group_calls : {I C : Type 0} (call : I → C) → List (Vec I) → List C
+group_calls call [] = []
+group_calls call (group ∷ rest) = calls call group.items ++ group_calls call rest
 
 -- one step more, where there was a state
 abbrev pub goes_on : {S C : Type 0} (step : S → C → Option S) → Option S → C → Option S

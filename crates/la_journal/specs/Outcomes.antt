@@ -1,13 +1,23 @@
 -- What a crash might have left of a file, by what it was.
-use Rattle.std.specs.Prelude.{◌≡◌, ◌⊎◌, ℕ, ◌≤◌, ◌<◌, List, [], ◌∷◌, ◌++◌, length, take, drop}
+use Rattle.std.specs.Prelude.{◌≡◌, ◌⊎◌, ℕ, ◌≤◌, ◌<◌, Bool, List, [], ◌∷◌, ◌++◌, if◌then◌else◌, length, take, drop}
 use Rattle.std.proofs.Common.{arith}
 use mathlib.Core.Logic.{inl, inr}
 use Rattle.la_journal.specs.Disk.{IsTorn}
-use Rattle.la_journal.specs.Note.{Event, Moment, now_of}
+use Rattle.la_journal.specs.Note.{Moment, now_of}
 
 -- what is on the disk stays, and of the rest a crash keeps the first some, as they are or as 0
 abbrev pub LeftOf : ℕ → List ℕ → List ℕ → Type 0
 LeftOf kept bytes c = (torn : List ℕ) × IsTorn (drop kept bytes) torn × (c ≡ take kept bytes ++ torn)
+
+-- of bytes as many as there are marks for, each as it is, or as 0 where its mark is true
+abbrev pub spoilt_by : List Bool → List ℕ → List ℕ
+spoilt_by [] bytes = []
+spoilt_by (s ∷ marks) [] = []
+spoilt_by (s ∷ marks) (b ∷ bytes) = (if s then 0 else b) ∷ spoilt_by marks bytes
+
+-- what is on the disk, and the rest so spoilt
+abbrev pub left_by : List Bool → ℕ → List ℕ → List ℕ
+left_by marks kept bytes = take kept bytes ++ spoilt_by marks (drop kept bytes)
 
 -- at a moment: of one of these
 abbrev pub LeftAt : Moment → List ℕ → Type 0

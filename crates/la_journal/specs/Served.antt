@@ -1,58 +1,74 @@
--- What was given out while calls were taken, and what a crash from then on leaves.
-use Rattle.std.specs.Prelude.{◌≡◌, ⊤, ℕ, ◌≤◌, List, [], ◌∷◌, ◌++◌, Option, Some, length, take}
+-- What is given out while calls are taken, and what a crash from then on leaves.
+use Rattle.std.specs.Prelude.{◌≡◌, ⊤, ℕ, ◌+◌, ◌-◌, ◌<◌, ◌≤◌, Bool, false, List, [], ◌∷◌, ◌++◌, Option, length, map, take}
+use Rattle.std.specs.Global.{Vec}
 use Rattle.la_journal.specs.Machine.{steps, replies}
+use Rattle.la_journal.specs.Durable.{IsRefusal}
+use Rattle.la_journal.specs.declared.durable.Refused.TheVariants.{Machine}
+use Rattle.la_journal.specs.declared.outlet.Unserved.{Unserved}
+use Rattle.la_journal.specs.declared.outlet.Unserved.TheVariants.{Refused, Outlet}
 
--- an answer, and the disk's moment when it was given out
-pub record Said (A : Type 0) : Type 0 where
+-- what was given out, and the disk's moment then
+pub record Said (O : Type 0) : Type 0 where
   pub moment : ℕ
-  pub answer : A
+  pub item : O
 
--- the answers, the oldest first
-abbrev pub answers_of : {O A : Type 0} (answer : O → A) → List (Said O) → List A
-answers_of answer [] = []
-answers_of answer (s ∷ before) = answers_of answer before ++ answer s.answer ∷ []
+-- what was given out since, the newest first
+abbrev pub given_since : {O : Type 0} → (old new : List (Said O)) → List (Said O)
+given_since old new = take (length new - length old) new
+
+-- an answer by itself
+abbrev pub alone : {O A : Type 0} (answer : O → A) → O → List A
+alone answer item = answer item ∷ []
+
+-- the answers of a group
+abbrev pub together : {O A : Type 0} (answer : O → A) → Vec O → List A
+together answer items = map answer items.items
+
+-- answers that are given out together, where there are any
+abbrev pub unless_none : {O X : Type 0} → List X → Said O → List (Said O)
+unless_none [] said = []
+unless_none (x ∷ rest) said = said ∷ []
+
+-- the answers in what was given out, the oldest first
+abbrev pub answers_of : {O A : Type 0} (answers_in : O → List A) → List (Said O) → List A
+answers_of answers_in [] = []
+answers_of answers_in (s ∷ before) = answers_of answers_in before ++ answers_in s.item
+
+-- how many answers were given out since
+abbrev pub answered : {O A : Type 0} (answers_in : O → List A) → (old new : List (Said O)) → ℕ
+answered answers_in old new = length (answers_of answers_in (given_since old new))
+
+-- What was given out since is behind what was given out before, and is what the first calls answer, in their order.
+pub record Answers {S C O A : Type 0} (answers_in : O → List A) (step : S → C → Option S) (answers : S → C → A)
+    (calls : List C) (first : S) (old new : List (Said O)) : Type 0 where
+  pub behind : new ≡ given_since old new ++ old
+  pub are : answers_of answers_in (given_since old new) ≡ replies step answers (take (answered answers_in old new) calls) first
 
 -- The file leads to where the first some of these calls lead from a state, and k of them at least: each is there
 -- whole, and none is skipped.
-abbrev pub LeadsToAtLeast : {S C : Type 0} (leads : List ℕ → Option S) (step : S → C → Option S) → (k : ℕ) → List C → S → List ℕ → Type 0
-LeadsToAtLeast leads step k calls state file = (n : ℕ) × (k ≤ n) × (n ≤ length calls) × (leads file ≡ steps step (take n calls) state)
+abbrev pub LeadsToAtLeast : {S C : Type 0} (leads : List ℕ → Option S) (step : S → C → Option S)
+    → (k : ℕ) → List C → S → List ℕ → Type 0
+LeadsToAtLeast leads step k calls state file =
+    (n : ℕ) × (k ≤ n) × (n ≤ length calls) × (leads file ≡ steps step (take n calls) state)
 
--- Of each of these answers, the newest first: a crash at any moment from when it was given out leaves a file that has
--- its call and all before it.
-abbrev pub KeepsAll : {S C A : Type 0} (now : ℕ) (left_since : ℕ → List ℕ → Type 0) (leads : List ℕ → Option S) (step : S → C → Option S) (calls : List C) (first : S) → List (Said A) → Type 0
-KeepsAll now left_since leads step calls first [] = ⊤
-KeepsAll now left_since leads step calls first (s ∷ before) =
+-- Of each of these, the newest first: a crash at any moment from when it was given out leaves a file that has the calls
+-- of its answers, and of all before it.
+abbrev pub KeepsAll : {S C O A : Type 0} (answers_in : O → List A) (now : ℕ) (left_since : ℕ → List ℕ → Type 0)
+    (leads : List ℕ → Option S) (step : S → C → Option S) (calls : List C) (first : S) → List (Said O) → Type 0
+KeepsAll answers_in now left_since leads step calls first [] = ⊤
+KeepsAll answers_in now left_since leads step calls first (s ∷ before) =
     (s.moment ≤ now)
-    × ((c : List ℕ) → left_since s.moment c → LeadsToAtLeast leads step (length (s ∷ before)) calls first c)
-    × KeepsAll now left_since leads step calls first before
+    × ((c : List ℕ) → left_since s.moment c
+    → LeadsToAtLeast leads step (length (answers_of answers_in (s ∷ before))) calls first c)
+    × KeepsAll answers_in now left_since leads step calls first before
 
--- these were given out beside those before, each is the answer of the next call, and a crash keeps them
-pub record Serves {S C O A : Type 0} (now : ℕ) (left_since : ℕ → List ℕ → Type 0) (leads : List ℕ → Option S) (step : S → C → Option S) (answer : O → A) (answers : S → C → A) (calls : List C) (first : S) (old new : List (Said O)) : Type 0 where
-  pub more : List (Said O)
-  pub said : new ≡ more ++ old
-  pub are : answers_of answer more ≡ replies step answers (take (length more) calls) first
-  pub keeps : KeepsAll now left_since leads step calls first more
-
--- one life of a process: the calls that it took or was about to take, and how many of them it had answered when it died
-pub record Life (C : Type 0) : Type 0 where
-  pub calls : List C
-  pub answered : ℕ
-
--- Lives one after another, the first from a state on: of each a crash left a file that has at least what it had
--- answered, and the next one started where that leads. This file is what the last one left.
-abbrev pub AreLives : {S C : Type 0} (leads : List ℕ → Option S) (step : S → C → Option S) → S → List (Life C) → List ℕ → Type 0
-AreLives leads step first [] file = leads file ≡ Some first
-AreLives {S = S} leads step first (l ∷ lives) file =
-    (c : List ℕ) × (next : S) × LeadsToAtLeast leads step l.answered l.calls first c × (leads c ≡ Some next) × AreLives leads step next lives file
-
--- the calls are the first some of each life's, all that it answered among them
-abbrev pub AreMadeOf : {C : Type 0} → List (Life C) → List C → Type 0
-AreMadeOf [] whole = whole ≡ []
-AreMadeOf {C = C} (l ∷ lives) whole =
-    (n : ℕ) × (rest : List C) × (l.answered ≤ n) × (n ≤ length l.calls) × (whole ≡ take n l.calls ++ rest) × AreMadeOf lives rest
-
--- so the last file leads to where one list of calls leads from the first state
-abbrev pub LivesAreOneRun : {S C : Type 0} (leads : List ℕ → Option S) (step : S → C → Option S) → Type 0
-LivesAreOneRun {S = S} {C = C} leads step =
-    (first : S) (lives : List (Life C)) (file : List ℕ) → AreLives leads step first lives file →
-    (whole : List C) × AreMadeOf lives whole × (leads file ≡ steps step whole first)
+-- Of so many calls the first some were taken, and then serving stopped for a cause: the next one is refused, or the
+-- outlet failed. `stepped` is what so many calls come to.
+abbrev pub IsUnserved : {S R : Type 0} (lacks_memory : R → Type 0) → (closed : Bool) → (faults_before faults : ℕ)
+    → (outlet_before outlet : ℕ) → (many taken : ℕ) → (stepped : ℕ → Option S) → Unserved R → Type 0
+IsUnserved lacks_memory closed faults_before faults outlet_before outlet many taken stepped (Refused (Machine refusal)) =
+    (taken < many) × IsRefusal lacks_memory false closed faults_before faults (stepped (taken + 1)) (Machine refusal)
+IsUnserved lacks_memory closed faults_before faults outlet_before outlet many taken stepped (Refused why) =
+    IsRefusal lacks_memory false closed faults_before faults (stepped taken) why
+IsUnserved lacks_memory closed faults_before faults outlet_before outlet many taken stepped Outlet =
+    (closed ≡ false) × (outlet_before < outlet)

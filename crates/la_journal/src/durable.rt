@@ -69,6 +69,7 @@ impl<M: Machine, D: Disk> Durable<M, D> {
         ensures cause { IfErr result (IsRefusal M.lacks_memory self.old.closed self.new.closed
             (D.faults self.old.disk) (D.faults self.new.disk)
             (M.step (M.state self.old.machine) (M.call input.now))) }
+        ensures later { D.faults self.old.disk ≤ D.faults self.new.disk }
         ensures still { self.old.closed ≡ true → self.new ≡ self.old }
     {
         if self.closed {

@@ -57,6 +57,7 @@ impl<M: Machine, D: Disk> Durable<M, D> {
             → after M.named_state M.named M.step start (D.seen self.old.disk) ≡ Some (M.state self.old.machine)
             → LeavesOnly D.moment D.left_since self.old.disk self.new.disk
             (LeadsToSome (after M.named_state M.named M.step start) M.step (calls M.call inputs.now) (M.state self.old.machine)) }
+        ensures later { D.faults self.old.disk ≤ D.faults self.new.disk }
         ensures still { self.old.closed ≡ true → self.new ≡ self.old }
     {
         if self.closed {

@@ -2,23 +2,27 @@
 ghost use Rattle.std.specs.Prelude.{◌≡◌, ◌⊎◌, ◌++◌, ◌+◌, ◌≤◌, [], List, ℕ, length, vec_len, OnOk};
 ghost use Rattle.la_journal.specs.Disk.{Only, Follows, Torn, Elapses};
 ghost use Rattle.la_journal.specs.Note.{now_of};
-ghost use Rattle.la_journal.specs.Outcomes.{LeftAt};
-ghost use Rattle.la_journal.specs.Held.{bytes_of, kept_of, room_of, faults_of, moment_of, may_leave_of, left_since_of};
+ghost use Rattle.la_journal.specs.Outcomes.{LeftOf, LeftAt, LeftSince};
+ghost use Rattle.la_journal.specs.Held.{bytes_of, kept_of, room_of, faults_of, moment_of, may_leave_of, left_since_of, TimeGoesOn};
 
 use crate::Contents;
 use crate::record::Record;
 use std::alloc::{AllocError, Global};
 
 impl Contents {
-    /// A file of another process, that holds these bytes. Until the first sync or replacement a crash leaves what that
-    /// one may have left, or these bytes.
-    pub fn found(bytes: Vec<u8>, left: Record) -> Contents
+    /// A file that a process finds which starts behind another one: it holds these bytes, and the first `kept` of them
+    /// are on the disk. Until the first sync or replacement a crash leaves some of these bytes, or what the earlier
+    /// process may have left.
+    pub fn found(bytes: Vec<u8>, kept: usize, left: Record) -> Contents
+        requires { kept ≤ length bytes.items }
         ensures bytes { bytes_of result ≡ bytes.items }
-        ensures crash { (c : List ℕ) → may_leave_of result c → (c ≡ bytes.items) ⊎ LeftAt (now_of left.events) c }
+        ensures kept { kept_of result ≡ kept }
+        ensures crash { (c : List ℕ) → may_leave_of result c → LeftOf kept bytes.items c ⊎ LeftAt (now_of left.events) c }
         ensures seen { may_leave_of result bytes.items }
         ensures moment { moment_of result ≡ length left.events + 1 }
+        ensures time { Elapses (length left.events) (moment_of result)
+            (LeftSince left.events) (left_since_of result) (may_leave_of result) }
     {
-        let kept = bytes.len();
         let mut past = left;
         past.note(&[kept as u64, 0], &bytes);
         Contents {
@@ -35,6 +39,7 @@ impl Contents {
         ensures kept { kept_of result ≡ length bytes.items }
         ensures durable { Only bytes.items (may_leave_of result) }
         ensures seen { may_leave_of result bytes.items }
+        ensures moment { moment_of result ≡ 1 }
     {
         let kept = bytes.len();
         let mut past = Record::new();
@@ -47,7 +52,7 @@ impl Contents {
         }
     }
 
-    /// What a crash may leave, at this moment and the earlier ones.
+    /// What a crash may leave, at this moment and at the earlier ones, for whoever finds the file next.
     pub fn left(self) -> Record
         ensures { result.events ≡ self.past.events }
     {
@@ -75,7 +80,8 @@ impl Contents {
         ensures ok { OnOk result (more ≤ room_of self.new) }
         ensures bytes { bytes_of self.new ≡ bytes_of self.old }
         ensures crash { (c : List ℕ) → may_leave_of self.new c → may_leave_of self.old c }
-        ensures time { Elapses (moment_of self.old) (moment_of self.new) (left_since_of self.old) (left_since_of self.new) (may_leave_of self.new) }
+        ensures time { TimeGoesOn self.old self.new }
+        ensures moment { moment_of self.new ≡ moment_of self.old }
         ensures faults { faults_of self.new ≡ faults_of self.old }
     {
         self.bytes.reserve(more)
@@ -87,7 +93,8 @@ impl Contents {
         ensures bytes { bytes_of self.new ≡ bytes_of self.old ++ bytes.now }
         ensures kept { kept_of self.new ≡ kept_of self.old }
         ensures crash { Follows (Torn bytes.now) (may_leave_of self.old) (may_leave_of self.new) }
-        ensures time { Elapses (moment_of self.old) (moment_of self.new) (left_since_of self.old) (left_since_of self.new) (may_leave_of self.new) }
+        ensures time { TimeGoesOn self.old self.new }
+        ensures moment { moment_of self.new ≡ moment_of self.old + 1 }
         ensures faults { faults_of self.new ≡ faults_of self.old }
     {
         self.past.note(&[], bytes);
@@ -100,7 +107,8 @@ impl Contents {
         ensures kept { kept_of self.new ≡ length (bytes_of self.old) }
         ensures durable { Only (bytes_of self.old) (may_leave_of self.new) }
         ensures crash { (c : List ℕ) → may_leave_of self.new c → may_leave_of self.old c }
-        ensures time { Elapses (moment_of self.old) (moment_of self.new) (left_since_of self.old) (left_since_of self.new) (may_leave_of self.new) }
+        ensures time { TimeGoesOn self.old self.new }
+        ensures moment { moment_of self.new ≡ moment_of self.old + 1 }
         ensures faults { faults_of self.new ≡ faults_of self.old }
     {
         self.kept = self.bytes.len();
@@ -112,7 +120,8 @@ impl Contents {
         ensures bytes { bytes_of self.new ≡ bytes.items }
         ensures kept { kept_of self.new ≡ length bytes.items }
         ensures durable { Only bytes.items (may_leave_of self.new) }
-        ensures time { Elapses (moment_of self.old) (moment_of self.new) (left_since_of self.old) (left_since_of self.new) (may_leave_of self.new) }
+        ensures time { TimeGoesOn self.old self.new }
+        ensures moment { moment_of self.new ≡ moment_of self.old + 1 }
         ensures faults { faults_of self.new ≡ faults_of self.old }
     {
         self.kept = bytes.len();
@@ -126,7 +135,8 @@ impl Contents {
         ensures kept { kept_of self.new ≡ kept_of self.old }
         ensures crash { (c : List ℕ) → may_leave_of self.new c → may_leave_of self.old c }
         ensures still { (c : List ℕ) → may_leave_of self.old c → may_leave_of self.new c }
-        ensures time { Elapses (moment_of self.old) (moment_of self.new) (left_since_of self.old) (left_since_of self.new) (may_leave_of self.new) }
+        ensures time { TimeGoesOn self.old self.new }
+        ensures moment { moment_of self.new ≡ moment_of self.old }
         ensures faults { faults_of self.new ≡ faults_of self.old + 1 }
     {
         self.failures.note(&[], &[]);

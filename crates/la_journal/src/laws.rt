@@ -5,7 +5,8 @@ ghost use Rattle.la_journal.specs.Lines.{lines};
 ghost use Rattle.la_journal.specs.Machine.{after, steps, LeadsToSome};
 ghost use Rattle.la_journal.specs.Durable.{IsSameOr};
 ghost use Rattle.la_journal.specs.Starts.{IsStart};
-ghost use Rattle.la_journal.specs.Served.{LivesAreOneRun};
+ghost use Rattle.la_journal.specs.Lives.{LivesAreOneRun};
+ghost use Rattle.la_journal.specs.Commits.{ReadingGivesGroups, TornGroupsAreNotRead};
 
 use crate::{Disk, Machine};
 
@@ -46,8 +47,24 @@ pub fn lives_follow_one_another<M: Machine>()
         → (n : ℕ) × (m : ℕ) × (after M.named_state M.named M.step start d ≡ steps M.step (take n calls ++ take m later) first) }
 {}
 
-/// Over any number of lives: the last file leads to where one list of calls leads, made of the first some of each
-/// life's, with all that it answered.
+/// Over any number of processes, one after another: where each left a file that has at least what it had answered,
+/// and the next one started there, the last file leads to where one list of calls leads, made of the first some of
+/// each one's, with all that any of them answered.
 pub fn lives_are_one_run<M: Machine>()
     ensures { (start : M.State) → LivesAreOneRun (after M.named_state M.named M.step start) M.step }
+{}
+
+/// A journal whose groups each end in a record that repeats them: of groups that were put there and synced, and
+/// whatever a crash left of the next one, reading gives those, or those and the whole next one. The premise is that
+/// what is left of that is the whole group, or has no record that matches what stands before it.
+#[tactic(auto, using(crate::proofs::Recorded::reading_gives_groups))]
+pub fn reading_gives_groups()
+    ensures { ReadingGivesGroups }
+{}
+
+/// And that premise holds where a crash keeps the first some of the bytes, each as it was written or as 0, and no such
+/// group but the one that was written has its record.
+#[tactic(auto, using(crate::proofs::TornRecords::torn_groups_are_not_read))]
+pub fn torn_groups_are_not_read()
+    ensures { TornGroupsAreNotRead }
 {}

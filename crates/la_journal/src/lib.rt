@@ -7,8 +7,10 @@
 //!
 //! `specs/` has the definitions: `Lines` and `Journal` (what a file says), `Machine` (where it leads),
 //! `Disk` (what a crash may leave), `Durable` (when a machine stands on its journal, and why a call
-//! is refused), `Outcomes` (what was written of a file's [`Contents`]), `Starts`; [`laws`] has what
-//! holds over a crash and a new start.
+//! is refused), `Note` and `Outcomes` (what is noted of a file's [`Contents`], and what a crash might have
+//! left of it), `Starts`, `Served` (what was given out, and what a crash keeps of it), `Lives` (processes one
+//! after another), `Commits` (journals whose groups end in records); [`laws`] has what holds over a crash
+//! and a new start.
 #![tactic(auto)]
 
 mod compaction;
@@ -20,13 +22,12 @@ mod holding;
 pub mod laws;
 mod machine;
 mod memory_disk;
+mod outlet;
 mod record;
-pub mod records;
 mod recovery;
+mod serving;
 mod staging;
-pub mod serving;
-pub mod serving_groups;
-pub mod starts;
+mod starts;
 
 pub use compaction::Uncompacted;
 pub use contents::Contents;
@@ -34,6 +35,9 @@ pub use disk::{Disk, DiskError, DiskFault};
 pub use durable::{Durable, Refused};
 pub use machine::{Machine, Snapshot};
 pub use memory_disk::MemoryDisk;
+pub use outlet::{Outlet, OutletFault, Unserved};
 pub use record::Record;
 pub use recovery::{Unplayed, recover};
+pub use serving::{serve_all, serve_groups};
 pub use staging::{Staged, Uncommitted, Unstaged};
+pub use starts::start_again;

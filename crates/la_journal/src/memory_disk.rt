@@ -1,19 +1,25 @@
 // A file in memory that fails and crashes as a test wants.
-ghost use Rattle.std.specs.Prelude.{◌≡◌, ◌⊎◌, ◌≤◌, ◌+◌, List, ℕ, length, IfOk};
-ghost use Rattle.la_journal.specs.Held.{bytes_of, kept_of, room_of, faults_of, moment_of, may_leave_of, left_since_of, only_now_of, counts_now_of};
-ghost use Rattle.la_journal.specs.Disk.{IsTorn, Only};
+ghost use Rattle.std.specs.Prelude.{◌≡◌, ◌≤◌, ◌+◌, List, ℕ, length, IfOk, if◌then◌else◌};
+ghost use Rattle.la_journal.specs.Disk.{Only};
+ghost use Rattle.la_journal.specs.Outcomes.{spoilt_by, left_by};
+ghost use Rattle.la_journal.specs.Held.{bytes_of, kept_of, room_of, faults_of, moment_of};
+ghost use Rattle.la_journal.specs.Held.{may_leave_of, left_since_of, TimeGoesOn, only_now_of, counts_now_of};
+ghost use Rattle.la_journal.specs.Starts.{IsStart};
 
 use crate::{Contents, Disk, DiskError, DiskFault};
 use std::alloc::{AllocError, Global};
 
 /// A disk in memory, for tests. It takes so many bytes and no more, and so many syncs and no more;
-/// [`crash`](MemoryDisk::crash) gives what a crash leaves of it.
+/// [`crash`](MemoryDisk::crash) gives what a crash leaves of it. It has a clock, which each append, sync and
+/// replacement moves on by one; where that has come to its end, at 2^64 - 1, it fails.
 #[derive(Drop)]
 pub struct MemoryDisk {
     alloc: Global,
     contents: Contents,
     most: usize,
     syncs: u32,
+    clock: u64,
+    ghost on_time: { clock ≡ moment_of contents },
 }
 
 impl MemoryDisk {
@@ -29,6 +35,7 @@ impl MemoryDisk {
             contents: Contents::stored(bytes),
             most: usize::MAX,
             syncs: u32::MAX,
+            clock: 1,
         }
     }
 
@@ -54,41 +61,66 @@ impl MemoryDisk {
         self.contents.bytes()
     }
 
-    /// What a crash leaves: what is on the disk, of the rest so many bytes as they were written, and
-    /// so many 0 bytes in the place of those behind them.
-    pub fn crash(&self, written: usize, zeros: usize) -> Result<MemoryDisk, AllocError>
+    /// The moment, by its clock.
+    pub fn moment(&self) -> u64
+        ensures { result ≡ moment_of self.now.contents }
+    {
+        self.clock
+    }
+
+    /// What a crash leaves: what is on the disk, and of the rest as many bytes as there are marks for, the first ones,
+    /// each as it was written, or as 0 where its mark in `spoilt` is true. All of that is on the disk that comes back.
+    pub fn crash(&self, spoilt: &[bool]) -> Result<MemoryDisk, AllocError>
+        ensures bytes { IfOk result (λ left. bytes_of left.contents
+            ≡ left_by spoilt.now (kept_of self.now.contents) (bytes_of self.now.contents)) }
+        ensures kept { IfOk result (λ left. kept_of left.contents ≡ length (bytes_of left.contents)) }
         ensures left { IfOk result (λ left. may_leave_of self.now.contents (bytes_of left.contents)) }
         ensures stored { IfOk result (λ left. Only (bytes_of left.contents) (may_leave_of left.contents)) }
     {
-        let bytes = self.contents.bytes();
-        let kept = self.contents.kept();
-        let rest = &bytes[kept..];
-        let written = at_most(written, rest.len());
-        let zeros = at_most(zeros, rest.len() - written);
-        let torn = torn(self.alloc, rest, written, zeros)?;
-        let mut left = bytes[..kept].to_vec(self.alloc)?;
-        left.extend_from_slice(&torn)?;
+        let left = self.left_by(spoilt)?;
         Ok(MemoryDisk::new(self.alloc, left))
     }
-}
 
-impl MemoryDisk {
-    /// What another process finds after a crash, as by [`crash`](MemoryDisk::crash): until it has synced or replaced
-    /// the file, a crash leaves what this one may have left.
-    pub fn restart(self, written: usize, zeros: usize) -> Result<MemoryDisk, AllocError>
-        ensures read { IfOk result (λ found. may_leave_of self.contents (bytes_of found.contents)) }
-        ensures crash { IfOk result (λ found. (c : List ℕ) → may_leave_of found.contents c → (c ≡ bytes_of found.contents) ⊎ may_leave_of self.contents c) }
-        ensures moment { IfOk result (λ found. moment_of found.contents ≡ moment_of self.contents + 1) }
+    /// What another process finds after a crash, as by [`crash`](MemoryDisk::crash), of a process that died with this
+    /// disk. No more of it is on the disk than there was: until the other process has synced or replaced the file, a
+    /// crash leaves what this one may have left. It is not full and does not fail. Where memory is refused, or the clock
+    /// has come to its end, this disk is dropped.
+    pub fn restart(self, spoilt: &[bool]) -> Result<MemoryDisk, AllocError>
+        ensures bytes { IfOk result (λ found. bytes_of found.contents
+            ≡ left_by spoilt.now (kept_of self.contents) (bytes_of self.contents)) }
+        ensures kept { IfOk result (λ found. kept_of found.contents ≡ kept_of self.contents) }
+        ensures start { IfOk result (λ found. (t : ℕ) → t ≤ moment_of self.contents
+            → IsStart (λ d. bytes_of d.contents) (λ d c. may_leave_of d.contents c) (left_since_of self.contents t) found) }
+        ensures crash { IfOk result (λ found. (c : List ℕ) → may_leave_of found.contents c → may_leave_of self.contents c) }
+        ensures time { IfOk result (λ found. TimeGoesOn self.contents found.contents) }
     {
-        let left = self.crash(written, zeros)?;
+        if self.clock == u64::MAX {
+            return Err(AllocError);
+        }
+        let bytes = self.left_by(spoilt)?;
+        let kept = self.contents.kept();
+        let clock = self.clock + 1;
         let alloc = self.alloc;
-        let bytes = left.bytes().to_vec(alloc)?;
         Ok(MemoryDisk {
             alloc,
-            contents: Contents::found(bytes, self.contents.left()),
+            contents: Contents::found(bytes, kept, self.contents.left()),
             most: usize::MAX,
             syncs: u32::MAX,
+            clock,
         })
+    }
+
+    // The bytes that a crash leaves.
+    fn left_by(&self, spoilt: &[bool]) -> Result<Vec<u8>, AllocError>
+        ensures { IfOk result (λ left. left.items
+            ≡ left_by spoilt.now (kept_of self.now.contents) (bytes_of self.now.contents)) }
+    {
+        let bytes = self.contents.bytes();
+        let kept = self.contents.kept();
+        let mut left = bytes[..kept].to_vec(self.alloc)?;
+        let rest = spoilt_by(self.alloc, &bytes[kept..], spoilt)?;
+        left.extend_from_slice(&rest)?;
+        Ok(left)
     }
 }
 
@@ -101,22 +133,23 @@ fn take_one(left: &mut u32) -> bool {
     true
 }
 
-// So many of these bytes as they are, and then so many that are 0.
-fn torn(alloc: Global, bytes: &[u8], written: usize, zeros: usize) -> Result<Vec<u8>, AllocError>
-    requires { written + zeros ≤ length bytes.now }
-    ensures { IfOk result (λ torn. IsTorn bytes.now torn.items) }
+// Of these bytes as many as there are marks for, each as it is, or as 0 where its mark is true.
+fn spoilt_by(alloc: Global, bytes: &[u8], spoilt: &[bool]) -> Result<Vec<u8>, AllocError>
+    ensures { IfOk result (λ left. left.items ≡ spoilt_by spoilt.now bytes.now) }
 {
-    let mut torn = bytes[..written].to_vec(alloc)?;
-    torn.resize(written + zeros, 0)?;
-    Ok(torn)
+    let many = bytes.len().min(spoilt.len());
+    let mut left = Vec::new(alloc);
+    for n in 0..many {
+        left.push(as_left(bytes[n], spoilt[n]))?;
+    }
+    Ok(left)
 }
 
-// A number, or the most that it may be.
-fn at_most(number: usize, most: usize) -> usize
-    ensures within { result ≤ most }
-    ensures same { number ≤ most → result ≡ number }
+// A byte, or 0 where it is spoilt.
+fn as_left(byte: u8, spoilt: bool) -> u8
+    ensures { result ≡ (if spoilt then 0 else byte) }
 {
-    if number < most { number } else { most }
+    if spoilt { 0 } else { byte }
 }
 
 impl Disk for MemoryDisk {
@@ -145,6 +178,11 @@ impl Disk for MemoryDisk {
     }
 
     fn append(&mut self, bytes: &[u8]) -> Result<(), DiskFault> {
+        if self.clock == u64::MAX {
+            self.contents.fail();
+            return Err(DiskFault);
+        }
+        self.clock += 1;
         let free = self.most.saturating_sub(self.contents.bytes().len());
         if free < bytes.len() {
             self.contents.append(&bytes[..free]);
@@ -156,20 +194,22 @@ impl Disk for MemoryDisk {
     }
 
     fn sync(&mut self) -> Result<(), DiskFault> {
-        if !take_one(&mut self.syncs) {
+        if self.clock == u64::MAX || !take_one(&mut self.syncs) {
             self.contents.fail();
             return Err(DiskFault);
         }
+        self.clock += 1;
         self.contents.sync();
         Ok(())
     }
 
     fn replace(&mut self, bytes: &[u8]) -> Result<(), DiskError> {
         let copy = bytes.to_vec(self.alloc)?;
-        if self.most < bytes.len() || !take_one(&mut self.syncs) {
+        if self.clock == u64::MAX || self.most < bytes.len() || !take_one(&mut self.syncs) {
             self.contents.fail();
             return Err(DiskError::Failed);
         }
+        self.clock += 1;
         self.contents.replace(copy);
         Ok(())
     }

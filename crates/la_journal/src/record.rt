@@ -1,4 +1,4 @@
-//! A list of calls that only clauses read.
+//! What is noted of a file's past.
 ghost use Rattle.std.specs.Prelude.{◌≡◌, List, []};
 ghost use Rattle.std.specs.Borrow.{ftrue};
 ghost use Rattle.la_journal.specs.Note.{Moment};
@@ -6,6 +6,8 @@ ghost use Rattle.la_journal.specs.Note.{next_of};
 
 use std::marker::{Model, PhantomData};
 
+/// What a crash might have left of a file at each moment so far, as [`Contents`](crate::Contents) notes it. Only
+/// clauses read it: it takes no memory.
 #[derive(Drop)]
 pub struct Record {
     marker: PhantomData<u8>,
@@ -25,12 +27,13 @@ impl Record {
         }
     }
 
-    /// What another process may have left: nothing is known of it here, and whoever starts on its file names it.
+    /// The record of an earlier process, whose file is found and not its memory. No clause says what is in it: what
+    /// that process may have left is a premise, `IsStart`, of whoever starts on the file.
     pub fn of_another() -> Record {
         Record::new()
     }
 
-    /// How many of the bytes were on the disk, and the bytes.
+    /// A moment more, as `next_of` says it.
     pub(crate) fn note(&mut self, _numbers: &[u64], _bytes: &[u8])
         ensures { self.new.events ≡ next_of _numbers.now _bytes.now self.old.events }
     {}

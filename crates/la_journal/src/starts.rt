@@ -1,34 +1,49 @@
-//! A start on what a dead process left, as a caller proves it.
-ghost use Rattle.std.specs.Prelude.{◌≡◌, ◌≤◌, ◌+◌, ℕ, List, IfSome};
-ghost use Rattle.la_journal.specs.Machine.{after, LeadsToSome};
-ghost use Rattle.la_journal.specs.Held.{bytes_of, moment_of, left_since_of};
+// A start on what a dead process left.
+ghost use Rattle.std.specs.Prelude.{◌≡◌, ◌≤◌, ℕ, List, false, Some, IfOk, IfErr};
+ghost use Rattle.la_journal.specs.Machine.{after};
+ghost use Rattle.la_journal.specs.Durable.{IsSettled, IsCauseOf};
+ghost use Rattle.la_journal.specs.Outcomes.{left_by};
+ghost use Rattle.la_journal.specs.Held.{bytes_of, kept_of, moment_of, may_leave_of, left_since_of};
+ghost use Rattle.la_journal.specs.Served.{LeadsToAtLeast};
 
-use crate::{Durable, Machine, MemoryDisk, laws, recover};
+use crate::{Durable, Machine, MemoryDisk, Unplayed, recover};
 use std::alloc::Global;
 
-/// A process died with this disk, and a crash left some of it; another one starts there. If whatever might have been
-/// left since moment `t` leads from the state `first` by some of these calls, so does what it starts from, and what a
-/// crash leaves at any moment of the start.
+/// Another process starts on what a crash left of a dead one's disk, as by [`MemoryDisk::restart`], from a machine as
+/// it was before the first call of all. It comes to where the file leads that it found; and what is known of all
+/// that a crash might have left since a moment, as from [`serve_all`](crate::serve_all), is known of that file, and
+/// of what a crash leaves from that moment on, at any moment of the start too. What refuses is what refuses
+/// [`recover`]; the dead one's disk is then gone.
 pub fn start_again<M: Machine>(
     alloc: Global,
     dead: MemoryDisk,
-    written: usize,
-    zeros: usize,
+    spoilt: &[bool],
     start: M,
-) -> Option<Durable<M, MemoryDisk>>
-    ensures { (t : ℕ) (first : M.State) (calls : List M.Call) → t ≤ moment_of dead.contents
-        → ((c : List ℕ) → left_since_of dead.contents t c → LeadsToSome (after M.named_state M.named M.step (M.state start)) M.step calls first c)
-        → IfSome result (λ now. LeadsToSome (after M.named_state M.named M.step (M.state start)) M.step calls first (bytes_of now.disk.contents)
-            × ((c : List ℕ) → left_since_of now.disk.contents (moment_of dead.contents + 1) c
-                → LeadsToSome (after M.named_state M.named M.step (M.state start)) M.step calls first c)) }
+) -> Result<Durable<M, MemoryDisk>, Unplayed<M::Refusal>>
+    ensures state { IfOk result (λ node. after M.named_state M.named M.step (M.state start)
+        (left_by spoilt.now (kept_of dead.contents) (bytes_of dead.contents)) ≡ Some (M.state node.machine)) }
+    ensures leads { IfOk result (λ node. after M.named_state M.named M.step (M.state start)
+        (bytes_of node.disk.contents) ≡ Some (M.state node.machine)) }
+    ensures ready { IfOk result (λ node. (node.closed ≡ false)
+        × IsSettled (λ d. bytes_of d.contents) (λ d c. may_leave_of d.contents c) node.disk) }
+    ensures keeps { (t k : ℕ) (first : M.State) (calls : List M.Call) → t ≤ moment_of dead.contents
+        → ((c : List ℕ) → left_since_of dead.contents t c
+        → LeadsToAtLeast (after M.named_state M.named M.step (M.state start)) M.step k calls first c)
+        → IfOk result (λ node.
+        LeadsToAtLeast (after M.named_state M.named M.step (M.state start)) M.step k calls first
+        (bytes_of node.disk.contents)
+        × ((c : List ℕ) → left_since_of node.disk.contents t c
+        → LeadsToAtLeast (after M.named_state M.named M.step (M.state start)) M.step k calls first c)) }
+    ensures cause { IfErr result (IsCauseOf M.lacks_memory 0 1
+        (left_by spoilt.now (kept_of dead.contents) (bytes_of dead.contents))
+        (after M.named_state M.named M.step (M.state start)
+        (left_by spoilt.now (kept_of dead.contents) (bytes_of dead.contents)))) }
 {
-    // a hint to the prover: what a start has
-    laws::a_start_has_what_was_answered::<M, MemoryDisk>();
-    let Ok(found) = dead.restart(written, zeros) else {
-        return None;
+    let Ok(found) = dead.restart(spoilt) else {
+        return Err(Unplayed::Memory);
     };
     match recover(alloc, start, found) {
-        Ok(durable) => Some(durable),
-        Err(_) => None,
+        Ok(node) => Ok(node),
+        Err((why, _)) => Err(why),
     }
 }

@@ -28,6 +28,10 @@ impl<R: Files + Drop> FileDisk<R> {
     /// Reads the journal of a folder that this process has, and makes one where there is none. What it
     /// read need not be on the disk: [`recover`](la_journal::recover) puts it there. Linear in the
     /// journal.
+    ///
+    /// What an earlier process may have left is not known here, and no clause says it: that what was read
+    /// is among that, and that until the first sync or replacement a crash leaves that or what was read, is
+    /// the premise `IsStart` of whoever starts on it.
     pub fn open(rt: R, alloc: Global, lock: FolderLock) -> io::Result<FileDisk<R>> {
         let path = path_of(alloc, lock.folder(), "/journal")?;
         let mut file = OpenOptions::new()
@@ -38,11 +42,12 @@ impl<R: Files + Drop> FileDisk<R> {
         let next = path_of(alloc, lock.folder(), "/journal.new")?;
         let mut bytes = Vec::new(alloc);
         file.read_to_end(&mut bytes)?;
+        let read = bytes.len();
         Ok(FileDisk {
             rt,
             alloc,
             file,
-            contents: Contents::found(bytes, Record::of_another()),
+            contents: Contents::found(bytes, read, Record::of_another()),
             path,
             next,
             lock,

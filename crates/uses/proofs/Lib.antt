@@ -10,4 +10,5 @@ pub mod Numbers
 mod Mapped
 mod Together
 mod Leasing
+mod Newest
 pub mod CarriedLines

@@ -110,10 +110,13 @@ ghost use Rattle.la_journal.specs.Disk.{Only};
 ghost use Rattle.la_journal.specs.Lines.{lines};
 ghost use Rattle.la_journal.specs.Machine.{after, calls, LeadsToSome};
 ghost use Rattle.la_journal.specs.Durable.{IsSettled};
+ghost use Rattle.la_journal.specs.Served.{alone, answered, LeadsToAtLeast};
 ghost use Rattle.la_journal.specs.Starts.{IsStart};
 ghost use Rattle.la_journal.specs.declared.durable.Refused.TheVariants.{Machine as ByMachine};
 
-use la_journal::{Disk, Durable, MemoryDisk, Refused, Unplayed, laws, recover};
+use la_journal::{
+    Disk, Durable, MemoryDisk, Outlet, Refused, Unplayed, laws, recover, serve_all, start_again,
+};
 use la_journal_file::{FileDisk, FolderLock};
 use std::io;
 
@@ -204,13 +207,12 @@ pub fn answer_and_compact<M: Snapshot, D: Disk>(
     Ok(output)
 }
 
-/// Takes a lease, and then the power fails: so many of the bytes that were not on the disk were
-/// written, and so many 0 in place of the next. The machine that starts then finds it taken.
+/// Takes a lease, and then the power fails, whatever that spoils of what was not on the disk. The machine that
+/// starts then finds it taken.
 pub fn taken_for_good(
     alloc: Global,
     journal: Vec<u8>,
-    written: usize,
-    zeros: usize,
+    spoilt: &[bool],
 ) -> Option<Durable<Lease, MemoryDisk>>
     ensures { IfSome result (λ lease. lease.machine.taken ≡ true) }
 {
@@ -221,12 +223,40 @@ pub fn taken_for_good(
     let Ok(_) = lease.handle(alloc, &Ask::Take) else {
         return None;
     };
-    let Ok(left) = lease.disk.crash(written, zeros) else {
+    let Ok(left) = lease.disk.crash(spoilt) else {
         return None;
     };
     match start(alloc, Lease { taken: false }, left) {
         Ok(lease) => Some(lease),
         Err(_) => None,
+    }
+}
+
+/// Serves the inputs, and then the process dies, and a crash spoils what it may. Who starts again comes to where the
+/// first some of the inputs lead, all that were answered among them.
+pub fn serve_and_start_again<M: Machine, O: Outlet<MemoryDisk, Item = M::Output>>(
+    node: Durable<M, MemoryDisk>,
+    alloc: Global,
+    inputs: &[M::Input],
+    outlet: &mut O,
+    spoilt: &[bool],
+    anew: M,
+) -> Result<Durable<M, MemoryDisk>, Unplayed<M::Refusal>>
+    requires settled { IsSettled ⟦<MemoryDisk as Disk>⟧.seen ⟦<MemoryDisk as Disk>⟧.may_leave node.disk }
+    requires unclosed { node.closed ≡ false }
+    requires leads { after M.named_state M.named M.step (M.state anew) (⟦<MemoryDisk as Disk>⟧.seen node.disk)
+        ≡ Some (M.state node.machine) }
+    ensures { IfOk result (λ again.
+        LeadsToAtLeast (after M.named_state M.named M.step (M.state anew)) M.step
+        (answered (alone M.answer) (O.said outlet.old) (O.said outlet.new))
+        (calls M.call inputs.now) (M.state node.machine) (⟦<MemoryDisk as Disk>⟧.seen again.disk)) }
+{
+    let mut node = node;
+    let _all_or_some = serve_all(alloc, &mut node, inputs, outlet);
+    let Durable { disk, .. } = node;
+    match start_again(alloc, disk, spoilt, anew) {
+        Ok(again) => Ok(again),
+        Err(why) => Err(why),
     }
 }
 

@@ -1,17 +1,26 @@
-use Rattle.std.proofs.Common.{◌+◌, ◌≤◌, ⊎_elim, ℕ, List, sym, subst, ◌∙◌}
-use Rattle.la_journal.specs.Held.{bytes_of, moment_of, left_since_of, counts_now_of}
+use Rattle.std.proofs.Common.{ℕ, List, ⊎_elim, sym, ◌∙◌, ap, arith}
+use Rattle.la_journal.specs.Machine.{after}
+use Rattle.la_journal.specs.Held.{bytes_of, may_leave_of, counts_now_of}
+use Rattle.la_journal.proofs.Leading.{same_lines}
 use Rattle.la_journal.proofs.starts.start_again.Goals as goal
 
-pub returns-in-Ok-recover : goal.returns-in-Ok-recover
-returns-in-Ok-recover g c t first calls le known =
+pub returns-in-Ok-recover-clause-keeps : goal.returns-in-Ok-recover-clause-keeps
+returns-in-Ok-recover-clause-keeps g c t k first calls le known =
     let dead = c.args.dead.contents in
-    let read : left_since_of dead t (bytes_of c.in-Ok.found.contents) = counts_now_of dead t (bytes_of c.in-Ok.found.contents) le c.in-Ok.ensures.read in
-    let law = c.a_start_has_what_was_answered.ensures c.args.dead c.in-Ok.found c.in-Ok-recover.durable.disk t (g.M.Machine.state c.args.start) first calls known
-    record {
-      read = read;
-      crash = λ f left. ⊎_elim (λ is. subst (λ (x : List ℕ). left_since_of dead t x) (sym is) read) (λ was. counts_now_of dead t f le was) (c.in-Ok.ensures.crash f left);
-    }
-    c.in-Ok-recover.ensures.any_moment in (
-      (law.0.0, law.0.1, c.in-Ok-recover.ensures.leads ∙ sym c.in-Ok-recover.ensures.state ∙ law.0.2),
-      λ f left. law.1 f (subst (λ (m : ℕ). left_since_of c.in-Ok-recover.durable.disk.contents m f) (sym c.in-Ok.ensures.moment) left),
+    let found = c.in-Ok.found.contents in
+    let time = c.in-Ok.ensures.time in
+    let start = g.M.Machine.state c.args.start in
+    let or_now = λ (f : List ℕ) (left_now : may_leave_of found f). known f (counts_now_of dead t f le (c.in-Ok.ensures.crash f left_now)) in
+    let there = known (bytes_of found) (c.in-Ok.ensures.start t le).read in (
+      (there.0, there.1, there.2, same_lines g.M.Machine.named_state g.M.Machine.named g.M.Machine.step start (bytes_of found) (bytes_of c.in-Ok-recover.node.disk.contents) c.in-Ok-recover.ensures.same ∙ there.3),
+      λ f left. ⊎_elim
+          (λ was. ⊎_elim (λ had. known f had) (or_now f) (time.nothing_else t f le was))
+          (λ same. ⊎_elim (or_now f)
+          (λ is. (there.0, there.1, there.2, same_lines g.M.Machine.named_state g.M.Machine.named g.M.Machine.step start (bytes_of found) f is ∙ there.3))
+          same)
+          (c.in-Ok-recover.ensures.any_moment.before t f (omega (arith, le, time.later)) left),
     )
+
+pub returns-in-Ok-recover-clause-state : goal.returns-in-Ok-recover-clause-state
+returns-in-Ok-recover-clause-state g c =
+    ap (after g.M.Machine.named_state g.M.Machine.named g.M.Machine.step (g.M.Machine.state c.args.start)) (sym c.in-Ok.ensures.bytes) ∙ c.in-Ok-recover.ensures.state

@@ -1,4 +1,4 @@
-use Rattle.std.proofs.Common.{◌≡◌, List, ℕ, ◌≤◌, length, rules}
+use Rattle.std.proofs.Common.{◌≤◌, length, rules}
 use Rattle.la_journal.specs.Note.{now_of}
 use Rattle.la_journal.proofs.Goes.{noted_alone, now_left, held_left}
 use Rattle.la_journal.proofs.contents.Contents.sync.Goals as goal

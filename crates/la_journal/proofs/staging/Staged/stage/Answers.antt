@@ -1,4 +1,4 @@
-use Rattle.std.proofs.Common.{◌≡◌, ◌≤◌, ◌++◌, ◌∷◌, [], List, ℕ, length, length-append, sym, ◌∙◌, ap, subst, arith, rules}
+use Rattle.std.proofs.Common.{◌≡◌, ◌++◌, List, ℕ, sym, ◌∙◌, ap, subst, rules}
 use Rattle.la_journal.specs.Lines.{lines, file_of}
 use Rattle.la_journal.proofs.Together.{more_whole, more_lines}
 use Rattle.la_journal.proofs.staging.Staged.stage.Goals as goal
