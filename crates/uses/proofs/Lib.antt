@@ -9,5 +9,6 @@ pub mod Later
 pub mod Numbers
 mod Mapped
 mod Together
+mod ByParcels
 mod Leasing
 pub mod CarriedLines
