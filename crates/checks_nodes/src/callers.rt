@@ -9,18 +9,19 @@ use la_journal::MemoryDisk;
 use la_object::{Answer, Counter, Query, Replicated};
 use la_orset::OrSet;
 use la_proposer::{Proposer, Votes};
-use la_replica::{Body, Message, Replica};
+use la_replica::{Body, Mail, Message, Replica, ReplicaError};
 use la_set::{Op, Update, UpdateId, UpdateSet};
-use la_world::{Config, Report};
+use la_world::{Config, Node, Report};
 use std::alloc::Global;
 use uses::acceptors::acknowledges;
 use uses::commits::{Learner, finish_both};
 use uses::deltas::{read, written};
-use uses::groups::count_together;
+use uses::groups::{count_together, form};
 use uses::journals::{Ask, Lease, answer, answer_and_compact, start, taken_for_good};
 use uses::kept::{Kept, play_again};
 use uses::nodes::{join, three_nodes};
 use uses::orsets::{ask, follow_both, put, removal as removal_of};
+use uses::parcels::{Link, count_in_parcels, deliver_next};
 use uses::proposers::hear;
 use uses::replicas::take_in_and_vote;
 use uses::scripts::report_of;
@@ -261,16 +262,61 @@ fn nodes(alloc: Global) -> Option<bool> {
     Some(matches!(answer, Answer::Total(3)))
 }
 
-// Three nodes that each add to a counter have one view at the end.
-fn groups(alloc: Global) -> Option<bool> {
-    let config = Config {
+fn three() -> Config {
+    Config {
         replicas: 3,
         commits: 0,
         cap: 10,
         votes: Votes::one_each(3),
-    };
-    let group = count_together(alloc, config, 100).ok()?;
+    }
+}
+
+// Three nodes that each add to a counter have one view at the end.
+fn groups(alloc: Global) -> Option<bool> {
+    let group = count_together(alloc, three(), 100).ok()?;
     Some(group.len() == 3 && are_one(group[0].view(), group[2].view()))
+}
+
+// And so where learnt sets go over what is believed of each view.
+fn parcels(alloc: Global) -> Option<bool> {
+    let group = count_in_parcels(alloc, three(), 100).ok()?;
+    Some(group.len() == 3 && are_one(group[0].view(), group[2].view()))
+}
+
+// A set that is told over more than its receiver's view has is refused, and the node is as before; then nothing
+// is believed of it, and the set is taken.
+fn wrong_beliefs(alloc: Global) -> Option<bool> {
+    let mut group = form(alloc, three()).ok()?;
+    let mut set = UpdateSet::new(alloc);
+    set.push(adds(0, 5)).ok()?;
+    let mut link = Link::new(alloc);
+    link.believe(1, set.counts());
+    let refused = tells(alloc, &mut group, &mut link, &set)?;
+    let unchanged = group[1].view().len() == 0;
+    let taken = tells(alloc, &mut group, &mut link, &set)?;
+    Some(!refused && unchanged && taken && group[1].view().same(&set))
+}
+
+// Whether node 1 takes a learnt set, and else has not its base.
+fn tells(
+    alloc: Global,
+    group: &mut [Node<Counter>],
+    link: &mut Link,
+    set: &UpdateSet,
+) -> Option<bool> {
+    let tell = Message {
+        instance: 0,
+        from: 0,
+        to: 1,
+        ballot: 1,
+        body: Body::Tell(set.copy().ok()?),
+    };
+    link.send(alloc, Mail::one(alloc, tell)).ok()?;
+    match deliver_next(alloc, group, link) {
+        Ok(()) => Some(true),
+        Err(ReplicaError::NoBase) => Some(false),
+        Err(_) => None,
+    }
 }
 
 fn are_one(one: &UpdateSet, other: &UpdateSet) -> bool {
@@ -332,6 +378,12 @@ fn callers_do_what_they_are_for(rt: HostRuntime) {
     );
     holds(&rt, "nodes", is_so(nodes(alloc), nodes(alloc)));
     holds(&rt, "groups", is_so(groups(alloc), groups(alloc)));
+    holds(&rt, "parcels", is_so(parcels(alloc), parcels(alloc)));
+    holds(
+        &rt,
+        "wrong beliefs",
+        is_so(wrong_beliefs(alloc), wrong_beliefs(alloc)),
+    );
     holds(&rt, "kept", is_so(kept_calls(alloc), kept_calls(alloc)));
     holds(&rt, "leases", is_so(leases(alloc), leases(alloc)));
     holds(

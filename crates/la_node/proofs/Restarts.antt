@@ -18,7 +18,7 @@ use Rattle.la_world.specs.Following.{Taken, takes, then_votes, vote_due}
 use Rattle.la_world.specs.Votes.{Submission}
 use Rattle.la_world.specs.Nodes.{NodeState}
 use Rattle.la_world.specs.Kept.{KeptCall, Submitted, Proposed, Received, after_call}
-use Rattle.la_world.specs.LiveGroups.{AreLive, LooksKeepLive}
+use Rattle.la_world.specs.LiveGroups.{AreLive, IsAmong, LooksKeepLive}
 use Rattle.la_world.specs.Unheard.{MayKeep, UnheardCallsKeepLive}
 use Rattle.la_lines.specs.Calls.{Call, Submit, Decide, Ask, Tick, Receive}
 use Rattle.la_lines.specs.CallLines.{named}
@@ -62,7 +62,7 @@ does_after r (Received m) made e = let x = some_of _ _ made e in ap (option_map 
 
 -- a call of a line that may be handed, as it is kept
 may_keep : (network : List code.Message) (r : ℕ) (n : KeptState) (call : Call) (k : KeptCall) → kept n call ≡ Some k → accepts n.replica k ≡ true
-    → ((m : _) → call ≡ Receive m → MayKeep network r n.replica (Received (message_of m))) → MayKeep network r n.replica k
+    → ((m : _) → call ≡ Receive m → IsAmong (message_of m) network × (m.to ≡ r)) → MayKeep network r n.replica k
 may_keep network r n (Submit replica object op) k is ok handed =
     let same = same_Some _ k (where_true (eqb replica n.replica.own) _ k is).1 in
     subst (MayKeep network r n.replica) same ((decides-accepts n.replica (Submitted _)).0 (subst (λ c. accepts n.replica c ≡ true) (sym same) ok)).0
@@ -73,7 +73,8 @@ may_keep network r n (Ask replica object query) k is ok handed = absurd (none-so
 may_keep network r n Tick k is ok handed = absurd (none-some k is)
 may_keep network r n (Receive m) k is ok handed =
     let same = same_Some _ k (where_true (eqb m.replicas n.replicas) _ k is).1 in
-    subst (MayKeep network r n.replica) same (handed m refl)
+    let accepted = (decides-accepts n.replica (Received (message_of m))).0 (subst (λ c. accepts n.replica c ≡ true) (sym same) ok) in
+    subst (MayKeep network r n.replica) same ((handed m refl).0, (handed m refl).1, accepted.stands)
 
 -- what a step of the machine was
 pub record IsTaken (n : KeptState) (c : CallLine) (next : KeptState) : Type 0 where

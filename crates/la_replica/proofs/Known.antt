@@ -1,5 +1,5 @@
 -- What a message's set is known to have in common with what is here, and a candidate with the view.
-use Rattle.std.proofs.Common.{◌≡◌, ℕ, zero, suc, ◌<◌, ◌==◌, if◌then◌else◌, Bool, true, false, List, [], ◌∷◌, length, slice_get, Option, Some, None, IfSome, IsSomeAnd, option_map, unwrap_or, sym, subst, arith}
+use Rattle.std.proofs.Common.{◌≡◌, ℕ, zero, suc, ◌<◌, ◌==◌, if◌then◌else◌, Bool, true, false, eqb-true, List, [], ◌∷◌, length, slice_get, Option, Some, None, IfSome, IsSomeAnd, option_map, unwrap_or, refl, sym, subst, arith}
 use Rattle.la_set.specs.declared.counts.Counts.{Counts}
 use Rattle.la_set.specs.Histories.{Histories}
 use Rattle.la_set.specs.Counts.{zero_counts, within}
@@ -61,30 +61,3 @@ at_each (x ∷ xs) (suc i) P lt each = at_each xs i P (omega arith) each
 
 pub nothing_known_in : (r : ReplicaState) (i : ℕ) (v : Option Verdict) (m : Message) (b : Counts) → i < length r.instances → b ≡ zero_counts → InInstance r i (λ z. IsKnownCandidate r.view b (candidate z v m))
 nothing_known_in r i v m b lt is = at_each r.instances i (λ z. IsKnownCandidate r.view b (candidate z v m)) lt (λ z. subst (λ n. IsKnownCandidate r.view n (candidate z v m)) (sym is) (nothing_known r.view (candidate z v m)))
-
--- a told set has within these counts what the view has
-told_candidate : (view : Histories) (z : Instance) (v : Option Verdict) (b : Counts) (here : Bool) (c : Body) (s : Histories) → c ≡ Tell s → IsToldWithin view b c → IsKnownCandidate view b (if here then seen_in z v c else None)
-told_candidate view z v b false c s is told = tt
-told_candidate view z v b true (Tell t) s is told = told
-told_candidate view z v b true (Offer t) s is told = absurd (cc)
-told_candidate view z v b true Yes s is told = absurd (cc)
-told_candidate view z v b true (No t) s is told = absurd (cc)
-
-pub told_known_in : (r : ReplicaState) (v : Option Verdict) (m : Message) (b : Counts) (s : Histories) → m.instance < length r.instances → m.body ≡ Tell s → IsToldWithin r.view b m.body → InInstance r m.instance (λ z. IsKnownCandidate r.view b (candidate z v m))
-told_known_in r v m b s lt is told = at_each r.instances m.instance (λ z. IsKnownCandidate r.view b (candidate z v m)) lt (λ z. told_candidate r.view z v b (m.instance == 0) m.body s is told)
-
--- as it is received
-pub tell_received : (view : Histories) (b : Counts) (set : Option Histories) (c : code_body.Body) → IsTellWithin view b c → IsToldWithin view b (with_set set c)
-tell_received view b None (body.Offer d) told = tt
-tell_received view b (Some s) (body.Offer d) told = tt
-tell_received view b set body.Yes told = tt
-tell_received view b None (body.No d) told = tt
-tell_received view b (Some s) (body.No d) told = tt
-tell_received view b set (body.Tell t) told = told
-
--- within no counts any has
-pub tell_zero : (view : Histories) (b : Counts) (c : code_body.Body) → b ≡ zero_counts → IsTellWithin view b c
-tell_zero view b (body.Offer d) is = tt
-tell_zero view b body.Yes is = tt
-tell_zero view b (body.No d) is = tt
-tell_zero view b (body.Tell t) is = subst (λ n. within view n ≡ within t n) (sym is) (within-zero view t)

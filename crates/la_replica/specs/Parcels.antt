@@ -1,148 +1,167 @@
--- Parcels: messages as links hand them on, each set over a base of the link's choice, a told one too; and
--- the messages that they are, where they are opened.
-use Rattle.std.specs.Prelude.{◌≡◌, ℕ, ◌≤◌, length}
+-- Parcels: messages as links hand them on. A told set goes over what its receiver's view is believed to
+-- have. What else a message says goes as it is: an offer and a refusal have a base already.
+use Rattle.std.specs.Prelude.{◌≡◌, ℕ, ◌==◌, ◌⊎◌, if◌then◌else◌}
 use Rattle.la_set.specs.declared.counts.Counts.{Counts}
 use Rattle.la_set.specs.declared.error.SetError.{SetError}
 use Rattle.la_set.specs.declared.error.SetError.TheVariants as set_error
-use Rattle.la_set.specs.Histories.{Histories}
+use Rattle.la_set.specs.Histories.{Histories, IsWithinLimit, empty}
 use Rattle.la_set.specs.Join.{IsCompatible}
-use Rattle.la_set.specs.Counts.{HasCounts, zero_counts}
-use Rattle.la_set.specs.Deltas.{DeltaState, delta_over, rebuilt, IsOver, IsRebuildRefusal}
+use Rattle.la_set.specs.Counts.{HasCounts, counts_of, zero_counts}
+use Rattle.la_set.specs.Deltas.{delta_over, rebuilt, IsOver, IsRebuildRefusal}
 use Rattle.la_replica.specs.declared.error.ReplicaError.{ReplicaError}
-use Rattle.la_replica.specs.declared.error.ReplicaError.TheVariants.{NoSuchInstance, NoBase, Gap, Memory}
-use Rattle.la_replica.specs.declared.instance.Instance.{Instance}
+use Rattle.la_replica.specs.declared.error.ReplicaError.TheVariants.{NoSuchReplica, NoSuchInstance, Full, NoBase, Gap, Clash, BallotsSpent, Memory}
 use Rattle.la_replica.specs.declared.message.Message as code
 use Rattle.la_replica.specs.declared.message.Body as code_body
 use Rattle.la_replica.specs.declared.message.Body.TheVariants as body
 use Rattle.la_replica.specs.declared.parcel.Parcel.{Parcel}
 use Rattle.la_replica.specs.declared.parcel.Content.{Content}
 use Rattle.la_replica.specs.declared.parcel.Content.TheVariants.{Offer, Yes, No, Tell}
+use Rattle.la_replica.specs.Alike.{AreAlikeDeltas}
+use Rattle.la_replica.specs.Bases.{smaller}
+use Rattle.la_replica.specs.Received.{received_in}
+use Rattle.la_replica.specs.Refusals.{IsFor, IsReceiptRefusal}
 use Rattle.la_replica.specs.ReplicaState.{ReplicaState, InInstance}
-use Rattle.la_replica.specs.Rebased.{rebased, rebased_body, rebased_message, IsBaseOf, MayBeOver}
-
--- ## Opened
-
--- a told set is rebuilt over what is accepted
-abbrev pub opened_body : Instance → Content → code_body.Body
-opened_body x (Offer d) = body.Offer d
-opened_body x Yes = body.Yes
-opened_body x (No d) = body.No d
-opened_body x (Tell d) = body.Tell (rebuilt x.acceptor d)
-
-abbrev pub opened_at : Instance → Parcel → code.Message
-opened_at x p = record {
-  instance = p.instance;
-  from = p.from;
-  to = p.to;
-  ballot = p.ballot;
-  body = opened_body x p.content;
-}
-
-abbrev pub OpensBody : Instance → Content → Type 0
-OpensBody x (Offer d) = Unit {0}
-OpensBody x Yes = Unit {0}
-OpensBody x (No d) = Unit {0}
-OpensBody x (Tell d) = IsOver x.acceptor d
-
-abbrev pub OpensAt : Instance → Parcel → Type 0
-OpensAt x p = OpensBody x p.content
-
-abbrev pub IsShutBody : Instance → Content → SetError → Type 0
-IsShutBody x (Offer d) e = ⊥
-IsShutBody x Yes e = ⊥
-IsShutBody x (No d) e = ⊥
-IsShutBody x (Tell d) e = IsRebuildRefusal x.acceptor d e
-
-abbrev pub IsShutAt : Instance → Parcel → SetError → Type 0
-IsShutAt x p e = IsShutBody x p.content e
-
--- ## In a replica
-
-abbrev pub IsOpened : ReplicaState → Parcel → code.Message → Type 0
-IsOpened r p m = InInstance r p.instance (λ x. m ≡ opened_at x p)
-
-abbrev pub OpensIn : ReplicaState → Parcel → Type 0
-OpensIn r p = InInstance r p.instance (λ x. OpensAt x p)
-
-abbrev pub IsOpenRefusal : ReplicaState → Parcel → ReplicaError → Type 0
-IsOpenRefusal r p NoSuchInstance = length r.instances ≤ p.instance
-IsOpenRefusal r p NoBase = InInstance r p.instance (λ x. IsShutAt x p set_error.NoBase)
-IsOpenRefusal r p Gap = InInstance r p.instance (λ x. IsShutAt x p set_error.Gap)
-IsOpenRefusal r p Memory = InInstance r p.instance (λ x. IsShutAt x p set_error.Memory)
-IsOpenRefusal r p _ = ⊥
 
 -- ## As a link makes them
 
--- a message as a parcel, over this base
-abbrev pub wrapped_body : Counts → code_body.Body → Content
-wrapped_body b (body.Offer d) = Offer (rebased b d)
-wrapped_body b body.Yes = Yes
-wrapped_body b (body.No d) = No (rebased b d)
-wrapped_body b (body.Tell told) = Tell (delta_over told b)
+-- what a told set goes over: of each replica the smaller of what is believed and of what the set has
+abbrev pub told_base : (believed : Counts) → (told : Histories) → Counts
+told_base believed told = smaller believed (counts_of told)
 
-abbrev pub wrapped : Counts → code.Message → Parcel
-wrapped b m = record {
+abbrev pub wrapped_body : (believed : Counts) → code_body.Body → Content
+wrapped_body believed (body.Offer d) = Offer d
+wrapped_body believed body.Yes = Yes
+wrapped_body believed (body.No d) = No d
+wrapped_body believed (body.Tell told) = Tell (delta_over told (told_base believed told))
+
+abbrev pub wrapped : (believed : Counts) → code.Message → Parcel
+wrapped believed m = record {
   instance = m.instance;
   from = m.from;
   to = m.to;
   ballot = m.ballot;
-  content = wrapped_body b m.body;
+  content = wrapped_body believed m.body;
 }
 
--- the base is one of a told set's; and its receiver has it, and under no id another update
-abbrev pub TellsOver : Instance → Counts → code_body.Body → Type 0
-TellsOver x b (body.Offer d) = Unit {0}
-TellsOver x b body.Yes = Unit {0}
-TellsOver x b (body.No d) = Unit {0}
-TellsOver x b (body.Tell told) =
-    IsBaseOf b told × HasCounts x.acceptor b × IsCompatible x.acceptor told
+-- no number in a told set is over the limit, as in every set of the code
+abbrev pub IsTellWithinLimit : code_body.Body → Type 0
+IsTellWithinLimit (body.Offer d) = Unit {0}
+IsTellWithinLimit body.Yes = Unit {0}
+IsTellWithinLimit (body.No d) = Unit {0}
+IsTellWithinLimit (body.Tell told) = IsWithinLimit told
 
--- ## Over the view
+-- what two parcels say is the same, whatever their deltas were made of
+abbrev pub AreAlikeContents : Content → Content → Type 0
+AreAlikeContents (Offer d) (Offer e) = AreAlikeDeltas d e
+AreAlikeContents Yes Yes = Unit {0}
+AreAlikeContents (No d) (No e) = AreAlikeDeltas d e
+AreAlikeContents (Tell d) (Tell e) = AreAlikeDeltas d e
+AreAlikeContents _ _ = ⊥
 
--- a told set is rebuilt over the view: within its base it has what the view has
-abbrev pub unwrapped_body : (view : Histories) → Content → code_body.Body
-unwrapped_body view (Offer d) = body.Offer d
-unwrapped_body view Yes = body.Yes
-unwrapped_body view (No d) = body.No d
-unwrapped_body view (Tell d) = body.Tell (rebuilt view d)
+pub record AreAlikeParcels (p q : Parcel) : Type 0 where
+  pub instance : p.instance ≡ q.instance
+  pub from : p.from ≡ q.from
+  pub to : p.to ≡ q.to
+  pub ballot : p.ballot ≡ q.ballot
+  pub content : AreAlikeContents p.content q.content
 
-abbrev pub unwrapped : (view : Histories) → Parcel → code.Message
-unwrapped view p = record {
+-- a parcel says what this message does, where it was wrapped for whatever is believed of its receiver
+abbrev pub IsParcelOf : Parcel → code.Message → Type 0
+IsParcelOf p m = (believed : Counts) × AreAlikeParcels p (wrapped believed m)
+
+-- ## Over a set
+
+-- as a message: a told set is rebuilt over this one
+abbrev pub unwrapped_body : (over : Histories) → Content → code_body.Body
+unwrapped_body over (Offer d) = body.Offer d
+unwrapped_body over Yes = body.Yes
+unwrapped_body over (No d) = body.No d
+unwrapped_body over (Tell d) = body.Tell (rebuilt over d)
+
+abbrev pub unwrapped : (over : Histories) → Parcel → code.Message
+unwrapped over p = record {
   instance = p.instance;
   from = p.from;
   to = p.to;
   ballot = p.ballot;
-  body = unwrapped_body view p.content;
+  body = unwrapped_body over p.content;
 }
 
-abbrev pub UnwrapsBody : (view : Histories) → Content → Type 0
-UnwrapsBody view (Offer d) = Unit {0}
-UnwrapsBody view Yes = Unit {0}
-UnwrapsBody view (No d) = Unit {0}
-UnwrapsBody view (Tell d) = IsOver view d
+-- a told set stands for something there
+abbrev pub Unwraps : (over : Histories) → Content → Type 0
+Unwraps over (Offer d) = Unit {0}
+Unwraps over Yes = Unit {0}
+Unwraps over (No d) = Unit {0}
+Unwraps over (Tell d) = IsOver over d
 
-abbrev pub IsWrongBody : (view : Histories) → Content → SetError → Type 0
-IsWrongBody view (Offer d) e = ⊥
-IsWrongBody view Yes e = ⊥
-IsWrongBody view (No d) e = ⊥
-IsWrongBody view (Tell d) e = IsRebuildRefusal view d e
+-- or it is refused
+abbrev pub IsShut : (over : Histories) → Content → SetError → Type 0
+IsShut over (Offer d) e = ⊥
+IsShut over Yes e = ⊥
+IsShut over (No d) e = ⊥
+IsShut over (Tell d) e = IsRebuildRefusal over d e
 
-abbrev pub told_base : Content → Counts
-told_base (Offer d) = zero_counts
-told_base Yes = zero_counts
-told_base (No d) = zero_counts
-told_base (Tell d) = d.base
+-- the base of a told set; of what tells none no counts at all
+abbrev pub base_of_told : Content → Counts
+base_of_told (Offer d) = zero_counts
+base_of_told Yes = zero_counts
+base_of_told (No d) = zero_counts
+base_of_told (Tell d) = d.base
 
--- the base is one of a told set's, and the view has it
-abbrev pub ViewHasBase : (view : Histories) → Counts → code_body.Body → Type 0
-ViewHasBase view b (body.Offer d) = Unit {0}
-ViewHasBase view b body.Yes = Unit {0}
-ViewHasBase view b (body.No d) = Unit {0}
-ViewHasBase view b (body.Tell told) = IsBaseOf b told × HasCounts view b
+-- nothing is told
+abbrev pub TellsNothing : Content → Type 0
+TellsNothing (Offer d) = Unit {0}
+TellsNothing Yes = Unit {0}
+TellsNothing (No d) = Unit {0}
+TellsNothing (Tell d) = ⊥
 
--- of a told set and the view no id has two updates
-abbrev pub IsOneInView : (view : Histories) → code_body.Body → Type 0
-IsOneInView view (body.Offer d) = Unit {0}
-IsOneInView view body.Yes = Unit {0}
-IsOneInView view (body.No d) = Unit {0}
-IsOneInView view (body.Tell told) = IsCompatible view told
+-- ## In a replica
+
+-- what the view has of an instance: all of instance 0, and nothing of another one
+abbrev pub view_of : ReplicaState → (instance : ℕ) → Histories
+view_of r i = if i == 0 then r.view else empty
+
+-- a parcel as a message to this replica
+abbrev pub unwrapped_in : ReplicaState → Parcel → code.Message
+unwrapped_in r p = unwrapped (view_of r p.instance) p
+
+abbrev pub UnwrapsIn : ReplicaState → Parcel → Type 0
+UnwrapsIn r p = Unwraps (view_of r p.instance) p.content
+
+abbrev pub IsShutIn : ReplicaState → Parcel → SetError → Type 0
+IsShutIn r p e =
+    IsFor r (received_in r (unwrapped_in r p))
+    × InInstance r p.instance (λ x. IsShut (view_of r p.instance) p.content e)
+
+-- it is refused before it is a message, in the order in which it is tested: it is not for this replica, of no
+-- instance here, or its told set stands for nothing, or memory runs out for that
+abbrev pub IsUnwrapRefusal : ReplicaState → Parcel → ReplicaError → Type 0
+IsUnwrapRefusal r p NoSuchReplica = IsReceiptRefusal r (unwrapped_in r p) NoSuchReplica
+IsUnwrapRefusal r p NoSuchInstance = IsReceiptRefusal r (unwrapped_in r p) NoSuchInstance
+IsUnwrapRefusal r p NoBase = IsShutIn r p set_error.NoBase
+IsUnwrapRefusal r p Gap = IsShutIn r p set_error.Gap
+IsUnwrapRefusal r p Memory = IsShutIn r p set_error.Memory
+IsUnwrapRefusal r p Full = ⊥
+IsUnwrapRefusal r p (Clash id) = ⊥
+IsUnwrapRefusal r p BallotsSpent = ⊥
+
+-- and else as the message that it is
+abbrev pub IsParcelRefusal : ReplicaState → Parcel → ReplicaError → Type 0
+IsParcelRefusal r p e =
+    IsUnwrapRefusal r p e ⊎ (UnwrapsIn r p × IsReceiptRefusal r (unwrapped_in r p) e)
+
+-- ## What is known of a told set
+
+-- the base over which a message's told set is wrapped is there
+abbrev pub HasToldBase : (over : Histories) → (believed : Counts) → code_body.Body → Type 0
+HasToldBase over believed (body.Offer d) = Unit {0}
+HasToldBase over believed body.Yes = Unit {0}
+HasToldBase over believed (body.No d) = Unit {0}
+HasToldBase over believed (body.Tell told) = HasCounts over (told_base believed told)
+
+-- of a told set and what is there no id has two updates
+abbrev pub IsOneTold : (over : Histories) → code_body.Body → Type 0
+IsOneTold over (body.Offer d) = Unit {0}
+IsOneTold over body.Yes = Unit {0}
+IsOneTold over (body.No d) = Unit {0}
+IsOneTold over (body.Tell told) = IsCompatible over told

@@ -126,12 +126,16 @@ IsToldWithin view b Yes = Unit {0}
 IsToldWithin view b (No s) = Unit {0}
 IsToldWithin view b (Tell s) = within view b ≡ within s b
 
--- the same of a message as it comes
+-- the same of a body as it comes
 abbrev pub IsTellWithin : (view : Histories) → Counts → code_body.Body → Type 0
 IsTellWithin view b (body.Offer d) = Unit {0}
 IsTellWithin view b body.Yes = Unit {0}
 IsTellWithin view b (body.No d) = Unit {0}
 IsTellWithin view b (body.Tell told) = within view b ≡ within told b
+
+-- and of a message of instance 0, which the view is of
+abbrev pub IsSeenWithin : ReplicaState → Counts → code.Message → Type 0
+IsSeenWithin r b m = m.instance ≡ 0 → IsTellWithin r.view b m.body
 
 -- ## What it is where it came from
 

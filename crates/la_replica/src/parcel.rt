@@ -1,105 +1,120 @@
-ghost use Rattle.std.specs.Prelude.{◌≡◌, IfOk, IfErr};
-ghost use Rattle.la_replica.specs.Parcels.{opened_at, OpensAt, IsShutAt};
-ghost use Rattle.la_replica.specs.Parcels.{opened_body, OpensBody, IsShutBody};
-ghost use Rattle.la_replica.specs.Parcels.{unwrapped, unwrapped_body, UnwrapsBody, IsWrongBody};
-ghost use Rattle.la_replica.specs.Parcels.{told_base};
+ghost use Rattle.std.specs.Prelude.{◌≡◌, IsOk, IfOk, IfErr};
+ghost use Rattle.la_replica.specs.Parcels.{wrapped, wrapped_body, IsTellWithinLimit, TellsNothing};
+ghost use Rattle.la_replica.specs.Parcels.{unwrapped, unwrapped_body, Unwraps, IsShut, base_of_told};
 
-use crate::instance::Instance;
 use crate::{Body, Message};
 use la_set::{Counts, Delta, SetError, UpdateSet};
+use std::alloc::AllocError;
 
-/// What a parcel says: as [`Body`], but that of a told set too it says what its receiver is not believed
+/// What a parcel says: as a [`Body`], but of a told set only what its receiver's view is not believed
 /// to have.
 #[derive(Drop)]
 pub enum Content {
+    /// An offer, over its own base, as in [`Body::Offer`].
     Offer(Delta),
+    /// An acknowledgement, as in [`Body::Yes`].
     Yes,
+    /// A refusal, over its own base, as in [`Body::No`].
     No(Delta),
-    /// Told over what the receiver has accepted.
+    /// A learnt set, over what its receiver's view is believed to have. The belief may be wrong: where
+    /// the view has less, the parcel is refused.
     Tell(Delta),
 }
 
-/// A message as a link hands it on: its set over what the link believes that the receiver has.
+/// A message as a link hands it on, so that a told set costs what is new in it. A link may know of each
+/// peer what its view had some time ago: views only grow, so it has that for as long as it keeps its
+/// state.
 #[derive(Drop)]
 pub struct Parcel {
+    /// The instance that it belongs to, from 0.
     pub instance: u8,
+    /// The replica that sends it.
     pub from: u8,
+    /// The replica that it goes to.
     pub to: u8,
+    /// The number of the ballot that is offered, that a reply answers, or that was learnt.
     pub ballot: u32,
+    /// What it says.
     pub content: Content,
 }
 
-impl Instance {
-    // A parcel as a message to this instance.
-    pub fn opened(&self, parcel: Parcel) -> Result<Message, SetError>
-        ensures ok { IfOk result (λ message. message ≡ opened_at self.now parcel) }
-        ensures stands { IfOk result (λ _. OpensAt self.now parcel) }
-        ensures error { IfErr result (IsShutAt self.now parcel) }
-    {
-        let Parcel {
-            instance,
-            from,
-            to,
-            ballot,
-            content,
-        } = parcel;
-        let body = self.opened_body(content)?;
-        Ok(Message {
-            instance,
-            from,
-            to,
-            ballot,
-            body,
-        })
-    }
-
-    // What it says.
-    fn opened_body(&self, content: Content) -> Result<Body, SetError>
-        ensures ok { IfOk result (λ body. body ≡ opened_body self.now content) }
-        ensures stands { IfOk result (λ _. OpensBody self.now content) }
-        ensures error { IfErr result (IsShutBody self.now content) }
-    {
-        match content {
-            Content::Offer(delta) => Ok(Body::Offer(delta)),
-            Content::Yes => Ok(Body::Yes),
-            Content::No(delta) => Ok(Body::No(delta)),
-            Content::Tell(delta) => Ok(Body::Tell(self.acceptor.accepted().with(&delta)?)),
-        }
-    }
-}
-
 impl Content {
-    // The base of a told set; of what tells none no counts at all.
-    pub(crate) fn told(&self) -> Counts
-        ensures { result ≡ told_base self.now }
+    // What a message says, a told set over as much of these counts as it has.
+    fn of(body: Body, believed: Counts) -> Result<Content, AllocError>
+        ensures ok { IfOk result (λ content. content ≡ wrapped_body believed body) }
+        ensures limit { IfOk result (λ _. IsTellWithinLimit body) }
+        ensures free { TellsNothing (wrapped_body believed body) → IsOk result }
     {
-        match self {
-            Content::Tell(delta) => delta.base(),
-            Content::Offer(_) | Content::Yes | Content::No(_) => Counts::zero(),
+        match body {
+            Body::Offer(delta) => Ok(Content::Offer(delta)),
+            Body::Yes => Ok(Content::Yes),
+            Body::No(delta) => Ok(Content::No(delta)),
+            Body::Tell(told) => Ok(Content::Tell(told.over(believed.min(told.counts()))?)),
         }
     }
 
-    // What it says, a told set rebuilt over the view.
-    fn over(self, view: &UpdateSet) -> Result<Body, SetError>
-        ensures ok { IfOk result (λ body. body ≡ unwrapped_body view.now self) }
-        ensures stands { IfOk result (λ _. UnwrapsBody view.now self) }
-        ensures error { IfErr result (IsWrongBody view.now self) }
+    // What it says as a message does, a told set rebuilt over this one.
+    fn over(self, set: &UpdateSet) -> Result<Body, SetError>
+        ensures ok { IfOk result (λ body. body ≡ unwrapped_body set.now self) }
+        ensures stands { IfOk result (λ _. Unwraps set.now self) }
+        ensures error { IfErr result (IsShut set.now self) }
     {
         match self {
             Content::Offer(delta) => Ok(Body::Offer(delta)),
             Content::Yes => Ok(Body::Yes),
             Content::No(delta) => Ok(Body::No(delta)),
-            Content::Tell(delta) => Ok(Body::Tell(view.with(&delta)?)),
+            Content::Tell(delta) => Ok(Body::Tell(set.with(&delta)?)),
         }
     }
 }
 
 impl Parcel {
-    // The message that it is over a view.
-    pub(crate) fn over(self, view: &UpdateSet) -> Result<Message, SetError>
-        ensures ok { IfOk result (λ message. message ≡ unwrapped view.now self) }
-        ensures stands { IfOk result (λ _. UnwrapsBody view.now self.content) }
-        ensures error { IfErr result (IsWrongBody view.now self.content) }
+    /// A message as a parcel, where its receiver's view is believed to have these counts: a told set
+    /// goes over the smaller, of each replica, of these and of what it has itself; what else it says
+    /// goes as it is.
+    ///
+    /// It is refused for want of memory alone, and then the message is dropped; what tells nothing takes
+    /// none. The cost is constant: a told set is shared.
+    pub fn new(message: Message, believed: Counts) -> Result<Parcel, AllocError>
+        ensures ok { IfOk result (λ parcel. parcel ≡ wrapped believed message) }
+        ensures limit { IfOk result (λ _. IsTellWithinLimit message.body) }
+        ensures free { TellsNothing (wrapped_body believed message.body) → IsOk result }
+    {
+        let Message {
+            instance,
+            from,
+            to,
+            ballot,
+            body,
+        } = message;
+        let content = Content::of(body, believed)?;
+        Ok(Parcel {
+            instance,
+            from,
+            to,
+            ballot,
+            content,
+        })
+    }
+
+    /// The base of a told set; of what tells none no counts at all.
+    pub fn base_of_told(&self) -> Counts
+        ensures { result ≡ base_of_told self.now.content }
+    {
+        match &self.content {
+            Content::Tell(delta) => delta.base(),
+            Content::Offer(_) | Content::Yes | Content::No(_) => Counts::zero(),
+        }
+    }
+
+    /// The parcel as a message, where its receiver has this set: a told set is rebuilt over it, by
+    /// [`UpdateSet::with`]; what else it says is handed on. In this order, of a told set alone: `NoBase`
+    /// where less is there than its base; `Gap` where an update does not come next; `Memory`. After each
+    /// the parcel is dropped. The cost is that of what a told set has beyond its base.
+    pub fn over(self, set: &UpdateSet) -> Result<Message, SetError>
+        ensures ok { IfOk result (λ message. message ≡ unwrapped set.now self) }
+        ensures stands { IfOk result (λ _. Unwraps set.now self.content) }
+        ensures error { IfErr result (IsShut set.now self.content) }
     {
         let Parcel {
             instance,
@@ -108,7 +123,7 @@ impl Parcel {
             ballot,
             content,
         } = self;
-        let body = content.over(view)?;
+        let body = content.over(set)?;
         Ok(Message {
             instance,
             from,

@@ -1,6 +1,7 @@
 ghost use Rattle.std.specs.Prelude.{◌≡◌, ◌≢◌, ◌+◌, ◌*◌, ◌<◌, ◌≤◌, length, slice_get, ℕ};
 ghost use Rattle.std.specs.Prelude.{[], true, Some, None, IsOk, IfOk, IfErr, IfSome, OnOk, OnErr};
 ghost use Rattle.std.specs.Option.{option_copied};
+ghost use Rattle.la_set.specs.Histories.{empty};
 ghost use Rattle.la_set.specs.Counts.{within};
 ghost use Rattle.la_set.specs.Inclusion.{IsSubset};
 ghost use Rattle.la_proposer.specs.declared.proposer.TheConstants.{MAX_CAP};
@@ -9,7 +10,7 @@ ghost use Rattle.la_proposer.specs.ProposerState.{op_on};
 ghost use Rattle.la_replica.specs.Whole.{lent_message, lent_body, whole_out, whole_mail};
 ghost use Rattle.la_replica.specs.Received.{received_in, rebuilt_in, StandsIn, AgreesIn};
 ghost use Rattle.la_replica.specs.Received.{made_at, IsLentIn, IsNotToldIn, IsKnownWithin};
-ghost use Rattle.la_replica.specs.Received.{IsToldWithin, IsTellWithin};
+ghost use Rattle.la_replica.specs.Received.{IsToldWithin, IsSeenWithin};
 ghost use Rattle.la_replica.specs.Bases.{offered_by, AreToldIn, AreToldFrom, AreToldAfter};
 ghost use Rattle.la_replica.specs.Bases.{AreToldThere};
 ghost use Rattle.la_replica.specs.ReplicaState.{ReplicaState, start, submits, receives, sender_of};
@@ -23,8 +24,8 @@ ghost use Rattle.la_replica.specs.Memory.{IsFree};
 ghost use Rattle.la_replica.specs.Changes.{IsPreparedFrom, after_commit, led, AreSameIn, LeadsThere};
 ghost use Rattle.la_replica.specs.Changes.{IsVerdictOn, candidate, is_taken};
 ghost use Rattle.la_replica.specs.Again.{again};
-ghost use Rattle.la_replica.specs.Parcels.{IsOpened, OpensIn, IsOpenRefusal};
-ghost use Rattle.la_replica.specs.Parcels.{unwrapped, UnwrapsBody};
+ghost use Rattle.la_replica.specs.Parcels.{view_of, unwrapped_in, UnwrapsIn, base_of_told, TellsNothing};
+ghost use Rattle.la_replica.specs.Parcels.{IsUnwrapRefusal, IsParcelRefusal};
 
 use crate::change::agreed_next;
 use crate::instance::Instance;
@@ -214,8 +215,8 @@ impl Replica {
     ///
     /// It is [`Replica::prepare`] and then [`Replica::commit`]. The cost is that of what the message
     /// carries: an offer and a refusal are compared with what is here beyond their base, and a told
-    /// set with the view. A set that is learnt is compared with the view beyond the last learnt one
-    /// that was taken.
+    /// set with the view, unless by its counts it has no more. A set that is learnt is compared with
+    /// the view beyond the last learnt one that was taken.
     pub fn receive(&mut self, message: &Message) -> Result<Out, ReplicaError>
         ensures step { IfOk result (λ out. receives self.old (received_in self.old message.now)
             ≡ Some (whole_out out, self.new)) }
@@ -260,25 +261,15 @@ impl Replica {
         self.prepare_beyond(message, Counts::zero())
     }
 
-    /// Prepares to receive a parcel, whose told set is rebuilt over the view: so that is compared with
-    /// the view beyond its base alone.
-    #[tactic(auto, using(crate::proofs::lemmas::Parcelling::unwrapped_within))]
-    pub fn prepare_parcel(&self, parcel: Parcel) -> Result<(Out, Change), ReplicaError>
-        ensures step { IfOk result (λ prepared.
-            receives self.now (received_in self.now (unwrapped self.now.view parcel))
-            ≡ led self.now (whole_out prepared.0) prepared.1) }
-        ensures from { IfOk result (λ prepared. IsPreparedFrom self.now prepared.1) }
-        ensures unwraps { IfOk result (λ _. UnwrapsBody self.now.view parcel.content) }
-        ensures stands { IfOk result (λ _. StandsIn self.now (unwrapped self.now.view parcel)) }
-    {
-        let told = parcel.content.told();
-        let message = parcel.over(&self.view)?;
-        self.prepare_beyond(&message, told)
-    }
-
-    // The same, where within these counts a told set is known to have what the view has.
-    fn prepare_beyond(&self, message: &Message, told: Counts) -> Result<(Out, Change), ReplicaError>
-        requires { IsTellWithin self.now.view told message.now.body }
+    /// The same, where it is known within which counts a told set of instance 0 has what the view has:
+    /// it is compared with the view beyond these alone, and where it has no more than the view by its
+    /// counts, not at all. Which counts are known changes no answer.
+    pub fn prepare_beyond(
+        &self,
+        message: &Message,
+        known: Counts,
+    ) -> Result<(Out, Change), ReplicaError>
+        requires { IsSeenWithin self.now known message.now }
         ensures step { IfOk result (λ prepared. receives self.now (received_in self.now message.now)
             ≡ led self.now (whole_out prepared.0) prepared.1) }
         ensures from { IfOk result (λ prepared. IsPreparedFrom self.now prepared.1) }
@@ -298,7 +289,7 @@ impl Replica {
         let set = self.rebuilt(message)?;
         let whole = Whole::of(message, set.as_ref());
         let verdict = self.admit_message(whole, message.body.base())?;
-        let known = self.known(verdict, whole, told);
+        let known = self.known(verdict, whole, known);
         let taken = is_taken(&self.view, self.candidate(verdict, whole), known);
         Ok(self.prepare_as(whole, verdict, taken)?)
     }
@@ -375,18 +366,98 @@ impl Replica {
         Ok(mail)
     }
 
-    /// A parcel as a message: a told set is rebuilt over what is accepted here in its instance; an offer
-    /// and a refusal are handed on. Of its own only a told set is copied, at the cost of what it has over
-    /// its base. In this order: `NoSuchInstance`; of a told set `NoBase`, `Gap`, `Memory`.
-    pub fn opened(&self, parcel: Parcel) -> Result<Message, ReplicaError>
-        ensures ok { IfOk result (IsOpened self.now parcel) }
-        ensures stands { IfOk result (λ _. OpensIn self.now parcel) }
-        ensures error { IfErr result (IsOpenRefusal self.now parcel) }
+    /// A parcel as a message to this replica: a told set of instance 0 is rebuilt over the view, one of
+    /// another instance over nothing. Within its base a told set then has what the view has.
+    ///
+    /// In this order: `NoSuchReplica` where the parcel is from out of the group, or to another replica;
+    /// `NoSuchInstance`; and of a told set as [`Parcel::over`] has it, at its cost. After each the
+    /// parcel is dropped. What tells nothing takes no memory.
+    pub fn unwrapped(&self, parcel: Parcel) -> Result<Message, ReplicaError>
+        ensures ok { IfOk result (λ message. message ≡ unwrapped_in self.now parcel) }
+        ensures stands { IfOk result (λ _. UnwrapsIn self.now parcel) }
+        ensures seen { IfOk result (IsSeenWithin self.now (base_of_told parcel.content)) }
+        ensures error { IfErr result (IsUnwrapRefusal self.now parcel) }
     {
-        match self.instances.get(parcel.instance as usize) {
-            Some(at) => Ok(at.opened(parcel)?),
-            None => Err(ReplicaError::NoSuchInstance),
+        if parcel.from as usize >= self.votes.len() || parcel.to != self.own {
+            return Err(ReplicaError::NoSuchReplica);
         }
+        if parcel.instance as usize >= self.instances.len() {
+            return Err(ReplicaError::NoSuchInstance);
+        }
+        let nothing = UpdateSet::new(*self.instances.allocator());
+        let seen = self.view_of(parcel.instance, &nothing);
+        match parcel.over(seen) {
+            Ok(message) => Ok(message),
+            Err(refused) => Err(ReplicaError::from(refused)),
+        }
+    }
+
+    // What the view has of an instance: nothing, where that is not 0.
+    fn view_of<'a>(&'a self, instance: u8, nothing: &'a UpdateSet) -> &'a UpdateSet
+        requires { nothing.now ≡ empty }
+        ensures { result.now ≡ view_of self.now instance }
+    {
+        if instance == 0 { &self.view } else { nothing }
+    }
+
+    /// Receives a parcel, honest or not: as [`Replica::receive`] does the message that it is here
+    /// ([`Replica::unwrapped`]). What its sender believed of the view changes no answer, but that
+    /// a told set over a base that the view has not is refused with `NoBase`.
+    ///
+    /// In the order of [`Replica::unwrapped`], and then of [`Replica::receive`]. After each the replica
+    /// is as before, and the parcel is dropped. Where nothing is told, no memory is taken by the same
+    /// messages as there.
+    ///
+    /// The cost is that of what the parcel carries: a told set is compared with the view beyond its base
+    /// alone, and one that has no more than the view not at all.
+    pub fn receive_parcel(&mut self, parcel: Parcel) -> Result<Out, ReplicaError>
+        ensures step { IfOk result (λ out.
+            receives self.old (received_in self.old (unwrapped_in self.old parcel))
+            ≡ Some (whole_out out, self.new)) }
+        ensures unwraps { IfOk result (λ _. UnwrapsIn self.old parcel) }
+        ensures stands { IfOk result (λ _. StandsIn self.old (unwrapped_in self.old parcel)) }
+        ensures fits { IfOk result (λ _.
+            IsReceivable self.old (received_in self.old (unwrapped_in self.old parcel))) }
+        ensures spares { IfOk result (λ _.
+            ReceivingSpares self.old (received_in self.old (unwrapped_in self.old parcel))) }
+        ensures told { IfOk result (λ out. AreToldFrom self.new parcel.instance
+            (offered_by (received_in self.old (unwrapped_in self.old parcel))) out.mail) }
+        ensures free { TellsNothing parcel.content → IsNotToldIn self.old (unwrapped_in self.old parcel)
+            → IsFree self.old (received_in self.old (unwrapped_in self.old parcel)) → IsOk result }
+        ensures error { IfErr result (IsParcelRefusal self.old parcel) }
+        ensures err { OnErr result (self.new ≡ self.old) }
+        ensures grows { IsSubset self.old.view self.new.view }
+    {
+        let (out, change) = self.prepare_parcel(parcel)?;
+        self.commit(change);
+        Ok(out)
+    }
+
+    /// Prepares to receive a parcel, with the errors of [`Replica::receive_parcel`] in its order, as
+    /// [`Replica::prepare`] does a message.
+    #[tactic(auto, using(crate::proofs::lemmas::Parcelling::unwraps_free))]
+    pub fn prepare_parcel(&self, parcel: Parcel) -> Result<(Out, Change), ReplicaError>
+        ensures step { IfOk result (λ prepared.
+            receives self.now (received_in self.now (unwrapped_in self.now parcel))
+            ≡ led self.now (whole_out prepared.0) prepared.1) }
+        ensures from { IfOk result (λ prepared. IsPreparedFrom self.now prepared.1) }
+        ensures told { IfOk result (λ prepared. AreToldAfter self.now prepared.1
+            (offered_by (received_in self.now (unwrapped_in self.now parcel)))
+            prepared.0.mail) }
+        ensures instance { IfOk result (λ prepared. prepared.1.instance ≡ parcel.instance) }
+        ensures unwraps { IfOk result (λ _. UnwrapsIn self.now parcel) }
+        ensures stands { IfOk result (λ _. StandsIn self.now (unwrapped_in self.now parcel)) }
+        ensures fits { IfOk result (λ _.
+            IsReceivable self.now (received_in self.now (unwrapped_in self.now parcel))) }
+        ensures spares { IfOk result (λ _.
+            ReceivingSpares self.now (received_in self.now (unwrapped_in self.now parcel))) }
+        ensures free { TellsNothing parcel.content → IsNotToldIn self.now (unwrapped_in self.now parcel)
+            → IsFree self.now (received_in self.now (unwrapped_in self.now parcel)) → IsOk result }
+        ensures error { IfErr result (IsParcelRefusal self.now parcel) }
+    {
+        let known = parcel.base_of_told();
+        let message = self.unwrapped(parcel)?;
+        self.prepare_beyond(&message, known)
     }
 
     // What the delta of a message to this replica stands for, where it is looked at.
@@ -488,7 +559,8 @@ impl Replica {
     // that of the ballot.
     fn known(&self, verdict: Option<Verdict>, message: Whole<'_>, told: Counts) -> Counts
         requires there { message.instance < length self.now.instances }
-        requires told { IsToldWithin self.now.view told (lent_body message.body) }
+        requires told { message.instance ≡ 0
+            → IsToldWithin self.now.view told (lent_body message.body) }
         ensures { InInstance self.now message.entry.instance (λ x.
             IfSome (candidate x verdict (lent_message message.entry)) (λ s.
             within self.now.view result ≡ within s result)) }

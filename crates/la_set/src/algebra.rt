@@ -75,16 +75,17 @@ impl UpdateSet {
         other.has_no_more(self)
     }
 
-    /// Whether this set contains the other and has more, at the cost of
-    /// [`UpdateSet::contains_all`].
+    /// Whether this set contains the other and has more: at constant cost where it has no more of any replica,
+    /// and else at that of [`UpdateSet::contains_all`].
     pub fn is_larger(&self, other: &UpdateSet) -> bool
         ensures { result ≡ is_larger other.now self.now }
     {
         self.is_larger_beyond(other, Counts::zero())
     }
 
-    /// The same where the two are known to have the same within these counts: only what both have
-    /// beyond them is compared, and the cost is that.
+    /// The same where the two are known to have the same within these counts. The counts of the two are looked
+    /// at first: where this set has no more of any replica, the answer is no, at constant cost. Else what both
+    /// have beyond these counts is compared, and the cost is that.
     pub fn is_larger_beyond(&self, other: &UpdateSet, base: Counts) -> bool
         requires { within self.now base ≡ within other.now base }
         ensures { result ≡ is_larger other.now self.now }

@@ -48,10 +48,10 @@ module _ (g : Group) (events : Past) (legal : IsLegal g events) (small : g.cap �
   was_sent : IsIn (whole_of m) (sent (replicas g) t)
   was_sent = IsIn_get (sent (replicas g) t) k (whole_of m) told_sent
 
-  known : (b : code_body.Body) → m.body ≡ b → IsSubset (set_in (whole_body b)) (own_bound t m.instance)
+  pub known : (b : code_body.Body) → m.body ≡ b → IsSubset (set_in (whole_body b)) (own_bound t m.instance)
   known b is = subst (λ c. IsSubset (set_in (whole_body c)) (own_bound t m.instance)) is (message_known g t (holds g events) (whole_of m) was_sent)
 
-  within_limit : (s : Histories) → IsSubset s (own_bound t m.instance) → IsWithinLimit s
+  pub within_limit : (s : Histories) → IsSubset s (own_bound t m.instance) → IsWithinLimit s
   within_limit s sub q =
       let counted : count (own_bound t m.instance) q ≤ count (round t m.instance q).updates q = omega (arith, ap length (history-own_bound t m.instance q)) in
       omega (arith, subset-count s (own_bound t m.instance) sub q, counted, own_count g t (holds g events) m.instance q, submitted_most g events legal m.instance q, cap_small g m.instance small)

@@ -78,6 +78,6 @@ pub mod Returning
 pub mod Nodes
 pub mod LiveGroups
 pub mod RebasedReceipts
-pub mod RebasedGroups
+pub mod LiveParcels
 mod Repeats
 mod Kept

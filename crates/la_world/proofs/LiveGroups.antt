@@ -20,10 +20,13 @@ use Rattle.la_replica.specs.declared.instance.Instance.{Instance}
 use Rattle.la_replica.specs.declared.message.Message as code
 use Rattle.la_set.specs.declared.counts.Counts.{Counts}
 use Rattle.la_replica.specs.Whole.{Message, Out, whole_of, whole_out}
-use Rattle.la_replica.specs.Received.{received_in, IsCarriedIn}
+use Rattle.la_replica.specs.Received.{received_in, StandsIn, IsCarriedIn}
+use Rattle.la_replica.specs.Alike.{AreAlike}
+use Rattle.la_replica.specs.Rebased.{rebased_message, MayBeOver, IsOneIn}
 use Rattle.la_replica.specs.Bases.{offered_by, AreToldIn, AreToldFrom}
 use Rattle.la_replica.proofs.lemmas.Carrying.{carried_received, carried_offers}
-use Rattle.la_replica.proofs.lemmas.Alike.{alike_refl, alike_trans, alike_received}
+use Rattle.la_replica.proofs.lemmas.Alike.{alike_trans, alike_received}
+use Rattle.la_replica.proofs.lemmas.Rebasing.{rebased_whole, over_one, alike_stands}
 use Rattle.la_replica.specs.Stored.{IsMade}
 use Rattle.la_world.specs.Told.{offered_to, told_at, told}
 use Rattle.la_world.proofs.Tellings.{told_are_made}
@@ -35,6 +38,7 @@ use Rattle.la_replica.specs.Refusals.{HasRoom}
 use Rattle.la_replica.specs.ReplicaState as acting
 use Rattle.la_replica.specs.ReplicaState.{ReplicaState, submitted_in}
 use Rattle.la_world.specs.declared.config.Config.{Config}
+use Rattle.la_world.specs.declared.done.Done.{Done}
 use Rattle.la_world.specs.declared.step.Opening.{Opening}
 use Rattle.la_world.specs.Groups.{Group, replicas, instances}
 use Rattle.la_world.specs.Events.{Event, Past, Submit, Deliver, Decide}
@@ -54,8 +58,9 @@ use Rattle.la_world.specs.Nodes.{NodeState}
 use Rattle.la_world.specs.Calls.{views_of, decisions_at}
 use Rattle.la_world.specs.Laws.{IsAdoptCommit}
 use Rattle.la_world.specs.Promises.{KeepsPromises}
-use Rattle.la_world.specs.LiveGroups.{LearntSet, LiveGroup, Call, Submitted, Proposed, Received, Looked, silence, submission, makes, MayAccept, learnt_from, learnt_by_call, IsStep, IsStart, Reaches, IsReached, IsAmong, told_by_calls, replicas_of, event_of, events_of, live_group_of, learnt_set_of, StandsForEvents, decisions_of}
+use Rattle.la_world.specs.LiveGroups.{LearntSet, LiveGroup, Call, Submitted, Proposed, Received, Looked, silence, submission, makes, MayAccept, learnt_from, learnt_by_call, IsStep, IsStart, Reaches, IsReached, told_by_calls, replicas_of, event_of, events_of, live_group_of, learnt_set_of, StandsForEvents, decisions_of}
 use Rattle.la_world.specs.LiveGroups.{LiveGroupsStandForEvents, LiveGroupsKeepAll, LiveLearntAreComparable, LiveViewsAreComparable, LiveNodesAreOneHistory, NewNodesAreLive, NetworksMayLose, SubmissionsKeepLive, ProposalsKeepLive, ReceiptsKeepLive, LooksKeepLive}
+use Rattle.la_world.specs.Rebased.{TellsAs, IsRetold, AreRetold}
 use Rattle.la_world.specs.Kept as kept
 use Rattle.la_world.specs.Unheard.{UnheardCallsKeepLive}
 use Rattle.la_world.proofs.Lists.{AllIn, AllIn_at, IsIn_get, contains_IsIn, IsIn_contains, IsIn_mapped, IsIn_place, get_mapped, made_at}
@@ -74,6 +79,7 @@ use Rattle.la_world.proofs.Worlds.{set_same, views_made}
 use Rattle.la_world.proofs.Returned.{decisions_made}
 use Rattle.la_world.proofs.Agreement.{adopt_commit}
 use Rattle.la_world.proofs.Promised.{trace_keeps}
+use Rattle.la_world.proofs.RebasedReceipts.{sent_one}
 
 pub start_stands : (c : Config) (group : LiveGroup) → IsStart c group → StandsForEvents c group []
 unfolding trace learnt
@@ -344,6 +350,14 @@ new_live c nodes config are = ∣ record {
   sent = λ m has. absurd (Contains-none m has);
 } ∣₁
 
+pub alike_tells : (k m n : code.Message) → AreAlike k m → TellsAs m n → TellsAs k n
+alike_tells k m n h (inl same) = inl (alike_trans k m n h same)
+alike_tells k m n h (inr over) = inr (over.0, over.1, alike_trans k m (rebased_message over.0 n) h over.2)
+
+pub tells_to : (m n : code.Message) → TellsAs m n → m.to ≡ n.to
+tells_to m n (inl alike) = alike.to
+tells_to m n (inr over) = over.2.to
+
 pub loses_live : NetworksMayLose
 loses_live nodes network left live within = ∥∥₁_map live (λ is. record {
   config = is.config;
@@ -351,28 +365,29 @@ loses_live nodes network left live within = ∥∥₁_map live (λ is. record {
   group = is.group;
   reached = is.reached;
   nodes_are = is.nodes_are;
-  sent = λ m has. let near = within m has in let far = is.sent near.0 near.1 in (far.0, far.1, alike_trans m near.0 far.0 near.2 far.2);
+  sent = λ m has. let near = within m has in let far = is.sent near.0 near.1 in (far.0, far.1, alike_tells m near.0 far.0 near.2 far.2);
 })
 
 -- what was told before a call was told after it
-still_among : (c : Config) (r : ℕ) (call : Call) (calls : List (ℕ × Call)) (m : code.Message) → IsAmong m (told_by_calls c calls) → IsAmong m (told_by_calls c ((r, call) ∷ calls))
+still_told : (c : Config) (r : ℕ) (call : Call) (calls : List (ℕ × Call)) (m : code.Message) → IsRetold m (told_by_calls c calls) → IsRetold m (told_by_calls c ((r, call) ∷ calls))
 unfolding trace told
-still_among c r (Submitted d) calls m a = (a.0, Contains-append_left (told_by_calls c calls) _ a.0 a.1, a.2)
-still_among c r (Proposed k value) calls m a = (a.0, Contains-append_left (told_by_calls c calls) _ a.0 a.1, a.2)
-still_among c r (Received number) calls m a = (a.0, Contains-append_left (told_by_calls c calls) _ a.0 a.1, a.2)
-still_among c r Looked calls m a = a
+still_told c r (Submitted d) calls m a = (a.0, Contains-append_left (told_by_calls c calls) _ a.0 a.1, a.2)
+still_told c r (Proposed k value) calls m a = (a.0, Contains-append_left (told_by_calls c calls) _ a.0 a.1, a.2)
+still_told c r (Received number) calls m a = (a.0, Contains-append_left (told_by_calls c calls) _ a.0 a.1, a.2)
+still_told c r Looked calls m a = a
 
--- and so is what it tells
-newly_among : (c : Config) (events : Past) (e : Event) (mail : List code.Message) → let g = live_group_of c in let t = trace g events in mail ≡ told_at (replicas g) (entry g t e) t
-    → (m : code.Message) → Contains mail m → IsAmong m (told (replicas g) (trace g (e ∷ events)))
+-- and so is what it tells, over whatever bases
+newly_told : (c : Config) (events : Past) (e : Event) (sends mail : List code.Message) → let g = live_group_of c in let t = trace g events in sends ≡ told_at (replicas g) (entry g t e) t
+    → AreRetold mail sends → AreRetold mail (told (replicas g) (trace g (e ∷ events)))
 unfolding trace told
-newly_among c events e mail is m has =
+newly_told c events e sends mail is retold m has =
     let g = live_group_of c in let t = trace g events in
-    (m, Contains-append_right (told (replicas g) t) (told_at (replicas g) (entry g t e) t) m (subst (λ ms. Contains ms m) is has), alike_refl m)
+    let a = retold m has in
+    (a.0, Contains-append_right (told (replicas g) t) (told_at (replicas g) (entry g t e) t) a.0 (subst (λ ms. Contains ms a.0) is a.1), a.2)
 
 -- one call more, by which this is sent
 module _ (nodes : List NodeState) (network mail : List code.Message) (r : ℕ) (node made : NodeState) (at : slice_get nodes r ≡ Some node) where
-  reached_on : (is : IsReached nodes network) (call : Call) (taken : Taken) → MayAccept is.group.sent r node.replica call → makes is.group.sent node.replica call ≡ Some (taken, made.replica) → ((m : code.Message) → Contains mail m → IsAmong m (told_by_calls is.config ((r, call) ∷ is.calls))) → IsReached (slice_set nodes r made) (network ++ mail)
+  reached_on : (is : IsReached nodes network) (call : Call) (taken : Taken) → MayAccept is.group.sent r node.replica call → makes is.group.sent node.replica call ≡ Some (taken, made.replica) → AreRetold mail (told_by_calls is.config ((r, call) ∷ is.calls)) → IsReached (slice_set nodes r made) (network ++ mail)
   unfolding Reaches
   reached_on is call taken accepts does fresh =
       let before = is.group in
@@ -398,29 +413,29 @@ module _ (nodes : List NodeState) (network mail : List code.Message) (r : ℕ) (
         );
         nodes_are = ap (λ ns. slice_set ns r made) is.nodes_are;
         sent = λ m has. elim (Contains-append_cases network mail m has) [
-          | inl was ↦ still_among is.config r call is.calls m (is.sent m was)
+          | inl was ↦ still_told is.config r call is.calls m (is.sent m was)
           | inr new ↦ fresh m new
         ];
       }
 
 pub submissions_live : SubmissionsKeepLive
-submissions_live nodes network r node made d out live at room step told = ∥∥₁_map live (λ is.
+submissions_live nodes network mail r node made d out live at room step told retold = ∥∥₁_map live (λ is.
     let stands = groups_stand is.config is.calls is.group is.reached in
     let found = ap (λ ns. slice_get ns r) is.nodes_are ∙ at in
-    reached_on nodes network out.mail r node made at is (Submitted d) (without_vote (whole_out out)) room (ap submission step)
-    (newly_among is.config (events_of is.calls) (Submit r d) out.mail (update_told is.config is.group (events_of is.calls) stands r node found d made out.mail (without_vote (whole_out out)) room (ap submission step) refl told)))
+    reached_on nodes network mail r node made at is (Submitted d) (without_vote (whole_out out)) room (ap submission step)
+    (newly_told is.config (events_of is.calls) (Submit r d) out.mail mail (update_told is.config is.group (events_of is.calls) stands r node found d made out.mail (without_vote (whole_out out)) room (ap submission step) refl told) retold))
 
 pub proposals_live : ProposalsKeepLive
-proposals_live nodes network r node made k value out live at first step told = ∥∥₁_map live (λ is.
+proposals_live nodes network mail r node made k value out live at first step told retold = ∥∥₁_map live (λ is.
     let stands = groups_stand is.config is.calls is.group is.reached in
     let found = ap (λ ns. slice_get ns r) is.nodes_are ∙ at in
-    reached_on nodes network out.mail r node made at is (Proposed k value) (without_vote (whole_out out)) first (ap submission step)
-    (newly_among is.config (events_of is.calls) (Decide r k value) out.mail (proposal_told is.config is.group (events_of is.calls) stands r node found k value made out.mail (without_vote (whole_out out)) first (ap submission step) refl told)))
+    reached_on nodes network mail r node made at is (Proposed k value) (without_vote (whole_out out)) first (ap submission step)
+    (newly_told is.config (events_of is.calls) (Decide r k value) out.mail mail (proposal_told is.config is.group (events_of is.calls) stands r node found k value made out.mail (without_vote (whole_out out)) first (ap submission step) refl told) retold))
 
 -- a message on the network is received as the one that was sent
 module _ (c : Config) (group : LiveGroup) (events : Past) (stands : StandsForEvents c group events) (r : ℕ) (node : NodeState) (found : slice_get group.nodes r ≡ Some node) (place : ℕ) (n : code.Message)
     (at : slice_get (told (replicas (live_group_of c)) (trace (live_group_of c) events)) place ≡ Some n) (to : n.to ≡ r) where
-  pub sent_there : slice_get group.sent place ≡ Some (whole_of n)
+  sent_there : slice_get group.sent place ≡ Some (whole_of n)
   sent_there = ap (λ ms. slice_get ms place) stands.led.sent ∙ told_sent (live_group_of c) events stands.led.legal stands.config.group.cap_most place n at
 
   n_carried : IsCarriedIn node.replica n
@@ -431,29 +446,66 @@ module _ (c : Config) (group : LiveGroup) (events : Past) (stands : StandsForEve
       subst (λ q. IsCarriedIn q n) (ap (replica_state g t) to ∙ sym (is_state c group events stands r node found))
       (deliverable_carried (replica_state g t n.to) n (AllIn_at IsMade (told (replicas g) t) n (told_are_made g events) (IsIn_get (told (replicas g) t) place n at)) (subst (λ o. IsSomeAnd o (λ x. IsDeliverableAt x n)) (sym there) deliverable))
 
-  pub takes_sent : takes node.replica (received_in node.replica n) ≡ takes node.replica (whole_of n)
+  takes_sent : takes node.replica (received_in node.replica n) ≡ takes node.replica (whole_of n)
   takes_sent =
       ap (option_and_then (λ (made : Out × ReplicaState). then_votes made (vote_due n.instance node.replica.own made.0.said)))
       (carried_received node.replica n n_carried)
 
-  pub offers_sent : offered_by (received_in node.replica n) ≡ offered_by (whole_of n)
+  offers_sent : offered_by (received_in node.replica n) ≡ offered_by (whole_of n)
   offers_sent = carried_offers node.replica n n_carried
 
-pub receipts_live : ReceiptsKeepLive
-receipts_live nodes network r node made m done live at has to step told = ∥∥₁_map live (λ is.
+  -- over another base too, where it stands
+  n_one : IsOneIn node.replica n
+  n_one =
+      let g = live_group_of c in
+      subst (λ q. IsOneIn q n) (ap (replica_state g (trace g events)) to ∙ sym (is_state c group events stands r node found))
+      (sent_one g events (few_of c [] stands.config) stands.config.group.cap_most stands.led.legal place n at)
+
+  module _ (b : Counts) (may : MayBeOver b n.body) (over : StandsIn node.replica (rebased_message b n)) where
+    over_carried : IsCarriedIn node.replica (rebased_message b n)
+    over_carried = over_one node.replica b n may n_one over
+
+    takes_over : takes node.replica (received_in node.replica (rebased_message b n)) ≡ takes node.replica (whole_of n)
+    takes_over =
+        ap (option_and_then (λ (made : Out × ReplicaState). then_votes made (vote_due n.instance node.replica.own made.0.said)))
+        (carried_received node.replica (rebased_message b n) over_carried)
+        ∙ ap (takes node.replica) (rebased_whole b n)
+
+    offers_over : offered_by (received_in node.replica (rebased_message b n)) ≡ offered_by (whole_of n)
+    offers_over = carried_offers node.replica (rebased_message b n) over_carried ∙ ap offered_by (rebased_whole b n)
+
+  takes_told : (m : code.Message) → TellsAs m n → StandsIn node.replica m → takes node.replica (received_in node.replica m) ≡ takes node.replica (whole_of n)
+  takes_told m (inl alike) over = ap (takes node.replica) (alike_received node.replica m n alike) ∙ takes_sent
+  takes_told m (inr (b, may, alike)) over =
+      ap (takes node.replica) (alike_received node.replica m (rebased_message b n) alike)
+      ∙ takes_over b may (alike_stands node.replica m (rebased_message b n) alike over)
+
+  offers_told : (m : code.Message) → TellsAs m n → StandsIn node.replica m → offered_by (received_in node.replica m) ≡ offered_by (whole_of n)
+  offers_told m (inl alike) over = ap offered_by (alike_received node.replica m n alike) ∙ offers_sent
+  offers_told m (inr (b, may, alike)) over =
+      ap offered_by (alike_received node.replica m (rebased_message b n) alike)
+      ∙ offers_over b may (alike_stands node.replica m (rebased_message b n) alike over)
+
+-- one receipt more
+pub receipt_reached : (nodes : List NodeState) (network mail : List code.Message) (r : ℕ) (node made : NodeState) (m : code.Message) (done : Done) → IsReached nodes network → slice_get nodes r ≡ Some node → Contains network m → m.to ≡ r → StandsIn node.replica m
+    → takes node.replica (received_in node.replica m) ≡ Some (whole_done done, made.replica) → AreToldIn made.replica (offered_by (received_in node.replica m)) done.mail → AreRetold mail done.mail → IsReached (slice_set nodes r made) (network ++ mail)
+receipt_reached nodes network mail r node made m done is at has to over step told retold =
     let c = is.config in let events = events_of is.calls in let group = is.group in
     let stands = groups_stand c is.calls group is.reached in
     let found = ap (λ ns. slice_get ns r) is.nodes_are ∙ at in
     let n = (is.sent m has).0 in
-    let alike = (is.sent m has).2 in
+    let tells = (is.sent m has).2 in
     let p = IsIn_place (told_by_calls c is.calls) n (contains_IsIn (told_by_calls c is.calls) n (is.sent m has).1) in
-    let n_to : n.to ≡ r = sym alike.to ∙ to in
-    let same = alike_received node.replica m n alike in
-    let does : takes node.replica (whole_of n) ≡ Some (whole_done done, made.replica) = sym (takes_sent c group events stands r node found p.0 n p.1 n_to) ∙ sym (ap (takes node.replica) same) ∙ step in
-    let offers = sym (sym (ap offered_by same)) ∙ offers_sent c group events stands r node found p.0 n p.1 n_to in
+    let n_to : n.to ≡ r = sym (tells_to m n tells) ∙ to in
+    let does : takes node.replica (whole_of n) ≡ Some (whole_done done, made.replica) = sym (takes_told c group events stands r node found p.0 n p.1 n_to m tells over) ∙ step in
+    let offers = offers_told c group events stands r node found p.0 n p.1 n_to m tells over in
     let there = sent_there c group events stands r node found p.0 n p.1 n_to in
-    reached_on nodes network done.mail r node made at is (Received p.0) (whole_done done) (subst (λ o. IsSomeAnd o (λ k. k.to ≡ r)) (sym there) n_to) (ap (option_and_then (takes node.replica)) there ∙ does)
-    (newly_among c events (Deliver p.0) done.mail (receipt_told c group events stands r node found p.0 (whole_of n) made done.mail (whole_done done) (ap (λ ms. slice_get ms p.0) (sym stands.led.sent) ∙ there) n_to does refl (subst (λ counts. AreToldIn made.replica counts done.mail) offers told))))
+    reached_on nodes network mail r node made at is (Received p.0) (whole_done done) (subst (λ o. IsSomeAnd o (λ k. k.to ≡ r)) (sym there) n_to) (ap (option_and_then (takes node.replica)) there ∙ does)
+    (newly_told c events (Deliver p.0) done.mail mail (receipt_told c group events stands r node found p.0 (whole_of n) made done.mail (whole_done done) (ap (λ ms. slice_get ms p.0) (sym stands.led.sent) ∙ there) n_to does refl (subst (λ counts. AreToldIn made.replica counts done.mail) offers told)) retold)
+
+pub receipts_live : ReceiptsKeepLive
+receipts_live nodes network mail r node made m done live at has to over step told retold =
+    ∥∥₁_map live (λ is. receipt_reached nodes network mail r node made m done is at has to over step told retold)
 
 pub looks_live : LooksKeepLive
 looks_live nodes network r node made live at same = ∥∥₁_map live (λ is. subst (IsReached (slice_set nodes r made)) (append-nil network) (reached_on nodes network [] r node made at is Looked silence tt (ap (λ (s : ReplicaState). Some (silence, s)) (sym same)) (λ m has. absurd (Contains-none m has))))
@@ -462,7 +514,7 @@ looks_live nodes network r node made live at same = ∥∥₁_map live (λ is. s
 
 -- what a call came to, where it came to this replica
 module _ {A : Type 0} where
-  pub came_to : (o : Option (A × ReplicaState)) (after : ReplicaState) → option_map (λ (made : A × ReplicaState). made.1) o ≡ Some after → (a : A) × (o ≡ Some (a, after))
+  came_to : (o : Option (A × ReplicaState)) (after : ReplicaState) → option_map (λ (made : A × ReplicaState). made.1) o ≡ Some after → (a : A) × (o ≡ Some (a, after))
   came_to None after e = absurd (none-some after e)
   came_to (Some made) after e = (made.0, ap (λ s. Some (made.0, s)) (same_Some made.1 after e))
 
@@ -478,18 +530,16 @@ unheard_live nodes network r node made (kept.Submitted d) live at room step = �
 unheard_live nodes network r node made (kept.Proposed k value) live at first step = ∥∥₁_map live (λ is.
     let came = came_to (acting.submits node.replica (first_instance k) (first_vote k value)) made.replica step in
     unheard nodes network r node made at is (Proposed k value) (without_vote came.0) first (ap submission came.1))
-unheard_live nodes network r node made (kept.Received m) live at has step = ∥∥₁_map live (λ is.
+unheard_live nodes network r node made (kept.Received m) live at (among, to, over) step = ∥∥₁_map live (λ is.
     let c = is.config in let events = events_of is.calls in let group = is.group in
     let stands = groups_stand c is.calls group is.reached in
     let found = ap (λ ns. slice_get ns r) is.nodes_are ∙ at in
-    let near = has.0 in
-    let far = is.sent near.0 near.1 in
+    let far = is.sent among.0 among.1 in
     let n = far.0 in
-    let alike = alike_trans m near.0 n near.2 far.2 in
+    let tells = alike_tells m among.0 n among.2 far.2 in
     let p = IsIn_place (told_by_calls c is.calls) n (contains_IsIn (told_by_calls c is.calls) n far.1) in
-    let n_to : n.to ≡ r = sym alike.to ∙ has.1 in
+    let n_to : n.to ≡ r = sym (tells_to m n tells) ∙ to in
     let came = came_to (takes node.replica (received_in node.replica m)) made.replica step in
-    let same = alike_received node.replica m n alike in
-    let does : takes node.replica (whole_of n) ≡ Some (came.0, made.replica) = sym (takes_sent c group events stands r node found p.0 n p.1 n_to) ∙ sym (ap (takes node.replica) same) ∙ came.1 in
+    let does : takes node.replica (whole_of n) ≡ Some (came.0, made.replica) = sym (takes_told c group events stands r node found p.0 n p.1 n_to m tells over) ∙ came.1 in
     let there = sent_there c group events stands r node found p.0 n p.1 n_to in
     unheard nodes network r node made at is (Received p.0) came.0 (subst (λ o. IsSomeAnd o (λ k. k.to ≡ r)) (sym there) n_to) (ap (option_and_then (takes node.replica)) there ∙ does))

@@ -1,2 +1,3 @@
 pub mod Playback
 pub mod Starting
+pub mod Retelling

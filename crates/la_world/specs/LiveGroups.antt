@@ -14,7 +14,7 @@ use Rattle.la_replica.specs.declared.message.Message as code
 use Rattle.la_replica.specs.declared.out.Out as code_out
 use Rattle.la_set.specs.declared.counts.Counts.{Counts}
 use Rattle.la_replica.specs.Alike.{AreAlike}
-use Rattle.la_replica.specs.Received.{received_in}
+use Rattle.la_replica.specs.Received.{received_in, StandsIn}
 use Rattle.la_replica.specs.Bases.{offered_by, AreToldIn, AreToldFrom}
 use Rattle.la_replica.specs.Whole.{Message, Out, whole_out}
 use Rattle.la_replica.specs.Steps.{learnt_in}
@@ -31,6 +31,7 @@ use Rattle.la_world.specs.Playing.{trace}
 use Rattle.la_world.specs.Learnings.{learnt}
 use Rattle.la_world.specs.StandsFor.{EventsLeadTo}
 use Rattle.la_world.specs.Following.{Taken, without_vote, takes, whole_done}
+use Rattle.la_world.specs.Rebased.{IsRetold, AreRetold}
 use Rattle.la_world.specs.Nodes.{NodeState}
 pub use Rattle.la_world.specs.Nodes.{replicas_of}
 use Rattle.la_world.specs.Calls.{replica_states_at_start, views_of, decisions_at}
@@ -156,15 +157,15 @@ told_by_calls c calls =
 abbrev pub IsAmong : code.Message → List code.Message → Type 0
 IsAmong m ms = (n : code.Message) × Contains ms n × AreAlike m n
 
--- nodes, and messages on a network: some calls led to these nodes, and sent each of the messages, if
--- not with this delta then with one that says the same. Others that they sent are lost
+-- nodes, and messages on a network: some calls led to these nodes, and sent each of the messages, be it with
+-- another delta that says the same, or over another base of its set. Others that they sent are lost
 pub record IsReached (nodes : List NodeState) (network : List code.Message) : Type 0 where
   pub config : Config
   pub calls : List (ℕ × Call)
   pub group : LiveGroup
   pub reached : Reaches config calls group
   pub nodes_are : group.nodes ≡ nodes
-  pub sent : (m : code.Message) → Contains network m → IsAmong m (told_by_calls config calls)
+  pub sent : AreRetold network (told_by_calls config calls)
 
 abbrev pub AreLive : (nodes : List NodeState) → (network : List code.Message) → Type 0
 AreLive nodes network = ∥ IsReached nodes network ∥₁
@@ -231,40 +232,42 @@ abbrev pub NewNodesAreLive : Type 0
 NewNodesAreLive = (c : Config) (nodes : List NodeState) → IsConfig c →
     replicas_of nodes ≡ replica_states_at_start c → AreLive nodes []
 
--- and whatever the network loses, holds twice or brings late, and whatever deltas it makes anew
+-- and whatever the network loses, holds twice or brings late, and whatever deltas it makes anew of messages
+-- as they are on it
 abbrev pub NetworksMayLose : Type 0
 NetworksMayLose = (nodes : List NodeState) (network left : List code.Message) →
     AreLive nodes network → ((m : code.Message) → Contains left m → IsAmong m network) →
     AreLive nodes left
 
--- node r is live after a submission, with all that it sends on the network
+-- node r is live after a submission, with what it sends on the network, over whatever bases
 abbrev pub SubmissionsKeepLive : Type 0
 SubmissionsKeepLive =
-    (nodes : List NodeState) (network : List code.Message) (r : ℕ) (node made : NodeState)
+    (nodes : List NodeState) (network mail : List code.Message) (r : ℕ) (node made : NodeState)
     (d : ObjectOp) (out : code_out.Out) → AreLive nodes network → slice_get nodes r ≡ Some node →
     HasRoom node.replica 0 → submits node.replica 0 d ≡ Some (whole_out out, made.replica) →
     ((offered : Counts) → AreToldFrom made.replica 0 offered out.mail) →
-    AreLive (slice_set nodes r made) (network ++ out.mail)
+    AreRetold mail out.mail → AreLive (slice_set nodes r made) (network ++ mail)
 
 -- after a proposal
 abbrev pub ProposalsKeepLive : Type 0
 ProposalsKeepLive =
-    (nodes : List NodeState) (network : List code.Message) (r : ℕ) (node made : NodeState)
+    (nodes : List NodeState) (network mail : List code.Message) (r : ℕ) (node made : NodeState)
     (k value : ℕ) (out : code_out.Out) → AreLive nodes network → slice_get nodes r ≡ Some node →
     submitted_in node.replica (first_instance k) ≡ Some 0 →
     submits node.replica (first_instance k) (first_vote k value) ≡ Some (whole_out out, made.replica) →
     ((offered : Counts) → AreToldFrom made.replica (first_instance k) offered out.mail) →
-    AreLive (slice_set nodes r made) (network ++ out.mail)
+    AreRetold mail out.mail → AreLive (slice_set nodes r made) (network ++ mail)
 
--- after the receipt of a message that is on the network, and stays there
+-- after the receipt of a message that is on the network, and stays there: that it stands where it is
+-- received, its receiver sees
 abbrev pub ReceiptsKeepLive : Type 0
 ReceiptsKeepLive =
-    (nodes : List NodeState) (network : List code.Message) (r : ℕ) (node made : NodeState)
+    (nodes : List NodeState) (network mail : List code.Message) (r : ℕ) (node made : NodeState)
     (m : code.Message) (done : Done) → AreLive nodes network → slice_get nodes r ≡ Some node →
-    Contains network m → m.to ≡ r →
+    Contains network m → m.to ≡ r → StandsIn node.replica m →
     takes node.replica (received_in node.replica m) ≡ Some (whole_done done, made.replica) →
     AreToldIn made.replica (offered_by (received_in node.replica m)) done.mail →
-    AreLive (slice_set nodes r made) (network ++ done.mail)
+    AreRetold mail done.mail → AreLive (slice_set nodes r made) (network ++ mail)
 
 -- and after a call that leaves its replica as it was
 abbrev pub LooksKeepLive : Type 0

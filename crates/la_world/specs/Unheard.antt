@@ -2,6 +2,7 @@
 use Rattle.std.specs.Prelude.{◌≡◌, ℕ, List, slice_get, slice_set, Some}
 use Rattle.la_commit.specs.Instances.{first_instance}
 use Rattle.la_replica.specs.declared.message.Message.{Message}
+use Rattle.la_replica.specs.Received.{StandsIn}
 use Rattle.la_replica.specs.Refusals.{HasRoom}
 use Rattle.la_replica.specs.ReplicaState.{ReplicaState, submitted_in}
 use Rattle.la_world.specs.Nodes.{NodeState}
@@ -9,11 +10,11 @@ use Rattle.la_world.specs.Kept.{KeptCall, Submitted, Proposed, Received, after_c
 use Rattle.la_world.specs.LiveGroups.{AreLive, IsAmong}
 
 -- the calls that node r may accept: an update where its cap leaves room, its first proposal to an object, and a
--- message to it that says what one on the network does
+-- message to it that says what one on the network does, and stands there
 abbrev pub MayKeep : (network : List Message) → (r : ℕ) → ReplicaState → KeptCall → Type 0
 MayKeep network r state (Submitted d) = HasRoom state 0
 MayKeep network r state (Proposed k value) = submitted_in state (first_instance k) ≡ Some 0
-MayKeep network r state (Received m) = IsAmong m network × (m.to ≡ r)
+MayKeep network r state (Received m) = IsAmong m network × (m.to ≡ r) × StandsIn state m
 
 -- nodes are live after such a call, with what it sends lost
 abbrev pub UnheardCallsKeepLive : Type 0

@@ -1,10 +1,12 @@
 // What holds of every group of live nodes, over whatever transport: laws over the definitions, which no
-// code runs. The last eight are for programs that hold nodes and a network: an invariant over loops.
+// code runs. From `live_nodes_are_one_history` on they are for programs that hold nodes and a network: an
+// invariant over loops.
 ghost use Rattle.la_world.specs.LiveGroups.{LiveGroupsStandForEvents, LiveGroupsKeepAll};
 ghost use Rattle.la_world.specs.LiveGroups.{LiveLearntAreComparable, LiveViewsAreComparable};
 ghost use Rattle.la_world.specs.LiveGroups.{LiveNodesAreOneHistory, NewNodesAreLive};
 ghost use Rattle.la_world.specs.LiveGroups.{NetworksMayLose, SubmissionsKeepLive};
 ghost use Rattle.la_world.specs.LiveGroups.{ProposalsKeepLive, ReceiptsKeepLive, LooksKeepLive};
+ghost use Rattle.la_world.specs.LiveParcels.{ParcelReceiptsKeepLive};
 ghost use Rattle.la_world.specs.Unheard.{UnheardCallsKeepLive};
 ghost use Rattle.la_world.specs.Kept.{KeptListsLeadOn, KeptListsArePlayedAgain};
 
@@ -47,7 +49,8 @@ pub fn networks_may_lose()
     ensures { NetworksMayLose }
 {}
 
-/// They are live after a submission at one of them, with what it sends on the network.
+/// They are live after a submission at one of them, with what it sends on the network: as it was sent, or
+/// over whatever bases of its sets, be it true or not that the receivers have them.
 pub fn submissions_keep_live()
     ensures { SubmissionsKeepLive }
 {}
@@ -57,10 +60,16 @@ pub fn proposals_keep_live()
     ensures { ProposalsKeepLive }
 {}
 
-/// And after the receipt of a message on the network, by the node that it is for. The message stays
-/// there, as if the network held it twice.
+/// And after the receipt of a message on the network, by the node that it is for, where it stands (clause
+/// `stands` of [`Node::receive`](crate::Node::receive)): so over a base that its receiver has. The message
+/// stays there, as if the network held it twice.
 pub fn receipts_keep_live()
     ensures { ReceiptsKeepLive }
+{}
+
+/// And after that of a parcel of such a message, whatever was believed of its receiver.
+pub fn parcel_receipts_keep_live()
+    ensures { ParcelReceiptsKeepLive }
 {}
 
 /// And after a call that leaves its replica as it was: a question, an object more or less.

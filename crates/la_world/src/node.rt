@@ -10,7 +10,8 @@ ghost use Rattle.la_object.specs.Objects.{kind_of};
 ghost use Rattle.la_object.specs.Shelves.{kind_at, answer_at, tags_at, state_at};
 ghost use Rattle.la_object.specs.Refusals.{IsAddRefusal, IsAskRefusal};
 ghost use Rattle.la_replica.specs.Whole.{whole_out, whole_mail};
-ghost use Rattle.la_replica.specs.Received.{received_in, StandsIn, AgreesIn};
+ghost use Rattle.la_replica.specs.Received.{received_in, StandsIn, AgreesIn, IsSeenWithin};
+ghost use Rattle.la_replica.specs.Parcels.{unwrapped_in, UnwrapsIn, IsParcelRefusal};
 ghost use Rattle.la_replica.specs.Bases.{offered_by, AreToldIn, AreToldFrom};
 ghost use Rattle.la_replica.specs.ReplicaState.{submits, last_learnt, submitted_in};
 ghost use Rattle.la_replica.specs.Refusals.{IsSubmitRefusal, IsReceiptRefusal};
@@ -29,7 +30,7 @@ use crate::participant::{for_memory, outcome_by, returned, take_prepared};
 use crate::{Config, Done, WorldError};
 use la_commit::{Fresh, MAX_COMMITS, Outcome, first_instance};
 use la_object::{Answer, Query, Replicated, Shelf, ShelfError, State};
-use la_replica::{Mail, Message, Out, Replica, ReplicaError};
+use la_replica::{Mail, Message, Out, Parcel, Replica, ReplicaError};
 use la_set::{Counts, Op, Tags, UpdateSet};
 use std::alloc::{AllocError, Global};
 use std::marker::Model;
@@ -247,8 +248,68 @@ impl<B: Replicated> Node<B> {
         ensures error { IfErr result (IsReceiptRefusal self.old.replica message.now) }
         ensures err { OnErr result (self.new ≡ self.old) }
     {
+        self.receive_beyond(message, Counts::zero())
+    }
+
+    /// Receives a parcel, honest or not, with the errors of [`Replica::receive_parcel`]: as
+    /// [`Node::receive`] does the message that it is here, with the second vote that is due. After each
+    /// the node is as before, and the parcel is dropped. The cost is that of
+    /// [`Replica::receive_parcel`], and of the vote's submission.
+    pub fn receive_parcel(&mut self, parcel: Parcel) -> Result<Received, ReplicaError>
+        ensures step { IfOk result (λ received. takes self.old.replica
+            (received_in self.old.replica (unwrapped_in self.old.replica parcel))
+            ≡ Some (whole_done received.done, self.new.replica)) }
+        ensures outcome { IfOk result (λ received. received.outcome ≡ outcome_due
+            parcel.instance self.old.replica.own received.done.said) }
+        ensures returns { IfOk result (λ received.
+            ReturnsIn parcel.instance received.outcome self.new.replica) }
+        ensures told { IfOk result (λ received. AreToldIn self.new.replica
+            (offered_by (received_in self.old.replica (unwrapped_in self.old.replica parcel)))
+            received.done.mail) }
+        ensures unwraps { OnOk result (UnwrapsIn self.old.replica parcel) }
+        ensures stands { OnOk result
+            (StandsIn self.old.replica (unwrapped_in self.old.replica parcel)) }
+        ensures fits { OnOk result (IsReceivable self.old.replica
+            (received_in self.old.replica (unwrapped_in self.old.replica parcel))) }
+        ensures spares { OnOk result (ReceivingSpares self.old.replica
+            (received_in self.old.replica (unwrapped_in self.old.replica parcel))) }
+        ensures shelf { self.new.shelf ≡ self.old.shelf }
+        ensures grows { IsSubset self.old.replica.view self.new.replica.view }
+        ensures stays { OutcomesStayIn self.old.replica self.new.replica }
+        ensures error { IfErr result (IsParcelRefusal self.old.replica parcel) }
+        ensures err { OnErr result (self.new ≡ self.old) }
+    {
+        let known = parcel.base_of_told();
+        let message = self.replica.unwrapped(parcel)?;
+        self.receive_beyond(&message, known)
+    }
+
+    // Receives a message, where it is known within which counts a told set of instance 0 has what the
+    // view has.
+    fn receive_beyond(&mut self, message: &Message, known: Counts) -> Result<Received, ReplicaError>
+        requires seen { IsSeenWithin self.old.replica known message.now }
+        ensures step { IfOk result (λ received.
+            takes self.old.replica (received_in self.old.replica message.now)
+            ≡ Some (whole_done received.done, self.new.replica)) }
+        ensures outcome { IfOk result (λ received. received.outcome ≡ outcome_due
+            message.now.instance self.old.replica.own received.done.said) }
+        ensures returns { IfOk result (λ received.
+            ReturnsIn message.now.instance received.outcome self.new.replica) }
+        ensures told { IfOk result (λ received. AreToldIn self.new.replica
+            (offered_by (received_in self.old.replica message.now)) received.done.mail) }
+        ensures stands { OnOk result (StandsIn self.old.replica message.now) }
+        ensures fits { OnOk result
+            (IsReceivable self.old.replica (received_in self.old.replica message.now)) }
+        ensures spares { OnOk result
+            (ReceivingSpares self.old.replica (received_in self.old.replica message.now)) }
+        ensures shelf { self.new.shelf ≡ self.old.shelf }
+        ensures grows { IsSubset self.old.replica.view self.new.replica.view }
+        ensures stays { OutcomesStayIn self.old.replica self.new.replica }
+        ensures error { IfErr result (IsReceiptRefusal self.old.replica message.now) }
+        ensures err { OnErr result (self.new ≡ self.old) }
+    {
         let own = self.replica.own();
-        let (out, change) = self.replica.prepare(message)?;
+        let (out, change) = self.replica.prepare_beyond(message, known)?;
         let (done, learnt) = take_prepared(&mut self.replica, message, out, change)?;
         let outcome = outcome_by(message.instance, own, learnt.as_ref());
         Ok(Received { done, outcome })

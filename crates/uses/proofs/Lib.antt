@@ -9,6 +9,7 @@ pub mod Later
 pub mod Numbers
 mod Mapped
 mod Together
+mod ByParcels
 mod Leasing
 mod Newest
 pub mod CarriedLines

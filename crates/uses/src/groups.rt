@@ -1,6 +1,6 @@
-ghost use Rattle.std.specs.Prelude.{◌≡◌, ◌<◌, [], ◌∷◌, length, Some, IfOk, OnErr};
+ghost use Rattle.std.specs.Prelude.{◌≡◌, ◌<◌, [], ◌∷◌, length, Some, IfOk, OnOk, OnErr};
 ghost use Rattle.la_replica.specs.Bases.{offered_by, AreToldIn};
-ghost use Rattle.la_replica.specs.Received.{received_in};
+ghost use Rattle.la_replica.specs.Received.{received_in, StandsIn};
 ghost use Rattle.la_world.specs.declared.done.Done.{Done as DoneOf};
 ghost use Rattle.la_world.specs.Following.{takes, whole_done};
 ghost use Rattle.la_world.specs.LiveGroups.{AreLive, AllViewsAreComparable};
@@ -89,6 +89,7 @@ fn mail_by<B: Replicated>(node: &mut Node<B>, message: &Message) -> Result<Mail,
         ≡ Some (whole_done done, node.new.replica))) }
     ensures told { IfOk result (AreToldIn node.new.replica
         (offered_by (received_in node.old.replica message.now))) }
+    ensures stands { OnOk result (StandsIn node.old.replica message.now) }
     ensures err { OnErr result (node.new ≡ node.old) }
 {
     let done = node.receive(message)?.done;

@@ -13,6 +13,7 @@ pub mod members;
 pub mod nodes;
 pub mod objects;
 pub mod orsets;
+pub mod parcels;
 pub mod passes;
 pub mod proposers;
 pub mod replicas;

@@ -220,7 +220,7 @@ module _ (r : ReplicaState) (m : code.Message) where
 
 -- ## Made anew
 
-over_alike : (s : Histories) (d e : DeltaState) → AreAlikeDeltas d e → IsOver s d → IsOver s e
+pub over_alike : (s : Histories) (d e : DeltaState) → AreAlikeDeltas d e → IsOver s d → IsOver s e
 over_alike s d e h over = record {
   base = subst (HasCounts s) h.0 over.base;
   next = subst₂ (λ c us. AreNext (within s c) us) h.0 h.1 over.next;
@@ -238,18 +238,7 @@ body_alike x from ballot (body.No d) (body.No e) h over = go (counts x.proposer 
     go true k = over_alike x.proposer.updates d e h k
     go false k = tt
 body_alike x from ballot (body.Tell s) (body.Tell t) h over = tt
-body_alike x from ballot (body.Offer d) body.Yes h over = absurd h
-body_alike x from ballot (body.Offer d) (body.No e) h over = absurd h
-body_alike x from ballot (body.Offer d) (body.Tell t) h over = absurd h
-body_alike x from ballot body.Yes (body.Offer e) h over = absurd h
-body_alike x from ballot body.Yes (body.No e) h over = absurd h
-body_alike x from ballot body.Yes (body.Tell t) h over = absurd h
-body_alike x from ballot (body.No d) (body.Offer e) h over = absurd h
-body_alike x from ballot (body.No d) body.Yes h over = absurd h
-body_alike x from ballot (body.No d) (body.Tell t) h over = absurd h
-body_alike x from ballot (body.Tell s) (body.Offer e) h over = absurd h
-body_alike x from ballot (body.Tell s) body.Yes h over = absurd h
-body_alike x from ballot (body.Tell s) (body.No e) h over = absurd h
+body_alike x from ballot _ _ h over = absurd h
 
 -- what stands stands as it is made anew
 pub alike_stands : (r : ReplicaState) (m n : code.Message) → AreAlike m n → StandsIn r m → StandsIn r n

@@ -25,7 +25,7 @@ returns-in_err-hand_to g c =
     let sent = c.in_ok-mail.ensures.ok in
     let told = subst (AreToldIn c.mail_by.new.node.replica (offered_by (received_in (get_or nodes c.args.message.now.to any).replica c.args.message.now))) (sym sent.1) c.in_ok-mail.ensures.told in
     received c.networks_may_lose.ensures nodes c.args.network.now.items c.hand_to.new.queue.items c.args.message.now.to (get_or nodes c.args.message.now.to any) c.mail_by.new.node (slice_get-get_or nodes c.args.message.now.to any (omega (arith, c.if-to-group.false)))
-    c.receipts_keep_live.ensures c.args.message.now sent.0 refl sent.2 told (λ m has. Contains-append_left c.args.network.now.items sent.0.mail m (subst (λ ms. Contains ms m) c.in_err-hand_to.ensures.err has))
+    c.receipts_keep_live.ensures c.args.message.now sent.0 refl c.in_ok-mail.ensures.stands sent.2 told (λ m has. Contains-append_left c.args.network.now.items sent.0.mail m (subst (λ ms. Contains ms m) c.in_err-hand_to.ensures.err has))
 
 pub returns : goal.returns
 returns g c =
@@ -34,4 +34,4 @@ returns g c =
     let sent = c.in_ok-mail.ensures.ok in
     let told = subst (AreToldIn c.mail_by.new.node.replica (offered_by (received_in (get_or nodes c.args.message.now.to any).replica c.args.message.now))) (sym sent.1) c.in_ok-mail.ensures.told in
     received c.networks_may_lose.ensures nodes c.args.network.now.items c.hand_to.new.queue.items c.args.message.now.to (get_or nodes c.args.message.now.to any) c.mail_by.new.node (slice_get-get_or nodes c.args.message.now.to any (omega (arith, c.if-to-group.false)))
-    c.receipts_keep_live.ensures c.args.message.now sent.0 refl sent.2 told (λ m has. subst (λ ms. Contains ms m) (c.in_ok-hand_to.ensures.ok ∙ ap (λ ms. c.args.network.now.items ++ ms) (sym sent.1)) has)
+    c.receipts_keep_live.ensures c.args.message.now sent.0 refl c.in_ok-mail.ensures.stands sent.2 told (λ m has. subst (λ ms. Contains ms m) (c.in_ok-hand_to.ensures.ok ∙ ap (λ ms. c.args.network.now.items ++ ms) (sym sent.1)) has)

@@ -1,5 +1,5 @@
-use Rattle.la_replica.proofs.Known.{tell_zero}
+use Rattle.la_replica.proofs.lemmas.Parcelling.{seen_zero}
 use Rattle.la_replica.proofs.replica.Replica.prepare.Goals as goal
 
 pub prepare_beyond-requires : goal.prepare_beyond-requires
-prepare_beyond-requires c = tell_zero c.args.self.now.view c.zero.result c.args.message.now.body c.zero.ensures
+prepare_beyond-requires c = seen_zero c.args.self.now c.args.message.now c.zero.result c.zero.ensures
