@@ -5,7 +5,7 @@ use crate::given::{Came, Does, Row, delta_of, op_of, refused, set_of};
 use crate::holds::holds;
 use la_acceptor::Reply;
 use la_proposer::Votes;
-use la_replica::{Body, Mail, Message, Out, Replica, ReplicaError, Said};
+use la_replica::{Body, Mail, Message, Out, Parcel, Replica, ReplicaError, Said};
 use std::alloc::Global;
 use std::collections::VecDeque;
 
@@ -150,6 +150,15 @@ fn prepare(replica: &mut Replica, message: &Message) -> Result<Out, ReplicaError
     Ok(out)
 }
 
+// The same as a parcel, over what the view has.
+fn receive_parcel(replica: &mut Replica, message: Message) -> Result<Out, ReplicaError> {
+    let believed = replica.view().counts();
+    let Ok(parcel) = Parcel::new(message, believed) else {
+        return Err(ReplicaError::Memory);
+    };
+    replica.receive_parcel(parcel)
+}
+
 fn receive(
     replica: &mut Replica,
     alloc: Global,
@@ -166,10 +175,10 @@ fn receive(
         ballot: input.1,
         body,
     };
-    if in_parts {
-        prepare(replica, &message)
-    } else {
-        replica.receive(&message)
+    match input.2 {
+        Says::Tell(_) if in_parts => receive_parcel(replica, message),
+        _ if in_parts => prepare(replica, &message),
+        _ => replica.receive(&message),
     }
 }
 
@@ -220,7 +229,18 @@ fn steps(replica: &mut Replica, alloc: Global, in_parts: bool) -> Came {
         }
         before = after;
     }
-    again!(alloc, sends_again(replica))
+    let came = again!(alloc, sends_again(replica));
+    if came != Some(true) {
+        return came;
+    }
+    again!(alloc, copies(replica))
+}
+
+fn copies(replica: &Replica) -> Came {
+    match replica.copy() {
+        Ok(copy) => Some(stands(&copy, TOLD, 2)),
+        Err(_) => refused(stands(replica, TOLD, 2)),
+    }
 }
 
 // The ballot that opened at last is offered to all, and what was learnt is told.

@@ -5,8 +5,8 @@ use checks_memory::{Came, Counted, Does, Row, again, are_alive, delta_of, make_c
 use la_object::{Answer, Query, ShelfError, State};
 use la_orset::OrSet;
 use la_proposer::Votes;
-use la_replica::{Body, Message, ReplicaError};
-use la_set::Op;
+use la_replica::{Body, Message, Parcel, ReplicaError};
+use la_set::{Counts, Op};
 use la_world::{Config, Node, WorldError};
 use std::alloc::{AllocError, Global};
 use std::sync::Arc;
@@ -19,7 +19,7 @@ const ONE: &[Row] = &[(3, 0, 1, Does::Put(7))];
 enum Call {
     Add,
     Submit,
-    // The node's own offer, and its acknowledgement.
+    // The node's own offer, as a parcel, and its acknowledgement.
     Offer,
     Yes,
     Ask,
@@ -81,15 +81,26 @@ fn propose(node: &mut Alone) -> Result<usize, AllocError> {
     }
 }
 
-fn receive(node: &mut Alone, body: Body) -> Result<usize, AllocError> {
-    let message = Message {
+fn message_of(body: Body) -> Message {
+    Message {
         instance: 0,
         from: 0,
         to: 0,
         ballot: 1,
         body,
-    };
-    match node.receive(&message) {
+    }
+}
+
+fn receive(node: &mut Alone, body: Body) -> Result<usize, AllocError> {
+    match node.receive(&message_of(body)) {
+        Ok(received) => Ok(received.done.mail.len()),
+        Err(it) => refusal(it == ReplicaError::Memory),
+    }
+}
+
+fn receive_parcel(node: &mut Alone, body: Body) -> Result<usize, AllocError> {
+    let parcel = Parcel::new(message_of(body), Counts::zero())?;
+    match node.receive_parcel(parcel) {
         Ok(received) => Ok(received.done.mail.len()),
         Err(it) => refusal(it == ReplicaError::Memory),
     }
@@ -97,7 +108,7 @@ fn receive(node: &mut Alone, body: Body) -> Result<usize, AllocError> {
 
 fn offer(node: &mut Alone, alloc: Global) -> Result<usize, AllocError> {
     match delta_of(alloc, ONE) {
-        Some(delta) => receive(node, Body::Offer(delta)),
+        Some(delta) => receive_parcel(node, Body::Offer(delta)),
         None => Err(AllocError),
     }
 }
