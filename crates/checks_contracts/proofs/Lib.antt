@@ -4,6 +4,7 @@ pub mod OfferAnswers
 pub mod ProposerAnswers
 pub mod Carried
 pub mod ReplicaAnswers
+pub mod ParcelAnswers
 pub mod SameWorlds
 pub mod WorldLaws
 pub mod ProgramAnswers

@@ -259,7 +259,7 @@ module _ (r : ReplicaState) (c : code.Message) where
   one_receipt_refusal e f h k not also = one_cause e f (cause e not h) (cause f also k)
 
   -- what is received once is refused for want of memory alone
-  refused_once : StandsIn r c → IsReceivable r told × ReceivingSpares r told → (e : ReplicaError) → IsReceiptRefusal r c e → e ≡ Memory
+  pub refused_once : StandsIn r c → IsReceivable r told × ReceivingSpares r told → (e : ReplicaError) → IsReceiptRefusal r c e → e ≡ Memory
   refused_once stands fits NoSuchReplica h = fitting_message r told NoSuchReplica fits h
   refused_once stands fits NoSuchInstance h = fitting_message r told NoSuchInstance fits h
   refused_once stands fits NoBase h = absurd (unbuilt_or_stands {e = NoBase} (record { reason = set_error.NoBase; not_memory = no_base; for_this = h.0; unbuilt = h.1; is = refl }) stands)

@@ -1,10 +1,11 @@
 // Callers that know nothing but the contracts: each makes a call twice and promises equal answers.
 ghost use Rattle.std.specs.Prelude.{◌≡◌, ◌≢◌, ◌↔◌, ◌≤◌, ◌<◌};
-ghost use Rattle.std.specs.Prelude.{length, IsTrue, IfOk, IfErr, OnOk, OnErr, option_copied};
+ghost use Rattle.std.specs.Prelude.{length, IsTrue, IsOk, IfOk, IfErr, OnOk, OnErr, option_copied};
 ghost use Rattle.la_proposer.specs.Majority.{votes_of};
 ghost use Rattle.la_replica.specs.declared.error.ReplicaError.TheVariants.{Memory as MemoryIs};
 ghost use Rattle.la_replica.specs.Whole.{whole_out};
-ghost use Rattle.la_replica.specs.Received.{received_in, StandsIn, AgreesIn};
+ghost use Rattle.la_set.specs.declared.error.SetError.TheVariants.{Memory as SetMemoryIs};
+ghost use Rattle.la_replica.specs.Received.{received_in, StandsIn, AgreesIn, IsSeenWithin};
 ghost use Rattle.la_replica.specs.Stored.{IsMade};
 ghost use Rattle.la_replica.specs.Changes.{IsPreparedFrom, led};
 ghost use Rattle.la_replica.specs.Fitting.{FitsReceiver};
@@ -12,8 +13,10 @@ ghost use Rattle.la_replica.specs.Fitting.{FitsReceiver};
 use la_acceptor::AcceptorError;
 use la_commit::{MAX_COMMITS, laws};
 use la_proposer::{Heard, MAX_CAP, ProposerError, Votes};
-use la_replica::{Body, Change, Mail, Message, Out, Replica, ReplicaError, Said, StoredMessage};
-use la_set::{Op, UpdateSet};
+use la_replica::{
+    Body, Change, Mail, Message, Out, Parcel, Replica, ReplicaError, Said, StoredMessage,
+};
+use la_set::{Counts, Op, SetError, UpdateSet};
 use smallvec::SmallVec;
 use std::alloc::{AllocError, Global};
 use std::collections::VecDeque;
@@ -185,6 +188,59 @@ fn mails_of_lists_are_one(lists: (SmallVec<Message, 1>, SmallVec<Message, 1>)) -
     (Mail::from(lists.0), Mail::from(lists.1))
 }
 
+// ## Parcels
+
+// Whatever is believed.
+fn parcels_are_one(
+    messages: (Message, Message),
+    believed: Counts,
+) -> (Result<Parcel, AllocError>, Result<Parcel, AllocError>)
+    requires { messages.0 ≡ messages.1 }
+    ensures { IfOk result.0 (λ a. IfOk result.1 (λ b. a ≡ b)) }
+{
+    (
+        Parcel::new(messages.0, believed),
+        Parcel::new(messages.1, believed),
+    )
+}
+
+// What tells nothing takes no memory.
+fn acknowledgements_are_wrapped(message: Message, believed: Counts) -> Result<Parcel, AllocError>
+    requires { message.body ≡ Body.Yes }
+    ensures { IsOk result }
+{
+    Parcel::new(message, believed)
+}
+
+fn base_of_told_is_exact(parcel: &Parcel) -> (Counts, Counts)
+    ensures { result.0 ≡ result.1 }
+{
+    (parcel.base_of_told(), parcel.base_of_told())
+}
+
+// Refusals are alike, but for want of memory, which alone refuses what is a message once.
+fn over_is_exact(
+    parcels: (Parcel, Parcel),
+    set: &UpdateSet,
+) -> (Result<Message, SetError>, Result<Message, SetError>)
+    requires { parcels.0 ≡ parcels.1 }
+    ensures messages { IfOk result.0 (λ a. IfOk result.1 (λ b. a ≡ b)) }
+    ensures alike { IfErr result.0 (λ d. IfErr result.1 (λ e.
+        d ≢ SetMemoryIs → e ≢ SetMemoryIs → d ≡ e)) }
+    ensures alone { IfErr result.0 (λ d. IfOk result.1 (λ _. d ≡ SetMemoryIs)) }
+{
+    (parcels.0.over(set), parcels.1.over(set))
+}
+
+type Unwraps = Result<Message, ReplicaError>;
+
+fn unwrapped_is_exact(replica: &Replica, parcels: (Parcel, Parcel)) -> (Unwraps, Unwraps)
+    requires { parcels.0 ≡ parcels.1 }
+    ensures { IfOk result.0 (λ a. IfOk result.1 (λ b. a ≡ b)) }
+{
+    (replica.unwrapped(parcels.0), replica.unwrapped(parcels.1))
+}
+
 // ## Errors
 
 fn errors_of_acceptors_are_one(refused: AcceptorError) -> (ReplicaError, ReplicaError)
@@ -297,6 +353,23 @@ fn receive_is_exact(one: &mut Replica, other: &mut Replica, message: &Message) -
     (one.receive(message), other.receive(message))
 }
 
+fn receive_parcel_is_exact(
+    one: &mut Replica,
+    other: &mut Replica,
+    parcels: (Parcel, Parcel),
+) -> (Answer, Answer)
+    requires replicas { one.old ≡ other.old }
+    requires parcels { parcels.0 ≡ parcels.1 }
+    ensures answers { IfOk result.0 (λ a. IfOk result.1 (λ b. a ≡ b)) }
+    ensures steps { OnOk result.0 (OnOk result.1 (one.new ≡ other.new)) }
+    ensures stays { OnErr result.0 (one.new ≡ one.old) }
+{
+    (
+        one.receive_parcel(parcels.0),
+        other.receive_parcel(parcels.1),
+    )
+}
+
 // ## In two calls: what is prepared comes to one step
 
 type Prepares = Result<(Out, Change), ReplicaError>;
@@ -318,6 +391,33 @@ fn prepare_is_exact(replica: &Replica, message: &Message) -> (Prepares, Prepares
         led replica.now (whole_out a.0) a.1 ≡ led replica.now (whole_out b.0) b.1)) }
 {
     (replica.prepare(message), replica.prepare(message))
+}
+
+// Whatever is known of the view.
+fn prepare_beyond_is_exact(
+    replica: &Replica,
+    message: &Message,
+    known: Counts,
+) -> (Prepares, Prepares)
+    requires { IsSeenWithin replica.now known message.now }
+    ensures { IfOk result.0 (λ a. IfOk result.1 (λ b.
+        led replica.now (whole_out a.0) a.1 ≡ led replica.now (whole_out b.0) b.1)) }
+{
+    (
+        replica.prepare_beyond(message, known),
+        replica.prepare(message),
+    )
+}
+
+fn prepare_parcel_is_exact(replica: &Replica, parcels: (Parcel, Parcel)) -> (Prepares, Prepares)
+    requires { parcels.0 ≡ parcels.1 }
+    ensures { IfOk result.0 (λ a. IfOk result.1 (λ b.
+        led replica.now (whole_out a.0) a.1 ≡ led replica.now (whole_out b.0) b.1)) }
+{
+    (
+        replica.prepare_parcel(parcels.0),
+        replica.prepare_parcel(parcels.1),
+    )
 }
 
 // A message that fits comes to what receiving it comes to.
@@ -347,6 +447,18 @@ fn refusals_are_exact(replica: &Replica, message: &Message) -> (Prepares, Prepar
     ensures alone { IfErr result.0 (λ d. IfOk result.1 (λ _. d ≡ MemoryIs)) }
 {
     (replica.prepare(message), replica.prepare(message))
+}
+
+// And so of a parcel.
+fn parcel_refusals_are_exact(replica: &Replica, parcels: (Parcel, Parcel)) -> (Prepares, Prepares)
+    requires { parcels.0 ≡ parcels.1 }
+    ensures alike { IfErr result.0 (λ d. IfErr result.1 (λ e. d ≢ MemoryIs → e ≢ MemoryIs → d ≡ e)) }
+    ensures alone { IfErr result.0 (λ d. IfOk result.1 (λ _. d ≡ MemoryIs)) }
+{
+    (
+        replica.prepare_parcel(parcels.0),
+        replica.prepare_parcel(parcels.1),
+    )
 }
 
 fn learnt_is_exact(said: &Said) -> (Option<&UpdateSet>, Option<&UpdateSet>)

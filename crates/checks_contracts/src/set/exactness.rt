@@ -295,6 +295,14 @@ fn is_larger_is_exact(set: &UpdateSet, other: &UpdateSet) -> (bool, bool)
     (set.is_larger(other), set.is_larger(other))
 }
 
+// What is known of both changes no answer.
+fn is_larger_beyond_is_exact(set: &UpdateSet, other: &UpdateSet, base: Counts) -> (bool, bool)
+    requires { within set.now base ≡ within other.now base }
+    ensures { result.0 ≡ result.1 }
+{
+    (set.is_larger_beyond(other, base), set.is_larger(other))
+}
+
 fn is_larger_compatible_is_exact(set: &UpdateSet, other: &UpdateSet) -> (bool, bool)
     requires { IsCompatible set.now other.now }
     ensures { result.0 ≡ result.1 }

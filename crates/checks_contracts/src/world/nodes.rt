@@ -7,7 +7,7 @@ ghost use Rattle.la_replica.specs.Fitting.{FitsReceiver};
 
 use la_commit::Outcome;
 use la_object::{Answer, Query, Replicated, Shelf, ShelfError, State};
-use la_replica::{Mail, Message, Out, ReplicaError};
+use la_replica::{Mail, Message, Out, Parcel, ReplicaError};
 use la_set::{Op, Tags, UpdateSet};
 use la_world::{Config, Node, Received, WorldError};
 use std::alloc::{AllocError, Global};
@@ -127,6 +127,27 @@ fn receive_is_exact<B: Replicated>(
     ensures stays { OnErr result.0 (one.new ≡ one.old) }
 {
     (one.receive(message), other.receive(message))
+}
+
+fn receive_parcel_is_exact<B: Replicated>(
+    one: &mut Node<B>,
+    other: &mut Node<B>,
+    parcels: (Parcel, Parcel),
+) -> (
+    Result<Received, ReplicaError>,
+    Result<Received, ReplicaError>,
+)
+    requires nodes { one.old ≡ other.old }
+    requires parcels { parcels.0 ≡ parcels.1 }
+    ensures said { IfOk result.0 (λ a. IfOk result.1 (λ b. a.done ≡ b.done)) }
+    ensures outcomes { IfOk result.0 (λ a. IfOk result.1 (λ b. a.outcome ≡ b.outcome)) }
+    ensures steps { OnOk result.0 (OnOk result.1 (one.new ≡ other.new)) }
+    ensures stays { OnErr result.0 (one.new ≡ one.old) }
+{
+    (
+        one.receive_parcel(parcels.0),
+        other.receive_parcel(parcels.1),
+    )
 }
 
 // A message that fits, by whichever call it is taken.
