@@ -1,5 +1,5 @@
 -- How far the view and the sets of instance 0's ballots agree, step after step.
-use Rattle.std.proofs.Common.{◌≡◌, ℕ, ◌<◌, ◌≤◌, Option, Some, None, IfSome, [], ◌∷◌, refl, sym, ap, subst, subst₂, ◌∙◌, arith, inl, inr}
+use Rattle.std.proofs.Common.{◌≡◌, ◌<◌, Option, Some, None, IfSome, [], ◌∷◌, sym, ap, subst, subst₂}
 use Rattle.la_set.specs.ObjectOps.{ObjectOp}
 use Rattle.la_set.specs.declared.counts.Counts.{Counts}
 use Rattle.la_set.specs.Histories.{Histories}

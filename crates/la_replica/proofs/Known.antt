@@ -1,5 +1,5 @@
 -- What a message's set is known to have in common with what is here, and a candidate with the view.
-use Rattle.std.proofs.Common.{◌≡◌, ℕ, zero, suc, ◌<◌, ◌==◌, if◌then◌else◌, Bool, true, false, eqb-true, List, [], ◌∷◌, length, slice_get, Option, Some, None, IfSome, IsSomeAnd, option_map, unwrap_or, refl, sym, subst, arith}
+use Rattle.std.proofs.Common.{◌≡◌, ℕ, zero, suc, ◌<◌, Bool, true, false, List, [], ◌∷◌, length, slice_get, Option, Some, None, IfSome, IsSomeAnd, option_map, unwrap_or, sym, subst, arith}
 use Rattle.la_set.specs.declared.counts.Counts.{Counts}
 use Rattle.la_set.specs.Histories.{Histories}
 use Rattle.la_set.specs.Counts.{zero_counts, within}
@@ -15,8 +15,8 @@ use Rattle.la_replica.specs.declared.message.Body.TheVariants as body
 use Rattle.la_replica.specs.Whole.{Message, Body, Offer, Yes, No, Tell}
 use Rattle.la_replica.specs.Messages.{reply_in}
 use Rattle.la_replica.specs.ReplicaState.{ReplicaState, InInstance}
-use Rattle.la_replica.specs.Received.{told_in_body, refusal_over, rebuilt_of, rebuilt_at, with_set, with_refused, received_in, StandsAt, StandsIn, base_in, IsKnownWithin, IsToldWithin, IsTellWithin}
-use Rattle.la_replica.specs.Changes.{candidate, seen_in}
+use Rattle.la_replica.specs.Received.{told_in_body, refusal_over, rebuilt_of, rebuilt_at, with_set, with_refused, received_in, StandsAt, StandsIn, base_in, IsKnownWithin}
+use Rattle.la_replica.specs.Changes.{candidate}
 
 -- ## A message
 

@@ -4,7 +4,7 @@ use Rattle.std.specs.Prelude.{◌≡◌, ◌⊎◌, IfSome}
 use Rattle.la_set.specs.declared.counts.Counts.{Counts}
 use Rattle.la_set.specs.Histories.{Histories, IsWithinLimit}
 use Rattle.la_set.specs.Join.{IsCompatible}
-use Rattle.la_set.specs.Counts.{HasCounts, within}
+use Rattle.la_set.specs.Counts.{HasCounts}
 use Rattle.la_set.specs.Deltas.{DeltaState, delta_over}
 use Rattle.la_replica.specs.declared.error.ReplicaError.{ReplicaError}
 use Rattle.la_replica.specs.declared.error.ReplicaError.TheVariants.{NoBase, Memory}

@@ -1,6 +1,6 @@
 -- A message as it is kept: of which kind it is, and what it says of a set, as a delta of that.
 use Rattle.std.specs.Prelude.{◌≡◌}
-use Rattle.la_set.specs.Histories.{Histories, empty}
+use Rattle.la_set.specs.Histories.{empty}
 use Rattle.la_set.specs.Counts.{zero_counts}
 use Rattle.la_set.specs.Deltas.{DeltaState, delta_over}
 use Rattle.la_replica.specs.declared.message.Message.{Message}

@@ -1,5 +1,5 @@
 -- Messages that say the same are received alike, whatever their deltas were made of.
-use Rattle.std.proofs.Common.{◌≡◌, ℕ, Bool, true, false, slice_get, Option, Some, None, option_map, unwrap_or, refl, ap, ap₂, sym, subst, ◌∙◌}
+use Rattle.std.proofs.Common.{◌≡◌, ℕ, Bool, true, false, slice_get, Option, Some, None, option_map, unwrap_or, refl, ap, ◌∙◌}
 use Rattle.la_set.specs.Histories.{Histories}
 use Rattle.la_set.specs.Counts.{within}
 use Rattle.la_set.specs.Deltas.{DeltaState, pushed, rebuilt}
@@ -9,7 +9,7 @@ use Rattle.la_replica.specs.declared.message.Message as code
 use Rattle.la_replica.specs.declared.message.Body as code_body
 use Rattle.la_replica.specs.declared.message.Body.TheVariants as body
 use Rattle.la_replica.specs.Alike.{AreAlikeDeltas, AreAlikeBodies, AreAlike}
-use Rattle.la_replica.specs.Whole.{Message, Body, Offer, Yes, No, Tell}
+use Rattle.la_replica.specs.Whole.{Body, Offer, No, Tell}
 use Rattle.la_replica.specs.ReplicaState.{ReplicaState}
 use Rattle.la_replica.specs.Received.{told_in_body, refusal_over, rebuilt_of, with_set, with_refused, received_in}
 

@@ -3,23 +3,22 @@
 use Rattle.std.proofs.Common.{◌≡◌, ℕ, Bool, true, false, cond, slice_get, Option, Some, None, IsSomeAnd, IfSome, option_map, unwrap_or, refl, ap, sym, subst, ◌∙◌}
 use Rattle.std.proofs.lemmas.Bool.{true≢false}
 use Rattle.la_set.specs.Histories.{Histories}
-use Rattle.la_set.specs.Deltas.{DeltaState, rebuilt}
 use Rattle.la_acceptor.specs.declared.reply.Reply.{Reply}
 use Rattle.la_acceptor.specs.declared.reply.Reply.TheVariants as replied
-use Rattle.la_proposer.specs.ProposerState.{ProposerState, counts, heard_counting, after_counting, with_reply}
+use Rattle.la_proposer.specs.ProposerState.{counts, heard_counting, after_counting, with_reply}
 use Rattle.la_proposer.specs.declared.heard.Heard.TheVariants as heard
 use Rattle.la_replica.specs.declared.instance.Instance.{Instance}
 use Rattle.la_replica.specs.declared.message.Message as code
 use Rattle.la_replica.specs.declared.message.Body as code_body
 use Rattle.la_replica.specs.declared.message.Body.TheVariants as body
 use Rattle.la_replica.specs.declared.sender.Sender.{Sender}
-use Rattle.la_replica.specs.Whole.{Message, Body, Offer, Yes, No, Tell, whole_body, whole_of, set_of}
-use Rattle.la_replica.specs.Received.{Told, told_in_body, refusal_over, rebuilt_of, rebuilt_at, with_set, with_refused, received_at, received_in, IsCarried, IsCarriedIn}
+use Rattle.la_replica.specs.Whole.{Message, Body, Offer, No, whole_body, whole_of, set_of}
+use Rattle.la_replica.specs.Received.{told_in_body, refusal_over, rebuilt_of, rebuilt_at, with_set, with_refused, received_in, IsCarried, IsCarriedIn}
 use Rattle.la_replica.specs.Steps.{receives_body, hears, hears_as}
-use Rattle.la_replica.specs.ReplicaState.{ReplicaState, InInstance, sender_of, receives, after_step}
+use Rattle.la_replica.specs.ReplicaState.{ReplicaState, sender_of, receives, after_step}
 use Rattle.la_replica.specs.declared.error.ReplicaError.{ReplicaError}
 use Rattle.la_replica.specs.declared.error.ReplicaError.TheVariants.{NoSuchReplica, NoSuchInstance, Full, NoBase, Gap, Clash, BallotsSpent, Memory}
-use Rattle.la_replica.specs.Refusals.{FitsBody, SparesBody, IsFor, IsHearingRefusal, IsBodyRefusal, IsReceiveRefusal}
+use Rattle.la_replica.specs.Refusals.{FitsBody, SparesBody, IsHearingRefusal, IsBodyRefusal, IsReceiveRefusal}
 use Rattle.la_replica.specs.Fitting.{FitsViewBody, FitsReceiver}
 use Rattle.la_set.specs.Counts.{counts_of, zero_counts}
 use Rattle.la_replica.specs.Bases.{offered_in, offered_by}

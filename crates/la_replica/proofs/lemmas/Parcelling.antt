@@ -1,5 +1,5 @@
 -- A parcel is the message that was wrapped, wherever its told set's base is.
-use Rattle.std.proofs.Common.{◌≡◌, ◌⊎◌, ℕ, zero, suc, ◌<◌, min, List, [], ◌∷◌, length, slice_get, Option, Some, None, Result, Ok, Err, IfErr, IsSomeAnd, refl, ap, sym, subst, ◌∙◌, inl, inr, arith}
+use Rattle.std.proofs.Common.{◌≡◌, min, slice_get, Option, Some, None, Result, Ok, Err, IfErr, IsSomeAnd, refl, ap, sym, subst, ◌∙◌, inl, inr, arith}
 use Rattle.std.specs.Prelude.{IsOk}
 use Rattle.std.proofs.lemmas.Option.{slice_get_past}
 use Rattle.la_set.specs.declared.counts.Counts.{Counts}
@@ -21,9 +21,8 @@ use Rattle.la_replica.specs.declared.parcel.Content.{Content}
 use Rattle.la_replica.specs.declared.parcel.Content.TheVariants as content
 use Rattle.la_replica.specs.Alike.{AreAlikeBodies, AreAlike}
 use Rattle.la_replica.specs.Memory.{IsFree, IsFreeMessage}
-use Rattle.la_replica.specs.Parcels.{AreAlikeContents, AreAlikeParcels, told_base, wrapped_body, wrapped, IsTellWithinLimit, unwrapped_body, unwrapped, Unwraps, IsShut, base_of_told, TellsNothing, view_of, unwrapped_in, UnwrapsIn, IsShutIn, IsUnwrapRefusal, HasToldBase, IsOneTold}
+use Rattle.la_replica.specs.Parcels.{AreAlikeContents, AreAlikeParcels, told_base, wrapped_body, wrapped, IsTellWithinLimit, unwrapped_body, unwrapped, Unwraps, IsShut, base_of_told, TellsNothing, view_of, unwrapped_in, UnwrapsIn, IsUnwrapRefusal, HasToldBase, IsOneTold}
 use Rattle.la_replica.specs.Received.{received_in, IsTellWithin, IsSeenWithin}
-use Rattle.la_replica.specs.Refusals.{of_set, IsFor}
 use Rattle.la_replica.specs.ReplicaState.{ReplicaState}
 use Rattle.la_replica.proofs.lemmas.Rebasing.{over_alike}
 

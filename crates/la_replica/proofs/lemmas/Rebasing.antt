@@ -10,7 +10,6 @@ use Rattle.la_set.proofs.lemmas.Decisions.{update_eq-Decides}
 use Rattle.la_replica.specs.Alike.{AreAlikeDeltas, AreAlikeBodies, AreAlike}
 use Rattle.la_replica.specs.Refusals.{FitsBody, IsReceivable}
 use Rattle.la_set.specs.declared.counts.Counts.{Counts}
-use Rattle.la_set.specs.declared.error.SetError.{SetError}
 use Rattle.la_set.specs.declared.error.SetError.TheVariants as set_error
 use Rattle.la_set.specs.Histories.{Histories}
 use Rattle.la_set.specs.Join.{IsCompatible}
