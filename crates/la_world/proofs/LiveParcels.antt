@@ -10,22 +10,15 @@ use Rattle.la_replica.specs.declared.message.Body as code_body
 use Rattle.la_replica.specs.declared.message.Body.TheVariants as body
 use Rattle.la_replica.specs.declared.parcel.Parcel.{Parcel}
 use Rattle.la_replica.specs.Alike.{AreAlikeBodies, AreAlike}
-use Rattle.la_replica.specs.Bases.{offered_by, AreToldIn}
 use Rattle.la_replica.specs.Parcels.{AreAlikeParcels, wrapped, unwrapped, Unwraps, unwrapped_in, UnwrapsIn, view_of, IsOneTold, IsTellWithinLimit}
-use Rattle.la_replica.specs.Rebased.{rebased_body, rebased_message}
-use Rattle.la_replica.specs.Received.{received_in, StandsIn}
-use Rattle.la_replica.specs.ReplicaState.{ReplicaState}
+use Rattle.la_replica.specs.Rebased.{rebased_body}
 use Rattle.la_replica.proofs.lemmas.Parcelling.{parcel_unwrapped, parcel_alike, parcel_alike_stands}
-use Rattle.la_world.specs.declared.config.Config.{Config}
-use Rattle.la_world.specs.declared.done.Done.{Done}
 use Rattle.la_world.specs.Events.{Past}
-use Rattle.la_world.specs.Following.{takes, whole_done}
-use Rattle.la_world.specs.Groups.{Group, replicas}
 use Rattle.la_world.specs.LiveGroups.{IsReached, told_by_calls, events_of, live_group_of}
-use Rattle.la_world.specs.LiveParcels.{IsParcelAmong, ParcelReceiptsKeepLive}
+use Rattle.la_world.specs.LiveParcels.{ParcelReceiptsKeepLive}
 use Rattle.la_world.specs.Nodes.{NodeState}
 use Rattle.la_world.specs.Playing.{trace}
-use Rattle.la_world.specs.Rebased.{TellsAs, AreRetold}
+use Rattle.la_world.specs.Rebased.{TellsAs}
 use Rattle.la_world.specs.ReplicaStates.{replica_state}
 use Rattle.la_world.specs.Told.{told}
 use Rattle.la_world.proofs.Lists.{contains_IsIn, IsIn_place}

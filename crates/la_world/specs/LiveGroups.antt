@@ -31,7 +31,7 @@ use Rattle.la_world.specs.Playing.{trace}
 use Rattle.la_world.specs.Learnings.{learnt}
 use Rattle.la_world.specs.StandsFor.{EventsLeadTo}
 use Rattle.la_world.specs.Following.{Taken, without_vote, takes, whole_done}
-use Rattle.la_world.specs.Rebased.{IsRetold, AreRetold}
+use Rattle.la_world.specs.Rebased.{AreRetold}
 use Rattle.la_world.specs.Nodes.{NodeState}
 pub use Rattle.la_world.specs.Nodes.{replicas_of}
 use Rattle.la_world.specs.Calls.{replica_states_at_start, views_of, decisions_at}
