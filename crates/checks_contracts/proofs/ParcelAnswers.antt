@@ -1,5 +1,5 @@
 -- The contracts of la_replica leave one refusal of a parcel, but for want of memory.
-use Rattle.std.proofs.Common.{◌≡◌, ◌≢◌, ◌⊎◌, ℕ, ◌<◌, ◌≤◌, length, List, Option, Some, None, IsSomeAnd, slice_get, Result, Ok, Err, IfOk, IfErr, refl, sym, ◌∙◌, ap, subst, arith, inl, inr}
+use Rattle.std.proofs.Common.{◌≡◌, ◌≢◌, ◌⊎◌, ℕ, ◌<◌, length, List, Option, Some, None, IsSomeAnd, slice_get, Result, Ok, Err, IfOk, IfErr, refl, sym, ◌∙◌, ap, subst, arith, inl, inr}
 use Rattle.std.proofs.lemmas.Option.{slice_get_past}
 use Rattle.std.proofs.lemmas.Bool.{cases_lt}
 use Rattle.la_set.specs.Histories.{Histories}
@@ -14,7 +14,7 @@ use Rattle.la_replica.specs.declared.parcel.Content.{Content}
 use Rattle.la_replica.specs.declared.parcel.Content.TheVariants as content
 use Rattle.la_replica.specs.Parcels.{Unwraps, IsShut, view_of, unwrapped_in, UnwrapsIn, IsShutIn, IsUnwrapRefusal, IsParcelRefusal}
 use Rattle.la_replica.specs.Received.{received_in, StandsIn}
-use Rattle.la_replica.specs.Refusals.{of_set, IsFor, IsReceiveRefusal, IsReceiptRefusal, IsReceivable, ReceivingSpares}
+use Rattle.la_replica.specs.Refusals.{of_set, IsFor, IsReceiptRefusal, IsReceivable, ReceivingSpares}
 use Rattle.la_replica.specs.ReplicaState.{ReplicaState}
 use Rattle.checks_contracts.proofs.ReplicaAnswers.{one_receipt_refusal, refused_once}
 

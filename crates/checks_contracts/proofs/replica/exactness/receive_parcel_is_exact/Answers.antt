@@ -1,4 +1,4 @@
-use Rattle.std.proofs.Common.{ap, ap₂, sym, subst, IfOk}
+use Rattle.std.proofs.Common.{ap₂, sym, subst, IfOk}
 use Rattle.la_set.specs.declared.counts.Counts.{Counts}
 use Rattle.la_replica.specs.declared.parcel.Parcel.{Parcel}
 use Rattle.la_replica.specs.Received.{received_in}

@@ -5,8 +5,8 @@ use Rattle.la_replica.specs.Received.{received_in}
 use Rattle.la_replica.specs.Bases.{offered_by, AreToldIn}
 use Rattle.la_replica.specs.Parcels.{unwrapped_in}
 use Rattle.la_world.specs.Following.{takes}
-use Rattle.la_world.specs.Nodes.{NodeState, outcome_due}
-use Rattle.checks_contracts.proofs.Carried.{receipts_agree, outcomes_agree}
+use Rattle.la_world.specs.Nodes.{NodeState}
+use Rattle.checks_contracts.proofs.Carried.{receipts_agree}
 use Rattle.checks_contracts.proofs.world.nodes.receive_parcel_is_exact.Goals as goal
 
 pub returns-clause-said : goal.returns-clause-said
