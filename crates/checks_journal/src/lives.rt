@@ -4,7 +4,7 @@ ghost use Rattle.std.specs.Prelude.{◌≡◌, false};
 ghost use Rattle.la_journal.specs.Durable.{IsSettled};
 
 use crate::given::{KEPT, SPOILT, Start, disk_of, holds, started, tally_over};
-use crate::told::Told;
+use crate::told::{Failing, Told};
 use crate::{Move, Tally};
 use la_journal::{
     Disk, Durable, MemoryDisk, Refused, Unserved, recover, serve_all, serve_groups, start_again,
@@ -103,6 +103,34 @@ fn a_crash_during_a_start(rt: HostRuntime) {
         };
         holds(&rt, "a crash", started(alloc, left) == *start);
     }
+}
+
+// An outlet that fails ends the serving: what it was given was taken, and no more.
+#[test]
+fn an_outlet_that_fails(rt: HostRuntime) {
+    let alloc = rt.alloc();
+    let mut node = tally_over(&rt, alloc, disk_of(&rt, alloc, ""));
+    let mut failing = Failing {
+        told: Told::new(&rt, alloc),
+        most: 1,
+        failures: 0,
+    };
+    let served = serve_all(
+        alloc,
+        &mut node,
+        &[Move::Up, Move::Up, Move::Up],
+        &mut failing,
+    );
+    holds(
+        &rt,
+        "an end",
+        matches!(served, Err(Unserved::Outlet)) && failing.told.given.len() == 2,
+    );
+    holds(
+        &rt,
+        "what was taken",
+        node.machine.total == 2 && node.disk.bytes() == b"u\nu\n".as_slice(),
+    );
 }
 
 // After so many syncs the disk fails, of two groups of two and one: so many answers, and where the next life begins.

@@ -38,3 +38,36 @@ impl<A: Abort + Copy + Drop, T: Drop> Outlet<MemoryDisk> for Told<A, T> {
         Ok(())
     }
 }
+
+/// One that fails at each answer behind so many. What it was given then counts as given out too.
+#[derive(Drop)]
+pub struct Failing<A: Abort + Copy + Drop> {
+    pub told: Told<A, u64>,
+    pub most: usize,
+    pub failures: u64,
+}
+
+impl<A: Abort + Copy + Drop> Outlet<MemoryDisk> for Failing<A> {
+    ghost use Rattle.checks_journal.specs.Told.{told};
+
+    type Item = u64;
+
+    ghost said = { λ o. told o.told.given.items };
+
+    ghost faults = { λ o. o.failures };
+
+    fn give(&mut self, disk: &MemoryDisk, item: u64) -> Result<(), OutletFault> {
+        let is_full = self.told.given.len() >= self.most;
+        let Ok(()) = self.told.given.push((disk.moment(), item)) else {
+            panic!(self.told.rt; "out of memory");
+        };
+        if !is_full {
+            return Ok(());
+        }
+        let Some(failures) = self.failures.checked_add(1) else {
+            panic!(self.told.rt; "too many failures");
+        };
+        self.failures = failures;
+        Err(OutletFault)
+    }
+}
