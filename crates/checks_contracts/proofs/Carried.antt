@@ -2,7 +2,7 @@
 use Rattle.std.proofs.Common.{◌≡◌, ℕ, List, [], ◌∷◌, All, slice_get, Option, Some, None, IsSomeAnd, refl, sym, ap, ap₂, subst, subst₂, ◌∙◌}
 use Rattle.std.proofs.lemmas.List.Elements.{All-weaker, All-head, All-tail}
 use Rattle.std.proofs.lemmas.Option.{same_Some}
-use Rattle.std.specs.Prelude.{Result, Ok, Err, IfOk}
+use Rattle.std.specs.Prelude.{Result, Ok, Err, IfOk, OnOk}
 use Rattle.la_set.specs.declared.counts.Counts.{Counts}
 use Rattle.la_set.specs.Histories.{Histories}
 use Rattle.la_set.specs.Counts.{counts_of}
@@ -86,6 +86,13 @@ outs_agree offered x y (Ok o) (Ok p) m n same h k told also =
     out_once m offered o p told (subst (λ s. AreToldIn s offered p.mail) (sym (ap (λ (t : Out × ReplicaState). t.1) one)) also) (ap (λ (t : Out × ReplicaState). t.0) one)
 outs_agree offered x y (Ok o) (Err e) m n same h k told also = tt
 outs_agree offered x y (Err d) b m n same h k told also = tt
+
+-- and leave one state
+pub states_agree : {A B D E W S : Type 0} (f : A → W) (g : B → W) (x y : Option (W × S)) (a : Result A D) (b : Result B E) (m n : S) → x ≡ y
+    → IfOk a (λ o. x ≡ Some (f o, m)) → IfOk b (λ p. y ≡ Some (g p, n)) → OnOk a (OnOk b (m ≡ n))
+states_agree {W = W} {S = S} f g x y (Ok o) (Ok p) m n same h k = ap (λ (t : W × S). t.1) (same_Some (f o, m) (g p, n) (sym h ∙ same ∙ k))
+states_agree f g x y (Ok o) (Err e) m n same h k = tt
+states_agree f g x y (Err d) b m n same h k = tt
 
 dones_agree : (offered : Counts) (x y : Option (Taken × ReplicaState)) (a b : Done) (m n : ReplicaState) → x ≡ y
     → x ≡ Some (whole_done a, m) → y ≡ Some (whole_done b, n) → AreToldIn m offered a.mail → AreToldIn n offered b.mail → a ≡ b

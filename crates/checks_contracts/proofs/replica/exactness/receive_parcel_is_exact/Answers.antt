@@ -4,8 +4,9 @@ use Rattle.la_replica.specs.declared.parcel.Parcel.{Parcel}
 use Rattle.la_replica.specs.Received.{received_in}
 use Rattle.la_replica.specs.Bases.{offered_by, AreToldIn}
 use Rattle.la_replica.specs.Parcels.{unwrapped_in}
+use Rattle.la_replica.specs.Whole.{whole_out}
 use Rattle.la_replica.specs.ReplicaState.{ReplicaState, receives}
-use Rattle.checks_contracts.proofs.Carried.{told_in, outs_agree}
+use Rattle.checks_contracts.proofs.Carried.{told_in, outs_agree, states_agree}
 use Rattle.checks_contracts.proofs.replica.exactness.receive_parcel_is_exact.Goals as goal
 
 pub returns-clause-answers : goal.returns-clause-answers
@@ -18,3 +19,8 @@ returns-clause-answers c =
     (ap₂ (λ r k. receives r (received_in r (unwrapped_in r k))) c.requires.replicas c.requires.parcels) c.receive_parcel.ensures.step c.receive_parcel-2.ensures.step
     (told_in one p.instance (offered c.args.one.now p) c.receive_parcel.result c.receive_parcel.ensures.told)
     (subst (λ n. IfOk c.receive_parcel-2.result (λ o. AreToldIn other n o.mail)) (sym (ap₂ offered c.requires.replicas c.requires.parcels)) told)
+
+pub returns-clause-steps : goal.returns-clause-steps
+returns-clause-steps c =
+    states_agree whole_out whole_out _ _ c.receive_parcel.result c.receive_parcel-2.result c.receive_parcel.new.self c.receive_parcel-2.new.self
+    (ap₂ (λ r k. receives r (received_in r (unwrapped_in r k))) c.requires.replicas c.requires.parcels) c.receive_parcel.ensures.step c.receive_parcel-2.ensures.step

@@ -5,8 +5,8 @@ use Rattle.la_replica.specs.Received.{received_in}
 use Rattle.la_replica.specs.Bases.{offered_by, AreToldIn}
 use Rattle.la_replica.specs.Parcels.{unwrapped_in}
 use Rattle.la_world.specs.Following.{takes}
-use Rattle.la_world.specs.Nodes.{NodeState}
-use Rattle.checks_contracts.proofs.Carried.{receipts_agree}
+use Rattle.la_world.specs.Nodes.{NodeState, outcome_due}
+use Rattle.checks_contracts.proofs.Carried.{receipts_agree, outcomes_agree}
 use Rattle.checks_contracts.proofs.world.nodes.receive_parcel_is_exact.Goals as goal
 
 pub returns-clause-said : goal.returns-clause-said
@@ -16,3 +16,10 @@ returns-clause-said g c =
     receipts_agree (offered c.args.one.now p) _ _ c.receive_parcel.result c.receive_parcel-2.result c.receive_parcel.new.self.replica c.receive_parcel-2.new.self.replica
     (ap₂ (λ (n : NodeState) k. takes n.replica (received_in n.replica (unwrapped_in n.replica k))) c.requires.nodes c.requires.parcels) c.receive_parcel.ensures.step c.receive_parcel-2.ensures.step
     c.receive_parcel.ensures.told (subst (λ d. IfOk c.receive_parcel-2.result (λ x. AreToldIn c.receive_parcel-2.new.self.replica d x.done.mail)) (sym (ap₂ offered c.requires.nodes c.requires.parcels)) c.receive_parcel-2.ensures.told)
+
+pub returns-clause-outcomes : goal.returns-clause-outcomes
+returns-clause-outcomes g c =
+    let p = c.args.parcels.0 in let q = c.args.parcels.1 in
+    outcomes_agree (outcome_due p.instance c.args.one.now.replica.own) (outcome_due q.instance c.args.other.now.replica.own) c.receive_parcel.result c.receive_parcel-2.result
+    (ap₂ (λ (n : NodeState) (k : Parcel). outcome_due k.instance n.replica.own) c.requires.nodes c.requires.parcels)
+    c.receive_parcel.ensures.outcome c.receive_parcel-2.ensures.outcome (returns-clause-said g c)
