@@ -292,9 +292,9 @@ fn wrong_beliefs(alloc: Global) -> Option<bool> {
     let mut link = Link::new(alloc);
     link.believe(1, set.counts());
     let refused = tells(alloc, &mut group, &mut link, &set)?;
-    let unchanged = group[1].view().len() == 0;
+    let unchanged = group.get(1)?.view().len() == 0;
     let taken = tells(alloc, &mut group, &mut link, &set)?;
-    Some(!refused && unchanged && taken && group[1].view().same(&set))
+    Some(!refused && unchanged && taken && group.get(1)?.view().same(&set))
 }
 
 // Whether node 1 takes a learnt set, and else has not its base.
