@@ -168,7 +168,14 @@ fn all_changes(made: &Sets, alloc: Global) -> Came {
             return came;
         }
     }
-    Some(true)
+    again!(alloc, pops_what_was_pushed(made))
+}
+
+// What was pushed last is taken out without memory: no allocation that is refused is this call's.
+fn pops_what_was_pushed(made: &Sets) -> Came {
+    let mut set = made.set.copy().ok()?;
+    set.push(numbered(3)).ok()?;
+    Some(set.pop(2).is_ok() && is_of(&set, FIRST))
 }
 
 // ## Sets that are made

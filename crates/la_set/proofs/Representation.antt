@@ -1,6 +1,6 @@
 -- A set that is kept as eight lists: what each list is, and what an edit of one keeps.
-use Rattle.std.proofs.Common.{◌≡◌, ◌≢◌, ℕ, zero, suc, ◌+◌, ◌<◌, ◌≤◌, List, [], ◌∷◌, ◌++◌, length, take, get_or, map, min, set, replicate, refl, ap, sym, ◌∙◌, subst, arith, inl, inr}
-use Rattle.std.proofs.lemmas.List.{length-set, get_or-set_same, get_or-set_other, get_or_default, get_or-replicate, length-map, length-take, take_all}
+use Rattle.std.proofs.Common.{◌≡◌, ◌≢◌, ℕ, zero, suc, ◌+◌, ◌<◌, ◌≤◌, List, [], ◌∷◌, ◌++◌, length, take, get_or, map, min, set, replicate, refl, ap, sym, ◌∙◌, subst, arith, inl, inr, ap₂, ◌⊎◌}
+use Rattle.std.proofs.lemmas.List.{length-set, get_or-set_same, get_or-set_other, get_or_default, get_or-replicate, length-map, length-take, take_all, take-take}
 use Rattle.std.proofs.lemmas.Bool.{cases_eq, cases_lt}
 use Rattle.std.proofs.Math.Nat.{min_comm}
 use Rattle.la_set.specs.declared.update.Update.{Update}
@@ -14,7 +14,7 @@ use Rattle.la_set.specs.declared.kept.Kept.{Kept}
 use Rattle.la_set.specs.Kept.{lists_of, cut_of, cut_to, stored}
 use Rattle.la_set.proofs.lemmas.NumberedLists.{object_ops-numbered, length-numbered, numbered-append, take-numbered}
 use Rattle.la_set.proofs.lemmas.Counting.{count_in-from_counts, same_counts, capped_at, capped_at-own, capped_at-other}
-use Rattle.la_set.proofs.lemmas.SetHistories.{history-from_histories, same_histories, history-with_same, history-with_other, history-empty, count-edited, count-shortened, count_past, shortened-none}
+use Rattle.la_set.proofs.lemmas.SetHistories.{history-from_histories, same_histories, history-with_same, history-with_other, history-empty, count-edited, count-shortened, count_past, shortened-none, known_from_count, with_history-with_history}
 
 -- a list of lists that holds each replica's updates
 pub represented-from : (lists : List (List Update)) (s : Histories) → ((r : ℕ) → r < 8 → get_or lists r [] ≡ numbered r 1 (history s r)) → represented lists ≡ s
@@ -42,6 +42,17 @@ uncut lists n = same_histories _ _ (λ r lt. history-with_other (represented lis
 
 pub stored-uncut : (kept : Kept) → (cut_of kept).replica ≡ 8 → stored kept ≡ represented (lists_of kept)
 stored-uncut kept is = ap (λ q. truncate (represented (lists_of kept)) q (cut_of kept).len) is ∙ uncut (lists_of kept) (cut_of kept).len
+
+-- a set that is cut nowhere, or here, is cut here by its lists
+pub recut : (kept : Kept) (r n : ℕ) → ((cut_of kept).replica ≡ 8) ⊎ ((cut_of kept).replica ≡ r) → n < count (stored kept) r → truncate (represented (lists_of kept)) r n ≡ truncate (stored kept) r n
+recut kept r n (inl whole) more = sym (ap (λ s. truncate s r n) (stored-uncut kept whole))
+recut kept r n (inr here) more =
+    let s = represented (lists_of kept) in let m = (cut_of kept).len in
+    let lt : r < 8 = known_from_count (stored kept) r (omega (arith, more)) in
+    let is = ap (λ q. truncate s q m) here in
+    let cut = ap (λ t. history t r) is ∙ history-with_same s r (take m (history s r)) r lt refl in
+    let few : n ≤ m = omega (arith, more, ap length cut, length-take m (history s r)) in
+    sym (ap₂ (λ t ds. with_history t r (take n ds)) is cut ∙ with_history-with_history s r (take m (history s r)) (take n (take m (history s r))) lt ∙ ap (with_history s r) (take-take n m (history s r) few))
 
 pub cut-within : (s : Histories) (q n : ℕ) → IsWithinLimit s → IsWithinLimit (truncate s q n)
 cut-within s q n within r = elim (cases_lt q 8) [

@@ -225,8 +225,8 @@ impl<T> History<T> {
         }
     }
 
-    /// A list of what a link leads to, which shares all items, at constant cost. It takes no
-    /// memory, and is refused only where the last node has as many owners as can be counted.
+    /// A list of what a link leads to, which shares all items, at constant cost, and is refused as a
+    /// copy of a set is.
     pub fn of(link: Lent<'_, T>) -> Result<History<T>, AllocError>
         ensures { IfOk result (λ list. list ≡ lent_items link.entry) }
     {

@@ -1,5 +1,5 @@
 // What a set keeps: its lists behind one pointer, and where one of them is cut.
-ghost use Rattle.std.specs.Prelude.{◌≡◌, ◌≢◌, ◌≤◌, ◌<◌, ◌%◌, ℕ, [], length, min};
+ghost use Rattle.std.specs.Prelude.{◌≡◌, ◌≢◌, ◌≤◌, ◌<◌, ◌%◌, ◌⊎◌, ℕ, [], false, length, min};
 ghost use Rattle.std.specs.Prelude.{slice_index_or, unwrap_or, IfOk};
 ghost use Rattle.std.specs.Option.{option_copied};
 ghost use Rattle.la_set.specs.Links.{lent_items};
@@ -122,6 +122,15 @@ impl Kept {
                 len: *len,
             },
         }
+    }
+
+    // Whether a list may be cut that is not this replica's.
+    pub(crate) fn is_cut_elsewhere(&self, replica: u8) -> bool
+        ensures { result ≡ false
+            → ((cut_of self.now).replica ≡ REPLICAS) ⊎ ((cut_of self.now).replica ≡ replica) }
+    {
+        let cut = self.cut();
+        cut.replica != REPLICAS && cut.replica != replica
     }
 
     // One more owner of the same.

@@ -16,6 +16,7 @@ use crate::kept::{Cut, Kept};
 use crate::{Counts, SetError, Update, UpdateId};
 use std::alloc::{AllocError, Global};
 use std::marker::Model;
+use std::mem;
 
 /// How many replicas a group may have: their numbers are 0 to 7.
 pub const REPLICAS: u8 = 8;
@@ -124,8 +125,11 @@ impl UpdateSet {
         None
     }
 
-    /// A copy, which shares all updates, at constant cost. It takes no memory, and is refused only
-    /// where the set has as many copies as can be counted.
+    /// A copy, which shares all updates, at constant cost. It takes no memory.
+    ///
+    /// The refusal is that of a full count of owners, at 2^63: no memory holds so many copies, but
+    /// no contract can say so. Wherever a call is said to share, or to take no memory, and yet
+    /// answers a result, it is for this count alone.
     #[inline(always)]
     pub fn copy(&self) -> Result<UpdateSet, AllocError>
         ensures { IfOk result (λ copy. copy ≡ self.now) }
@@ -154,9 +158,10 @@ impl UpdateSet {
         Ok(())
     }
 
-    /// Takes a replica's last update out, and answers a copy of it, at logarithmic cost and that of
-    /// [`Update::copy`]. A replica of 8 or more, or one without updates, has none, and then it takes
-    /// no memory. After a refusal the set is unchanged.
+    /// Takes a replica's last update out, and answers a copy of it, at the cost of
+    /// [`UpdateSet::truncate`] and of [`Update::copy`], and with their memory. A replica of 8 or more,
+    /// or one without updates, has none, and then it takes none. After a refusal the set is
+    /// unchanged.
     pub fn pop(&mut self, replica: u8) -> Result<Option<Update>, AllocError>
         ensures last { IfOk result (λ last. last ≡ last_update self.old replica) }
         ensures rest { OnOk result (self.new ≡ pop self.old replica) }
@@ -176,9 +181,12 @@ impl UpdateSet {
         Ok(last)
     }
 
-    /// Keeps a replica's first so many updates; all of them, where there are fewer, and then it
-    /// takes no memory. The cost is logarithmic. A replica of 8 or more has none. After a refusal
-    /// the set is unchanged.
+    /// Keeps a replica's first so many updates; all of them, where there are no more. A replica of 8
+    /// or more has none. After a refusal the set is unchanged.
+    ///
+    /// Where there are more, what is cut off stays in memory as long as the set and its copies, and
+    /// no memory is taken, at constant cost, unless another replica's updates have been cut off and
+    /// none was added since: a set notes one such place. Then it takes a block, at logarithmic cost.
     pub fn truncate(&mut self, replica: u8, len: u32) -> Result<(), AllocError>
         ensures ok { OnOk result (self.new ≡ truncate self.old replica len) }
         ensures room { count self.old replica ≤ len → IsOk result }
@@ -187,8 +195,13 @@ impl UpdateSet {
         if self.count_of(replica) <= len {
             return Ok(());
         }
-        let front = History::front_of(self.history_of(replica), len as usize)?;
-        self.put(replica, front)
+        if self.of.is_cut_elsewhere(replica) {
+            let front = History::front_of(self.history_of(replica), len as usize)?;
+            return self.put(replica, front);
+        }
+        let of = mem::replace(&mut self.of, Kept::Empty);
+        *self = UpdateSet::cut(self.alloc, of, Cut { replica, len });
+        Ok(())
     }
 
     // One replica's updates, in the order of their numbers.
