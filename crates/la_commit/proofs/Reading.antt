@@ -1,5 +1,5 @@
 -- Reading a set's votes, update after update.
-use Rattle.std.proofs.Common.{◌≡◌, ℕ, suc, ◌+◌, Bool, true, false, List, [], ◌∷◌, length, take, drop, filter, Option, Some, None, refl, ap, sym, ◌∙◌, arith, add-one, take_all}
+use Rattle.std.proofs.Common.{◌≡◌, ℕ, suc, ◌+◌, Bool, true, false, List, [], ◌∷◌, take, drop, filter, Option, Some, None, refl, ap, ◌∙◌, add-one}
 use Rattle.std.specs.Prelude.{option_and_then}
 use Rattle.std.specs.List.{filter_map, list_all, slice_get}
 use Rattle.std.proofs.lemmas.List.Folds.{list_all-append}
@@ -18,9 +18,6 @@ vote_at s i = option_and_then (λ (u : Update). vote_of u.op) (slice_get (update
 abbrev pub votes_before : Histories → ℕ → List Vote
 votes_before s i = filter_map (λ u. vote_of u.op) (take i (updates s))
 
-pub votes_before-all : (s : Histories) → votes_before s (length (updates s)) ≡ votes s
-votes_before-all s = ap (filter_map (λ (u : Update). vote_of u.op)) (take_all (length (updates s)) (updates s) (omega arith))
-
 pub all-skip : (p : Vote → Bool) (s : Histories) (i : ℕ) → vote_at s i ≡ None → list_all p (votes_before s i) ≡ true → list_all p (votes_before s (i + 1)) ≡ true
 all-skip p s i none before = rw (add-one i) (ap (list_all p) (filter_map-skip _ (updates s) i none) ∙ before)
 
@@ -29,9 +26,6 @@ all-more p s i v at passes before = rw (add-one i) (ap (list_all p) (filter_map-
 
 pub all-fails : (p : Vote → Bool) (s : Histories) (i : ℕ) (v : Vote) → vote_at s i ≡ Some v → p v ≡ false → list_all p (votes_before s i) ≡ true → list_all p (votes s) ≡ false
 all-fails p s i v at fails before = ap (list_all p) (filter_map-at _ (updates s) i v at) ∙ list_all-append p (votes_before s i) _ ∙ rw (before, fails) refl
-
-pub all-end : (p : Vote → Bool) (s : Histories) (i : ℕ) → i ≡ length (updates s) → list_all p (votes_before s i) ≡ true → list_all p (votes s) ≡ true
-all-end p s i end before = ap (list_all p) (sym (votes_before-all s)) ∙ ap (λ n. list_all p (votes_before s n)) (sym end) ∙ before
 
 pub none-skip : (p : Vote → Bool) (s : Histories) (i : ℕ) → vote_at s i ≡ None → filter p (votes_before s i) ≡ [] → filter p (votes_before s (i + 1)) ≡ []
 none-skip p s i none before = rw (add-one i) (ap (filter p) (filter_map-skip _ (updates s) i none) ∙ before)
@@ -44,8 +38,3 @@ first-found p s i v at passes before =
     let later = filter_map (λ (u : Update). vote_of u.op) (drop (suc i) (updates s)) in
     let found : filter p (votes s) ≡ v ∷ filter p later = ap (filter p) (filter_map-at _ (updates s) i v at) ∙ filter-append p (votes_before s i) (v ∷ later) ∙ rw (before, passes) refl in
     ap (λ vs. slice_get vs 0) found
-
-pub none-end : (p : Vote → Bool) (s : Histories) (i : ℕ) → i ≡ length (updates s) → filter p (votes_before s i) ≡ [] → slice_get (filter p (votes s)) 0 ≡ None
-none-end p s i end before =
-    let none : filter p (votes s) ≡ [] = ap (filter p) (sym (votes_before-all s)) ∙ ap (λ n. filter p (votes_before s n)) (sym end) ∙ before in
-    ap (λ vs. slice_get vs 0) none

@@ -1,6 +1,6 @@
 -- A run of a list: what stands behind its first so many items, at most so many, gone along from the end.
-use Rattle.std.proofs.Common.{◌≡◌, ℕ, ◌+◌, ◌<◌, ◌≤◌, List, [], ◌∷◌, ◌++◌, length, map, take, drop, min, reverse, refl, ap, sym, ◌∙◌, append_assoc, arith}
-use Rattle.std.proofs.lemmas.List.{reverse-append, drop-append-le, drop-take, drop_all, take_min, length-append, map-append}
+use Rattle.std.proofs.Common.{◌≡◌, ℕ, ◌+◌, ◌≤◌, List, [], ◌∷◌, ◌++◌, length, map, take, drop, min, reverse, refl, ap, sym, ◌∙◌}
+use Rattle.std.proofs.lemmas.List.{reverse-append, drop-take, drop_all, take_min, map-append}
 
 pub map-reverse : {X Y : Type 0} (f : X → Y) (xs : List X) → map f (reverse xs) ≡ reverse (map f xs)
 map-reverse f [] = refl
@@ -9,14 +9,6 @@ map-reverse f (x ∷ xs) =
     ∙ map-append f (reverse xs) (x ∷ [])
     ∙ ap (λ ys. ys ++ f x ∷ []) (map-reverse f xs)
     ∙ sym (reverse-append (f x ∷ []) (map f xs))
-
--- one step back
-pub one-back : {X Y : Type 0} (f : X → Y) (n : ℕ) (front : List Y) (run : List X) (x : X) → n < length (front ++ f x ∷ []) → drop n front ++ reverse (map f (run ++ x ∷ [])) ≡ drop n (front ++ f x ∷ []) ++ reverse (map f run)
-one-back f n front run x lt =
-    ap (λ ys. drop n front ++ reverse ys) (map-append f run (x ∷ []))
-    ∙ ap (λ ys. drop n front ++ ys) (reverse-append (map f run) (f x ∷ []))
-    ∙ sym (append_assoc (drop n front) (f x ∷ []) (reverse (map f run)))
-    ∙ ap (λ ys. ys ++ reverse (map f run)) (sym (drop-append-le n front (f x ∷ []) (omega (arith, lt, length-append front (f x ∷ [])))))
 
 -- all the way back
 pub whole-run : {X Y : Type 0} (f : X → Y) (n m end : ℕ) (all left : List Y) (run : List X) → end ≡ min (n + m) (length all) → length left ≤ n → drop n left ++ reverse (map f run) ≡ drop n (take end all) → map f (reverse run) ≡ take m (drop n all)

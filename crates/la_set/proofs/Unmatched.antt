@@ -71,9 +71,6 @@ from_none [] ys (suc k) e = refl
 from_none (x ∷ xs) [] (suc k) e = absurd (omega (arith, ap length e))
 from_none (x ∷ xs) (y ∷ ys) (suc k) e = from_none xs ys k (none_left (update_eq y x) x (unmatched xs ys) e)
 
-pub from_end : (xs ys : List Update) (n : ℕ) → length xs ≤ n → [] ≡ reverse (from xs ys n)
-from_end xs ys n le = sym (ap (λ us. reverse (unmatched us (drop n ys))) (drop_all n xs le))
-
 -- ## What a set lacks of a replica's updates
 
 module _ (s : Histories) (r : ℕ) where

@@ -1,5 +1,5 @@
 -- Sets whose histories agree place by place, and the first place at which they do not.
-use Rattle.std.proofs.Common.{◌≡◌, ◌≢◌, ℕ, ◌+◌, ◌-◌, ◌<◌, ◌≤◌, List, Bool, true, false, not, Some, None, Option, option_map, IsSomeAnd, MatchOption, refl, ap, sym, ◌∙◌, subst, arith, inl, inr}
+use Rattle.std.proofs.Common.{◌≡◌, ◌≢◌, ℕ, ◌+◌, ◌-◌, ◌<◌, ◌≤◌, Bool, true, false, not, Some, None, Option, option_map, IsSomeAnd, MatchOption, refl, ap, sym, ◌∙◌, subst, arith, inl, inr}
 use Rattle.std.specs.List.{slice_get}
 use Rattle.std.specs.Bool.{Decides}
 use Rattle.std.specs.Option.{is_some}
@@ -90,20 +90,3 @@ none-Decides a b None true e one = ((λ _. one), λ _. refl)
 none-Decides a b None false e one = absurd (false≢true e)
 none-Decides a b (Some id) true e least = absurd (true≢false e)
 none-Decides a b (Some id) false e least = ((λ fails. absurd (false≢true fails)), λ one. absurd (clash_compatible a b id least.clashes one))
-
--- one more place that agrees
-pub agree-more : (us vs : List Update) (i : ℕ) (u v : Update) → slice_get us i ≡ Some u → slice_get vs i ≡ Some v → u ≡ v → AgreeBelow us vs i → AgreeBelow us vs (i + 1)
-agree-more us vs i u v at_us at_vs same agree k x y lt in_us in_vs = elim (cases_lt k i) [
-  | inl below ↦ agree k x y below in_us in_vs
-  | inr le ↦ elim (cases_eq k i) [
-    | inl e ↦ same_Some x u (sym in_us ∙ ap (slice_get us) e ∙ at_us) ∙ same ∙ same_Some v y (sym at_vs ∙ ap (slice_get vs) (sym e) ∙ in_vs)
-    | inr ne ↦ absurd (omega arith)
-  ]
-]
-
--- past the end of either there is nothing to agree
-pub agree-past : (us vs : List Update) (i : ℕ) → ((k : ℕ) (u v : Update) → i ≤ k → slice_get us k ≡ Some u → slice_get vs k ≡ Some v → ⊥) → AgreeBelow us vs i → (n : ℕ) → AgreeBelow us vs n
-agree-past us vs i none agree n k u v lt in_us in_vs = elim (cases_lt k i) [
-  | inl below ↦ agree k u v below in_us in_vs
-  | inr le ↦ absurd (none k u v le in_us in_vs)
-]

@@ -6,12 +6,12 @@ use Rattle.std.proofs.lemmas.Option.{none-some, slice_get-get_or}
 use Rattle.std.proofs.lemmas.Bool.{cases_lt}
 use Rattle.la_set.specs.declared.update.Update.{Update}
 use Rattle.la_set.specs.ObjectOps.{ObjectOp, object_op_of}
-use Rattle.la_set.specs.Histories.{Histories, history, object_op_number, ContainsUpdate, empty}
+use Rattle.la_set.specs.Histories.{Histories, history, object_op_number, ContainsUpdate}
 use Rattle.la_set.specs.Inclusion.{IsSubset}
 use Rattle.la_set.specs.Join.{joined, join, HasNoMore, IsCompatible}
 use Rattle.la_set.proofs.lemmas.NumberedLists.{slice_get-append_left, slice_get-append_right}
 use Rattle.la_set.proofs.lemmas.Prefixes.{IsPrefix, IsPrefix-from_reads}
-use Rattle.la_set.proofs.lemmas.SetHistories.{same_histories, history-from_histories, history_past, history-empty}
+use Rattle.la_set.proofs.lemmas.SetHistories.{same_histories, history-from_histories, history_past}
 use Rattle.la_set.proofs.lemmas.Inclusions.{object_op-contains, contains-object_op, prefix-subset, subset-refl, subset-antisym, compatible-agree, compatible-within}
 
 -- ## One replica's histories
@@ -86,9 +86,6 @@ join-subset a b sub = subset-antisym _ _ (join-least a b b sub (subset-refl b)) 
 
 pub join-superset : (a b : Histories) → IsSubset b a → join a b ≡ a
 join-superset a b sub = subset-antisym _ _ (join-least a b a (subset-refl a) sub) (subset-join_left a b)
-
-pub join-empty : (s : Histories) → join empty s ≡ s
-join-empty s = same_histories _ _ (λ r lt. history-join empty s r ∙ ap (λ xs. joined xs (history s r)) (history-empty r))
 
 -- a join that has nothing to add
 pub join-nothing : (a b : Histories) → HasNoMore b a → join a b ≡ a
