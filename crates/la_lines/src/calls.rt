@@ -141,8 +141,9 @@ pub fn read(alloc: Global, line: &[u8]) -> Result<Call, LineError>
     }
 }
 
-/// The same of a line that comes from outside: `TooLong` comes first, where it has more than [`MAX_LINE`]
-/// bytes, and then it is not looked at. So no line takes more memory than some such lines have bytes.
+/// The call that a line from outside is, as [`read`] says: `TooLong` comes first, where it has more than
+/// [`MAX_LINE`] bytes, and then it is not looked at. So no line takes more memory than some such lines
+/// have bytes.
 pub fn read_bounded(alloc: Global, line: &[u8]) -> Result<Call, LineError>
     ensures exact { Gives called (bounded_call_of line.now) result }
     ensures ok { IfOk result (λ call. call_of line.now ≡ Ok (called call)) }

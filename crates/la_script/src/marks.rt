@@ -14,11 +14,11 @@ const ROOM: usize = 128;
 /// are left.
 #[derive(Clone, Copy)]
 pub enum Mark {
-    /// So many of the words, one at least.
+    /// The next words, as many as this, one at least.
     Words(u8),
     /// A replica's first ids, as many as the next number says.
     Ids(u8),
-    /// The same behind other ids: with a space before each.
+    /// A replica's ids behind other ids: with a space before each.
     MoreIds(u8),
     /// The line of a reply that counts; the next number is the line's.
     Counted,

@@ -34,9 +34,9 @@ fn event_by(replicas: u8, number: u32, first: u32, second: u32) -> Event
     }
 }
 
-/// As many events as are said, drawn from a seed, for a group of so many replicas: submissions to
-/// objects 1 and 3, proposals to adopt-commit object 0, questions to object 1, and deliveries, about
-/// half of all. The same seed gives the same events, and more of them where more are asked for.
+/// This many events, drawn from a seed, for a group of so many replicas: submissions to objects 1 and
+/// 3, proposals to adopt-commit object 0, questions to object 1, and deliveries, about half of all. The
+/// same seed gives the same events, and more of them where more are asked for.
 ///
 /// There is to be a replica at least. The refusal is for want of memory, and nothing stands after
 /// it. The time is linear in the events.

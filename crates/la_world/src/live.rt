@@ -16,8 +16,8 @@ pub fn groups_stand_for_events()
     ensures { LiveGroupsStandForEvents }
 {}
 
-/// So it keeps all that a world promises of these events: of what is learnt, of its nodes' views, and of
-/// what they return from adopt-commit objects.
+/// A group that calls lead to keeps all that a world promises of the events that these calls are: of
+/// what is learnt, of its nodes' views, and of what they return from adopt-commit objects.
 pub fn groups_keep_all_promises()
     ensures { LiveGroupsKeepAll }
 {}
@@ -27,7 +27,8 @@ pub fn learnt_sets_are_comparable()
     ensures { LiveLearntAreComparable }
 {}
 
-/// Any two views are: of whatever nodes, one at any moment and the other at the same or a later one.
+/// Any two views are comparable: of whatever nodes, one at any moment and the other at the same or a
+/// later one.
 pub fn views_are_comparable()
     ensures { LiveViewsAreComparable }
 {}
@@ -43,42 +44,43 @@ pub fn new_nodes_are_live()
     ensures { NewNodesAreLive }
 {}
 
-/// They stay so whatever the network loses, holds twice or brings late, and whatever deltas it makes
-/// anew: of a message one that says the same is left.
+/// Live nodes stay so whatever the network loses, holds twice or brings late, and whatever deltas it
+/// makes anew: of a message one that says the same is left.
 pub fn networks_may_lose()
     ensures { NetworksMayLose }
 {}
 
-/// They are live after a submission at one of them, with what it sends on the network: as it was sent, or
-/// over whatever bases of its sets, be it true or not that the receivers have them.
+/// Nodes are live after a submission at one of them, with what it sends on the network: as it was sent,
+/// or over whatever bases of its sets, be it true or not that the receivers have them.
 pub fn submissions_keep_live()
     ensures { SubmissionsKeepLive }
 {}
 
-/// And after a proposal.
+/// Nodes are live after a proposal at one of them, with what it sends on the network.
 pub fn proposals_keep_live()
     ensures { ProposalsKeepLive }
 {}
 
-/// And after the receipt of a message on the network, by the node that it is for, where it stands (clause
-/// `stands` of [`Node::receive`](crate::Node::receive)): so over a base that its receiver has. The message
-/// stays there, as if the network held it twice.
+/// Nodes are live after the receipt of a message on the network, by the node that it is for, where it
+/// stands (clause `stands` of [`Node::receive`](crate::Node::receive)): so over a base that its receiver
+/// has. The message stays there, as if the network held it twice.
 pub fn receipts_keep_live()
     ensures { ReceiptsKeepLive }
 {}
 
-/// And after that of a parcel of such a message, whatever was believed of its receiver.
+/// Nodes are live after the receipt of a parcel of a message on the network, whatever was believed of its
+/// receiver.
 pub fn parcel_receipts_keep_live()
     ensures { ParcelReceiptsKeepLive }
 {}
 
-/// And after a call that leaves its replica as it was: a question, an object more or less.
+/// Nodes are live after a call that leaves its replica as it was: a question, an object more or less.
 pub fn looks_keep_live()
     ensures { LooksKeepLive }
 {}
 
-/// And after any call whose mail is lost: so a node that is started again in a state to which such calls led
-/// keeps its group live.
+/// Nodes are live after any call whose mail is lost: so a node that is started again in a state to which
+/// such calls led keeps its group live.
 pub fn unheard_calls_keep_live()
     ensures { UnheardCallsKeepLive }
 {}
@@ -89,8 +91,8 @@ pub fn kept_lists_lead_on()
     ensures { KeptListsLeadOn }
 {}
 
-/// Where a first part of such a list is played into a new node, the rest leads from there to where it
-/// led before.
+/// Where a first part of a list of accepted calls is played into a new node, the rest leads from there to
+/// where it led before.
 pub fn kept_lists_are_played_again()
     ensures { KeptListsArePlayedAgain }
 {}

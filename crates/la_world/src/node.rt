@@ -315,7 +315,7 @@ impl<B: Replicated> Node<B> {
         Ok(Received { done, outcome })
     }
 
-    /// The same of a message that is known to fit, as what was sent in a group does
+    /// Receives a message that is known to fit, as what was sent in a group does
     /// ([`laws::deliveries_fit`](crate::laws::deliveries_fit)): no updates are compared. It is refused
     /// for want of memory alone, and then the node is as before.
     pub fn receive_fitting(&mut self, message: &Message) -> Result<Received, AllocError>

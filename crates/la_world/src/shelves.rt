@@ -6,7 +6,8 @@ ghost use Rattle.la_object.specs.Shelves.{ShelfState};
 use la_object::{Replicated, Shelf};
 use std::alloc::{AllocError, Global};
 
-/// So many shelves without objects: of a group that is asked nothing, or to add objects to.
+/// Shelves without objects, as many as are asked for: of a group that is asked nothing, or to add
+/// objects to.
 pub fn empty_shelves<B: Replicated>(
     alloc: Global,
     replicas: u8,
