@@ -79,7 +79,7 @@ class Caller:
 
 def stored_calls(runs: Path) -> list[Call]:
     """The stored runs: each script, and the words that stand beside one or alone in a folder below."""
-    scripts = sorted(runs.glob("*.script"))
+    scripts = [*sorted(runs.glob("*.script")), *sorted(runs.glob("faults/*.script"))]
     calls = [Call(it.stem, ("play",), it.read_bytes(), os.path.relpath(it)) for it in scripts]
     worded = [*sorted(runs.glob("*.args")), *sorted(runs.glob("*/*.args"))]
     return calls + [Call(it.stem, tuple(it.read_text().splitlines())) for it in worded]
