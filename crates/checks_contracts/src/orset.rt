@@ -1,1 +1,2 @@
 mod exactness;
+mod laws;

@@ -32,6 +32,10 @@ is_of_some_kind Mark = false
 is_of_some_kind (Vote value sole) = false
 is_of_some_kind _ = true
 
+-- the updates whose operations are some kind's
+abbrev pub without_marks_and_votes : List Update → List Update
+without_marks_and_votes us = filter (λ u. is_of_some_kind u.op) us
+
 -- the updates of the object with this number
 abbrev pub of_object : ℕ → List Update → List Update
 of_object number us = filter (λ u. u.object == number) us

@@ -10,7 +10,7 @@ ghost use Rattle.la_object.specs.declared.query.Query.TheVariants.{Has};
 ghost use Rattle.la_object.specs.declared.query.Answer.TheVariants.{Has as HasIs};
 ghost use Rattle.la_object.specs.declared.state.State.{State};
 ghost use Rattle.la_object.specs.Objects.{after, steps, start, reply, value, tags_of, tags_by};
-ghost use Rattle.la_object.specs.Objects.{is_of_kind, is_of_some_kind};
+ghost use Rattle.la_object.specs.Objects.{is_of_kind, kind_of, without_marks_and_votes};
 ghost use Rattle.la_object.specs.Shelves.{ShelfState, updates_at, kind_at, answer_at, tags_at};
 ghost use Rattle.la_object.specs.Shelves.{state_at, IsOneObject};
 ghost use Rattle.la_object.specs.OrSet.{is_removed, set_value};
@@ -36,17 +36,22 @@ pub fn order_does_not_matter()
         → tags_of (steps (start kind) order) x ≡ tags_by kind (updates_at set number) x }
 {}
 
-/// Only the operations of an object's own kind count: the answers and the live tags over updates are
-/// those over the ones of the kind, and those over the ones that are no `Mark` and no `Vote`.
+/// Only the operations of an object's own kind count: the answers, the live tags and the state over
+/// updates are those over the ones of the kind, and those over the ones that are no `Mark` and no
+/// `Vote`.
 pub fn only_own_operations_count()
     ensures own { (kind : Kind) (us : List Update) (query : Query)
         → value kind (filter (λ u. is_of_kind kind u.op) us) query ≡ value kind us query }
     ensures own_tags { (kind : Kind) (us : List Update) (x : ℕ)
         → tags_by kind (filter (λ u. is_of_kind kind u.op) us) x ≡ tags_by kind us x }
+    ensures own_steps { (s : State) (us : List Update)
+        → steps s (filter (λ u. is_of_kind (kind_of s) u.op) us) ≡ steps s us }
     ensures marks { (kind : Kind) (us : List Update) (query : Query)
-        → value kind (filter (λ u. is_of_some_kind u.op) us) query ≡ value kind us query }
+        → value kind (without_marks_and_votes us) query ≡ value kind us query }
     ensures mark_tags { (kind : Kind) (us : List Update) (x : ℕ)
-        → tags_by kind (filter (λ u. is_of_some_kind u.op) us) x ≡ tags_by kind us x }
+        → tags_by kind (without_marks_and_votes us) x ≡ tags_by kind us x }
+    ensures mark_steps { (s : State) (us : List Update)
+        → steps s (without_marks_and_votes us) ≡ steps s us }
 {}
 
 /// Only the operations on an object itself count: two shelves with objects of one kind under a

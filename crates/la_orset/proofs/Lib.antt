@@ -8,3 +8,4 @@ pub mod Numbers
 pub mod ById
 pub mod Absorbed
 pub mod Copied
+pub mod Operations

@@ -8,6 +8,7 @@
 #![tactic(auto)]
 
 mod chain;
+pub mod laws;
 mod live;
 mod live_table;
 mod live_tree;
