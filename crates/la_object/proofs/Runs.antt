@@ -138,10 +138,6 @@ module _ (view set : Histories) (sub : IsSubset view set) (r : ℕ) (first : IsF
       ends-HasTaken old is = subst (λ s. HasTaken s set (record { view = view'; objects = kinds (rows f es') }) many) is
           (subst (λ new. HasTaken (record { view = view; objects = kinds (rows f es) }) set new many) (λ i. record { view = sym view-is i; objects = sym kinds-is i }) (run-HasTaken (kinds (rows f es))))
 
--- nothing is absorbed
-pub none-HasTaken : (s : ShelfState) (set : Histories) → IsSubset s.view set → HasTaken s set s 0
-none-HasTaken s set sub = record { taken = refl; few = omega arith; left = refl; within = sub }
-
 -- more after some
 pub more-HasTaken : (a b c : ShelfState) (set : Histories) (n k : ℕ) → HasTaken a set b n → HasTaken b set c k → HasTaken a set c (n + k)
 more-HasTaken a b c set n k one two =
@@ -156,7 +152,3 @@ more-HasTaken a b c set n k one two =
       left = two.left ∙ drop-more all (beyond set b.view) n k one.left;
       within = two.within;
     }
-
--- what is left shrinks
-pub fewer-HasTaken : (b c : ShelfState) (set : Histories) (k : ℕ) → HasTaken b set c k → 0 < k → length (beyond set c.view) < length (beyond set b.view)
-fewer-HasTaken b c set k two some = omega (arith, two.few, some, ap length two.left, length-drop k (beyond set b.view))

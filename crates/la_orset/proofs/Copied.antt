@@ -44,19 +44,6 @@ entries-next k columns rows lt is =
 pub entries-end : (k : ℕ) (columns : List (List Row)) → length columns ≤ k → entries_from k (drop k columns) ≡ []
 entries-end k columns le = ap (entries_from k) (drop_all k columns le)
 
--- one row further
-pub added-next : (adds : Elements) (r : ℕ) (rows : List Row) (i : ℕ) (row : Row) → i < length rows → row ≡ get_or rows i row
-    → all_added adds (list_map (row_entry r) (drop i rows)) ≡ all_added (with_element adds (record { replica = r; number = row.number }) (Some row.element)) (list_map (row_entry r) (drop (i + 1) rows))
-added-next adds r rows i row lt is =
-    let next : suc i ≡ i + 1 = omega arith in
-    ap (λ rs. all_added adds (list_map (row_entry r) rs)) (drop-cons rows i row lt ∙ (λ j. sym is j ∷ drop (next j) rows))
-
-pub gone-next : (ids : IdSet) (r : ℕ) (rows : List Row) (i : ℕ) (row : Row) → i < length rows → row ≡ get_or rows i row
-    → all_gone ids (list_map (row_entry r) (drop i rows)) ≡ all_gone (if row.gone then set.insert ids (record { replica = r; number = row.number }) else ids) (list_map (row_entry r) (drop (i + 1) rows))
-gone-next ids r rows i row lt is =
-    let next : suc i ≡ i + 1 = omega arith in
-    ap (λ rs. all_gone ids (list_map (row_entry r) rs)) (drop-cons rows i row lt ∙ (λ j. sym is j ∷ drop (next j) rows))
-
 -- ## Elements
 
 or_none : {X : Type 0} (o : Option X) → o ≡ or_else o None

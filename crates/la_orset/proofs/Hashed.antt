@@ -10,15 +10,12 @@ use Rattle.std.specs.declared.cmp.Ordering.TheVariants.{Less, Equal, Greater}
 use Rattle.std.specs.Cmp.{nat_cmp_total, unsigned_tied, nat_eq_equiv}
 use Rattle.std.specs.FinMap as map
 use Rattle.std.specs.FinMap.{nat_cmp-IsAntisymmetric}
-use Rattle.std.specs.FinSet as set
 use Rattle.std.proofs.lemmas.Bool.{eqb-true}
 use Rattle.std.proofs.lemmas.Map.Keys.{IsDistinct-from_sorted, IsDistinct-head, IsDistinct-tail, IsDistinct-IsPermutation, IsStrictlyIncreasing-from_distinct, sorted_from_strictly_increasing}
 use Rattle.std.proofs.lemmas.List.Sorted.{list_any-IsPermutation, IsNonDecreasingBy-from_sort}
 use Rattle.la_set.specs.declared.update.UpdateId.{UpdateId}
 use Rattle.la_object.specs.IdOrder.{id_cmp}
-use Rattle.la_object.proofs.lemmas.IdOrder.{id_cmp_total, id_cmp-IsAntisymmetric}
-use Rattle.la_object.proofs.lemmas.IdMaps.{one_more, one_less}
-use Rattle.la_object.proofs.lemmas.Sorted.{get-lookup, one_put, one_taken}
+use Rattle.la_object.proofs.lemmas.Sorted.{get-lookup, one_put}
 use Rattle.la_orset.specs.Index.{id_eq, set_of, TagMap, Index}
 use Rattle.la_orset.proofs.Sets.{same_members, contains-set_of, keys-set_of, sorted-entries, sorted-units}
 use Rattle.la_orset.proofs.LiveTags.{changed_from}
@@ -44,29 +41,10 @@ by_order {K} {X} e f p es fs x o h =
 
 -- ## Ids
 
-pub id_found : (es : List (UpdateId × ℕ)) (q : UpdateId) → map.get (map.from_entries {R = id_cmp} es) q ≡ lookup (id_eq q) es
-id_found es q = get-lookup id_cmp_total es q ∙ sym (ap (λ t. lookup (t q) es) id_tests)
-
-pub id_put : (es fs : List (UpdateId × ℕ)) (k : UpdateId) (x : ℕ) → ((q : UpdateId) → lookup (id_eq q) fs ≡ cond (id_eq k q) (Some x) (lookup (id_eq q) es)) → map.from_entries {R = id_cmp} fs ≡ map.insert (map.from_entries es) k x
-id_put es fs k x h = one_put id_cmp_total id_cmp-IsAntisymmetric es fs k x (by_order id_eq (λ q r. is_at (id_cmp q) r) id_tests es fs k (Some x) h)
-
-pub id_taken : (es fs : List (UpdateId × ℕ)) (k : UpdateId) → ((q : UpdateId) → lookup (id_eq q) fs ≡ cond (id_eq k q) None (lookup (id_eq q) es)) → map.from_entries {R = id_cmp} fs ≡ map.remove (map.from_entries es) k
-id_taken es fs k h = one_taken id_cmp_total id_cmp-IsAntisymmetric es fs k (by_order id_eq (λ q r. is_at (id_cmp q) r) id_tests es fs k None h)
-
--- whether an id is one of some
-pub id_any : (ks : List UpdateId) (q : UpdateId) → set.contains (set.from_list {R = id_cmp} ks) q ≡ list_any (id_eq q) ks
-id_any ks q = set.contains-from_list id_cmp_total ks q ∙ sym (ap (λ t. list_any (t q) ks) id_tests)
-
 any_by_order : (ks ls : List UpdateId) (id : UpdateId) (b : Bool) → ((q : UpdateId) → list_any (id_eq q) ls ≡ cond (id_eq id q) b (list_any (id_eq q) ks)) → (q : UpdateId) → list_any (is_at (id_cmp q)) ls ≡ cond (is_at (id_cmp id) q) b (list_any (is_at (id_cmp q)) ks)
 any_by_order ks ls id b h =
     let P : (UpdateId → UpdateId → Bool) → Type 0 = λ t. (q : UpdateId) → list_any (t q) ls ≡ cond (t id q) b (list_any (t q) ks) in
     subst P id_tests h
-
-pub id_more : (ks ls : List UpdateId) (id : UpdateId) → ((q : UpdateId) → list_any (id_eq q) ls ≡ cond (id_eq id q) true (list_any (id_eq q) ks)) → set.from_list {R = id_cmp} ls ≡ set.insert (set.from_list ks) id
-id_more ks ls id h = one_more ks ls id (any_by_order ks ls id true h)
-
-pub id_less : (ks ls : List UpdateId) (id : UpdateId) → ((q : UpdateId) → list_any (id_eq q) ls ≡ cond (id_eq id q) false (list_any (id_eq q) ks)) → set.from_list {R = id_cmp} ls ≡ set.remove (set.from_list ks) id
-id_less ks ls id h = one_less ks ls id (any_by_order ks ls id false h)
 
 -- ## Distinct keys
 

@@ -52,16 +52,6 @@ module _ (ks : List UpdateId) (i : ℕ) (id : UpdateId) where
       let first = IsDistinct-IsPermutation id_eq id_equiv.symm (ks ++ id ∷ []) (id ∷ ks) (IsPermutation-to_front ks id) (IsDistinct-push id_equiv ks id distinct new) in
       IsDistinct-IsPermutation id_eq id_equiv.symm (id ∷ ks) (insert ks i id) (IsPermutation-insert ks i id) first
 
--- an id that is there
-pub list-there : (ks : List UpdateId) (id : UpdateId) → list_any (id_eq id) ks ≡ true → set_of {R = id_cmp} ks ≡ map.insert (set_of ks) id tt
-list-there ks id there = same_tags _ _ (λ q.
-    contains-list ks q ∙ by q (id_eq q id) refl
-    ∙ sym (contains-more (set_of ks) id q ∙ ap (λ b. id_eq q id || b) (contains-list ks q)))
-  where
-    by : (q : UpdateId) (b : Bool) → id_eq q id ≡ b → list_any (id_eq q) ks ≡ (b || list_any (id_eq q) ks)
-    by q true is = ap (λ k. list_any (id_eq k) ks) (same-id q id is) ∙ there
-    by q false is = refl
-
 none-any : (e : UpdateId → UpdateId → Bool) (k : UpdateId) (ks : List UpdateId) → AllByRecursion (λ y. e k y ≡ false) ks → list_any (e k) ks ≡ false
 none-any e k [] h = refl
 none-any e k (x ∷ ks) h = ap (λ b. b || list_any (e k) ks) h.0 ∙ none-any e k ks h.1
@@ -79,9 +69,6 @@ any-at (k ∷ ks) (suc i) id h = ap (λ b. id_eq id k || b) (any-at ks i id h) �
     or_true : (b : Bool) → (b || true) ≡ true
     or_true true = refl
     or_true false = refl
-
-pub list-there-at : (ks : List UpdateId) (i : ℕ) (id : UpdateId) → slice_get ks i ≡ Some id → set_of {R = id_cmp} ks ≡ map.insert (set_of ks) id tt
-list-there-at ks i id h = list-there ks id (any-at ks i id h)
 
 -- an id is taken out
 module _ (ks rest : List UpdateId) (id : UpdateId) (distinct : IsDistinct id_eq ks) (moved : IsPermutation ks (id ∷ rest)) where

@@ -1,5 +1,5 @@
 -- What is found in the rows of one replica, and what an edit of them does to it.
-use Rattle.std.proofs.Common.{◌≡◌, ℕ, zero, suc, ◌+◌, ◌-◌, ◌<◌, ◌≤◌, eqb, ◌==◌, ◌≢◌, Bool, true, false, List, [], ◌∷◌, length, get_or, set, if◌then◌else◌, Some, None, is_some, Result, Ok, Err, is_ok, IfOk, IfErr, refl, ap, sym, ◌∙◌, subst, arith}
+use Rattle.std.proofs.Common.{◌≡◌, ℕ, zero, suc, ◌+◌, ◌-◌, ◌<◌, ◌≤◌, eqb, ◌≢◌, Bool, true, false, List, [], ◌∷◌, length, get_or, set, if◌then◌else◌, Some, None, is_some, Result, Ok, Err, is_ok, IfOk, IfErr, refl, ap, sym, ◌∙◌, subst, arith}
 use Rattle.std.specs.List.{insert}
 use Rattle.std.specs.List.Sorted.{IsSearchInRange, IsBinarySearchResult, IsNonDecreasingBy}
 use Rattle.std.specs.Ordering.{nat_cmp, ordering_index}
@@ -113,16 +113,6 @@ later_ascending row rows ascending i j lt in_range = ascending (suc i) (suc j) (
 pub later_none : (row : Row) (rows : List Row) → IsAscending (row ∷ rows) → at_number rows row.number ≡ None
 later_none row rows ascending = absent rows row.number (λ j lt same. omega (arith, same, ascending 0 (suc j) (omega arith) (omega (arith, lt))))
 
-pub none_ascending : IsAscending []
-none_ascending i j lt in_range = absurd (omega (arith, in_range))
-
-pub not_equal : (a b : ℕ) → (a ≡ b → ⊥) → (a == b) ≡ false
-not_equal a b ne = by (eqb a b) refl
-  where
-    by : (x : Bool) → eqb a b ≡ x → x ≡ false
-    by true is = absurd (ne (eqb-true a b is))
-    by false is = refl
-
 -- ## A row that was read
 
 module _ (rows : List Row) (ascending : IsAscending rows) (n i : ℕ) (at : IsAt rows n i) (row : Row) (read : row ≡ get_or rows i row) where
@@ -160,16 +150,3 @@ module _ (rows : List Row) (ascending : IsAscending rows) (n i : ℕ) (at : IsAt
 
 pub gap_none : (rows : List Row) (n : ℕ) → length rows ≡ 0 → IsGapFor rows n (length rows)
 gap_none rows n none = record { in_range = omega arith; lower_before = λ j lt. absurd (omega (arith, lt, none)); higher_after = λ j le lt. absurd (omega (arith, lt, none)) }
-
--- the last number is below, and so are all
-pub gap_end : (rows : List Row) (n : ℕ) (row : Row) → IsAscending rows → 0 < length rows → row ≡ get_or rows (length rows - 1) row → row.number < n → IsGapFor rows n (length rows)
-gap_end rows n row ascending some is below =
-    let last : number_at rows (length rows - 1) < n = subst (λ m. m < n) (ap (λ (r : Row). r.number) (is ∙ get_or_default rows (length rows - 1) row no_row (omega (arith, some)))) below in
-    record {
-      in_range = omega arith;
-      lower_before = λ j lt. grind (arith, last, ascending j (length rows - 1), λ (same : j ≡ length rows - 1). ap (number_at rows) same);
-      higher_after = λ j le lt. absurd (omega (arith, le, lt));
-    }
-
-pub at_read : (rows : List Row) (n i : ℕ) (row : Row) → i < length rows → row ≡ get_or rows i row → row.number ≡ n → IsAt rows n i
-at_read rows n i row lt is same = record { in_range = lt; has_number = sym (ap (λ (r : Row). r.number) (is ∙ get_or_default rows i row no_row lt)) ∙ same }

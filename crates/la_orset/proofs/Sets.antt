@@ -56,10 +56,6 @@ no_length : {X Y : Type 0} (f : X → Y) (xs : List X) → has_any (list_map f x
 no_length f [] h = refl
 no_length f (x ∷ xs) h = absurd (subst T h tt)
 
-pub has_any-length : {X : Type 0} (xs : List X) → has_any xs ≡ false → length xs ≡ 0
-has_any-length [] h = refl
-has_any-length (x ∷ xs) h = absurd (subst T h tt)
-
 pub entries-empty : {K : Type 0} (R : K → K → Ordering) (X : Type 0) → map.entries (map.empty {X = X} {R = R}) ≡ []
 entries-empty R X = nil_from_length _ (sym (map.len-entries map.empty) ∙ map.len-empty R X)
 

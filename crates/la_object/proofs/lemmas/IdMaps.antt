@@ -67,15 +67,6 @@ put_back adds id x was there = map.same_map id_cmp_total id_cmp-IsAntisymmetric 
     by q true is = sym (ap (map.get adds) (id_cmp-IsAntisymmetric q id ((Equal-is (id_cmp q id)).0 is)) ∙ there)
     by q false is = refl
 
--- what was put where there was nothing is taken out again
-pub taken_back : (adds : Elements) (id : UpdateId) (x : ℕ) → map.get adds id ≡ None → map.remove (map.insert adds id x) id ≡ adds
-taken_back adds id x none = map.same_map id_cmp_total id_cmp-IsAntisymmetric _ _ (λ q.
-    map.get-remove id_cmp_total (map.insert adds id x) id q ∙ ap (cond (eq_by_cmp id_cmp q id) None) (map.get-insert id_cmp_total adds id x q) ∙ by q (eq_by_cmp id_cmp q id) refl)
-  where
-    by : (q : UpdateId) (b : Bool) → eq_by_cmp id_cmp q id ≡ b → cond b None (cond b (Some x) (map.get adds q)) ≡ map.get adds q
-    by q true is = sym (ap (map.get adds) (id_cmp-IsAntisymmetric q id ((Equal-is (id_cmp q id)).0 is)) ∙ none)
-    by q false is = refl
-
 -- ## A list of ids
 
 pub contains-with_ids : (gone : IdSet) (ids : List UpdateId) (q : UpdateId) → set.contains (with_ids gone ids) q ≡ (set.contains gone q || list_any (eq_by_cmp id_cmp q) ids)

@@ -225,10 +225,6 @@ is_some-kind_at {B} f k es = by (lookup (nat_eq k) es) ∙ sym (ap is_some (kind
     by (Some x) = refl
     by None = refl
 
-pub numbers-rows : {B : Type 0} (f : B → State) (es : List (ℕ × B)) → map (λ (o : ℕ × Kind). o.0) (kinds (rows f es)) ≡ keys_of es
-numbers-rows f [] = refl
-numbers-rows f (e ∷ es) = ap (λ ks. e.0 ∷ ks) (numbers-rows f es)
-
 -- what the object under a number answers, the tags that it observes, and its state
 module _ {B : Type 0} (view : Histories) (f : B → State) (k : ℕ) (es : List (ℕ × B)) (v : B) (all : All (IsObject view) (rows f es)) (found : lookup (nat_eq k) es ≡ Some v) where
   found_kind : kind_at (kinds (rows f es)) k ≡ Some (kind_of (f v))
