@@ -1,6 +1,6 @@
 -- What a call leaves of a node, and what its refusals are.
-use Rattle.std.proofs.Common.{◌≡◌, inl, inr, ℕ, ◌<◌, ◌≤◌, List, length, slice_get, Option, Some, None, Result, Ok, Err, IfErr, IsSome, IsSomeAnd, option_map, option_and_then, refl, ap, sym, ◌∙◌, subst, arith}
-use Rattle.std.proofs.lemmas.Bool.{true≢false, cases_lt}
+use Rattle.std.proofs.Common.{◌≡◌, inl, inr, ℕ, ◌<◌, ◌≤◌, List, length, slice_get, Option, Some, None, Result, Ok, Err, IfErr, IsSomeAnd, option_map, option_and_then, refl, ap, sym, ◌∙◌, subst, arith}
+use Rattle.std.proofs.lemmas.Bool.{cases_lt}
 use Rattle.std.proofs.lemmas.Option.{none-some, slice_get_within, slice_get_past}
 use Rattle.la_set.specs.ObjectOps.{ObjectOp}
 use Rattle.la_set.specs.declared.update.UpdateId.{UpdateId}
@@ -16,22 +16,19 @@ use Rattle.la_object.specs.declared.error.ShelfError.{ShelfError}
 use Rattle.la_object.specs.declared.error.ShelfError.TheVariants.{Taken as TakenNumber, NotFresh, NoSuchObject, TooManyTags, Memory as ShelfMemory}
 use Rattle.la_object.specs.Shelves.{ShelfState}
 use Rattle.la_object.specs.Refusals.{IsTagsRefusal}
-use Rattle.la_replica.specs.declared.change.Change.{Change}
 use Rattle.la_replica.specs.declared.instance.Instance.{Instance}
 use Rattle.la_replica.specs.declared.error.ReplicaError.TheVariants.{Memory}
 use Rattle.la_replica.specs.Whole.{Message, Body, Offer, Yes, No, Tell, Out}
 use Rattle.la_replica.specs.Steps.{learnt_in, receives_body}
-use Rattle.la_replica.specs.Changes.{IsPreparedFrom, led}
-use Rattle.la_replica.specs.Refusals.{FitsBody, FitsMessage, SparesBody, SparesMessage, IsBodyRefusal, IsMessageRefusal, IsReceivable, ReceivingSpares, IsReceiveRefusal}
-use Rattle.la_replica.specs.ReplicaState.{ReplicaState, sender_of, learnt_of, submitted_in, submits, receives}
+use Rattle.la_replica.specs.Refusals.{FitsBody, SparesBody, IsBodyRefusal}
+use Rattle.la_replica.specs.ReplicaState.{ReplicaState, sender_of, learnt_of, submitted_in, submits}
 use Rattle.la_replica.proofs.lemmas.Growing.{submits_grows}
 use Rattle.la_world.specs.declared.config.Config.{Config}
 use Rattle.la_world.specs.Calls.{returned_by}
 use Rattle.la_world.specs.Following.{Taken, takes}
 use Rattle.la_world.specs.Nodes.{NodeState, IsNode, IsParticipant, MayStart, node_at_start, IsObservedRefusal}
-use Rattle.la_world.proofs.Participants.{leads_on}
 use Rattle.la_world.proofs.SubmittingOnce.{body_counts}
-use Rattle.la_world.proofs.Voters.{exists, received_in, start_participates, update_participates, proposal_participates, taken_participates}
+use Rattle.la_world.proofs.Voters.{exists, start_participates, update_participates, proposal_participates, taken_participates}
 
 -- with this replica
 abbrev pub with_replica : NodeState → ReplicaState → NodeState
@@ -59,35 +56,11 @@ within_at : {X : Type 0} (P : X → Type 0) (xs : List X) (i : ℕ) (o : Option 
 within_at P xs i None e some = absurd some
 within_at P xs i (Some x) e some = slice_get_within xs i x e
 
--- what is received is in an instance that there is
-pub receivable_within : (r : ReplicaState) (m : Message) → IsReceivable r m → m.instance < length r.instances
-receivable_within r m h = within_at (λ x. FitsMessage x m) r.instances m.instance (slice_get r.instances m.instance) refl h.1
-
 refused_body : (r : ReplicaState) (x : Instance) (m : Message) (b : Body) (s : Histories) → learnt_in (receives_body (sender_of r m.instance) x r.view m b).said ≡ Some s → FitsBody x m b → SparesBody x m b → IsBodyRefusal x r.view m b Memory
 refused_body r x m (Offer offered) s e fits spares = absurd (none-some s e)
 refused_body r x m Yes s e fits spares = let c = body_counts (sender_of r m.instance) x r.view m Yes s e in (c, λ id h. h, spares c)
 refused_body r x m (No accepted) s e fits spares = let c = body_counts (sender_of r m.instance) x r.view m (No accepted) s e in (c, fits c, spares c)
 refused_body r x m (Tell told) s e fits spares = absurd (body_counts (sender_of r m.instance) x r.view m (Tell told) s e)
-
--- where a set would be learnt, memory may run out
-pub learning_refused : (r : ReplicaState) (m : Message) (out : Out) (c : Change) → receives r m ≡ led r out c → IsPreparedFrom r c → IsReceivable r m → ReceivingSpares r m → IsSome (learnt_in out.said) → IsReceiveRefusal r m Memory
-learning_refused r m out c e from fits spares some = go (learnt_in out.said) refl some
-  where
-    after : ReplicaState
-    after = (leads_on r out c from).0
-
-    step : (x : Instance) × (slice_get r.instances m.instance ≡ Some x) × (out.said ≡ (receives_body (sender_of r m.instance) x r.view m m.body).said)
-    step = received_in r m out after (e ∙ (leads_on r out c from).1)
-
-    go : (o : Option Histories) → learnt_in out.said ≡ o → IsSome o → IsReceiveRefusal r m Memory
-    go None l h = absurd (true≢false (sym h))
-    go (Some s) l h = (
-      fits.0,
-      subst (λ o. IsSomeAnd o (λ x. IsMessageRefusal x r.view m Memory)) (sym step.1)
-          (refused_body r step.0 m m.body s (ap learnt_in (sym step.2) ∙ l)
-          (subst (λ o. IsSomeAnd o (λ x. FitsMessage x m)) step.1 fits.1)
-          (subst (λ o. IsSomeAnd o (λ x. SparesMessage x m)) step.1 spares)),
-    )
 
 -- ## Making one, and looking
 

@@ -1,13 +1,10 @@
 -- Stored messages and those of the trace that they carry, one by one.
-use Rattle.std.proofs.Common.{◌≡◌, ℕ, List, ◌++◌, length, slice_get, Option, Some, None, option_map, ap, ap₂, sym, ◌∙◌}
-use Rattle.std.proofs.lemmas.List.{map-append, length-map}
+use Rattle.std.proofs.Common.{◌≡◌, ℕ, List, length, slice_get, Option, Some, None, option_map, ap, sym, ◌∙◌}
+use Rattle.std.proofs.lemmas.List.{length-map}
 use Rattle.std.proofs.lemmas.Option.{same_Some, none-some, slice_get-map}
 use Rattle.la_replica.specs.declared.message.Message as code
 use Rattle.la_replica.specs.Whole.{Message, whole_of, CarryAll}
 use Rattle.la_world.specs.Calls.{StandsForMessage}
-
-pub messages_more : (stored more : List code.Message) (ms new : List Message) → CarryAll stored ms → CarryAll more new → CarryAll (stored ++ more) (ms ++ new)
-messages_more stored more ms new a b = map-append whole_of stored more ∙ ap₂ (λ x y. x ++ y) a b
 
 pub messages_length : (stored : List code.Message) (ms : List Message) → CarryAll stored ms → length stored ≡ length ms
 messages_length stored ms h = sym (length-map stored whole_of) ∙ ap length h

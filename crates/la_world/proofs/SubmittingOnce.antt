@@ -22,7 +22,7 @@ use Rattle.la_replica.specs.declared.instance.Instance.{Instance}
 use Rattle.la_replica.specs.declared.out.Said.TheVariants as said
 use Rattle.la_replica.specs.declared.sender.Sender.{Sender}
 use Rattle.la_replica.specs.Whole.{Message, Body, Offer, Yes, No, Tell}
-use Rattle.la_replica.specs.Steps.{Step, fresh, learnt_in, said_of, last_learnt_after, receives_body}
+use Rattle.la_replica.specs.Steps.{learnt_in, said_of, last_learnt_after, receives_body}
 use Rattle.la_replica.specs.Steps as steps
 use Rattle.la_world.specs.Nodes.{SubmitsOnce}
 

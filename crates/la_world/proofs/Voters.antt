@@ -17,7 +17,7 @@ use Rattle.la_commit.specs.Instances.{first_instance, second_instance, is_first_
 use Rattle.la_replica.specs.declared.instance.Instance.{Instance}
 use Rattle.la_replica.specs.Whole.{Message, Out}
 use Rattle.la_replica.specs.Refusals.{HasRoom, SubmittingSpares}
-use Rattle.la_replica.specs.Steps.{Step, fresh, learnt_in, said_of, last_learnt_after, receives_body}
+use Rattle.la_replica.specs.Steps.{Step, fresh, learnt_in, receives_body}
 use Rattle.la_replica.specs.Steps as steps
 use Rattle.la_replica.specs.ReplicaState.{ReplicaState, start, submitted_in, with_instance, after_step, sender_of, submits, receives}
 use Rattle.la_replica.proofs.lemmas.Growing.{receives_grows, submits_grows}
@@ -214,19 +214,6 @@ pub update_participates : (r : ReplicaState) (d : ObjectOp) (out : Out) (end : R
 update_participates r d out end is e =
     let step = stepped r 0 (λ x. steps.submits (sender_of r 0) x r.view d) out end (slice_get r.instances 0) refl e in
     subst IsParticipant (sym step.3) (participates r 0 step.0 _ _ step.1 is (λ lt. absurd (omega (arith, lt))) (λ lt. absurd (omega (arith, lt))) (λ lt. absurd (omega (arith, lt))))
-
-pub proposal_fits : (r : ReplicaState) (k : ℕ) → IsParticipant r → submitted_in r (first_instance k) ≡ Some 0 → HasRoom r (first_instance k) × SubmittingSpares r (first_instance k)
-proposal_fits r k is none = go (slice_get r.instances (first_instance k)) refl none
-  where
-    i : ℕ
-    i = first_instance k
-
-    go : (o : Option Instance) → slice_get r.instances i ≡ o → option_map (λ x. submitted x.proposer) o ≡ Some 0 → IsSomeAnd o (λ x. submitted x.proposer < x.proposer.cap) × IsSomeAnd o (λ x. ¬ SubmissionSpends x.proposer)
-    go None at e = absurd (none-some 0 e)
-    go (Some x) at e =
-        let zero_yet = same_Some (submitted x.proposer) 0 e in
-        let once = is.once i x (omega arith) at in
-        (omega (arith, zero_yet, once.cap), spares_unused x.proposer (once.unused zero_yet))
 
 pub proposal_participates : (r : ReplicaState) (k : ℕ) (d : ObjectOp) (out : Out) (end : ReplicaState) → IsParticipant r → submitted_in r (first_instance k) ≡ Some 0 → submits r (first_instance k) d ≡ Some (out, end) → IsParticipant end
 proposal_participates r object d out end is none e =
