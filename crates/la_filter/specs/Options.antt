@@ -1,10 +1,10 @@
 -- What the words of `lattice node` say, the program's name first, by what `clap` makes of them.
 use Rattle.std.specs.Prelude.{◌≡◌, ℕ, ◌≤◌, ⊤, List, [], ◌∷◌, Option, Some, None, true, codes, pos, replicate, string_bytes}
 use Rattle.std.specs.Str.Parse.{IsNumeral, without_leading_plus, digits_value}
-use Rattle.clap.specs.Words.{App, Row, Rule, Text, new_app, new_rule, with_rule}
-use Rattle.clap.specs.Words.{fault_of, first_of, many_of, matches_of, one_of}
+use Rattle.clap.specs.Words.{App, Row, Rule, Text, new_app, new_rule, with_rule, with_subcommand}
+use Rattle.clap.specs.Words.{fault_of, first_of, many_of, one_of, subcommand_of}
 use Rattle.clap.specs.declared.builder.value_parser.ValueParser.TheVariants.{Signed}
-use Rattle.la_program.specs.Calls.{IsGiven, IsTaken, option}
+use Rattle.la_program.specs.Calls.{IsGiven, IsTaken, lattice_alone, option}
 use Rattle.la_proposer.specs.Majority.{IsGroup, votes_of}
 use Rattle.la_proposer.specs.declared.votes.Votes.{Votes}
 use Rattle.la_filter.specs.declared.options.Options.{Options}
@@ -37,18 +37,30 @@ journal = record (new_rule (codes "journal")) {
   required = true;
 }
 
-abbrev pub node_app : App
-node_app = with_rule
+abbrev pub node_named : App
+node_named =
+    let top = (new_app (codes "node")).top in
+    record {
+      top = record top { has_version = true };
+      subs = [];
+    }
+
+abbrev pub node : App
+node = with_rule
     (with_rule
     (with_rule
     (with_rule
     (with_rule
-    (with_rule (new_app (codes "lattice node")) (option (codes "replicas") 1 8 (codes "3")))
+    (with_rule node_named (option (codes "replicas") 1 8 (codes "3")))
     own)
     (option (codes "commits") 0 16 (codes "0")))
     (option (codes "cap") 1 1000000 (codes "1000000")))
     votes)
     journal
+
+-- the program `lattice`, of whose subcommands this is the one that is read here
+abbrev pub lattice_node : App
+lattice_node = with_subcommand lattice_alone node.top
 
 -- ## What it says
 
@@ -111,7 +123,9 @@ abbrev pub Says : (rows : List Row) → Option Options → Type 0
 Says rows None = AreNoVotes (many_of (codes "votes") rows)
 Says rows (Some options) = AreOptions rows options
 
--- nothing is wrong with the words, and they say this
+-- nothing is wrong with the words, and they name a node, of which they say this
 pub record IsSaid (words : List Text) (said : Option Options) : Type 0 where
-  pub faultless : fault_of node_app words ≡ []
-  pub says : Says (matches_of node_app words) said
+  pub faultless : fault_of lattice_node words ≡ []
+  pub rows : List Row
+  pub named : subcommand_of lattice_node words ≡ Some (codes "node", rows)
+  pub says : Says rows said

@@ -1,15 +1,18 @@
 // What the words of `lattice node` say.
 ghost use Rattle.std.specs.Prelude.{◌≡◌, false, map, codes, string_bytes, IfOk, IfErr, pos, ◌≤◌};
 ghost use Rattle.clap.specs.Words.{app_of, found_of, rows_of, rule_of, HasKind, fault_of, with_rule};
-ghost use Rattle.clap.specs.Words.{many_of, new_app};
+ghost use Rattle.clap.specs.Words.{many_of, with_subcommand};
+ghost use Rattle.clap.specs.declared.builder.command.Command.TheViews.{out-Command as fields_of};
 ghost use Rattle.clap.specs.declared.builder.value_parser.ValueParser.TheVariants.{Signed};
-ghost use Rattle.la_program.specs.Calls.{option};
+ghost use Rattle.la_program.specs.Calls.{option, lattice_alone};
 ghost use Rattle.la_filter.specs.Options.{number as number_rule, own as own_rule, votes as votes_rule};
-ghost use Rattle.la_filter.specs.Options.{journal as journal_rule, node_app, AreTaken, IsSaid, IsVotes, Says};
+ghost use Rattle.la_filter.specs.Options.{journal as journal_rule, node, node_named, lattice_node};
+ghost use Rattle.la_filter.specs.Options.{AreTaken, IsSaid, IsVotes, Says};
 
 use arrayvec::ArrayVec;
 use clap::builder::ValueParser;
 use clap::{Arg, ArgMatches, Command, Error, value_parser};
+use la_program::{ABOUT_NODE, VERSION};
 use la_proposer::Votes;
 use la_world::Config;
 use std::alloc::{AllocError, Global};
@@ -24,8 +27,6 @@ pub struct Options {
     /// The folder of its journal.
     pub folder: String,
 }
-
-const ABOUT: &str = "Runs one replica of a group over lines: lattice node --own 0 --journal folder";
 
 // An option with a number.
 fn number<'a>(alloc: Global, name: &'a str, parser: ValueParser<'a>, help: &'a str) -> Arg<'a>
@@ -49,15 +50,19 @@ fn with_number<'a>(
     otherwise: &'a str,
     help: &'a str,
 ) -> Result<Command<'a>, AllocError>
-    ensures { (least most : _) → parser.entry ≡ Signed (pos least) (pos most)
+    ensures app { (least most : _) → parser.entry ≡ Signed (pos least) (pos most)
         → IfOk result (λ made. app_of made ≡ with_rule (app_of command.entry)
         (option name.entry.now least most otherwise.entry.now)) }
+    ensures local { (fields_of command.entry).has_globals ≡ false
+        → IfOk result (λ made. (fields_of made).has_globals ≡ false) }
 {
     command.arg(number(alloc, name, parser, help).default_value(otherwise))
 }
 
 fn with_own<'a>(alloc: Global, command: Command<'a>) -> Result<Command<'a>, AllocError>
-    ensures { IfOk result (λ made. app_of made ≡ with_rule (app_of command.entry) own_rule) }
+    ensures app { IfOk result (λ made. app_of made ≡ with_rule (app_of command.entry) own_rule) }
+    ensures local { (fields_of command.entry).has_globals ≡ false
+        → IfOk result (λ made. (fields_of made).has_globals ≡ false) }
 {
     let places = value_parser!(u8).range(0..=7);
     let own = number(alloc, "own", places, "Which of them this is, from 0");
@@ -65,7 +70,9 @@ fn with_own<'a>(alloc: Global, command: Command<'a>) -> Result<Command<'a>, Allo
 }
 
 fn with_votes<'a>(alloc: Global, command: Command<'a>) -> Result<Command<'a>, AllocError>
-    ensures { IfOk result (λ made. app_of made ≡ with_rule (app_of command.entry) votes_rule) }
+    ensures app { IfOk result (λ made. app_of made ≡ with_rule (app_of command.entry) votes_rule) }
+    ensures local { (fields_of command.entry).has_globals ≡ false
+        → IfOk result (λ made. (fields_of made).has_globals ≡ false) }
 {
     let weights = value_parser!(u16).range(1..=1000);
     let help = "The votes of each replica, 1 to 1000";
@@ -74,7 +81,9 @@ fn with_votes<'a>(alloc: Global, command: Command<'a>) -> Result<Command<'a>, Al
 }
 
 fn with_journal<'a>(alloc: Global, command: Command<'a>) -> Result<Command<'a>, AllocError>
-    ensures { IfOk result (λ made. app_of made ≡ with_rule (app_of command.entry) journal_rule) }
+    ensures app { IfOk result (λ made. app_of made ≡ with_rule (app_of command.entry) journal_rule) }
+    ensures local { (fields_of command.entry).has_globals ≡ false
+        → IfOk result (λ made. (fields_of made).has_globals ≡ false) }
 {
     let journal = Arg::new(alloc, "journal")
         .long("journal")
@@ -84,10 +93,13 @@ fn with_journal<'a>(alloc: Global, command: Command<'a>) -> Result<Command<'a>, 
 }
 
 // Each step owns one command: one that owns several takes a minute to prove.
-fn program<'a>(alloc: Global) -> Result<Command<'a>, AllocError>
-    ensures { IfOk result (λ made. app_of made ≡ node_app) }
+fn node_command<'a>(alloc: Global) -> Result<Command<'a>, AllocError>
+    ensures app { IfOk result (λ made. app_of made ≡ node) }
+    ensures local { IfOk result (λ made. (fields_of made).has_globals ≡ false) }
 {
-    let start = Command::new(alloc, "lattice node").about(ABOUT);
+    let start = Command::new(alloc, "node")
+        .version(VERSION)
+        .about(ABOUT_NODE);
     let sizes = value_parser!(u8).range(1..=8);
     let help = "How many replicas, 1 to 8";
     let sized = with_number(alloc, start, "replicas", sizes, "3", help)?;
@@ -100,6 +112,22 @@ fn program<'a>(alloc: Global) -> Result<Command<'a>, AllocError>
     let capped = with_number(alloc, shared, "cap", caps, "1000000", help)?;
     let voted = with_votes(alloc, capped)?;
     with_journal(alloc, voted)
+}
+
+// The program's command before it has a subcommand.
+fn alone<'a>(alloc: Global) -> Command<'a>
+    ensures { app_of result ≡ lattice_alone }
+{
+    Command::new(alloc, "lattice")
+        .version(VERSION)
+        .subcommand_required(true)
+}
+
+fn program<'a>(alloc: Global) -> Result<Command<'a>, AllocError>
+    ensures { IfOk result (λ made. app_of made ≡ lattice_node) }
+{
+    let node = node_command(alloc)?;
+    alone(alloc).subcommand(node)
 }
 
 // The votes that were given, where they are those of a group; one for each replica, where none were.
@@ -150,16 +178,21 @@ fn options_in(alloc: Global, given: &ArgMatches<'_>) -> Result<Option<Options>, 
     }))
 }
 
-/// What the words of a command line say, the program's name first. `None` where the votes are none of a
-/// group.
+/// What the words of a command line of `lattice node` say, the program's name first. `None` where the votes
+/// are none of a group.
 ///
 /// The options are those that were given, or their defaults, each in its range. An error has a kind that
-/// `clap` finds in the words: they ask for help, or they are mistaken. Or its kind is `OutOfMemory`, which
-/// comes of memory alone.
+/// `clap` finds in the words: they ask for help or for the version, also as `help node`, or they are
+/// mistaken, as all words are that name another subcommand. Or its kind is `OutOfMemory`, which comes of
+/// memory alone.
 pub fn command(alloc: Global, words: &[String]) -> Result<Option<Options>, Error>
     ensures ok { IfOk result (IsSaid (map string_bytes words.now)) }
-    ensures error { IfErr result (HasKind (fault_of node_app (map string_bytes words.now))) }
+    ensures error { IfErr result (HasKind (fault_of lattice_node (map string_bytes words.now))) }
 {
-    let given = program(alloc)?.try_get_matches_from(words)?;
-    Ok(options_in(alloc, &given)?)
+    let matches = program(alloc)?.try_get_matches_from(words)?;
+    match matches.subcommand() {
+        Some((_, given)) => Ok(options_in(alloc, given)?),
+        // `crate::proofs::OptionLines::faultless_node`: a subcommand is required.
+        None => unreachable!(),
+    }
 }

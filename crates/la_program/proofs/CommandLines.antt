@@ -9,23 +9,33 @@ use Rattle.clap.specs.declared.parser.matches.SubCommand.{SubCommand}
 use Rattle.clap.specs.Words.{Text, Row, is_simple, is_simple_and_free, subcommand_name_of, subcommand_of, subcommand_rows, subcommand_rows_of, fault_of}
 use Rattle.clap.proofs.OnLiterals.{clap_on_literals}
 use Rattle.std.specs.Option.{option_map_or}
+use Rattle.std.specs.Str.{bytes_eq}
 use Rattle.std.specs.List.{slice_index_or}
-use Rattle.clap.specs.Walk.{Rule, nothing_held, rows_after, settled, walk, answers_to, finished, stop_after, walk_from}
+use Rattle.clap.specs.Walk.{Rule, nothing_held, rows_after, settled, walk, answers_to, stop_after}
 use Rattle.clap.specs.Simple.{App, Shape, built, filled, new_shape, argument_words, entered, label_of, names_of, rows_at}
-use Rattle.clap.specs.Faults.{check_fault, defaults_fault, entered_fault, level_fault, settle_fault, walk_fault}
+use Rattle.clap.specs.Faults.{entered_fault, level_fault}
 use Rattle.la_program.proofs.lemmas.GivenNumbers.{some_is, some≢none}
-use Rattle.la_program.proofs.lemmas.Faultless.{AllOne, defaults_there, first_none, level_reads, next_none, some_kinds}
+use Rattle.la_program.proofs.lemmas.Entered.{IsNoHelp, enters_well, help_never, level_never}
+use Rattle.la_program.proofs.lemmas.Faultless.{AllOne, defaults_there, level_reads}
 use Rattle.la_program.specs.Calls.{AreGiven, AreSizesGiven, Calls, IsGiven, IsDraw, IsRun, AreTaken, AreSizesTaken, IsNamed, Names, lattice, option}
 use Rattle.la_program.specs.declared.call.Task.{Task}
 use Rattle.la_program.specs.declared.call.Task.TheVariants.{Play, Random, Threads}
 
--- the command with a version, of which a subcommand is wanted, and no subcommand `help` is there
+-- the command with a version, of which a subcommand is wanted
 abbrev pub requires_one : App → App
 requires_one a = record a {
   top = record a.top {
     has_version = true;
     subcommand_required = true;
-    disable_help_subcommand = true;
+  };
+}
+
+-- the command of which a subcommand is wanted, or its help is shown
+abbrev pub only_helps : App → App
+only_helps a = record a {
+  top = record a.top {
+    subcommand_required = true;
+    arg_required_else_help = true;
   };
 }
 
@@ -147,35 +157,63 @@ NamesTask o = ((rows : List Row) × (o ≡ Some (codes "play", rows)))
     ⊎ (((rows : List Row) × (o ≡ Some (codes "random", rows)) × AreTaken rows)
     ⊎ ((rows : List Row) × (o ≡ Some (codes "threads", rows)) × AreSizesTaken rows))
 
-named_at : (stop : Option (Text × List Text)) → entered_fault whole stop ≡ [] → is_some (entered whole stop) ≡ true → NamesTask (entered whole stop)
+named_at : (stop : Option (Text × List Text)) → entered_fault whole stop ≡ [] → is_some (entered whole stop) ≡ true → IsNoHelp stop → NamesTask (entered whole stop)
 unfolding clap_on_literals
-named_at None e there = no there
-named_at (Some p) e there = go (answers_to p.0 (label_of (shape_at 0))) (answers_to p.0 (label_of (shape_at 1))) (answers_to p.0 (label_of (shape_at 2))) e there
+named_at None e there other = no there
+named_at (Some p) e there other =
+    go (answers_to p.0 (label_of (shape_at 0))) (answers_to p.0 (label_of (shape_at 1))) (answers_to p.0 (label_of (shape_at 2))) (answers_to p.0 (label_of (shape_at 3)))
+    (answers_to p.0 (label_of (shape_at 4))) (help_never p.0 other) e there
   where
-    go : (t u v : Bool)
-        → option_map_or (λ s. level_fault s [] nothing_held p.1 false []) (cond t (Some (shape_at 0)) (cond u (Some (shape_at 1)) (cond v (Some (shape_at 2)) None))) [] ≡ []
-        → is_some (option_map (λ s. rows_at s p.1) (cond t (Some (shape_at 0)) (cond u (Some (shape_at 1)) (cond v (Some (shape_at 2)) None)))) ≡ true
-        → NamesTask (option_map (λ s. rows_at s p.1) (cond t (Some (shape_at 0)) (cond u (Some (shape_at 1)) (cond v (Some (shape_at 2)) None))))
-    go true u v f some = inl (_, refl)
-    go false true v f some = inr (inl (_, refl, all_taken p.1 f))
-    go false false true f some = inr (inr (_, refl, both_taken p.1 f))
-    go false false false f some = no some
+    found : (t u v w x : Bool) → Option Shape
+    found t u v w x =
+        cond t (Some (shape_at 0)) (cond u (Some (shape_at 1)) (cond v (Some (shape_at 2)) (cond w (Some (shape_at 3)) (cond x (Some (shape_at 4)) None))))
+
+    go : (t u v w x : Bool) → (x ≡ true → ⊥) → option_map_or (λ s. level_fault s [] nothing_held p.1 false []) (found t u v w x) [] ≡ []
+        → is_some (option_map (λ s. rows_at s p.1) (found t u v w x)) ≡ true → NamesTask (option_map (λ s. rows_at s p.1) (found t u v w x))
+    go true u v w x never f some = inl (_, refl)
+    go false true v w x never f some = inr (inl (_, refl, all_taken p.1 f))
+    go false false true w x never f some = inr (inr (_, refl, both_taken p.1 f))
+    go false false false true x never f some = absurd (level_never (shape_at 3) p.1 refl f)
+    go false false false false true never f some = absurd (never refl)
+    go false false false false false never f some = no some
 
 -- words in which nothing is wrong name a task
 pub faultless_names : (words : List Text) → fault_of lattice words ≡ [] → NamesTask (subcommand_of lattice words)
 unfolding clap_on_literals
 faultless_names words e =
-    let rest = argument_words lattice words in
-    let stop = stop_after whole.top.rules (names_of whole) rest in
-    let below = next_none (walk_fault whole.top (names_of whole) (walk_from nothing_held) rest) _ e in
-    let after = next_none (entered_fault whole stop) _ below in
-    let defaults = next_none (settle_fault whole.top.rules whole.top.args_override_self (walk whole.top.rules (names_of whole) nothing_held rest).held) _ after in
-    let check = next_none (defaults_fault (settled whole.top.rules (walk whole.top.rules (names_of whole) nothing_held rest).held).rows whole.top.rules) _ defaults in
-    named_at stop (first_none _ _ below) (wanted (finished whole.top.rules (walk whole.top.rules (names_of whole) nothing_held rest).held) (is_some (entered whole stop)) check)
-  where
-    wanted : (rows : List Row) (has : Bool) → check_fault whole.top rows has ≡ [] → has ≡ true
-    wanted rows true f = refl
-    wanted rows false f = absurd (some_kinds _ _ f)
+    let enters = enters_well lattice words refl refl e in
+    named_at (stop_after whole.top.rules (names_of whole) (argument_words lattice words)) enters.below enters.there enters.no_help
+
+never_that : (words : List Text) (name that : Text) (rows others : List Row) → bytes_eq that that ≡ true → bytes_eq name that ≡ false → Names words name rows → Names words that others → ⊥
+never_that words name that rows others self other named is =
+    let same : name ≡ that = ap (λ o. unwrap_or (option_map (λ p. p.0) o) []) (sym named ∙ is) in
+    true≢false (sym self ∙ subst (λ (n : Text). bytes_eq n that ≡ false) same other)
+
+-- so no name but these three is entered
+pub no_other : (words : List Text) (name : Text) (rows : List Row) → fault_of lattice words ≡ [] → Names words name rows
+    → bytes_eq name (codes "play") ≡ false → bytes_eq name (codes "random") ≡ false → bytes_eq name (codes "threads") ≡ false → ⊥
+unfolding clap_on_literals
+no_other words name rows faultless named plays draws runs = elim (faultless_names words faultless) [
+  | inl is ↦ never_that words name (codes "play") rows is.0 refl plays named is.1
+  | inr other ↦ elim other [
+    | inl is ↦ never_that words name (codes "random") rows is.0 refl draws named is.1
+    | inr is ↦ never_that words name (codes "threads") rows is.0 refl runs named is.1
+  ]
+]
+
+nothing_named : (o : Option (Text × List Row)) → NamesTask o → None ≡ option_map (λ p. p.1) o → ⊥
+nothing_named None named none = elim named [
+  | inl is ↦ some≢none _ (sym is.1)
+  | inr other ↦ elim other [
+    | inl is ↦ some≢none _ (sym is.1)
+    | inr is ↦ some≢none _ (sym is.1)
+  ]
+]
+nothing_named (Some p) named none = some≢none p.1 (sym none)
+
+-- and one is
+pub some_entered : (words : List Text) → fault_of lattice words ≡ [] → None ≡ option_map (λ p. p.1) (subcommand_of lattice words) → ⊥
+some_entered words faultless none = nothing_named (subcommand_of lattice words) (faultless_names words faultless) none
 
 -- ---- the words call for one task
 
@@ -249,3 +287,12 @@ one_task words (Random s r e) (Threads q f) x y = absurd (draw_is_no_run words _
 one_task words (Threads r e) (Random t q f) x y = absurd (draw_is_no_run words _ _ y.named.1 x.named.1)
 one_task words (Threads r e) (Threads q f) x y =
     same_run y.named.0 r e q f (subst (λ rows. AreSizesGiven rows r e) (same_rows words (codes "threads") x.named.0 y.named.0 x.named.1 y.named.1) x.named.2) y.named.2
+
+-- words that name a node call for none
+pub node_is_no_task : (words : List Text) (rows : List Row) (task : Task) → Names words (codes "node") rows → Calls words task → ⊥
+unfolding clap_on_literals
+node_is_no_task words rows Play named calls = never_that words (codes "node") (codes "play") rows calls.named.0 refl refl named calls.named.1
+node_is_no_task words rows (Random seed replicas events) named calls =
+    never_that words (codes "node") (codes "random") rows calls.named.0 refl refl named calls.named.1
+node_is_no_task words rows (Threads replicas each) named calls =
+    never_that words (codes "node") (codes "threads") rows calls.named.0 refl refl named calls.named.1

@@ -35,6 +35,18 @@ threads = with_rule
     (with_rule (new_app (codes "threads")) (option (codes "replicas") 1 8 (codes "3")))
     (option (codes "each") 1 1000 (codes "10"))
 
+-- a replica that keeps its state is listed, but never a task: whoever hands in its words is shown its help
+abbrev pub node : App
+node =
+    let top = (new_app (codes "node")).top in
+    record {
+      top = record top {
+        subcommand_required = true;
+        arg_required_else_help = true;
+      };
+      subs = [];
+    }
+
 -- the program without subcommands
 abbrev pub lattice_alone : App
 lattice_alone =
@@ -43,16 +55,17 @@ lattice_alone =
       top = record top {
         has_version = true;
         subcommand_required = true;
-        disable_help_subcommand = true;
       };
       subs = [];
     }
 
--- the name alone calls for nothing; `--help` and `--version` are there, and no word `help`
+-- the name alone calls for nothing; `--help`, `--version` and the word `help` are there
 abbrev pub lattice : App
 lattice =
     with_subcommand
-    (with_subcommand (with_subcommand lattice_alone play.top) random.top) threads.top
+    (with_subcommand
+    (with_subcommand (with_subcommand lattice_alone play.top) random.top) threads.top)
+    node.top
 
 -- ## What they call for
 

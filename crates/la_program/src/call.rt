@@ -4,7 +4,8 @@ ghost use Rattle.clap.specs.Words.{app_of, found_of, rows_of, rule_of, HasKind, 
 ghost use Rattle.clap.specs.Words.{with_rule, with_subcommand};
 ghost use Rattle.clap.specs.declared.builder.command.Command.TheViews.{out-Command as fields_of};
 ghost use Rattle.clap.specs.declared.builder.value_parser.ValueParser.TheVariants.{Signed};
-ghost use Rattle.la_program.specs.Calls.{option, play, random, threads, lattice, lattice_alone};
+ghost use Rattle.la_program.specs.Calls.{option, play, random, threads, node, lattice};
+ghost use Rattle.la_program.specs.Calls.{lattice_alone};
 ghost use Rattle.la_program.specs.Calls.{AreTaken, AreSizesTaken, Calls, IsDraw, IsRun, IsInRange};
 
 use clap::builder::ValueParser;
@@ -34,8 +35,14 @@ pub enum Task {
     },
 }
 
-const ABOUT: &str =
-    "Plays scripts of a group of replicas that agree without consensus; lattice node --help tells of one replica that keeps its state";
+/// The version of the program, which `lattice --version` prints.
+pub const VERSION: &str = "0.4.0";
+
+/// What the help of `lattice` and of `lattice node` says of a node.
+pub const ABOUT_NODE: &str =
+    "Runs one replica of a group over lines: lattice node --own 0 --journal folder";
+
+const ABOUT: &str = "Plays scripts of a group of replicas that agree without consensus";
 
 // An option with a number.
 fn number<'a>(
@@ -121,15 +128,25 @@ fn threads_command<'a>(alloc: Global) -> Result<Command<'a>, AllocError>
     with_number(alloc, sized, "each", counts, "10", help)
 }
 
+// A node is listed, and run by the program's `main`: here each of its words is a mistake, or asks for help.
+fn node_command<'a>(alloc: Global) -> Command<'a>
+    ensures app { app_of result ≡ node }
+    ensures local { (fields_of result).has_globals ≡ false }
+{
+    Command::new(alloc, "node")
+        .about(ABOUT_NODE)
+        .subcommand_required(true)
+        .arg_required_else_help(true)
+}
+
 // The program's command before it has subcommands.
 fn alone<'a>(alloc: Global) -> Command<'a>
     ensures { app_of result ≡ lattice_alone }
 {
     Command::new(alloc, "lattice")
-        .version("1")
+        .version(VERSION)
         .about(ABOUT)
         .subcommand_required(true)
-        .disable_help_subcommand(true)
 }
 
 fn with_random<'a>(alloc: Global, command: Command<'a>) -> Result<Command<'a>, AllocError>
@@ -148,13 +165,21 @@ fn with_threads<'a>(alloc: Global, command: Command<'a>) -> Result<Command<'a>, 
     command.subcommand(threads)
 }
 
+fn with_node<'a>(alloc: Global, command: Command<'a>) -> Result<Command<'a>, AllocError>
+    ensures { IfOk result (λ made.
+        app_of made ≡ with_subcommand (app_of command.entry) node.top) }
+{
+    command.subcommand(node_command(alloc))
+}
+
 // Each step owns one command: one that owns three takes a minute to prove.
 fn program<'a>(alloc: Global) -> Result<Command<'a>, AllocError>
     ensures app { IfOk result (λ made. app_of made ≡ lattice) }
 {
     let plays = alone(alloc).subcommand(play_command(alloc))?;
     let draws = with_random(alloc, plays)?;
-    with_threads(alloc, draws)
+    let runs = with_threads(alloc, draws)?;
+    with_node(alloc, runs)
 }
 
 // The numbers of a draw, each of which is there and in its range.
@@ -185,6 +210,9 @@ fn run_of(given: &ArgMatches<'_>) -> Task
 /// Words in which nothing is wrong call for a task; the numbers of a draw or a run are those of its
 /// options, or their defaults. An error has a kind that `clap` finds in the words: they ask for help or for the
 /// version, or they are mistaken. Or its kind is `OutOfMemory`, which comes of memory alone.
+///
+/// `node` is listed beside the tasks and is none: its words are always an error here, and the crate
+/// `la_filter` reads them.
 pub fn command(alloc: Global, words: &[String]) -> Result<Task, Error>
     ensures ok { IfOk result (Calls (map string_bytes words.now)) }
     ensures range { IfOk result IsInRange }
@@ -195,8 +223,8 @@ pub fn command(alloc: Global, words: &[String]) -> Result<Task, Error>
         Some((name, _)) if name == "play" => Ok(Task::Play),
         Some((name, given)) if name == "random" => Ok(drawn(given)),
         Some((name, given)) if name == "threads" => Ok(run_of(given)),
-        // `crate::proofs::CommandLines::faultless_names`: a subcommand is required, and there are
-        // these three.
+        // `crate::proofs::CommandLines::faultless_names`: a subcommand is required, and nothing is
+        // right with the words of any other.
         _ => unreachable!(),
     }
 }

@@ -1,8 +1,8 @@
 //! What holds of the numbers that the program is made with, of its shelves, of the words that it is
 //! called by, and of what it prints.
-ghost use Rattle.std.specs.Prelude.{◌≡◌, List};
-ghost use Rattle.clap.specs.Words.{Text};
-ghost use Rattle.la_program.specs.Calls.{Calls};
+ghost use Rattle.std.specs.Prelude.{◌≡◌, List, codes};
+ghost use Rattle.clap.specs.Words.{Row, Text};
+ghost use Rattle.la_program.specs.Calls.{Calls, Names};
 ghost use Rattle.la_program.specs.Play.{FitAnyGroup, TextsKeepPromises};
 ghost use Rattle.la_program.specs.Shelves.{standard_shelves};
 ghost use Rattle.la_program.specs.declared.call.Task.{Task};
@@ -19,6 +19,15 @@ pub fn the_limit_is_a_number()
 #[tactic(auto, using(crate::proofs::CommandLines::one_task))]
 pub fn words_call_for_one_task()
     ensures { (words : List Text) (a b : Task) → Calls words a → Calls words b → a ≡ b }
+{}
+
+/// Words that name a node call for no task, so [`command`] answers an error for them.
+///
+/// [`command`]: crate::command
+#[tactic(auto, using(crate::proofs::CommandLines::node_is_no_task))]
+pub fn a_node_is_no_task()
+    ensures { (words : List Text) (rows : List Row) (task : Task) → Names words (codes "node") rows
+        → Calls words task → ⊥ }
 {}
 
 /// The program's own shelves fit any group: there are eight, and none has absorbed anything. So the

@@ -34,7 +34,7 @@ mod streams;
 mod telling;
 mod threads;
 
-pub use call::{Task, command};
+pub use call::{ABOUT_NODE, Task, VERSION, command};
 pub use error::PlayFault;
 pub use listener::{Listener, tell_all};
 pub use objects::run_boxed;

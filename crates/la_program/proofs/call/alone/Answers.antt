@@ -7,8 +7,7 @@ use Rattle.la_program.proofs.call.alone.Goals as goal
 
 pub returns : goal.returns
 returns c =
-    ap app_of_fields c.disable_help_subcommand.ensures
-    ∙ ap (λ (f : Command-F Command). app_of_fields (record f { disable_help_subcommand = true })) c.subcommand_required.ensures
-    ∙ ap (λ (f : Command-F Command). app_of_fields (record f { disable_help_subcommand = true; subcommand_required = true })) c.about.ensures
-    ∙ ap (λ (f : Command-F Command). app_of_fields (record f { disable_help_subcommand = true; subcommand_required = true })) c.version.ensures
+    ap app_of_fields c.subcommand_required.ensures
+    ∙ ap (λ (f : Command-F Command). app_of_fields (record f { subcommand_required = true })) c.about.ensures
+    ∙ ap (λ (f : Command-F Command). app_of_fields (record f { subcommand_required = true })) c.version.ensures
     ∙ ap requires_one c.new.ensures.app
