@@ -1,4 +1,5 @@
 // la_replica: runs as tables, messages and mail.
 mod lists;
+mod no_commits;
 mod plays;
 mod runs;

@@ -104,13 +104,13 @@ fn is_accepted(rt: &impl Abort, alloc: Global, acceptor: &Acceptor, rows: &[Row]
     holds(rt, "what is accepted", acceptor.accepted().same(&accepted));
 }
 
-// Each offer is answered so, at a copy of what the last one left.
+// Each offer is answered so, and then a copy takes the acceptor's place: it has what is accepted.
 fn offers_are_answered(rt: &impl Abort, alloc: Global, offers: &[Offer]) {
     let mut acceptor = Acceptor::new(alloc);
     for (offered, told, accepted) in offers {
         is_offered(rt, alloc, &mut acceptor, offered, *told);
-        is_accepted(rt, alloc, &acceptor, accepted);
         acceptor = copied(rt, &acceptor);
+        is_accepted(rt, alloc, &acceptor, accepted);
     }
 }
 

@@ -51,14 +51,15 @@ pub struct Play {
     pub steps: &'static [Step],
 }
 
-/// Plays a table at one proposer, each step at a copy of what the last one left: what each reply would
-/// come to is asked, and then it is heard.
+/// Plays a table at one proposer: what each reply would come to is asked, and then it is heard. After
+/// each step a copy takes the proposer's place: it has what the step says.
 pub fn plays(rt: &impl Abort, alloc: Global, play: &Play) {
     let votes = Votes::new(play.votes).expect(rt, "votes of a group");
     let mut proposer = proposer_of(rt, alloc, play, votes);
     for step in play.steps {
         holds(rt, play.name, goes_so(rt, alloc, &mut proposer, step));
         proposer = copied(rt, &proposer);
+        holds(rt, play.name, stands(rt, alloc, &proposer, step));
     }
 }
 
@@ -69,11 +70,9 @@ fn copied(rt: &impl Abort, proposer: &Proposer) -> Proposer {
     }
 }
 
-// Whether a step is told before it is heard, comes to its outcome, and leaves what it says.
+// Whether a step is told before it is heard, and comes to its outcome.
 fn goes_so(rt: &impl Abort, alloc: Global, proposer: &mut Proposer, step: &Step) -> bool {
-    tells(rt, alloc, proposer, step)
-        && hears(rt, alloc, proposer, &step.0) == step.1
-        && stands(rt, alloc, proposer, step)
+    tells(rt, alloc, proposer, step) && hears(rt, alloc, proposer, &step.0) == step.1
 }
 
 fn proposer_of(rt: &impl Abort, alloc: Global, play: &Play, votes: Votes) -> Proposer {

@@ -268,6 +268,7 @@ fn proposers(rt: HostRuntime) {
     clashes(&rt, rt.alloc());
     eight(&rt, rt.alloc());
     holds(&rt, "three replicas", are_of(&[3, 1, 2], 3, (2, 2), 6));
+    holds(&rt, "a heavy one", are_of(&[3, 1, 1], 3, (2, 1), 5));
     holds(
         &rt,
         "the most votes",

@@ -2,10 +2,11 @@
 // look at what stands: so the tests pass with every single allocation failing too.
 use crate::given::{Given, delta_of, delta_over, set_of};
 use crate::holds::holds;
+use crate::set::helpers::{Does, update_of};
 use la_acceptor::Reply;
 use la_proposer::{Ballot, Votes};
 use la_replica::{Body, Mail, Message, Out, Replica, ReplicaError, Said};
-use la_set::{Counts, Op, UpdateId, UpdateSet};
+use la_set::{Counts, Delta, Op, UpdateSet, Updates};
 use std::alloc::Global;
 use std::process::Abort;
 
@@ -13,6 +14,8 @@ use std::process::Abort;
 pub enum Input {
     /// A submission in an instance that adds 5 to object 1.
     Submits(u8),
+    /// A submission in an instance of a mark of object 0.
+    Marks(u8),
     /// A message to replica 0: its instance, where it comes from, its ballot's number, and its
     /// body.
     Offer(u8, u8, u32, &'static [Given]),
@@ -22,6 +25,8 @@ pub enum Input {
     /// comes beyond.
     OfferOver(u8, u32, [u32; 8], &'static [Given]),
     NoOver(u8, u32, [u32; 8], &'static [Given]),
+    /// In instance 0, of ballot 1 of replica 1, told over so many of its updates: a mark of this number.
+    MarkOver(u32, u32),
     Tell(u8, u8, u32, &'static [Given]),
     /// An acknowledgement that goes to replica 1.
     Astray(u8, u8),
@@ -54,19 +59,23 @@ pub struct Step(
     pub Option<&'static [Given]>,
 );
 
-/// Inputs of replica 0 of three with one vote each, a cap of 3 and one adopt-commit object.
+/// Inputs of replica 0 of three with one vote each, and how many adopt-commit objects there are.
 #[derive(Clone, Copy)]
 pub struct Play {
     pub name: &'static str,
+    pub cap: u32,
+    pub commits: u8,
     pub steps: &'static [Step],
 }
 
-/// Plays a table at one replica, each step at a copy of what the last one left.
+/// Plays a table at one replica. After each step a copy takes the replica's place: it has what the step
+/// says.
 pub fn plays(rt: &impl Abort, alloc: Global, play: &Play) {
-    let mut replica = fresh(rt, alloc);
+    let mut replica = fresh(rt, alloc, play);
     for step in play.steps {
-        holds(rt, play.name, goes_so(rt, alloc, &mut replica, step));
+        holds(rt, play.name, comes_to(rt, alloc, &mut replica, step));
         replica = copied(rt, &replica);
+        holds(rt, play.name, stands(rt, alloc, &replica, step));
     }
 }
 
@@ -77,14 +86,13 @@ fn copied(rt: &impl Abort, replica: &Replica) -> Replica {
     }
 }
 
-fn goes_so(rt: &impl Abort, alloc: Global, replica: &mut Replica, step: &Step) -> bool {
-    comes_to(rt, alloc, replica, step) && stands(rt, alloc, replica, step)
-}
-
-fn fresh(rt: &impl Abort, alloc: Global) -> Replica {
-    match Replica::new(alloc, 3, 0, 3, 1, Votes::one_each(3)) {
+fn fresh(rt: &impl Abort, alloc: Global, play: &Play) -> Replica {
+    let (cap, commits) = (play.cap, play.commits);
+    assert!(rt; 1 <= cap && cap <= 1000 && commits <= 16, "a replica");
+    let votes = Votes::one_each(3);
+    match Replica::new(alloc, 3, 0, cap, commits, votes) {
         Ok(replica) => replica,
-        Err(_) => Replica::new(alloc, 3, 0, 3, 1, Votes::one_each(3)).expect(rt, "memory again"),
+        Err(_) => Replica::new(alloc, 3, 0, cap, commits, votes).expect(rt, "memory again"),
     }
 }
 
@@ -101,21 +109,23 @@ fn answer(
     input: &Input,
 ) -> Result<Out, ReplicaError> {
     match message_of(rt, alloc, input) {
-        None => submit(rt, replica, instance_of(input)),
+        None => submit(rt, replica, input),
         Some(message) => receive(rt, replica, &message),
     }
 }
 
-fn instance_of(input: &Input) -> u8 {
+// What is submitted: the instance, the object and the operation.
+fn submission_of(input: &Input) -> (u8, u16, Op) {
     match input {
-        Input::Submits(instance) => *instance,
-        _ => 0,
+        Input::Submits(instance) => (*instance, 1, Op::Inc(5)),
+        Input::Marks(instance) => (*instance, 0, Op::Mark),
+        _ => (0, 0, Op::Mark),
     }
 }
 
 fn message_of(rt: &impl Abort, alloc: Global, input: &Input) -> Option<Message> {
     match input {
-        Input::Submits(_) => None,
+        Input::Submits(_) | Input::Marks(_) => None,
         Input::Offer(instance, from, ballot, updates) => {
             let body = Body::Offer(delta_of(rt, alloc, updates));
             Some(to_0(*instance, *from, *ballot, body))
@@ -133,12 +143,30 @@ fn message_of(rt: &impl Abort, alloc: Global, input: &Input) -> Option<Message> 
             let delta = delta_over(rt, alloc, Counts::from(*base), updates);
             Some(to_0(0, *from, *ballot, Body::No(delta)))
         }
+        Input::MarkOver(count, number) => {
+            let delta = mark_over(rt, alloc, *count, *number);
+            Some(to_0(0, 1, 1, Body::Offer(delta)))
+        }
         Input::Tell(instance, from, ballot, updates) => {
             let body = Body::Tell(set_of(rt, alloc, updates));
             Some(to_0(*instance, *from, *ballot, body))
         }
         Input::Astray(instance, from) => Some(astray(*instance, *from)),
     }
+}
+
+fn pushes_mark(rt: &impl Abort, alloc: Global, more: &mut Updates, number: u32) -> bool {
+    more.push(update_of(rt, alloc, &(1, number, Does::Mark)))
+        .is_ok()
+}
+
+// A mark of replica 1 beyond so many of its updates.
+fn mark_over(rt: &impl Abort, alloc: Global, count: u32, number: u32) -> Delta {
+    let mut more = Updates::new(alloc);
+    let pushed = pushes_mark(rt, alloc, &mut more, number);
+    let pushed = pushed || pushes_mark(rt, alloc, &mut more, number);
+    holds(rt, "an update of a delta", pushed);
+    Delta::new(Counts::from([0, count, 0, 0, 0, 0, 0, 0]), more)
 }
 
 fn astray(instance: u8, from: u8) -> Message {
@@ -170,16 +198,21 @@ fn standing(replica: &Replica, instance: u8) -> (usize, bool, Option<u32>) {
     )
 }
 
-fn submit(rt: &impl Abort, replica: &mut Replica, instance: u8) -> Result<Out, ReplicaError> {
+fn submits(replica: &mut Replica, input: &Input) -> Result<Out, ReplicaError> {
+    let (instance, object, op) = submission_of(input);
+    replica.submit(instance, object, op)
+}
+
+fn submit(rt: &impl Abort, replica: &mut Replica, input: &Input) -> Result<Out, ReplicaError> {
     let before = standing(replica, 0);
-    match replica.submit(instance, 1, Op::Inc(5)) {
+    match submits(replica, input) {
         Err(ReplicaError::Memory) => {
             holds(
                 rt,
                 "a refusal changes nothing",
                 standing(replica, 0) == before,
             );
-            replica.submit(instance, 1, Op::Inc(5))
+            submits(replica, input)
         }
         answer => answer,
     }

@@ -6,13 +6,13 @@ use la_set::UpdateId;
 use std::alloc::Global;
 use std::process::Abort;
 
-const NOTHING: &[Given] = &[];
+pub const NOTHING: &[Given] = &[];
 
-const OWN: &[Given] = &[(0, 1, 5)];
+pub const OWN: &[Given] = &[(0, 1, 5)];
 
 const OWN_TWO: &[Given] = &[(0, 1, 5), (0, 2, 5)];
 
-const OTHER: &[Given] = &[(1, 1, 7)];
+pub const OTHER: &[Given] = &[(1, 1, 7)];
 
 const BOTH: &[Given] = &[(0, 1, 5), (1, 1, 7)];
 
@@ -22,7 +22,7 @@ const THIRD: &[Given] = &[(2, 1, 7)];
 
 const CLASHES: &[Given] = &[(1, 1, 8)];
 
-const OFFERS: &[(u8, u8)] = &[(b'O', 0), (b'O', 1), (b'O', 2)];
+pub const OFFERS: &[(u8, u8)] = &[(b'O', 0), (b'O', 1), (b'O', 2)];
 
 const TELLS: &[(u8, u8)] = &[(b'T', 1), (b'T', 2)];
 
@@ -83,7 +83,7 @@ const ONE_OF_0: [u32; 8] = [1, 0, 0, 0, 0, 0, 0, 0];
 
 const ONE_OF_1: [u32; 8] = [0, 1, 0, 0, 0, 0, 0, 0];
 
-const ACKNOWLEDGES: &[(u8, u8)] = &[(b'Y', 1)];
+pub const ACKNOWLEDGES: &[(u8, u8)] = &[(b'Y', 1)];
 
 // A delta stands on what is accepted, or on the open ballot's set, or is refused; that of a refusal
 // which does not count is not looked at.
@@ -358,6 +358,8 @@ const REFUSES: &[Step] = &[
 fn learns(rt: &impl Abort, alloc: Global) {
     let play = Play {
         name: "learns",
+        cap: 3,
+        commits: 1,
         steps: LEARNS,
     };
     plays(rt, alloc, &play);
@@ -366,6 +368,8 @@ fn learns(rt: &impl Abort, alloc: Global) {
 fn deltas(rt: &impl Abort, alloc: Global) {
     let play = Play {
         name: "deltas",
+        cap: 3,
+        commits: 1,
         steps: DELTAS,
     };
     plays(rt, alloc, &play);
@@ -374,6 +378,8 @@ fn deltas(rt: &impl Abort, alloc: Global) {
 fn views(rt: &impl Abort, alloc: Global) {
     let play = Play {
         name: "views",
+        cap: 3,
+        commits: 1,
         steps: VIEWS,
     };
     plays(rt, alloc, &play);
@@ -382,6 +388,8 @@ fn views(rt: &impl Abort, alloc: Global) {
 fn answers(rt: &impl Abort, alloc: Global) {
     let play = Play {
         name: "answers",
+        cap: 3,
+        commits: 1,
         steps: ANSWERS,
     };
     plays(rt, alloc, &play);
@@ -390,6 +398,8 @@ fn answers(rt: &impl Abort, alloc: Global) {
 fn commits(rt: &impl Abort, alloc: Global) {
     let play = Play {
         name: "commits",
+        cap: 3,
+        commits: 1,
         steps: COMMITS,
     };
     plays(rt, alloc, &play);
@@ -398,6 +408,8 @@ fn commits(rt: &impl Abort, alloc: Global) {
 fn refuses(rt: &impl Abort, alloc: Global) {
     let play = Play {
         name: "refuses",
+        cap: 3,
+        commits: 1,
         steps: REFUSES,
     };
     plays(rt, alloc, &play);

@@ -102,12 +102,12 @@ fn a_pop_takes_the_last(rt: &impl Abort, alloc: Global) {
 fn a_clash_is_named(rt: &impl Abort, alloc: Global) {
     let mut set = set_of(rt, alloc, MINE);
     let other = set_of(rt, alloc, &[(3, 1, Does::Mark), (7, 1, Does::Put(5))]);
-    holds(rt, "a clash", clashes(rt, &mut set, &other));
+    holds(rt, "a clash", clashes(rt, &mut set, &other, id(7, 1)));
     holds(rt, "nothing is added", set.len() == 2);
 }
 
-fn clashes(rt: &impl Abort, set: &mut UpdateSet, other: &UpdateSet) -> bool {
-    let at = id(7, 1);
+// Whether a union is refused, and both calls name this id.
+fn clashes(rt: &impl Abort, set: &mut UpdateSet, other: &UpdateSet, at: UpdateId) -> bool {
     unite(rt, set, other) == Err(SetError::Clash(at)) && set.first_clash(other) == Some(at)
 }
 
@@ -241,6 +241,39 @@ fn many_updates(rt: &impl Abort, alloc: Global) {
     holds(rt, "the union is the same", is_the_same(&joined, &set));
 }
 
+// ## One set: an update, a gap, a clash, a union, a copy, and what is beyond
+
+const GAP: Row = (0, 3, Does::Mark);
+
+const MARK: &[Row] = &[(1, 1, Does::Mark)];
+
+fn is_refused(rt: &impl Abort, alloc: Global, set: &mut UpdateSet) {
+    let gap = push(rt, alloc, set, &GAP) == Err(SetError::Gap);
+    holds(rt, "0.3 does not come next", gap);
+    let other = set_of(rt, alloc, SIX);
+    holds(rt, "another 0.1", clashes(rt, set, &other, id(0, 1)));
+}
+
+fn is_joined(rt: &impl Abort, alloc: Global, set: &mut UpdateSet) {
+    let mark = set_of(rt, alloc, MARK);
+    holds(rt, "a union", unite(rt, set, &mark).is_ok());
+}
+
+fn is_mark(rt: &impl Abort, alloc: Global, more: &Updates) -> bool {
+    let mark = update_of(rt, alloc, &MARK[0]);
+    is_one(more, &mark)
+}
+
+fn refusals_leave_a_set_as_it_was(rt: &impl Abort, alloc: Global) {
+    let mut set = set_of(rt, alloc, FIVE);
+    is_refused(rt, alloc, &mut set);
+    is_joined(rt, alloc, &mut set);
+    let copy = copy_of(rt, &set);
+    holds(rt, "a copy", copy.same(&set_of(rt, alloc, LEFT)));
+    let more = beyond(rt, &copy, &set_of(rt, alloc, FIVE));
+    holds(rt, "the mark is beyond", is_mark(rt, alloc, &more));
+}
+
 #[test]
 fn sets(rt: HostRuntime) {
     pushes_are_answered(&rt, rt.alloc());
@@ -250,6 +283,7 @@ fn sets(rt: HostRuntime) {
     inclusion_compares_updates(&rt, rt.alloc());
     beyond_is_in_order(&rt, rt.alloc());
     updates_are_a_list(&rt, rt.alloc());
+    refusals_leave_a_set_as_it_was(&rt, rt.alloc());
     many_updates(&rt, rt.alloc());
 }
 
