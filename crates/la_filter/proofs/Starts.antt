@@ -9,19 +9,12 @@ use Rattle.la_set.specs.Inclusion.{IsSubset}
 use Rattle.la_set.proofs.lemmas.SetHistories.{history-empty}
 use Rattle.la_object.specs.declared.kind.Kind.{Kind}
 use Rattle.la_journal.specs.Lines.{lines}
-use Rattle.la_journal.specs.declared.recovery.Unplayed.{Unplayed}
-use Rattle.la_journal.specs.declared.recovery.Unplayed.TheVariants as unplayed
-use Rattle.la_journal.specs.Durable.{IsCauseOf}
 use Rattle.la_world.specs.declared.config.Config.{Config}
-use Rattle.la_node.specs.declared.error.NodeError.{NodeError}
-use Rattle.la_node.specs.declared.error.NodeError.TheVariants as node
-use Rattle.la_node.specs.Errors.{IsForMemory}
 use Rattle.la_node.specs.Nodes.{KeptState}
 use Rattle.la_node.specs.Restarts.{leads_from}
 use Rattle.la_filter.specs.declared.error.NodeFault.{NodeFault}
 use Rattle.la_filter.specs.declared.error.NodeFault.TheVariants as fault
 use Rattle.la_filter.specs.Turns.{Turn}
-use Rattle.la_filter.specs.Faults.{of_journal}
 use Rattle.la_filter.specs.Serving.{Serves, ServesSome, ServesClosed, IsServeRefusal}
 use Rattle.la_filter.specs.Starting.{at_start, Runs, RunsNot, IsRunRefusal}
 
@@ -88,22 +81,3 @@ module _ (objects : List (ℕ × Kind)) (config : Config) (own : ℕ) (file file
 
 nothing : (Told : List (List ℕ) → Type 0) (left out : Option (List ℕ)) → Told [] → RunsNot Told left left out out
 nothing Told left out untold = record { unread = refl; unwritten = refl; untold = untold }
-
--- a journal that is not played, by what recovery says of it
-pub not_played : (objects : List (ℕ × Kind)) (config : Config) (own : ℕ) (file : List ℕ) (Told : List (List ℕ) → Type 0) (Left : KeptState → (turns last : List Turn) → Type 0) (left out : Option (List ℕ)) (untold : Told []) (f1 f2 : ℕ) (why : Unplayed NodeError)
-    → IsCauseOf IsForMemory f1 f2 file (leads_from (at_start config own) file) why → IsRunRefusal objects config own file Told Left left left out out (of_journal why)
-not_played objects config own file Told Left left out untold f1 f2 unplayed.Memory c = inl (nothing Told left out untold)
-not_played objects config own file Told Left left out untold f1 f2 unplayed.Disk c = inl (nothing Told left out untold)
-not_played objects config own file Told Left left out untold f1 f2 unplayed.NoState c = (nothing Told left out untold, inl c)
-not_played objects config own file Told Left left out untold f1 f2 (unplayed.NoCall place) c = (nothing Told left out untold, inl c)
-not_played objects config own file Told Left left out untold f1 f2 (unplayed.Misplaced place) c = (nothing Told left out untold, inl c)
-not_played objects config own file Told Left left out untold f1 f2 (unplayed.Damaged place) c = (nothing Told left out untold, inr c.0)
-not_played objects config own file Told Left left out untold f1 f2 (unplayed.Refused place node.Memory) c = inl (nothing Told left out untold)
-not_played objects config own file Told Left left out untold f1 f2 (unplayed.Refused place node.Elsewhere) (inl is) = let none : leads_from (at_start config own) file ≡ None = cc in (nothing Told left out untold, inl none)
-not_played objects config own file Told Left left out untold f1 f2 (unplayed.Refused place node.Elsewhere) (inr none) = (nothing Told left out untold, inl none)
-not_played objects config own file Told Left left out untold f1 f2 (unplayed.Refused place node.Unkept) (inl is) = let none : leads_from (at_start config own) file ≡ None = cc in (nothing Told left out untold, inl none)
-not_played objects config own file Told Left left out untold f1 f2 (unplayed.Refused place node.Unkept) (inr none) = (nothing Told left out untold, inl none)
-not_played objects config own file Told Left left out untold f1 f2 (unplayed.Refused place (node.Replica e)) (inl is) = let none : leads_from (at_start config own) file ≡ None = cc in (nothing Told left out untold, inl none)
-not_played objects config own file Told Left left out untold f1 f2 (unplayed.Refused place (node.Replica e)) (inr none) = (nothing Told left out untold, inl none)
-not_played objects config own file Told Left left out untold f1 f2 (unplayed.Refused place (node.Proposal e)) (inl is) = let none : leads_from (at_start config own) file ≡ None = cc in (nothing Told left out untold, inl none)
-not_played objects config own file Told Left left out untold f1 f2 (unplayed.Refused place (node.Proposal e)) (inr none) = (nothing Told left out untold, inl none)

@@ -1,6 +1,5 @@
 -- Letters that say the same.
-use Rattle.std.proofs.Common.{◌≡◌, refl, ap}
-use Rattle.la_set.specs.Deltas.{DeltaState}
+use Rattle.std.proofs.Common.{◌≡◌, ap}
 use Rattle.la_replica.specs.declared.message.Body as code
 use Rattle.la_replica.specs.declared.message.Body.TheVariants as body
 use Rattle.la_replica.specs.Alike.{AreAlike, AreAlikeBodies}

@@ -1,6 +1,5 @@
 -- Calls are read back from their lines.
-use Rattle.std.proofs.Common.{◌≡◌, ℕ, zero, suc, ◌≤◌, ◌<◌, ◌^◌, Bool, true, false, eqb, leb, ◌||◌, List, [], ◌∷◌, ◌++◌, length, map, All, Option, Some, None, option_map, Result, Ok, Err, refl, sym, ap, ◌∙◌, arith}
-use Rattle.std.specs.List.{list_any}
+use Rattle.std.proofs.Common.{◌≡◌, ℕ, ◌≤◌, false, eqb, List, [], ◌∷◌, ◌++◌, length, map, All, Some, None, Ok, refl, ap, ◌∙◌, arith}
 use Rattle.std.specs.Fmt.{decimal}
 use Rattle.std.specs.Str.{bytes_eq}
 use Rattle.std.proofs.lemmas.Bool.{le-leb, ne_eqb}
@@ -24,16 +23,16 @@ use Rattle.la_script.specs.Numbers.{u8_max, u16_max, u32_max, u64_max, number}
 use Rattle.la_script.specs.Tags.{tags_of}
 use Rattle.la_script.specs.Text.{id_text}
 use Rattle.la_script.specs.Forms.{spelling, places, has_gap, form_of}
-use Rattle.la_script.specs.Values.{nothing, values, said_tags, event as event_from}
-use Rattle.la_script.specs.Lines.{words_of, event_in, event_of}
+use Rattle.la_script.specs.Values.{nothing, values, event as event_from}
+use Rattle.la_script.specs.Lines.{words_of, event_in}
 use Rattle.la_lines.specs.declared.messages.Kind.{Kind}
 use Rattle.la_lines.specs.declared.messages.Kind.TheVariants as kind
-use Rattle.la_lines.specs.Joined.{spaced, joined, parted}
+use Rattle.la_lines.specs.Joined.{spaced}
 use Rattle.la_lines.specs.Updates.{update_text, op_words, made}
 use Rattle.la_lines.specs.Calls.{Call, Submit, Decide, Ask, Tick, Receive}
-use Rattle.la_lines.specs.CallLines.{query_words, tick_word, text, event_call, script_call, first_kind, call_by, call_of, named}
+use Rattle.la_lines.specs.CallLines.{query_words, tick_word, text, event_call, script_call, first_kind, call_by, call_of}
 use Rattle.la_lines.specs.MessageLines.{spelling as kind_word, kind_in, base_words, carried, message_text, message_of}
-use Rattle.la_lines.specs.Messages.{Message, Body, Offer, Yes, No, Tell}
+use Rattle.la_lines.specs.Messages.{Message, Offer, Yes, No, Tell}
 use Rattle.la_lines.specs.Writable.{IsId, IsOp, IsVoteless, IsQuery, IsCall, IsMessage}
 use Rattle.la_lines.proofs.Decimals.{number-decimal, decimal-plain, is_plain, IsPlain}
 use Rattle.la_lines.proofs.Joins.{words-back}

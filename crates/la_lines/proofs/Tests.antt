@@ -1,5 +1,5 @@
 -- The test tells what can be had.
-use Rattle.std.proofs.Common.{◌≡◌, ℕ, zero, suc, ◌<◌, ◌≤◌, Bool, true, false, leb, eqb, ◌&&◌, List, [], ◌∷◌, length, get_or, All, AllPairs, Decides, refl, sym, ap, subst, arith, inl, inr}
+use Rattle.std.proofs.Common.{◌≡◌, ℕ, suc, ◌≤◌, Bool, true, false, leb, eqb, ◌&&◌, List, [], ◌∷◌, length, All, AllPairs, Decides, refl, sym, subst, arith, inl, inr}
 use Rattle.std.specs.List.{list_all}
 use Rattle.std.proofs.lemmas.Bool.{leb-true, le-leb, cases_lt}
 use Rattle.std.proofs.lemmas.Bool.Decides.{Decides-and, Decides-like, Decides-eqb}
@@ -14,7 +14,7 @@ use Rattle.la_set.specs.declared.counts.Counts.{Counts}
 use Rattle.la_set.specs.Ids.{IsBelow, id_below}
 use Rattle.la_set.specs.Tags.{IsTags}
 use Rattle.la_set.specs.Counts.{count_in}
-use Rattle.la_set.specs.Histories.{Histories, listed, history, count, updates, IsWithinLimit}
+use Rattle.la_set.specs.Histories.{Histories, listed, history, updates, IsWithinLimit}
 use Rattle.la_set.proofs.lemmas.Counting.{count_in-known, count_in-past}
 use Rattle.la_set.proofs.lemmas.IdOrder.{below-test, test-below}
 use Rattle.la_set.proofs.lemmas.SetHistories.{count_past}

@@ -1,5 +1,5 @@
 -- What can be had, as a test.
-use Rattle.std.specs.Prelude.{ℕ, nat_le, Bool, true, false, List, [], ◌∷◌, length, ◌==◌, ◌&&◌}
+use Rattle.std.specs.Prelude.{nat_le, Bool, true, false, List, [], ◌∷◌, length, ◌==◌, ◌&&◌}
 use Rattle.std.specs.List.{list_all}
 use Rattle.la_set.specs.declared.set.TheConstants.{MAX_NUMBER}
 use Rattle.la_set.specs.declared.tags.TheConstants.{MAX_TAGS}

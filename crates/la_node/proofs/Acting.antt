@@ -1,6 +1,6 @@
 -- What the calls of a node come to, as steps of the machine.
-use Rattle.std.proofs.Common.{◌≡◌, ◌≢◌, ◌⊎◌, ℕ, ◌<◌, ◌≤◌, Bool, true, false, cond, eqb, ◌&&◌, List, length, map, All, slice_get, Option, Some, None, IsSomeAnd, IfSome, option_map, option_and_then, refl, sym, ap, ap₂, subst, ◌∙◌, arith, inl, inr}
-use Rattle.std.proofs.lemmas.Bool.{eq-eqb, eqb-true, false_from_ne_true, false≢true}
+use Rattle.std.proofs.Common.{◌≡◌, ◌≢◌, ◌⊎◌, ℕ, ◌≤◌, Bool, true, false, cond, eqb, ◌&&◌, List, length, slice_get, Option, Some, None, IsSomeAnd, option_map, option_and_then, refl, sym, ap, ap₂, ◌∙◌, arith, inl, inr}
+use Rattle.std.proofs.lemmas.Bool.{eq-eqb, eqb-true, false_from_ne_true}
 use Rattle.std.proofs.lemmas.List.Elements.{All-weaker}
 use Rattle.std.proofs.lemmas.Option.{none-some, same_Some, slice_get_past}
 use Rattle.la_set.specs.declared.counts.Counts.{Counts}
@@ -21,7 +21,7 @@ use Rattle.la_replica.specs.declared.message.Body as code_body
 use Rattle.la_replica.specs.declared.message.Body.TheVariants as body
 use Rattle.la_replica.specs.declared.out.Out as code_out
 use Rattle.la_replica.specs.Alike.{AreAlike, AreAlikeBodies}
-use Rattle.la_replica.specs.Whole.{Message, Out, whole_out, whole_mail}
+use Rattle.la_replica.specs.Whole.{Message, Out, whole_out}
 use Rattle.la_replica.specs.Received.{received_in, refusal_over, rebuilt_of, message_with, with_refused, StandsIn}
 use Rattle.la_replica.specs.Bases.{offered_by, IsToldIn, AreToldIn, AreToldFrom}
 use Rattle.la_replica.specs.ReplicaState.{ReplicaState, submits, submitted_in}
@@ -36,7 +36,6 @@ use Rattle.la_world.specs.Kept.{KeptCall, Submitted, Proposed, Received}
 use Rattle.la_lines.specs.declared.letter.Letter.{Letter}
 use Rattle.la_lines.specs.Messages.{said_by, said_body}
 use Rattle.la_lines.specs.Calls.{Call, Submit, Decide, Ask, Tick, Receive}
-use Rattle.la_node.specs.declared.error.NodeError.{NodeError}
 use Rattle.la_node.specs.Accepting.{accepts, is_for, is_over, takes_body, takes_message}
 use Rattle.la_node.specs.Errors.{by_replica, by_proposal, IsForMemory}
 use Rattle.la_node.specs.Given.{Given, given_of, given, of_submission, of_receipt, does, makes}

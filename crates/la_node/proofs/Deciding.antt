@@ -5,7 +5,7 @@ use Rattle.std.specs.Bool.{Decides}
 use Rattle.std.specs.List.{list_all}
 use Rattle.std.specs.Option.{is_some}
 use Rattle.std.proofs.lemmas.Bool.{false≢true, leb-true, le-leb, cases_Bool}
-use Rattle.std.proofs.lemmas.Bool.Decides.{Decides-and, Decides-or, Decides-not, Decides-like, Decides-eqb, Decides-ltb}
+use Rattle.std.proofs.lemmas.Bool.Decides.{Decides-and, Decides-not, Decides-like, Decides-eqb, Decides-ltb}
 use Rattle.std.proofs.lemmas.Option.{same_Some, none-some}
 use Rattle.std.proofs.lemmas.List.Elements.{All-weaker, All-get_or, All-from_get_or, All-contains, All-contains_itself}
 use Rattle.std.proofs.lemmas.List.Sums.{AllPass-from_list_all, list_all-from_AllPass}
@@ -16,7 +16,7 @@ use Rattle.la_set.specs.Counts.{count_in, HasCounts, within}
 use Rattle.la_set.specs.Histories.{Histories, count, get, push, updates, ContainsUpdate, IsNext}
 use Rattle.la_set.specs.Histories.{object_op_number, history}
 use Rattle.la_set.specs.ObjectOps.{ObjectOp, update_eq, update_of}
-use Rattle.la_set.specs.Deltas.{DeltaState, AreNext, IsOver}
+use Rattle.la_set.specs.Deltas.{AreNext, IsOver}
 use Rattle.la_set.specs.Join.{IsCompatible, ClashesAt}
 use Rattle.la_set.proofs.lemmas.Counting.{count_in-past}
 use Rattle.la_set.proofs.lemmas.Decisions.{update_eq-Decides}

@@ -1,5 +1,4 @@
 -- Which refusal a call gets.
-use Rattle.std.proofs.Common.{◌≡◌, ◌≢◌}
 use Rattle.la_replica.specs.declared.error.ReplicaError.{ReplicaError}
 use Rattle.la_replica.specs.declared.error.ReplicaError.TheVariants as replica
 use Rattle.la_world.specs.declared.error.WorldError.{WorldError}

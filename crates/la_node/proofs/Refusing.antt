@@ -1,5 +1,5 @@
 -- A call that is refused, but not for want of memory, is not accepted.
-use Rattle.std.proofs.Common.{◌≡◌, ◌≢◌, ◌⊎◌, ℕ, ◌<◌, ◌≤◌, true, List, length, slice_get, Option, Some, None, IsSomeAnd, IfSome, refl, sym, subst, arith, inl, inr}
+use Rattle.std.proofs.Common.{◌≡◌, ◌≢◌, ◌⊎◌, ℕ, ◌<◌, ◌≤◌, true, List, length, slice_get, Option, Some, None, IsSomeAnd, IfSome, refl, subst, arith}
 use Rattle.std.proofs.Common.{⊎_elim}
 use Rattle.std.proofs.lemmas.Option.{slice_get_past}
 use Rattle.la_set.specs.Histories.{Histories}

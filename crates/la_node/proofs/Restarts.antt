@@ -1,9 +1,8 @@
 -- Calls that nobody heard of, one after another.
-use Rattle.std.proofs.Common.{◌≡◌, ◌≢◌, ℕ, zero, suc, ◌<◌, Bool, true, false, cond, eqb, List, [], ◌∷◌, take, All, slice_get, slice_set, Option, Some, None, option_map, option_and_then, refl, sym, ap, subst, ◌∙◌, arith, inl, inr}
-use Rattle.std.proofs.lemmas.Bool.{cases_Bool, false≢true}
+use Rattle.std.proofs.Common.{◌≡◌, ℕ, zero, suc, Bool, true, false, cond, eqb, List, [], ◌∷◌, take, All, slice_get, slice_set, Option, Some, None, option_map, option_and_then, refl, sym, ap, subst, ◌∙◌}
 use Rattle.std.proofs.lemmas.Option.{none-some, same_Some}
 use Rattle.std.proofs.lemmas.List.Elements.{All-head, All-tail, All-take}
-use Rattle.la_journal.specs.Machine.{steps, steps_from, goes_on}
+use Rattle.la_journal.specs.Machine.{steps, steps_from}
 use Rattle.la_replica.specs.declared.message.Message as code
 use Rattle.la_set.specs.Inclusion.{IsSubset}
 use Rattle.la_set.proofs.lemmas.Inclusions.{subset-refl, subset-trans}
@@ -27,7 +26,7 @@ use Rattle.la_node.specs.Given.{Given, does, makes}
 use Rattle.la_node.specs.CallLines.{CallLine}
 use Rattle.la_node.specs.Nodes.{KeptState, message_of, kept, beside, acts, acts_by, step, ViewsGrow}
 use Rattle.la_node.specs.Restarts.{kept_state, IsHanded, RestartsKeepLive}
-use Rattle.la_node.proofs.Deciding.{Accepts, decides-accepts}
+use Rattle.la_node.proofs.Deciding.{decides-accepts}
 
 get_put : {A : Type 0} (xs : List A) (k : ℕ) (x y : A) → slice_get xs k ≡ Some x → slice_get (slice_set xs k y) k ≡ Some y
 get_put [] k x y e = absurd (none-some x e)

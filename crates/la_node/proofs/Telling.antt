@@ -1,5 +1,5 @@
 -- What a step's mail is, message by message: what is told is a function of what is sent.
-use Rattle.std.proofs.Common.{◌≡◌, ℕ, List, [], ◌∷◌, map, All, slice_get, Option, Some, None, IsSomeAnd, refl, ap, ap₂}
+use Rattle.std.proofs.Common.{◌≡◌, List, [], ◌∷◌, map, slice_get, Option, Some, None, IsSomeAnd, refl, ap, ap₂}
 use Rattle.std.proofs.lemmas.List.Elements.{All-head, All-tail}
 use Rattle.la_set.specs.declared.counts.Counts.{Counts}
 use Rattle.la_proposer.specs.ProposerState.{reported}

@@ -10,7 +10,6 @@ use Rattle.la_set.specs.declared.update.Update.{Update}
 use Rattle.la_set.specs.Counts.{count_in, within}
 use Rattle.la_set.specs.Histories.{Histories, count, get, push, updates}
 use Rattle.la_set.specs.ObjectOps.{update_eq}
-use Rattle.la_set.specs.Deltas.{DeltaState}
 use Rattle.la_acceptor.specs.declared.reply.Reply.{Reply}
 use Rattle.la_acceptor.specs.declared.reply.Reply.TheVariants as replied
 use Rattle.la_proposer.specs.declared.proposer.TheConstants.{MAX_BALLOTS}

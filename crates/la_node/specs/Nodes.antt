@@ -1,5 +1,5 @@
 -- A node as a machine: what it keeps, and what it makes of a line.
-use Rattle.std.specs.Prelude.{◌≡◌, ℕ, ◌==◌, List, [], Option, Some, None, option_map, option_and_then, if◌then◌else◌}
+use Rattle.std.specs.Prelude.{◌≡◌, ℕ, ◌==◌, [], Option, Some, None, option_map, option_and_then, if◌then◌else◌}
 use Rattle.la_set.specs.Histories.{empty}
 use Rattle.la_set.specs.Inclusion.{IsSubset}
 use Rattle.la_proposer.specs.ProposerState.{op_on}
@@ -9,7 +9,6 @@ use Rattle.la_replica.specs.declared.message.Body as code_body
 use Rattle.la_replica.specs.declared.message.Body.TheVariants as body
 use Rattle.la_replica.specs.ReplicaState.{ReplicaState}
 use Rattle.la_world.specs.Kept.{KeptCall, Submitted, Proposed, Received}
-use Rattle.la_lines.specs.Messages as said
 use Rattle.la_lines.specs.Messages.{Message, Body, Offer, Yes, No, Tell}
 use Rattle.la_lines.specs.Calls.{Call, Submit, Decide, Ask, Tick, Receive}
 use Rattle.la_lines.specs.CallLines.{named}

@@ -18,11 +18,6 @@ next_text f xs i x bs lt is =
     ∙ ap (λ z. bs ++ flat_map f (take i xs ++ z ∷ [])) (sym is)
     ∙ ap (λ ys. bs ++ flat_map f ys) (sym (take_more xs i x lt))
 
--- the next message's line
-pub next_line : {X : Type 0} (f : X → List ℕ) (xs : List X) (i : ℕ) (x : X) (bs before after : List ℕ) → i < length xs → get_or xs i x ≡ x
-    → before ≡ bs ++ flat_map f (take i xs) → after ≡ before ++ f x → after ≡ bs ++ flat_map f (take (i + 1) xs)
-next_line f xs i x bs before after lt is so_far a = a ∙ ap (λ t. t ++ f x) so_far ∙ next_text f xs i x bs lt is
-
 -- ## Line by line
 
 module _ (a b c : Option (List ℕ)) (text : List ℕ) (d n : ℕ) (so_far : Appends a b (take d text)) where

@@ -1,8 +1,8 @@
 -- What is pending of a source, and what is taken of it.
 use Rattle.std.proofs.Common.{◌≡◌, ℕ, ◌<◌, Bool, true, false, ◌==◌, List, [], ◌∷◌, ◌++◌, length, Option, Some, None, sym, subst, ap, ◌∙◌, arith, append_assoc, append-nil}
 use Rattle.std.specs.Io.KnownBytes.{Consumes, IsAtEnd, prepend_known}
-use Rattle.std.proofs.KnownBytes.{Consumes-trans, Consumes-nil}
-use Rattle.std.proofs.lemmas.List.Elements.{All-nil, All-append}
+use Rattle.std.proofs.KnownBytes.{Consumes-trans}
+use Rattle.std.proofs.lemmas.List.Elements.{All-append}
 use Rattle.la_streams.specs.declared.source.Next.{Next}
 use Rattle.la_streams.specs.Streams.{IsOneLine, IsKept, IsPart, IsNext, of_line, last_kind}
 
@@ -10,12 +10,6 @@ use Rattle.la_streams.specs.Streams.{IsOneLine, IsKept, IsPart, IsNext, of_line,
 pub takes_front : (p q : List ℕ) (left : Option (List ℕ)) (bytes : List ℕ) → p ≡ bytes ++ q → Consumes (prepend_known p left) (prepend_known q left) bytes
 takes_front p q None bytes is = tt
 takes_front p q (Some xs) bytes is = ap (λ t. t ++ xs) is ∙ append_assoc bytes q xs
-
--- what a read gives is ahead
-pub reads_ahead : (a b : Option (List ℕ)) (bytes : List ℕ) → Consumes a b bytes → Consumes a (prepend_known bytes b) []
-reads_ahead None b bytes c = tt
-reads_ahead (Some xs) None bytes c = absurd c
-reads_ahead (Some xs) (Some ys) bytes c = c
 
 pub one_line_on : (xs ys : List ℕ) → IsOneLine xs → IsOneLine ys → IsOneLine (xs ++ ys)
 one_line_on xs ys a b = All-append (λ b. (b == 10) ≡ false) xs ys a b
@@ -26,14 +20,6 @@ pub record Gathers (before after : Option (List ℕ)) (is_long : Bool) (line : L
   pub one : IsOneLine got
   pub read : Consumes before after got
   pub kept : IsKept is_long got line
-
-pub gathers_none : (a b : Option (List ℕ)) (line : List ℕ) → b ≡ a → line ≡ [] → Gathers a b false line
-gathers_none a b line same none = record {
-  got = [];
-  one = All-nil (λ b. (b == 10) ≡ false);
-  read = subst (λ c. Consumes a c []) (sym same) (Consumes-nil a);
-  kept = none;
-}
 
 -- more was read
 pub gathers_read : (a b c : Option (List ℕ)) (is_long : Bool) (line : List ℕ) → Gathers a b is_long line → Consumes b c [] → Gathers a c is_long line

@@ -1,4 +1,4 @@
-use Rattle.std.proofs.Common.{◌≡◌, [], ◌∷◌, ◌++◌, map, refl, ap, sym, ◌∙◌, subst, rules}
+use Rattle.std.proofs.Common.{[], ◌∷◌, ap, ◌∙◌, rules}
 use Rattle.std.proofs.lemmas.List.{map-append}
 use Rattle.la_world.specs.LiveGroups.{replicas_of}
 use Rattle.la_world.specs.Nodes.{NodeState}

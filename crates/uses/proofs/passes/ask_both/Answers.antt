@@ -1,5 +1,4 @@
-use Rattle.std.proofs.Common.{◌≡◌, IfOk, sym, subst}
-use Rattle.la_acceptor.specs.declared.reply.Reply.TheVariants.{Yes}
+use Rattle.std.proofs.Common.{IfOk, sym, subst}
 use Rattle.la_shared.specs.History.{HasEntry, HasYes}
 use denote.Param.Send.{sendable}
 use Rattle.std.proofs.Crossing as heap

@@ -1,4 +1,4 @@
-use Rattle.std.proofs.Common.{◌≡◌, Some, ap, sym, ◌∙◌}
+use Rattle.std.proofs.Common.{Some, ap, sym, ◌∙◌}
 use Rattle.la_set.specs.Counts.{zero_counts}
 use Rattle.la_node.specs.Given.{given_of}
 use Rattle.la_node.specs.Nodes.{KeptState}

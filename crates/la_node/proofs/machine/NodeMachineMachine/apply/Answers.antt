@@ -1,4 +1,4 @@
-use Rattle.std.proofs.Common.{Some, ap, sym, subst, ◌∙◌}
+use Rattle.std.proofs.Common.{Some, ap, sym, ◌∙◌}
 use Rattle.la_lines.specs.Calls.{called}
 use Rattle.la_node.proofs.Lines.{step_taken, answer_given, step_refused}
 use Rattle.la_node.proofs.machine.NodeMachineMachine.apply.Goals as goal
