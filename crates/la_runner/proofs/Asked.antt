@@ -1,5 +1,5 @@
 -- What one offer to one acceptor leaves of a member.
-use Rattle.std.proofs.Common.{◌≡◌, inl, inr, ℕ, zero, suc, ◌<◌, Bool, true, false, List, [], ◌∷◌, length, map, Some, refl, ap, sym, ◌∙◌, subst, ◌&&◌, ◌==◌, not}
+use Rattle.std.proofs.Common.{◌≡◌, inl, inr, ℕ, zero, suc, ◌<◌, Bool, true, false, List, [], ◌∷◌, ◌++◌, length, map, Some, refl, ap, sym, ◌∙◌, subst, arith, ◌&&◌, ◌==◌, not}
 use Rattle.std.specs.Prelude.{Result, Ok, Err, OnOk, OnErr, IfOk}
 use Rattle.std.specs.List.{slice_get, slice_set, slice_index_or}
 use Rattle.std.proofs.lemmas.Option.{slice_get-get_or}
@@ -8,10 +8,15 @@ use Rattle.la_proposer.specs.declared.heard.Heard.{Heard}
 use Rattle.la_proposer.specs.Tally.{has_counted}
 use Rattle.la_proposer.specs.ProposerState.{ProposerState, counts}
 use Rattle.la_proposer.specs.Invariant.{IsProposerState}
-use Rattle.la_shared.specs.Passes.{Known, IsPass, AcceptorName}
+use Rattle.la_set.specs.Histories.{Histories}
+use Rattle.la_acceptor.specs.declared.reply.Reply.{Reply}
+use Rattle.la_shared.specs.History.{entry}
+use Rattle.la_shared.specs.Passes.{Known, IsPass, AcceptorName, Extends}
 use Rattle.la_runner.specs.Asking.{Asks, AsksInVain}
 use Rattle.la_runner.specs.Sound.{IsSound}
 use Rattle.la_runner.specs.Following.{Goes, IsLearnt, IfLearnt, StaysOpen}
+use Rattle.la_runner.specs.Heard.{Hears, HearsMost}
+use Rattle.la_runner.proofs.Remembering.{one_recorded, none_recorded}
 use Rattle.la_runner.proofs.Passing.{Grown, grown_same, grown_more, has_new, beyond_new, on_refl}
 use Rattle.la_runner.proofs.Going.{sound_grown, follows_refl, follows_trans}
 use Rattle.la_runner.proofs.Hearing.{hears}
@@ -19,6 +24,9 @@ use Rattle.la_runner.proofs.Hearing.{hears}
 not_true : (b : Bool) → not b ≡ true → b ≡ false
 not_true true e = sym e
 not_true false e = refl
+
+offered_mine : (s : Histories) (r : Reply) (k w : Known) (e : Extends s r k w) → w.mine ≡ k.mine ++ entry e.0 s r ∷ []
+offered_mine s r k w e = e.1.4
 
 pub goes_grown : (p : ProposerState) (ps qs : List Known) → IsSound p ps → Grown p.updates ps qs → Goes p ps p qs
 goes_grown p ps qs is g = record { sound = sound_grown p ps qs is g; follows = follows_refl p ps qs g.on; nothing = refl }
@@ -63,6 +71,27 @@ module _ (p : ProposerState) (ps : List Known) (a : ℕ) (k w : Known) (is : IsS
   pub stays_of : {E : Type 0} (q : ProposerState) → a < length p.votes → counts p a p.number ≡ true → (result : Result Heard E) → OnOk result (IsProposerState q) → IfOk result (λ heard. Asks p a k heard q w) → IfOk result (λ heard. StaysOpen heard p q)
   stays_of q known open_is (Ok heard) state asks = (asked heard q state known open_is asks).2
   stays_of q known open_is (Err e) state asks = tt
+
+-- what was heard, and what was missed
+module _ (p : ProposerState) (ps : List Known) (a : ℕ) (k w : Known) (at : slice_get ps a ≡ Some k) where
+  pub heard_of_one : {E : Type 0} (q : ProposerState) → a < length p.votes → (result : Result Heard E) → IfOk result (λ heard. Asks p a k heard q w) → OnOk result (Hears p q ps (slice_set ps a w) [])
+  heard_of_one q known (Err e) asks = tt
+  heard_of_one q known (Ok heard) asks = record {
+    heard = record { acceptor = a; entry = entry asks.1.0 p.updates asks.0 } ∷ [];
+    recorded = one_recorded ps a k w at (entry asks.1.0 p.updates asks.0) (offered_mine p.updates asks.0 k w asks.1);
+    leads = asks.4;
+  }
+
+  pub missed_of_one : {E : Type 0} (q : ProposerState) (result : Result Heard E) → OnErr result (AsksInVain p k q w) → OnErr result (HearsMost p q ps (slice_set ps a w))
+  missed_of_one q (Ok heard) vain = tt
+  missed_of_one q (Err e) vain = elim vain.1 [
+    | inl same ↦ ([], omega arith, record { heard = []; recorded = none_recorded ps a k w at same.1; leads = vain.0 })
+    | inr more ↦ (
+      record { acceptor = a; entry = entry more.1.0 p.updates more.0 } ∷ [],
+      omega arith,
+      record { heard = []; recorded = one_recorded ps a k w at (entry more.1.0 p.updates more.0) (offered_mine p.updates more.0 k w more.1); leads = vain.0 },
+    )
+  ]
 
 pub vain_of : {E : Type 0} (p q : ProposerState) (k w : Known) (result : Result Heard E) → OnErr result (AsksInVain p k q w) → OnErr result (q ≡ p)
 vain_of p q k w (Ok heard) vain = tt

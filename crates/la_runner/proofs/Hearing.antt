@@ -253,13 +253,6 @@ counts_open p a asking none = ap₂ (λ b d. b && ((p.number == p.number) && not
 pub submission_asks : (p : ProposerState) (d : ObjectOp) → (after_submission p d).is_asking ≡ true
 submission_asks p d = cond_both p.is_asking (with_waiting p d) (after_opening (with_waiting p d)) (λ q. q.is_asking ≡ true) (λ e. e) (λ e. refl)
 
-pub submission_number : (p : ProposerState) (d : ObjectOp) → (after_submission p d).number ≡ cond p.is_asking p.number (p.number + 1)
-submission_number p d = go p.is_asking
-  where
-    go : (b : Bool) → (cond b (with_waiting p d) (after_opening (with_waiting p d))).number ≡ cond b p.number (p.number + 1)
-    go true = refl
-    go false = refl
-
 module _ (p : ProposerState) (ps : List Known) (d : ObjectOp) (is : IsSound p ps) where
   small_own : p.own < 8
   small_own = let known = is.proposer.known in let few = is.proposer.few in omega arith

@@ -14,7 +14,6 @@ use Rattle.la_commit.specs.Instances.{first_instance, second_instance}
 use Rattle.la_commit.specs.Votes.{second_vote}
 use Rattle.la_proposer.specs.Inputs.{all_submitted}
 use Rattle.la_proposer.specs.Majority.{votes_of}
-use Rattle.la_proposer.specs.ProposerState.{after_submission}
 use Rattle.la_shared.specs.Passes.{Known}
 use Rattle.la_shared.proofs.lemmas.Theorems.{prefix_self}
 use Rattle.la_runner.specs.declared.instance.Instance.{Instance}
@@ -23,13 +22,12 @@ use Rattle.la_runner.specs.declared.member.Member.TheInside.{Inside}
 use Rattle.la_runner.specs.Certificates.{seen_at, mine_at, HasCertificate, HasOwnCertificate}
 use Rattle.la_runner.specs.Fields.{stands_for}
 use Rattle.la_runner.specs.Following.{acceptors_of}
-use Rattle.la_runner.specs.Instances.{InstanceState, state_of, asking_number, Steps, IsComplete, IsUpdated}
+use Rattle.la_runner.specs.Instances.{InstanceState, state_of, with_update, Steps, IsComplete, IsUpdated}
 use Rattle.la_runner.specs.Invariant.{IsIn, IsMember}
-use Rattle.la_runner.specs.Members.{MemberState, InInstance, passes_of, passes_in, submitted_of, submitted_in, is_asking_of, number_of, number_in, number_asking_of, number_asking, learnt_of, last_learnt, view_of, GoesOn, IsOnlyIn, IsLearntIn, IsUpdateOf}
+use Rattle.la_runner.specs.Members.{MemberState, InInstance, passes_of, passes_in, submitted_of, submitted_in, is_asking_of, number_of, learnt_of, last_learnt, view_of, GoesOn, IsOnlyIn, IsLearntIn, IsUpdateOf}
 use Rattle.la_runner.specs.Participants.{IsParticipant}
 use Rattle.la_runner.specs.declared.error.RunnerError.{RunnerError}
-use Rattle.la_runner.specs.Refusals.{IsRoundsRefusal, IsInstanceRefusal, IsSubmissionRefusal, IsUpdateRefusal, IsRefusedRounds, IsRefusedUpdate}
-use Rattle.la_runner.proofs.Hearing.{submission_number}
+use Rattle.la_runner.specs.Refusals.{IsRoundsRefusal, KeepsCounted, IsInstanceRefusal, IsSubmissionRefusal, IsUpdateRefusal, IsRefusedRounds, IsRefusedUpdate, IsRefusedResume}
 use Rattle.la_runner.proofs.Passing.{get-set_same, get-set_other, map-set_other, prefix_trans}
 
 -- ## One item of a list goes on
@@ -162,17 +160,16 @@ module _ (m : MemberState) (i : ℕ) (x y : InstanceState) (at : slice_get m.ins
 
   -- ## What was refused
 
-  pub refused_rounds : (rounds first first' : ℕ) (e : RunnerError) → first' ≡ first → IsInstanceRefusal rounds first y e → IsRefusedRounds rounds first' i (with_instance m i y) e
-  refused_rounds rounds first first' e same h = record {
-    refusal = subst (λ (z : ℕ × ℕ). IsRoundsRefusal rounds z.0 z.1 e) (λ k. (sym same k, sym (ap number_of there) k)) h.refusal;
+  refused_rounds : (rounds : ℕ) (start : InstanceState) (e : RunnerError) → IsInstanceRefusal rounds start y e → IsRefusedRounds rounds start i (with_instance m i y) e
+  refused_rounds rounds start e h = record {
+    refusal = subst (λ n. IsRoundsRefusal rounds start.proposer.number n e) (sym (ap number_of there)) h.refusal;
     asks = ap is_asking_of there ∙ h.asks;
+    kept = subst (λ o. IsSomeAnd o (λ (z : InstanceState). KeepsCounted start z e)) (sym there) h.kept;
   }
 
-  pub number_there : number_of (slice_get m.instances i) ≡ x.proposer.number
-  number_there = ap number_of at
-
-  pub asking_there : number_asking_of (slice_get m.instances i) ≡ asking_number x
-  asking_there = ap number_asking_of at
+  -- by what the rounds began with
+  pub refused_after : (start : InstanceState → InstanceState) (rounds : ℕ) (e : RunnerError) → IsInstanceRefusal rounds (start x) y e → InInstance m i (λ w. IsRefusedRounds rounds (start w) i (with_instance m i y) e)
+  refused_after start rounds e h = subst (λ o. IsSomeAnd o (λ (w : InstanceState). IsRefusedRounds rounds (start w) i (with_instance m i y) e)) (sym at) (refused_rounds rounds (start x) e h)
 
 module _ (m : MemberState) (x y : InstanceState) (at : slice_get m.instances 0 ≡ Some x) (votes : x.proposer.votes ≡ m.votes) (own : x.proposer.own ≡ m.replica) (s : Histories) where
   pub update_of : IsUpdated x y s → y.learnt ≡ Some s → y.view ≡ s → IsUpdateOf m (with_instance m 0 y) s
@@ -181,10 +178,6 @@ module _ (m : MemberState) (x y : InstanceState) (at : slice_get m.instances 0 �
     contains = λ t h. u.contains t (subst (λ (z : List ℕ × List Known). HasCertificate z.0 z.1 t) (λ k. (sym votes k, ap passes_of at k)) h);
     view = ap view_of (get-set_same m.instances 0 y (slice_get_within m.instances 0 x at)) ∙ seen;
   }
-
--- the number of the ballot that is open after a submission
-pub asking_after : (x : InstanceState) (d : ObjectOp) → asking_number x ≡ (after_submission x.proposer d).number
-asking_after x d = sym (submission_number x.proposer d)
 
 -- ## The same of a member's fields
 
@@ -249,6 +242,11 @@ module _ (m : Inside) (x y : Instance) (at : slice_get m.instances.items 0 ≡ S
   pub submitted_after : (d : ObjectOp) (n : MemberState) → stands_for m ≡ n → all_submitted y.proposer ≡ all_submitted x.proposer ++ d ∷ [] → submitted_in (with_state m 0 y) 0 ≡ submitted_in n 0 ++ d ∷ []
   submitted_after d n e h = ap submitted_of there_now ∙ h ∙ ap (λ l. l ++ d ∷ []) (sym (ap submitted_of (state_at m 0 x y at)) ∙ ap (λ z. submitted_in z 0) e)
 
+  refused_first : (start : InstanceState → InstanceState) (rounds : ℕ) (n : MemberState) → stands_for m ≡ n → (e : RunnerError) → IsInstanceRefusal rounds (start (state_of x)) (state_of y) e → InInstance n 0 (λ w. IsRefusedRounds rounds (start w) 0 (with_state m 0 y) e)
+  refused_first start rounds n same e h =
+      subst (λ (z : MemberState × MemberState). InInstance z.0 0 (λ w. IsRefusedRounds rounds (start w) 0 z.1 e)) (λ k. (same k, sym (with_state_is m 0 x y at) k))
+      (refused_after (stands_for m) 0 (state_of x) (state_of y) (state_at m 0 x y at) start rounds e h)
+
   pub refused_update : (rounds : ℕ) (d : ObjectOp) (n : MemberState) → stands_for m ≡ n → (e : RunnerError) → IsUpdateRefusal rounds d (state_of x) (state_of y) e → IsRefusedUpdate rounds d n (with_state m 0 y) e
   refused_update rounds d n same e (inl h) = inl (
     subst (λ z. InInstance z 0 (λ w. IsSubmissionRefusal w.proposer e)) same (subst (λ o. IsSomeAnd o (λ w. IsSubmissionRefusal w.proposer e)) (sym (state_at m 0 x y at)) h.0),
@@ -259,16 +257,11 @@ module _ (m : Inside) (x y : Instance) (at : slice_get m.instances.items 0 ≡ S
       same_state = ap (λ l. record (stands_for m) { instances = l }) (ap (slice_set (map state_of m.instances.items) 0) h.1 ∙ set_same (map state_of m.instances.items) 0 (state_of x) (state_at m 0 x y at))
   refused_update rounds d n same e (inr h) = inr (
     submitted_after d n same h.0,
-    subst (λ z. IsRefusedRounds rounds (number_asking n 0) 0 z e) (sym (with_state_is m 0 x y at))
-        (refused_rounds (stands_for m) 0 (state_of x) (state_of y) (state_at m 0 x y at) rounds (after_submission x.proposer d).number (number_asking n 0) e
-        (ap (λ z. number_asking z 0) (sym same) ∙ asking_there (stands_for m) 0 (state_of x) (state_of y) (state_at m 0 x y at) ∙ asking_after (state_of x) d) h.1),
+    refused_first (with_update d) rounds n same e h.1,
   )
 
-  pub refused_resume : (rounds : ℕ) (n : MemberState) → stands_for m ≡ n → (e : RunnerError) → IsInstanceRefusal rounds x.proposer.number (state_of y) e → IsRefusedRounds rounds (number_in n 0) 0 (with_state m 0 y) e
-  refused_resume rounds n same e h =
-      subst (λ z. IsRefusedRounds rounds (number_in n 0) 0 z e) (sym (with_state_is m 0 x y at))
-      (refused_rounds (stands_for m) 0 (state_of x) (state_of y) (state_at m 0 x y at) rounds x.proposer.number (number_in n 0) e
-      (ap (λ z. number_in z 0) (sym same) ∙ number_there (stands_for m) 0 (state_of x) (state_of y) (state_at m 0 x y at)) h)
+  pub refused_resume : (rounds : ℕ) (n : MemberState) → stands_for m ≡ n → (e : RunnerError) → IsInstanceRefusal rounds (state_of x) (state_of y) e → IsRefusedResume rounds n (with_state m 0 y) e
+  refused_resume rounds n same e h = refused_first (λ z. z) rounds n same e h
 
   -- what a resumption gives, if it gives a learning
   pub resumed_of : (n : MemberState) → stands_for m ≡ n → IsMember (stands_for m) → (end : Option Learned) → IfSome end (λ l. IsComplete (state_of x) (state_of y) l.updates) → IfSome end (λ l. y.learnt ≡ Some l.updates) → IfSome end (λ l. IsLearntIn 0 n (with_state m 0 y) l.updates)

@@ -1,6 +1,6 @@
 -- Whether a member may propose, what it votes for, and what it decides.
 use Rattle.std.proofs.Common.{◌≡◌, ◌≢◌, inl, inr, ℕ, zero, suc, ◌<◌, ◌≤◌, arith, true≢false, List, [], ◌∷◌, length, map, Option, Some, None, option_map, refl, ap, sym, ◌∙◌, subst}
-use Rattle.std.specs.Prelude.{IsSome, option_and_then, Result, Ok, Err, IfErr}
+use Rattle.std.specs.Prelude.{IsSome, IsSomeAnd, option_and_then, Result, Ok, Err, IfErr}
 use Rattle.std.specs.List.{slice_get, slice_index_or}
 use Rattle.std.proofs.lemmas.Bool.{cases_eq}
 use Rattle.la_set.specs.Histories.{Histories, history}
@@ -17,9 +17,9 @@ use Rattle.la_runner.specs.declared.member.Member.TheInside.{Inside}
 use Rattle.la_runner.specs.Certificates.{HasOwnCertificate}
 use Rattle.la_runner.specs.Fields.{stands_for}
 use Rattle.la_runner.specs.Following.{acceptors_of}
-use Rattle.la_runner.specs.Instances.{InstanceState, state_of}
+use Rattle.la_runner.specs.Instances.{InstanceState, state_of, with_vote}
 use Rattle.la_runner.specs.Invariant.{IsMember}
-use Rattle.la_runner.specs.Members.{MemberState, GroupState, passes_of, submitted_of, learnt_of, last_learnt, number_asking_of, acceptors_in, IsOf, GoesOn, IsOnlyIn}
+use Rattle.la_runner.specs.Members.{MemberState, GroupState, passes_of, submitted_of, learnt_of, last_learnt, acceptors_in, IsOf, GoesOn, IsOnlyIn}
 use Rattle.la_runner.specs.Participants.{HasCommit, HasProposed, HasOther, IsVotedSet, IsDecision, MayVote, outcome_in, IsOnlyAt}
 use Rattle.la_runner.specs.Refusals.{IsVoteError, IsRefusedVote, IsRefusedRounds, IsRefusedInEither, IsProposalRefusal, IsRefusedDecision}
 use Rattle.la_runner.proofs.Keeping.{item_at, long_map, get_map}
@@ -176,7 +176,7 @@ module _ (old mid new : MemberState) (k value : ℕ) (go : GoesOn old mid) (on :
     where
       of_old : IsRefusedVote left k v (second_instance k) mid new e → IsRefusedVote left k v (second_instance k) old new e
       of_old (inl h) = inl h
-      of_old (inr h) = inr (h.0, subst (λ n. IsRefusedRounds left n (second_instance k) new e) (ap number_asking_of second_stays) h.1)
+      of_old (inr h) = inr (h.0, subst (λ o. IsSomeAnd o (λ (x : InstanceState). IsRefusedRounds left (with_vote k v x) (second_instance k) new e)) second_stays h.1)
 
 -- ## Refusals of a decision
 

@@ -15,15 +15,17 @@ use Rattle.la_shared.specs.Passes.{Known}
 use Rattle.la_shared.proofs.lemmas.Theorems.{prefix_self}
 use Rattle.la_runner.specs.Certificates.{mine_at, HasCertificate, HasOwnCertificate}
 use Rattle.la_runner.specs.Sound.{IsSound, IsView}
+use Rattle.la_runner.specs.Heard.{Answered, Hears, HearsMost}
 use Rattle.la_runner.specs.Following.{Follows, Goes, SubmitsNothing, IsLearnt}
 use Rattle.la_runner.specs.Instances.{InstanceState, IsLearntSet, IsInstance, Steps, IsComplete, IsUpdated}
 use Rattle.la_runner.specs.Rounds.{IsLarger}
-use Rattle.la_runner.specs.Refusals.{IsOfferRefusal, IsRoundsRefusal, IsInstanceRefusal, IsUpdateRefusal}
+use Rattle.la_runner.specs.Refusals.{IsOfferRefusal, IsRoundsRefusal, MayMiss, IsInstanceRefusal, IsUpdateRefusal}
 use Rattle.la_runner.specs.declared.error.RunnerError.{RunnerError}
 use Rattle.la_runner.specs.declared.error.RunnerError.TheVariants as errors
 use Rattle.la_runner.specs.declared.learned.Learned.{Learned}
 use Rattle.la_runner.proofs.Certified.{own_certificate_stays}
 use Rattle.la_runner.proofs.Passing.{prefix_trans, on_refl}
+use Rattle.la_runner.proofs.Remembering.{still_counts}
 use Rattle.la_runner.proofs.Going.{follows_trans}
 use Rattle.la_runner.proofs.Viewing.{larger_view, view_on, becomes_larger, empty_within}
 use Rattle.la_runner.proofs.Hearing.{submission_sound, submission_follows, submission_adds, submission_asks}
@@ -186,12 +188,14 @@ module _ (x : InstanceState) (q : ProposerState) (d : ObjectOp) (is : IsInstance
         go (Ok end) l c g = updated_view y end.0.ballot end.0.updates steps nothing l c g
         go (Err e) l c g = tt
 
-    pub refused_of : IfErr result (IsInstanceRefusal rounds q.number y) → IfErr result (IsUpdateRefusal rounds d x y)
+    pub refused_of : IfErr result (IsInstanceRefusal rounds submitted_instance y) → IfErr result (IsUpdateRefusal rounds d x y)
     refused_of refused = go result refused
       where
-        go : (r : Result (Learned × ℕ) RunnerError) → IfErr r (IsInstanceRefusal rounds q.number y) → IfErr r (IsUpdateRefusal rounds d x y)
+        go : (r : Result (Learned × ℕ) RunnerError) → IfErr r (IsInstanceRefusal rounds submitted_instance y) → IfErr r (IsUpdateRefusal rounds d x y)
         go (Ok end) h = tt
-        go (Err e) h = inr (nothing ∙ submitted_adds, subst (λ (p : ProposerState). IsInstanceRefusal rounds p.number y e) after h)
+        go (Err e) h = inr (nothing ∙ submitted_adds, subst (λ (p : ProposerState). IsInstanceRefusal rounds (record x { proposer = p }) y e) after h)
+
+-- ## Rounds that are refused
 
 -- a refused offer, in some round
 pub in_rounds : (rounds first last : ℕ) (e : RunnerError) → 1 ≤ rounds → IsOfferRefusal e → IsRoundsRefusal rounds first last e
@@ -204,3 +208,30 @@ in_rounds rounds first last errors.AlreadyProposed some h = absurd h
 in_rounds rounds first last errors.Full some h = absurd h
 in_rounds rounds first last errors.NoMajority some h = absurd h
 in_rounds rounds first last errors.TryAgain some h = absurd h
+
+-- all that was recorded was heard
+pub unended : (x y : InstanceState) (rounds : ℕ) (e : RunnerError) → Steps x y → Hears x.proposer y.proposer x.passes y.passes [] → MayMiss e [] → y.proposer.is_asking ≡ true → IsRoundsRefusal rounds x.proposer.number y.proposer.number e → IsInstanceRefusal rounds x y e
+unended x y rounds e steps hears few asks refusal = record {
+  refusal = refusal;
+  asks = asks;
+  kept = record { missed = []; few = few; hears = hears; counts = still_counts x.proposer y.proposer x.passes y.passes [] hears steps.follows.same asks };
+}
+
+may_miss : (e : RunnerError) (missed : List Answered) → IsOfferRefusal e → length missed ≤ 1 → MayMiss e missed
+may_miss (errors.Clash id) missed h few = few
+may_miss errors.BallotsSpent missed h few = few
+may_miss errors.Memory missed h few = few
+may_miss errors.BadConfig missed h few = absurd h
+may_miss errors.NoSuchCommit missed h few = absurd h
+may_miss errors.AlreadyProposed missed h few = absurd h
+may_miss errors.Full missed h few = absurd h
+may_miss errors.NoMajority missed h few = absurd h
+may_miss errors.TryAgain missed h few = absurd h
+
+-- an offer was refused, or its reply
+pub cut_off : (x y : InstanceState) (rounds : ℕ) (e : RunnerError) → 1 ≤ rounds → IsOfferRefusal e → Steps x y → HearsMost x.proposer y.proposer x.passes y.passes → y.proposer.is_asking ≡ true → IsInstanceRefusal rounds x y e
+cut_off x y rounds e some refusal steps hears asks = record {
+  refusal = in_rounds rounds x.proposer.number y.proposer.number e some refusal;
+  asks = asks;
+  kept = record { missed = hears.0; few = may_miss e hears.0 refusal hears.1; hears = hears.2; counts = still_counts x.proposer y.proposer x.passes y.passes hears.0 hears.2 steps.follows.same asks };
+}

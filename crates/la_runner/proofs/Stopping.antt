@@ -9,9 +9,9 @@ use Rattle.la_proposer.specs.Refusals.{IsSubmitRefusal}
 use Rattle.la_set.specs.ObjectOps.{ObjectOp}
 use Rattle.la_runner.specs.declared.error.RunnerError.{RunnerError}
 use Rattle.la_runner.specs.declared.error.RunnerError.TheVariants.{BadConfig, NoSuchCommit, AlreadyProposed, Clash, Full, BallotsSpent, NoMajority, TryAgain, Memory}
-use Rattle.la_runner.specs.Instances.{InstanceState}
-use Rattle.la_runner.specs.Members.{MemberState}
-use Rattle.la_runner.specs.Refusals.{of_proposer, IsSubmissionRefusal, IsRefusedUpdate, IsRefusedDecision}
+use Rattle.la_runner.specs.Instances.{InstanceState, with_update}
+use Rattle.la_runner.specs.Members.{MemberState, InInstance, number_in}
+use Rattle.la_runner.specs.Refusals.{of_proposer, IsRoundsRefusal, IsSubmissionRefusal, IsRefusedRounds, IsRefusedUpdate, IsRefusedDecision}
 use Rattle.la_runner.specs.Stops.{IsJobError, stop_by, HasSubmittedCap, StopsUpdate, StopsDecide}
 
 -- a refused submission, by the proposer's own refusal
@@ -44,10 +44,14 @@ never : {A : Type 0} (o : Option A) (P : A → Type 0) → ((x : A) → P x → 
 never None P f h = h
 never (Some x) P f h = f x h
 
+-- rounds are never refused so
+rounds_never : (rounds : ℕ) (d : ObjectOp) (old new : MemberState) (e : RunnerError) → ((n m : ℕ) → IsRoundsRefusal rounds n m e → ⊥) → InInstance old 0 (λ x. IsRefusedRounds rounds (with_update d x) 0 new e) → ⊥
+rounds_never rounds d old new e f h = never (slice_get old.instances 0) (λ (x : InstanceState). IsRefusedRounds rounds (with_update d x) 0 new e) (λ x r. f (with_update d x).proposer.number (number_in new 0) r.refusal) h
+
 -- an update's refusal is one that a job may meet, and a reason why the jobs end
 pub update_error : (rounds : ℕ) (d : ObjectOp) (old new : MemberState) (e : RunnerError) → IsRefusedUpdate rounds d old new e → IsJobError e
 update_error rounds d old new BadConfig (inl h) = never (slice_get old.instances 0) (λ (x : InstanceState). IsSubmissionRefusal x.proposer BadConfig) (λ x. submission x.proposer BadConfig) h.0
-update_error rounds d old new BadConfig (inr h) = h.1.refusal
+update_error rounds d old new BadConfig (inr h) = rounds_never rounds d old new BadConfig (λ n m r. r) h.1
 update_error rounds d old new NoSuchCommit h = tt
 update_error rounds d old new AlreadyProposed h = tt
 update_error rounds d old new (Clash id) h = tt
@@ -60,12 +64,12 @@ update_error rounds d old new Memory h = tt
 pub update_stops : (rounds : ℕ) (d : ObjectOp) (old new : MemberState) (e : RunnerError) → IsRefusedUpdate rounds d old new e → StopsUpdate new (stop_by e)
 update_stops rounds d old new BadConfig h = tt
 update_stops rounds d old new NoSuchCommit (inl h) = never (slice_get old.instances 0) (λ (x : InstanceState). IsSubmissionRefusal x.proposer NoSuchCommit) (λ x. submission x.proposer NoSuchCommit) h.0
-update_stops rounds d old new NoSuchCommit (inr h) = h.1.refusal
+update_stops rounds d old new NoSuchCommit (inr h) = rounds_never rounds d old new NoSuchCommit (λ n m r. r) h.1
 update_stops rounds d old new AlreadyProposed (inl h) = never (slice_get old.instances 0) (λ (x : InstanceState). IsSubmissionRefusal x.proposer AlreadyProposed) (λ x. submission x.proposer AlreadyProposed) h.0
-update_stops rounds d old new AlreadyProposed (inr h) = h.1.refusal
+update_stops rounds d old new AlreadyProposed (inr h) = rounds_never rounds d old new AlreadyProposed (λ n m r. r) h.1
 update_stops rounds d old new (Clash id) h = tt
 update_stops rounds d old new Full (inl h) = subst HasSubmittedCap (sym h.1) (some_and (slice_get old.instances 0) (λ (x : InstanceState). IsSubmissionRefusal x.proposer Full) (λ (x : InstanceState). x.proposer.cap ≤ submitted x.proposer) (λ x. submission x.proposer Full) h.0)
-update_stops rounds d old new Full (inr h) = absurd (h.1.refusal)
+update_stops rounds d old new Full (inr h) = absurd (rounds_never rounds d old new Full (λ n m r. r) h.1)
 update_stops rounds d old new BallotsSpent h = tt
 update_stops rounds d old new NoMajority h = tt
 update_stops rounds d old new TryAgain h = tt

@@ -9,7 +9,7 @@ use Rattle.la_set.specs.Histories.{Histories, history}
 use Rattle.la_commit.specs.declared.vote.Vote.{Vote}
 use Rattle.la_commit.specs.Instances.{first_instance, second_instance}
 use Rattle.la_commit.specs.Votes.{vote_of, own_vote, HoldsVote, casts, first_vote_for, second_vote}
-use Rattle.la_proposer.specs.ProposerState.{ProposerState, submitted}
+use Rattle.la_proposer.specs.ProposerState.{ProposerState, submitted, is_nothing}
 use Rattle.la_proposer.specs.Inputs.{all_submitted}
 use Rattle.la_proposer.specs.declared.error.ProposerError.{ProposerError}
 use Rattle.la_proposer.specs.declared.error.ProposerError.TheVariants as proposer
@@ -19,11 +19,11 @@ use Rattle.la_runner.specs.declared.error.RunnerError.{RunnerError}
 use Rattle.la_runner.specs.declared.error.RunnerError.TheVariants as errors
 use Rattle.la_runner.specs.Certificates.{HasOwnCertificate}
 use Rattle.la_runner.specs.Sound.{IsSound}
-use Rattle.la_runner.specs.Instances.{InstanceState, asking_number, IsLearntSet, IsInstance, Steps, MayCast, HasCast}
-use Rattle.la_runner.specs.Members.{MemberState, submitted_of, learnt_of, last_learnt, number_asking}
+use Rattle.la_runner.specs.Instances.{InstanceState, with_update, with_vote, IsLearntSet, IsInstance, Steps, MayCast, HasCast}
+use Rattle.la_runner.specs.Members.{MemberState, submitted_of, learnt_of, last_learnt}
 use Rattle.la_runner.specs.Participants.{IsParticipant, HasVotedSet, MayVote}
 use Rattle.la_runner.specs.Refusals.{of_proposer, IsRoundsRefusal, IsInstanceRefusal, IsSubmissionRefusal, IsUpdateRefusal, IsVoteRefusal, IsVoteError, IsRefusedVote}
-use Rattle.la_runner.proofs.Keeping.{with_instance, there, own_certified, refused_rounds, asking_there, asking_after, participant_stays}
+use Rattle.la_runner.proofs.Keeping.{with_instance, there, own_certified, refused_after, participant_stays}
 use Rattle.la_runner.proofs.Passing.{get-set_other}
 use Rattle.la_runner.proofs.Updating.{submitted_is}
 
@@ -92,21 +92,25 @@ cast_then k v x (inr one) some = one
 pub asks_still : (x : InstanceState) → IsInstance x → x.learnt ≡ None → submitted x.proposer ≢ 0 → x.proposer.is_asking ≡ true
 asks_still x is none some = is.under_way none (let s = submitted_is x.proposer in omega (arith, s, some))
 
-pub asking_is : (x : InstanceState) → x.proposer.is_asking ≡ true → asking_number x ≡ x.proposer.number
-asking_is x e = ap (λ b. cond b x.proposer.number (x.proposer.number + 1)) e
+none_submitted : (k : ℕ) (v : Vote) (x : InstanceState) → submitted x.proposer ≡ 0 → MayCast k v x → all_submitted x.proposer ≡ []
+none_submitted k v x zero_is (inl e) = e
+none_submitted k v x zero_is (inr e) = absurd (let long = ap length e in let is = submitted_is x.proposer in omega (arith, long, is, zero_is))
+
+-- with the vote, whether it was submitted or is now
+vote_is : (k : ℕ) (v : Vote) (x : InstanceState) (ds : List ObjectOp) → all_submitted x.proposer ≡ ds → with_vote k v x ≡ cond (is_nothing ds) (with_update (casts k v) x) x
+vote_is k v x ds e = ap (λ l. cond (is_nothing l) (with_update (casts k v) x) x) e
 
 -- how an update's refusal is a vote's
 pub vote_refused : (rounds k : ℕ) (v : Vote) (x y : InstanceState) (d : ObjectOp) (e : RunnerError) → MayCast k v x → submitted x.proposer ≡ 0 → d ≡ casts k v → IsUpdateRefusal rounds d x y e → IsVoteRefusal rounds k v x y e
-vote_refused rounds k v x y d e may zero_is same (inl h) = inl (ap (λ (z : InstanceState). all_submitted z.proposer) h.1 ∙ none may, subst (λ (z : InstanceState). IsSubmissionRefusal z.proposer e) (sym h.1) h.0)
-  where
-    none : MayCast k v x → all_submitted x.proposer ≡ []
-    none (inl e) = e
-    none (inr e) = absurd (let long = ap length e in let is = submitted_is x.proposer in omega (arith, long, is, zero_is))
-vote_refused rounds k v x y d e may zero_is same (inr h) = inr (cast_now k v x y d may zero_is same h.0, subst (λ n. IsInstanceRefusal rounds n y e) (sym (asking_after x d)) h.1)
+vote_refused rounds k v x y d e may zero_is same (inl h) = inl (ap (λ (z : InstanceState). all_submitted z.proposer) h.1 ∙ none_submitted k v x zero_is may, subst (λ (z : InstanceState). IsSubmissionRefusal z.proposer e) (sym h.1) h.0)
+vote_refused rounds k v x y d e may zero_is same (inr h) = inr (
+  cast_now k v x y d may zero_is same h.0,
+  subst (λ z. IsInstanceRefusal rounds z y e) (ap (λ u. with_update u x) same ∙ sym (vote_is k v x [] (none_submitted k v x zero_is may))) h.1,
+)
 
 -- and the rounds' of a vote that was cast
-pub rounds_refused : (rounds k : ℕ) (v : Vote) (x y : InstanceState) (e : RunnerError) → all_submitted x.proposer ≡ casts k v ∷ [] → all_submitted y.proposer ≡ all_submitted x.proposer → x.proposer.is_asking ≡ true → IsInstanceRefusal rounds x.proposer.number y e → IsVoteRefusal rounds k v x y e
-rounds_refused rounds k v x y e one same asks h = inr (same ∙ one, subst (λ n. IsInstanceRefusal rounds n y e) (sym (asking_is x asks)) h)
+pub rounds_refused : (rounds k : ℕ) (v : Vote) (x y : InstanceState) (e : RunnerError) → all_submitted x.proposer ≡ casts k v ∷ [] → all_submitted y.proposer ≡ all_submitted x.proposer → IsInstanceRefusal rounds x y e → IsVoteRefusal rounds k v x y e
+rounds_refused rounds k v x y e one same h = inr (same ∙ one, subst (λ z. IsInstanceRefusal rounds z y e) (sym (vote_is k v x (casts k v ∷ []) one)) h)
 
 -- whatever is answered, the vote is cast or nothing is
 pub may_still : (rounds k : ℕ) (v : Vote) (x y : InstanceState) (r : Result ℕ RunnerError) → IfOk r (λ left. HasCast k v y) → IfErr r (IsVoteRefusal rounds k v x y) → MayCast k v y
@@ -135,7 +139,7 @@ submission_error p e (proposer.Clash id) cap none same h = absurd h
 
 pub vote_error : (rounds k : ℕ) (v : Vote) (x y : InstanceState) (e : RunnerError) → IsInstance y → IsVoteRefusal rounds k v x y e → IsVoteError e
 vote_error rounds k v x y e is (inl h) = submission_error y.proposer e h.1.0 is.cap (sym (submitted_is y.proposer) ∙ ap length h.0) h.1.1 h.1.2
-vote_error rounds k v x y e is (inr h) = rounds_error rounds (asking_number x) y.proposer.number e h.1.refusal
+vote_error rounds k v x y e is (inr h) = rounds_error rounds (with_vote k v x).proposer.number y.proposer.number e h.1.refusal
 
 pub vote_errors : (rounds k : ℕ) (v : Vote) (x y : InstanceState) (r : Result ℕ RunnerError) → IsInstance y → IfErr r (IsVoteRefusal rounds k v x y) → IfErr r IsVoteError
 vote_errors rounds k v x y (Ok left) is h = tt
@@ -234,4 +238,4 @@ module _ (m : MemberState) (k : ℕ) (v : Vote) (i : ℕ) (x y : InstanceState) 
 
   pub refused : (rounds : ℕ) (e : RunnerError) → IsVoteRefusal rounds k v x y e → IsRefusedVote rounds k v i m (with_instance m i y) e
   refused rounds e (inl h) = inl (ap submitted_of here ∙ h.0, subst (λ o. IsSomeAnd o (λ z. IsSubmissionRefusal z.proposer e)) (sym here) h.1)
-  refused rounds e (inr h) = inr (ap submitted_of here ∙ h.0, refused_rounds m i x y at rounds (asking_number x) (number_asking m i) e (asking_there m i x y at) h.1)
+  refused rounds e (inr h) = inr (ap submitted_of here ∙ h.0, refused_after m i x y at (with_vote k v) rounds e h.1)

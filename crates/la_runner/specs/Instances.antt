@@ -1,11 +1,12 @@
 -- What holds of a member in one instance, and how it goes on there.
-use Rattle.std.specs.Prelude.{◌≡◌, ◌⊎◌, ℕ, ◌+◌, ◌≤◌, true, List, [], ◌∷◌, length, Option, None, IfSome, IsSome, if◌then◌else◌}
+use Rattle.std.specs.Prelude.{◌≡◌, ◌⊎◌, ℕ, ◌≤◌, true, List, [], ◌∷◌, length, Option, None, IfSome, IsSome, if◌then◌else◌}
 use mathlib.Core.List.{IsPrefix}
+use Rattle.la_set.specs.ObjectOps.{ObjectOp}
 use Rattle.la_set.specs.Histories.{Histories, history, count}
 use Rattle.la_set.specs.Inclusion.{IsSubset}
 use Rattle.la_commit.specs.declared.vote.Vote.{Vote}
 use Rattle.la_commit.specs.Votes.{casts}
-use Rattle.la_proposer.specs.ProposerState.{ProposerState}
+use Rattle.la_proposer.specs.ProposerState.{ProposerState, is_nothing, after_submission}
 use Rattle.la_proposer.specs.Inputs.{all_submitted}
 use Rattle.la_shared.specs.Passes.{Known}
 use Rattle.la_runner.specs.declared.instance.Instance.{Instance}
@@ -24,9 +25,9 @@ pub record InstanceState : Type 0 where
 abbrev pub state_of : Instance → InstanceState
 state_of x = record { proposer = x.proposer; passes = x.passes.items; learnt = x.learnt; view = x.view }
 
--- the number of the ballot that is open once an update is submitted
-abbrev pub asking_number : InstanceState → ℕ
-asking_number x = if x.proposer.is_asking then x.proposer.number else x.proposer.number + 1
+-- with an update submitted
+abbrev pub with_update : ObjectOp → InstanceState → InstanceState
+with_update d x = record x { proposer = after_submission x.proposer d }
 
 -- a set that was learnt: certified by own offers, with the first of the own submissions
 pub record IsLearntSet (p : ProposerState) (passes : List Known) (s : Histories) : Type 0 where
@@ -67,6 +68,10 @@ pub record IsUpdated (old new : InstanceState) (s : Histories) : Type 0 where
 abbrev pub MayCast : (commit : ℕ) → Vote → InstanceState → Type 0
 MayCast k v x =
     (all_submitted x.proposer ≡ []) ⊎ (all_submitted x.proposer ≡ casts k v ∷ [])
+
+-- with the vote submitted, unless something was
+abbrev pub with_vote : (commit : ℕ) → Vote → InstanceState → InstanceState
+with_vote k v x = if is_nothing (all_submitted x.proposer) then with_update (casts k v) x else x
 
 -- it was, and a set was learnt since
 pub record HasCast (commit : ℕ) (v : Vote) (x : InstanceState) : Type 0 where

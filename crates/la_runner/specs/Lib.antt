@@ -1,6 +1,7 @@
 pub mod Certificates
 pub mod Asking
 pub mod Sound
+pub mod Heard
 pub mod Following
 pub mod Instances
 pub mod Rounds

@@ -8,7 +8,7 @@ use Rattle.la_proposer.specs.Inputs.{all_submitted}
 use Rattle.la_shared.specs.Passes.{Known, AcceptorName}
 use Rattle.la_runner.specs.Certificates.{seen_at, mine_at, HasCertificate, HasOwnCertificate}
 use Rattle.la_runner.specs.Following.{acceptors_of}
-use Rattle.la_runner.specs.Instances.{InstanceState, asking_number}
+use Rattle.la_runner.specs.Instances.{InstanceState}
 
 pub record MemberState : Type 0 where
   -- the votes of its group, and which replica it is
@@ -53,14 +53,6 @@ number_of (Some x) = x.proposer.number
 -- the last ballot's number
 abbrev pub number_in : MemberState → (instance : ℕ) → ℕ
 number_in m i = number_of (slice_get m.instances i)
-
-abbrev pub number_asking_of : Option InstanceState → ℕ
-number_asking_of None = 0
-number_asking_of (Some x) = asking_number x
-
--- the number of the ballot that is open once an update is submitted
-abbrev pub number_asking : MemberState → (instance : ℕ) → ℕ
-number_asking m i = number_asking_of (slice_get m.instances i)
 
 abbrev pub learnt_of : Option InstanceState → Option Histories
 learnt_of None = None

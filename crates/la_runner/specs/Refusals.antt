@@ -1,10 +1,10 @@
 -- When each call is refused, and how.
-use Rattle.std.specs.Prelude.{◌≡◌, ◌⊎◌, ℕ, ◌≤◌, ◌<◌, true, ◌++◌, ◌∷◌, []}
+use Rattle.std.specs.Prelude.{◌≡◌, ◌⊎◌, ℕ, ◌≤◌, ◌<◌, true, List, ◌++◌, ◌∷◌, [], length}
 use Rattle.la_acceptor.specs.declared.error.AcceptorError.{AcceptorError}
 use Rattle.la_acceptor.specs.declared.error.AcceptorError.TheVariants as offer
 use Rattle.la_proposer.specs.declared.error.ProposerError.{ProposerError}
 use Rattle.la_proposer.specs.declared.error.ProposerError.TheVariants as proposer
-use Rattle.la_proposer.specs.ProposerState.{ProposerState, after_submission}
+use Rattle.la_proposer.specs.ProposerState.{ProposerState}
 use Rattle.la_proposer.specs.Inputs.{all_submitted}
 use Rattle.la_proposer.specs.Refusals.{IsSubmitRefusal}
 use Rattle.la_set.specs.ObjectOps.{ObjectOp}
@@ -14,8 +14,9 @@ use Rattle.la_commit.specs.Instances.{first_instance, second_instance}
 use Rattle.la_commit.specs.Votes.{casts, first_vote_for, second_vote_for}
 use Rattle.la_runner.specs.declared.error.RunnerError.{RunnerError}
 use Rattle.la_runner.specs.declared.error.RunnerError.TheVariants.{BadConfig, NoSuchCommit, AlreadyProposed, Clash, Full, BallotsSpent, NoMajority, TryAgain, Memory}
-use Rattle.la_runner.specs.Instances.{InstanceState, asking_number}
-use Rattle.la_runner.specs.Members.{MemberState, InInstance, submitted_in, is_asking_in, number_in, number_asking}
+use Rattle.la_runner.specs.Heard.{Answered, Hears, StillCounts}
+use Rattle.la_runner.specs.Instances.{InstanceState, with_update, with_vote}
+use Rattle.la_runner.specs.Members.{MemberState, InInstance, submitted_in, is_asking_in, number_in}
 use Rattle.la_runner.specs.Participants.{HasCommit, HasOther, IsVotedSet}
 
 -- ## The refusals of lower crates, as members name them
@@ -59,10 +60,30 @@ IsRoundsRefusal rounds first last NoSuchCommit = ⊥
 IsRoundsRefusal rounds first last AlreadyProposed = ⊥
 IsRoundsRefusal rounds first last Full = ⊥
 
--- rounds in an instance are refused, and a ballot stays open
-pub record IsInstanceRefusal (rounds first : ℕ) (new : InstanceState) (e : RunnerError) : Type 0 where
-  pub refusal : IsRoundsRefusal rounds first new.proposer.number e
+-- which replies to recorded offers a refusal leaves unheard: none, where the rounds are used up
+abbrev pub MayMiss : RunnerError → List Answered → Type 0
+MayMiss NoMajority missed = missed ≡ []
+MayMiss TryAgain missed = missed ≡ []
+MayMiss (Clash id) missed = length missed ≤ 1
+MayMiss BallotsSpent missed = length missed ≤ 1
+MayMiss Memory missed = length missed ≤ 1
+MayMiss BadConfig missed = ⊥
+MayMiss NoSuchCommit missed = ⊥
+MayMiss AlreadyProposed missed = ⊥
+MayMiss Full missed = ⊥
+
+-- what had counted still counts, and what the rounds got was heard
+pub record KeepsCounted (start new : InstanceState) (e : RunnerError) : Type 0 where
+  pub missed : List Answered
+  pub few : MayMiss e missed
+  pub hears : Hears start.proposer new.proposer start.passes new.passes missed
+  pub counts : StillCounts start.proposer new.proposer
+
+-- rounds in an instance that begin so are refused, and a ballot stays open
+pub record IsInstanceRefusal (rounds : ℕ) (start new : InstanceState) (e : RunnerError) : Type 0 where
+  pub refusal : IsRoundsRefusal rounds start.proposer.number new.proposer.number e
   pub asks : new.proposer.is_asking ≡ true
+  pub kept : KeepsCounted start new e
 
 -- of a submission: the proposer's
 abbrev pub IsSubmissionRefusal : ProposerState → RunnerError → Type 0
@@ -73,14 +94,14 @@ abbrev pub IsUpdateRefusal : (rounds : ℕ) → ObjectOp → InstanceState → I
 IsUpdateRefusal rounds update old new e =
     (IsSubmissionRefusal old.proposer e × (new ≡ old))
     ⊎ ((all_submitted new.proposer ≡ all_submitted old.proposer ++ update ∷ [])
-    × IsInstanceRefusal rounds (after_submission old.proposer update).number new e)
+    × IsInstanceRefusal rounds (with_update update old) new e)
 
 -- of a vote: its submission was refused, and nothing is submitted; or it is cast, and the rounds
 -- after it were refused
 abbrev pub IsVoteRefusal : (rounds commit : ℕ) → Vote → InstanceState → InstanceState → RunnerError → Type 0
 IsVoteRefusal rounds k v old new e =
     ((all_submitted new.proposer ≡ []) × IsSubmissionRefusal new.proposer e)
-    ⊎ ((all_submitted new.proposer ≡ casts k v ∷ []) × IsInstanceRefusal rounds (asking_number old) new e)
+    ⊎ ((all_submitted new.proposer ≡ casts k v ∷ []) × IsInstanceRefusal rounds (with_vote k v old) new e)
 
 -- the errors that a vote may be refused with
 abbrev pub IsVoteError : RunnerError → Type 0
@@ -96,24 +117,30 @@ IsVoteError Full = ⊥
 
 -- ## Refusals of a member's calls
 
--- of rounds in an instance: a ballot stays open there
-pub record IsRefusedRounds (rounds first : ℕ) (instance : ℕ) (new : MemberState) (e : RunnerError) : Type 0 where
-  pub refusal : IsRoundsRefusal rounds first (number_in new instance) e
+-- of rounds in an instance that begin so: a ballot stays open there
+pub record IsRefusedRounds (rounds : ℕ) (start : InstanceState) (instance : ℕ) (new : MemberState) (e : RunnerError) : Type 0 where
+  pub refusal : IsRoundsRefusal rounds start.proposer.number (number_in new instance) e
   pub asks : is_asking_in new instance ≡ true
+  pub kept : InInstance new instance (λ y. KeepsCounted start y e)
+
+-- of a resumption
+abbrev pub IsRefusedResume : (rounds : ℕ) → MemberState → MemberState → RunnerError → Type 0
+IsRefusedResume rounds old new e = InInstance old 0 (λ x. IsRefusedRounds rounds x 0 new e)
 
 -- of an update: of its submission, and then nothing was submitted; or of the rounds after it
 abbrev pub IsRefusedUpdate : (rounds : ℕ) → ObjectOp → MemberState → MemberState → RunnerError → Type 0
 IsRefusedUpdate rounds update old new e =
     (InInstance old 0 (λ x. IsSubmissionRefusal x.proposer e) × (new ≡ old))
     ⊎ ((submitted_in new 0 ≡ submitted_in old 0 ++ update ∷ [])
-    × IsRefusedRounds rounds (number_asking old 0) 0 new e)
+    × InInstance old 0 (λ x. IsRefusedRounds rounds (with_update update x) 0 new e))
 
 -- of a vote in an instance: its submission was refused, and nothing is submitted there; or it is
 -- cast, and the rounds were
 abbrev pub IsRefusedVote : (rounds commit : ℕ) → Vote → (instance : ℕ) → MemberState → MemberState → RunnerError → Type 0
 IsRefusedVote rounds k v i old new e =
     ((submitted_in new i ≡ []) × InInstance new i (λ x. IsSubmissionRefusal x.proposer e))
-    ⊎ ((submitted_in new i ≡ casts k v ∷ []) × IsRefusedRounds rounds (number_asking old i) i new e)
+    ⊎ ((submitted_in new i ≡ casts k v ∷ [])
+    × InInstance old i (λ x. IsRefusedRounds rounds (with_vote k v x) i new e))
 
 -- the first vote was refused, or the second one, with the rounds that the first left
 abbrev pub IsRefusedInEither : (rounds commit value : ℕ) → MemberState → MemberState → RunnerError → Type 0

@@ -142,8 +142,8 @@ impl Group {
     /// In this order, with nothing changed: `NoSuchCommit` where the group has no such object;
     /// `AlreadyProposed` where the member has finished there, or another value is under way. Then,
     /// of the vote of either instance, `BallotsSpent` and `Memory`, after which that vote is not
-    /// cast; and of the rounds what [`Group::update`] names, after which it is, and its ballot stays
-    /// open. After each the same call goes on where it stands.
+    /// cast; and of the rounds what [`Group::update`] names, after which it is, and a ballot stays
+    /// open, with what has counted, as there. After each the same call goes on where it stands.
     ///
     /// The cost is that of the offers, each with the wait for its turn.
     pub fn decide<R: Wait, G: Gate>(

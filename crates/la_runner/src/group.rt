@@ -2,8 +2,8 @@ ghost use Rattle.std.specs.Prelude.{◌≡◌, ◌<◌, ◌≤◌, ◌∷◌, []
 ghost use Rattle.std.specs.Option.{option_to_list};
 ghost use Rattle.la_proposer.specs.Majority.{votes_of};
 ghost use Rattle.la_proposer.specs.ProposerState.{op_on};
-ghost use Rattle.la_runner.specs.Members.{GroupState, IsOf, GoesOn, IsOnlyIn, IsLearntIn, IsUpdateOf, submitted_in, is_asking_in, number_in, view};
-ghost use Rattle.la_runner.specs.Refusals.{IsRefusedRounds, IsRefusedUpdate};
+ghost use Rattle.la_runner.specs.Members.{GroupState, IsOf, GoesOn, IsOnlyIn, IsLearntIn, IsUpdateOf, submitted_in, is_asking_in, view};
+ghost use Rattle.la_runner.specs.Refusals.{IsRefusedResume, IsRefusedUpdate};
 ghost use Rattle.la_runner.specs.Rounds.{IsLarger};
 ghost use Rattle.la_runner.specs.Starting.{IsConfig, IsGroup, IsNewMember, AreMembersFrom, IsNewRefusal};
 
@@ -89,10 +89,11 @@ impl Group {
     ///
     /// In this order, and with nothing submitted: `Full` where the member has submitted the cap;
     /// `BallotsSpent` where a ballot would open with a number over 8,000,000; `Memory`. After these
-    /// the update stays submitted, what has counted stays counted and the ballot stays open, so that
-    /// [`Group::resume`] goes on with it: `Clash` where an id has two different updates;
-    /// `BallotsSpent`; `Memory`; and once the rounds are used up `NoMajority` where the last one left
-    /// its ballot open, else `TryAgain`, as without rounds.
+    /// the update stays submitted and a ballot open, the same one, in which what had counted still
+    /// counts, or a later one to which counted replies led, so that [`Group::resume`] goes on with it:
+    /// `Clash` where an id has two different updates; `BallotsSpent`; `Memory`; and once the rounds
+    /// are used up `NoMajority` where the last one left its ballot open, else `TryAgain`, as without
+    /// rounds.
     ///
     /// The cost is that of the offers, each with the wait for its turn.
     pub fn update<R: Wait, G: Gate>(
@@ -130,7 +131,7 @@ impl Group {
     /// met while its ballot was open. The view is then the larger of the old view and that set.
     ///
     /// `Clash`, `BallotsSpent`, `Memory`, `NoMajority` and `TryAgain` come as in the rounds of an
-    /// update, and leave what is under way.
+    /// update, and leave what is under way and has counted as they do there.
     pub fn resume<R: Wait, G: Gate>(
         &self,
         rt: &R,
@@ -150,7 +151,7 @@ impl Group {
         ensures view { IfOk result (λ end. IfSome end (λ l.
             IsLarger l.updates (view member.old) (view member.new))) }
         ensures error { IfErr result
-            (IsRefusedRounds rounds (number_in member.old 0) 0 member.new) }
+            (IsRefusedResume rounds member.old member.new) }
     {
         let own = member.replica;
         let at = &mut member.instances[0];

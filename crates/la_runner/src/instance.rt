@@ -1,8 +1,9 @@
-ghost use Rattle.std.specs.Prelude.{◌≡◌, ◌≢◌, true, ◌<◌, ◌≤◌, length, IfOk, OnOk, OnErr, IfErr, IfSome};
+ghost use Rattle.std.specs.Prelude.{◌≡◌, ◌≢◌, true, ◌<◌, ◌≤◌, [], length, IfOk, OnOk, OnErr, IfErr, IfSome};
 ghost use Rattle.la_proposer.specs.ProposerState.{counts};
 ghost use Rattle.la_proposer.specs.Invariant.{IsProposerState};
 ghost use Rattle.la_runner.specs.Refusals.{IsOfferRefusal};
 ghost use Rattle.la_runner.specs.Asking.{Asks, AsksInVain};
+ghost use Rattle.la_runner.specs.Heard.{Hears, HearsMost};
 ghost use Rattle.la_runner.specs.Sound.{IsSound};
 ghost use Rattle.la_runner.specs.Following.{acceptors_of, Goes, IsLearnt, IfLearnt, StaysOpen};
 ghost use Rattle.la_runner.specs.Rounds.{IsLast, IsOpenAfter};
@@ -41,6 +42,10 @@ impl Instance {
         requires known { from < length self.old.proposer.votes }
         requires open { counts self.old.proposer from self.old.proposer.number ≡ true }
         ensures goes { Goes self.old.proposer self.old.passes.items self.new.proposer self.new.passes.items }
+        ensures heard { OnOk result (Hears self.old.proposer self.new.proposer
+            self.old.passes.items self.new.passes.items []) }
+        ensures missed { OnErr result (HearsMost self.old.proposer self.new.proposer
+            self.old.passes.items self.new.passes.items) }
         ensures learnt { IfOk result (λ heard. IfLearnt heard
             (IsLearnt self.old.proposer self.old.passes.items self.new.passes.items self.old.proposer.number)) }
         ensures stays { IfOk result (λ heard. StaysOpen heard self.old.proposer self.new.proposer) }
@@ -72,6 +77,10 @@ impl Instance {
         requires sound { IsSound self.old.proposer self.old.passes.items }
         requires acceptors { acceptors_of self.old.passes.items ≡ acceptors.now }
         ensures goes { Goes self.old.proposer self.old.passes.items self.new.proposer self.new.passes.items }
+        ensures heard { OnOk result (Hears self.old.proposer self.new.proposer
+            self.old.passes.items self.new.passes.items []) }
+        ensures missed { OnErr result (HearsMost self.old.proposer self.new.proposer
+            self.old.passes.items self.new.passes.items) }
         ensures learnt { IfOk result (λ end. IfSome end (λ l.
             IsLearnt self.old.proposer self.old.passes.items self.new.passes.items l.ballot l.updates)) }
         ensures again { IfOk result (λ end. IfSome end (λ l. l.again ≡ l.updates)) }

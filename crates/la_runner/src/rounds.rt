@@ -1,10 +1,11 @@
 // What a member does in one instance: rounds of offers, until a set with all that it submitted is
 // learnt.
-ghost use Rattle.std.specs.Prelude.{◌≡◌, ◌⊎◌, ◌<◌, ◌∷◌, [], ◌++◌, true, false, Some, None, Ok, IfOk, OnOk, IfErr, IfSome, IsSome};
+ghost use Rattle.std.specs.Prelude.{◌≡◌, ◌⊎◌, ◌<◌, ◌∷◌, [], ◌++◌, true, false, Some, None, Ok, IfOk, OnOk, OnErr, IfErr, IfSome, IsSome};
 ghost use Rattle.la_set.specs.Histories.{history};
 ghost use Rattle.la_set.specs.Inclusion.{IsSubset};
 ghost use Rattle.la_proposer.specs.ProposerState.{op_on};
 ghost use Rattle.la_proposer.specs.Inputs.{all_submitted};
+ghost use Rattle.la_runner.specs.Heard.{Hears, HearsMost};
 ghost use Rattle.la_runner.specs.Following.{acceptors_of, IsLearnt, SubmitsNothing};
 ghost use Rattle.la_runner.specs.Instances.{state_of, IsInstance, Steps, IsComplete, IsUpdated};
 ghost use Rattle.la_runner.specs.Refusals.{IsOfferRefusal, IsInstanceRefusal, IsUpdateRefusal};
@@ -31,6 +32,10 @@ impl Instance {
         requires acceptors { acceptors_of self.old.passes.items ≡ acceptors.now }
         ensures steps { Steps (state_of self.old) (state_of self.new) }
         ensures nothing { SubmitsNothing self.old.proposer self.new.proposer }
+        ensures heard { OnOk result (Hears self.old.proposer self.new.proposer
+            self.old.passes.items self.new.passes.items []) }
+        ensures missed { OnErr result (HearsMost self.old.proposer self.new.proposer
+            self.old.passes.items self.new.passes.items) }
         ensures learnt { IfOk result (λ end. IfSome end (λ l. IsLearnt self.old.proposer
             self.old.passes.items self.new.passes.items l.ballot l.updates)) }
         ensures step { (self.new.view ≡ self.old.view)
@@ -78,7 +83,7 @@ impl Instance {
         ensures last { IfOk result (λ end. self.new.learnt ≡ Some end.0.updates) }
         ensures left { IfOk result (λ end. end.1 < rounds) }
         ensures error { IfErr result
-            (IsInstanceRefusal rounds self.old.proposer.number (state_of self.new)) }
+            (IsInstanceRefusal rounds (state_of self.old) (state_of self.new)) }
     {
         let mine = self.proposer.submitted();
         let mut is_unended = false;
@@ -153,7 +158,7 @@ impl Instance {
             IsLarger l.updates self.old.view self.new.view)) }
         ensures last { IfOk result (λ end. IfSome end (λ l. self.new.learnt ≡ Some l.updates)) }
         ensures error { IfErr result
-            (IsInstanceRefusal rounds self.old.proposer.number (state_of self.new)) }
+            (IsInstanceRefusal rounds (state_of self.old) (state_of self.new)) }
     {
         if self.proposer.status() == Status::Idle {
             return Ok(None);

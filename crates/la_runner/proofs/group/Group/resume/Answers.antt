@@ -1,8 +1,7 @@
 use Rattle.std.proofs.Common.{sym, rules}
 use Rattle.std.specs.Prelude.{IfErr}
 use Rattle.la_runner.specs.Instances.{state_of}
-use Rattle.la_runner.specs.Members.{number_in}
-use Rattle.la_runner.specs.Refusals.{IsInstanceRefusal, IsRefusedRounds}
+use Rattle.la_runner.specs.Refusals.{IsInstanceRefusal, IsRefusedResume}
 use Rattle.la_runner.proofs.Keeping.{first_at, is_in, with_state, member_after_first, goes_on_after, only_after, resumed_of, refused_resume}
 use Rattle.la_runner.proofs.Proposing.{if_err_on}
 use Rattle.la_runner.proofs.group.Group.resume.Goals as goal
@@ -37,7 +36,7 @@ returns-clause-learnt g c = resumed_of c.member.inside c.index_mut-at.result.now
 pub returns-in_err-end-clause-error : goal.returns-in_err-end-clause-error
 returns-in_err-end-clause-error g c =
     let at = first_at c.member.inside c.index_mut-at.result.now c.member.invariant c.index_mut-at.ensures.value in
-    let h : IfErr c.resume.result (IsRefusedRounds c.args.rounds (number_in c.args.member.now 0) 0 (with_state c.member.inside 0 c.resume.new.self)) =
-    if_err_on c.resume.result (IsInstanceRefusal c.args.rounds c.index_mut-at.result.now.proposer.number (state_of c.resume.new.self)) (IsRefusedRounds c.args.rounds (number_in c.args.member.now 0) 0 (with_state c.member.inside 0 c.resume.new.self))
+    let h : IfErr c.resume.result (IsRefusedResume c.args.rounds c.args.member.now (with_state c.member.inside 0 c.resume.new.self)) =
+    if_err_on c.resume.result (IsInstanceRefusal c.args.rounds (state_of c.index_mut-at.result.now) (state_of c.resume.new.self)) (IsRefusedResume c.args.rounds c.args.member.now (with_state c.member.inside 0 c.resume.new.self))
     (refused_resume c.member.inside c.index_mut-at.result.now c.resume.new.self at c.args.rounds c.args.member.now c.member.view_is) c.resume.ensures.error in
     search rules

@@ -1,5 +1,5 @@
 use Rattle.std.proofs.Common.{sym, subst, ◌<◌}
-use Rattle.la_runner.proofs.Asked.{goes_of, learnt_of, stays_of, vain_of, at_place}
+use Rattle.la_runner.proofs.Asked.{goes_of, learnt_of, stays_of, vain_of, at_place, heard_of_one, missed_of_one}
 use Rattle.la_runner.proofs.Larger.{grown_at}
 use Rattle.la_runner.proofs.instance.Instance.ask.Goals as goal
 
@@ -33,3 +33,17 @@ ask_one-requires-clause-grown g c κs w =
     let within = subst (λ n. c.args.from < n) (sym c.requires.sound.sizes) c.requires.known in
     let at = at_place ps c.args.from c.index_mut.result.now within c.index_mut.ensures.value in
     grown_at c.args.self.now.proposer ps c.args.from c.index_mut.result.now c.requires.sound at
+
+pub returns-clause-heard : goal.returns-clause-heard
+returns-clause-heard g c =
+    let ps = c.args.self.now.passes.items in
+    let within = subst (λ n. c.args.from < n) (sym c.requires.sound.sizes) c.requires.known in
+    let at = at_place ps c.args.from c.index_mut.result.now within c.index_mut.ensures.value in
+    heard_of_one c.args.self.now.proposer ps c.args.from c.index_mut.result.now c.ask_one.new.pass at c.ask_one.new.proposer c.requires.known c.ask_one.result c.ask_one.ensures.ok
+
+pub returns-clause-missed : goal.returns-clause-missed
+returns-clause-missed g c =
+    let ps = c.args.self.now.passes.items in
+    let within = subst (λ n. c.args.from < n) (sym c.requires.sound.sizes) c.requires.known in
+    let at = at_place ps c.args.from c.index_mut.result.now within c.index_mut.ensures.value in
+    missed_of_one c.args.self.now.proposer ps c.args.from c.index_mut.result.now c.ask_one.new.pass at c.ask_one.new.proposer c.ask_one.result c.ask_one.ensures.err
