@@ -8,7 +8,7 @@ ghost use Rattle.la_runner.specs.Members.{IsOf, view};
 ghost use Rattle.la_object.specs.Shelves.{ShelfState};
 ghost use Rattle.la_runner.specs.Runs.{IsBackOf, back_of, places, place_of, ViewsHold, ContainsAll, IsRunConfig, IsRunRefusal};
 ghost use Rattle.la_runner.specs.Together.{IsSameLog, AreSeen, AllComparable, IsHonest};
-ghost use Rattle.la_runner.specs.Together.{DecisionsCompare, DecisionsAgree, NotesHold, NotesAgree};
+ghost use Rattle.la_runner.specs.Together.{DecisionsCompare, DecisionsAgree, DecisionsAreTheirs, NotesHold, NotesAgree};
 
 use crate::jobs::Jobs;
 use crate::running::{Start, run_in};
@@ -160,6 +160,10 @@ fn finish<B: Replicated>(group: &Group, done: Vec<Log<B>>) -> Logs<B>
 /// and `Memory` where a growth was refused outside the workers. Then all threads that were started
 /// are joined, and the members are gone.
 ///
+/// Those that decided at an adopt-commit object agree, whoever else stopped there, where each sole vote
+/// in their second sets was submitted by a member of the run. That nobody else cast one no clause
+/// says.
+///
 /// The cost is that of the members' calls, side by side, and of a note for each two members.
 pub fn run<R: Threads + Wait + Sync, G: Gate, B: Replicated>(
     rt: &R,
@@ -184,6 +188,9 @@ pub fn run<R: Threads + Wait + Sync, G: Gate, B: Replicated>(
         (places members.items shelves.items (map (λ j. j.items) jobs.items))
         (map (λ l. back_of l.replica l.member l.shelf l.entries.items l.stopped) logs.items)) }
     ensures agreed { IfOk result (λ logs. DecisionsAgree
+        (places members.items shelves.items (map (λ j. j.items) jobs.items))
+        (map (λ l. back_of l.replica l.member l.shelf l.entries.items l.stopped) logs.items)) }
+    ensures theirs { IfOk result (λ logs. DecisionsAreTheirs
         (places members.items shelves.items (map (λ j. j.items) jobs.items))
         (map (λ l. back_of l.replica l.member l.shelf l.entries.items l.stopped) logs.items)) }
     ensures notes { IfOk result (λ logs. NotesHold (map (λ l. l.notes) logs.items)
