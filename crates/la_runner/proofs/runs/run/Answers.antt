@@ -51,6 +51,9 @@ returns-in-Ok-run_in-clause-agreed g c = decisions_agree (places c.args.members.
 pub returns-in-Ok-run_in-clause-theirs : goal.returns-in-Ok-run_in-clause-theirs
 returns-in-Ok-run_in-clause-theirs g c = decisions_are_theirs (places c.args.members.items c.args.shelves.items (map (λ j. j.items) c.args.jobs.items)) (map (λ l. back_of l.replica l.member l.shelf l.entries.items l.stopped) c.finish.result.items) (returns-in-Ok-run_in-clause-each g c) c.finish.ensures.seen
 
+pub returns-in-Ok-run_in-clause-counted : goal.returns-in-Ok-run_in-clause-counted
+returns-in-Ok-run_in-clause-counted g c = c.finish.ensures.counted
+
 pub returns-in-Ok-run_in-clause-notes : goal.returns-in-Ok-run_in-clause-notes
 returns-in-Ok-run_in-clause-notes g c = notes_hold (places c.args.members.items c.args.shelves.items (map (λ j. j.items) c.args.jobs.items)) (map (λ l. back_of l.replica l.member l.shelf l.entries.items l.stopped) c.finish.result.items) (returns-in-Ok-run_in-clause-each g c) (map (λ l. l.notes) c.finish.result.items) (views_of (λ l. back_of l.replica l.member l.shelf l.entries.items l.stopped) (map (λ l. l.notes) c.finish.result.items) c.finish.result.items c.finish.ensures.notes)
 
