@@ -1,5 +1,5 @@
 -- Why those that decided in a run agree: by the laws of la_commit, over all logs.
-use Rattle.std.proofs.Common.{◌≡◌, ◌⊎◌, inl, inr, ℕ, ◌<◌, ◌==◌, Bool, true, false, List, [], ◌∷◌, take, length, All, Any, Contains, Option, Some, None, option_map, refl, ap, sym, ◌∙◌, subst, arith}
+use Rattle.std.proofs.Common.{◌≡◌, ◌⊎◌, inl, inr, ℕ, ◌<◌, ◌==◌, Bool, true, false, List, [], ◌∷◌, take, length, All, Any, Contains, Option, Some, refl, ap, sym, ◌∙◌, subst, arith}
 use Rattle.std.specs.Prelude.{IsSome}
 use Rattle.std.specs.List.{AllZip, slice_get, slice_index_or}
 use Rattle.std.proofs.lemmas.Bool.{eq-eqb}
@@ -8,7 +8,6 @@ use Rattle.std.proofs.lemmas.List.Elements.{All-contains_itself}
 use Rattle.la_set.specs.declared.update.UpdateId.{UpdateId}
 use Rattle.la_set.specs.declared.update.Update.{Update}
 use Rattle.la_set.specs.Histories.{Histories, history, object_op_number, ContainsUpdate, get}
-use Rattle.la_set.specs.ObjectOps.{ObjectOp, update_of}
 use Rattle.la_set.specs.Inclusion.{AreComparable}
 use Rattle.la_set.proofs.lemmas.Filters.{filter-contains}
 use Rattle.la_commit.specs.declared.outcome.Outcome.{Outcome}
@@ -24,8 +23,10 @@ use Rattle.la_runner.specs.declared.jobs.Entry.TheVariants.{Decided}
 use Rattle.la_runner.specs.Entries.{next_number, IsDecided, Answers}
 use Rattle.la_runner.specs.Members.{MemberState, IsCertified}
 use Rattle.la_runner.specs.Runs.{Place, Back, IsBackOf}
-use Rattle.la_runner.specs.Together.{HasSeen, AreSeen, Decision, IsMade, IsMadeAt, DecisionsCompare, HasTheirVotes, IsAgreed, DecisionsAgree}
+use Rattle.la_runner.specs.Together.{HasSeen, IsSeenBy, AreSeen, Decision, IsMade, IsMadeAt, DecisionsCompare, IsFirstOfDecided, WasSubmitted, WasProposed, HasTheRunsSoleVotes, HasTheirVotes, IsAgreed, DecisionsAgree, IsTheirs, DecisionsAreTheirs}
 use Rattle.la_runner.proofs.Proposing.{some_same, none_some}
+use Rattle.la_runner.specs.Participants.{HasProposed}
+use Rattle.la_runner.proofs.Submitting.{id_of, proposed_there, led_to}
 use Rattle.la_runner.proofs.Sharing.{zip_at, seen_here, certified_seen}
 use Rattle.la_runner.proofs.Standing.{certified_compare, own_are}
 
@@ -37,11 +38,6 @@ one_update s t comparable u v in_s in_t same = elim comparable [
   | inl sub ↦ some_same (sym (sub u in_s) ∙ ap (get t) same ∙ in_t)
   | inr sub ↦ some_same (sym in_s ∙ ap (get s) same ∙ sub v in_t)
 ]
-
--- what stands under an id has it
-id_of : (id : UpdateId) (o : Option ObjectOp) (u : Update) → option_map (update_of id.replica id.number) o ≡ Some u → u.id ≡ id
-id_of id None u e = absurd (none_some e)
-id_of id (Some d) u e = ap (λ (v : Update). v.id) (sym (some_same e))
 
 -- the first update of a participant casts one vote in comparable sets
 one_vote : (s t : Histories) → AreComparable s t → (u : Update) → ContainsUpdate s u → (r : ℕ) → u.id ≡ record { replica = r; number = 1 } → (x y : Vote) → vote_of u.op ≡ Some x → HoldsVote t r y → x ≡ y
@@ -114,30 +110,61 @@ module _ (ps : List Place) (bs : List Back) (h : AllZip IsBackOf ps bs) where
     certified_compare w.witness w.is (second_instance k) d.second e.second (certified_second w.witness w.sees k d of_d) (certified_second w.witness w.sees k e of_e),
   )
 
-  module _ (compare : DecisionsCompare ps bs) (k : ℕ) (theirs : (d : Decision) → IsMadeAt ps bs k d → HasTheirVotes ps bs k d.second) where
-    -- a vote of a second set is the second vote of one that decided
-    second_is : (d : Decision) → IsMadeAt ps bs k d → (x : Vote) → Contains (votes d.second) x → (e : Decision) × IsMadeAt ps bs k e × (x ≡ second_vote_for e.first e.value)
-    second_is d of_d x has =
-        let cast = votes-cast d.second x has in
-        let their = theirs d of_d cast.update cast.member (is_some (vote_of cast.update.op) x cast.casts) in
-        (their.0, their.1, one_vote d.second their.0.second (compare k d their.0 of_d their.1).1 cast.update cast.member their.0.replica their.2 x (second_vote_for their.0.first their.0.value) cast.casts (second_vote their.0 their.1.0))
+  own_in : (d : Decision) → IsMade ps bs d → Contains (votes d.second) (second_vote_for d.first d.value)
+  own_in d m = own_vote-votes d.second d.replica (second_vote_for d.first d.value) (second_vote d m)
+
+  -- its member proposed what it decided on
+  own_value : (k : ℕ) (d : Decision) → IsMadeAt ps bs k d → WasProposed bs k d.value
+  own_value k d (m, at) = subst (λ i. WasProposed bs i d.value) at
+      (m.at, m.log, m.is_log, proposed_there m.log.member (log_is d m).is d.commit d.value d.first (decided d m).first_own (decided d m).first_vote)
+
+  -- ## Whoever stopped
+
+  module _ (w : IsSeenBy bs) (k : ℕ) (runs : (d : Decision) → IsMadeAt ps bs k d → HasTheRunsSoleVotes ps bs k d.second) where
+    -- the value of a sole vote is that of all votes of a certified first set
+    record IsSoleBy (x : Vote) : Type 0 where
+      pub first : Histories
+      pub certified : IsCertified w.witness (first_instance k) first
+      pub has : HasVoteFor first x.value
+      pub all : is_sole first x.value ≡ true
+
+    sole_by : (x : Vote) (first : Histories) (value replica : ℕ) → IsCertified w.witness (first_instance k) first → HoldsVote first replica (first_vote_for value) → x ≡ second_vote_for first value → x.sole ≡ true → IsSoleBy x
+    sole_by x first value replica certified holds leads sole =
+        let same : value ≡ x.value = sym (ap (λ (z : Vote). z.value) leads) in
+        record {
+          first = first;
+          certified = certified;
+          has = subst (HasVoteFor first) same (has_value first (first_vote_for value) (own_vote-votes first replica (first_vote_for value) holds));
+          all = subst (λ z. is_sole first z ≡ true) same (sym (ap (λ (z : Vote). z.sole) leads) ∙ sole);
+        }
+
+    -- where nobody outside the run cast it, a member submitted it, or one that decided
+    by_submission : (x : Vote) → x.sole ≡ true → (u : Update) → vote_of u.op ≡ Some x → WasSubmitted bs (second_instance k) u → IsSoleBy x
+    by_submission x sole u cast (at, b, is_log, given) =
+        let is = (zip_at ps bs at b h is_log).2.is in
+        let led = led_to b.member is k u x given cast in
+        sole_by x led.first led.value b.member.replica
+        (certified_seen b.member w.witness (seen_here bs w.witness at b w.sees is_log) (first_instance k) led.first (own_are b.member is (first_instance k) led.first led.own))
+        led.holds led.leads sole
+
+    by_decision : (d : Decision) → IsMadeAt ps bs k d → (x : Vote) → x.sole ≡ true → (u : Update) → ContainsUpdate d.second u → vote_of u.op ≡ Some x → (e : IsFirstOfDecided ps bs k u) → x ≡ second_vote_for e.0.first e.0.value
+    by_decision d of_d x sole u has cast (e, of_e, id) = one_vote d.second e.second (decisions_compare (inr w) k d e of_d of_e).1 u has e.replica id x (second_vote_for e.first e.value) cast (second_vote e of_e.0)
+
+    by_one : (d : Decision) → IsMadeAt ps bs k d → (x : Vote) → Contains (sole_votes d.second) x → IsSoleBy x
+    by_one d of_d x in_d =
+        let one = filter-contains (λ (z : Vote). z.sole) (votes d.second) x in_d in
+        let cast = votes-cast d.second x one.0 in
+        elim (runs d of_d cast.update x cast.member cast.casts one.1) [
+          | inl given ↦ by_submission x one.1 cast.update cast.casts given
+          | inr e ↦ sole_by x e.0.first e.0.value e.0.replica (certified_first w.witness w.sees k e.0 e.1) (first_vote e.0 e.1.0) (by_decision d of_d x one.1 cast.update cast.member cast.casts e) one.1
+        ]
 
     -- sole votes have one value
     sole_is : (d e : Decision) → IsMadeAt ps bs k d → IsMadeAt ps bs k e → (x y : Vote) → Contains (sole_votes d.second) x → Contains (sole_votes e.second) y → x.value ≡ y.value
     sole_is d e of_d of_e x y in_d in_e =
-        let one = filter-contains (λ (z : Vote). z.sole) (votes d.second) x in_d in
-        let two = filter-contains (λ (z : Vote). z.sole) (votes e.second) y in_e in
-        let p = second_is d of_d x one.0 in
-        let q = second_is e of_e y two.0 in
-        ap (λ (z : Vote). z.value) p.2
-        ∙ sole_values-agree p.0.first q.0.first p.0.value q.0.value (compare k p.0 q.0 p.1 q.1).0
-        (has_value p.0.first (first_vote_for p.0.value) (own_vote-votes p.0.first p.0.replica (first_vote_for p.0.value) (first_vote p.0 p.1.0)))
-        (has_value q.0.first (first_vote_for q.0.value) (own_vote-votes q.0.first q.0.replica (first_vote_for q.0.value) (first_vote q.0 q.1.0)))
-        (sym (ap (λ (z : Vote). z.sole) p.2) ∙ one.1) (sym (ap (λ (z : Vote). z.sole) q.2) ∙ two.1)
-        ∙ sym (ap (λ (z : Vote). z.value) q.2)
-
-    own_in : (d : Decision) → IsMadeAt ps bs k d → Contains (votes d.second) (second_vote_for d.first d.value)
-    own_in d of_d = own_vote-votes d.second d.replica (second_vote_for d.first d.value) (second_vote d of_d.0)
+        let p = by_one d of_d x in_d in
+        let q = by_one e of_e y in_e in
+        sole_values-agree p.first q.first x.value y.value (certified_compare w.witness w.is (first_instance k) p.first q.first p.certified q.certified) p.has q.has p.all q.all
 
     -- a value that all have which are sole votes of two sets, by one of the first
     all_have : (d e : Decision) → IsMadeAt ps bs k d → IsMadeAt ps bs k e → (y : Vote) → Contains (sole_votes d.second) y → (v : ℕ) → y.value ≡ v → All (λ x. x.value ≡ v) (sole_votes e.second)
@@ -151,12 +178,56 @@ module _ (ps : List Place) (bs : List Back) (h : AllZip IsBackOf ps bs) where
         let sole = commit_sole (are_all_sole d.second) (sole_votes d.second) d.value v now in
         let has : Contains (sole_votes d.second) sole.1 = (sole.0, sole.2, sole.3) in
         ap value_of (decided e of_e.0).outcome_is
-        ∙ outcomes-agree d.second e.second d.value e.value v v (compare k d e of_d of_e).1
+        ∙ outcomes-agree d.second e.second d.value e.value v v (decisions_compare (inr w) k d e of_d of_e).1
         (all_have d d of_d of_d sole.1 has v sole.4) (all_have d e of_d of_e sole.1 has v sole.4)
-        (has_some e.second (second_vote_for e.first e.value) (own_in e of_e)) now
+        (has_some e.second (second_vote_for e.first e.value) (own_in e of_e.0)) now
 
-    proposed : (d : Decision) → IsMadeAt ps bs k d → (e : Decision) × IsMadeAt ps bs k e × (e.value ≡ value_of d.reached)
+    -- a member proposed the value of a sole vote
+    sole_proposed : (d : Decision) → IsMadeAt ps bs k d → (x : Vote) → Contains (sole_votes d.second) x → WasProposed bs k x.value
+    sole_proposed d of_d x in_d =
+        let one = filter-contains (λ (z : Vote). z.sole) (votes d.second) x in_d in
+        let cast = votes-cast d.second x one.0 in
+        elim (runs d of_d cast.update x cast.member cast.casts one.1) [
+          | inl (at, b, is_log, given) ↦
+              let is = (zip_at ps bs at b h is_log).2.is in
+              let led = led_to b.member is k cast.update x given cast.casts in
+              (at, b, is_log, subst (HasProposed b.member k) (sym (ap (λ (z : Vote). z.value) led.leads)) (proposed_there b.member is k led.value led.first led.own led.holds))
+          | inr e ↦ subst (WasProposed bs k) (sym (ap (λ (z : Vote). z.value) (by_decision d of_d x one.1 cast.update cast.member cast.casts e))) (own_value k e.0 e.1)
+        ]
+
+    proposed : (d : Decision) → IsMadeAt ps bs k d → WasProposed bs k (value_of d.reached)
     proposed d of_d =
+        let is : d.reached ≡ outcome d.second d.value = (decided d of_d.0).outcome_is in
+        elim (voted_by (are_all_sole d.second) (sole_votes d.second) d.value) [
+          | inl own ↦ subst (WasProposed bs k) (sym own ∙ sym (ap value_of is)) (own_value k d of_d)
+          | inr sole ↦ subst (WasProposed bs k) (sole.4 ∙ sym (ap value_of is)) (sole_proposed d of_d sole.1 (sole.0, sole.2, sole.3))
+        ]
+
+    agreed : IsAgreed ps bs k
+    agreed = record { agree = agree; proposed = proposed }
+
+  nobody : {P : Type 0} (k : ℕ) (d : Decision) → bs ≡ [] → IsMadeAt ps bs k d → P
+  nobody k d none (m, at) = absurd (none_some (ap (λ l. slice_get l m.at) (sym none) ∙ m.is_log))
+
+  pub decisions_agree : AreSeen bs → DecisionsAgree ps bs
+  decisions_agree (inl none) k runs = record {
+    agree = λ d e of_d of_e commits. nobody k d none of_d;
+    proposed = λ d of_d. nobody k d none of_d;
+  }
+  decisions_agree (inr w) k runs = agreed w k runs
+
+  -- ## Where nobody else voted
+
+  module _ (compare : DecisionsCompare ps bs) (k : ℕ) (theirs : (d : Decision) → IsMadeAt ps bs k d → HasTheirVotes ps bs k d.second) where
+    -- a vote of a second set is the second vote of one that decided
+    second_is : (d : Decision) → IsMadeAt ps bs k d → (x : Vote) → Contains (votes d.second) x → (e : Decision) × IsMadeAt ps bs k e × (x ≡ second_vote_for e.first e.value)
+    second_is d of_d x has =
+        let cast = votes-cast d.second x has in
+        let their = theirs d of_d cast.update cast.member (is_some (vote_of cast.update.op) x cast.casts) in
+        (their.0, their.1, one_vote d.second their.0.second (compare k d their.0 of_d their.1).1 cast.update cast.member their.0.replica their.2 x (second_vote_for their.0.first their.0.value) cast.casts (second_vote their.0 their.1.0))
+
+    one_proposed : (d : Decision) → IsMadeAt ps bs k d → (e : Decision) × IsMadeAt ps bs k e × (e.value ≡ value_of d.reached)
+    one_proposed d of_d =
         let is : d.reached ≡ outcome d.second d.value = (decided d of_d.0).outcome_is in
         elim (voted_by (are_all_sole d.second) (sole_votes d.second) d.value) [
           | inl own ↦ (d, of_d, sym own ∙ sym (ap value_of is))
@@ -186,10 +257,10 @@ module _ (ps : List Place) (bs : List Back) (h : AllZip IsBackOf ps bs) where
 
       unanimous : (d : Decision) → IsMadeAt ps bs k d → d.reached ≡ Commit value
       unanimous d of_d = (decided d of_d.0).outcome_is
-          ∙ unanimous-commit d.second d.value value (has_some d.second (second_vote_for d.first d.value) (own_in d of_d)) (all_sole d of_d)
+          ∙ unanimous-commit d.second d.value value (has_some d.second (second_vote_for d.first d.value) (own_in d of_d.0)) (all_sole d of_d)
 
-    agreed : IsAgreed ps bs k
-    agreed = record { agree = agree; proposed = proposed; unanimous = unanimous }
+    theirs_are : IsTheirs ps bs k
+    theirs_are = record { proposed = one_proposed; unanimous = unanimous }
 
-  pub decisions_agree : AreSeen bs → DecisionsAgree ps bs
-  decisions_agree seen k theirs = agreed (decisions_compare seen) k theirs
+  pub decisions_are_theirs : AreSeen bs → DecisionsAreTheirs ps bs
+  decisions_are_theirs seen k theirs = theirs_are (decisions_compare seen) k theirs

@@ -1,8 +1,8 @@
 -- What is counted and known once the workers are back, in plain variables.
-use Rattle.std.proofs.Common.{◌≡◌, inl, inr, ℕ, ◌+◌, ◌<◌, ◌≤◌, Bool, false, List, [], ◌∷◌, ◌++◌, map, length, get_or, Some, refl, ap, sym, ◌∙◌, subst, arith}
+use Rattle.std.proofs.Common.{◌≡◌, inl, inr, ℕ, suc, ◌+◌, ◌<◌, ◌≤◌, Bool, true, false, List, [], ◌∷◌, ◌++◌, map, length, get_or, Option, Some, refl, ap, sym, ◌∙◌, subst, arith}
 use Rattle.std.specs.List.{All, AllZip, AllWithin, slice_get, slice_set, slice_index_or}
-use Rattle.std.specs.Prelude.{IsTrue, ◌↔◌}
-use Rattle.std.proofs.lemmas.Bool.{cases_eq, cases_lt, false≢true}
+use Rattle.std.specs.Prelude.{IsTrue, ◌↔◌, not, ◌&&◌, if◌then◌else◌}
+use Rattle.std.proofs.lemmas.Bool.{cases_eq, cases_lt, false≢true, eq-eqb, ne_eqb}
 use Rattle.std.proofs.lemmas.List.Elements.{All-nil, All-cons}
 use Rattle.std.proofs.lemmas.Option.{slice_get_within, get_or_from_slice_get, slice_get-get_or}
 use Rattle.la_set.specs.Histories.{Histories, empty, history, from_histories, updates}
@@ -10,6 +10,8 @@ use Rattle.la_set.specs.Inclusion.{IsSubset}
 use Rattle.la_set.proofs.lemmas.Differences.{same_length}
 use Rattle.la_object.specs.Shelves.{ShelfState}
 use Rattle.la_runner.specs.declared.jobs.Job.{Job}
+use Rattle.la_proposer.specs.Majority.{how_many}
+use Rattle.la_runner.specs.Counted.{Taker, has_met, have_met, counts_peer, NotesCount}
 use Rattle.la_runner.specs.Members.{MemberState, GroupState, IsOf, view}
 use Rattle.la_runner.specs.Runs.{Place, Back, place_of, places, IsReady, ContainsAll, ViewsHold, IsRunConfig}
 use Rattle.la_runner.proofs.Keeping.{item_at, long_map, get_map, map_set}
@@ -157,6 +159,71 @@ pub met_at : {X : Type 0} (f : X → Histories) (xs : List X) (at upto : ℕ) (x
     → (d : Histories) → IsSubset (slice_index_or (map f xs) upto d) (slice_index_or (map f xs) at empty)
 met_at f xs at upto x y at_in upto_in x_is y_is has d =
     subst (λ z. IsSubset z (slice_index_or (map f xs) at empty)) (sym (value_at f xs upto y d upto_in y_is)) (subst (IsSubset (f y)) (sym (value_at f xs at x empty at_in x_is)) has)
+
+-- ## Exactly as many
+
+-- so many of the first logs are peers that the one at a place counts
+abbrev pub Exactly : List Taker → (at upto count : ℕ) → Type 0
+Exactly logs at upto count = count ≡ how_many upto (counts_peer logs at)
+
+abbrev one_if : Bool → ℕ
+one_if b = if b then 1 else 0
+
+one_place_more : (n : ℕ) (p : ℕ → Bool) → how_many (n + 1) p ≡ one_if (p n) + how_many n p
+one_place_more n p = ap (λ k. how_many k p) (let next : n + 1 ≡ suc n = omega arith in next)
+
+plus_one : (a b c more : ℕ) → a ≡ 1 → c ≡ b → more ≡ c + 1 → more ≡ a + b
+plus_one a b c more one same e = omega (arith, one, same, e)
+
+plus_none : (a b c more : ℕ) → a ≡ 0 → c ≡ b → more ≡ c → more ≡ a + b
+plus_none a b c more none same e = omega (arith, none, same, e)
+
+pub one_exactly : (logs : List Taker) (at upto count more : ℕ) → Exactly logs at upto count → counts_peer logs at upto ≡ true → more ≡ count + 1 → Exactly logs at (upto + 1) more
+one_exactly logs at upto count more so_far is e =
+    plus_one (one_if (counts_peer logs at upto)) (how_many upto (counts_peer logs at)) count more (ap one_if is) so_far e
+    ∙ sym (one_place_more upto (counts_peer logs at))
+
+pub none_exactly : (logs : List Taker) (at upto count more : ℕ) → Exactly logs at upto count → counts_peer logs at upto ≡ false → more ≡ count → Exactly logs at (upto + 1) more
+none_exactly logs at upto count more so_far is e =
+    plus_none (one_if (counts_peer logs at upto)) (how_many upto (counts_peer logs at)) count more (ap one_if is) so_far e
+    ∙ sym (one_place_more upto (counts_peer logs at))
+
+pub exactly_all : (logs : List Taker) (at upto count n : ℕ) → Exactly logs at upto count → upto ≡ n → count ≡ how_many n (counts_peer logs at)
+exactly_all logs at upto count n so_far whole = so_far ∙ ap (λ k. how_many k (counts_peer logs at)) whole
+
+-- itself it does not count
+pub own_not : (logs : List Taker) (at upto : ℕ) → upto ≡ at → counts_peer logs at upto ≡ false
+own_not logs at upto e = ap (λ (b : Bool). not b && have_met (slice_get logs at) (slice_get logs upto)) (eq-eqb upto at e)
+
+-- another one where it has met it
+pub other_met : {X : Type 0} (f : X → Taker) (xs : List X) (at upto : ℕ) (x y : X) → at < length xs → upto < length xs → x ≡ slice_index_or xs at x → y ≡ slice_index_or xs upto y → (upto ≡ at → ⊥) → (b : Bool) → b ≡ has_met (f x) (f y) → counts_peer (map f xs) at upto ≡ b
+other_met f xs at upto x y at_in upto_in x_is y_is other b is =
+    ap (λ (c : Bool). not c && have_met (slice_get (map f xs) at) (slice_get (map f xs) upto)) (ne_eqb upto at other)
+    ∙ ap (λ (o : Option Taker). have_met o (slice_get (map f xs) upto)) (get_map f xs at x (item_at xs at x at_in x_is))
+    ∙ ap (have_met (Some (f x))) (get_map f xs upto y (item_at xs upto y upto_in y_is))
+    ∙ sym is
+
+-- of the first logs the notes are exactly as many
+abbrev pub ExactlyTo : (notes : List ℕ) → List Taker → (upto : ℕ) → Type 0
+ExactlyTo notes logs upto =
+    (at n : ℕ) → at < upto → slice_get notes at ≡ Some n → Exactly logs at (length logs) n
+
+pub one_more_exactly : {X : Type 0} (t : X → Taker) (n : X → ℕ) (xs : List X) (at : ℕ) (x y : X) → slice_get xs at ≡ Some x → t y ≡ t x → ExactlyTo (map n xs) (map t xs) at → Exactly (map t xs) at (length xs) (n y) → ExactlyTo (map n (slice_set xs at y)) (map t (slice_set xs at y)) (at + 1)
+one_more_exactly t n xs at x y here same so_far now = subst (λ (z : List ℕ × List Taker). ExactlyTo z.0 z.1 (at + 1)) (λ i. (sym (map_set n xs at y) i, sym (map-set_other t xs at x y here same) i)) go
+  where
+    there : at < length (map n xs)
+    there = let l = long_map n xs in let w = slice_get_within xs at x here in omega (arith, l, w)
+
+    go : ExactlyTo (slice_set (map n xs) at (n y)) (map t xs) (at + 1)
+    go k m lt got = elim (cases_eq k at) [
+      | inl same ↦
+          let is : n y ≡ m = some_same (sym (get-set_same (map n xs) at (n y) there) ∙ ap (slice_get (slice_set (map n xs) at (n y))) (sym same) ∙ got) in
+          subst (λ i. Exactly (map t xs) i (length (map t xs)) m) (sym same) (subst (Exactly (map t xs) at (length (map t xs))) is (now ∙ ap (λ l. how_many l (counts_peer (map t xs) at)) (sym (long_map t xs))))
+      | inr other ↦ so_far k m (omega (arith, lt, other)) (sym (get-set_other (map n xs) at k (n y) other) ∙ got)
+    ]
+
+pub all_exactly : (notes : List ℕ) (logs : List Taker) (upto : ℕ) → upto ≡ length notes → ExactlyTo notes logs upto → NotesCount notes logs
+all_exactly notes logs upto whole so_far at n got = so_far at n (let lt = slice_get_within notes at n got in omega (arith, whole, lt)) got
 
 -- ## The notes of all
 

@@ -4,7 +4,8 @@ use Rattle.std.specs.Prelude.{IfSome}
 use Rattle.std.specs.List.{slice_get}
 use Rattle.std.proofs.lemmas.Bool.{cases_eq}
 use Rattle.la_set.specs.ObjectOps.{ObjectOp, object_op_of}
-use Rattle.la_set.specs.Histories.{history, object_op_number, ContainsUpdate}
+use Rattle.la_set.specs.declared.update.Update.{Update}
+use Rattle.la_set.specs.Histories.{Histories, history, object_op_number, ContainsUpdate}
 use Rattle.la_set.proofs.lemmas.Theorems.{object_op-contains}
 use Rattle.la_proposer.specs.Inputs.{all_submitted}
 use Rattle.la_shared.specs.History.{HasEntry}
@@ -12,7 +13,8 @@ use Rattle.la_runner.specs.Certificates.{mine_at, HasCertificate, HasOwnCertific
 use Rattle.la_runner.specs.Instances.{InstanceState, IsLearntSet}
 use Rattle.la_runner.specs.Invariant.{IsIn, IsMember}
 use Rattle.la_runner.specs.Laws.{CertifiedCompare, OwnAreCertified, CertificatesStay, ViewsAreCertified, ViewsCompare, LearntAreOwnCertified, NothingIsInvented}
-use Rattle.la_runner.specs.Members.{MemberState, passes_of, passes_in, submitted_of, learnt_of, view_of, view}
+use Rattle.la_acceptor.specs.declared.reply.Reply.{Reply}
+use Rattle.la_runner.specs.Members.{MemberState, passes_of, passes_in, submitted_of, submitted_in, learnt_of, view_of, view}
 use Rattle.la_runner.specs.Sound.{IsPassAt, IsView, IsSubmission, WasTold}
 use Rattle.la_set.specs.Inclusion.{IsSubset}
 use Rattle.la_runner.proofs.Viewing.{empty_within}
@@ -66,12 +68,24 @@ number_first : (xs ys : List ObjectOp) (n : ℕ) (d : ObjectOp) → object_op_nu
 number_first xs ys zero d e = e
 number_first xs ys (suc k) d e = get_first xs ys k d e
 
+-- an own update of the last ballot's set was submitted
+own_there : (m : MemberState) (x : InstanceState) → IsIn m x → (u : Update) → ContainsUpdate x.proposer.updates u → u.id.replica ≡ x.proposer.own → IsSubmission m.replica (all_submitted x.proposer) u
+own_there m x in_m u here e = (e ∙ in_m.2, number_first (history x.proposer.updates x.proposer.own) x.proposer.waiting u.id.number (object_op_of u) (subst (λ o. object_op_number (history x.proposer.updates o) u.id.number ≡ Some (object_op_of u)) e (object_op-contains x.proposer.updates u here)))
+
+-- of an own offer's set the member's own updates are its submissions
+pub own_submitted : (m : MemberState) → IsMember m → (i a : ℕ) (s : Histories) (r : Reply) → HasEntry (mine_at (passes_in m i) a) s r → (u : Update) → ContainsUpdate s u → u.id.replica ≡ m.replica → IsSubmission m.replica (submitted_in m i) u
+own_submitted m is i a s r entry u has own = go (slice_get m.instances i) refl entry
+  where
+    go : (o : Option InstanceState) → slice_get m.instances i ≡ o → HasEntry (mine_at (passes_of o) a) s r → IsSubmission m.replica (submitted_of o) u
+    go None e h = absurd (subst (λ l. HasEntry l s r) (mine_at_is [] a) h)
+    go (Some x) e h = let in_m = is.each i x e in own_there m x in_m u (in_m.0.sound.within a s r h u has) (own ∙ sym in_m.2)
+
 pub told_or_own : NothingIsInvented
 told_or_own m is i a s r entry u has = go (slice_get m.instances i) refl entry
   where
     own_or_told : (x : InstanceState) → IsIn m x → ContainsUpdate x.proposer.updates u → IsSubmission m.replica (all_submitted x.proposer) u ⊎ WasTold x.passes u
     own_or_told x in_m here = elim (cases_eq u.id.replica x.proposer.own) [
-      | inl e ↦ inl (e ∙ in_m.2, number_first (history x.proposer.updates x.proposer.own) x.proposer.waiting u.id.number (object_op_of u) (subst (λ o. object_op_number (history x.proposer.updates o) u.id.number ≡ Some (object_op_of u)) e (object_op-contains x.proposer.updates u here)))
+      | inl e ↦ inl (own_there m x in_m u here e)
       | inr ne ↦ inr (in_m.0.sound.told u here ne)
     ]
 

@@ -16,4 +16,5 @@ pub mod Laws
 pub mod Stops
 pub mod Entries
 pub mod Runs
+pub mod Counted
 pub mod Together

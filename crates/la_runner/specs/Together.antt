@@ -4,6 +4,8 @@ use mathlib.Core.List.{IsPrefix}
 use Rattle.la_commit.specs.declared.outcome.Outcome.{Outcome}
 use Rattle.la_commit.specs.declared.outcome.Outcome.TheVariants.{Commit}
 use Rattle.la_commit.specs.Outcomes.{is_commit, value_of}
+use Rattle.la_commit.specs.declared.vote.Vote.{Vote}
+use Rattle.la_commit.specs.Instances.{second_instance}
 use Rattle.la_commit.specs.Votes.{vote_of}
 use Rattle.la_object.specs.declared.query.Query.{Query}
 use Rattle.la_object.specs.Shelves.{ShelfState, kind_at, answer_at}
@@ -17,9 +19,11 @@ use Rattle.la_runner.specs.Certificates.{seen_at}
 use Rattle.la_runner.specs.Entries.{set_of, IsKnownTo}
 use Rattle.la_runner.specs.Invariant.{IsMember}
 use Rattle.la_runner.specs.Laws.{InventsNothing}
-use Rattle.la_runner.specs.Members.{MemberState, GoesOn, passes_in, view}
+use Rattle.la_runner.specs.Members.{MemberState, GoesOn, passes_in, submitted_in, view}
 use Rattle.la_runner.specs.Notes.{doings}
+use Rattle.la_runner.specs.Participants.{HasProposed}
 use Rattle.la_runner.specs.Runs.{Back, Place}
+use Rattle.la_runner.specs.Sound.{IsSubmission}
 
 -- the second is of the first's group, and has seen what the first has
 pub record HasSeen (m n : MemberState) : Type 0 where
@@ -130,32 +134,64 @@ DecisionsCompare given logs =
     (k : ℕ) (d e : Decision) → IsMadeAt given logs k d → IsMadeAt given logs k e
     → AreComparable d.first e.first × AreComparable d.second e.second
 
--- each vote of the set is the first update of a replica that decided at the object
+-- the update is the first one of a replica that decided at the object
+abbrev pub IsFirstOfDecided : List Place → List Back → (commit : ℕ) → Update → Type 0
+IsFirstOfDecided given logs k u =
+    (d : Decision) × IsMadeAt given logs k d × (u.id ≡ record { replica = d.replica; number = 1 })
+
+-- some member of the run has submitted the update in the instance
+abbrev pub WasSubmitted : List Back → (instance : ℕ) → Update → Type 0
+WasSubmitted logs i u =
+    (at : ℕ) × (b : Back) × (slice_get logs at ≡ Some b)
+    × IsSubmission b.member.replica (submitted_in b.member i) u
+
+-- some member of the run has proposed the value at the object
+abbrev pub WasProposed : List Back → (commit value : ℕ) → Type 0
+WasProposed logs k value =
+    (at : ℕ) × (b : Back) × (slice_get logs at ≡ Some b) × HasProposed b.member k value
+
+-- nobody outside the run cast a sole vote of this second set: each was submitted by a member, also
+-- by one that stopped before it decided, or is the first update of one that decided
+abbrev pub HasTheRunsSoleVotes : List Place → List Back → (commit : ℕ) → Histories → Type 0
+HasTheRunsSoleVotes given logs k s =
+    (u : Update) (v : Vote) → ContainsUpdate s u → vote_of u.op ≡ Some v → v.sole ≡ true
+    → WasSubmitted logs (second_instance k) u ⊎ IsFirstOfDecided given logs k u
+
+-- nobody but those that decided voted in the set
 abbrev pub HasTheirVotes : List Place → List Back → (commit : ℕ) → Histories → Type 0
 HasTheirVotes given logs k s =
-    (u : Update) → ContainsUpdate s u → IsSome (vote_of u.op)
-    → (d : Decision) × IsMadeAt given logs k d
-    × (u.id ≡ record { replica = d.replica; number = 1 })
+    (u : Update) → ContainsUpdate s u → IsSome (vote_of u.op) → IsFirstOfDecided given logs k u
 
--- the three safety properties of adopt-commit, over those that decided at an object; unanimity where
--- nobody else voted in the first sets either
+-- what those that decided at an object came to is one another's, whoever else stopped
 pub record IsAgreed (given : List Place) (logs : List Back) (k : ℕ) : Type 0 where
   -- where one commits a value, each has it
   pub agree :
       (d e : Decision) → IsMadeAt given logs k d → IsMadeAt given logs k e
       → is_commit d.reached ≡ true → value_of e.reached ≡ value_of d.reached
+  -- what one returns, a member of the run proposed
+  pub proposed :
+      (d : Decision) → IsMadeAt given logs k d → WasProposed logs k (value_of d.reached)
+
+-- at each object in whose second sets nobody outside the run cast a sole vote
+abbrev pub DecisionsAgree : List Place → List Back → Type 0
+DecisionsAgree given logs =
+    (k : ℕ) → ((d : Decision) → IsMadeAt given logs k d → HasTheRunsSoleVotes given logs k d.second)
+    → IsAgreed given logs k
+
+-- those that decided have what one of them proposed, and commit it where all proposed it
+pub record IsTheirs (given : List Place) (logs : List Back) (k : ℕ) : Type 0 where
   -- what one returns, one of them proposed
   pub proposed :
       (d : Decision) → IsMadeAt given logs k d
       → (e : Decision) × IsMadeAt given logs k e × (e.value ≡ value_of d.reached)
-  -- where all proposed one value, each commits it
+  -- where all proposed one value, and nobody else voted in the first sets either, each commits it
   pub unanimous :
       (value : ℕ) → ((d : Decision) → IsMadeAt given logs k d
       → HasTheirVotes given logs k d.first × (d.value ≡ value))
       → (d : Decision) → IsMadeAt given logs k d → d.reached ≡ Commit value
 
 -- at each object in whose second sets nobody else voted
-abbrev pub DecisionsAgree : List Place → List Back → Type 0
-DecisionsAgree given logs =
+abbrev pub DecisionsAreTheirs : List Place → List Back → Type 0
+DecisionsAreTheirs given logs =
     (k : ℕ) → ((d : Decision) → IsMadeAt given logs k d → HasTheirVotes given logs k d.second)
-    → IsAgreed given logs k
+    → IsTheirs given logs k

@@ -84,47 +84,34 @@ pub(crate) fn send_all<J: Naming, R: Wait>(
     all
 }
 
-// Which peers' notes were taken.
-#[derive(Clone, Copy)]
-pub(crate) struct Taken {
-    pub(crate) from: [bool; 8],
-}
-
-impl Taken {
-    // Whether this peer's was.
-    pub(crate) fn has(&self, replica: u8) -> bool {
-        replica < 8 && self.from[replica as usize]
-    }
-}
-
 // Takes a note, unless it is of the member itself or of a peer that has given one.
-fn take_one(group: &Group, member: &mut Member, note: MemberNote, taken: &mut Taken)
+fn take_one(group: &Group, member: &mut Member, note: MemberNote, taken: &mut [bool; 8])
     requires of { IsOf group.now member.old }
     requires note { IsNoteOf group.now note }
     ensures goes_on { GoesOn member.old member.new }
     ensures same { doings member.new ≡ doings member.old }
 {
     let from = note.giver() as usize;
-    if from >= 8 || note.giver() == member.replica() || taken.from[from] {
+    if from >= 8 || note.giver() == member.replica() || taken[from] {
         return;
     }
-    taken.from[from] = true;
+    taken[from] = true;
     group.meet(member, note);
 }
 
-// Takes at most one note a peer, until the channel closes.
+// Takes at most one note a peer, until the channel closes. Of which replicas it took one.
 pub(crate) fn take_all<J: Naming, R: Wait>(
     rt: &R,
     group: &Group,
     member: &mut Member,
     inbox: Receiver<Letter<J>>,
-) -> Taken
+) -> [bool; 8]
     requires of { IsOf group.now member.old }
     requires named { group.now ≡ J.group }
     ensures goes_on { GoesOn member.old member.new }
     ensures same { doings member.new ≡ doings member.old }
 {
-    let mut taken = Taken { from: [false; 8] };
+    let mut taken = [false; 8];
     for _ in 1..group.votes.len() {
         let Ok(letter) = inbox.recv(rt) else {
             break;

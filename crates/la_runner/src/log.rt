@@ -1,6 +1,5 @@
 use crate::Member;
 use crate::jobs::{Entry, Stopped};
-use crate::letter::Taken;
 use la_object::{Replicated, Shelf};
 use thiserror::Error;
 
@@ -20,14 +19,14 @@ pub struct Log<B: Replicated> {
     /// jobs are answered and the shelf's view is the final view.
     pub stopped: Option<Stopped>,
 
-    /// Of how many peers it took a note and contains the final view.
+    /// How many peers there are of which it took a note and whose final view its own contains.
     pub notes: u8,
+
+    /// Of which replicas, by number, it took a note.
+    pub taken: [bool; 8],
 
     /// Its shelf.
     pub shelf: Shelf<B>,
-
-    // of which peers it took a note
-    pub(crate) taken: Taken,
 }
 
 /// What comes back of a run, in the order of the members.

@@ -1,14 +1,16 @@
 // A whole run: its workers in threads, and what is counted once they are joined.
-ghost use Rattle.std.specs.Prelude.{◌≡◌, ◌<◌, ◌≤◌, ◌+◌, ◌↔◌, ℕ, true, All, map, length, vec_len, IfOk, IfErr, IsTrue};
+ghost use Rattle.std.specs.Prelude.{◌≡◌, ◌<◌, ◌≤◌, ◌+◌, ◌↔◌, ℕ, true, false, All, map, length, slice_index_or, vec_len, IfOk, IfErr, IsTrue};
 ghost use Rattle.std.specs.List.{AllZip};
 ghost use Rattle.la_set.specs.Histories.{empty};
 ghost use Rattle.la_set.specs.Inclusion.{IsSubset};
+ghost use Rattle.la_proposer.specs.Majority.{how_many};
+ghost use Rattle.la_runner.specs.Counted.{taker, has_met, counts_peer, NotesCount};
 ghost use Rattle.la_runner.specs.Invariant.{IsMember};
 ghost use Rattle.la_runner.specs.Members.{IsOf, view};
 ghost use Rattle.la_object.specs.Shelves.{ShelfState};
 ghost use Rattle.la_runner.specs.Runs.{IsBackOf, back_of, places, place_of, ViewsHold, ContainsAll, IsRunConfig, IsRunRefusal};
 ghost use Rattle.la_runner.specs.Together.{IsSameLog, AreSeen, AllComparable, IsHonest};
-ghost use Rattle.la_runner.specs.Together.{DecisionsCompare, DecisionsAgree, NotesHold, NotesAgree};
+ghost use Rattle.la_runner.specs.Together.{DecisionsCompare, DecisionsAgree, DecisionsAreTheirs, NotesHold, NotesAgree};
 
 use crate::jobs::Jobs;
 use crate::running::{Start, run_in};
@@ -88,18 +90,30 @@ fn starts<B: Replicated>(
     Ok(starts)
 }
 
+// Whether a note of this replica was taken.
+fn took(taken: &[bool; 8], replica: u8) -> bool
+    ensures { result ≡ slice_index_or taken.now replica false }
+{
+    replica < 8 && taken[replica as usize]
+}
+
 // Whether a log took the other's note and contains its view.
 fn has_met<B: Replicated>(log: &Log<B>, other: &Log<B>) -> bool
-    ensures { result ≡ true → IsSubset (view other.now.member) (view log.now.member) }
+    ensures value { result ≡ has_met
+        (taker log.now.replica log.now.taken (view log.now.member))
+        (taker other.now.replica other.now.taken (view other.now.member)) }
+    ensures contains { result ≡ true → IsSubset (view other.now.member) (view log.now.member) }
 {
-    log.taken.has(other.replica) && log.member.view().contains_all(other.member.view())
+    took(&log.taken, other.replica) && log.member.view().contains_all(other.member.view())
 }
 
 // Of how many peers the log at a place has a note and contains the view.
 fn count_notes<B: Replicated>(logs: &Vec<Log<B>>, at: usize) -> u8
     requires there { at < vec_len logs.now }
     requires few { vec_len logs.now < 256 }
-    ensures { result + 1 ≡ length logs.now.items
+    ensures counted { result ≡ how_many (length logs.now.items)
+        (counts_peer (map (λ l. taker l.replica l.taken (view l.member)) logs.now.items) at) }
+    ensures all { result + 1 ≡ length logs.now.items
         → ContainsAll (map (λ l. view l.member) logs.now.items) at }
 {
     let mut count = 0;
@@ -116,7 +130,9 @@ fn note_all<B: Replicated>(logs: &mut Vec<Log<B>>)
     requires few { vec_len logs.old < 256 }
     ensures same { map (λ l. back_of l.replica l.member l.shelf l.entries.items l.stopped) logs.new.items
         ≡ map (λ l. back_of l.replica l.member l.shelf l.entries.items l.stopped) logs.old.items }
-    ensures counted { ViewsHold (map (λ l. l.notes) logs.new.items)
+    ensures counted { NotesCount (map (λ l. l.notes) logs.new.items)
+        (map (λ l. taker l.replica l.taken (view l.member)) logs.new.items) }
+    ensures all { ViewsHold (map (λ l. l.notes) logs.new.items)
         (map (λ l. view l.member) logs.new.items) }
 {
     for at in 0..logs.len() {
@@ -134,6 +150,8 @@ fn finish<B: Replicated>(group: &Group, done: Vec<Log<B>>) -> Logs<B>
         (map (λ l. back_of l.replica l.member l.shelf l.entries.items l.stopped) result.items) }
     ensures seen { AreSeen
         (map (λ l. back_of l.replica l.member l.shelf l.entries.items l.stopped) result.items) }
+    ensures counted { NotesCount (map (λ l. l.notes) result.items)
+        (map (λ l. taker l.replica l.taken (view l.member)) result.items) }
     ensures notes { ViewsHold (map (λ l. l.notes) result.items)
         (map (λ l. view l.member) result.items) }
 {
@@ -159,6 +177,10 @@ fn finish<B: Replicated>(group: &Group, done: Vec<Log<B>>) -> Logs<B>
 /// replicas, or a shelf has absorbed something; then `NoThread` where a thread could not be started,
 /// and `Memory` where a growth was refused outside the workers. Then all threads that were started
 /// are joined, and the members are gone.
+///
+/// Those that decided at an adopt-commit object agree, whoever else stopped there, where each sole vote
+/// in their second sets was submitted by a member of the run. That nobody else cast one no clause
+/// says.
 ///
 /// The cost is that of the members' calls, side by side, and of a note for each two members.
 pub fn run<R: Threads + Wait + Sync, G: Gate, B: Replicated>(
@@ -186,6 +208,11 @@ pub fn run<R: Threads + Wait + Sync, G: Gate, B: Replicated>(
     ensures agreed { IfOk result (λ logs. DecisionsAgree
         (places members.items shelves.items (map (λ j. j.items) jobs.items))
         (map (λ l. back_of l.replica l.member l.shelf l.entries.items l.stopped) logs.items)) }
+    ensures theirs { IfOk result (λ logs. DecisionsAreTheirs
+        (places members.items shelves.items (map (λ j. j.items) jobs.items))
+        (map (λ l. back_of l.replica l.member l.shelf l.entries.items l.stopped) logs.items)) }
+    ensures counted { IfOk result (λ logs. NotesCount (map (λ l. l.notes) logs.items)
+        (map (λ l. taker l.replica l.taken (view l.member)) logs.items)) }
     ensures notes { IfOk result (λ logs. NotesHold (map (λ l. l.notes) logs.items)
         (map (λ l. back_of l.replica l.member l.shelf l.entries.items l.stopped) logs.items)) }
     ensures alike { IfOk result (λ logs. NotesAgree (map (λ l. l.notes) logs.items)

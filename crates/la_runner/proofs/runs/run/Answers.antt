@@ -3,7 +3,7 @@ use Rattle.std.specs.List.{All, AllZip}
 use Rattle.la_runner.specs.Members.{IsOf}
 use Rattle.la_runner.specs.Invariant.{IsMember}
 use Rattle.la_runner.specs.Runs.{Place, IsReady, IsWorked, IsBackOf, place_of, places, back_of}
-use Rattle.la_runner.proofs.Agreeing.{decisions_compare, decisions_agree}
+use Rattle.la_runner.proofs.Agreeing.{decisions_compare, decisions_agree, decisions_are_theirs}
 use Rattle.la_runner.proofs.Keeping.{long_map}
 use Rattle.la_runner.proofs.Noted.{views_of, notes_hold, notes_agree}
 use Rattle.la_runner.proofs.Threading.{all_over}
@@ -47,6 +47,12 @@ returns-in-Ok-run_in-clause-decisions g c = decisions_compare (places c.args.mem
 
 pub returns-in-Ok-run_in-clause-agreed : goal.returns-in-Ok-run_in-clause-agreed
 returns-in-Ok-run_in-clause-agreed g c = decisions_agree (places c.args.members.items c.args.shelves.items (map (λ j. j.items) c.args.jobs.items)) (map (λ l. back_of l.replica l.member l.shelf l.entries.items l.stopped) c.finish.result.items) (returns-in-Ok-run_in-clause-each g c) c.finish.ensures.seen
+
+pub returns-in-Ok-run_in-clause-theirs : goal.returns-in-Ok-run_in-clause-theirs
+returns-in-Ok-run_in-clause-theirs g c = decisions_are_theirs (places c.args.members.items c.args.shelves.items (map (λ j. j.items) c.args.jobs.items)) (map (λ l. back_of l.replica l.member l.shelf l.entries.items l.stopped) c.finish.result.items) (returns-in-Ok-run_in-clause-each g c) c.finish.ensures.seen
+
+pub returns-in-Ok-run_in-clause-counted : goal.returns-in-Ok-run_in-clause-counted
+returns-in-Ok-run_in-clause-counted g c = c.finish.ensures.counted
 
 pub returns-in-Ok-run_in-clause-notes : goal.returns-in-Ok-run_in-clause-notes
 returns-in-Ok-run_in-clause-notes g c = notes_hold (places c.args.members.items c.args.shelves.items (map (λ j. j.items) c.args.jobs.items)) (map (λ l. back_of l.replica l.member l.shelf l.entries.items l.stopped) c.finish.result.items) (returns-in-Ok-run_in-clause-each g c) (map (λ l. l.notes) c.finish.result.items) (views_of (λ l. back_of l.replica l.member l.shelf l.entries.items l.stopped) (map (λ l. l.notes) c.finish.result.items) c.finish.result.items c.finish.ensures.notes)
