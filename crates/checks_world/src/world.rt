@@ -11,3 +11,4 @@ mod runs;
 mod shelves;
 mod shown;
 mod told;
+mod worked;

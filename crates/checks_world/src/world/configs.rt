@@ -7,18 +7,20 @@ use la_world::{Config, World, WorldError, empty_shelves, run};
 use std::alloc::Global;
 use std::process::Abort;
 
-// Replicas, adopt-commit objects and cap, where there are votes for three replicas.
-const OUT_OF_RANGE: [(u8, u8, u32); 10] = [
-    (0, 0, 10),
-    (2, 0, 10),
-    (4, 0, 10),
-    (9, 0, 10),
-    (255, 0, 10),
-    (3, 17, 10),
-    (3, 255, 10),
-    (3, 0, 0),
-    (3, 0, 1_000_001),
-    (3, 0, 4_294_967_295),
+// Replicas, adopt-commit objects, cap, and how many replicas there are votes for.
+const OUT_OF_RANGE: [(u8, u8, u32, u8); 12] = [
+    (0, 0, 10, 1),
+    (0, 0, 10, 3),
+    (2, 0, 10, 3),
+    (4, 0, 10, 3),
+    (9, 0, 10, 3),
+    (9, 0, 10, 8),
+    (255, 0, 10, 3),
+    (3, 17, 10, 3),
+    (3, 255, 10, 3),
+    (3, 0, 0, 3),
+    (3, 0, 1_000_001, 3),
+    (3, 0, 4_294_967_295, 3),
 ];
 
 const IN_RANGE: [(u8, u8, u32); 5] = [
@@ -51,12 +53,13 @@ fn is_no_run(rt: &impl Abort, alloc: Global, config: Config) -> bool {
 }
 
 fn no_world_has_a_value_out_of_its_range(rt: &impl Abort, alloc: Global) {
-    for (replicas, commits, cap) in OUT_OF_RANGE {
+    for (replicas, commits, cap, voters) in OUT_OF_RANGE {
+        assert!(rt; voters >= 1 && voters <= 8);
         let config = Config {
             replicas,
             commits,
             cap,
-            votes: Votes::one_each(3),
+            votes: Votes::one_each(voters),
         };
         holds(rt, "no world", is_no_world(rt, alloc, config));
         holds(rt, "no run", is_no_run(rt, alloc, config));
