@@ -14,14 +14,16 @@ use std::thread::Threads;
 const NO_TEXT: &str = "a word of the command line is no text: see lattice --help\n";
 
 // Words with a mistake, the program's name first.
-const MISTAKES: [&[&str]; 21] = [
+const MISTAKES: [&[&str]; 23] = [
     &[],
     &["lattice"],
     &["play"],
     &["lattice", ""],
     &["lattice", "Play"],
     &["lattice", "plays"],
-    &["lattice", "help"],
+    &["lattice", "help", "plays"],
+    &["lattice", "help", "play", "x"],
+    &["lattice", "node", "--own", "0", "--journal", "folder"],
     &["lattice", "play", "x"],
     &["lattice", "x", "play"],
     &["lattice", "random", "--replicas", "0"],
@@ -39,10 +41,14 @@ const MISTAKES: [&[&str]; 21] = [
 ];
 
 // Words that ask for a text, and how it begins.
-const ASKED_FOR: [(&[&str], &str); 6] = [
+const ASKED_FOR: [(&[&str], &str); 10] = [
     (&["lattice", "--help"], "Plays scripts"),
     (&["lattice", "-h"], "Plays scripts"),
-    (&["lattice", "--version"], "lattice "),
+    (&["lattice", "help"], "Plays scripts"),
+    (&["lattice", "--version"], "lattice 0.4.0\n"),
+    (&["lattice", "help", "play"], "Plays the script"),
+    (&["lattice", "help", "help"], "Print this message"),
+    (&["lattice", "node", "--help"], "Runs one replica"),
     (&["lattice", "play", "--help"], "Plays the script"),
     (&["lattice", "random", "--help"], "Draws events"),
     (&["lattice", "threads", "--help"], "Runs replicas"),
@@ -326,6 +332,18 @@ fn is_mistaken<R: Threads + Wait + Sync>(rt: &R, alloc: Global, words: &[&str]) 
     }
 }
 
+// Whether a node's help is told, as after a mistake.
+fn is_helped<R: Threads + Wait + Sync>(rt: &R, alloc: Global, words: &[&str]) -> bool {
+    match called(rt, alloc, words, &no_script(usize::MAX, usize::MAX)) {
+        Some(came) => {
+            came.status == 2
+                && came.written.is_empty()
+                && came.told.starts_with(b"Runs one replica")
+        }
+        None => false,
+    }
+}
+
 // Whether the status is the same where standard error takes five bytes of what is told.
 fn is_mistaken_unheard<R: Threads + Wait + Sync>(rt: &R, alloc: Global, words: &[&str]) -> bool {
     match called(rt, alloc, words, &no_script(usize::MAX, 5)) {
@@ -405,6 +423,11 @@ fn mistaken_words_end_with_status_2(rt: HostRuntime) {
             words.len()
         );
     }
+}
+
+#[test]
+fn a_node_is_told_its_help(rt: HostRuntime) {
+    assert!(rt; is_helped(&rt, rt.alloc(), &["lattice", "node"]));
 }
 
 #[test]

@@ -279,7 +279,8 @@ fn words_of(alloc: Global, words: &[&str]) -> Option<Vec<String>> {
     Some(all)
 }
 
-const WORDS: [&str; 8] = [
+const WORDS: [&str; 9] = [
+    "lattice",
     "node",
     "--replicas",
     "2",
@@ -308,9 +309,9 @@ fn commands(alloc: Global, words: &[String]) -> Came {
 }
 
 // Words that ask for help, and some with a mistake.
-const HELP: [&str; 2] = ["node", "--help"];
+const HELP: [&str; 3] = ["lattice", "node", "--help"];
 
-const MISTAKE: [&str; 3] = ["node", "--own", "8"];
+const MISTAKE: [&str; 4] = ["lattice", "node", "--own", "8"];
 
 fn ends_with_help(alloc: Global, error: &Error) -> Came {
     let mut output = room(alloc)?;

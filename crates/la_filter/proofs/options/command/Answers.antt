@@ -30,7 +30,7 @@ returns-clause-ok c =
     let kinds = c.in_ok-matches.ensures.kinds (ap is_simple_and_free is ∙ lattice_is_free) in
     let faultless = sym (ap (λ (a : App). fault_of a words) is) ∙ kinds in
     let rows = ap (option_map (λ p. p.1)) (sym (matches.1 ∙ ap (λ (a : App). subcommand_of a words) is))
-        ∙ sym c.subcommand.ensures.rows ∙ ap (option_map (λ p. rows_of (found_of p.1.now))) c.in-Some.is in
+    ∙ sym c.subcommand.ensures.rows ∙ ap (option_map (λ p. rows_of (found_of p.1.now))) c.in-Some.is in
     record {
       faultless = faultless;
       rows = _;
