@@ -27,7 +27,7 @@ const ROUNDS: u32 = 1_000_000;
 
 // So many updates that add 1 to object 1.
 fn increments(alloc: Global, count: u32) -> Result<Jobs, AllocError>
-    ensures { IfOk result (λ jobs. jobs.items ≡ increments count) }
+    ensures { IfOk result (λ jobs. jobs ≡ increments count) }
 {
     let mut jobs = Vec::with_capacity(alloc, count as usize)?;
     for _ in 0..count {
@@ -36,13 +36,12 @@ fn increments(alloc: Global, count: u32) -> Result<Jobs, AllocError>
             op: Op::Inc(1),
         })?;
     }
-    Ok(jobs)
+    Ok(Jobs::from(jobs))
 }
 
 // The same for each replica.
 fn jobs_of_all(alloc: Global, replicas: u8, each: u32) -> Result<Vec<Jobs>, AllocError>
-    ensures { IfOk result (λ all. map (λ jobs. jobs.items) all.items
-        ≡ replicate replicas (increments each)) }
+    ensures { IfOk result (λ all. all.items ≡ replicate replicas (increments each)) }
 {
     let mut all = Vec::with_capacity(alloc, replicas as usize)?;
     for _ in 0..replicas {
@@ -94,7 +93,7 @@ fn logs_of<P: Threads + Wait + Sync, B: Replicated>(
     requires few_each { each ≤ 1000 }
     requires shelves { FitAnyGroup shelves.items }
     ensures ok { IfOk result (λ logs. AreLogs shelves.items replicas each
-        (map (λ l. back_of l.replica l.member l.shelf l.entries.items l.stopped) logs.items)) }
+        (map (λ l. back_of l.replica l.member l.shelf l.entries l.stopped) logs)) }
     ensures error { IfErr result (λ fault. (fault ≡ NoThread) ⊎ (fault ≡ Memory)) }
 {
     let (group, members) = group_of(alloc, replicas, each)?;
@@ -118,10 +117,10 @@ fn agrees_with<B: Replicated>(log: &Log<B>, other: &Log<B>) -> bool
     log.stopped.is_none() && log.member.view().same(other.member.view())
 }
 
-/// Whether no log was stopped and all final views are the same. It takes no memory.
-pub fn agree<B: Replicated>(logs: &Logs<B>) -> bool
+// Whether no log was stopped and all final views are the same.
+fn all_agree<B: Replicated>(logs: &[Log<B>]) -> bool
     ensures { IsTrue result ↔ Agree
-        (map (λ l. back_of l.replica l.member l.shelf l.entries.items l.stopped) logs.now.items) }
+        (map (λ l. back_of l.replica l.member l.shelf l.entries l.stopped) logs.now) }
 {
     for at in 0..logs.len() {
         if !agrees_with(&logs[at], &logs[0]) {
@@ -129,6 +128,14 @@ pub fn agree<B: Replicated>(logs: &Logs<B>) -> bool
         }
     }
     true
+}
+
+/// Whether no log was stopped and all final views are the same. It takes no memory.
+pub fn agree<B: Replicated>(logs: &Logs<B>) -> bool
+    ensures { IsTrue result ↔ Agree
+        (map (λ l. back_of l.replica l.member l.shelf l.entries l.stopped) logs.now) }
+{
+    all_agree(logs.all())
 }
 
 fn stop_name(why: Stopped) -> &'static str
@@ -160,7 +167,7 @@ fn put_total<B: Replicated>(out: &mut Pieces, shelf: &Shelf<B>) -> Result<(), Al
 
 fn put_log<B: Replicated>(out: &mut Pieces, replica: usize, log: &Log<B>) -> Result<(), AllocError>
     ensures { OnOk result (Adds out.old out.new (log_text replica
-        (back_of log.now.replica log.now.member log.now.shelf log.now.entries.items log.now.stopped))) }
+        (back_of log.now.replica log.now.member log.now.shelf log.now.entries log.now.stopped))) }
 {
     out.push_str("replica ")?;
     out.push_number(replica as u64)?;
@@ -181,7 +188,7 @@ fn put_log<B: Replicated>(out: &mut Pieces, replica: usize, log: &Log<B>) -> Res
 
 fn put_logs<B: Replicated>(out: &mut Pieces, logs: &[Log<B>]) -> Result<(), AllocError>
     ensures { OnOk result (Adds out.old out.new (logs_text 0
-        (map (λ l. back_of l.replica l.member l.shelf l.entries.items l.stopped) logs.now))) }
+        (map (λ l. back_of l.replica l.member l.shelf l.entries l.stopped) logs.now))) }
 {
     for (replica, log) in logs.iter().enumerate() {
         put_log(out, replica, log)?;
@@ -215,11 +222,11 @@ pub fn text_of_logs<B: Replicated>(
     agreed: bool,
 ) -> Result<Pieces, AllocError>
     ensures { IfOk result (λ pieces. pieces ≡ threads_text replicas each
-        (map (λ l. back_of l.replica l.member l.shelf l.entries.items l.stopped) logs.now.items) agreed) }
+        (map (λ l. back_of l.replica l.member l.shelf l.entries l.stopped) logs.now) agreed) }
 {
     let mut out = Pieces::new(alloc);
     put_head(&mut out, replicas, each)?;
-    put_logs(&mut out, logs)?;
+    put_logs(&mut out, logs.all())?;
     put_verdict(&mut out, agreed)?;
     Ok(out)
 }

@@ -4,7 +4,7 @@ ghost use Rattle.la_runner.specs.Stops.{IsJobError, stop_by};
 use crate::{Learned, RunnerError};
 use la_commit::Outcome;
 use la_object::{Answer, Query};
-use la_set::{Op, UpdateId, UpdateSet};
+use la_set::{Op, Sequence, UpdateId, UpdateSet};
 use thiserror::Error;
 
 /// What a member of a run is to do.
@@ -21,7 +21,7 @@ pub enum Job {
 }
 
 /// A member's jobs, in the order in which they are done.
-pub type Jobs = Vec<Job>;
+pub type Jobs = Sequence<Job>;
 
 /// How a job was answered: an update by the set that was learnt, a decision by the sets that were
 /// learnt in the object's two instances and the outcome, a question by the view and what the object
@@ -44,6 +44,9 @@ pub enum Entry {
         answer: Answer,
     },
 }
+
+/// How a member's first jobs were answered, in order.
+pub type Entries = Sequence<Entry>;
 
 /// Why a member's jobs ended before the last one, or why its shelf has not its view.
 #[derive(Clone, Copy, Debug, PartialEq, Eq, Error)]

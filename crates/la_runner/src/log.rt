@@ -1,6 +1,7 @@
 use crate::Member;
-use crate::jobs::{Entry, Stopped};
+use crate::jobs::{Entries, Stopped};
 use la_object::{Replicated, Shelf};
+use la_set::Sequence;
 use thiserror::Error;
 
 /// What comes back of one member of a run. The member's view is the log's final view.
@@ -13,7 +14,7 @@ pub struct Log<B: Replicated> {
     pub member: Member,
 
     /// How its first jobs were answered, in order.
-    pub entries: Vec<Entry>,
+    pub entries: Entries,
 
     /// Why its jobs ended before the last one, or its shelf has not the final view; `None` where all
     /// jobs are answered and the shelf's view is the final view.
@@ -30,7 +31,7 @@ pub struct Log<B: Replicated> {
 }
 
 /// What comes back of a run, in the order of the members.
-pub type Logs<B> = Vec<Log<B>>;
+pub type Logs<B> = Sequence<Log<B>>;
 
 /// Why nothing comes back of a run.
 #[derive(Clone, Copy, Debug, PartialEq, Eq, Error)]

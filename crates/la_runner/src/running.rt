@@ -22,7 +22,7 @@ pub(crate) struct WorkedOf<J: Naming, B: Replicated>(Snapshot<Work<J, B>>);
 
 impl<J: Naming, B: Replicated> Promise<Log<B>> for WorkedOf<J, B> {
     ghost kept_by = { λ p r. IsWorked p.0.value.member p.0.value.shelf p.0.value.jobs.items
-        r.replica r.member r.shelf r.entries.items r.stopped };
+        r.replica r.member r.shelf r.entries r.stopped };
 }
 
 // Starts a worker in a thread.
@@ -99,7 +99,7 @@ fn join_all<J: Naming, R: Threads, B: Replicated>(
 ) -> Option<Vec<Log<B>>>
     ensures { IfSome result (λ done. AllZip (λ h b. IsWorked
         h.promise.0.value.member h.promise.0.value.shelf h.promise.0.value.jobs.items
-        b.replica b.member b.shelf b.entries.items b.stopped) handles.items done.items) }
+        b.replica b.member b.shelf b.entries b.stopped) handles.items done.items) }
 {
     match thread::join_promised(rt, handles) {
         Ok(done) => Some(done),
@@ -132,7 +132,7 @@ fn start_and_join<
     requires named { group.now ≡ J.group }
     requires ready { All (λ w. IsReady group.now w.member w.shelf) works.items }
     ensures { IfOk result (λ done. AllZip (λ w b. IsWorked w.member w.shelf w.jobs.items
-        b.replica b.member b.shelf b.entries.items b.stopped) works.items done.items) }
+        b.replica b.member b.shelf b.entries b.stopped) works.items done.items) }
 {
     let mut handles = Vec::new(alloc);
     let started = start_all(scope, rt, alloc, group, works, rounds, gate, &mut handles);
@@ -158,7 +158,7 @@ fn run_all<J: Naming + Send + Sync, R: Threads + Wait + Sync, G: Gate, B: Replic
     requires named { group.now ≡ J.group }
     requires ready { All (λ w. IsReady group.now w.member w.shelf) works.items }
     ensures { IfOk result (λ done. AllZip (λ w b. IsWorked w.member w.shelf w.jobs.items
-        b.replica b.member b.shelf b.entries.items b.stopped) works.items done.items) }
+        b.replica b.member b.shelf b.entries b.stopped) works.items done.items) }
 {
     thread::scope(
         thread::scope_env(),
@@ -167,7 +167,7 @@ fn run_all<J: Naming + Send + Sync, R: Threads + Wait + Sync, G: Gate, B: Replic
             requires { (group.now ≡ J.group)
                 × All (λ w. IsReady group.now w.member w.shelf) works.items }
             ensures { IfOk result (λ done. AllZip (λ w b. IsWorked w.member w.shelf w.jobs.items
-                b.replica b.member b.shelf b.entries.items b.stopped) works.items done.items) }
+                b.replica b.member b.shelf b.entries b.stopped) works.items done.items) }
         { start_and_join(scope, rt, alloc, group, works, rounds, gate) },
     )
 }
@@ -244,7 +244,7 @@ pub(crate) fn run_in<J: Naming + Send + Sync, R: Threads + Wait + Sync, G: Gate,
     requires named { group.now ≡ J.group }
     requires ready { All (λ s. IsReady group.now s.member s.shelf) starts.items }
     ensures { IfOk result (λ done. AllZip (λ s b. IsWorked s.member s.shelf s.jobs.items
-        b.replica b.member b.shelf b.entries.items b.stopped) starts.items done.items) }
+        b.replica b.member b.shelf b.entries b.stopped) starts.items done.items) }
 {
     let Ok(works) = prepare::<J, B>(alloc, starts) else {
         return Err(RunError::Memory);

@@ -69,7 +69,7 @@ fn starts<B: Replicated>(
     requires shelves { vec_len shelves ≡ vec_len members }
     requires jobs { vec_len jobs ≡ vec_len members }
     ensures { IfOk result (λ starts. map (λ s. place_of s.member s.shelf s.jobs.items) starts.items
-        ≡ places members.items shelves.items (map (λ j. j.items) jobs.items)) }
+        ≡ places members.items shelves.items jobs.items) }
 {
     let mut starts = Vec::with_capacity(alloc, members.len())?;
     let mut shelves = shelves.into_iter();
@@ -84,7 +84,7 @@ fn starts<B: Replicated>(
         starts.push(Start {
             member,
             shelf,
-            jobs: of_member,
+            jobs: Vec::from(of_member),
         })?;
     }
     Ok(starts)
@@ -128,8 +128,8 @@ fn count_notes<B: Replicated>(logs: &Vec<Log<B>>, at: usize) -> u8
 // Counts each log's notes.
 fn note_all<B: Replicated>(logs: &mut Vec<Log<B>>)
     requires few { vec_len logs.old < 256 }
-    ensures same { map (λ l. back_of l.replica l.member l.shelf l.entries.items l.stopped) logs.new.items
-        ≡ map (λ l. back_of l.replica l.member l.shelf l.entries.items l.stopped) logs.old.items }
+    ensures same { map (λ l. back_of l.replica l.member l.shelf l.entries l.stopped) logs.new.items
+        ≡ map (λ l. back_of l.replica l.member l.shelf l.entries l.stopped) logs.old.items }
     ensures counted { NotesCount (map (λ l. l.notes) logs.new.items)
         (map (λ l. taker l.replica l.taken (view l.member)) logs.new.items) }
     ensures all { ViewsHold (map (λ l. l.notes) logs.new.items)
@@ -146,19 +146,19 @@ fn finish<B: Replicated>(group: &Group, done: Vec<Log<B>>) -> Logs<B>
     requires of { All (λ l. IsOf group.now l.member × IsMember l.member) done.items }
     requires few { vec_len done < 256 }
     ensures same { AllZip IsSameLog
-        (map (λ l. back_of l.replica l.member l.shelf l.entries.items l.stopped) done.items)
-        (map (λ l. back_of l.replica l.member l.shelf l.entries.items l.stopped) result.items) }
+        (map (λ l. back_of l.replica l.member l.shelf l.entries l.stopped) done.items)
+        (map (λ l. back_of l.replica l.member l.shelf l.entries l.stopped) result) }
     ensures seen { AreSeen
-        (map (λ l. back_of l.replica l.member l.shelf l.entries.items l.stopped) result.items) }
-    ensures counted { NotesCount (map (λ l. l.notes) result.items)
-        (map (λ l. taker l.replica l.taken (view l.member)) result.items) }
-    ensures notes { ViewsHold (map (λ l. l.notes) result.items)
-        (map (λ l. view l.member) result.items) }
+        (map (λ l. back_of l.replica l.member l.shelf l.entries l.stopped) result) }
+    ensures counted { NotesCount (map (λ l. l.notes) result)
+        (map (λ l. taker l.replica l.taken (view l.member)) result) }
+    ensures notes { ViewsHold (map (λ l. l.notes) result)
+        (map (λ l. view l.member) result) }
 {
     let mut logs = done;
     show_all(group, &mut logs);
     note_all(&mut logs);
-    logs
+    Logs::from(logs)
 }
 
 /// Runs each member's jobs in a thread of its own, over the group's acceptors. Member, shelf and jobs
@@ -197,26 +197,26 @@ pub fn run<R: Threads + Wait + Sync, G: Gate, B: Replicated>(
     ensures config { IfOk result (λ _. IsRunConfig (length group.now.votes)
         (length members.items) (length jobs.items) shelves.items) }
     ensures each { IfOk result (λ logs. AllZip IsBackOf
-        (places members.items shelves.items (map (λ j. j.items) jobs.items))
-        (map (λ l. back_of l.replica l.member l.shelf l.entries.items l.stopped) logs.items)) }
+        (places members.items shelves.items jobs.items)
+        (map (λ l. back_of l.replica l.member l.shelf l.entries l.stopped) logs)) }
     ensures comparable { IfOk result (λ logs. AllComparable
-        (map (λ l. back_of l.replica l.member l.shelf l.entries.items l.stopped) logs.items)) }
-    ensures honest { IfOk result (λ logs. All (λ l. IsHonest l.member) logs.items) }
+        (map (λ l. back_of l.replica l.member l.shelf l.entries l.stopped) logs)) }
+    ensures honest { IfOk result (λ logs. All (λ l. IsHonest l.member) logs) }
     ensures decisions { IfOk result (λ logs. DecisionsCompare
-        (places members.items shelves.items (map (λ j. j.items) jobs.items))
-        (map (λ l. back_of l.replica l.member l.shelf l.entries.items l.stopped) logs.items)) }
+        (places members.items shelves.items jobs.items)
+        (map (λ l. back_of l.replica l.member l.shelf l.entries l.stopped) logs)) }
     ensures agreed { IfOk result (λ logs. DecisionsAgree
-        (places members.items shelves.items (map (λ j. j.items) jobs.items))
-        (map (λ l. back_of l.replica l.member l.shelf l.entries.items l.stopped) logs.items)) }
+        (places members.items shelves.items jobs.items)
+        (map (λ l. back_of l.replica l.member l.shelf l.entries l.stopped) logs)) }
     ensures theirs { IfOk result (λ logs. DecisionsAreTheirs
-        (places members.items shelves.items (map (λ j. j.items) jobs.items))
-        (map (λ l. back_of l.replica l.member l.shelf l.entries.items l.stopped) logs.items)) }
-    ensures counted { IfOk result (λ logs. NotesCount (map (λ l. l.notes) logs.items)
-        (map (λ l. taker l.replica l.taken (view l.member)) logs.items)) }
-    ensures notes { IfOk result (λ logs. NotesHold (map (λ l. l.notes) logs.items)
-        (map (λ l. back_of l.replica l.member l.shelf l.entries.items l.stopped) logs.items)) }
-    ensures alike { IfOk result (λ logs. NotesAgree (map (λ l. l.notes) logs.items)
-        (map (λ l. back_of l.replica l.member l.shelf l.entries.items l.stopped) logs.items)) }
+        (places members.items shelves.items jobs.items)
+        (map (λ l. back_of l.replica l.member l.shelf l.entries l.stopped) logs)) }
+    ensures counted { IfOk result (λ logs. NotesCount (map (λ l. l.notes) logs)
+        (map (λ l. taker l.replica l.taken (view l.member)) logs)) }
+    ensures notes { IfOk result (λ logs. NotesHold (map (λ l. l.notes) logs)
+        (map (λ l. back_of l.replica l.member l.shelf l.entries l.stopped) logs)) }
+    ensures alike { IfOk result (λ logs. NotesAgree (map (λ l. l.notes) logs)
+        (map (λ l. back_of l.replica l.member l.shelf l.entries l.stopped) logs)) }
     ensures error { IfErr result (IsRunRefusal (IsRunConfig (length group.now.votes)
         (length members.items) (length jobs.items) shelves.items)) }
 {

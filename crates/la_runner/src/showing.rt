@@ -83,10 +83,10 @@ fn show_last<B: Replicated>(group: &Group, others: &mut [Log<B>], last: &mut Mem
 pub(crate) fn show_all<B: Replicated>(group: &Group, logs: &mut [Log<B>])
     requires { All (λ l. IsOf group.now l.member × IsMember l.member) logs.old }
     ensures same { AllZip IsSameLog
-        (map (λ l. back_of l.replica l.member l.shelf l.entries.items l.stopped) logs.old)
-        (map (λ l. back_of l.replica l.member l.shelf l.entries.items l.stopped) logs.new) }
+        (map (λ l. back_of l.replica l.member l.shelf l.entries l.stopped) logs.old)
+        (map (λ l. back_of l.replica l.member l.shelf l.entries l.stopped) logs.new) }
     ensures seen { AreSeen
-        (map (λ l. back_of l.replica l.member l.shelf l.entries.items l.stopped) logs.new) }
+        (map (λ l. back_of l.replica l.member l.shelf l.entries l.stopped) logs.new) }
 {
     let Some((last, others)) = logs.split_last_mut() else {
         return;

@@ -4,7 +4,7 @@ ghost use Rattle.la_runner.specs.declared.jobs.Stopped.TheVariants.{Memory};
 ghost use Rattle.la_runner.specs.Members.{view};
 ghost use Rattle.la_runner.specs.Runs.{IsReady, IsWorked};
 
-use crate::jobs::{Job, Stopped};
+use crate::jobs::{Entries, Job, Stopped};
 use crate::letter::{Letter, Naming, send_all, take_all};
 use crate::worker::do_all;
 use crate::{Group, Log, Member};
@@ -64,7 +64,7 @@ pub(crate) fn work_on<J: Naming, R: Wait, G: Gate, B: Replicated>(
     requires named { group.now ≡ J.group }
     requires ready { IsReady group.now work.member work.shelf }
     ensures { IsWorked work.member work.shelf work.jobs.items
-        result.replica result.member result.shelf result.entries.items result.stopped }
+        result.replica result.member result.shelf result.entries result.stopped }
 {
     let Work {
         mut member,
@@ -94,7 +94,7 @@ pub(crate) fn work_on<J: Naming, R: Wait, G: Gate, B: Replicated>(
         notes: 0,
         member,
         shelf,
-        entries,
+        entries: Entries::from(entries),
         stopped,
         taken,
     }

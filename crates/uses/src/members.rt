@@ -93,13 +93,13 @@ pub fn run_to_one_view<R: Threads + Wait + Sync, B: Replicated>(
 ) -> Result<Option<Logs<B>>, RunError>
     requires { All (IsOf group.now) members.items }
     ensures { IfOk result (λ told. IfSome told (λ logs. (i j : ℕ) (l m : _)
-        → slice_get logs.items i ≡ Some l → slice_get logs.items j ≡ Some m
+        → slice_get logs i ≡ Some l → slice_get logs j ≡ Some m
         → view l.member ≡ view m.member)) }
 {
     let logs = run(
         rt, alloc, group, members, shelves, jobs, 1_000_000, &FreeGate,
     )?;
-    for log in &logs {
+    for log in logs.all() {
         if log.notes as usize + 1 != logs.len() {
             return Ok(None);
         }

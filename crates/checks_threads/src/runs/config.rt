@@ -48,7 +48,7 @@ fn a_run_has_a_shelf_and_jobs_for_each_member(rt: HostRuntime) {
 // A shelf that has absorbed the views of a run.
 fn used_shelf(rt: &impl Abort, alloc: Global, logs: &Logs<Counter>) -> Shelf<Counter> {
     let mut shelf = counting_shelf(rt, alloc);
-    for log in logs {
+    for log in logs.all() {
         let absorbed = shelf.absorb(log.member.view()).is_ok();
         assert!(rt; absorbed);
     }

@@ -93,7 +93,7 @@ pub fn total() -> Job {
 }
 
 fn increments(rt: &impl Abort, alloc: Global, count: u32) -> Jobs {
-    let mut jobs = Vec::new(alloc);
+    let mut jobs = Jobs::new(alloc);
     for _ in 0..count {
         let pushed = jobs.push(increment()).is_ok();
         assert!(rt; pushed);
@@ -130,22 +130,24 @@ pub fn shows<B: Replicated>(log: &Log<B>, sum: i64) -> bool {
     matches!(log.shelf.ask(1, &Query::Total), Ok(Answer::Total(total)) if total == sum)
 }
 
-/// Whether a log of a run of so many members is not stopped, and has all that each incremented.
+/// Whether a log of a run of so many members is not stopped, took a note of each peer, and has all that
+/// each incremented.
 pub fn is_whole<B: Replicated>(log: &Log<B>, members: u8, each: u32) -> bool {
     let mut all = log.stopped.is_none() && u32::from(log.notes) + 1 == u32::from(members);
     for replica in 0..members {
         all = all && log.member.view().count_of(replica) == each;
+        all = all && replica < 8 && log.taken[replica as usize] == (replica != log.replica);
     }
     all && shows(log, i64::from(members) * i64::from(each))
 }
 
 /// The same of each log, and whether all views are equal.
 pub fn are_whole<B: Replicated>(logs: &Logs<B>, members: u8, each: u32) -> bool {
-    for log in logs {
+    for log in logs.all() {
         if !is_whole(log, members, each) || log.entries.len() != each as usize {
             return false;
         }
-        if !log.member.view().same(logs[0].member.view()) {
+        if !log.member.view().same(logs.all()[0].member.view()) {
             return false;
         }
     }

@@ -35,7 +35,7 @@ fn refused_job(why: Stopped) -> Job {
 
 // The refused job stands before one that would be done.
 fn jobs_to(rt: &impl Abort, alloc: Global, why: Stopped) -> Jobs {
-    let mut jobs = Vec::new(alloc);
+    let mut jobs = Jobs::new(alloc);
     let pushed = jobs.push(increment()).is_ok()
         && jobs.push(decide(0, 7)).is_ok()
         && jobs.push(total()).is_ok()
@@ -82,15 +82,16 @@ fn is_total(entry: &Entry, replica: u8) -> bool {
 }
 
 fn is_stopped_by(log: &Log<Counter>, why: Stopped) -> bool {
+    let entries = log.entries.all();
     log.stopped == Some(why)
-        && log.entries.len() == 3
-        && is_learnt(&log.entries[0], log.replica)
-        && is_seven(&log.entries[1])
-        && is_total(&log.entries[2], log.replica)
+        && entries.len() == 3
+        && is_learnt(&entries[0], log.replica)
+        && is_seven(&entries[1])
+        && is_total(&entries[2], log.replica)
 }
 
 fn are_stopped_by(logs: &Logs<Counter>, why: Stopped) -> bool {
-    for log in logs {
+    for log in logs.all() {
         if !is_stopped_by(log, why) || !shows(log, 3) || log.notes != 2 {
             return false;
         }

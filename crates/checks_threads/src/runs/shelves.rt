@@ -102,7 +102,7 @@ fn is_refused(log: &Log<Refusing<Counter>>, entries: usize, sum: i64) -> bool {
 
 // Whether the second log alone is so, and the others have all that each member incremented.
 fn is_alone_refused(logs: &Logs<Refusing<Counter>>, each: u32, entries: usize, sum: i64) -> bool {
-    for log in logs {
+    for log in logs.all() {
         let is_as_told = if log.replica == 1 {
             is_refused(log, entries, sum)
         } else {
@@ -131,7 +131,7 @@ fn a_refused_absorption_stops_its_worker_alone(rt: HostRuntime) {
 fn all_ask(rt: &impl Abort, alloc: Global) -> Vec<Jobs> {
     let mut all = Vec::new(alloc);
     for _ in 0..3 {
-        let mut jobs = Vec::new(alloc);
+        let mut jobs = Jobs::new(alloc);
         let pushed = jobs.push(increment()).is_ok() && jobs.push(total()).is_ok();
         assert!(rt; pushed);
         let pushed = all.push(jobs).is_ok();

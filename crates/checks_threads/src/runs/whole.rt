@@ -46,7 +46,7 @@ fn is_stopped(log: &Log<Counter>) -> bool {
 
 fn are_stopped(logs: &Logs<Counter>) -> bool {
     let mut all = logs.len() == 3;
-    for log in logs {
+    for log in logs.all() {
         all = all && is_stopped(log);
     }
     all

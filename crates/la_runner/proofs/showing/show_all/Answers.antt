@@ -16,9 +16,9 @@ show_last-requires-clause-last g c κs within = (all_last (λ l. IsOf c.args.gro
 pub returns-clause-same : goal.returns-clause-same
 returns-clause-same g c =
     let all = subst (All (λ l. IsOf c.args.group.now l.member × IsMember l.member)) c.in-Some.ensures.cases.0 c.requires in
-    subst (λ l. AllZip IsSameLog (map (λ x. back_of x.replica x.member x.shelf x.entries.items x.stopped) l) (map (λ x. back_of x.replica x.member x.shelf x.entries.items x.stopped) (c.show_last.new.others ++ record c.in-Some.last.now { member = c.show_last.new.last } ∷ []))) (sym c.in-Some.ensures.cases.0)
-    (subst (λ l. AllZip IsSameLog (map (λ x. back_of x.replica x.member x.shelf x.entries.items x.stopped) (c.in-Some.others.now ++ c.in-Some.last.now ∷ [])) (map (λ x. back_of x.replica x.member x.shelf x.entries.items x.stopped) (l ++ record c.in-Some.last.now { member = c.show_last.new.last } ∷ []))) (sym c.show_last.ensures.same)
-    (same_all (λ x. back_of x.replica x.member x.shelf x.entries.items x.stopped) c.in-Some.others.now c.in-Some.last.now (record c.in-Some.last.now { member = c.show_last.new.last })
+    subst (λ l. AllZip IsSameLog (map (λ x. back_of x.replica x.member x.shelf x.entries x.stopped) l) (map (λ x. back_of x.replica x.member x.shelf x.entries x.stopped) (c.show_last.new.others ++ record c.in-Some.last.now { member = c.show_last.new.last } ∷ []))) (sym c.in-Some.ensures.cases.0)
+    (subst (λ l. AllZip IsSameLog (map (λ x. back_of x.replica x.member x.shelf x.entries x.stopped) (c.in-Some.others.now ++ c.in-Some.last.now ∷ [])) (map (λ x. back_of x.replica x.member x.shelf x.entries x.stopped) (l ++ record c.in-Some.last.now { member = c.show_last.new.last } ∷ []))) (sym c.show_last.ensures.same)
+    (same_all (λ x. back_of x.replica x.member x.shelf x.entries x.stopped) c.in-Some.others.now c.in-Some.last.now (record c.in-Some.last.now { member = c.show_last.new.last })
     (λ k d lt. (all_front (λ l. IsOf c.args.group.now l.member × IsMember l.member) c.in-Some.others.now c.in-Some.last.now all k d lt).1)
     (record { same_replica = refl; sees = c.show_last.ensures.more; same_shelf = refl; same_entries = refl; same_stopped = refl })))
 
@@ -27,6 +27,6 @@ returns-clause-seen g c =
     inr (record {
       witness = c.show_last.new.last;
       is = c.show_last.ensures.more.is;
-      sees = subst (λ l. All (λ b. HasSeen b.member c.show_last.new.last) (map (λ x. back_of x.replica x.member x.shelf x.entries.items x.stopped) (l ++ record c.in-Some.last.now { member = c.show_last.new.last } ∷ []))) (sym c.show_last.ensures.same)
-          (seen_all (λ x. back_of x.replica x.member x.shelf x.entries.items x.stopped) c.in-Some.others.now (record c.in-Some.last.now { member = c.show_last.new.last }) c.show_last.new.last c.show_last.ensures.shown (seen_self c.show_last.new.last));
+      sees = subst (λ l. All (λ b. HasSeen b.member c.show_last.new.last) (map (λ x. back_of x.replica x.member x.shelf x.entries x.stopped) (l ++ record c.in-Some.last.now { member = c.show_last.new.last } ∷ []))) (sym c.show_last.ensures.same)
+          (seen_all (λ x. back_of x.replica x.member x.shelf x.entries x.stopped) c.in-Some.others.now (record c.in-Some.last.now { member = c.show_last.new.last }) c.show_last.new.last c.show_last.ensures.shown (seen_self c.show_last.new.last));
     })

@@ -1,6 +1,7 @@
 use Rattle.std.proofs.Common.{◌≡◌, subst, sym, vec_len}
 use Rattle.la_runner.specs.Members.{IsOf, GoesOn}
 use Rattle.la_runner.specs.Notes.{doings}
+use Rattle.la_runner.specs.Runs.{IsWorked}
 use Rattle.la_runner.proofs.Ending.{worked}
 use Rattle.la_runner.proofs.UnderWay.{of_goes}
 use Rattle.la_runner.proofs.work.work_on.Goals as goal
@@ -18,8 +19,9 @@ pub take_all-taken-requires-clause-of : goal.take_all-taken-requires-clause-of
 take_all-taken-requires-clause-of g c = subst (IsOf c.args.group.now) (sym c.send_all-is_sent.ensures) (of_goes c.args.group.now c.args.work.member c.do_all-ended.new.member c.do_all-ended.ensures.goes_on c.requires.ready.of)
 
 pub returns : goal.returns
-returns g c = worked c.args.work.member c.do_all-ended.new.member c.take_all-taken.new.member c.args.work.shelf c.do_all-ended.new.shelf c.absorb_view-is_absorbed.new.shelf c.args.work.jobs.items c.do_all-ended.new.entries.items c.do_all-ended.result c.stopped_after-stopped.result
+returns g c = subst (λ es. IsWorked c.args.work.member c.args.work.shelf c.args.work.jobs.items c.replica-replica.result c.take_all-taken.new.member c.absorb_view-is_absorbed.new.shelf es c.stopped_after-stopped.result) (sym c.from.ensures)
+    (worked c.args.work.member c.do_all-ended.new.member c.take_all-taken.new.member c.args.work.shelf c.do_all-ended.new.shelf c.absorb_view-is_absorbed.new.shelf c.args.work.jobs.items c.do_all-ended.new.entries.items c.do_all-ended.result c.stopped_after-stopped.result
     c.do_all-ended.ensures.done c.do_all-ended.ensures.goes_on (vec_len c.do_all-ended.new.entries) c.do_all-ended.new.entries.ok.0 (vec_len c.args.work.jobs) c.args.work.jobs.ok.0 c.do_all-ended.ensures.all c.do_all-ended.ensures.stop
     (subst (λ m. GoesOn m c.take_all-taken.new.member) c.send_all-is_sent.ensures c.take_all-taken.ensures.goes_on) (subst (λ m. doings c.take_all-taken.new.member ≡ doings m) c.send_all-is_sent.ensures c.take_all-taken.ensures.same)
     c.replica-replica.ensures.is c.replica-replica.result c.replica-replica.ensures.replica c.do_all-ended.ensures.objects c.absorb_view-is_absorbed.ensures.objects
-    (λ e. let h = c.stopped_after-stopped.ensures.none e in (h.0, c.absorb_view-is_absorbed.ensures.view h.1)) c.stopped_after-stopped.ensures.some
+    (λ e. let h = c.stopped_after-stopped.ensures.none e in (h.0, c.absorb_view-is_absorbed.ensures.view h.1)) c.stopped_after-stopped.ensures.some)
