@@ -8,11 +8,7 @@ mod cuts;
 #[cfg(test)]
 mod helpers;
 #[cfg(test)]
-mod more_rows;
-#[cfg(test)]
 mod plays;
-#[cfg(test)]
-mod rows;
 #[cfg(test)]
 mod shelves;
 #[cfg(test)]

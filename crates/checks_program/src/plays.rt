@@ -3,18 +3,14 @@ use crate::cuts::{CUTS, FIRST_REPORT, FIRST_SCRIPT};
 use crate::helpers::{
     ends_so, fault_on_shelves, fills_so, gives, has_fault, is_told, read_fails_at, takes_reads,
 };
-use crate::more_rows::{LONG_SETS, MORE_ROWS};
-use crate::rows::{EMPTY, FIRST_RUN, ROWS, Row};
 use crate::streams::End;
+use checks_world::{EMPTY, FAULTS, FIRST_RUN, LONG_SETS, MORE_ROWS, ROWS, Row};
 use la_program::laws::the_limit_is_a_number;
 use la_program::{LIMIT, PlayFault};
 use std::alloc::Global;
 
-// Whether what is written or told of a script is the text of its row.
+// Whether what is written of a script is the text of its row.
 fn comes_to_its_text(alloc: Global, row: &Row) -> bool {
-    if row.told.starts_with("line ") {
-        return has_fault(alloc, row.script.as_bytes(), row.told);
-    }
     gives(alloc, row.script.as_bytes(), row.told.as_bytes())
 }
 
@@ -29,6 +25,14 @@ fn worked_scripts_have_these_texts(rt: HostRuntime) {
 fn more_worked_scripts_have_these_texts(rt: HostRuntime) {
     for row in &MORE_ROWS {
         assert!(rt; comes_to_its_text(rt.alloc(), row), "{}", row.name);
+    }
+}
+
+#[test]
+fn worked_scripts_have_these_faults(rt: HostRuntime) {
+    for row in &FAULTS {
+        let is = has_fault(rt.alloc(), row.script.as_bytes(), row.told);
+        assert!(rt; is, "{}", row.name);
     }
 }
 

@@ -1,8 +1,8 @@
 // Command lines, and what comes of each: what is written, what is told, and the exit status.
 use crate::cuts::{FIRST_REPORT, FIRST_SCRIPT};
 use crate::helpers::shows;
-use crate::more_rows::SEED_1;
 use crate::streams::{End, Narrow, narrow_writer, slow_reader, wide_writer};
+use checks_world::SEED_1;
 use la_program::{PlayFault, end_without_words, run_boxed, status_of};
 use la_script::{FaultName, ScriptFault};
 use std::alloc::{AllocError, Global};

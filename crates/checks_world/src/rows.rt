@@ -58,12 +58,12 @@ view 2 {}
 /// Scripts that are refused, each with the line of its fault.
 pub const FAULTS: [Row; 6] = [
     Row {
-        name: "fault-cut-header",
+        name: "faults/cut-header",
         script: "lattice 1",
         told: "line 2: BadHeader",
     },
     Row {
-        name: "fault-leading-zero",
+        name: "faults/leading-zero",
         script: "lattice 1
 replicas 3 commits 0 cap 10
 # A number with a zero in front.
@@ -72,12 +72,12 @@ deliver 01
         told: "line 4: BadNumber",
     },
     Row {
-        name: "fault-nothing",
+        name: "faults/nothing",
         script: "",
         told: "line 1: BadHeader",
     },
     Row {
-        name: "fault-range",
+        name: "faults/range",
         script: "lattice 1
 replicas 3 commits 0 cap 10
 # A number that is one over its range.
@@ -86,7 +86,7 @@ submit 0 1 inc 4294967296
         told: "line 4: BadNumber",
     },
     Row {
-        name: "fault-two-spaces",
+        name: "faults/two-spaces",
         script: "lattice 1
 replicas 3 commits 0 cap 10
 # Two spaces between words.
@@ -95,7 +95,7 @@ submit 0 1  mark
         told: "line 4: BadLine",
     },
     Row {
-        name: "fault-version",
+        name: "faults/version",
         script: "lattice 3
 replicas 3 commits 0 cap 10
 # Version 3 is none.

@@ -7,11 +7,11 @@ use crate::streams::InputFault;
 use crate::telling::text_of;
 use la_script::{ReadError, ScriptFault};
 use std::alloc::AllocError;
-use std::error::Error;
 use std::fmt;
+use thiserror::Error;
 
 /// Why a script or drawn events were not played to a writer, or no logs were printed. It is shown as the program tells it.
-#[derive(Clone, Copy, Debug, PartialEq, Eq)]
+#[derive(Clone, Copy, Debug, PartialEq, Eq, Error)]
 pub enum PlayFault {
     /// The bytes are no script: the first faulty line, and what is wrong with it. Nothing was
     /// written.
@@ -38,6 +38,7 @@ pub enum PlayFault {
     Memory,
 }
 
+// By hand: of what a derive writes no contract says the text.
 impl fmt::Display for PlayFault {
     ghost output = { λ fault. Some (fault_text fault) };
 
@@ -45,8 +46,6 @@ impl fmt::Display for PlayFault {
         f.write_str(text_of(*self).as_str())
     }
 }
-
-impl Error for PlayFault {}
 
 impl From<InputFault> for PlayFault {
     ghost from_gives = { λ e f. f ≡ of_input e };

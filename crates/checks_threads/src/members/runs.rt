@@ -41,6 +41,13 @@ const PLAYS: [Play; 8] = [
                 Comes::Learns(2, [1, 1, 0]),
                 Has([1, 1, 0], 1, IN_0, None),
             ),
+            Step(
+                1,
+                Does::Resumes(1),
+                Lets::All,
+                Comes::Nothing,
+                Has([1, 1, 0], 1, IN_0, None),
+            ),
         ],
     },
     // Of the acceptors that it asks again one had answered its first ballot, and the others none.
@@ -218,7 +225,11 @@ fn is_refused(rt: &HostRuntime, replicas: u8, commits: u8, cap: u32, votes: Vote
 #[test]
 fn a_group_is_within_its_ranges(rt: HostRuntime) {
     let three = Votes::one_each(3);
-    assert!(rt; is_refused(&rt, 9, 0, 1, three) && is_refused(&rt, 2, 0, 1, three));
+    assert!(rt;
+        is_refused(&rt, 9, 0, 1, Votes::one_each(8))
+            && is_refused(&rt, 9, 0, 1, three)
+            && is_refused(&rt, 2, 0, 1, three)
+    );
     assert!(rt; is_refused(&rt, 3, 17, 1, three) && is_refused(&rt, 3, 0, 0, three));
     assert!(rt;
         is_refused(&rt, 3, 0, 1_000_001, three) && !is_refused(&rt, 3, 16, 1_000_000, three)
