@@ -27,9 +27,6 @@ get_map f (y ∷ xs) (suc i) x e = get_map f xs i x e
 pub at_place : {X : Type 0} (f : X → Back) (xs : List X) (i : ℕ) (x : X) → i < length xs → x ≡ slice_index_or xs i x → slice_get (map f xs) i ≡ Some (f x)
 at_place f xs i x lt is = get_map f xs i x (slice_get-get_or xs i x lt ∙ ap Some (sym is))
 
-pub none_agree : (logs : List Back) → AgreeTo logs 0
-none_agree logs k b c lt here first = absurd (omega (arith, lt))
-
 pub one_agrees : (logs : List Back) (n : ℕ) (x y : Back) → slice_get logs n ≡ Some x → slice_get logs 0 ≡ Some y → AgreesWith x y → AgreeTo logs n → AgreeTo logs (n + 1)
 one_agrees logs n x y at first agrees so_far k b c lt here zeroth = elim (cases_lt k n) [
   | inl before ↦ so_far k b c before here zeroth

@@ -17,7 +17,7 @@ use Rattle.la_runner.specs.Sound.{IsSound}
 use Rattle.la_runner.specs.Following.{Goes, IsLearnt, IfLearnt, StaysOpen}
 use Rattle.la_runner.specs.Heard.{Hears, HearsMost}
 use Rattle.la_runner.proofs.Remembering.{one_recorded, none_recorded}
-use Rattle.la_runner.proofs.Passing.{Grown, grown_same, grown_more, has_new, beyond_new, on_refl}
+use Rattle.la_runner.proofs.Passing.{Grown, grown_same, grown_more, has_new, beyond_new}
 use Rattle.la_runner.proofs.Going.{sound_grown, follows_refl, follows_trans}
 use Rattle.la_runner.proofs.Hearing.{hears}
 
@@ -30,9 +30,6 @@ offered_mine s r k w e = e.1.4
 
 pub goes_grown : (p : ProposerState) (ps qs : List Known) → IsSound p ps → Grown p.updates ps qs → Goes p ps p qs
 goes_grown p ps qs is g = record { sound = sound_grown p ps qs is g; follows = follows_refl p ps qs g.on; nothing = refl }
-
-pub goes_refl : (p : ProposerState) (ps : List Known) → IsSound p ps → Goes p ps p ps
-goes_refl p ps is = record { sound = is; follows = follows_refl p ps ps (on_refl ps); nothing = refl }
 
 pub goes_trans : (p : ProposerState) (ps : List Known) (q : ProposerState) (qs : List Known) (r : ProposerState) (rs : List Known) → Goes p ps q qs → Goes q qs r rs → Goes p ps r rs
 goes_trans p ps q qs r rs f g = record { sound = g.sound; follows = follows_trans p q r ps qs rs f.follows g.follows; nothing = g.nothing ∙ f.nothing }

@@ -1,8 +1,8 @@
 -- What is counted and known once the workers are back, in plain variables.
 use Rattle.std.proofs.Common.{◌≡◌, inl, inr, ℕ, suc, ◌+◌, ◌<◌, ◌≤◌, Bool, true, false, List, [], ◌∷◌, ◌++◌, map, length, get_or, Option, Some, refl, ap, sym, ◌∙◌, subst, arith}
 use Rattle.std.specs.List.{All, AllZip, AllWithin, slice_get, slice_set, slice_index_or}
-use Rattle.std.specs.Prelude.{IsTrue, ◌↔◌, not, ◌&&◌, if◌then◌else◌}
-use Rattle.std.proofs.lemmas.Bool.{cases_eq, cases_lt, false≢true, eq-eqb, ne_eqb}
+use Rattle.std.specs.Prelude.{not, ◌&&◌, if◌then◌else◌}
+use Rattle.std.proofs.lemmas.Bool.{cases_eq, cases_lt, eq-eqb, ne_eqb}
 use Rattle.std.proofs.lemmas.List.Elements.{All-nil, All-cons}
 use Rattle.std.proofs.lemmas.Option.{slice_get_within, get_or_from_slice_get, slice_get-get_or}
 use Rattle.la_set.specs.Histories.{Histories, empty, history, from_histories, updates}
@@ -11,9 +11,9 @@ use Rattle.la_set.proofs.lemmas.Differences.{same_length}
 use Rattle.la_object.specs.Shelves.{ShelfState}
 use Rattle.la_runner.specs.declared.jobs.Job.{Job}
 use Rattle.la_proposer.specs.Majority.{how_many}
-use Rattle.la_runner.specs.Counted.{Taker, has_met, have_met, counts_peer, NotesCount}
+use Rattle.la_runner.specs.Counted.{Taker, has_met, have_met, counts_peer}
 use Rattle.la_runner.specs.Members.{MemberState, GroupState, IsOf, view}
-use Rattle.la_runner.specs.Runs.{Place, Back, place_of, places, IsReady, ContainsAll, ViewsHold, IsRunConfig}
+use Rattle.la_runner.specs.Runs.{Place, Back, place_of, places, IsReady, ContainsAll}
 use Rattle.la_runner.proofs.Keeping.{item_at, long_map, get_map, map_set}
 use Rattle.la_runner.proofs.Passing.{get-set_same, get-set_other, map-set_other}
 use Rattle.la_runner.proofs.Proposing.{some_same}
@@ -49,16 +49,6 @@ map_last : {S W : Type 0} (f : S → W) (xs : List S) (x : S) → map f (xs ++ x
 map_last f [] x = refl
 map_last f (y ∷ xs) x = ap (λ r. f y ∷ r) (map_last f xs x)
 
-pub one_begun : {S : Type 0} (f : S → Place) (made more : List S) (s : S) (m : MemberState) (shelf : ShelfState) (js : List Job) (ms ms' : List MemberState) (ss ss' : List ShelfState) (jss jss' : List (List Job)) (all : List Place)
-    → more ≡ made ++ s ∷ [] → f s ≡ place_of m shelf js → ms ≡ m ∷ ms' → ss ≡ shelf ∷ ss' → jss ≡ js ∷ jss' → map f made ++ places ms ss jss ≡ all → map f more ++ places ms' ss' jss' ≡ all
-one_begun f made more s m shelf js ms ms' ss ss' jss jss' all is of m_is s_is j_is so_far =
-    ap (λ l. map f l ++ places ms' ss' jss') is
-    ∙ ap (λ l. l ++ places ms' ss' jss') (map_last f made s)
-    ∙ appended (map f made) (f s) (places ms' ss' jss')
-    ∙ ap (λ p. map f made ++ p ∷ places ms' ss' jss') of
-    ∙ ap (λ (z : List MemberState × List ShelfState × List (List Job)). map f made ++ places z.0 z.1 z.2) (λ i. (sym m_is i, sym s_is i, sym j_is i))
-    ∙ so_far
-
 ended : {W : Type 0} (xs : List W) → xs ++ [] ≡ xs
 ended [] = refl
 ended (x ∷ xs) = ap (λ r. x ∷ r) (ended xs)
@@ -93,15 +83,6 @@ pub record Counting (views : List Histories) (at upto count : ℕ) : Type 0 wher
   pub before : upto ≤ at → own ≡ 0
   pub most : count + own ≤ upto
   pub contains : count + own ≡ upto → (k : ℕ) (d : Histories) → k < upto → IsSubset (slice_index_or views k d) (slice_index_or views at empty)
-
-pub none_counted : (views : List Histories) (at : ℕ) → Counting views at 0 0
-none_counted views at = record {
-  own = 0;
-  after = λ lt. absurd (omega (arith, lt));
-  before = λ le. refl;
-  most = omega arith;
-  contains = λ e k d lt. absurd (omega (arith, lt));
-}
 
 -- the view at a place
 pub value_at : {A B : Type 0} (f : A → B) (xs : List A) (i : ℕ) (x : A) (d : B) → i < length xs → x ≡ slice_index_or xs i x → slice_index_or (map f xs) i d ≡ f x
@@ -188,9 +169,6 @@ none_exactly logs at upto count more so_far is e =
     plus_none (one_if (counts_peer logs at upto)) (how_many upto (counts_peer logs at)) count more (ap one_if is) so_far e
     ∙ sym (one_place_more upto (counts_peer logs at))
 
-pub exactly_all : (logs : List Taker) (at upto count n : ℕ) → Exactly logs at upto count → upto ≡ n → count ≡ how_many n (counts_peer logs at)
-exactly_all logs at upto count n so_far whole = so_far ∙ ap (λ k. how_many k (counts_peer logs at)) whole
-
 -- itself it does not count
 pub own_not : (logs : List Taker) (at upto : ℕ) → upto ≡ at → counts_peer logs at upto ≡ false
 own_not logs at upto e = ap (λ (b : Bool). not b && have_met (slice_get logs at) (slice_get logs upto)) (eq-eqb upto at e)
@@ -222,9 +200,6 @@ one_more_exactly t n xs at x y here same so_far now = subst (λ (z : List ℕ ×
       | inr other ↦ so_far k m (omega (arith, lt, other)) (sym (get-set_other (map n xs) at k (n y) other) ∙ got)
     ]
 
-pub all_exactly : (notes : List ℕ) (logs : List Taker) (upto : ℕ) → upto ≡ length notes → ExactlyTo notes logs upto → NotesCount notes logs
-all_exactly notes logs upto whole so_far at n got = so_far at n (let lt = slice_get_within notes at n got in omega (arith, whole, lt)) got
-
 -- ## The notes of all
 
 -- of the first logs the notes are counted
@@ -243,23 +218,11 @@ one_noted notes views upto n there so_far now at m lt got e = elim (cases_eq at 
     is_plus : n ≡ m → n + 1 ≡ m + 1
     is_plus is = ap (λ i. i + 1) is
 
-pub all_noted : (notes : List ℕ) (views : List Histories) (upto : ℕ) → upto ≡ length notes → CountedTo notes views upto → ViewsHold notes views
-all_noted notes views upto whole so_far at n got e = so_far at n (let lt = slice_get_within notes at n got in omega (arith, whole, lt)) got e
-
 pub map_map : {A B C : Type 0} (f : A → B) (g : B → C) (xs : List A) → map g (map f xs) ≡ map (λ x. g (f x)) xs
 map_map f g [] = refl
 map_map f g (x ∷ xs) = ap (λ l. g (f x) ∷ l) (map_map f g xs)
 
 -- ## Whether a run may begin
-
-pub run_config : (n m j : ℕ) (ss : List ShelfState) → m ≡ n → j ≡ n → length ss ≡ n → (b : Bool) → (IsTrue b ↔ All (λ (s : ShelfState). s.view ≡ empty) ss) → IsTrue b ↔ IsRunConfig n m j ss
-run_config n m j ss m_is j_is s_is b h = (
-  λ t. record { each_member = m_is; each_jobs = j_is; each_shelf = s_is; unused = h.0 t },
-  λ c. h.1 c.unused,
-)
-
-pub no_config : (n m j : ℕ) (ss : List ShelfState) → (IsRunConfig n m j ss → ⊥) → IsTrue false ↔ IsRunConfig n m j ss
-no_config n m j ss without = (λ t. absurd (false≢true t), λ c. absurd (without c))
 
 -- one more log's notes are counted
 pub noted : {X : Type 0} (b : X → Back) (n : X → ℕ) (v : X → Histories) (xs init : List X) (at : ℕ) (x y : X)

@@ -184,10 +184,6 @@ module _ (group : List (List AcceptorName)) (votes : List ℕ) (own cap : ℕ) (
       take_whole [] = refl
       take_whole (x ∷ xs) = ap (λ ys. x ∷ ys) (take_whole xs)
 
--- the members, made from the last one on
-pub members_push : (group : GroupState) (cap r : ℕ) (ms : List MemberState) (m : MemberState) → AreMembersFrom group cap (r + 1) (reverse ms) → IsNewMember group cap r m → AreMembersFrom group cap r (reverse (ms ++ m ∷ []))
-members_push group cap r ms m are new = subst (AreMembersFrom group cap r) (sym (reverse-append ms (m ∷ []))) (new, are)
-
 cons_first : {A : Type 0} {x y : A} {xs ys : List A} → x ∷ xs ≡ y ∷ ys → x ≡ y
 cons_first e = cc
 

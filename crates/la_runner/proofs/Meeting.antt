@@ -98,9 +98,6 @@ module _ (s : Histories) (told : List Told) (ps : List Known) (notes : List Told
     done = done_now;
   }
 
-pub meeting_end : (s : Histories) (told : List Told) (ps qs : List Known) → Meeting s told ps [] qs → (a : ℕ) → IsPrefix (told_at told a) (seen_at qs a)
-meeting_end s told ps qs m a = m.done a (omega arith)
-
 pub long_names : {A : Type 0} (f : A → AcceptorName) (xs : List A) → length (map f xs) ≡ length xs
 long_names f [] = refl
 long_names f (x ∷ xs) = ap suc (long_names f xs)

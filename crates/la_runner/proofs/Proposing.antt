@@ -8,7 +8,7 @@ use Rattle.la_commit.specs.declared.vote.Vote.{Vote}
 use Rattle.la_commit.specs.declared.outcome.Outcome.{Outcome}
 use Rattle.la_commit.specs.Instances.{first_instance, second_instance}
 use Rattle.la_commit.specs.Outcomes.{outcome, outcome_of}
-use Rattle.la_commit.specs.Votes.{own_vote, HoldsVote, proposal, casts, first_vote, first_vote_for, second_vote, second_vote_for}
+use Rattle.la_commit.specs.Votes.{own_vote, HoldsVote, proposal, first_vote, first_vote_for, second_vote, second_vote_for}
 use Rattle.la_runner.specs.declared.error.RunnerError.{RunnerError}
 use Rattle.la_runner.specs.declared.error.RunnerError.TheVariants as errors
 use Rattle.la_runner.specs.declared.group.Row.{Row}
@@ -21,7 +21,7 @@ use Rattle.la_runner.specs.Instances.{InstanceState, state_of, with_vote}
 use Rattle.la_runner.specs.Invariant.{IsMember}
 use Rattle.la_runner.specs.Members.{MemberState, GroupState, passes_of, submitted_of, learnt_of, last_learnt, acceptors_in, IsOf, GoesOn, IsOnlyIn}
 use Rattle.la_runner.specs.Participants.{HasCommit, HasProposed, HasOther, IsVotedSet, IsDecision, MayVote, outcome_in, IsOnlyAt}
-use Rattle.la_runner.specs.Refusals.{IsVoteError, IsRefusedVote, IsRefusedRounds, IsRefusedInEither, IsProposalRefusal, IsRefusedDecision}
+use Rattle.la_runner.specs.Refusals.{IsVoteError, IsRefusedVote, IsRefusedRounds, IsRefusedInEither, IsRefusedDecision}
 use Rattle.la_runner.proofs.Keeping.{item_at, long_map, get_map}
 use Rattle.la_runner.proofs.Telling.{as_many_rows, acceptors_there}
 use Rattle.la_runner.proofs.Voting.{vote_there, no_vote, taken_in, none_taken}
@@ -115,18 +115,6 @@ leads_to m k value s h = ap (λ o. option_map (second_vote_for s) (option_and_th
 pub vote_comes : (m : MemberState) (k value : ℕ) (s : Histories) → IsVotedSet m (first_instance k) (first_vote_for value) s → option_and_then (λ s. second_vote s m.replica) (last_learnt m (first_instance k)) ≡ Some (second_vote_for s value)
 vote_comes m k value s h = ap (λ o. option_and_then (λ s. second_vote s m.replica) o) h.learnt ∙ leads_to m k value s h
 
-pub may_vote_second : (m : MemberState) (is : IsMember m) (k value i : ℕ) (s : Histories) (v : Vote) → i ≡ second_instance k → IsVotedSet m (first_instance k) (first_vote_for value) s → v ≡ second_vote_for s value → MayVote k v i m
-may_vote_second m is k value i s v i_is h v_is = record {
-  once = elim (is.participant k).second [
-    | inl none ↦ inl (ap (λ j. submitted_of (slice_get m.instances j)) i_is ∙ none)
-    | inr w ↦
-        let one : w.first ≡ s = some_same (sym w.learnt ∙ h.learnt) in
-        let same : w.vote ≡ v = some_same (sym w.leads ∙ ap (λ z. second_vote z m.replica) one ∙ leads_to m k value s h) ∙ sym v_is in
-        inr (ap (λ j. submitted_of (slice_get m.instances j)) i_is ∙ w.cast ∙ ap (λ z. casts k z ∷ []) same)
-  ];
-  leads = inr (i_is, s, h.learnt, leads_to m k value s h ∙ ap Some (sym v_is));
-}
-
 -- ## From the first vote to the second
 
 -- a set that was voted for stays, where the instance does
@@ -179,18 +167,6 @@ module _ (old mid new : MemberState) (k value : ℕ) (go : GoesOn old mid) (on :
       of_old (inr h) = inr (h.0, subst (λ o. IsSomeAnd o (λ (x : InstanceState). IsRefusedRounds left (with_vote k v x) (second_instance k) new e)) second_stays h.1)
 
 -- ## Refusals of a decision
-
--- of a proposal that may not be made
-pub refused_proposal : (rounds k value : ℕ) (old new : MemberState) (e : RunnerError) → new ≡ old → IsProposalRefusal k value old e → IsRefusedDecision rounds k value old new e
-refused_proposal rounds k value old new errors.NoSuchCommit same h = (h, same)
-refused_proposal rounds k value old new errors.AlreadyProposed same h = (h.0, h.1, same)
-refused_proposal rounds k value old new (errors.Clash id) same h = absurd h
-refused_proposal rounds k value old new errors.BallotsSpent same h = absurd h
-refused_proposal rounds k value old new errors.Memory same h = absurd h
-refused_proposal rounds k value old new errors.NoMajority same h = absurd h
-refused_proposal rounds k value old new errors.TryAgain same h = absurd h
-refused_proposal rounds k value old new errors.BadConfig same h = absurd h
-refused_proposal rounds k value old new errors.Full same h = absurd h
 
 -- of a vote
 pub refused_in_either : (rounds k value : ℕ) (old new : MemberState) (e : RunnerError) → HasCommit old k → (HasOther old k value → ⊥) → IsRefusedInEither rounds k value old new e → IsVoteError e → IsRefusedDecision rounds k value old new e

@@ -1,5 +1,5 @@
 -- What had counted still counts, whatever replies are heard.
-use Rattle.std.proofs.Common.{◌≡◌, ◌≢◌, ◌⊎◌, inl, inr, ℕ, ◌<◌, ◌≤◌, Bool, true, false, true≢false, cond, List, [], ◌∷◌, ◌++◌, length, Some, refl, ap, sym, ◌∙◌, subst, arith, append_assoc, append-nil, ◌&&◌, ◌==◌, not, eq-eqb}
+use Rattle.std.proofs.Common.{◌≡◌, ◌≢◌, ◌⊎◌, inl, inr, ℕ, ◌<◌, ◌≤◌, Bool, true, false, true≢false, cond, List, [], ◌∷◌, ◌++◌, Some, refl, ap, sym, ◌∙◌, subst, arith, append_assoc, append-nil, ◌&&◌, ◌==◌, not, eq-eqb}
 use Rattle.std.specs.List.{slice_get, slice_set}
 use Rattle.std.proofs.lemmas.Bool.{cases_eq, cases_Bool, eqb-true}
 use Rattle.std.proofs.lemmas.Option.{slice_get_within}
@@ -107,9 +107,6 @@ entries_then a (x ∷ xs) ys = ap (kept_if (x.acceptor == a) x.entry) (entries_t
 
 pub hears_nothing : (p : ProposerState) (ps : List Known) → Hears p p ps ps []
 hears_nothing p ps = record { heard = []; recorded = λ a. sym (append-nil (mine_at ps a)); leads = refl }
-
-pub misses_nothing : (p : ProposerState) (ps : List Known) → HearsMost p p ps ps
-misses_nothing p ps = ([], omega arith, hears_nothing p ps)
 
 pub hears_then : (p q r : ProposerState) (ps qs rs : List Known) (missed : List Answered) → Hears p q ps qs [] → Hears q r qs rs missed → Hears p r ps rs missed
 hears_then p q r ps qs rs missed f g = record {

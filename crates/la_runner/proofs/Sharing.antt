@@ -19,8 +19,8 @@ use Rattle.la_runner.specs.declared.jobs.Stopped.TheVariants as cause
 use Rattle.la_runner.specs.Certificates.{seen_at, HasCertificate}
 use Rattle.la_runner.specs.Entries.{set_of, next_number, IsKnownTo, Answers, StopsAt}
 use Rattle.la_runner.specs.Invariant.{IsMember}
-use Rattle.la_runner.specs.Members.{MemberState, GroupState, IsOf, GoesOn, passes_in, IsCertified, IsOwnCertified}
-use Rattle.la_runner.specs.Runs.{Place, Back, back_of, places, IsReady, IsBackOf}
+use Rattle.la_runner.specs.Members.{MemberState, GoesOn, passes_in, IsCertified, IsOwnCertified}
+use Rattle.la_runner.specs.Runs.{Place, Back, back_of, places, IsBackOf}
 use Rattle.la_runner.specs.Together.{HasSeen, SeesMore, IsSameLog, AreSeen, IsHonest, NamesSet, AllComparable}
 use Rattle.la_runner.proofs.Answering.{goes_on_self}
 use Rattle.la_runner.proofs.Certified.{certificate_stays}
@@ -30,7 +30,7 @@ use Rattle.la_runner.proofs.Passing.{prefix_trans}
 use Rattle.la_runner.proofs.Proposing.{some_same, none_some}
 use Rattle.la_runner.proofs.Standing.{certified_compare, own_are, view_is, told_or_own}
 use Rattle.la_runner.proofs.Threading.{all_rest}
-use Rattle.la_runner.proofs.UnderWay.{keeps_done, of_goes}
+use Rattle.la_runner.proofs.UnderWay.{keeps_done}
 use Rattle.la_runner.proofs.Viewing.{empty_within}
 
 -- ## One note
@@ -192,7 +192,3 @@ written_back zero (x ∷ xs) ys e f = absurd (omega (arith, e))
 written_back (suc n) [] ys e f = absurd (omega (arith, e))
 written_back (suc n) (x ∷ xs) [] e f = absurd (omega (arith, f))
 written_back (suc n) (x ∷ xs) (y ∷ ys) e f = ap (λ l. x ∷ l) (written_back n xs ys (omega (arith, e)) (omega (arith, f)))
-
--- what comes back is of the group, and a member
-pub back_of_group : (group : GroupState) (p : Place) (b : Back) → IsBackOf p b → IsReady group p.member p.shelf → IsOf group b.member × IsMember b.member
-back_of_group group p b h ready = (of_goes group p.member b.member h.goes ready.of, h.is)

@@ -15,7 +15,7 @@ use Rattle.la_runner.specs.Sound.{IsView, IsPassAt}
 use Rattle.la_runner.specs.Following.{Goes, IsLearnt}
 use Rattle.la_runner.specs.declared.instance.Learning.{Learning}
 use Rattle.la_runner.specs.declared.learned.Learned.{Learned}
-use Rattle.la_runner.specs.Rounds.{IsLarger, IsOpenAfter, IsViewOf, IsLastAfter, IsLastLearned}
+use Rattle.la_runner.specs.Rounds.{IsLarger, IsOpenAfter, IsViewOf, IsLastAfter}
 use Rattle.la_runner.proofs.Certified.{own_certificate, certificates_compare}
 use Rattle.la_runner.proofs.Going.{view_stays}
 
@@ -92,6 +92,3 @@ larger_then end l v w e h = subst (λ z. IsViewOf z v w) e h
 
 pub last_then : (end : Option Learning) (l : Learning) (old new : Option Histories) → end ≡ Some l → IsLastAfter end old new → new ≡ Some l.updates
 last_then end l old new e h = subst (λ z. IsLastAfter z old new) e h
-
-pub last_learnt_then : (end : Option Learned) (l : Learned) (old new : Option Histories) → end ≡ Some l → IsLastLearned end old new → new ≡ Some l.updates
-last_learnt_then end l old new e h = subst (λ z. IsLastLearned z old new) e h

@@ -1,6 +1,6 @@
 -- A member's votes: what it has submitted in an instance of an adopt-commit object, and learnt there.
 use Rattle.std.proofs.Common.{◌≡◌, ◌≢◌, ◌⊎◌, inl, inr, ℕ, ◌+◌, ◌≤◌, arith, Bool, true, false, true≢false, cond, List, [], ◌∷◌, ◌++◌, length, Option, Some, None, option_map, refl, ap, sym, ◌∙◌, subst, append-nil}
-use Rattle.std.specs.Prelude.{IfSome, IsSome, IsSomeAnd, option_and_then, Result, Ok, Err, IfOk, IfErr}
+use Rattle.std.specs.Prelude.{IfSome, IsSome, IsSomeAnd, option_and_then}
 use Rattle.std.specs.List.{slice_get, slice_set}
 use Rattle.std.proofs.lemmas.Bool.{cases_eq}
 use Rattle.la_set.specs.declared.update.Update.{Update}
@@ -19,10 +19,10 @@ use Rattle.la_runner.specs.declared.error.RunnerError.{RunnerError}
 use Rattle.la_runner.specs.declared.error.RunnerError.TheVariants as errors
 use Rattle.la_runner.specs.Certificates.{HasOwnCertificate}
 use Rattle.la_runner.specs.Sound.{IsSound}
-use Rattle.la_runner.specs.Instances.{InstanceState, with_update, with_vote, IsLearntSet, IsInstance, Steps, MayCast, HasCast}
+use Rattle.la_runner.specs.Instances.{InstanceState, with_update, with_vote, IsLearntSet, Steps, MayCast, HasCast}
 use Rattle.la_runner.specs.Members.{MemberState, submitted_of, learnt_of, last_learnt}
 use Rattle.la_runner.specs.Participants.{IsParticipant, HasVotedSet, MayVote}
-use Rattle.la_runner.specs.Refusals.{of_proposer, IsRoundsRefusal, IsInstanceRefusal, IsSubmissionRefusal, IsUpdateRefusal, IsVoteRefusal, IsVoteError, IsRefusedVote}
+use Rattle.la_runner.specs.Refusals.{of_proposer, IsRoundsRefusal, IsSubmissionRefusal, IsVoteRefusal, IsVoteError, IsRefusedVote}
 use Rattle.la_runner.proofs.Keeping.{with_instance, there, own_certified, refused_after, participant_stays}
 use Rattle.la_runner.proofs.Passing.{get-set_other}
 use Rattle.la_runner.proofs.Updating.{submitted_is}
@@ -62,35 +62,10 @@ none_taken p e = nothing (history p.updates p.own) p.waiting e
 pub learnt_one : (p : ProposerState) (ps : List Known) (s : Histories) (d : ObjectOp) → IsLearntSet p ps s → all_submitted p ≡ d ∷ [] → history s p.own ≡ d ∷ []
 learnt_one p ps s d l e = single (history s p.own) l.taken.0 d l.some (l.taken.1 ∙ e)
 
-pub learnt_none : (p : ProposerState) (ps : List Known) (s : Histories) → IsLearntSet p ps s → all_submitted p ≡ [] → ⊥
-learnt_none p ps s l e = nothing_after (history s p.own) l.taken.0 (l.taken.1 ∙ e) l.some
-
 -- ## A vote in an instance
-
--- where a set was learnt, the vote is cast
-pub cast_before : (k : ℕ) (v : Vote) (x : InstanceState) → IsInstance x → MayCast k v x → IsSome x.learnt → HasCast k v x
-cast_before k v x is (inl none) learnt = absurd (go x.learnt refl learnt)
-  where
-    go : (o : Option Histories) → x.learnt ≡ o → IsSome o → ⊥
-    go None e h = true≢false (sym h)
-    go (Some s) e h = learnt_none x.proposer x.passes s (subst (λ z. IfSome z (IsLearntSet x.proposer x.passes)) e is.learnt) none
-cast_before k v x is (inr one) learnt = record { submitted = one; learnt = learnt }
 
 pub some_is : {A : Type 0} (o : Option A) (a : A) → o ≡ Some a → IsSome o
 some_is o a e = subst IsSome (sym e) refl
-
--- nothing was submitted, and the update is the vote
-pub cast_now : (k : ℕ) (v : Vote) (x y : InstanceState) (d : ObjectOp) → MayCast k v x → submitted x.proposer ≡ 0 → d ≡ casts k v → all_submitted y.proposer ≡ all_submitted x.proposer ++ d ∷ [] → all_submitted y.proposer ≡ casts k v ∷ []
-cast_now k v x y d (inl none) zero_is same e = e ∙ ap (λ l. l ++ d ∷ []) none ∙ ap (λ z. z ∷ []) same
-cast_now k v x y d (inr one) zero_is same e = absurd (let long = ap length one in let is = submitted_is x.proposer in omega (arith, long, is, zero_is))
-
--- it was submitted before
-pub cast_then : (k : ℕ) (v : Vote) (x : InstanceState) → MayCast k v x → submitted x.proposer ≢ 0 → all_submitted x.proposer ≡ casts k v ∷ []
-cast_then k v x (inl none) some = absurd (some (sym (submitted_is x.proposer) ∙ ap length none))
-cast_then k v x (inr one) some = one
-
-pub asks_still : (x : InstanceState) → IsInstance x → x.learnt ≡ None → submitted x.proposer ≢ 0 → x.proposer.is_asking ≡ true
-asks_still x is none some = is.under_way none (let s = submitted_is x.proposer in omega (arith, s, some))
 
 none_submitted : (k : ℕ) (v : Vote) (x : InstanceState) → submitted x.proposer ≡ 0 → MayCast k v x → all_submitted x.proposer ≡ []
 none_submitted k v x zero_is (inl e) = e
@@ -99,24 +74,6 @@ none_submitted k v x zero_is (inr e) = absurd (let long = ap length e in let is 
 -- with the vote, whether it was submitted or is now
 vote_is : (k : ℕ) (v : Vote) (x : InstanceState) (ds : List ObjectOp) → all_submitted x.proposer ≡ ds → with_vote k v x ≡ cond (is_nothing ds) (with_update (casts k v) x) x
 vote_is k v x ds e = ap (λ l. cond (is_nothing l) (with_update (casts k v) x) x) e
-
--- how an update's refusal is a vote's
-pub vote_refused : (rounds k : ℕ) (v : Vote) (x y : InstanceState) (d : ObjectOp) (e : RunnerError) → MayCast k v x → submitted x.proposer ≡ 0 → d ≡ casts k v → IsUpdateRefusal rounds d x y e → IsVoteRefusal rounds k v x y e
-vote_refused rounds k v x y d e may zero_is same (inl h) = inl (ap (λ (z : InstanceState). all_submitted z.proposer) h.1 ∙ none_submitted k v x zero_is may, subst (λ (z : InstanceState). IsSubmissionRefusal z.proposer e) (sym h.1) h.0)
-vote_refused rounds k v x y d e may zero_is same (inr h) = inr (
-  cast_now k v x y d may zero_is same h.0,
-  subst (λ z. IsInstanceRefusal rounds z y e) (ap (λ u. with_update u x) same ∙ sym (vote_is k v x [] (none_submitted k v x zero_is may))) h.1,
-)
-
--- and the rounds' of a vote that was cast
-pub rounds_refused : (rounds k : ℕ) (v : Vote) (x y : InstanceState) (e : RunnerError) → all_submitted x.proposer ≡ casts k v ∷ [] → all_submitted y.proposer ≡ all_submitted x.proposer → IsInstanceRefusal rounds x y e → IsVoteRefusal rounds k v x y e
-rounds_refused rounds k v x y e one same h = inr (same ∙ one, subst (λ z. IsInstanceRefusal rounds z y e) (sym (vote_is k v x (casts k v ∷ []) one)) h)
-
--- whatever is answered, the vote is cast or nothing is
-pub may_still : (rounds k : ℕ) (v : Vote) (x y : InstanceState) (r : Result ℕ RunnerError) → IfOk r (λ left. HasCast k v y) → IfErr r (IsVoteRefusal rounds k v x y) → MayCast k v y
-may_still rounds k v x y (Ok left) ok err = inr ok.submitted
-may_still rounds k v x y (Err e) ok (inl h) = inl h.0
-may_still rounds k v x y (Err e) ok (inr h) = inr h.0
 
 -- which errors a vote may be refused with
 rounds_error : (rounds first last : ℕ) (e : RunnerError) → IsRoundsRefusal rounds first last e → IsVoteError e
@@ -136,14 +93,6 @@ submission_error p e proposer.BallotsSpent cap none same h = subst IsVoteError (
 submission_error p e proposer.Memory cap none same h = subst IsVoteError (sym same) tt
 submission_error p e proposer.NoSuchReplica cap none same h = absurd h
 submission_error p e (proposer.Clash id) cap none same h = absurd h
-
-pub vote_error : (rounds k : ℕ) (v : Vote) (x y : InstanceState) (e : RunnerError) → IsInstance y → IsVoteRefusal rounds k v x y e → IsVoteError e
-vote_error rounds k v x y e is (inl h) = submission_error y.proposer e h.1.0 is.cap (sym (submitted_is y.proposer) ∙ ap length h.0) h.1.1 h.1.2
-vote_error rounds k v x y e is (inr h) = rounds_error rounds (with_vote k v x).proposer.number y.proposer.number e h.1.refusal
-
-pub vote_errors : (rounds k : ℕ) (v : Vote) (x y : InstanceState) (r : Result ℕ RunnerError) → IsInstance y → IfErr r (IsVoteRefusal rounds k v x y) → IfErr r IsVoteError
-vote_errors rounds k v x y (Ok left) is h = tt
-vote_errors rounds k v x y (Err e) is h = vote_error rounds k v x y e is h
 
 -- ## A member's vote
 

@@ -1,4 +1,4 @@
-use Rattle.std.proofs.Common.{rules, ◌≡◌, ◌↔◌, map, IsTrue, List, sym, subst}
+use Rattle.std.proofs.Common.{rules, ◌↔◌, map, IsTrue, List, sym, subst}
 use Rattle.la_runner.specs.Runs.{Back, back_of}
 use Rattle.la_program.specs.declared.error.PlayFault.{PlayFault}
 use Rattle.la_program.specs.Play.{FitAnyGroup}
