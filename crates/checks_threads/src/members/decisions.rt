@@ -1,4 +1,5 @@
 // Adopt-commit among members, as tables.
+use super::firsts::{LEARNS, REFINES, RESTS, RESUMES};
 use super::steps::{Comes, Does, Has, Lets, Play, Step, plays};
 use la_commit::Outcome;
 use la_runner::RunnerError;
@@ -16,7 +17,12 @@ const COMMITTED: Has = Has([0, 0, 0], 0, [false, true, true], Some(COMMITS));
 
 const ADOPTED: Has = Has([0, 0, 0], 0, [false, true, true], Some(ADOPTS));
 
-const PLAYS: [Play; 4] = [
+// Members that have learnt sets in instance 0 too.
+const COMMITTED_ZERO: Has = Has([1, 0, 0], 1, [true, true, true], Some(COMMITS));
+
+const ADOPTED_ONE: Has = Has([1, 1, 0], 1, [true, true, true], Some(ADOPTS));
+
+const PLAYS: [Play; 5] = [
     Play {
         name: "a late dissenter adopts",
         votes: [1, 1, 1],
@@ -65,6 +71,44 @@ const PLAYS: [Play; 4] = [
             ),
         ],
     },
+    Play {
+        name: "members that have learnt updates decide",
+        votes: [1, 1, 1],
+        steps: &[
+            LEARNS,
+            REFINES,
+            RESUMES,
+            RESTS,
+            Step(
+                0,
+                Does::Decides(0, 7, 2),
+                Lets::All,
+                Comes::Decides(COMMITS),
+                COMMITTED_ZERO,
+            ),
+            Step(
+                0,
+                Does::Decides(0, 7, 2),
+                Lets::All,
+                Comes::Fails(RunnerError::AlreadyProposed),
+                COMMITTED_ZERO,
+            ),
+            Step(
+                1,
+                Does::Decides(0, 9, 4),
+                Lets::All,
+                Comes::Decides(ADOPTS),
+                ADOPTED_ONE,
+            ),
+            Step(
+                1,
+                Does::Decides(1, 9, 4),
+                Lets::All,
+                Comes::Fails(RunnerError::NoSuchCommit),
+                ADOPTED_ONE,
+            ),
+        ],
+    },
     // One value is under way: another one is refused, and the same one goes on.
     Play {
         name: "a proposal under way goes on",
@@ -73,7 +117,7 @@ const PLAYS: [Play; 4] = [
             Step(
                 0,
                 Does::Decides(0, 7, 3),
-                Lets::ToZero,
+                Lets::Only(0),
                 Comes::Fails(RunnerError::NoMajority),
                 NEW,
             ),

@@ -39,13 +39,21 @@ pub fn three(rt: &impl Abort, alloc: Global, votes: &[u16]) -> (Group, Member, M
     (group, zero, one, two)
 }
 
-/// Adds to object 1. Where memory was refused before the update was submitted it is submitted again,
+fn change(by: i32) -> Op {
+    if by < 0 {
+        Op::Dec(by.unsigned_abs())
+    } else {
+        Op::Inc(by.unsigned_abs())
+    }
+}
+
+/// Adds so much to object 1, or takes it away. Where memory was refused before the update was submitted it is submitted again,
 /// and else the call is gone on with.
 pub fn add<R: Wait, G: Gate>(
     rt: &R,
     group: &Group,
     member: &mut Member,
-    by: u32,
+    by: i32,
     rounds: u32,
     gate: &G,
 ) -> Result<Learned, RunnerError>
@@ -53,12 +61,12 @@ pub fn add<R: Wait, G: Gate>(
     ensures { IsOf group.now member.new }
 {
     let before = member.submitted();
-    match group.update(rt, member, 1, Op::Inc(by), rounds, gate) {
+    match group.update(rt, member, 1, change(by), rounds, gate) {
         Err(RunnerError::Memory) => {}
         end => return end,
     }
     if member.submitted() == before {
-        return group.update(rt, member, 1, Op::Inc(by), rounds, gate);
+        return group.update(rt, member, 1, change(by), rounds, gate);
     }
     match group.resume(rt, member, rounds, gate) {
         Ok(Some(learned)) => Ok(learned),

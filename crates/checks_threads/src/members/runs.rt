@@ -1,4 +1,5 @@
 // Updates of members, as tables.
+use super::firsts::{LEARNS, REFINES, RESTS, RESUMES};
 use super::steps::{Comes, Does, Has, Lets, Play, Step, plays};
 use la_proposer::Votes;
 use la_runner::{Group, RunnerError};
@@ -14,41 +15,10 @@ const NEW: Has = Has([0, 0, 0], 0, NONE, None);
 const WAITS: Has = Has([0, 0, 0], 1, NONE, None);
 
 const PLAYS: [Play; 8] = [
-    // The second member's first ballot is refused by all, and refined: its update is learnt in the
-    // next.
     Play {
-        name: "a refused update is learnt when it resumes",
+        name: "a refused update is learnt when it resumes, and then nothing is under way",
         votes: [1, 1, 1],
-        steps: &[
-            Step(
-                0,
-                Does::Adds(5, 1),
-                Lets::All,
-                Comes::Learns(1, [1, 0, 0]),
-                Has([1, 0, 0], 1, IN_0, None),
-            ),
-            Step(
-                1,
-                Does::Adds(2, 1),
-                Lets::All,
-                Comes::Fails(RunnerError::TryAgain),
-                WAITS,
-            ),
-            Step(
-                1,
-                Does::Resumes(1),
-                Lets::All,
-                Comes::Learns(2, [1, 1, 0]),
-                Has([1, 1, 0], 1, IN_0, None),
-            ),
-            Step(
-                1,
-                Does::Resumes(1),
-                Lets::All,
-                Comes::Nothing,
-                Has([1, 1, 0], 1, IN_0, None),
-            ),
-        ],
+        steps: &[LEARNS, REFINES, RESUMES, RESTS],
     },
     // Of the acceptors that it asks again one had answered its first ballot, and the others none.
     Play {
@@ -58,7 +28,7 @@ const PLAYS: [Play; 8] = [
             Step(
                 2,
                 Does::Adds(1, 1),
-                Lets::ToZero,
+                Lets::Only(0),
                 Comes::Fails(RunnerError::NoMajority),
                 WAITS,
             ),
@@ -94,7 +64,7 @@ const PLAYS: [Play; 8] = [
             Step(
                 1,
                 Does::Adds(2, 1),
-                Lets::ToZero,
+                Lets::Only(0),
                 Comes::Fails(RunnerError::NoMajority),
                 WAITS,
             ),
@@ -150,7 +120,7 @@ const PLAYS: [Play; 8] = [
             Step(
                 2,
                 Does::Adds(1, 5),
-                Lets::ToZero,
+                Lets::Only(0),
                 Comes::Fails(RunnerError::NoMajority),
                 WAITS,
             ),
@@ -190,7 +160,7 @@ const PLAYS: [Play; 8] = [
         steps: &[Step(
             0,
             Does::Adds(1, 1),
-            Lets::ToZero,
+            Lets::Only(0),
             Comes::Learns(1, [1, 0, 0]),
             Has([1, 0, 0], 1, IN_0, None),
         )],
@@ -201,7 +171,7 @@ const PLAYS: [Play; 8] = [
         steps: &[Step(
             0,
             Does::Adds(1, 3),
-            Lets::ToZero,
+            Lets::Only(0),
             Comes::Fails(RunnerError::NoMajority),
             WAITS,
         )],
@@ -225,11 +195,8 @@ fn is_refused(rt: &HostRuntime, replicas: u8, commits: u8, cap: u32, votes: Vote
 #[test]
 fn a_group_is_within_its_ranges(rt: HostRuntime) {
     let three = Votes::one_each(3);
-    assert!(rt;
-        is_refused(&rt, 9, 0, 1, Votes::one_each(8))
-            && is_refused(&rt, 9, 0, 1, three)
-            && is_refused(&rt, 2, 0, 1, three)
-    );
+    assert!(rt; is_refused(&rt, 9, 0, 1, Votes::one_each(8)));
+    assert!(rt; is_refused(&rt, 9, 0, 1, three) && is_refused(&rt, 2, 0, 1, three));
     assert!(rt; is_refused(&rt, 3, 17, 1, three) && is_refused(&rt, 3, 0, 0, three));
     assert!(rt;
         is_refused(&rt, 3, 0, 1_000_001, three) && !is_refused(&rt, 3, 16, 1_000_000, three)

@@ -15,7 +15,8 @@ use std::sync::Wait;
 #[derive(Clone, Copy)]
 pub enum Lets {
     All,
-    ToZero,
+    /// To this acceptor alone.
+    Only(u8),
     Nothing,
 }
 
@@ -23,7 +24,7 @@ impl Gate for Lets {
     fn lets(&self, _from: u8, to: u8, _instance: u8, _ballot: u32) -> bool {
         match self {
             Lets::All => true,
-            Lets::ToZero => to == 0,
+            Lets::Only(one) => to == *one,
             Lets::Nothing => false,
         }
     }
@@ -34,8 +35,8 @@ impl Gate for Lets {
 /// What a member does, with at most so many rounds as the last number says.
 #[derive(Clone, Copy)]
 pub enum Does {
-    /// Adds so much to object 1.
-    Adds(u32, u32),
+    /// Adds so much to object 1, or takes it away.
+    Adds(i32, u32),
     /// Goes on in instance 0.
     Resumes(u32),
     /// Proposes a value at an adopt-commit object.

@@ -54,7 +54,7 @@ fn are_stopped(logs: &Logs<Counter>) -> bool {
 
 #[test]
 fn one_acceptor_of_three_stops_all(rt: HostRuntime) {
-    let end = run_increments(&rt, rt.alloc(), &[1, 1, 1], 1, 5, &Lets::ToZero);
+    let end = run_increments(&rt, rt.alloc(), &[1, 1, 1], 1, 5, &Lets::Only(0));
     assert!(rt; are_stopped(&end.expect(&rt, "it runs")));
 }
 
@@ -72,7 +72,7 @@ impl Gate for AllButZero {
 // Five votes of seven are a majority alone, and two are none.
 #[test]
 fn a_heavy_acceptor_is_all_that_a_run_needs(rt: HostRuntime) {
-    let alone = run_increments(&rt, rt.alloc(), &[5, 1, 1], 7, 1_000_000, &Lets::ToZero);
+    let alone = run_increments(&rt, rt.alloc(), &[5, 1, 1], 7, 1_000_000, &Lets::Only(0));
     assert!(rt; are_whole(&alone.expect(&rt, "it runs"), 3, 7));
     let without = run_increments(&rt, rt.alloc(), &[5, 1, 1], 7, 5, &AllButZero);
     assert!(rt; are_stopped(&without.expect(&rt, "it runs")));
