@@ -1,10 +1,10 @@
-use Rattle.std.proofs.Common.{◌<◌, ◌+◌, map, length, sym, subst, arith, refl, ◌∙◌}
+use Rattle.std.proofs.Common.{◌<◌, ◌+◌, map, length, sym, subst, arith, ◌∙◌}
 use Rattle.la_set.specs.Histories.{empty}
 use Rattle.la_runner.specs.Counted.{taker}
 use Rattle.la_runner.specs.Members.{view}
 use Rattle.la_runner.proofs.Keeping.{long_map}
 use Rattle.std.specs.List.{slice_index_or}
-use Rattle.la_runner.proofs.Counting.{Counting, Exactly, own_passed, one_counted, one_missing, any_default, met_at, one_exactly, none_exactly, own_not, other_met}
+use Rattle.la_runner.proofs.Counting.{Counting, own_passed, one_counted, one_missing, any_default, met_at, one_exactly, none_exactly, own_not, other_met}
 use Rattle.la_runner.proofs.runs.count_notes.Goals as goal
 use Rattle.la_runner.proofs.runs.count_notes.Goals.{then-other-at+then-has_met, else-other-at, else-other-at-via-then-other-at+else-has_met, else-other-at-via-else-other-at}
 
