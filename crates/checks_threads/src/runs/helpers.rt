@@ -143,13 +143,14 @@ pub fn is_whole<B: Replicated>(log: &Log<B>, members: u8, each: u32) -> bool {
 
 /// The same of each log, and whether all views are equal.
 pub fn are_whole<B: Replicated>(logs: &Logs<B>, members: u8, each: u32) -> bool {
-    for log in logs.all() {
+    let all = logs.all();
+    for log in all {
         if !is_whole(log, members, each) || log.entries.len() != each as usize {
             return false;
         }
-        if !log.member.view().same(logs.all()[0].member.view()) {
+        if !log.member.view().same(all[0].member.view()) {
             return false;
         }
     }
-    logs.len() == members as usize
+    all.len() == members as usize
 }
