@@ -1,10 +1,9 @@
 -- A whole message is carried by one message alone, where it is told over what the same replica knows.
-use Rattle.std.proofs.Common.{◌≡◌, ℕ, List, [], ◌∷◌, All, slice_get, Option, Some, None, IsSomeAnd, refl, sym, ap, ap₂, subst, subst₂, ◌∙◌}
+use Rattle.std.proofs.Common.{◌≡◌, ℕ, List, [], ◌∷◌, slice_get, Option, Some, None, IsSomeAnd, refl, sym, ap, ap₂, subst, subst₂, ◌∙◌}
 use Rattle.std.proofs.lemmas.List.Elements.{All-weaker, All-head, All-tail}
 use Rattle.std.proofs.lemmas.Option.{same_Some}
 use Rattle.std.specs.Prelude.{Result, Ok, Err, IfOk, OnOk}
 use Rattle.la_set.specs.declared.counts.Counts.{Counts}
-use Rattle.la_set.specs.Histories.{Histories}
 use Rattle.la_set.specs.Counts.{counts_of}
 use Rattle.la_set.specs.Deltas.{delta_over}
 use Rattle.la_proposer.specs.ProposerState.{reported}

@@ -8,7 +8,7 @@ use Rattle.la_set.specs.Histories.{Histories}
 use Rattle.la_set.specs.Inclusion.{IsSubset, IsOrderOf}
 use Rattle.la_set.specs.Join.{IsCompatible, IsLeastClash}
 use Rattle.la_set.specs.Refusals.{IsUnionRefusal}
-use Rattle.la_set.specs.Deltas.{DeltaState, IsOver, IsRebuildRefusal}
+use Rattle.la_set.specs.Deltas.{DeltaState, IsRebuildRefusal}
 use Rattle.la_set.proofs.lemmas.IdOrder.{id_cases}
 use Rattle.la_set.proofs.lemmas.Agreements.{clash_compatible}
 
@@ -81,10 +81,3 @@ one_rebuild_refusal s d Gap TooManyTags p q = absurd q
 one_rebuild_refusal s d Gap (Clash x) p q = absurd q
 one_rebuild_refusal s d Memory TooManyTags p q = absurd q
 one_rebuild_refusal s d Memory (Clash x) p q = absurd q
-
-pub rebuilt_but_for_memory : (s : Histories) (d : DeltaState) (e : SetError) → IsOver s d → IsRebuildRefusal s d e → e ≡ Memory
-rebuilt_but_for_memory s d NoBase over p = absurd (p over.base)
-rebuilt_but_for_memory s d Gap over p = absurd (p.1 over.next)
-rebuilt_but_for_memory s d Memory over p = refl
-rebuilt_but_for_memory s d TooManyTags over p = absurd p
-rebuilt_but_for_memory s d (Clash x) over p = absurd p

@@ -13,7 +13,3 @@ module _ {T E : Type 0} (never : E) (V : T → Type 0) (G : Type 0) (P : E → T
   one_answer (Ok x) (Err f) v g p m w h q n = absurd (n (ap Err (alone f g q)))
   one_answer (Err e) (Ok y) v g p m w h q n = absurd (m (ap Err (alone e h p)))
   one_answer (Err e) (Err f) v g p m w h q n = ap Err (alike e f p q)
-
-pub on_both : {T E : Type 0} (A B : Type 0) (r : Result T E) → OnOk r A → OnOk r B → OnOk r (A × B)
-on_both A B (Ok x) a b = (a, b)
-on_both A B (Err e) a b = tt

@@ -1,4 +1,4 @@
-use Rattle.std.proofs.Common.{◌≡◌, cond, [], ◌∷◌, Result, Ok, Err, OnOk, OnErr, sym, ap, ◌∙◌}
+use Rattle.std.proofs.Common.{cond, [], ◌∷◌, Result, Ok, Err, OnOk, OnErr, sym, ap, ◌∙◌}
 use Rattle.la_object.specs.declared.state.State.TheVariants.{Set}
 use Rattle.la_object.specs.Objects.{steps}
 use Rattle.la_orset.specs.Puts.{adds_of, gone_of}

@@ -1,5 +1,4 @@
 use Rattle.std.proofs.Common.{◌≡◌, inl, inr}
-use Rattle.la_replica.specs.declared.error.ReplicaError.{ReplicaError}
 use Rattle.la_replica.specs.declared.error.ReplicaError.TheVariants.{Full, Memory, BallotsSpent, Clash}
 use Rattle.checks_contracts.proofs.world.following.ballots_suffice_and_nothing_clashes.Goals as goal
 
