@@ -1,9 +1,9 @@
-"""What the program must answer to a script, by the rules of docs/SCRIPT.md and by those that tools/diagram knows."""
+"""What the program must answer to a script, by the rules of docs/SCRIPT.md and those of tools/oracle."""
 from __future__ import annotations
 
-from run_diagram.lines import Fault, Lines
-from run_diagram.run import follow_run
-from run_diagram.script import (
+from oracle.lines import Fault, Lines
+from oracle.run import follow_run
+from oracle.script import (
     MAX_AMOUNT, MAX_BYTE, MAX_CAP, MAX_COMMITS, MAX_OBJECT, MAX_REPLICAS, MAX_TAGS, MAX_VALUE, MAX_VOTES,
     VERSIONS, is_number, is_tag, read_script,
 )

@@ -1,11 +1,11 @@
 """What is written beside an event: a few short lines of text, each in a class of the style."""
 from __future__ import annotations
 
-from .report import (
+from oracle.report import (
     Ballot, Held, Learnt, No, Opened, Outcome, Refined, Refused, Replied, Took, Yes, set_text,
 )
-from .run import Moment
-from .script import Ask, Decide, Submit
+from oracle.run import Moment
+from oracle.script import Ask, Decide, Submit
 
 # The width of a character of the picture's font, with a little to spare, and the height of a line.
 CHARACTER = 6.7

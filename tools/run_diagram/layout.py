@@ -7,10 +7,11 @@ from __future__ import annotations
 
 from dataclasses import dataclass
 
+from oracle.report import set_text
+from oracle.run import Message, Moment, Run
+from oracle.script import Group
+
 from .captions import LEADING, Caption, caption_of, width_of, width_of_caption, wrap
-from .report import set_text
-from .run import Message, Moment, Run
-from .script import Group
 
 # The sides of a line, by which way heights go there.
 UP, DOWN = -1, 1

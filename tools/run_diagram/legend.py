@@ -4,9 +4,10 @@ from __future__ import annotations
 from collections.abc import Callable
 from dataclasses import dataclass
 
+from oracle.run import Kind
+
 from . import svg
 from .captions import width_of
-from .run import Kind
 from .shapes import STAR, arrow, cross, diamond, disc, lost_line, square, star
 
 LEFT = 12.0

@@ -1,13 +1,14 @@
 """The picture of a run, as SVG."""
 from __future__ import annotations
 
+from oracle.report import Learnt, set_text
+from oracle.run import Message, Run
+from oracle.script import Ask
+
 from . import svg
 from .captions import LEADING
 from .layout import DOWN, LOOP_LABEL, NEAR, STUB, UP, Column, lay_out
 from .legend import draw_legend
-from .report import Learnt, set_text
-from .run import Message, Run
-from .script import Ask
 from .shapes import (
     Point, arrow, arrow_heads, cross, loop, lost_line, mark, radius, style_sheet, towards,
 )

@@ -3,10 +3,11 @@ from __future__ import annotations
 
 from math import cos, hypot, pi, sin
 
+from oracle.report import Learnt, Refused
+from oracle.run import Kind, Moment
+from oracle.script import Ask, Decide, Submit
+
 from . import svg
-from .report import Learnt, Refused
-from .run import Kind, Moment
-from .script import Ask, Decide, Submit
 
 COLOURS = {
     Kind.OFFER: "#1f5fa8",
