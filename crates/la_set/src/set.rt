@@ -128,8 +128,8 @@ impl UpdateSet {
     /// A copy, which shares all updates, at constant cost. It takes no memory.
     ///
     /// The refusal is that of a full count of owners, at 2^63: no memory holds so many copies, but
-    /// no contract can say so. Wherever a call is said to share, or to take no memory, and yet
-    /// answers a result, it is for this count alone.
+    /// no contract can say so. A call that is said to take no memory, and may yet be refused for
+    /// want of it, is refused for this count alone.
     #[inline(always)]
     pub fn copy(&self) -> Result<UpdateSet, AllocError>
         ensures { IfOk result (λ copy. copy ≡ self.now) }
@@ -184,9 +184,10 @@ impl UpdateSet {
     /// Keeps a replica's first so many updates; all of them, where there are no more. A replica of 8
     /// or more has none. After a refusal the set is unchanged.
     ///
-    /// Where there are more, what is cut off stays in memory as long as the set and its copies, and
-    /// no memory is taken, at constant cost, unless another replica's updates have been cut off and
-    /// none was added since: a set notes one such place. Then it takes a block, at logarithmic cost.
+    /// Where there are more, the set notes the cut: it takes no memory, at constant cost, and what is
+    /// cut off stays in memory as long as the set and its copies. A set notes one cut, also of
+    /// [`Ready::first`](crate::Ready::first), until updates are added: where that is another
+    /// replica's, it takes a block, at logarithmic cost.
     pub fn truncate(&mut self, replica: u8, len: u32) -> Result<(), AllocError>
         ensures ok { OnOk result (self.new ≡ truncate self.old replica len) }
         ensures room { count self.old replica ≤ len → IsOk result }
