@@ -21,7 +21,8 @@ use Rattle.la_world.specs.declared.done.Done.{Done}
 use Rattle.la_world.specs.declared.node.Received.{Received}
 use Rattle.la_world.specs.Following.{Taken, whole_done}
 
-body_once : (reported offered : Counts) (b c : code_body.Body) → IsToldBody reported offered b → IsToldBody reported offered c → whole_body b ≡ whole_body c → b ≡ c
+body_once : (reported offered : Counts) (b c : code_body.Body) → IsToldBody reported offered b
+    → IsToldBody reported offered c → whole_body b ≡ whole_body c → b ≡ c
 body_once reported offered (body.Offer d) (body.Offer e) p q same =
     let sets : set_of d ≡ set_of e = cc in
     ap body.Offer (p ∙ ap (λ s. delta_over s (smaller reported (counts_of s))) sets ∙ sym q)
@@ -46,74 +47,101 @@ body_once reported offered (body.Tell s) (body.Tell u) p q same = cc
 module _ (r : ReplicaState) (offered : Counts) where
   message_once : (m n : code.Message) → IsToldIn r offered m → IsToldIn r offered n → whole_of m ≡ whole_of n → m ≡ n
   message_once m n p q e =
-      let same = bodies (slice_get r.instances m.instance) p (subst₂ (λ i to. IsSomeAnd (slice_get r.instances i) (λ x. IsToldBody (reported x.proposer to) offered n.body)) (sym (ap (λ (w : Message). w.instance) e)) (sym (ap (λ (w : Message). w.to) e)) q) in
+      let same =
+      bodies (slice_get r.instances m.instance) p
+      (subst₂
+      (λ i to. IsSomeAnd (slice_get r.instances i) (λ x. IsToldBody (reported x.proposer to) offered n.body))
+      (sym (ap (λ (w : Message). w.instance) e)) (sym (ap (λ (w : Message). w.to) e)) q) in
       λ j. record { instance = (e j).instance; from = (e j).from; to = (e j).to; ballot = (e j).ballot; body = same j }
     where
-      bodies : (o : Option Instance) → IsSomeAnd o (λ x. IsToldBody (reported x.proposer m.to) offered m.body) → IsSomeAnd o (λ x. IsToldBody (reported x.proposer m.to) offered n.body) → m.body ≡ n.body
+      bodies : (o : Option Instance) → IsSomeAnd o (λ x. IsToldBody (reported x.proposer m.to) offered m.body)
+          → IsSomeAnd o (λ x. IsToldBody (reported x.proposer m.to) offered n.body) → m.body ≡ n.body
       bodies None h k = absurd h
-      bodies (Some x) h k = body_once (reported x.proposer m.to) offered m.body n.body h k (ap (λ (w : Message). w.body) e)
+      bodies (Some x) h k =
+          body_once (reported x.proposer m.to) offered m.body n.body h k (ap (λ (w : Message). w.body) e)
 
-  pub mail_once : (ms ns : List code.Message) → AreToldIn r offered ms → AreToldIn r offered ns → whole_mail ms ≡ whole_mail ns → ms ≡ ns
+  pub mail_once : (ms ns : List code.Message) → AreToldIn r offered ms → AreToldIn r offered ns
+      → whole_mail ms ≡ whole_mail ns → ms ≡ ns
   mail_once [] [] p q e = refl
   mail_once [] (n ∷ ns) p q e = cc
   mail_once (m ∷ ms) [] p q e = cc
   mail_once (m ∷ ms) (n ∷ ns) p q e =
       let first : whole_of m ≡ whole_of n = cc in let rest : whole_mail ms ≡ whole_mail ns = cc in
-      ap₂ (λ x xs. x ∷ xs) (message_once m n (All-head (IsToldIn r offered) m ms p) (All-head (IsToldIn r offered) n ns q) first)
+      ap₂ (λ x xs. x ∷ xs)
+      (message_once m n (All-head (IsToldIn r offered) m ms p) (All-head (IsToldIn r offered) n ns q) first)
       (mail_once ms ns (All-tail (IsToldIn r offered) m ms p) (All-tail (IsToldIn r offered) n ns q) rest)
 
-  out_once : (a b : code_out.Out) → AreToldIn r offered a.mail → AreToldIn r offered b.mail → whole_out a ≡ whole_out b → a ≡ b
+  out_once : (a b : code_out.Out) → AreToldIn r offered a.mail → AreToldIn r offered b.mail → whole_out a ≡ whole_out b
+      → a ≡ b
   out_once a b p q e =
       let same : a.mail ≡ b.mail = mail_once a.mail b.mail p q (ap (λ (o : Out). o.mail) e) in
       λ j. record { said = (e j).said; mail = same j }
 
-  done_once : (a b : Done) → AreToldIn r offered a.mail → AreToldIn r offered b.mail → whole_done a ≡ whole_done b → a ≡ b
+  done_once : (a b : Done) → AreToldIn r offered a.mail → AreToldIn r offered b.mail → whole_done a ≡ whole_done b
+      → a ≡ b
   done_once a b p q e =
       let same : a.mail ≡ b.mail = mail_once a.mail b.mail p q (ap (λ (o : Taken). o.mail) e) in
       λ j. record { said = (e j).said; mail = same j; voted = (e j).voted }
 
 -- what is told in one instance is told
-pub told_in : {E : Type 0} (r : ReplicaState) (i : ℕ) (offered : Counts) (a : Result code_out.Out E) → IfOk a (λ o. AreToldFrom r i offered o.mail) → IfOk a (λ o. AreToldIn r offered o.mail)
-told_in r i offered (Ok o) told = All-weaker (λ (m : code.Message). (m.instance ≡ i) × IsToldIn r offered m) (IsToldIn r offered) (λ m h. h.1) o.mail told
+pub told_in : {E : Type 0} (r : ReplicaState) (i : ℕ) (offered : Counts) (a : Result code_out.Out E)
+    → IfOk a (λ o. AreToldFrom r i offered o.mail) → IfOk a (λ o. AreToldIn r offered o.mail)
+told_in r i offered (Ok o) told =
+    All-weaker (λ (m : code.Message). (m.instance ≡ i) × IsToldIn r offered m) (IsToldIn r offered) (λ m h. h.1) o.mail
+    told
 told_in r i offered (Err e) told = tt
 
 -- two calls that come to one step say and send the same
-pub outs_agree : {D E : Type 0} (offered : Counts) (x y : Option (Out × ReplicaState)) (a : Result code_out.Out D) (b : Result code_out.Out E) (m n : ReplicaState) → x ≡ y
-    → IfOk a (λ o. x ≡ Some (whole_out o, m)) → IfOk b (λ o. y ≡ Some (whole_out o, n)) → IfOk a (λ o. AreToldIn m offered o.mail) → IfOk b (λ o. AreToldIn n offered o.mail) → IfOk a (λ o. IfOk b (λ p. o ≡ p))
+pub outs_agree : {D E : Type 0} (offered : Counts) (x y : Option (Out × ReplicaState)) (a : Result code_out.Out D)
+    (b : Result code_out.Out E) (m n : ReplicaState) → x ≡ y → IfOk a (λ o. x ≡ Some (whole_out o, m))
+    → IfOk b (λ o. y ≡ Some (whole_out o, n)) → IfOk a (λ o. AreToldIn m offered o.mail)
+    → IfOk b (λ o. AreToldIn n offered o.mail) → IfOk a (λ o. IfOk b (λ p. o ≡ p))
 outs_agree offered x y (Ok o) (Ok p) m n same h k told also =
     let one = same_Some (whole_out o, m) (whole_out p, n) (sym h ∙ same ∙ k) in
-    out_once m offered o p told (subst (λ s. AreToldIn s offered p.mail) (sym (ap (λ (t : Out × ReplicaState). t.1) one)) also) (ap (λ (t : Out × ReplicaState). t.0) one)
+    out_once m offered o p told
+    (subst (λ s. AreToldIn s offered p.mail) (sym (ap (λ (t : Out × ReplicaState). t.1) one)) also)
+    (ap (λ (t : Out × ReplicaState). t.0) one)
 outs_agree offered x y (Ok o) (Err e) m n same h k told also = tt
 outs_agree offered x y (Err d) b m n same h k told also = tt
 
 -- and leave one state
-pub states_agree : {A B D E W S : Type 0} (f : A → W) (g : B → W) (x y : Option (W × S)) (a : Result A D) (b : Result B E) (m n : S) → x ≡ y
-    → IfOk a (λ o. x ≡ Some (f o, m)) → IfOk b (λ p. y ≡ Some (g p, n)) → OnOk a (OnOk b (m ≡ n))
-states_agree {W = W} {S = S} f g x y (Ok o) (Ok p) m n same h k = ap (λ (t : W × S). t.1) (same_Some (f o, m) (g p, n) (sym h ∙ same ∙ k))
+pub states_agree : {A B D E W S : Type 0} (f : A → W) (g : B → W) (x y : Option (W × S)) (a : Result A D)
+    (b : Result B E) (m n : S) → x ≡ y → IfOk a (λ o. x ≡ Some (f o, m)) → IfOk b (λ p. y ≡ Some (g p, n))
+    → OnOk a (OnOk b (m ≡ n))
+states_agree {W = W} {S = S} f g x y (Ok o) (Ok p) m n same h k =
+    ap (λ (t : W × S). t.1) (same_Some (f o, m) (g p, n) (sym h ∙ same ∙ k))
 states_agree f g x y (Ok o) (Err e) m n same h k = tt
 states_agree f g x y (Err d) b m n same h k = tt
 
 dones_agree : (offered : Counts) (x y : Option (Taken × ReplicaState)) (a b : Done) (m n : ReplicaState) → x ≡ y
-    → x ≡ Some (whole_done a, m) → y ≡ Some (whole_done b, n) → AreToldIn m offered a.mail → AreToldIn n offered b.mail → a ≡ b
+    → x ≡ Some (whole_done a, m) → y ≡ Some (whole_done b, n) → AreToldIn m offered a.mail → AreToldIn n offered b.mail
+    → a ≡ b
 dones_agree offered x y a b m n same h k told also =
     let one = same_Some (whole_done a, m) (whole_done b, n) (sym h ∙ same ∙ k) in
-    done_once m offered a b told (subst (λ s. AreToldIn s offered b.mail) (sym (ap (λ (t : Taken × ReplicaState). t.1) one)) also) (ap (λ (t : Taken × ReplicaState). t.0) one)
+    done_once m offered a b told
+    (subst (λ s. AreToldIn s offered b.mail) (sym (ap (λ (t : Taken × ReplicaState). t.1) one)) also)
+    (ap (λ (t : Taken × ReplicaState). t.0) one)
 
-pub receipts_agree : {D E : Type 0} (offered : Counts) (x y : Option (Taken × ReplicaState)) (a : Result Received D) (b : Result Received E) (m n : ReplicaState) → x ≡ y
-    → IfOk a (λ r. x ≡ Some (whole_done r.done, m)) → IfOk b (λ r. y ≡ Some (whole_done r.done, n)) → IfOk a (λ r. AreToldIn m offered r.done.mail) → IfOk b (λ r. AreToldIn n offered r.done.mail) → IfOk a (λ r. IfOk b (λ s. r.done ≡ s.done))
-receipts_agree offered x y (Ok r) (Ok s) m n same h k told also = dones_agree offered x y r.done s.done m n same h k told also
+pub receipts_agree : {D E : Type 0} (offered : Counts) (x y : Option (Taken × ReplicaState)) (a : Result Received D)
+    (b : Result Received E) (m n : ReplicaState) → x ≡ y → IfOk a (λ r. x ≡ Some (whole_done r.done, m))
+    → IfOk b (λ r. y ≡ Some (whole_done r.done, n)) → IfOk a (λ r. AreToldIn m offered r.done.mail)
+    → IfOk b (λ r. AreToldIn n offered r.done.mail) → IfOk a (λ r. IfOk b (λ s. r.done ≡ s.done))
+receipts_agree offered x y (Ok r) (Ok s) m n same h k told also =
+    dones_agree offered x y r.done s.done m n same h k told also
 receipts_agree offered x y (Ok r) (Err e) m n same h k told also = tt
 receipts_agree offered x y (Err d) b m n same h k told also = tt
 
 -- and show one outcome, where that is told by what they say
-pub outcomes_agree : {D E : Type 0} (f g : Said → Option Outcome) (a : Result Received D) (b : Result Received E) → f ≡ g → IfOk a (λ r. r.outcome ≡ f r.done.said) → IfOk b (λ r. r.outcome ≡ g r.done.said)
+pub outcomes_agree : {D E : Type 0} (f g : Said → Option Outcome) (a : Result Received D) (b : Result Received E)
+    → f ≡ g → IfOk a (λ r. r.outcome ≡ f r.done.said) → IfOk b (λ r. r.outcome ≡ g r.done.said)
     → IfOk a (λ r. IfOk b (λ s. r.done ≡ s.done)) → IfOk a (λ r. IfOk b (λ s. r.outcome ≡ s.outcome))
 outcomes_agree f g (Ok r) (Ok s) one h k same = h ∙ ap (λ (d : Done). f d.said) same ∙ (λ j. one j s.done.said) ∙ sym k
 outcomes_agree f g (Ok r) (Err e) one h k same = tt
 outcomes_agree f g (Err d) b one h k same = tt
 
 -- what is sent once more is one
-pub mails_agree : {E : Type 0} (r : ReplicaState) (offered : Counts) (ms : List Message) (a b : Result (List code.Message) E) → IfOk a (λ m. whole_mail m ≡ ms) → IfOk b (λ m. whole_mail m ≡ ms)
+pub mails_agree : {E : Type 0} (r : ReplicaState) (offered : Counts) (ms : List Message)
+    (a b : Result (List code.Message) E) → IfOk a (λ m. whole_mail m ≡ ms) → IfOk b (λ m. whole_mail m ≡ ms)
     → IfOk a (AreToldIn r offered) → IfOk b (AreToldIn r offered) → IfOk a (λ m. IfOk b (λ n. m ≡ n))
 mails_agree r offered ms (Ok m) (Ok n) h k told also = mail_once r offered m n told also (h ∙ sym k)
 mails_agree r offered ms (Ok m) (Err e) h k told also = tt

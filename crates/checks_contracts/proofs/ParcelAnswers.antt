@@ -22,7 +22,8 @@ use Rattle.checks_contracts.proofs.ReplicaAnswers.{one_receipt_refusal, refused_
 
 -- two refusals of a told set are one, but for want of memory; and what stands is refused for that alone
 module _ (over : Histories) where
-  pub one_shut : (c : Content) (d e : SetError) → IsShut over c d → IsShut over c e → d ≢ set_error.Memory → e ≢ set_error.Memory → d ≡ e
+  pub one_shut : (c : Content) (d e : SetError) → IsShut over c d → IsShut over c e → d ≢ set_error.Memory
+      → e ≢ set_error.Memory → d ≡ e
   one_shut (content.Offer x) d e h k not also = absurd h
   one_shut content.Yes d e h k not also = absurd h
   one_shut (content.No x) d e h k not also = absurd h
@@ -50,12 +51,15 @@ module _ (over : Histories) where
   open_shut (content.Tell x) set_error.TooManyTags stands h = absurd h
   open_shut (content.Tell x) (set_error.Clash id) stands h = absurd h
 
-pub shut_agree : {A B : Type 0} (over : Histories) (c : Content) (a : Result A SetError) (b : Result B SetError) → IfErr a (IsShut over c) → IfErr b (IsShut over c) → IfErr a (λ d. IfErr b (λ e. d ≢ set_error.Memory → e ≢ set_error.Memory → d ≡ e))
+pub shut_agree : {A B : Type 0} (over : Histories) (c : Content) (a : Result A SetError) (b : Result B SetError)
+    → IfErr a (IsShut over c) → IfErr b (IsShut over c)
+    → IfErr a (λ d. IfErr b (λ e. d ≢ set_error.Memory → e ≢ set_error.Memory → d ≡ e))
 shut_agree over c (Ok x) b h k = tt
 shut_agree over c (Err d) (Ok y) h k = tt
 shut_agree over c (Err d) (Err e) h k = one_shut over c d e h k
 
-pub shut_alike : {A B : Type 0} (over : Histories) (c : Content) (a : Result A SetError) (b : Result B SetError) → IfErr a (IsShut over c) → IfOk b (λ y. Unwraps over c) → IfErr a (λ d. IfOk b (λ y. d ≡ set_error.Memory))
+pub shut_alike : {A B : Type 0} (over : Histories) (c : Content) (a : Result A SetError) (b : Result B SetError)
+    → IfErr a (IsShut over c) → IfOk b (λ y. Unwraps over c) → IfErr a (λ d. IfOk b (λ y. d ≡ set_error.Memory))
 shut_alike over c (Ok x) b h k = tt
 shut_alike over c (Err d) (Ok y) h k = open_shut over c d k h
 shut_alike over c (Err d) (Err e) h k = tt
@@ -134,16 +138,20 @@ module _ (r : ReplicaState) (p : Parcel) where
   one_cause e f not also (inl h) (inr (inl s)) = absurd (astray_or_shut h s)
   one_cause e f not also (inl h) (inr (inr k)) = one_receipt_refusal r m e f h.0 k.1 not also
   one_cause e f not also (inr (inl s)) (inl k) = absurd (astray_or_shut k s)
-  one_cause e f not also (inr (inl s)) (inr (inl t)) = s.is ∙ ap of_set (one_shut over p.content s.reason t.reason s.shut t.shut s.not_memory t.not_memory) ∙ sym t.is
+  one_cause e f not also (inr (inl s)) (inr (inl t)) =
+      s.is ∙ ap of_set (one_shut over p.content s.reason t.reason s.shut t.shut s.not_memory t.not_memory) ∙ sym t.is
   one_cause e f not also (inr (inl s)) (inr (inr k)) = absurd (shut_or_stands s k.0)
   one_cause e f not also (inr (inr h)) (inl k) = one_receipt_refusal r m e f h.1 k.0 not also
   one_cause e f not also (inr (inr h)) (inr (inl t)) = absurd (shut_or_stands t h.0)
   one_cause e f not also (inr (inr h)) (inr (inr k)) = one_receipt_refusal r m e f h.1 k.1 not also
 
-  one_parcel_refusal : (e f : ReplicaError) → IsParcelRefusal r p e → IsParcelRefusal r p f → e ≢ Memory → f ≢ Memory → e ≡ f
+  one_parcel_refusal : (e f : ReplicaError) → IsParcelRefusal r p e → IsParcelRefusal r p f → e ≢ Memory → f ≢ Memory
+      → e ≡ f
   one_parcel_refusal e f h k not also = one_cause e f not also (cause e not h) (cause f also k)
 
-  pub refusals_agree : {A B : Type 0} (a : Result A ReplicaError) (b : Result B ReplicaError) → IfErr a (IsParcelRefusal r p) → IfErr b (IsParcelRefusal r p) → IfErr a (λ d. IfErr b (λ e. d ≢ Memory → e ≢ Memory → d ≡ e))
+  pub refusals_agree : {A B : Type 0} (a : Result A ReplicaError) (b : Result B ReplicaError)
+      → IfErr a (IsParcelRefusal r p) → IfErr b (IsParcelRefusal r p)
+      → IfErr a (λ d. IfErr b (λ e. d ≢ Memory → e ≢ Memory → d ≡ e))
   refusals_agree (Ok x) b h k = tt
   refusals_agree (Err d) (Ok y) h k = tt
   refusals_agree (Err d) (Err e) h k = one_parcel_refusal d e h k
@@ -169,11 +177,14 @@ module _ (r : ReplicaState) (p : Parcel) where
   parcel_once is e (inl h) = unwrapped_once is e h
   parcel_once is e (inr h) = refused_once r m is.stands (is.fits, is.spares) e h.1
 
-  pub refused_alike : {A B : Type 0} (a : Result A ReplicaError) (b : Result B ReplicaError) → IfErr a (IsParcelRefusal r p) → IfOk b (λ y. IsReceived) → IfErr a (λ d. IfOk b (λ y. d ≡ Memory))
+  pub refused_alike : {A B : Type 0} (a : Result A ReplicaError) (b : Result B ReplicaError)
+      → IfErr a (IsParcelRefusal r p) → IfOk b (λ y. IsReceived) → IfErr a (λ d. IfOk b (λ y. d ≡ Memory))
   refused_alike (Ok x) b h k = tt
   refused_alike (Err d) (Ok y) h k = parcel_once k d h
   refused_alike (Err d) (Err e) h k = tt
 
-  pub all_of : {B : Type 0} (b : Result B ReplicaError) → IfOk b (λ y. UnwrapsIn r p) → IfOk b (λ y. StandsIn r m) → IfOk b (λ y. IsReceivable r (received_in r m)) → IfOk b (λ y. ReceivingSpares r (received_in r m)) → IfOk b (λ y. IsReceived)
+  pub all_of : {B : Type 0} (b : Result B ReplicaError) → IfOk b (λ y. UnwrapsIn r p) → IfOk b (λ y. StandsIn r m)
+      → IfOk b (λ y. IsReceivable r (received_in r m)) → IfOk b (λ y. ReceivingSpares r (received_in r m))
+      → IfOk b (λ y. IsReceived)
   all_of (Ok y) unwraps stands fits spares = record { unwraps = unwraps; stands = stands; fits = fits; spares = spares }
   all_of (Err e) unwraps stands fits spares = tt

@@ -23,7 +23,8 @@ IsCountingRefusal p from reply Memory = Fits p reply × ¬ ReplySpends (with_rep
 IsCountingRefusal p from reply NoSuchReplica = ⊥
 IsCountingRefusal p from reply Full = ⊥
 
-pub one_counting_refusal : (p : ProposerState) (from : ℕ) (reply : Reply) (e f : ProposerError) → IsCountingRefusal p from reply e → IsCountingRefusal p from reply f → e ≡ f
+pub one_counting_refusal : (p : ProposerState) (from : ℕ) (reply : Reply) (e f : ProposerError)
+    → IsCountingRefusal p from reply e → IsCountingRefusal p from reply f → e ≡ f
 one_counting_refusal p from reply (Clash x) (Clash y) h k = ap Clash (one_least_of (ReplyClashesAt p reply) x y h k)
 one_counting_refusal p from reply (Clash x) BallotsSpent h k = absurd (k.0 x h.0)
 one_counting_refusal p from reply (Clash x) Memory h k = absurd (k.0 x h.0)
@@ -42,7 +43,8 @@ one_counting_refusal p from reply BallotsSpent Full h k = absurd k
 one_counting_refusal p from reply Memory NoSuchReplica h k = absurd k
 one_counting_refusal p from reply Memory Full h k = absurd k
 
-pub fitting_counting : (p : ProposerState) (from : ℕ) (reply : Reply) (e : ProposerError) → Fits p reply → ¬ ReplySpends (with_reply p from reply) → IsCountingRefusal p from reply e → e ≡ Memory
+pub fitting_counting : (p : ProposerState) (from : ℕ) (reply : Reply) (e : ProposerError) → Fits p reply
+    → ¬ ReplySpends (with_reply p from reply) → IsCountingRefusal p from reply e → e ≡ Memory
 fitting_counting p from reply (Clash x) fits spares h = absurd (fits x h.0)
 fitting_counting p from reply BallotsSpent fits spares h = absurd (spares h.1)
 fitting_counting p from reply Memory fits spares h = refl

@@ -42,7 +42,8 @@ one_least a b x y p q = elim (id_cases x y) [
   | inr more ↦ elim more [ inl same ↦ same.0 | inr above ↦ absurd (p.none_below y above.0 q.clashes) ]
 ]
 
-pub one_clash : (a b : Histories) (x y : Option UpdateId) → MatchOption x (IsCompatible a b) (λ id. IsLeastClash a b id) → MatchOption y (IsCompatible a b) (λ id. IsLeastClash a b id) → x ≡ y
+pub one_clash : (a b : Histories) (x y : Option UpdateId) → MatchOption x (IsCompatible a b) (λ id. IsLeastClash a b id)
+    → MatchOption y (IsCompatible a b) (λ id. IsLeastClash a b id) → x ≡ y
 one_clash a b (Some x) (Some y) p q = ap Some (one_least a b x y p q)
 one_clash a b (Some x) None p q = absurd (clash_compatible a b x p.clashes q)
 one_clash a b None (Some y) p q = absurd (clash_compatible a b y q.clashes p)
@@ -63,7 +64,8 @@ one_union_refusal a b Memory Gap p q = absurd q
 one_union_refusal a b Memory NoBase p q = absurd q
 one_union_refusal a b Memory TooManyTags p q = absurd q
 
-pub one_rebuild_refusal : (s : Histories) (d : DeltaState) (e f : SetError) → IsRebuildRefusal s d e → IsRebuildRefusal s d f → e ≡ f
+pub one_rebuild_refusal : (s : Histories) (d : DeltaState) (e f : SetError) → IsRebuildRefusal s d e
+    → IsRebuildRefusal s d f → e ≡ f
 one_rebuild_refusal s d NoBase NoBase p q = refl
 one_rebuild_refusal s d NoBase Gap p q = absurd (p q.0)
 one_rebuild_refusal s d NoBase Memory p q = absurd (p q.base)

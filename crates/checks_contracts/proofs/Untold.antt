@@ -17,7 +17,8 @@ use Rattle.la_world.specs.Calls.{IsFollowing}
 some_none : {A : Type 0} (o : Option A) (P : A → Type 0) → o ≡ None → IsSomeAnd o P → ⊥
 some_none o P e some = subst (λ z. IsSomeAnd z P) e some
 
-left_one : (n x y : NodeState) (tags : Option (List UpdateId)) (d e : ShelfError) → IsObservedRefusal tags d → IsObservedRefusal tags e → LeftUntold d n x → LeftUntold e n y → d ≢ Memory → e ≢ Memory → x ≡ y
+left_one : (n x y : NodeState) (tags : Option (List UpdateId)) (d e : ShelfError) → IsObservedRefusal tags d
+    → IsObservedRefusal tags e → LeftUntold d n x → LeftUntold e n y → d ≢ Memory → e ≢ Memory → x ≡ y
 left_one n x y tags Memory e p q h k not_d not_e = absurd (not_d refl)
 left_one n x y tags Taken e p q h k not_d not_e = absurd p
 left_one n x y tags NotFresh e p q h k not_d not_e = absurd p
@@ -32,12 +33,16 @@ left_one n x y tags TooManyTags Memory p q h k not_d not_e = absurd (not_e refl)
 left_one n x y tags TooManyTags Taken p q h k not_d not_e = absurd q
 left_one n x y tags TooManyTags NotFresh p q h k not_d not_e = absurd q
 
-pub nodes_left_one : (n m x y : NodeState) → n ≡ m → (object element : ℕ) (a b : Result (List UpdateId) ShelfError) → IfErr a (IsObservedRefusal (tags_at (followed n) object element)) → IfErr b (IsObservedRefusal (tags_at (followed m) object element)) → IfErr a (λ d. LeftUntold d n x) → IfErr b (λ e. LeftUntold e m y)
-    → IfErr a (λ d. IfErr b (λ e. d ≢ Memory → e ≢ Memory → x ≡ y))
+pub nodes_left_one : (n m x y : NodeState) → n ≡ m → (object element : ℕ) (a b : Result (List UpdateId) ShelfError)
+    → IfErr a (IsObservedRefusal (tags_at (followed n) object element))
+    → IfErr b (IsObservedRefusal (tags_at (followed m) object element)) → IfErr a (λ d. LeftUntold d n x)
+    → IfErr b (λ e. LeftUntold e m y) → IfErr a (λ d. IfErr b (λ e. d ≢ Memory → e ≢ Memory → x ≡ y))
 nodes_left_one n m x y same object element (Ok s) b p q h k = tt
 nodes_left_one n m x y same object element (Err d) (Ok s) p q h k = tt
 nodes_left_one n m x y same object element (Err d) (Err e) p q h k =
-    left_one n x y (tags_at (followed n) object element) d e p (subst (λ z. IsObservedRefusal (tags_at (followed z) object element) e) (sym same) q) h (subst (λ z. LeftUntold e z y) (sym same) k)
+    left_one n x y (tags_at (followed n) object element) d e p
+    (subst (λ z. IsObservedRefusal (tags_at (followed z) object element) e) (sym same) q) h
+    (subst (λ z. LeftUntold e z y) (sym same) k)
 
 -- ## A world
 
@@ -51,6 +56,7 @@ module _ (w x : World) (r : ℕ) (e : world.WorldError) (left : calls.LeftUntold
   pub too_many : e ≡ named.TooManyTags → IsFollowing x r
   too_many is = subst (λ d. calls.LeftUntold d r w x) is left
 
-pub in_err : {A : Type 0} (a : Result A world.WorldError) (P Q : world.WorldError → Type 0) → ((e : world.WorldError) → P e → Q e) → IfErr a P → IfErr a Q
+pub in_err : {A : Type 0} (a : Result A world.WorldError) (P Q : world.WorldError → Type 0)
+    → ((e : world.WorldError) → P e → Q e) → IfErr a P → IfErr a Q
 in_err (Ok s) P Q f h = tt
 in_err (Err e) P Q f h = f e h

@@ -31,29 +31,54 @@ use Rattle.la_world.specs.Laws.{LearntAreComparable, AcknowledgementsHavePlaces,
 abbrev played : Config → (kinds : List (List (ℕ × Kind))) → List Event → List Event
 played c kinds events = (runs (group_of c kinds) (reverse events)).accepted
 
-pub run_own : LearntHoldWhatWasTaken → (c : Config) (kinds : List (List (ℕ × Kind))) (events : List Event) (r : Result Report WorldError) → IfOk r (λ made. made ≡ report c kinds events)
-    → IfOk r (λ (made : Report). (x : Learnt) → Contains made.learnt x → x.replica < 8 → history x.updates x.replica ≡ taken (trace_of (group_of c kinds) events) x.instance x.replica x.ballot)
-run_own law c kinds events (Ok made) e = λ x i lt. law (group_of c kinds) (played c kinds events) x (subst (λ (m : Report). Contains m.learnt x) e i) lt
+pub run_own : LearntHoldWhatWasTaken
+    → (c : Config) (kinds : List (List (ℕ × Kind))) (events : List Event) (r : Result Report WorldError)
+    → IfOk r (λ made. made ≡ report c kinds events)
+    → IfOk r
+    (λ (made : Report).
+    (x : Learnt) → Contains made.learnt x → x.replica < 8
+    → history x.updates x.replica ≡ taken (trace_of (group_of c kinds) events) x.instance x.replica x.ballot)
+run_own law c kinds events (Ok made) e =
+    λ x i lt. law (group_of c kinds) (played c kinds events) x (subst (λ (m : Report). Contains m.learnt x) e i) lt
 run_own law c kinds events (Err d) e = tt
 
-pub run_comparable : LearntAreComparable → (c : Config) (kinds : List (List (ℕ × Kind))) (events : List Event) (r : Result Report WorldError) → IfOk r (λ made. made ≡ report c kinds events)
-    → IfOk r (λ (made : Report). (x y : Learnt) → Contains made.learnt x → Contains made.learnt y → x.instance ≡ y.instance → AreComparable x.updates y.updates)
-run_comparable law c kinds events (Ok made) e = λ x y i j same. law (group_of c kinds) (played c kinds events) x y (subst (λ (m : Report). Contains m.learnt x) e i) (subst (λ (m : Report). Contains m.learnt y) e j) same
+pub run_comparable : LearntAreComparable
+    → (c : Config) (kinds : List (List (ℕ × Kind))) (events : List Event) (r : Result Report WorldError)
+    → IfOk r (λ made. made ≡ report c kinds events)
+    → IfOk r
+    (λ (made : Report).
+    (x y : Learnt) → Contains made.learnt x → Contains made.learnt y → x.instance ≡ y.instance
+    → AreComparable x.updates y.updates)
+run_comparable law c kinds events (Ok made) e =
+    λ x y i j same.
+    law (group_of c kinds) (played c kinds events) x y (subst (λ (m : Report). Contains m.learnt x) e i)
+    (subst (λ (m : Report). Contains m.learnt y) e j) same
 run_comparable law c kinds events (Err d) e = tt
 
-pub run_grows : LearntGrow → (c : Config) (kinds : List (List (ℕ × Kind))) (events : List Event) (r : Result Report WorldError) → IfOk r (λ made. made ≡ report c kinds events)
-    → IfOk r (λ (made : Report). (j k : ℕ) (x y : Learnt) → slice_get made.learnt j ≡ Some x → slice_get made.learnt k ≡ Some y → x.instance ≡ y.instance → x.replica ≡ y.replica → j < k → IsSubset x.updates y.updates)
+pub run_grows : LearntGrow
+    → (c : Config) (kinds : List (List (ℕ × Kind))) (events : List Event) (r : Result Report WorldError)
+    → IfOk r (λ made. made ≡ report c kinds events)
+    → IfOk r
+    (λ (made : Report).
+    (j k : ℕ) (x y : Learnt) → slice_get made.learnt j ≡ Some x → slice_get made.learnt k ≡ Some y
+    → x.instance ≡ y.instance → x.replica ≡ y.replica → j < k → IsSubset x.updates y.updates)
 run_grows law c kinds events (Ok made) e = λ j k x y p q ei er lt.
-    (law (group_of c kinds) (played c kinds events) j k x y (subst (λ (m : Report). slice_get m.learnt j ≡ Some x) e p) (subst (λ (m : Report). slice_get m.learnt k ≡ Some y) e q) ei er lt).0
+    (law (group_of c kinds) (played c kinds events) j k x y (subst (λ (m : Report). slice_get m.learnt j ≡ Some x) e p)
+    (subst (λ (m : Report). slice_get m.learnt k ≡ Some y) e q) ei er lt).0
 run_grows law c kinds events (Err d) e = tt
 
 -- ## Acknowledgements
 
-pub acknowledged : AcknowledgementsHavePlaces → NumbersNameBallots → (g : Group) (events : List Event) (m : Message) (b : Opening) → Contains (sent (replicas g) (trace g events)) m → m.body ≡ Yes
-    → Contains (ballots (trace g events) m.instance m.to) b → b.ballot ≡ m.ballot → (later : ℕ) × (accepted (trace g (drop later events)) m.instance m.from ≡ b.updates)
+pub acknowledged : AcknowledgementsHavePlaces → NumbersNameBallots
+    → (g : Group) (events : List Event) (m : Message) (b : Opening) → Contains (sent (replicas g) (trace g events)) m
+    → m.body ≡ Yes → Contains (ballots (trace g events) m.instance m.to) b → b.ballot ≡ m.ballot
+    → (later : ℕ) × (accepted (trace g (drop later events)) m.instance m.from ≡ b.updates)
 acknowledged places one g events m b i acknowledges j n =
-    let p = places g events m i acknowledges in
-    (p.later, p.was ∙ ap (λ (o : Opening). o.updates) (one g events m.instance m.to p.ballot b p.opened j (p.number ∙ sym n)))
+    let p = places g events m i acknowledges in (
+      p.later,
+      p.was
+          ∙ ap (λ (o : Opening). o.updates) (one g events m.instance m.to p.ballot b p.opened j (p.number ∙ sym n)),
+    )
 
 -- ## Proposals
 
@@ -61,8 +86,10 @@ none_yet : (g : Group) (i r : ℕ) → length (submitted (trace g []) i r) < 1
 unfolding trace submitted
 none_yet g i r = omega arith
 
-pub for_good : ProposalsAreTestedInOrder → SecondProposalsAreRefused → (g : Group) (more : List Event) → 1 ≤ replicas g → 1 ≤ g.commits → refused g (trace g (more ++ Decide 0 0 7 ∷ [])) (Decide 0 0 8) ≡ Some AlreadyProposed
-for_good order second g more some objects = second g [] more 0 0 7 8 ((order g [] 0 0 7).first (omega arith) (omega arith) (none_yet g 1 0))
+pub for_good : ProposalsAreTestedInOrder → SecondProposalsAreRefused → (g : Group) (more : List Event) → 1 ≤ replicas g
+    → 1 ≤ g.commits → refused g (trace g (more ++ Decide 0 0 7 ∷ [])) (Decide 0 0 8) ≡ Some AlreadyProposed
+for_good order second g more some objects =
+    second g [] more 0 0 7 8 ((order g [] 0 0 7).first (omega arith) (omega arith) (none_yet g 1 0))
 
 -- ## Limits
 
@@ -79,17 +106,22 @@ limits_taken law c h =
 
 -- ## Ballots
 
-pub ballots_contain : BallotsGrow → (g : Group) (events : List Event) (i r : ℕ) (b c : Opening) → Contains (ballots (trace g events) i r) b → Contains (ballots (trace g events) i r) c → b.ballot + 1 ≤ c.ballot → IsSubset b.updates c.updates
+pub ballots_contain : BallotsGrow → (g : Group) (events : List Event) (i r : ℕ) (b c : Opening)
+    → Contains (ballots (trace g events) i r) b → Contains (ballots (trace g events) i r) c → b.ballot + 1 ≤ c.ballot
+    → IsSubset b.updates c.updates
 ballots_contain law g events i r b c p q le = (law g events i r b c p q (omega arith)).0
 
 -- ## Questions
 
-pub answers_stay : ReportedAnswersAreValues → (g : Group) (events : List Event) (j k r object : ℕ) (query : Query) (a b : Answer) → IsAnswered events (lines g events) j r object query a → IsAnswered events (lines g events) k r object query b
+pub answers_stay : ReportedAnswersAreValues
+    → (g : Group) (events : List Event) (j k r object : ℕ) (query : Query) (a b : Answer)
+    → IsAnswered events (lines g events) j r object query a → IsAnswered events (lines g events) k r object query b
     → view_at_place g events j r ≡ view_at_place g events k r → a ≡ b
 answers_stay law g events j k r object query a b x y views =
     same_Some a b (sym (law g events j r object query a x) ∙ ap (λ v. answer_at (record { view = v; objects = kinds_on g r }) object query) views ∙ law g events k r object query b y)
 
 -- ## Places
 
-pub one_place : PlacesCountAccepted → (g : Group) (events : List Event) (place : ℕ) (x y : Learnt) → IsLearntAt (lines g events) place x → IsLearntAt (lines g events) place y → x.place ≡ y.place
+pub one_place : PlacesCountAccepted → (g : Group) (events : List Event) (place : ℕ) (x y : Learnt)
+    → IsLearntAt (lines g events) place x → IsLearntAt (lines g events) place y → x.place ≡ y.place
 one_place law g events place x y p q = law g events place x p ∙ sym (law g events place y q)

@@ -18,23 +18,39 @@ vote_at s i = option_and_then (λ (u : Update). vote_of u.op) (slice_get (update
 abbrev pub votes_before : Histories → ℕ → List Vote
 votes_before s i = filter_map (λ u. vote_of u.op) (take i (updates s))
 
-pub all-skip : (p : Vote → Bool) (s : Histories) (i : ℕ) → vote_at s i ≡ None → list_all p (votes_before s i) ≡ true → list_all p (votes_before s (i + 1)) ≡ true
+pub all-skip : (p : Vote → Bool) (s : Histories) (i : ℕ) → vote_at s i ≡ None → list_all p (votes_before s i) ≡ true
+    → list_all p (votes_before s (i + 1)) ≡ true
 all-skip p s i none before = rw (add-one i) (ap (list_all p) (filter_map-skip _ (updates s) i none) ∙ before)
 
-pub all-more : (p : Vote → Bool) (s : Histories) (i : ℕ) (v : Vote) → vote_at s i ≡ Some v → p v ≡ true → list_all p (votes_before s i) ≡ true → list_all p (votes_before s (i + 1)) ≡ true
-all-more p s i v at passes before = rw (add-one i) (ap (list_all p) (filter_map-more _ (updates s) i v at) ∙ list_all-append p (votes_before s i) (v ∷ []) ∙ rw (before, passes) refl)
+pub all-more : (p : Vote → Bool) (s : Histories) (i : ℕ) (v : Vote) → vote_at s i ≡ Some v → p v ≡ true
+    → list_all p (votes_before s i) ≡ true → list_all p (votes_before s (i + 1)) ≡ true
+all-more p s i v at passes before =
+    rw (add-one i)
+    (ap (list_all p) (filter_map-more _ (updates s) i v at) ∙ list_all-append p (votes_before s i) (v ∷ [])
+    ∙ rw (before, passes) refl)
 
-pub all-fails : (p : Vote → Bool) (s : Histories) (i : ℕ) (v : Vote) → vote_at s i ≡ Some v → p v ≡ false → list_all p (votes_before s i) ≡ true → list_all p (votes s) ≡ false
-all-fails p s i v at fails before = ap (list_all p) (filter_map-at _ (updates s) i v at) ∙ list_all-append p (votes_before s i) _ ∙ rw (before, fails) refl
+pub all-fails : (p : Vote → Bool) (s : Histories) (i : ℕ) (v : Vote) → vote_at s i ≡ Some v → p v ≡ false
+    → list_all p (votes_before s i) ≡ true → list_all p (votes s) ≡ false
+all-fails p s i v at fails before =
+    ap (list_all p) (filter_map-at _ (updates s) i v at) ∙ list_all-append p (votes_before s i) _
+    ∙ rw (before, fails) refl
 
-pub none-skip : (p : Vote → Bool) (s : Histories) (i : ℕ) → vote_at s i ≡ None → filter p (votes_before s i) ≡ [] → filter p (votes_before s (i + 1)) ≡ []
+pub none-skip : (p : Vote → Bool) (s : Histories) (i : ℕ) → vote_at s i ≡ None → filter p (votes_before s i) ≡ []
+    → filter p (votes_before s (i + 1)) ≡ []
 none-skip p s i none before = rw (add-one i) (ap (filter p) (filter_map-skip _ (updates s) i none) ∙ before)
 
-pub none-more : (p : Vote → Bool) (s : Histories) (i : ℕ) (v : Vote) → vote_at s i ≡ Some v → p v ≡ false → filter p (votes_before s i) ≡ [] → filter p (votes_before s (i + 1)) ≡ []
-none-more p s i v at fails before = rw (add-one i) (ap (filter p) (filter_map-more _ (updates s) i v at) ∙ filter-append p (votes_before s i) (v ∷ []) ∙ rw (before, fails) refl)
+pub none-more : (p : Vote → Bool) (s : Histories) (i : ℕ) (v : Vote) → vote_at s i ≡ Some v → p v ≡ false
+    → filter p (votes_before s i) ≡ [] → filter p (votes_before s (i + 1)) ≡ []
+none-more p s i v at fails before =
+    rw (add-one i)
+    (ap (filter p) (filter_map-more _ (updates s) i v at) ∙ filter-append p (votes_before s i) (v ∷ [])
+    ∙ rw (before, fails) refl)
 
-pub first-found : (p : Vote → Bool) (s : Histories) (i : ℕ) (v : Vote) → vote_at s i ≡ Some v → p v ≡ true → filter p (votes_before s i) ≡ [] → slice_get (filter p (votes s)) 0 ≡ Some v
+pub first-found : (p : Vote → Bool) (s : Histories) (i : ℕ) (v : Vote) → vote_at s i ≡ Some v → p v ≡ true
+    → filter p (votes_before s i) ≡ [] → slice_get (filter p (votes s)) 0 ≡ Some v
 first-found p s i v at passes before =
     let later = filter_map (λ (u : Update). vote_of u.op) (drop (suc i) (updates s)) in
-    let found : filter p (votes s) ≡ v ∷ filter p later = ap (filter p) (filter_map-at _ (updates s) i v at) ∙ filter-append p (votes_before s i) (v ∷ later) ∙ rw (before, passes) refl in
+    let found : filter p (votes s) ≡ v ∷ filter p later =
+    ap (filter p) (filter_map-at _ (updates s) i v at) ∙ filter-append p (votes_before s i) (v ∷ later)
+    ∙ rw (before, passes) refl in
     ap (λ vs. slice_get vs 0) found

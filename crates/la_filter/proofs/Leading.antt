@@ -33,7 +33,8 @@ one_of false b = inr b
 still : (n : KeptState) (t u : Turn) → t ≡ u → IsStill n u → IsStill n t
 still n t u is s = subst (IsStill n) (sym is) s
 
-answered_still : (n : KeptState) (k object : ℕ) (line : List ℕ) (o : Option Answer) → IsStill n (answered n k object line o)
+answered_still : (n : KeptState) (k object : ℕ) (line : List ℕ) (o : Option Answer)
+    → IsStill n (answered n k object line o)
 answered_still n k object line None = (refl, refl)
 answered_still n k object line (Some answer) = (refl, refl)
 
@@ -46,14 +47,16 @@ module _ (objects : List (ℕ × Kind)) (n : KeptState) (k : ℕ) (t : Turn) whe
     taken_goes taken = (
       record { line = t.line; says = stands },
       taken.journal,
-      ap (λ o. option_map (λ (made : Given × KeptState). made.1) (acts_by n o)) says ∙ ap (option_map (λ (made : Given × KeptState). made.1)) taken.acted,
+      ap (λ o. option_map (λ (made : Given × KeptState). made.1) (acts_by n o)) says
+          ∙ ap (option_map (λ (made : Given × KeptState). made.1)) taken.acted,
     )
 
     kept_goes : IsKeptTurn n k call t → Goes n t
     kept_goes (inl taken) = inr (taken_goes taken)
     kept_goes (inr not) = inl (still n t (refused n k t.line not.why) not.turn (refl, refl))
 
-  here_goes : (call : Call) → is_line t.line ≡ true → named t.line ≡ Some call → IsTurnHere objects n k call t → Goes n t
+  here_goes : (call : Call) → is_line t.line ≡ true → named t.line ≡ Some call → IsTurnHere objects n k call t
+      → Goes n t
   here_goes (Submit replica object op) stands says is = kept_goes (Submit replica object op) stands says is
   here_goes (Decide replica commit value) stands says is = kept_goes (Decide replica commit value) stands says is
   here_goes (Ask replica object query) stands says (inl is) =
@@ -90,7 +93,8 @@ pub record Led (n after : KeptState) (turns : List Turn) : Type 0 where
   pub lines : kept turns ≡ map (λ (c : CallLine). c.line) calls
   pub led : steps step calls n ≡ Some after
 
-pub turns_lead : (objects : List (ℕ × Kind)) (n : KeptState) (k : ℕ) (turns : List Turn) (after : KeptState) → AreTurns objects n k turns after → Led n after turns
+pub turns_lead : (objects : List (ℕ × Kind)) (n : KeptState) (k : ℕ) (turns : List Turn) (after : KeptState)
+    → AreTurns objects n k turns after → Led n after turns
 turns_lead objects n k [] after are = record { calls = []; lines = refl; led = ap Some (sym are) }
 turns_lead objects n k (t ∷ turns) after are =
     let rest = turns_lead objects t.after (k + 1) turns after are.1 in

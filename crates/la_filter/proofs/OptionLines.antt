@@ -36,8 +36,8 @@ requires_one a = record a {
 }
 
 -- a command that takes one more argument, which is not global, has no global ones if it had none
-pub stays_local : (old : Command) (a : Arg) (new : Command) → AddsArg old a new → a.global ≡ false → (out-Command old).has_globals ≡ false
-    → (out-Command new).has_globals ≡ false
+pub stays_local : (old : Command) (a : Arg) (new : Command) → AddsArg old a new → a.global ≡ false
+    → (out-Command old).has_globals ≡ false → (out-Command new).has_globals ≡ false
 stays_local old a new h local none = h.globals ∙ ap₂ (λ (x y : Bool). x || y) none local
 
 pub lattice_is_simple : is_simple lattice_node ≡ true
@@ -80,23 +80,83 @@ no e = absurd (true≢false (sym e))
 
 replicas_alone : AllOne replicas_rule rules
 unfolding clap_on_literals
-replicas_alone = (inr (refl, refl, λ e. refl), (inr (refl, refl, λ e. no e), (inr (refl, refl, λ e. no e), (inr (refl, refl, λ e. no e), (inr (refl, refl, λ e. no e), (inr (refl, refl, λ e. no e), (inl refl, (inl refl, tt))))))))
+replicas_alone = (
+  inr (refl, refl, λ e. refl),
+  (
+    inr (refl, refl, λ e. no e),
+    (
+      inr (refl, refl, λ e. no e),
+      (
+        inr (refl, refl, λ e. no e),
+        (inr (refl, refl, λ e. no e), (inr (refl, refl, λ e. no e), (inl refl, (inl refl, tt)))),
+      ),
+    ),
+  ),
+)
 
 own_alone : AllOne own_rule rules
 unfolding clap_on_literals
-own_alone = (inr (refl, refl, λ e. no e), (inr (refl, refl, λ e. refl), (inr (refl, refl, λ e. no e), (inr (refl, refl, λ e. no e), (inr (refl, refl, λ e. no e), (inr (refl, refl, λ e. no e), (inl refl, (inl refl, tt))))))))
+own_alone = (
+  inr (refl, refl, λ e. no e),
+  (
+    inr (refl, refl, λ e. refl),
+    (
+      inr (refl, refl, λ e. no e),
+      (
+        inr (refl, refl, λ e. no e),
+        (inr (refl, refl, λ e. no e), (inr (refl, refl, λ e. no e), (inl refl, (inl refl, tt)))),
+      ),
+    ),
+  ),
+)
 
 commits_alone : AllOne commits_rule rules
 unfolding clap_on_literals
-commits_alone = (inr (refl, refl, λ e. no e), (inr (refl, refl, λ e. no e), (inr (refl, refl, λ e. refl), (inr (refl, refl, λ e. no e), (inr (refl, refl, λ e. no e), (inr (refl, refl, λ e. no e), (inl refl, (inl refl, tt))))))))
+commits_alone = (
+  inr (refl, refl, λ e. no e),
+  (
+    inr (refl, refl, λ e. no e),
+    (
+      inr (refl, refl, λ e. refl),
+      (
+        inr (refl, refl, λ e. no e),
+        (inr (refl, refl, λ e. no e), (inr (refl, refl, λ e. no e), (inl refl, (inl refl, tt)))),
+      ),
+    ),
+  ),
+)
 
 cap_alone : AllOne cap_rule rules
 unfolding clap_on_literals
-cap_alone = (inr (refl, refl, λ e. no e), (inr (refl, refl, λ e. no e), (inr (refl, refl, λ e. no e), (inr (refl, refl, λ e. refl), (inr (refl, refl, λ e. no e), (inr (refl, refl, λ e. no e), (inl refl, (inl refl, tt))))))))
+cap_alone = (
+  inr (refl, refl, λ e. no e),
+  (
+    inr (refl, refl, λ e. no e),
+    (
+      inr (refl, refl, λ e. no e),
+      (
+        inr (refl, refl, λ e. refl),
+        (inr (refl, refl, λ e. no e), (inr (refl, refl, λ e. no e), (inl refl, (inl refl, tt)))),
+      ),
+    ),
+  ),
+)
 
 journal_alone : AllOne journal_rule rules
 unfolding clap_on_literals
-journal_alone = (inr (refl, refl, λ e. no e), (inr (refl, refl, λ e. no e), (inr (refl, refl, λ e. no e), (inr (refl, refl, λ e. no e), (inr (refl, refl, λ e. no e), (inr (refl, refl, λ e. refl), (inl refl, (inl refl, tt))))))))
+journal_alone = (
+  inr (refl, refl, λ e. no e),
+  (
+    inr (refl, refl, λ e. no e),
+    (
+      inr (refl, refl, λ e. no e),
+      (
+        inr (refl, refl, λ e. no e),
+        (inr (refl, refl, λ e. no e), (inr (refl, refl, λ e. refl), (inl refl, (inl refl, tt)))),
+      ),
+    ),
+  ),
+)
 
 -- ---- what is required is there
 
@@ -108,7 +168,8 @@ none_wanted false false false e = refl
 
 -- what is required was given, where a level that has no subcommand found no fault
 none_missing : (s : Shape) (found : List Row) → check_fault s found false ≡ []
-    → (not (s.subcommand_negates_reqs && false) && list_any (λ a. a.required && not (is_given a.id found)) s.rules) ≡ false
+    → (not (s.subcommand_negates_reqs && false) && list_any (λ a. a.required && not (is_given a.id found)) s.rules)
+    ≡ false
 none_missing s found e = none_wanted _ _ _ e
 
 or_first : (a b : Bool) → (a || b) ≡ false → a ≡ false
@@ -128,8 +189,8 @@ given_there id [] e = e
 given_there id (r ∷ rs) e = go (bytes_eq r.id id) (given_there id rs) e
   where
     go : (t : Bool) → (is_given id rs ≡ true → has_row id rs ≡ true)
-        → option_map_or (λ x. Rattle.clap.specs.Facts.explicit_source x.source) (cond t (Some r) (find (λ x. bytes_eq x.id id) rs)) false ≡ true
-        → (t || has_row id rs) ≡ true
+        → option_map_or (λ x. Rattle.clap.specs.Facts.explicit_source x.source)
+        (cond t (Some r) (find (λ x. bytes_eq x.id id) rs)) false ≡ true → (t || has_row id rs) ≡ true
     go true rest f = refl
     go false rest f = rest f
 
@@ -160,9 +221,11 @@ module _ (words : List Text) (faultless : level_fault shape [] nothing_held word
       let own = level_reads own_rule shape [] words false [] own_alone
       (given_there (codes "own") rows (not_false _ both_given.0)) faultless in
       let commits = level_reads commits_rule shape [] words false [] commits_alone
-      (defaults_there commits_rule (codes "0") [] (replicas_rule ∷ own_rule ∷ []) (drop 3 rules) start refl refl) faultless in
+      (defaults_there commits_rule (codes "0") [] (replicas_rule ∷ own_rule ∷ []) (drop 3 rules) start refl refl)
+      faultless in
       let cap = level_reads cap_rule shape [] words false [] cap_alone
-      (defaults_there cap_rule (codes "1000000") [] (replicas_rule ∷ own_rule ∷ commits_rule ∷ []) (drop 4 rules) start refl refl) faultless in
+      (defaults_there cap_rule (codes "1000000") [] (replicas_rule ∷ own_rule ∷ commits_rule ∷ []) (drop 4 rules) start
+      refl refl) faultless in
       let journal = level_reads journal_rule shape [] words false [] journal_alone
       (given_there (codes "journal") rows (not_false _ both_given.1)) faultless in
       record {
@@ -177,39 +240,49 @@ module _ (words : List Text) (faultless : level_fault shape [] nothing_held word
 abbrev pub NamesNode : Option (Text × List Row) → Type 0
 NamesNode o = (rows : List Row) × (o ≡ Some (codes "node", rows)) × AreTaken rows
 
-named_at : (stop : Option (Text × List Text)) → entered_fault whole stop ≡ [] → is_some (entered whole stop) ≡ true → IsNoHelp stop → NamesNode (entered whole stop)
+named_at : (stop : Option (Text × List Text)) → entered_fault whole stop ≡ [] → is_some (entered whole stop) ≡ true
+    → IsNoHelp stop → NamesNode (entered whole stop)
 unfolding clap_on_literals
 named_at None e there other = no there
-named_at (Some p) e there other = go (answers_to p.0 (label_of shape)) (answers_to p.0 (label_of (shape_at 1))) (help_never p.0 other) e there
+named_at (Some p) e there other =
+    go (answers_to p.0 (label_of shape)) (answers_to p.0 (label_of (shape_at 1))) (help_never p.0 other) e there
   where
     found : (t u : Bool) → Option Shape
     found t u = cond t (Some shape) (cond u (Some (shape_at 1)) None)
 
-    go : (t u : Bool) → (u ≡ true → ⊥) → option_map_or (λ s. level_fault s [] nothing_held p.1 false []) (found t u) [] ≡ []
-        → is_some (option_map (λ s. rows_at s p.1) (found t u)) ≡ true → NamesNode (option_map (λ s. rows_at s p.1) (found t u))
+    go : (t u : Bool) → (u ≡ true → ⊥)
+        → option_map_or (λ s. level_fault s [] nothing_held p.1 false []) (found t u) [] ≡ []
+        → is_some (option_map (λ s. rows_at s p.1) (found t u)) ≡ true
+        → NamesNode (option_map (λ s. rows_at s p.1) (found t u))
     go true u never f some = (_, refl, all_taken p.1 f)
     go false true never f some = absurd (never refl)
     go false false never f some = no some
 
 -- words in which nothing is wrong name a node
-pub faultless_node : (words : List Text) → fault_of lattice_node words ≡ [] → NamesNode (subcommand_of lattice_node words)
+pub faultless_node : (words : List Text) → fault_of lattice_node words ≡ []
+    → NamesNode (subcommand_of lattice_node words)
 unfolding clap_on_literals
 faultless_node words e =
     let enters = enters_well lattice_node words refl refl e in
-    named_at (stop_after whole.top.rules (names_of whole) (argument_words lattice_node words)) enters.below enters.there enters.no_help
+    named_at (stop_after whole.top.rules (names_of whole) (argument_words lattice_node words)) enters.below enters.there
+    enters.no_help
 
-some_rows : (o : Option (Text × List Row)) (rows : List Row) → option_map (λ p. p.1) o ≡ Some rows → NamesNode o → (o ≡ Some (codes "node", rows)) × AreTaken rows
+some_rows : (o : Option (Text × List Row)) (rows : List Row) → option_map (λ p. p.1) o ≡ Some rows → NamesNode o
+    → (o ≡ Some (codes "node", rows)) × AreTaken rows
 some_rows o rows is named =
     let same : named.0 ≡ rows = some_is _ _ (ap (option_map (λ p. p.1)) (sym named.1) ∙ is) in
     (named.1 ∙ ap (λ (r : List Row). Some (codes "node", r)) same, subst AreTaken same named.2)
 
 -- the rows of the subcommand that was entered are a node's
-pub rows_are_taken : (words : List Text) (rows : List Row) → fault_of lattice_node words ≡ [] → option_map (λ p. p.1) (subcommand_of lattice_node words) ≡ Some rows
+pub rows_are_taken : (words : List Text) (rows : List Row) → fault_of lattice_node words ≡ []
+    → option_map (λ p. p.1) (subcommand_of lattice_node words) ≡ Some rows
     → (subcommand_of lattice_node words ≡ Some (codes "node", rows)) × AreTaken rows
-rows_are_taken words rows faultless is = some_rows (subcommand_of lattice_node words) rows is (faultless_node words faultless)
+rows_are_taken words rows faultless is =
+    some_rows (subcommand_of lattice_node words) rows is (faultless_node words faultless)
 
 -- and one is entered
-pub some_entered : (words : List Text) → fault_of lattice_node words ≡ [] → None ≡ option_map (λ p. p.1) (subcommand_of lattice_node words) → ⊥
+pub some_entered : (words : List Text) → fault_of lattice_node words ≡ []
+    → None ≡ option_map (λ p. p.1) (subcommand_of lattice_node words) → ⊥
 some_entered words faultless none =
     let named = faultless_node words faultless in
     some≢none named.0 (sym (none ∙ ap (option_map (λ p. p.1)) named.1))
@@ -217,14 +290,16 @@ some_entered words faultless none =
 -- ---- the folder's text
 
 -- where a text is read there is a first value
-pub first_there : (id : Text) (rows : List Row) (t : Text) → one_of id rows ≡ Some t → (u : Text) × (first_of id rows ≡ Some u)
+pub first_there : (id : Text) (rows : List Row) (t : Text) → one_of id rows ≡ Some t
+    → (u : Text) × (first_of id rows ≡ Some u)
 first_there id rows t e = outer (find (λ r. bytes_eq r.id id) rows) e
   where
     inner : (r : Row) (o : Option Text) → option_map (read_as r.reading) o ≡ Some t → (u : Text) × (o ≡ Some u)
     inner r None f = absurd (some≢none _ (sym f))
     inner r (Some u) f = (u, refl)
 
-    outer : (o : Option Row) → option_and_then row_text o ≡ Some t → (u : Text) × (option_and_then (λ r. slice_get r.values 0) o ≡ Some u)
+    outer : (o : Option Row) → option_and_then row_text o ≡ Some t
+        → (u : Text) × (option_and_then (λ r. slice_get r.values 0) o ≡ Some u)
     outer None f = absurd (some≢none _ (sym f))
     outer (Some r) f = inner r (slice_get r.values 0) f
 

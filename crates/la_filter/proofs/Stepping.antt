@@ -12,9 +12,12 @@ use Rattle.la_filter.specs.Turns.{faulty}
 use Rattle.la_filter.specs.Serving.{IsStep, Takes}
 use Rattle.la_filter.proofs.Turns.{long_turn}
 
-module _ {E : Type 0} (contents : E → Option (List ℕ)) (refuses : E → List ℕ → E → Type 0) (objects : List (ℕ × Kind)) (n : KeptState) (k : ℕ) (left1 left2 : Option (List ℕ)) (e1 e2 : E) (line : List ℕ) (one : IsOneLine line) (read : Consumes left1 left2 (line ++ 10 ∷ [])) where
+module _ {E : Type 0} (contents : E → Option (List ℕ)) (refuses : E → List ℕ → E → Type 0) (objects : List (ℕ × Kind))
+    (n : KeptState) (k : ℕ) (left1 left2 : Option (List ℕ)) (e1 e2 : E) (line : List ℕ) (one : IsOneLine line)
+    (read : Consumes left1 left2 (line ++ 10 ∷ [])) where
   -- a line that is too long
-  pub long_step : (out : Option (List ℕ)) (journal : List (List ℕ)) → MAX_LINE < length line → Tells contents refuses e1 e2 (fault_line k TooLong)
+  pub long_step : (out : Option (List ℕ)) (journal : List (List ℕ)) → MAX_LINE < length line
+      → Tells contents refuses e1 e2 (fault_line k TooLong)
       → Takes (IsStep objects n k left1 left2) (TellsAll contents refuses e1 e2) out out journal journal n
   long_step out journal lt t = record {
     turn = faulty n k line TooLong;

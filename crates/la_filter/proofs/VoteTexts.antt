@@ -44,15 +44,18 @@ no_rest [] h = refl
 no_rest (n ∷ ns) h = absurd h
 
 -- numbers of texts of which one is left go on after those that were read
-next_number : (texts : List Text) (read : List ℕ) (t : Text) (left : List Text) → IsRead texts read (t ∷ left) → (ns : List ℕ) → AreNumbers texts ns
+next_number : (texts : List Text) (read : List ℕ) (t : Text) (left : List Text) → IsRead texts read (t ∷ left)
+    → (ns : List ℕ) → AreNumbers texts ns
     → (n : ℕ) × (rest : List ℕ) × (ns ≡ read ++ n ∷ rest) × IsNumber t n × AreNumbers left rest
 next_number texts read t left r ns h = let o = r.only ns h in go o.0 o.1 o.2
   where
-    go : (rest : List ℕ) → ns ≡ read ++ rest → AreNumbers (t ∷ left) rest → (n : ℕ) × (rest : List ℕ) × (ns ≡ read ++ n ∷ rest) × IsNumber t n × AreNumbers left rest
+    go : (rest : List ℕ) → ns ≡ read ++ rest → AreNumbers (t ∷ left) rest
+        → (n : ℕ) × (rest : List ℕ) × (ns ≡ read ++ n ∷ rest) × IsNumber t n × AreNumbers left rest
     go [] e k = absurd k
     go (n ∷ rest) e k = (n, rest, e, k.0, k.1)
 
-next_read : (texts : List Text) (read : List ℕ) (t : Text) (left : List Text) (n : ℕ) → IsNumber t n → IsRead texts read (t ∷ left) → IsRead texts (read ++ n ∷ []) left
+next_read : (texts : List Text) (read : List ℕ) (t : Text) (left : List Text) (n : ℕ) → IsNumber t n
+    → IsRead texts read (t ∷ left) → IsRead texts (read ++ n ∷ []) left
 next_read texts read t left n is r = record {
   whole = λ ns h. subst (AreNumbers texts) (sym (joined read n ns)) (r.whole (n ∷ ns) (is, h));
   only = λ ns h.
@@ -60,10 +63,12 @@ next_read texts read t left n is r = record {
       (o.1, o.2 ∙ ap (λ m. read ++ m ∷ o.1) (o.3.value ∙ sym is.value) ∙ sym (joined read n o.1), o.4);
 }
 
-module _ {E : Type 0} (G : List ℕ → Result ℕ E → Type 0) (parses : (u : List ℕ) (x : Result ℕ E) → G u x → ParsesUnsigned {E = E} 16 10 u x) where
+module _ {E : Type 0} (G : List ℕ → Result ℕ E → Type 0)
+    (parses : (u : List ℕ) (x : Result ℕ E) → G u x → ParsesUnsigned {E = E} 16 10 u x) where
   -- a number is read
-  pub reads_next : (given : Option (List Text)) (read : List ℕ) (before after : List Text) (x : Result ℕ E) (n : ℕ) → x ≡ Ok n → Reads given read before
-      → StepsValues {T = ℕ} {E = E} G before after (Some x) → Reads given (read ++ n ∷ []) after
+  pub reads_next : (given : Option (List Text)) (read : List ℕ) (before after : List Text) (x : Result ℕ E) (n : ℕ)
+      → x ≡ Ok n → Reads given read before → StepsValues {T = ℕ} {E = E} G before after (Some x)
+      → Reads given (read ++ n ∷ []) after
   reads_next given read [] after x n ok r step = absurd step
   reads_next given read (t ∷ left) after x n ok r step =
       let parsed : ParsesUnsigned {E = E} 16 10 t (Ok n) = parses t (Ok n) (subst (G t) ok step.0) in
@@ -71,21 +76,23 @@ module _ {E : Type 0} (G : List ℕ → Result ℕ E → Type 0) (parses : (u : 
       (r.0, r.1, subst (IsRead r.0 (read ++ n ∷ [])) (sym step.1) (next_read r.0 read t left n is r.2))
 
   -- a text is no number
-  pub reads_none : (given : Option (List Text)) (read : List ℕ) (before after : List Text) (x : Result ℕ E) (e : E) → x ≡ Err e → Reads given read before
-      → StepsValues {T = ℕ} {E = E} G before after (Some x) → AreNoVotes given
+  pub reads_none : (given : Option (List Text)) (read : List ℕ) (before after : List Text) (x : Result ℕ E) (e : E)
+      → x ≡ Err e → Reads given read before → StepsValues {T = ℕ} {E = E} G before after (Some x) → AreNoVotes given
   reads_none given read [] after x e err r step = absurd step
   reads_none given read (t ∷ left) after x e err r step =
       let parsed : ParsesUnsigned {E = E} 16 10 t (Err e) = parses t (Err e) (subst (G t) err step.0) in
       subst AreNoVotes (sym r.1) (λ ns h group.
       let o = next_number r.0 read t left r.2 ns h in
-      let bound = at_join (λ v. (1 ≤ v) × (v ≤ MAX_VOTES)) read o.0 o.1 (subst (All (λ v. (1 ≤ v) × (v ≤ MAX_VOTES))) o.2 group.each) in
+      let bound =
+      at_join (λ v. (1 ≤ v) × (v ≤ MAX_VOTES)) read o.0 o.1
+      (subst (All (λ v. (1 ≤ v) × (v ≤ MAX_VOTES))) o.2 group.each) in
       let most : o.0 ≤ 1000 = bound.1 in
       let fits : o.0 < 2 ^ 16 = omega arith in
       parsed (o.3.numeral, subst (λ m. m < 2 ^ 16) o.3.value fits))
 
   -- there are too many texts
-  pub reads_too_many : (given : Option (List Text)) (read : List ℕ) (before after : List Text) (x : Result ℕ E) → Reads given read before
-      → StepsValues {T = ℕ} {E = E} G before after (Some x) → length read ≡ 8 → AreNoVotes given
+  pub reads_too_many : (given : Option (List Text)) (read : List ℕ) (before after : List Text) (x : Result ℕ E)
+      → Reads given read before → StepsValues {T = ℕ} {E = E} G before after (Some x) → length read ≡ 8 → AreNoVotes given
   reads_too_many given read [] after x r step full = absurd step
   reads_too_many given read (t ∷ left) after x r step full =
       subst AreNoVotes (sym r.1) (λ ns h group.
@@ -100,20 +107,25 @@ module _ {E : Type 0} (G : List ℕ → Result ℕ E → Type 0) (parses : (u : 
   reads_end given read (t ∷ left) after r step = absurd step
 
 -- all texts were read
-pub all_read : (given : Option (List Text)) (replicas : ℕ) (read : List ℕ) → Reads given read [] → IsGroup read → AreVotes given replicas read
+pub all_read : (given : Option (List Text)) (replicas : ℕ) (read : List ℕ) → Reads given read [] → IsGroup read
+    → AreVotes given replicas read
 all_read given replicas read r group =
-    subst (λ (g : Option (List Text)). AreVotes g replicas read) (sym r.1) (subst (AreNumbers r.0) (with_end read) (r.2.whole [] tt), group)
+    subst (λ (g : Option (List Text)). AreVotes g replicas read) (sym r.1)
+    (subst (AreNumbers r.0) (with_end read) (r.2.whole [] tt), group)
 
-pub none_read : (given : Option (List Text)) (read : List ℕ) → Reads given read [] → (IsGroup read → ⊥) → AreNoVotes given
+pub none_read : (given : Option (List Text)) (read : List ℕ) → Reads given read [] → (IsGroup read → ⊥)
+    → AreNoVotes given
 none_read given read r fails = subst AreNoVotes (sym r.1) (λ ns h group.
     let o = r.2.only ns h in
     fails (subst IsGroup (o.1 ∙ ap (λ rest. read ++ rest) (no_rest o.0 o.2) ∙ with_end read) group))
 
 -- the votes that are made of what was read
-pub votes_made : {B : Type 0} (given : Option (List Text)) (replicas : ℕ) (read slice : List ℕ) (r : Result Votes B) → slice ≡ read → Reads given read []
-    → IfOk r (λ made. votes_of made ≡ slice) → (IsOk r ↔ IsGroup slice) → IsVotes given replicas (result_ok r)
+pub votes_made : {B : Type 0} (given : Option (List Text)) (replicas : ℕ) (read slice : List ℕ) (r : Result Votes B)
+    → slice ≡ read → Reads given read [] → IfOk r (λ made. votes_of made ≡ slice) → (IsOk r ↔ IsGroup slice)
+    → IsVotes given replicas (result_ok r)
 votes_made given replicas read slice (Ok made) same reads ok exactly =
-    subst (AreVotes given replicas) (sym (ok ∙ same)) (all_read given replicas read reads (subst IsGroup same (exactly.0 refl)))
+    subst (AreVotes given replicas) (sym (ok ∙ same))
+    (all_read given replicas read reads (subst IsGroup same (exactly.0 refl)))
 votes_made given replicas read slice (Err e) same reads ok exactly =
     none_read given read reads (λ group. absurd (true≢false (sym (exactly.1 (subst IsGroup (sym same) group)))))
 

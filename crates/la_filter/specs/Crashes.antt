@@ -19,7 +19,8 @@ texts calls = map (λ (c : CallLine). c.line) calls
 -- The journal led to a state, from which these turns were taken: what the first ones came to was written, and of the
 -- last ones nothing. A crash at any moment of that leaves one that leads to where the first some of the lines
 -- lead that it gained, none skipped; and a crash from now on one that has all lines of the first turns.
-pub record Leaves {D : Type 0} (seen : D → List ℕ) (may_leave : D → List ℕ → Type 0) (moment : D → ℕ) (left_since : D → ℕ → List ℕ → Type 0) (n : KeptState) (old new : D) (turns last : List Turn) : Type 0 where
+pub record Leaves {D : Type 0} (seen : D → List ℕ) (may_leave : D → List ℕ → Type 0) (moment : D → ℕ)
+    (left_since : D → ℕ → List ℕ → Type 0) (n : KeptState) (old new : D) (turns last : List Turn) : Type 0 where
   pub calls : List CallLine
   pub lines : kept turns ≡ texts calls
   pub later : List CallLine
@@ -33,7 +34,9 @@ pub record Leaves {D : Type 0} (seen : D → List ℕ) (may_leave : D → List �
 
 -- The same of a run from its start on, which first recovered the journal: of that a crash leaves what might have been
 -- left before, or the same lines.
-pub record LeavesOfRun {D : Type 0} (seen : D → List ℕ) (may_leave : D → List ℕ → Type 0) (moment : D → ℕ) (left_since : D → ℕ → List ℕ → Type 0) (fresh : KeptState) (disk : D) (n : KeptState) (turns last : List Turn) : Type 0 where
+pub record LeavesOfRun {D : Type 0} (seen : D → List ℕ) (may_leave : D → List ℕ → Type 0) (moment : D → ℕ)
+    (left_since : D → ℕ → List ℕ → Type 0) (fresh : KeptState) (disk : D) (n : KeptState) (turns last : List Turn) : Type
+    0 where
   pub recovered : D
   pub recovery : LeavesOnly moment left_since disk recovered (IsSameOr (may_leave disk) (lines_in (seen disk)))
   pub leads : leads_from fresh (seen recovered) ≡ Some n
@@ -49,26 +52,35 @@ LeftBy seen may_leave moment left_since options disk =
     LeavesOfRun seen may_leave moment left_since (at_start options.config options.own) disk
 
 -- all lines that were staged are on the disk, behind those that were there
-pub record Commits {D : Type 0} (seen : D → List ℕ) (may_leave : D → List ℕ → Type 0) (staged : List ℕ) (old new : D) : Type 0 where
+pub record Commits {D : Type 0} (seen : D → List ℕ) (may_leave : D → List ℕ → Type 0) (staged : List ℕ) (old new : D) :
+    Type 0 where
   pub settled : IsSettled seen may_leave new
   pub lines : lines_in (seen new) ≡ lines_in (seen old) ++ lines_in staged
-  pub leads : (start before : KeptState) (calls : List CallLine) → leads_from start (seen old) ≡ Some before → lines_in staged ≡ texts calls
-      → leads_from start (seen new) ≡ steps step calls before
+  pub leads : (start before : KeptState) (calls : List CallLine) → leads_from start (seen old) ≡ Some before
+      → lines_in staged ≡ texts calls → leads_from start (seen new) ≡ steps step calls before
 
 -- or, whatever happens, the first some of them are there
-abbrev pub CommitsSome : {D : Type 0} (seen : D → List ℕ) (moment : D → ℕ) (left_since : D → ℕ → List ℕ → Type 0) (staged : List ℕ) (old new : D) → Type 0
+abbrev pub CommitsSome : {D : Type 0} (seen : D → List ℕ) (moment : D → ℕ) (left_since : D → ℕ → List ℕ → Type 0)
+    (staged : List ℕ) (old new : D) → Type 0
 CommitsSome seen moment left_since staged old new =
-    (start before : KeptState) (calls : List CallLine) → leads_from start (seen old) ≡ Some before → lines_in staged ≡ texts calls
+    (start before : KeptState) (calls : List CallLine) → leads_from start (seen old) ≡ Some before
+    → lines_in staged ≡ texts calls
     → LeavesOnly moment left_since old new (LeadsToSome (leads_from start) step calls before)
 
 -- all that was held back was written, once all that was staged was on the disk
-abbrev pub Flushes : {D : Type 0} (seen : D → List ℕ) (may_leave : D → List ℕ → Type 0) (moment : D → ℕ) (left_since : D → ℕ → List ℕ → Type 0) (out_before out_after : Option (List ℕ)) (held_before held_after text_before text_after : List ℕ) (old new : D) → Type 0
+abbrev pub Flushes : {D : Type 0} (seen : D → List ℕ) (may_leave : D → List ℕ → Type 0) (moment : D → ℕ)
+    (left_since : D → ℕ → List ℕ → Type 0) (out_before out_after : Option (List ℕ))
+    (held_before held_after text_before text_after : List ℕ) (old new : D) → Type 0
 Flushes seen may_leave moment left_since out_before out_after held_before held_after text_before text_after old new =
     Appends out_before out_after held_before × (held_after ≡ []) × (text_after ≡ [])
     × Commits seen may_leave text_before old new × CommitsSome seen moment left_since text_before old new
 
 -- that, or nothing
-abbrev pub FlushesOrNot : {D : Type 0} (seen : D → List ℕ) (may_leave : D → List ℕ → Type 0) (moment : D → ℕ) (left_since : D → ℕ → List ℕ → Type 0) (out_before out_after : Option (List ℕ)) (held_before held_after text_before text_after : List ℕ) (old new : D) → Type 0
-FlushesOrNot seen may_leave moment left_since out_before out_after held_before held_after text_before text_after old new =
+abbrev pub FlushesOrNot : {D : Type 0} (seen : D → List ℕ) (may_leave : D → List ℕ → Type 0) (moment : D → ℕ)
+    (left_since : D → ℕ → List ℕ → Type 0) (out_before out_after : Option (List ℕ))
+    (held_before held_after text_before text_after : List ℕ) (old new : D) → Type 0
+FlushesOrNot seen may_leave moment left_since out_before out_after held_before held_after text_before text_after old new
+    =
     ((out_after ≡ out_before) × (held_after ≡ held_before) × (text_after ≡ text_before) × (new ≡ old))
-    ⊎ Flushes seen may_leave moment left_since out_before out_after held_before held_after text_before text_after old new
+    ⊎ Flushes seen may_leave moment left_since out_before out_after held_before held_after text_before text_after old
+    new

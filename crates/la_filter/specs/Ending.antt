@@ -45,19 +45,31 @@ abbrev pub end_line : NodeFault → List ℕ
 end_line f = end_name f ++ 10 ∷ []
 
 -- it took all lines of its input
-pub record EndsWell {E : Type 0} (contents : E → Option (List ℕ)) (refuses : E → List ℕ → E → Type 0) (Left : KeptState → (turns last : List Turn) → Type 0) (config : Config) (own : ℕ) (file : List ℕ) (left_before left_after out_before out_after : Option (List ℕ)) (told_before told_after : E) (status : ℕ) : Type 0 where
-  pub well : status ≡ 0
-  pub runs : Runs node_objects config own file (TellsAll contents refuses told_before told_after) Left left_before left_after out_before out_after
+pub record EndsWell {E : Type 0} (contents : E → Option (List ℕ)) (refuses : E → List ℕ → E → Type 0)
+    (Left : KeptState → (turns last : List Turn) → Type 0) (config : Config) (own : ℕ) (file : List ℕ)
+    (left_before left_after out_before out_after : Option (List ℕ)) (told_before told_after : E) (status : ℕ) : Type 0
+  where
+    pub well : status ≡ 0
+    pub runs : Runs node_objects config own file (TellsAll contents refuses told_before told_after) Left left_before
+        left_after out_before out_after
 
 -- or ended by a fault, which is told last
-pub record EndsBadly {E : Type 0} (contents : E → Option (List ℕ)) (refuses : E → List ℕ → E → Type 0) (Left : KeptState → (turns last : List Turn) → Type 0) (config : Config) (own : ℕ) (file : List ℕ) (left_before left_after out_before out_after : Option (List ℕ)) (told_before told_after : E) (status : ℕ) : Type 0 where
-  pub why : NodeFault
-  pub is : status ≡ status_of why
-  pub between : E
-  pub stops : IsRunRefusal node_objects config own file (TellsAll contents refuses told_before between) Left left_before left_after out_before out_after why
-  pub told : Tells contents refuses between told_after (end_line why)
+pub record EndsBadly {E : Type 0} (contents : E → Option (List ℕ)) (refuses : E → List ℕ → E → Type 0)
+    (Left : KeptState → (turns last : List Turn) → Type 0) (config : Config) (own : ℕ) (file : List ℕ)
+    (left_before left_after out_before out_after : Option (List ℕ)) (told_before told_after : E) (status : ℕ) : Type 0
+  where
+    pub why : NodeFault
+    pub is : status ≡ status_of why
+    pub between : E
+    pub stops : IsRunRefusal node_objects config own file (TellsAll contents refuses told_before between) Left left_before
+        left_after out_before out_after why
+    pub told : Tells contents refuses between told_after (end_line why)
 
-abbrev pub Ends : {E : Type 0} (contents : E → Option (List ℕ)) (refuses : E → List ℕ → E → Type 0) (Left : KeptState → (turns last : List Turn) → Type 0) (config : Config) (own : ℕ) (file : List ℕ) (left_before left_after out_before out_after : Option (List ℕ)) (told_before told_after : E) (status : ℕ) → Type 0
+abbrev pub Ends : {E : Type 0} (contents : E → Option (List ℕ)) (refuses : E → List ℕ → E → Type 0)
+    (Left : KeptState → (turns last : List Turn) → Type 0) (config : Config) (own : ℕ) (file : List ℕ)
+    (left_before left_after out_before out_after : Option (List ℕ)) (told_before told_after : E) (status : ℕ) → Type 0
 Ends contents refuses Left config own file left_before left_after out_before out_after told_before told_after status =
-    EndsWell contents refuses Left config own file left_before left_after out_before out_after told_before told_after status
-    ⊎ EndsBadly contents refuses Left config own file left_before left_after out_before out_after told_before told_after status
+    EndsWell contents refuses Left config own file left_before left_after out_before out_after told_before told_after
+    status
+    ⊎ EndsBadly contents refuses Left config own file left_before left_after out_before out_after told_before told_after
+    status

@@ -22,7 +22,8 @@ said_text own k said.Memory = refused_note own k (codes "Memory")
 
 -- an object's answer, or that there is no such object; or there was no memory
 abbrev pub IsSaidAnswer : (own object : ℕ) → Option Answer → Said → Type 0
-IsSaidAnswer own object o (said.Lines text) = (answer : Answer) × (o ≡ Some answer) × (text.items ≡ answered_note own object answer)
+IsSaidAnswer own object o (said.Lines text) =
+    (answer : Answer) × (o ≡ Some answer) × (text.items ≡ answered_note own object answer)
 IsSaidAnswer own object o said.NoSuchObject = o ≡ None
 IsSaidAnswer own object o said.Memory = ⊤
 
@@ -33,6 +34,7 @@ answer_by objects n object query = answer_at (record { view = n.replica.view; ob
 -- what waits for an answer, once more; or there was no memory
 abbrev pub IsSaidAgain : KeptState → Said → Type 0
 IsSaidAgain n (said.Lines text) =
-    (mail : List code.Message) × (whole_mail mail ≡ again n.replica) × ((offered : Counts) → AreToldIn n.replica offered mail) × (text.items ≡ mail_text n.replicas mail)
+    (mail : List code.Message) × (whole_mail mail ≡ again n.replica)
+    × ((offered : Counts) → AreToldIn n.replica offered mail) × (text.items ≡ mail_text n.replicas mail)
 IsSaidAgain n said.NoSuchObject = ⊥
 IsSaidAgain n said.Memory = ⊤

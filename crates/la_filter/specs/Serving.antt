@@ -39,7 +39,8 @@ abbrev pub Of : (line : List ℕ) → (Turn → Type 0) → Turn → Type 0
 Of line Is t = (t.line ≡ line) × Is t
 
 -- a line was taken: all that it comes to was written, and is in the journal
-pub record Takes (Is : Turn → Type 0) (Told : List (List ℕ) → Type 0) (out_before out_after : Option (List ℕ)) (journal_before journal_after : List (List ℕ)) (now : KeptState) : Type 0 where
+pub record Takes (Is : Turn → Type 0) (Told : List (List ℕ) → Type 0) (out_before out_after : Option (List ℕ))
+    (journal_before journal_after : List (List ℕ)) (now : KeptState) : Type 0 where
   pub turn : Turn
   pub is : Is turn
   pub now_is : turn.after ≡ now
@@ -48,7 +49,8 @@ pub record Takes (Is : Turn → Type 0) (Told : List (List ℕ) → Type 0) (out
   pub tells : Told turn.told
 
 -- the same, but that only a front of it was written
-pub record TakesCut (Is : Turn → Type 0) (Told : List (List ℕ) → Type 0) (out_before out_after : Option (List ℕ)) (journal_before journal_after : List (List ℕ)) (now : KeptState) : Type 0 where
+pub record TakesCut (Is : Turn → Type 0) (Told : List (List ℕ) → Type 0) (out_before out_after : Option (List ℕ))
+    (journal_before journal_after : List (List ℕ)) (now : KeptState) : Type 0 where
   pub turn : Turn
   pub is : Is turn
   pub now_is : turn.after ≡ now
@@ -57,23 +59,28 @@ pub record TakesCut (Is : Turn → Type 0) (Told : List (List ℕ) → Type 0) (
   pub tells : Told turn.told
 
 -- nothing was taken: all is as it was
-pub record TakesNone (Told : List (List ℕ) → Type 0) (out_before out_after : Option (List ℕ)) (journal_before journal_after : List (List ℕ)) (before now : KeptState) : Type 0 where
+pub record TakesNone (Told : List (List ℕ) → Type 0) (out_before out_after : Option (List ℕ))
+    (journal_before journal_after : List (List ℕ)) (before now : KeptState) : Type 0 where
   pub out : Keeps out_before out_after
   pub journal : journal_after ≡ journal_before
   pub now_is : now ≡ before
   pub tells : Told []
 
 -- where a write failed, or there was no memory, the line was taken, but only a front of what it comes to was written
-abbrev pub Breaks : (Is : Turn → Type 0) (Told : List (List ℕ) → Type 0) (out_before out_after : Option (List ℕ)) (journal_before journal_after : List (List ℕ)) (now : KeptState) → NodeFault → Type 0
-Breaks Is Told out_before out_after journal_before journal_after now fault.WriteFault = TakesCut Is Told out_before out_after journal_before journal_after now
-Breaks Is Told out_before out_after journal_before journal_after now fault.Memory = TakesCut Is Told out_before out_after journal_before journal_after now
+abbrev pub Breaks : (Is : Turn → Type 0) (Told : List (List ℕ) → Type 0) (out_before out_after : Option (List ℕ))
+    (journal_before journal_after : List (List ℕ)) (now : KeptState) → NodeFault → Type 0
+Breaks Is Told out_before out_after journal_before journal_after now fault.WriteFault =
+    TakesCut Is Told out_before out_after journal_before journal_after now
+Breaks Is Told out_before out_after journal_before journal_after now fault.Memory =
+    TakesCut Is Told out_before out_after journal_before journal_after now
 Breaks Is Told out_before out_after journal_before journal_after now _ = ⊥
 
 abbrev pub TellsNothing : List (List ℕ) → Type 0
 TellsNothing told = told ≡ []
 
 -- a turn, and what was read of its line
-pub record IsStep (objects : List (ℕ × Kind)) (n : KeptState) (k : ℕ) (left_before left_after : Option (List ℕ)) (t : Turn) : Type 0 where
+pub record IsStep (objects : List (ℕ × Kind)) (n : KeptState) (k : ℕ) (left_before left_after : Option (List ℕ))
+    (t : Turn) : Type 0 where
   pub is : IsTurn objects n k t
   pub one : IsOneLine t.line
   pub read : Consumes left_before left_after (t.line ++ 10 ∷ [])
@@ -84,7 +91,8 @@ cut_told k [] = []
 cut_told k (b ∷ rest) = fault_line k BadLine ∷ []
 
 -- the input is at its end, perhaps behind bytes that no line's end follows, and nothing has changed
-pub record Ends (k : ℕ) (Told : List (List ℕ) → Type 0) (left_before left_after out_before out_after : Option (List ℕ)) (journal_before journal_after : List (List ℕ)) (before now : KeptState) : Type 0 where
+pub record Ends (k : ℕ) (Told : List (List ℕ) → Type 0) (left_before left_after out_before out_after : Option (List ℕ))
+    (journal_before journal_after : List (List ℕ)) (before now : KeptState) : Type 0 where
   pub rest : List ℕ
   pub one : IsOneLine rest
   pub read : Consumes left_before left_after rest
@@ -95,19 +103,26 @@ pub record Ends (k : ℕ) (Told : List (List ℕ) → Type 0) (left_before left_
   pub tells : Told (cut_told k rest)
 
 -- a turn was taken, or there was none
-abbrev pub Steps : (objects : List (ℕ × Kind)) (n : KeptState) (k : ℕ) (Told : List (List ℕ) → Type 0) (left_before left_after : Option (List ℕ)) (out_before out_after : Option (List ℕ)) (journal_before journal_after : List (List ℕ)) (now : KeptState) → (more : Bool) → Type 0
+abbrev pub Steps : (objects : List (ℕ × Kind)) (n : KeptState) (k : ℕ) (Told : List (List ℕ) → Type 0)
+    (left_before left_after : Option (List ℕ)) (out_before out_after : Option (List ℕ))
+    (journal_before journal_after : List (List ℕ)) (now : KeptState) → (more : Bool) → Type 0
 Steps objects n k Told left_before left_after out_before out_after journal_before journal_after now true =
     Takes (IsStep objects n k left_before left_after) Told out_before out_after journal_before journal_after now
 Steps objects n k Told left_before left_after out_before out_after journal_before journal_after now false =
     Ends k Told left_before left_after out_before out_after journal_before journal_after n now
 
 -- some of a line was read; it was not taken, or of what it comes to only a front was written
-abbrev pub IsStepRefusal : (objects : List (ℕ × Kind)) (n : KeptState) (k : ℕ) (Told : List (List ℕ) → Type 0) (left_before left_after : Option (List ℕ)) (out_before out_after : Option (List ℕ)) (journal_before journal_after : List (List ℕ)) (now : KeptState) → NodeFault → Type 0
-IsStepRefusal objects n k Told left_before left_after out_before out_after journal_before journal_after now fault.ReadFault =
+abbrev pub IsStepRefusal : (objects : List (ℕ × Kind)) (n : KeptState) (k : ℕ) (Told : List (List ℕ) → Type 0)
+    (left_before left_after : Option (List ℕ)) (out_before out_after : Option (List ℕ))
+    (journal_before journal_after : List (List ℕ)) (now : KeptState) → NodeFault → Type 0
+IsStepRefusal objects n k Told left_before left_after out_before out_after journal_before journal_after now
+    fault.ReadFault =
     TakesSome left_before left_after × TakesNone Told out_before out_after journal_before journal_after n now
-IsStepRefusal objects n k Told left_before left_after out_before out_after journal_before journal_after now fault.WriteFault =
+IsStepRefusal objects n k Told left_before left_after out_before out_after journal_before journal_after now
+    fault.WriteFault =
     TakesCut (IsStep objects n k left_before left_after) Told out_before out_after journal_before journal_after now
-IsStepRefusal objects n k Told left_before left_after out_before out_after journal_before journal_after now fault.Memory =
+IsStepRefusal objects n k Told left_before left_after out_before out_after journal_before journal_after now fault.Memory
+    =
     (TakesSome left_before left_after × TakesNone Told out_before out_after journal_before journal_after n now)
     ⊎ TakesCut (IsStep objects n k left_before left_after) Told out_before out_after journal_before journal_after now
 IsStepRefusal objects n k Told left_before left_after out_before out_after journal_before journal_after now _ = ⊥
@@ -132,7 +147,9 @@ of_step fault.DiskFault = fault.DiskFault
 -- ## All of them
 
 -- all lines of an input were taken
-pub record Serves (objects : List (ℕ × Kind)) (n : KeptState) (Told : List (List ℕ) → Type 0) (Left : (turns last : List Turn) → Type 0) (left_before left_after out_before out_after : Option (List ℕ)) (journal_before journal_after : List (List ℕ)) (now : KeptState) : Type 0 where
+pub record Serves (objects : List (ℕ × Kind)) (n : KeptState) (Told : List (List ℕ) → Type 0)
+    (Left : (turns last : List Turn) → Type 0) (left_before left_after out_before out_after : Option (List ℕ))
+    (journal_before journal_after : List (List ℕ)) (now : KeptState) : Type 0 where
   pub turns : List Turn
   -- what is behind the last line's end
   pub rest : List ℕ
@@ -145,7 +162,9 @@ pub record Serves (objects : List (ℕ × Kind)) (n : KeptState) (Told : List (L
   pub left : Left turns []
 
 -- some were, and are in the journal
-pub record ServesSome (objects : List (ℕ × Kind)) (n : KeptState) (Told : List (List ℕ) → Type 0) (Left : (turns last : List Turn) → Type 0) (left_before left_after : Option (List ℕ)) (Wrote : List ℕ → Type 0) (journal_before journal_after : List (List ℕ)) (now : KeptState) : Type 0 where
+pub record ServesSome (objects : List (ℕ × Kind)) (n : KeptState) (Told : List (List ℕ) → Type 0)
+    (Left : (turns last : List Turn) → Type 0) (left_before left_after : Option (List ℕ)) (Wrote : List ℕ → Type 0)
+    (journal_before journal_after : List (List ℕ)) (now : KeptState) : Type 0 where
   pub turns : List Turn
   pub are : AreTurns objects n 1 turns now
   pub read : ReadsFront left_before left_after (lines_of turns)
@@ -157,27 +176,38 @@ pub record ServesSome (objects : List (ℕ × Kind)) (n : KeptState) (Told : Lis
   pub left : Left turns []
 
 -- some were, but of the last ones nothing was written, and the journal may lack them
-pub record ServesClosed (objects : List (ℕ × Kind)) (n : KeptState) (Told : List (List ℕ) → Type 0) (Left : (turns last : List Turn) → Type 0) (left_before left_after out_before out_after : Option (List ℕ)) : Type 0 where
-  pub turns : List Turn
-  pub last : List Turn
-  pub after : KeptState
-  pub are : AreTurns objects n 1 (turns ++ last) after
-  pub read : ReadsFront left_before left_after (lines_of (turns ++ last))
-  pub wrote : Appends out_before out_after (written turns)
-  pub rest : List ℕ
-  pub tells : Told (told (turns ++ last) ++ cut_told (1 + length (turns ++ last)) rest)
-  pub left : Left turns last
+pub record ServesClosed (objects : List (ℕ × Kind)) (n : KeptState) (Told : List (List ℕ) → Type 0)
+    (Left : (turns last : List Turn) → Type 0) (left_before left_after out_before out_after : Option (List ℕ)) : Type 0
+  where
+    pub turns : List Turn
+    pub last : List Turn
+    pub after : KeptState
+    pub are : AreTurns objects n 1 (turns ++ last) after
+    pub read : ReadsFront left_before left_after (lines_of (turns ++ last))
+    pub wrote : Appends out_before out_after (written turns)
+    pub rest : List ℕ
+    pub tells : Told (told (turns ++ last) ++ cut_told (1 + length (turns ++ last)) rest)
+    pub left : Left turns last
 
 -- Where a read failed all of these was written, and where a write did, or there was no memory, a front of it; but where
 -- the disk failed, or had no memory, nothing of the last ones.
-abbrev pub IsServeRefusal : (objects : List (ℕ × Kind)) (n : KeptState) (Told : List (List ℕ) → Type 0) (Left : (turns last : List Turn) → Type 0) (left_before left_after out_before out_after : Option (List ℕ)) (journal_before journal_after : List (List ℕ)) (now : KeptState) → NodeFault → Type 0
-IsServeRefusal objects n Told Left left_before left_after out_before out_after journal_before journal_after now fault.DiskFault =
+abbrev pub IsServeRefusal : (objects : List (ℕ × Kind)) (n : KeptState) (Told : List (List ℕ) → Type 0)
+    (Left : (turns last : List Turn) → Type 0) (left_before left_after out_before out_after : Option (List ℕ))
+    (journal_before journal_after : List (List ℕ)) (now : KeptState) → NodeFault → Type 0
+IsServeRefusal objects n Told Left left_before left_after out_before out_after journal_before journal_after now
+    fault.DiskFault =
     ServesClosed objects n Told Left left_before left_after out_before out_after
-IsServeRefusal objects n Told Left left_before left_after out_before out_after journal_before journal_after now fault.ReadFault =
-    ServesSome objects n Told Left left_before left_after (Appends out_before out_after) journal_before journal_after now
-IsServeRefusal objects n Told Left left_before left_after out_before out_after journal_before journal_after now fault.WriteFault =
-    ServesSome objects n Told Left left_before left_after (AppendsPrefix out_before out_after) journal_before journal_after now
-IsServeRefusal objects n Told Left left_before left_after out_before out_after journal_before journal_after now fault.Memory =
-    ServesSome objects n Told Left left_before left_after (AppendsPrefix out_before out_after) journal_before journal_after now
+IsServeRefusal objects n Told Left left_before left_after out_before out_after journal_before journal_after now
+    fault.ReadFault =
+    ServesSome objects n Told Left left_before left_after (Appends out_before out_after) journal_before journal_after
+    now
+IsServeRefusal objects n Told Left left_before left_after out_before out_after journal_before journal_after now
+    fault.WriteFault =
+    ServesSome objects n Told Left left_before left_after (AppendsPrefix out_before out_after) journal_before
+    journal_after now
+IsServeRefusal objects n Told Left left_before left_after out_before out_after journal_before journal_after now
+    fault.Memory =
+    ServesSome objects n Told Left left_before left_after (AppendsPrefix out_before out_after) journal_before
+    journal_after now
     ⊎ ServesClosed objects n Told Left left_before left_after out_before out_after
 IsServeRefusal objects n Told Left left_before left_after out_before out_after journal_before journal_after now _ = ⊥

@@ -18,23 +18,30 @@ abbrev pub at_start : Config → (own : ℕ) → KeptState
 at_start config own = kept_state config.replicas (node_at_start config own no_objects)
 
 -- where the journal leads the lines of an input were taken, all of them
-pub record Runs (objects : List (ℕ × Kind)) (config : Config) (own : ℕ) (file : List ℕ) (Told : List (List ℕ) → Type 0) (Left : KeptState → (turns last : List Turn) → Type 0) (left_before left_after out_before out_after : Option (List ℕ)) : Type 0 where
+pub record Runs (objects : List (ℕ × Kind)) (config : Config) (own : ℕ) (file : List ℕ) (Told : List (List ℕ) → Type 0)
+    (Left : KeptState → (turns last : List Turn) → Type 0) (left_before left_after out_before out_after : Option (List ℕ))
+    : Type 0 where
   pub before : KeptState
   pub plays : leads_from (at_start config own) file ≡ Some before
   pub journal : List (List ℕ)
   pub now : KeptState
-  pub serves : Serves objects before Told (Left before) left_before left_after out_before out_after (lines file) journal now
+  pub serves : Serves objects before Told (Left before) left_before left_after out_before out_after (lines file) journal
+      now
 
 -- or some of them
-pub record RunsCut (objects : List (ℕ × Kind)) (config : Config) (own : ℕ) (file : List ℕ) (Told : List (List ℕ) → Type 0) (Left : KeptState → (turns last : List Turn) → Type 0) (left_before left_after out_before out_after : Option (List ℕ)) (f : NodeFault) : Type 0 where
+pub record RunsCut (objects : List (ℕ × Kind)) (config : Config) (own : ℕ) (file : List ℕ)
+    (Told : List (List ℕ) → Type 0) (Left : KeptState → (turns last : List Turn) → Type 0)
+    (left_before left_after out_before out_after : Option (List ℕ)) (f : NodeFault) : Type 0 where
   pub before : KeptState
   pub plays : leads_from (at_start config own) file ≡ Some before
   pub journal : List (List ℕ)
   pub now : KeptState
-  pub stops : IsServeRefusal objects before Told (Left before) left_before left_after out_before out_after (lines file) journal now f
+  pub stops : IsServeRefusal objects before Told (Left before) left_before left_after out_before out_after (lines file)
+      journal now f
 
 -- nothing was read, written or told
-pub record RunsNot (Told : List (List ℕ) → Type 0) (left_before left_after out_before out_after : Option (List ℕ)) : Type 0 where
+pub record RunsNot (Told : List (List ℕ) → Type 0) (left_before left_after out_before out_after : Option (List ℕ)) :
+    Type 0 where
   pub unread : left_after ≡ left_before
   pub unwritten : out_after ≡ out_before
   pub untold : Told []
@@ -43,7 +50,9 @@ pub record RunsNot (Told : List (List ℕ) → Type 0) (left_before left_after o
 abbrev pub IsUnplayable : Config → (own : ℕ) → (file : List ℕ) → Type 0
 IsUnplayable config own file = (leads_from (at_start config own) file ≡ None) ⊎ IsDamaged file
 
-abbrev pub IsRunRefusal : (objects : List (ℕ × Kind)) (config : Config) (own : ℕ) (file : List ℕ) (Told : List (List ℕ) → Type 0) (Left : KeptState → (turns last : List Turn) → Type 0) (left_before left_after out_before out_after : Option (List ℕ)) → NodeFault → Type 0
+abbrev pub IsRunRefusal : (objects : List (ℕ × Kind)) (config : Config) (own : ℕ) (file : List ℕ)
+    (Told : List (List ℕ) → Type 0) (Left : KeptState → (turns last : List Turn) → Type 0)
+    (left_before left_after out_before out_after : Option (List ℕ)) → NodeFault → Type 0
 IsRunRefusal objects config own file Told Left left_before left_after out_before out_after fault.BadConfig =
     RunsNot Told left_before left_after out_before out_after
     × (IsStartRefusal config own no_objects world.BadConfig ⊎ IsStartRefusal config own no_objects world.NoSuchReplica)

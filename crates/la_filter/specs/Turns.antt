@@ -125,7 +125,8 @@ abbrev pub faulty : KeptState → (k : ℕ) → (line : List ℕ) → LineFault 
 faulty n k line fault = record { line = line; text = []; kept = []; told = fault_line k fault ∷ []; after = n }
 
 -- what became of a call that is to be kept: its line is in the journal, or nothing has changed
-abbrev pub IsOutcome : (n after : KeptState) (call : Call) (line : List ℕ) (journal_before journal_after : List (List ℕ)) → Kept → Type 0
+abbrev pub IsOutcome : (n after : KeptState) (call : Call) (line : List ℕ)
+    (journal_before journal_after : List (List ℕ)) → Kept → Type 0
 IsOutcome n after call line journal_before journal_after (kept.Taken given) =
     (acts n call ≡ Some (given_of given, after)) × (journal_after ≡ journal_before ++ line ∷ [])
 IsOutcome n after call line journal_before journal_after (kept.Refused why) =
@@ -204,7 +205,8 @@ OneOf false A B = B
 
 -- a call that is for another node, or brings no news, is passed over
 abbrev pub IsCallTurn : List (ℕ × Kind) → KeptState → (k : ℕ) → Call → Turn → Type 0
-IsCallTurn objects n k call t = OneOf (is_elsewhere n call || is_stale n call) (t ≡ only n t.line []) (IsTurnHere objects n k call t)
+IsCallTurn objects n k call t =
+    OneOf (is_elsewhere n call || is_stale n call) (t ≡ only n t.line []) (IsTurnHere objects n k call t)
 
 -- a line that says a call, and that a journal may have
 pub record Says (objects : List (ℕ × Kind)) (n : KeptState) (k : ℕ) (t : Turn) : Type 0 where

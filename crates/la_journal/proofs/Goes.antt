@@ -6,11 +6,13 @@ use Rattle.la_journal.specs.Note.{Moment, grown, now_of, next_of, first_of}
 use Rattle.la_journal.specs.Outcomes.{LeftOf, LeftAt, LeftSince}
 
 -- no time
-pub stays : (past : List Moment) → Elapses (length past) (length past) (LeftSince past) (LeftSince past) (LeftAt (now_of past))
+pub stays : (past : List Moment)
+    → Elapses (length past) (length past) (LeftSince past) (LeftSince past) (LeftAt (now_of past))
 stays past = record { later = omega arith; nothing_else = λ t c le left. inl left; keeps = λ t c le left. left }
 
 -- a moment more
-pub notes : (past : List Moment) (m : Moment) → Elapses (length past) (length (m ∷ past)) (LeftSince past) (LeftSince (m ∷ past)) (LeftAt m)
+pub notes : (past : List Moment) (m : Moment)
+    → Elapses (length past) (length (m ∷ past)) (LeftSince past) (LeftSince (m ∷ past)) (LeftAt m)
 notes past m = record {
   later = omega arith;
   nothing_else = λ t c le left. was t c left;
@@ -46,11 +48,16 @@ drop_within (suc n) [] ys le = absurd (omega arith)
 drop_within (suc n) (x ∷ xs) ys le = drop_within n xs ys (omega arith)
 
 -- bytes put behind
-pub appends : (kept : ℕ) (old more : List ℕ) → kept ≤ length old → (c : List ℕ) → LeftOf kept (old ++ more) c → (d : List ℕ) × LeftOf kept old d × Torn more d c
+pub appends : (kept : ℕ) (old more : List ℕ) → kept ≤ length old → (c : List ℕ) → LeftOf kept (old ++ more) c
+    → (d : List ℕ) × LeftOf kept old d × Torn more d c
 appends kept old more within c left =
-    let parts = split (drop kept old) more left.0 (subst (λ (l : List ℕ). IsTorn l left.0) (drop_within kept old more within) left.1) in
+    let parts =
+    split (drop kept old) more left.0
+    (subst (λ (l : List ℕ). IsTorn l left.0) (drop_within kept old more within) left.1) in
     let is : c ≡ (take kept old ++ parts.front) ++ parts.back =
-    left.2 ∙ ap (λ (l : List ℕ). l ++ left.0) (take_within kept old more within) ∙ ap (λ (l : List ℕ). take kept old ++ l) parts.whole ∙ sym (append_assoc (take kept old) parts.front parts.back) in
+    left.2 ∙ ap (λ (l : List ℕ). l ++ left.0) (take_within kept old more within)
+    ∙ ap (λ (l : List ℕ). take kept old ++ l) parts.whole
+    ∙ sym (append_assoc (take kept old) parts.front parts.back) in
     (take kept old ++ parts.front, (parts.front, parts.front_torn, refl), (parts.back, parts.back_torn, is))
 
 -- an append that was noted and not made
@@ -59,7 +66,10 @@ none_behind more d c is = ([], tt, is ∙ sym (append-nil d))
 
 -- all of it on the disk
 pub all_kept : (kept : ℕ) (bytes : List ℕ) → length bytes ≤ kept → (c : List ℕ) → LeftOf kept bytes c → c ≡ bytes
-all_kept kept bytes long c left = left.2 ∙ ap (λ (l : List ℕ). l ++ left.0) (take_all kept bytes long) ∙ ap (λ (l : List ℕ). bytes ++ l) (empty left.0 (subst (λ (l : List ℕ). IsTorn l left.0) (drop_all kept bytes long) left.1)) ∙ append-nil bytes
+all_kept kept bytes long c left =
+    left.2 ∙ ap (λ (l : List ℕ). l ++ left.0) (take_all kept bytes long)
+    ∙ ap (λ (l : List ℕ). bytes ++ l)
+    (empty left.0 (subst (λ (l : List ℕ). IsTorn l left.0) (drop_all kept bytes long) left.1)) ∙ append-nil bytes
   where
     empty : (torn : List ℕ) → IsTorn [] torn → torn ≡ []
     empty [] is = refl
@@ -79,9 +89,11 @@ whole_front (suc kept) [] torn is = is
 whole_front (suc kept) (b ∷ bytes) torn is = (inl refl, whole_front kept bytes torn is)
 
 -- bytes put behind, wherever what is kept of the others ends
-pub appends_any : (kept : ℕ) (old more c : List ℕ) → LeftOf kept (old ++ more) c → (d : List ℕ) × LeftOf kept old d × Torn more d c
+pub appends_any : (kept : ℕ) (old more c : List ℕ) → LeftOf kept (old ++ more) c
+    → (d : List ℕ) × LeftOf kept old d × Torn more d c
 appends_any zero old more c left = appends 0 old more (omega arith) c left
-appends_any (suc kept) [] more c left = ([], ([], tt, refl), (c, subst (IsTorn more) (sym left.2) (whole_front (suc kept) more left.0 left.1), refl))
+appends_any (suc kept) [] more c left =
+    ([], ([], tt, refl), (c, subst (IsTorn more) (sym left.2) (whole_front (suc kept) more left.0 left.1), refl))
 appends_any (suc kept) (x ∷ old) more c left =
     let rest = appends_any kept old more (take kept (old ++ more) ++ left.0) (left.0, left.1, refl) in (
       x ∷ rest.0,
@@ -89,7 +101,8 @@ appends_any (suc kept) (x ∷ old) more c left =
       (rest.2.0, rest.2.1, left.2 ∙ ap (λ (l : List ℕ). x ∷ l) rest.2.2),
     )
 
-pub grown_left : (more : List ℕ) (m : Moment) (c : List ℕ) → LeftAt (grown more m) c → (d : List ℕ) × LeftAt m d × Torn more d c
+pub grown_left : (more : List ℕ) (m : Moment) (c : List ℕ) → LeftAt (grown more m) c
+    → (d : List ℕ) × LeftAt m d × Torn more d c
 grown_left more [] c left = absurd left
 grown_left more (e ∷ rest) c (inl this) = let d = appends_any e.kept e.bytes more c this in (d.0, inl d.1, d.2)
 grown_left more (e ∷ rest) c (inr other) = let d = grown_left more rest c other in (d.0, inr d.1, d.2)
@@ -102,14 +115,19 @@ abbrev rest_of : List ℕ → List ℕ
 rest_of [] = []
 rest_of (x ∷ xs) = xs
 
-pub grown_held : (kept : ℕ) (bytes more : List ℕ) (m : Moment) → first_of m ≡ kept ∷ bytes → first_of (grown more m) ≡ kept ∷ bytes ++ more
+pub grown_held : (kept : ℕ) (bytes more : List ℕ) (m : Moment) → first_of m ≡ kept ∷ bytes
+    → first_of (grown more m) ≡ kept ∷ bytes ++ more
 grown_held kept bytes more [] is = absurd (omega (arith, ap length is))
 grown_held kept bytes more (e ∷ rest) is = ap (λ (l : List ℕ). l ++ more) is
 
 -- what is held may be left
-pub held_left : (kept : ℕ) (bytes : List ℕ) (m : Moment) (c : List ℕ) → first_of m ≡ kept ∷ bytes → LeftOf kept bytes c → LeftAt m c
+pub held_left : (kept : ℕ) (bytes : List ℕ) (m : Moment) (c : List ℕ) → first_of m ≡ kept ∷ bytes → LeftOf kept bytes c
+    → LeftAt m c
 held_left kept bytes [] c is left = absurd (omega (arith, ap length is))
-held_left kept bytes (e ∷ rest) c is left = inl (subst (λ (k : ℕ). LeftOf k e.bytes c) (sym (ap head_of is)) (subst (λ (b : List ℕ). LeftOf kept b c) (sym same) left))
+held_left kept bytes (e ∷ rest) c is left =
+    inl
+    (subst (λ (k : ℕ). LeftOf k e.bytes c) (sym (ap head_of is))
+    (subst (λ (b : List ℕ). LeftOf kept b c) (sym same) left))
   where
     same : e.bytes ≡ bytes
     same = ap rest_of is
@@ -120,26 +138,36 @@ alone kept bytes c long (inl this) = all_kept kept bytes long c this
 alone kept bytes c long (inr none) = absurd none
 
 -- a moment that is one alone
-pub noted_alone : (past : List Moment) (kept : ℕ) (bytes all c : List ℕ) → bytes ≡ all → length all ≤ kept → (before : List Moment) → past ≡ next_of (kept ∷ []) bytes before → LeftAt (now_of past) c → c ≡ all
+pub noted_alone : (past : List Moment) (kept : ℕ) (bytes all c : List ℕ) → bytes ≡ all → length all ≤ kept
+    → (before : List Moment) → past ≡ next_of (kept ∷ []) bytes before → LeftAt (now_of past) c → c ≡ all
 noted_alone past kept bytes all c same long before is left =
-    alone kept bytes c (subst (λ (b : List ℕ). length b ≤ kept) (sym same) long) (subst (λ (p : List Moment). LeftAt (now_of p) c) is left) ∙ same
+    alone kept bytes c (subst (λ (b : List ℕ). length b ≤ kept) (sym same) long)
+    (subst (λ (p : List Moment). LeftAt (now_of p) c) is left) ∙ same
 
 -- or one more
-pub noted_more : (past : List Moment) (kept n : ℕ) (bytes all c : List ℕ) → bytes ≡ all → (before : List Moment) → past ≡ next_of (kept ∷ n ∷ []) bytes before → LeftAt (now_of past) c → LeftOf kept all c ⊎ LeftAt (now_of before) c
-noted_more past kept n bytes all c same before is left = elim (subst (λ (p : List Moment). LeftAt (now_of p) c) is left) [
-  | inl this ↦ inl (subst (λ (b : List ℕ). LeftOf kept b c) same this)
-  | inr was ↦ inr was
-]
+pub noted_more : (past : List Moment) (kept n : ℕ) (bytes all c : List ℕ) → bytes ≡ all → (before : List Moment)
+    → past ≡ next_of (kept ∷ n ∷ []) bytes before → LeftAt (now_of past) c → LeftOf kept all c ⊎ LeftAt (now_of before) c
+noted_more past kept n bytes all c same before is left =
+    elim (subst (λ (p : List Moment). LeftAt (now_of p) c) is left) [
+      | inl this ↦ inl (subst (λ (b : List ℕ). LeftOf kept b c) same this)
+      | inr was ↦ inr was
+    ]
 
-pub noted_grown : (past : List Moment) (bytes more c : List ℕ) → bytes ≡ more → (before : List Moment) → past ≡ next_of [] bytes before → LeftAt (now_of past) c → (d : List ℕ) × LeftAt (now_of before) d × Torn more d c
+pub noted_grown : (past : List Moment) (bytes more c : List ℕ) → bytes ≡ more → (before : List Moment)
+    → past ≡ next_of [] bytes before → LeftAt (now_of past) c → (d : List ℕ) × LeftAt (now_of before) d × Torn more d c
 noted_grown past bytes more c same before is left =
-    subst (λ (b : List ℕ). (d : List ℕ) × LeftAt (now_of before) d × Torn b d c) same (grown_left bytes (now_of before) c (subst (λ (p : List Moment). LeftAt (now_of p) c) is left))
+    subst (λ (b : List ℕ). (d : List ℕ) × LeftAt (now_of before) d × Torn b d c) same
+    (grown_left bytes (now_of before) c (subst (λ (p : List Moment). LeftAt (now_of p) c) is left))
 
 -- one call after another, of which the second leaves what the first did
-pub elapses_on : (a b d : ℕ) (past mid since : ℕ → List ℕ → Type 0) (may may_then : List ℕ → Type 0) → Elapses a b past mid may → Elapses b d mid since may_then
-    → ((c : List ℕ) → may c → may_then c) → Elapses a d past since may_then
+pub elapses_on : (a b d : ℕ) (past mid since : ℕ → List ℕ → Type 0) (may may_then : List ℕ → Type 0)
+    → Elapses a b past mid may → Elapses b d mid since may_then → ((c : List ℕ) → may c → may_then c)
+    → Elapses a d past since may_then
 elapses_on a b d past mid since may may_then first second same = record {
   later = omega (arith, first.later, second.later);
-  nothing_else = λ t c le left. ⊎_elim (λ was. ⊎_elim (λ l. inl l) (λ now. inr (same c now)) (first.nothing_else t c le was)) (λ now. inr now) (second.nothing_else t c (omega (arith, le, first.later)) left);
+  nothing_else =
+      λ t c le left.
+      ⊎_elim (λ was. ⊎_elim (λ l. inl l) (λ now. inr (same c now)) (first.nothing_else t c le was)) (λ now. inr now)
+      (second.nothing_else t c (omega (arith, le, first.later)) left);
   keeps = λ t c le left. second.keeps t c (omega (arith, le, first.later)) (first.keeps t c le left);
 }

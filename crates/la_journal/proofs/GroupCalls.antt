@@ -8,16 +8,19 @@ module _ {I C : Type 0} (call : I → C) where
   calls_append : (xs ys : List (Vec I)) → group_calls call (xs ++ ys) ≡ group_calls call xs ++ group_calls call ys
   calls_append [] ys = refl
   calls_append (x ∷ xs) ys =
-      ap (λ (l : List C). calls call x.items ++ l) (calls_append xs ys) ∙ sym (append_assoc (calls call x.items) (group_calls call xs) (group_calls call ys))
+      ap (λ (l : List C). calls call x.items ++ l) (calls_append xs ys)
+      ∙ sym (append_assoc (calls call x.items) (group_calls call xs) (group_calls call ys))
 
-  module _ (groups : List (Vec I)) (i : ℕ) (group : Vec I) (within : i < length groups) (is : group ≡ get_or groups i group) where
+  module _ (groups : List (Vec I)) (i : ℕ) (group : Vec I) (within : i < length groups)
+      (is : group ≡ get_or groups i group) where
     pub next_group : group_calls call (take (i + 1) groups) ≡ group_calls call (take i groups) ++ calls call group.items
     next_group =
         ap (group_calls call) (take_more groups i group within ∙ ap (λ (g : Vec I). take i groups ++ g ∷ []) (sym is))
         ∙ calls_append (take i groups) (group ∷ [])
         ∙ ap (λ (l : List C). group_calls call (take i groups) ++ l) (append-nil (calls call group.items))
 
-    pub split_groups : group_calls call groups ≡ group_calls call (take i groups) ++ (calls call group.items ++ group_calls call (drop (i + 1) groups))
+    pub split_groups : group_calls call groups
+        ≡ group_calls call (take i groups) ++ (calls call group.items ++ group_calls call (drop (i + 1) groups))
     split_groups =
         ap (group_calls call) (sym (take-append-drop i groups)
         ∙ ap (λ (l : List (Vec I)). take i groups ++ l) (drop_more groups i group within ∙ ap (λ (g : Vec I). g ∷ drop (i + 1) groups) (sym is)))

@@ -30,62 +30,79 @@ module _ {S C : Type 0} (named_state : List ℕ → Option S) (named : List ℕ 
   abbrev leads : S → Journal → Option S
   leads start j = steps_from (plays named step) j.calls (begins named_state j.state start)
 
-  pub same_lines : (start : S) (file c : List ℕ) → lines c ≡ lines file → after named_state named step start c ≡ after named_state named step start file
+  pub same_lines : (start : S) (file c : List ℕ) → lines c ≡ lines file
+      → after named_state named step start c ≡ after named_state named step start file
   same_lines start file c same = ap (λ (ls : List (List ℕ)). leads start (journal ls)) same
 
   -- one line, as the loop plays it
-  pub played_as : (state : S) (line : List ℕ) (call : Option C) → state_in line ≡ None → named line ≡ call → plays named step state line ≡ step_by step state call
-  played_as state line call no_state is = ap (λ (o : Option (List ℕ)). step_by step state (call_unless o (named line))) no_state ∙ ap (step_by step state) is
+  pub played_as : (state : S) (line : List ℕ) (call : Option C) → state_in line ≡ None → named line ≡ call
+      → plays named step state line ≡ step_by step state call
+  played_as state line call no_state is =
+      ap (λ (o : Option (List ℕ)). step_by step state (call_unless o (named line))) no_state ∙ ap (step_by step state) is
 
-  pub state_plays_none : (state : S) (line text : List ℕ) → state_in line ≡ Some text → plays named step state line ≡ None
+  pub state_plays_none : (state : S) (line text : List ℕ) → state_in line ≡ Some text
+      → plays named step state line ≡ None
   state_plays_none state line text is = ap (λ (o : Option (List ℕ)). step_by step state (call_unless o (named line))) is
 
   -- where a line is not played the journal leads nowhere
-  pub stops : (state : S) (ls rest : List (List ℕ)) (line : List ℕ) → ls ≡ line ∷ rest → plays named step state line ≡ None → steps_from (plays named step) ls (Some state) ≡ None
+  pub stops : (state : S) (ls rest : List (List ℕ)) (line : List ℕ) → ls ≡ line ∷ rest
+      → plays named step state line ≡ None → steps_from (plays named step) ls (Some state) ≡ None
   stops state ls rest line is none =
       ap (λ (l : List (List ℕ)). steps_from (plays named step) l (Some state)) is
       ∙ ap (λ (o : Option S). steps_from (plays named step) rest o) none
       ∙ none_stays (plays named step) rest
 
-  module _ (text : C → List ℕ) (round_trip : (c : C) → named (text c) ≡ Some c) (clean : (c : C) → IsCallLine (text c)) where
-    texts_lead : (cs : List C) (state : Option S) → steps_from (plays named step) (map text cs) state ≡ steps_from step cs state
-    texts_lead [] state = refl
-    texts_lead (c ∷ cs) None = texts_lead cs None
-    texts_lead (c ∷ cs) (Some state) =
-        ap (λ (o : Option S). steps_from (plays named step) (map text cs) o) (played_as state (text c) (Some c) (clean c).1 (round_trip c))
-        ∙ texts_lead cs (step state c)
+  module _ (text : C → List ℕ) (round_trip : (c : C) → named (text c) ≡ Some c) (clean : (c : C) → IsCallLine (text c))
+    where
+      texts_lead : (cs : List C) (state : Option S)
+          → steps_from (plays named step) (map text cs) state ≡ steps_from step cs state
+      texts_lead [] state = refl
+      texts_lead (c ∷ cs) None = texts_lead cs None
+      texts_lead (c ∷ cs) (Some state) =
+          ap (λ (o : Option S). steps_from (plays named step) (map text cs) o)
+          (played_as state (text c) (Some c) (clean c).1 (round_trip c))
+          ∙ texts_lead cs (step state c)
 
-    are_calls : (cs : List C) → AreCalls (map text cs)
-    are_calls [] = tt
-    are_calls (c ∷ cs) = ((clean c).1, are_calls cs)
+      are_calls : (cs : List C) → AreCalls (map text cs)
+      are_calls [] = tt
+      are_calls (c ∷ cs) = ((clean c).1, are_calls cs)
 
-    pub leads_on : (start : S) (file c : List ℕ) (cs : List C) → lines c ≡ lines file ++ map text cs → after named_state named step start c ≡ steps_from step cs (after named_state named step start file)
-    leads_on start file c cs more =
-        ap (λ (ls : List (List ℕ)). leads start (journal ls)) more
-        ∙ ap (leads start) (journal_more (lines file) (map text cs) (are_calls cs))
-        ∙ from_append (plays named step) (says file).calls (map text cs) (begins named_state (says file).state start)
-        ∙ texts_lead cs (after named_state named step start file)
+      pub leads_on : (start : S) (file c : List ℕ) (cs : List C) → lines c ≡ lines file ++ map text cs
+          → after named_state named step start c ≡ steps_from step cs (after named_state named step start file)
+      leads_on start file c cs more =
+          ap (λ (ls : List (List ℕ)). leads start (journal ls)) more
+          ∙ ap (leads start) (journal_more (lines file) (map text cs) (are_calls cs))
+          ∙ from_append (plays named step) (says file).calls (map text cs) (begins named_state (says file).state start)
+          ∙ texts_lead cs (after named_state named step start file)
 
-    pub one_leads : (start : S) (file c : List ℕ) (call : C) (state : S) → after named_state named step start file ≡ Some state → IsBeforeOrAfter (lines file) (text call) c → LeadsToSome (after named_state named step start) step (call ∷ []) state c
-    one_leads start file c call state was (inl same) = (0, omega arith, same_lines start file c same ∙ was)
-    one_leads start file c call state was (inr more) = (1, omega arith, leads_on start file c (call ∷ []) more ∙ ap (steps_from step (call ∷ [])) was)
+      pub one_leads : (start : S) (file c : List ℕ) (call : C) (state : S)
+          → after named_state named step start file ≡ Some state → IsBeforeOrAfter (lines file) (text call) c
+          → LeadsToSome (after named_state named step start) step (call ∷ []) state c
+      one_leads start file c call state was (inl same) = (0, omega arith, same_lines start file c same ∙ was)
+      one_leads start file c call state was (inr more) =
+          (1, omega arith, leads_on start file c (call ∷ []) more ∙ ap (steps_from step (call ∷ [])) was)
 
-    module _ {I : Type 0} (call : I → C) where
-      pub texts_are : (n : ℕ) (inputs : List I) → take n (texts call text inputs) ≡ map text (take n (calls call inputs))
-      texts_are zero inputs = refl
-      texts_are (suc n) [] = refl
-      texts_are (suc n) (input ∷ inputs) = ap (λ (ls : List (List ℕ)). text (call input) ∷ ls) (texts_are n inputs)
+      module _ {I : Type 0} (call : I → C) where
+        pub texts_are : (n : ℕ) (inputs : List I)
+            → take n (texts call text inputs) ≡ map text (take n (calls call inputs))
+        texts_are zero inputs = refl
+        texts_are (suc n) [] = refl
+        texts_are (suc n) (input ∷ inputs) = ap (λ (ls : List (List ℕ)). text (call input) ∷ ls) (texts_are n inputs)
 
-      pub some_lead : (start : S) (file c : List ℕ) (inputs : List I) (state : S) → after named_state named step start file ≡ Some state → IsSomeOf (lines file) (texts call text inputs) c → LeadsToSome (after named_state named step start) step (calls call inputs) state c
-      some_lead start file c inputs state was some = (
-        some.0,
-        omega (arith, some.1, length-map inputs (λ (i : I). text (call i)), length-map inputs call),
-        leads_on start file c (take some.0 (calls call inputs)) (some.2 ∙ ap (λ (ls : List (List ℕ)). lines file ++ ls) (texts_are some.0 inputs))
-            ∙ ap (steps_from step (take some.0 (calls call inputs))) was,
-      )
+        pub some_lead : (start : S) (file c : List ℕ) (inputs : List I) (state : S)
+            → after named_state named step start file ≡ Some state → IsSomeOf (lines file) (texts call text inputs) c
+            → LeadsToSome (after named_state named step start) step (calls call inputs) state c
+        some_lead start file c inputs state was some = (
+          some.0,
+          omega (arith, some.1, length-map inputs (λ (i : I). text (call i)), length-map inputs call),
+          leads_on start file c (take some.0 (calls call inputs))
+              (some.2 ∙ ap (λ (ls : List (List ℕ)). lines file ++ ls) (texts_are some.0 inputs))
+              ∙ ap (steps_from step (take some.0 (calls call inputs))) was,
+        )
 
 -- a cause of not beginning is one of not being played
-pub cause_stays : {S R : Type 0} (lacks_memory : R → Type 0) (begun played : Option S) → (begun ≡ None → played ≡ None) → (why : Unplayed R) → IsCauseOf lacks_memory 0 0 [] begun why → IsCauseOf lacks_memory 0 0 [] played why
+pub cause_stays : {S R : Type 0} (lacks_memory : R → Type 0) (begun played : Option S) → (begun ≡ None → played ≡ None)
+    → (why : Unplayed R) → IsCauseOf lacks_memory 0 0 [] begun why → IsCauseOf lacks_memory 0 0 [] played why
 cause_stays lacks_memory begun played stays Memory cause = tt
 cause_stays lacks_memory begun played stays Disk cause = cause
 cause_stays lacks_memory begun played stays NoState cause = stays cause
@@ -96,7 +113,8 @@ cause_stays lacks_memory begun played stays (Refused place refusal) (inr none) =
 cause_stays lacks_memory begun played stays (Damaged place) cause = cause
 
 -- some of the first calls, or all of them and some of the later ones, are some of all
-module _ {S C : Type 0} (leads : List ℕ → Option S) (step : S → C → Option S) (taken later : List C) (first next : S) (c : List ℕ) where
+module _ {S C : Type 0} (leads : List ℕ → Option S) (step : S → C → Option S) (taken later : List C) (first next : S)
+    (c : List ℕ) where
   pub first_of_all : LeadsToSome leads step taken first c → LeadsToSome leads step (taken ++ later) first c
   first_of_all some = (
     some.0,
@@ -104,7 +122,8 @@ module _ {S C : Type 0} (leads : List ℕ → Option S) (step : S → C → Opti
     some.2 ∙ ap (λ (cs : List C). steps step cs first) (sym (take-append-le some.0 taken later some.1)),
   )
 
-  pub later_of_all : steps step taken first ≡ Some next → LeadsToSome leads step later next c → LeadsToSome leads step (taken ++ later) first c
+  pub later_of_all : steps step taken first ≡ Some next → LeadsToSome leads step later next c
+      → LeadsToSome leads step (taken ++ later) first c
   later_of_all led some = (
     length taken + some.0,
     omega (arith, some.1, length-append taken later),

@@ -21,46 +21,64 @@ torn_again : (bytes torn c : List ℕ) → IsTorn bytes torn → IsTorn torn c �
 torn_again bytes torn [] first second = tt
 torn_again bytes [] (x ∷ c) first second = absurd second
 torn_again [] (t ∷ torn) (x ∷ c) first second = absurd first
-torn_again (b ∷ bytes) (t ∷ torn) (x ∷ c) first second =
-    (⊎_elim (λ same. ⊎_elim (λ was. inl (same ∙ was)) (λ cut. inr (same ∙ cut)) first.0) (λ cut. inr cut) second.0, torn_again bytes torn c first.1 second.1)
+torn_again (b ∷ bytes) (t ∷ torn) (x ∷ c) first second = (
+  ⊎_elim (λ same. ⊎_elim (λ was. inl (same ∙ was)) (λ cut. inr (same ∙ cut)) first.0) (λ cut. inr cut) second.0,
+  torn_again bytes torn c first.1 second.1,
+)
 
 -- what a crash leaves of what one left is what one may leave
-pub left_again : (marks : List Bool) (kept : ℕ) (bytes c : List ℕ) → kept ≤ length bytes → LeftOf kept (left_by marks kept bytes) c → LeftOf kept bytes c
+pub left_again : (marks : List Bool) (kept : ℕ) (bytes c : List ℕ) → kept ≤ length bytes
+    → LeftOf kept (left_by marks kept bytes) c → LeftOf kept bytes c
 left_again marks kept bytes c le left =
     let front = take kept bytes in
     let rest = spoilt_by marks (drop kept bytes) in
     let long : kept ≡ length front = sym (long_take kept bytes le) in (
       left.0,
-      torn_again (drop kept bytes) rest left.0 (is_torn marks (drop kept bytes)) (subst (λ (l : List ℕ). IsTorn l left.0) (drop_at front rest kept (sym long)) left.1),
+      torn_again (drop kept bytes) rest left.0 (is_torn marks (drop kept bytes))
+          (subst (λ (l : List ℕ). IsTorn l left.0) (drop_at front rest kept (sym long)) left.1),
       left.2 ∙ ap (λ (l : List ℕ). l ++ left.0) (take_at front rest kept (sym long)),
     )
 
-pub still_within : (marks : List Bool) (kept : ℕ) (bytes : List ℕ) → kept ≤ length bytes → kept ≤ length (left_by marks kept bytes)
-still_within marks kept bytes le = omega (arith, long_take kept bytes le, length-append (take kept bytes) (spoilt_by marks (drop kept bytes)))
+pub still_within : (marks : List Bool) (kept : ℕ) (bytes : List ℕ) → kept ≤ length bytes
+    → kept ≤ length (left_by marks kept bytes)
+still_within marks kept bytes le =
+    omega (arith, long_take kept bytes le, length-append (take kept bytes) (spoilt_by marks (drop kept bytes)))
 
 -- what another process finds, and may leave until it syncs
-module _ (past : List Moment) (kept : ℕ) (bytes : List ℕ) (held : first_of (now_of past) ≡ kept ∷ bytes) (marks : List Bool) where
+module _ (past : List Moment) (kept : ℕ) (bytes : List ℕ) (held : first_of (now_of past) ≡ kept ∷ bytes)
+    (marks : List Bool) where
   pub finds : (found : List ℕ) → found ≡ left_by marks kept bytes → LeftAt (now_of past) found
-  finds found is = held_left kept bytes (now_of past) found held (subst (LeftOf kept bytes) (sym is) (is_left marks kept bytes))
+  finds found is =
+      held_left kept bytes (now_of past) found held (subst (LeftOf kept bytes) (sym is) (is_left marks kept bytes))
 
-  pub leaves_again : kept ≤ length bytes → (found : List ℕ) (found_kept : ℕ) (before : List Moment) → found ≡ left_by marks kept bytes → found_kept ≡ kept → before ≡ past
-      → (c : List ℕ) → LeftOf found_kept found c ⊎ LeftAt (now_of before) c → LeftAt (now_of past) c
+  pub leaves_again : kept ≤ length bytes → (found : List ℕ) (found_kept : ℕ) (before : List Moment)
+      → found ≡ left_by marks kept bytes → found_kept ≡ kept → before ≡ past → (c : List ℕ)
+      → LeftOf found_kept found c ⊎ LeftAt (now_of before) c → LeftAt (now_of past) c
   leaves_again le found found_kept before is same_kept same c (inl this) =
-      held_left kept bytes (now_of past) c held (left_again marks kept bytes c le (subst (λ (k : ℕ). LeftOf k (left_by marks kept bytes) c) same_kept (subst (λ (b : List ℕ). LeftOf found_kept b c) is this)))
-  leaves_again le found found_kept before is same_kept same c (inr was) = subst (λ (p : List Moment). LeftAt (now_of p) c) same was
+      held_left kept bytes (now_of past) c held
+      (left_again marks kept bytes c le
+      (subst (λ (k : ℕ). LeftOf k (left_by marks kept bytes) c) same_kept
+      (subst (λ (b : List ℕ). LeftOf found_kept b c) is this)))
+  leaves_again le found found_kept before is same_kept same c (inr was) =
+      subst (λ (p : List Moment). LeftAt (now_of p) c) same was
 
 -- mark by mark
-pub one_more : (left : List ℕ) (n : ℕ) (marks : List Bool) (bytes : List ℕ) (byte : ℕ) → n < length marks → n < length bytes → byte ≡ (if get_or marks n false then 0 else get_or bytes n 0)
-    → (left ++ byte ∷ []) ++ spoilt_by (drop (n + 1) marks) (drop (n + 1) bytes) ≡ left ++ spoilt_by (drop n marks) (drop n bytes)
+pub one_more : (left : List ℕ) (n : ℕ) (marks : List Bool) (bytes : List ℕ) (byte : ℕ) → n < length marks
+    → n < length bytes → byte ≡ (if get_or marks n false then 0 else get_or bytes n 0)
+    → (left ++ byte ∷ []) ++ spoilt_by (drop (n + 1) marks) (drop (n + 1) bytes)
+    ≡ left ++ spoilt_by (drop n marks) (drop n bytes)
 one_more left n marks bytes byte lt lt' is =
     append_assoc left (byte ∷ []) (spoilt_by (drop (n + 1) marks) (drop (n + 1) bytes))
-    ∙ ap (λ (l : List ℕ). left ++ l) (ap (λ (b : ℕ). b ∷ spoilt_by (drop (n + 1) marks) (drop (n + 1) bytes)) is ∙ sym (λ i. spoilt_by (drop_more marks n false lt i) (drop_more bytes n 0 lt' i)))
+    ∙ ap (λ (l : List ℕ). left ++ l)
+    (ap (λ (b : ℕ). b ∷ spoilt_by (drop (n + 1) marks) (drop (n + 1) bytes)) is
+    ∙ sym (λ i. spoilt_by (drop_more marks n false lt i) (drop_more bytes n 0 lt' i)))
 
 spoilt_none : (marks : List Bool) → spoilt_by marks [] ≡ []
 spoilt_none [] = refl
 spoilt_none (m ∷ marks) = refl
 
-pub none_more : (n : ℕ) (marks : List Bool) (bytes : List ℕ) → (length marks ≤ n) ⊎ (length bytes ≤ n) → spoilt_by (drop n marks) (drop n bytes) ≡ []
+pub none_more : (n : ℕ) (marks : List Bool) (bytes : List ℕ) → (length marks ≤ n) ⊎ (length bytes ≤ n)
+    → spoilt_by (drop n marks) (drop n bytes) ≡ []
 none_more n marks bytes (inl le) = ap (λ (m : List Bool). spoilt_by m (drop n bytes)) (drop_all n marks le)
 none_more n marks bytes (inr le) = ap (spoilt_by (drop n marks)) (drop_all n bytes le) ∙ spoilt_none (drop n marks)
 

@@ -21,7 +21,8 @@ step_end got bytes b is = grind (arith, nat_tests)
 pub step_cut : (got bytes : List ℕ) (b : ℕ) → b ≡ 0 → lines_from got (b ∷ bytes) ≡ []
 step_cut got bytes b is = grind (arith, nat_tests)
 
-pub step_byte : (got bytes : List ℕ) (b : ℕ) → b ≢ 0 → b ≢ 10 → lines_from got (b ∷ bytes) ≡ lines_from (got ++ b ∷ []) bytes
+pub step_byte : (got bytes : List ℕ) (b : ℕ) → b ≢ 0 → b ≢ 10
+    → lines_from got (b ∷ bytes) ≡ lines_from (got ++ b ∷ []) bytes
 step_byte got bytes b not0 not10 = grind (arith, nat_tests)
 
 -- clean bytes belong to the line at hand
@@ -37,7 +38,8 @@ pub first_line : (line rest : List ℕ) → IsClean line → lines (line ++ 10 �
 first_line line rest clean = through [] line (10 ∷ rest) clean ∙ step_end line rest 10 refl
 
 -- of a line that a crash cut short nothing is read, or it is whole
-pub torn_line : (got line torn : List ℕ) → IsClean line → IsTorn (line ++ 10 ∷ []) torn → (lines_from got torn ≡ []) ⊎ (torn ≡ line ++ 10 ∷ [])
+pub torn_line : (got line torn : List ℕ) → IsClean line → IsTorn (line ++ 10 ∷ []) torn
+    → (lines_from got torn ≡ []) ⊎ (torn ≡ line ++ 10 ∷ [])
 torn_line got line [] clean is = inl refl
 torn_line got [] (t ∷ []) clean is = elim is.0 [
   | inl end ↦ inr (ap (λ (x : ℕ). x ∷ []) end)
@@ -71,16 +73,19 @@ lines_clean got (b ∷ bytes) clean = elim (cases_eq b 10) [
   ]
 ]
 
-pub lines_file_of : (before : List (List ℕ)) (rest : List ℕ) → AreClean before → lines (file_of before ++ rest) ≡ before ++ lines rest
+pub lines_file_of : (before : List (List ℕ)) (rest : List ℕ) → AreClean before
+    → lines (file_of before ++ rest) ≡ before ++ lines rest
 lines_file_of [] rest clean = refl
 lines_file_of (line ∷ before) rest clean =
     ap lines (append_assoc line (10 ∷ file_of before) rest)
     ∙ first_line line (file_of before ++ rest) clean.0
     ∙ ap (λ (ls : List (List ℕ)). line ∷ ls) (lines_file_of before rest clean.1)
 
-pub file_of_push : (before : List (List ℕ)) (line : List ℕ) → file_of before ++ (line ++ 10 ∷ []) ≡ file_of (before ++ line ∷ [])
+pub file_of_push : (before : List (List ℕ)) (line : List ℕ)
+    → file_of before ++ (line ++ 10 ∷ []) ≡ file_of (before ++ line ∷ [])
 file_of_push [] line = refl
-file_of_push (l ∷ before) line = append_assoc l (10 ∷ file_of before) (line ++ 10 ∷ []) ∙ ap (λ (f : List ℕ). l ++ 10 ∷ f) (file_of_push before line)
+file_of_push (l ∷ before) line =
+    append_assoc l (10 ∷ file_of before) (line ++ 10 ∷ []) ∙ ap (λ (f : List ℕ). l ++ 10 ∷ f) (file_of_push before line)
 
 -- the front of a file that is its lines
 pub record Parts (file : List ℕ) : Type 0 where
@@ -98,7 +103,8 @@ module _ (file : List ℕ) (settled : file ≡ file_of (lines file)) (line : Lis
   appended = append_is (line ++ 10 ∷ []) ∙ ap (λ (ls : List (List ℕ)). lines file ++ ls) (first_line line [] clean)
 
   pub still_settled : file ++ (line ++ 10 ∷ []) ≡ file_of (lines (file ++ (line ++ 10 ∷ [])))
-  still_settled = ap (λ (f : List ℕ). f ++ (line ++ 10 ∷ [])) settled ∙ file_of_push (lines file) line ∙ ap file_of (sym appended)
+  still_settled =
+      ap (λ (f : List ℕ). f ++ (line ++ 10 ∷ [])) settled ∙ file_of_push (lines file) line ∙ ap file_of (sym appended)
 
   pub torn_keeps : (torn : List ℕ) → IsTorn (line ++ 10 ∷ []) torn → IsBeforeOrAfter (lines file) line (file ++ torn)
   torn_keeps torn is = elim (torn_line [] line torn clean is) [
@@ -123,7 +129,8 @@ front_from got (b ∷ file) = elim (cases_eq b 10) [
     | inr more ↦
         let rest = front_from (got ++ b ∷ []) file in (
           rest.0,
-          sym (append_assoc got (b ∷ []) file) ∙ rest.1 ∙ ap (λ (ls : List (List ℕ)). file_of ls ++ rest.0) (sym (step_byte got file b more go)),
+          sym (append_assoc got (b ∷ []) file) ∙ rest.1
+              ∙ ap (λ (ls : List (List ℕ)). file_of ls ++ rest.0) (sym (step_byte got file b more go)),
         )
   ]
 ]
@@ -131,12 +138,14 @@ front_from got (b ∷ file) = elim (cases_eq b 10) [
 pub front : (file : List ℕ) → take (length (file_of (lines file))) file ≡ file_of (lines file)
 front file =
     let parts = front_from [] file in
-    ap (λ (f : List ℕ). take (length (file_of (lines file))) f) parts.1 ∙ take_at (file_of (lines file)) parts.0 (length (file_of (lines file))) refl
+    ap (λ (f : List ℕ). take (length (file_of (lines file))) f) parts.1
+    ∙ take_at (file_of (lines file)) parts.0 (length (file_of (lines file))) refl
 
 -- the lines alone, with nothing behind them
 pub lines_alone : (file : List ℕ) → lines (file_of (lines file)) ≡ lines file
 lines_alone file =
-    ap lines (sym (append-nil (file_of (lines file)))) ∙ lines_file_of (lines file) [] (lines_clean [] file tt) ∙ append-nil (lines file)
+    ap lines (sym (append-nil (file_of (lines file)))) ∙ lines_file_of (lines file) [] (lines_clean [] file tt)
+    ∙ append-nil (lines file)
 
 -- the first line ends here
 module _ (file : List ℕ) (n : ℕ) (within : n < length file) (clean : IsClean (take n file)) where
@@ -150,10 +159,14 @@ module _ (file : List ℕ) (n : ℕ) (within : n < length file) (clean : IsClean
   line_at is = ap lines (ends_at is) ∙ first_line (take n file) (drop (n + 1) file) clean
 
   pub cut_at : get_or file n 0 ≡ 0 → lines file ≡ []
-  cut_at is = ap lines byte_at ∙ through [] (take n file) (get_or file n 0 ∷ drop (n + 1) file) clean ∙ step_cut (take n file) (drop (n + 1) file) (get_or file n 0) is
+  cut_at is =
+      ap lines byte_at ∙ through [] (take n file) (get_or file n 0 ∷ drop (n + 1) file) clean
+      ∙ step_cut (take n file) (drop (n + 1) file) (get_or file n 0) is
 
   pub goes_at : get_or file n 0 ≢ 0 → get_or file n 0 ≢ 10 → IsClean (take (n + 1) file)
-  goes_at not0 not10 = subst IsClean (sym (take_more file n 0 within)) (clean_append (take n file) (get_or file n 0 ∷ []) clean (not0, not10, tt))
+  goes_at not0 not10 =
+      subst IsClean (sym (take_more file n 0 within))
+      (clean_append (take n file) (get_or file n 0 ∷ []) clean (not0, not10, tt))
 
 pub none_whole : (file : List ℕ) → IsClean file → lines file ≡ []
 none_whole file clean = ap lines (sym (append-nil file)) ∙ through [] file [] clean

@@ -41,7 +41,8 @@ with_record record_of before group = group ++ (record_of before group ++ 10 ∷ 
 -- the bytes of these groups, each with its record, behind a record
 abbrev pub with_records : Records → (before : List ℕ) → List (List ℕ) → List ℕ
 with_records record_of before [] = []
-with_records record_of before (g ∷ gs) = g ++ (record_of before g ++ 10 ∷ with_records record_of (record_of before g) gs)
+with_records record_of before (g ∷ gs) =
+    g ++ (record_of before g ++ 10 ∷ with_records record_of (record_of before g) gs)
 
 -- the record of the last one
 abbrev pub last_record : Records → (before : List ℕ) → List (List ℕ) → List ℕ
@@ -67,7 +68,8 @@ AreGroups (g ∷ gs) = IsGroup [] g × AreGroups gs
 
 -- a record's line, whatever it is of
 abbrev pub AreRecords : Records → Type 0
-AreRecords record_of = (before group : List ℕ) → (is_record (record_of before group) ≡ true) × HasNoEnd (record_of before group)
+AreRecords record_of =
+    (before group : List ℕ) → (is_record (record_of before group) ≡ true) × HasNoEnd (record_of before group)
 
 -- The premise on a crash: what it left of a group that was not synced is the whole group, or has no whole record
 -- that matches what stands before it.

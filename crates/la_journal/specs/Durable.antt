@@ -21,19 +21,27 @@ IsSameOr before whole c = before c ⊎ (lines c ≡ whole)
 
 -- An input is refused for a cause: by the machine where it has no step or no memory; for the disk where
 -- this failed; as closed where that was so before. It is closed from a failure of the disk on.
-abbrev pub IsRefusal : {S R : Type 0} (lacks_memory : R → Type 0) → (before now : Bool) → (faults_before faults : ℕ) → Option S → RefusedOf R → Type 0
-IsRefusal lacks_memory before now faults_before faults stepped (Machine refusal) = (before ≡ false) × (now ≡ false) × (lacks_memory refusal ⊎ (stepped ≡ None))
+abbrev pub IsRefusal : {S R : Type 0} (lacks_memory : R → Type 0) → (before now : Bool) → (faults_before faults : ℕ)
+    → Option S → RefusedOf R → Type 0
+IsRefusal lacks_memory before now faults_before faults stepped (Machine refusal) =
+    (before ≡ false) × (now ≡ false) × (lacks_memory refusal ⊎ (stepped ≡ None))
 IsRefusal lacks_memory before now faults_before faults stepped NoMemory = (before ≡ false) × (now ≡ false)
-IsRefusal lacks_memory before now faults_before faults stepped NotKept = (before ≡ false) × (now ≡ true) × (faults_before < faults)
+IsRefusal lacks_memory before now faults_before faults stepped NotKept =
+    (before ≡ false) × (now ≡ true) × (faults_before < faults)
 IsRefusal lacks_memory before now faults_before faults stepped Closed = (before ≡ true) × (now ≡ true)
 
 -- Of inputs the first some were taken: the machine refuses the one behind these, and else none was taken.
 -- `stepped` is what so many calls come to.
-abbrev pub IsStop : {S R : Type 0} (lacks_memory : R → Type 0) → (before now : Bool) → (faults_before faults : ℕ) → (many taken : ℕ) → (stepped : ℕ → Option S) → RefusedOf R → Type 0
-IsStop lacks_memory before now faults_before faults many taken stepped (Machine refusal) = (taken < many) × IsRefusal lacks_memory before now faults_before faults (stepped (taken + 1)) (Machine refusal)
-IsStop lacks_memory before now faults_before faults many taken stepped NoMemory = (taken ≡ 0) × IsRefusal lacks_memory before now faults_before faults (stepped 0) NoMemory
-IsStop lacks_memory before now faults_before faults many taken stepped NotKept = (taken ≡ 0) × IsRefusal lacks_memory before now faults_before faults (stepped 0) NotKept
-IsStop lacks_memory before now faults_before faults many taken stepped Closed = (taken ≡ 0) × IsRefusal lacks_memory before now faults_before faults (stepped 0) Closed
+abbrev pub IsStop : {S R : Type 0} (lacks_memory : R → Type 0) → (before now : Bool) → (faults_before faults : ℕ)
+    → (many taken : ℕ) → (stepped : ℕ → Option S) → RefusedOf R → Type 0
+IsStop lacks_memory before now faults_before faults many taken stepped (Machine refusal) =
+    (taken < many) × IsRefusal lacks_memory before now faults_before faults (stepped (taken + 1)) (Machine refusal)
+IsStop lacks_memory before now faults_before faults many taken stepped NoMemory =
+    (taken ≡ 0) × IsRefusal lacks_memory before now faults_before faults (stepped 0) NoMemory
+IsStop lacks_memory before now faults_before faults many taken stepped NotKept =
+    (taken ≡ 0) × IsRefusal lacks_memory before now faults_before faults (stepped 0) NotKept
+IsStop lacks_memory before now faults_before faults many taken stepped Closed =
+    (taken ≡ 0) × IsRefusal lacks_memory before now faults_before faults (stepped 0) Closed
 
 -- A journal is not compacted for a cause, and is closed where the disk failed or it was closed before.
 abbrev pub IsNotCompacted : (before now : Bool) → (faults_before faults : ℕ) → Uncompacted → Type 0
@@ -42,11 +50,13 @@ IsNotCompacted before now faults_before faults NotReplaced = (before ≡ false) 
 IsNotCompacted before now faults_before faults WasClosed = (before ≡ true) × (now ≡ true)
 
 -- a journal is not played: a line says nothing, or is refused, or lines stand behind the whole ones
-abbrev pub IsCauseOf : {S R : Type 0} (lacks_memory : R → Type 0) → (faults_before faults : ℕ) → List ℕ → Option S → Unplayed R → Type 0
+abbrev pub IsCauseOf : {S R : Type 0} (lacks_memory : R → Type 0) → (faults_before faults : ℕ) → List ℕ → Option S
+    → Unplayed R → Type 0
 IsCauseOf lacks_memory faults_before faults file played Memory = ⊤
 IsCauseOf lacks_memory faults_before faults file played Disk = faults_before < faults
 IsCauseOf lacks_memory faults_before faults file played NoState = played ≡ None
 IsCauseOf lacks_memory faults_before faults file played (NoCall place) = played ≡ None
 IsCauseOf lacks_memory faults_before faults file played (Misplaced place) = played ≡ None
 IsCauseOf lacks_memory faults_before faults file played (Refused place refusal) = lacks_memory refusal ⊎ (played ≡ None)
-IsCauseOf lacks_memory faults_before faults file played (Damaged place) = IsDamaged file × (place ≡ length (file_of (lines file)))
+IsCauseOf lacks_memory faults_before faults file played (Damaged place) =
+    IsDamaged file × (place ≡ length (file_of (lines file)))

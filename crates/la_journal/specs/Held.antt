@@ -35,7 +35,8 @@ abbrev pub TimeGoesOn : Contents → Contents → Type 0
 TimeGoesOn old new = Elapses (moment_of old) (moment_of new) (left_since_of old) (left_since_of new) (may_leave_of new)
 
 -- since this moment there is no other
-pub only_now_of : (contents : Contents) (c : List ℕ) → left_since_of contents (moment_of contents) c → may_leave_of contents c
+pub only_now_of : (contents : Contents) (c : List ℕ) → left_since_of contents (moment_of contents) c
+    → may_leave_of contents c
 only_now_of contents c left = only_left contents.past.events c left
 
 -- this moment is one of those since an earlier one

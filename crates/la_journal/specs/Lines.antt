@@ -4,7 +4,8 @@ use Rattle.std.specs.Prelude.{◌≢◌, ⊤, ℕ, List, [], ◌∷◌, ◌++◌
 -- the whole lines of these bytes, where the first line begins with what was got of it
 abbrev pub lines_from : List ℕ → List ℕ → List (List ℕ)
 lines_from got [] = []
-lines_from got (b ∷ bytes) = if b == 10 then got ∷ lines_from [] bytes else (if b == 0 then [] else lines_from (got ++ b ∷ []) bytes)
+lines_from got (b ∷ bytes) =
+    if b == 10 then got ∷ lines_from [] bytes else (if b == 0 then [] else lines_from (got ++ b ∷ []) bytes)
 
 -- the lines up to the first that a crash cut short: that has no end, or a 0
 abbrev pub lines : List ℕ → List (List ℕ)

@@ -38,7 +38,8 @@ steps step calls state = steps_from step calls (Some state)
 abbrev pub replies_from : {S C A : Type 0} (step : S → C → Option S) (answers : S → C → A) → List C → Option S → List A
 replies_from step answers [] state = []
 replies_from step answers (call ∷ rest) None = []
-replies_from step answers (call ∷ rest) (Some state) = answers state call ∷ replies_from step answers rest (step state call)
+replies_from step answers (call ∷ rest) (Some state) =
+    answers state call ∷ replies_from step answers rest (step state call)
 
 abbrev pub replies : {S C A : Type 0} (step : S → C → Option S) (answers : S → C → A) → List C → S → List A
 replies step answers calls state = replies_from step answers calls (Some state)
@@ -62,8 +63,10 @@ begins named_state None start = Some start
 begins named_state (Some text) start = named_state text
 
 -- where a file leads a machine: from the state that it begins with, by its calls
-abbrev pub after : {S C : Type 0} (named_state : List ℕ → Option S) (named : List ℕ → Option C) (step : S → C → Option S) → S → List ℕ → Option S
-after named_state named step start file = steps_from (plays named step) (says file).calls (begins named_state (says file).state start)
+abbrev pub after : {S C : Type 0} (named_state : List ℕ → Option S) (named : List ℕ → Option C)
+    (step : S → C → Option S) → S → List ℕ → Option S
+after named_state named step start file =
+    steps_from (plays named step) (says file).calls (begins named_state (says file).state start)
 
 -- the state is the one that a text says, where one was taken from it
 abbrev pub IsTaken : {S : Type 0} → Option S → S → Bool → Type 0
@@ -72,7 +75,8 @@ IsTaken named state false = named ≡ None
 
 -- The file leads to where the first some of these calls lead from a state: each is there whole, and none is
 -- skipped.
-abbrev pub LeadsToSome : {S C : Type 0} (leads : List ℕ → Option S) (step : S → C → Option S) → List C → S → List ℕ → Type 0
+abbrev pub LeadsToSome : {S C : Type 0} (leads : List ℕ → Option S) (step : S → C → Option S) → List C → S → List ℕ
+    → Type 0
 LeadsToSome leads step calls state file = (n : ℕ) × (n ≤ length calls) × (leads file ≡ steps step (take n calls) state)
 
 -- the file says one state, and no call

@@ -42,7 +42,8 @@ answered answers_in old new = length (answers_of answers_in (given_since old new
 pub record Answers {S C O A : Type 0} (answers_in : O → List A) (step : S → C → Option S) (answers : S → C → A)
     (calls : List C) (first : S) (old new : List (Said O)) : Type 0 where
   pub behind : new ≡ given_since old new ++ old
-  pub are : answers_of answers_in (given_since old new) ≡ replies step answers (take (answered answers_in old new) calls) first
+  pub are : answers_of answers_in (given_since old new)
+      ≡ replies step answers (take (answered answers_in old new) calls) first
 
 -- The file leads to where the first some of these calls lead from a state, and k of them at least: each is there
 -- whole, and none is skipped.
@@ -66,7 +67,8 @@ KeepsAll answers_in now left_since leads step calls first (s ∷ before) =
 -- outlet failed. `stepped` is what so many calls come to.
 abbrev pub IsUnserved : {S R : Type 0} (lacks_memory : R → Type 0) → (closed : Bool) → (faults_before faults : ℕ)
     → (outlet_before outlet : ℕ) → (many taken : ℕ) → (stepped : ℕ → Option S) → Unserved R → Type 0
-IsUnserved lacks_memory closed faults_before faults outlet_before outlet many taken stepped (Refused (Machine refusal)) =
+IsUnserved lacks_memory closed faults_before faults outlet_before outlet many taken stepped (Refused (Machine refusal))
+    =
     (taken < many) × IsRefusal lacks_memory false closed faults_before faults (stepped (taken + 1)) (Machine refusal)
 IsUnserved lacks_memory closed faults_before faults outlet_before outlet many taken stepped (Refused why) =
     IsRefusal lacks_memory false closed faults_before faults (stepped taken) why

@@ -6,8 +6,10 @@ use Rattle.la_journal.specs.declared.staging.Uncommitted.{Uncommitted}
 use Rattle.la_journal.specs.declared.staging.Uncommitted.TheVariants.{Memory as NoRoom, Disk, Closed as WasClosed}
 
 -- by the machine where it has no step or no memory, for memory, or since the disk failed earlier
-abbrev pub IsStageRefusal : {S R : Type 0} (lacks_memory : R → Type 0) → (closed : Bool) → Option S → Unstaged R → Type 0
-IsStageRefusal lacks_memory closed stepped (Machine refusal) = (closed ≡ false) × (lacks_memory refusal ⊎ (stepped ≡ None))
+abbrev pub IsStageRefusal : {S R : Type 0} (lacks_memory : R → Type 0) → (closed : Bool) → Option S → Unstaged R
+    → Type 0
+IsStageRefusal lacks_memory closed stepped (Machine refusal) =
+    (closed ≡ false) × (lacks_memory refusal ⊎ (stepped ≡ None))
 IsStageRefusal lacks_memory closed stepped Memory = closed ≡ false
 IsStageRefusal lacks_memory closed stepped Closed = closed ≡ true
 

@@ -29,17 +29,23 @@ abbrev IsPrinted : List ℕ → Type 0
 IsPrinted w = All (λ b. leb 32 b ≡ true) w
 
 plain-printed : (w : List ℕ) → IsPlain w → IsPrinted w
-plain-printed w plain = All-weaker (λ b. is_plain b ≡ true) (λ b. leb 32 b ≡ true) (λ b p. grind (arith, nat_tests)) w plain
+plain-printed w plain =
+    All-weaker (λ b. is_plain b ≡ true) (λ b. leb 32 b ≡ true) (λ b p. grind (arith, nat_tests)) w plain
 
-spaced-printed : (byte : ℕ) (parts : List (List ℕ)) → leb 32 byte ≡ true → All IsPrinted parts → IsPrinted (spaced byte parts)
+spaced-printed : (byte : ℕ) (parts : List (List ℕ)) → leb 32 byte ≡ true → All IsPrinted parts
+    → IsPrinted (spaced byte parts)
 spaced-printed byte [] own all = All-nil (λ b. leb 32 b ≡ true)
 spaced-printed byte (part ∷ parts) own all =
     All-cons (λ b. leb 32 b ≡ true) byte (part ++ spaced byte parts) own
-    (All-append (λ b. leb 32 b ≡ true) part (spaced byte parts) (All-head IsPrinted part parts all) (spaced-printed byte parts own (All-tail IsPrinted part parts all)))
+    (All-append (λ b. leb 32 b ≡ true) part (spaced byte parts) (All-head IsPrinted part parts all)
+    (spaced-printed byte parts own (All-tail IsPrinted part parts all)))
 
-joined-printed : (byte : ℕ) (parts : List (List ℕ)) → leb 32 byte ≡ true → All IsPrinted parts → IsPrinted (joined byte parts)
+joined-printed : (byte : ℕ) (parts : List (List ℕ)) → leb 32 byte ≡ true → All IsPrinted parts
+    → IsPrinted (joined byte parts)
 joined-printed byte [] own all = All-nil (λ b. leb 32 b ≡ true)
-joined-printed byte (part ∷ parts) own all = All-append (λ b. leb 32 b ≡ true) part (spaced byte parts) (All-head IsPrinted part parts all) (spaced-printed byte parts own (All-tail IsPrinted part parts all))
+joined-printed byte (part ∷ parts) own all =
+    All-append (λ b. leb 32 b ≡ true) part (spaced byte parts) (All-head IsPrinted part parts all)
+    (spaced-printed byte parts own (All-tail IsPrinted part parts all))
 
 words-printed : (words : List (List ℕ)) → All IsPlain words → IsPrinted (joined 32 words)
 words-printed words all = joined-printed 32 words refl (All-weaker IsPlain IsPrinted plain-printed words all)
@@ -60,13 +66,22 @@ message-printed m is =
     (All-cons IsPrinted (joined 32 (head_words m)) (map update_text us) (words-printed (head_words m) (head-plain m is))
     (All-map IsPrinted update_text us (All-weaker IsUpdate (λ u. IsPrinted (update_text u)) update-printed us (carried-updates m.body is.body))))
 
-keyword-words : (word : List ℕ) (words : List (List ℕ)) → IsPlain word → All IsPlain words → IsPrinted (joined 32 (word ∷ words))
+keyword-words : (word : List ℕ) (words : List (List ℕ)) → IsPlain word → All IsPlain words
+    → IsPrinted (joined 32 (word ∷ words))
 keyword-words word words first rest = words-printed (word ∷ words) (All-cons IsPlain word words first rest)
 
 text-printed : (c : Call) → IsCall c → IsPrinted (text c)
-text-printed (Submit r o does) is = keyword-words (spelling keyword.Submit) (decimal r ∷ decimal o ∷ op_words does) (AllPass-from_list_all is_plain (spelling keyword.Submit) refl) (front-plain r o is.0 is.1 (op_words does) (op-plain does is.2))
-text-printed (Decide r c v) is = keyword-words (spelling keyword.Decide) (decimal r ∷ decimal c ∷ decimal v ∷ []) (AllPass-from_list_all is_plain (spelling keyword.Decide) refl) (decide-plain r c v is)
-text-printed (Ask r o q) is = keyword-words (spelling keyword.Ask) (decimal r ∷ decimal o ∷ query_words q) (AllPass-from_list_all is_plain (spelling keyword.Ask) refl) (front-plain r o is.0 is.1 (query_words q) (query-plain q is.2))
+text-printed (Submit r o does) is =
+    keyword-words (spelling keyword.Submit) (decimal r ∷ decimal o ∷ op_words does)
+    (AllPass-from_list_all is_plain (spelling keyword.Submit) refl)
+    (front-plain r o is.0 is.1 (op_words does) (op-plain does is.2))
+text-printed (Decide r c v) is =
+    keyword-words (spelling keyword.Decide) (decimal r ∷ decimal c ∷ decimal v ∷ [])
+    (AllPass-from_list_all is_plain (spelling keyword.Decide) refl) (decide-plain r c v is)
+text-printed (Ask r o q) is =
+    keyword-words (spelling keyword.Ask) (decimal r ∷ decimal o ∷ query_words q)
+    (AllPass-from_list_all is_plain (spelling keyword.Ask) refl)
+    (front-plain r o is.0 is.1 (query_words q) (query-plain q is.2))
 text-printed Tick is = plain-printed tick_word (AllPass-from_list_all is_plain tick_word refl)
 text-printed (Receive m) is = message-printed m is
 
@@ -81,7 +96,11 @@ no-state (Submit r o does) = refl
 no-state (Decide r c v) = refl
 no-state (Ask r o q) = refl
 no-state Tick = refl
-no-state (Receive m) = kind-first (kind_in m.body) (spaced 32 (decimal m.replicas ∷ decimal m.from ∷ decimal m.to ∷ decimal m.instance ∷ decimal m.ballot ∷ base_words m.body)) (spaced 59 (map update_text (carried m.body)))
+no-state (Receive m) =
+    kind-first (kind_in m.body)
+    (spaced 32
+    (decimal m.replicas ∷ decimal m.from ∷ decimal m.to ∷ decimal m.instance ∷ decimal m.ballot ∷ base_words m.body))
+    (spaced 59 (map update_text (carried m.body)))
 
 -- the line of a call that can be had is one of a journal's calls
 pub call-line : (c : Call) → IsCall c → IsCallLine (text c)

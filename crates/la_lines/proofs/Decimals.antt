@@ -27,9 +27,11 @@ canonical (x ∷ xs) d h = rw (ne_eqb x 48 (omega arith)) d
 
 decimal-canonical : (n : ℕ) → n < 2 ^ 64 → is_canonical (decimal n) ≡ true
 decimal-canonical zero h = rw (decimal_digit 0 (omega arith)) refl
-decimal-canonical (suc k) h = canonical (decimal (suc k)) (decimal-digits (suc k) h) (first_decimal (suc k) (omega arith) h)
+decimal-canonical (suc k) h =
+    canonical (decimal (suc k)) (decimal-digits (suc k) h) (first_decimal (suc k) (omega arith) h)
 
-number-of : (w : List ℕ) (n low high : ℕ) → is_canonical w ≡ true → digits_value 10 w ≡ n → low ≤ n → n ≤ high → number low high w ≡ Some n
+number-of : (w : List ℕ) (n low high : ℕ) → is_canonical w ≡ true → digits_value 10 w ≡ n → low ≤ n → n ≤ high
+    → number low high w ≡ Some n
 number-of w n low high c v l h = rw (c, v, le-leb n high h, le-leb low n l) refl
 
 -- a number in its range is read back
@@ -49,7 +51,11 @@ digit-plain : (b : ℕ) → is_ascii_digit b ≡ true → is_plain b ≡ true
 digit-plain b d = grind (arith, nat_tests)
 
 pub decimal-plain : (n : ℕ) → n < 2 ^ 64 → IsPlain (decimal n)
-decimal-plain n h = All-weaker (λ b. is_ascii_digit b ≡ true) (λ b. is_plain b ≡ true) digit-plain (decimal n) (AllPass-from_list_all is_ascii_digit (decimal n) (decimal-digits n h))
+decimal-plain n h =
+    All-weaker (λ b. is_ascii_digit b ≡ true) (λ b. is_plain b ≡ true) digit-plain (decimal n)
+    (AllPass-from_list_all is_ascii_digit (decimal n) (decimal-digits n h))
 
 pub decimal-no_stop : (n : ℕ) → n < 2 ^ 64 → All (λ b. eqb b 46 ≡ false) (decimal n)
-decimal-no_stop n h = All-weaker (λ b. is_ascii_digit b ≡ true) (λ b. eqb b 46 ≡ false) (λ b d. grind (arith, nat_tests)) (decimal n) (AllPass-from_list_all is_ascii_digit (decimal n) (decimal-digits n h))
+decimal-no_stop n h =
+    All-weaker (λ b. is_ascii_digit b ≡ true) (λ b. eqb b 46 ≡ false) (λ b d. grind (arith, nat_tests)) (decimal n)
+    (AllPass-from_list_all is_ascii_digit (decimal n) (decimal-digits n h))

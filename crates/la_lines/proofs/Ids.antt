@@ -23,7 +23,9 @@ pub id-plain : (id : UpdateId) → IsId id → IsPlain (id_text id)
 id-plain id is =
     let one = decimal-plain id.replica (omega (arith, is.replica)) in
     let two = decimal-plain id.number (omega (arith, is.number)) in
-    subst IsPlain (sym (id-text id)) (All-append (λ b. is_plain b ≡ true) (decimal id.replica) (46 ∷ decimal id.number) one (All-cons (λ b. is_plain b ≡ true) 46 (decimal id.number) refl two))
+    subst IsPlain (sym (id-text id))
+    (All-append (λ b. is_plain b ≡ true) (decimal id.replica) (46 ∷ decimal id.number) one
+    (All-cons (λ b. is_plain b ≡ true) 46 (decimal id.number) refl two))
 
 tag-numbers : (a b : List ℕ) (r n : ℕ) → number 0 u8_max a ≡ Some r → number 1 u32_max b ≡ Some n → tag_in a b ≡ Some (record { replica = r; number = n })
 tag-numbers a b r n e f = rw (e, f) refl
@@ -32,8 +34,12 @@ pub id-back : (id : UpdateId) → IsId id → tag_of (id_text id) ≡ Some id
 id-back id is =
     let stop = decimal-no_stop id.replica (omega (arith, is.replica)) in
     ap tag_of (id-text id)
-    ∙ (λ i. tag_in (before-first 46 (decimal id.replica) (decimal id.number) refl stop i) (after-first 46 (decimal id.replica) (decimal id.number) refl stop i))
-    ∙ tag-numbers (decimal id.replica) (decimal id.number) id.replica id.number (number-decimal 0 u8_max id.replica (omega arith) is.replica (omega arith)) (number-decimal 1 u32_max id.number is.some is.number (omega arith))
+    ∙ (λ i.
+    tag_in (before-first 46 (decimal id.replica) (decimal id.number) refl stop i)
+    (after-first 46 (decimal id.replica) (decimal id.number) refl stop i))
+    ∙ tag-numbers (decimal id.replica) (decimal id.number) id.replica id.number
+    (number-decimal 0 u8_max id.replica (omega arith) is.replica (omega arith))
+    (number-decimal 1 u32_max id.number is.some is.number (omega arith))
 
 each-back : (ids : List UpdateId) → All IsId ids → each_word tag_of (map id_text ids) ≡ Some ids
 each-back [] all = refl
@@ -43,11 +49,13 @@ each-back (id ∷ ids) all = rw (id-back id (All-head IsId id ids all), each-bac
 
 filter_whole : (p : UpdateId → Bool) (xs : List UpdateId) → All (λ x. p x ≡ true) xs → filter p xs ≡ xs
 filter_whole p [] all = refl
-filter_whole p (x ∷ xs) all = rw (All-head (λ y. p y ≡ true) x xs all) (ap (λ ys. x ∷ ys) (filter_whole p xs (All-tail (λ y. p y ≡ true) x xs all)))
+filter_whole p (x ∷ xs) all =
+    rw (All-head (λ y. p y ≡ true) x xs all) (ap (λ ys. x ∷ ys) (filter_whole p xs (All-tail (λ y. p y ≡ true) x xs all)))
 
 filter_nothing : (p : UpdateId → Bool) (xs : List UpdateId) → All (λ x. p x ≡ false) xs → filter p xs ≡ []
 filter_nothing p [] all = refl
-filter_nothing p (x ∷ xs) all = rw (All-head (λ y. p y ≡ false) x xs all) (filter_nothing p xs (All-tail (λ y. p y ≡ false) x xs all))
+filter_nothing p (x ∷ xs) all =
+    rw (All-head (λ y. p y ≡ false) x xs all) (filter_nothing p xs (All-tail (λ y. p y ≡ false) x xs all))
 
 not_below : (x y : UpdateId) → IsBelow y x → id_below x y ≡ false
 not_below x y above = elim (cases_Bool (id_below x y)) [
@@ -56,21 +64,27 @@ not_below x y above = elim (cases_Bool (id_below x y)) [
 ]
 
 with-last : (id : UpdateId) (ids : List UpdateId) → All (λ x. IsBelow x id) ids → with_tag id ids ≡ ids ++ id ∷ []
-with-last id ids below = λ i. filter_whole (λ tag. id_below tag id) ids (λ k d lt. below-test _ id (below k d lt)) i ++ id ∷ filter_nothing (λ tag. id_below id tag) ids (λ k d lt. not_below id _ (below k d lt)) i
+with-last id ids below =
+    λ i.
+    filter_whole (λ tag. id_below tag id) ids (λ k d lt. below-test _ id (below k d lt)) i
+    ++ id ∷ filter_nothing (λ tag. id_below id tag) ids (λ k d lt. not_below id _ (below k d lt)) i
 
 at_left : (xs ys : List UpdateId) (k : ℕ) (d : UpdateId) → k < length xs → get_or (xs ++ ys) k d ≡ get_or xs k d
 at_left [] ys k d lt = absurd (omega arith)
 at_left (x ∷ xs) ys zero d lt = refl
 at_left (x ∷ xs) ys (suc k) d lt = at_left xs ys k d (omega arith)
 
-at_seam : (xs : List UpdateId) (y : UpdateId) (ys : List UpdateId) (d : UpdateId) → get_or (xs ++ y ∷ ys) (length xs) d ≡ y
+at_seam : (xs : List UpdateId) (y : UpdateId) (ys : List UpdateId) (d : UpdateId)
+    → get_or (xs ++ y ∷ ys) (length xs) d ≡ y
 at_seam [] y ys d = refl
 at_seam (x ∷ xs) y ys d = at_seam xs y ys d
 
-below-next : (xs : List UpdateId) (y : UpdateId) (ys : List UpdateId) → AllPairs IsBelow (xs ++ y ∷ ys) → All (λ x. IsBelow x y) xs
+below-next : (xs : List UpdateId) (y : UpdateId) (ys : List UpdateId) → AllPairs IsBelow (xs ++ y ∷ ys)
+    → All (λ x. IsBelow x y) xs
 below-next xs y ys pairs k d lt =
     let both = pairs k (length xs) d lt (omega (arith, length-append xs (y ∷ ys))) in
-    subst (λ z. IsBelow z y) (at_left xs (y ∷ ys) k d lt) (subst (IsBelow (get_or (xs ++ y ∷ ys) k d)) (at_seam xs y ys d) both)
+    subst (λ z. IsBelow z y) (at_left xs (y ∷ ys) k d lt)
+    (subst (IsBelow (get_or (xs ++ y ∷ ys) k d)) (at_seam xs y ys d) both)
 
 with_tags-ascending : (tags more : List UpdateId) → AllPairs IsBelow (tags ++ more) → with_tags tags more ≡ tags ++ more
 with_tags-ascending tags [] pairs = sym (append-nil tags)
@@ -81,4 +95,5 @@ with_tags-ascending tags (t ∷ more) pairs =
     ∙ sym same
 
 pub tags-back : (ids : List UpdateId) → AllPairs IsBelow ids → All IsId ids → tags_of (map id_text ids) ≡ Some ids
-tags-back ids ascending all = ap (option_map (with_tags [])) (each-back ids all) ∙ ap Some (with_tags-ascending [] ids ascending)
+tags-back ids ascending all =
+    ap (option_map (with_tags [])) (each-back ids all) ∙ ap Some (with_tags-ascending [] ids ascending)

@@ -19,6 +19,7 @@ pub said-event : (n : ℕ) (r : Result Event FaultName) (e : Event) → at_line 
 unfolding unnumbered
 said-event n r e is = ap script_call (sym (same-said n r) ∙ ap unnumbered is)
 
-pub said-fault : (n : ℕ) (r : Result Event FaultName) (fault : ScriptFault) → at_line n r ≡ Err fault → script_call r ≡ Err (fault_of fault.name)
+pub said-fault : (n : ℕ) (r : Result Event FaultName) (fault : ScriptFault) → at_line n r ≡ Err fault
+    → script_call r ≡ Err (fault_of fault.name)
 unfolding unnumbered
 said-fault n r fault is = ap script_call (sym (same-said n r) ∙ ap unnumbered is)

@@ -37,7 +37,12 @@ empty-subset s u there = let none = none-there u.id in absurd cc
 come-next : (us : List Update) (a : Histories) → AreNext a us → come_next a us ≡ true
 come-next [] a next = refl
 come-next (u ∷ us) a next =
-    rw (lt-ltb u.id.replica 8 next.0.known, eq-eqb u.id.number (count a u.id.replica + 1) next.0.next, le-leb u.id.number 1000000 next.0.within) (come-next us (push a u) next.1)
+    rw (
+      lt-ltb u.id.replica 8 next.0.known,
+      eq-eqb u.id.number (count a u.id.replica + 1) next.0.next,
+      le-leb u.id.number
+          1000000 next.0.within,
+    ) (come-next us (push a u) next.1)
 
 next-to : (us : List Update) (a b : Histories) → PushesTo a us b → AreNext a us
 next-to [] a b to = tt
@@ -53,7 +58,8 @@ set-of us next = rw (come-next us empty next) refl
 
 pub set-back : (s : Histories) → IsWithinLimit s → set_of (updates s) ≡ Ok s
 set-back s few =
-    let to : PushesTo empty (updates s) s = subst (λ us. PushesTo empty us s) (lacks-all (updates s)) (beyond-pushes empty s (empty-subset s) few) in
+    let to : PushesTo empty (updates s) s =
+    subst (λ us. PushesTo empty us s) (lacks-all (updates s)) (beyond-pushes empty s (empty-subset s) few) in
     set-of (updates s) (next-to (updates s) empty s to) ∙ ap Ok (pushed-to (updates s) empty s to)
 
 -- ## By a delta over nothing
@@ -66,7 +72,8 @@ next-come : (us : List Update) (a : Histories) → come_next a us ≡ true → A
 next-come [] a e = tt
 next-come (u ∷ us) a e =
     let parts = both (comes_next a u.id) (come_next (push a u) us) e in
-    let id = both (ltb u.id.replica 8) (eqb u.id.number (count a u.id.replica + 1) && leb u.id.number 1000000) parts.0 in
+    let id =
+    both (ltb u.id.replica 8) (eqb u.id.number (count a u.id.replica + 1) && leb u.id.number 1000000) parts.0 in
     let number = both (eqb u.id.number (count a u.id.replica + 1)) (leb u.id.number 1000000) id.1 in (
       record { known = ltb-true u.id.replica 8 id.0; next = eqb-true u.id.number (count a u.id.replica + 1) number.0; within = leb-true u.id.number 1000000 number.1 },
       next-come us (push a u) parts.1,
@@ -77,7 +84,11 @@ take-none zero = refl
 take-none (suc n) = refl
 
 within-empty : (c : Counts) → within empty c ≡ empty
-within-empty c = same_histories (within empty c) empty (λ r lt. history-within empty c r ∙ ap (take (count_in c r)) (history-empty r) ∙ take-none (count_in c r) ∙ sym (history-empty r))
+within-empty c =
+    same_histories (within empty c) empty
+    (λ r lt.
+    history-within empty c r ∙ ap (take (count_in c r)) (history-empty r) ∙ take-none (count_in c r)
+    ∙ sym (history-empty r))
 
 no-base : HasCounts empty zero_counts
 no-base = HasCounts-known empty zero_counts (λ r lt. omega (arith, count_in-from_counts (λ q. 0) r lt))
@@ -85,7 +96,8 @@ no-base = HasCounts-known empty zero_counts (λ r lt. omega (arith, count_in-fro
 abbrev pub delta_of : List Update → DeltaState
 delta_of us = record { base = zero_counts; more = us; made_of = None }
 
-pub set-rebuilt : (us : List Update) (x : Histories) (d : DeltaState) (s : Histories) → x ≡ empty → d ≡ delta_of us → s ≡ rebuilt x d → IsOver x d → set_of us ≡ Ok s
+pub set-rebuilt : (us : List Update) (x : Histories) (d : DeltaState) (s : Histories) → x ≡ empty → d ≡ delta_of us
+    → s ≡ rebuilt x d → IsOver x d → set_of us ≡ Ok s
 set-rebuilt us x d s none e is over =
     let here : IsOver empty (delta_of us) = subst (λ y. IsOver y (delta_of us)) none (subst (IsOver x) e over) in
     let same : s ≡ rebuilt empty (delta_of us) = is ∙ (λ i. rebuilt (none i) (e i)) in
@@ -93,18 +105,23 @@ set-rebuilt us x d s none e is over =
     ∙ ap (λ w. Ok (pushed w us)) (sym (within-empty zero_counts))
     ∙ ap Ok (sym same)
 
-not-next : (us : List Update) → (AreNext (within empty zero_counts) us → ⊥) → (b : Bool) → come_next empty us ≡ b → set_of us ≡ Err BadSet
+not-next : (us : List Update) → (AreNext (within empty zero_counts) us → ⊥) → (b : Bool) → come_next empty us ≡ b
+    → set_of us ≡ Err BadSet
 unfolding set_of
-not-next us gap true e = absurd (gap (subst (λ w. AreNext w us) (sym (within-empty zero_counts)) (next-come us empty e)))
+not-next us gap true e =
+    absurd (gap (subst (λ w. AreNext w us) (sym (within-empty zero_counts)) (next-come us empty e)))
 not-next us gap false e = rw e refl
 
-refused : (us : List Update) (e : SetError) → IsRebuildRefusal empty (delta_of us) e → Gives {X = Histories} (λ set. set) (set_of us) (Err (refused_by e))
+refused : (us : List Update) (e : SetError) → IsRebuildRefusal empty (delta_of us) e
+    → Gives {X = Histories} (λ set. set) (set_of us) (Err (refused_by e))
 refused us Memory h = tt
 refused us NoBase h = absurd (h no-base)
 refused us Gap h = not-next us h.1 (come_next empty us) refl
 refused us TooManyTags h = absurd h
 refused us (Clash id) h = absurd h
 
-pub set-refused : (us : List Update) (x : Histories) (d : DeltaState) (e : SetError) (r : LineError) → x ≡ empty → d ≡ delta_of us → r ≡ refused_by e → IsRebuildRefusal x d e → Gives {X = Histories} (λ set. set) (set_of us) (Err r)
+pub set-refused : (us : List Update) (x : Histories) (d : DeltaState) (e : SetError) (r : LineError) → x ≡ empty
+    → d ≡ delta_of us → r ≡ refused_by e → IsRebuildRefusal x d e → Gives {X = Histories} (λ set. set) (set_of us) (Err r)
 set-refused us x d e r none is by h =
-    subst (λ f. Gives {X = Histories} (λ set. set) (set_of us) (Err f)) (sym by) (refused us e (subst (λ y. IsRebuildRefusal y (delta_of us) e) none (subst (λ t. IsRebuildRefusal x t e) is h)))
+    subst (λ f. Gives {X = Histories} (λ set. set) (set_of us) (Err f)) (sym by)
+    (refused us e (subst (λ y. IsRebuildRefusal y (delta_of us) e) none (subst (λ t. IsRebuildRefusal x t e) is h)))

@@ -35,7 +35,8 @@ decides-yes = (λ e. tt, λ u. refl)
 decides-no : Decides false ⊥
 decides-no = (λ e. absurd cc, λ none. absurd none)
 
-decides-all : {A : Type 0} (p : A → Bool) (P : A → Type 0) → ((x : A) → Decides (p x) (P x)) → (xs : List A) → Decides (list_all p xs) (All P xs)
+decides-all : {A : Type 0} (p : A → Bool) (P : A → Type 0) → ((x : A) → Decides (p x) (P x)) → (xs : List A)
+    → Decides (list_all p xs) (All P xs)
 decides-all p P each xs = (
   λ e. All-weaker (λ x. p x ≡ true) P (λ x is. (each x).0 is) xs (AllPass-from_list_all p xs e),
   λ all. list_all-from_AllPass p xs (All-weaker P (λ x. p x ≡ true) (λ x is. (each x).1 is) xs all),
@@ -55,8 +56,12 @@ decides-ascending [] = (λ e i j d low lt. absurd (omega arith), λ pairs. refl)
 decides-ascending (id ∷ ids) =
     Decides-like (list_all (λ other. id_below id other) ids && are_ascending ids)
     (λ p. AllPairs-cons IsBelow id ids p.0 p.1)
-    (λ pairs. ((λ k d lt. pairs 0 (suc k) d (omega arith) (omega arith)), (λ i j d low lt. pairs (suc i) (suc j) d (omega arith) (omega arith))))
-    (Decides-and (list_all (λ other. id_below id other) ids) (are_ascending ids) (decides-all (λ other. id_below id other) (IsBelow id) (decides-below id) ids) (decides-ascending ids))
+    (λ pairs. (
+      (λ k d lt. pairs 0 (suc k) d (omega arith) (omega arith)),
+      (λ i j d low lt. pairs (suc i) (suc j) d (omega arith) (omega arith)),
+    ))
+    (Decides-and (list_all (λ other. id_below id other) ids) (are_ascending ids)
+    (decides-all (λ other. id_below id other) (IsBelow id) (decides-below id) ids) (decides-ascending ids))
 
 decides-tags : (ids : List UpdateId) → Decides (are_tags ids) (IsTags ids)
 decides-tags ids =
@@ -68,7 +73,8 @@ decides-op (Inc x) = decides-le x u32_max
 decides-op (Dec x) = decides-le x u32_max
 decides-op (Raise x) = decides-le x u64_max
 decides-op (Put x) = decides-le x u64_max
-decides-op (Remove tags) = Decides-and (are_tags tags) (list_all is_id tags) (decides-tags tags) (decides-all is_id IsId decides-id tags)
+decides-op (Remove tags) =
+    Decides-and (are_tags tags) (list_all is_id tags) (decides-tags tags) (decides-all is_id IsId decides-id tags)
 decides-op Mark = decides-yes
 decides-op (Vote x sole) = decides-le x u64_max
 
@@ -88,12 +94,15 @@ counts-from c eight all r = elim (cases_lt r 8) [
 ]
 
 counts-to : (c : Counts) → IsCounts c → All (λ n. n ≤ u32_max) c.of
-counts-to c is = All-from_get_or (λ n. n ≤ u32_max) c.of 0 (λ i lt. subst (λ n. n ≤ u32_max) (count_in-known c i (omega (arith, lt, is.eight))) (is.each i))
+counts-to c is =
+    All-from_get_or (λ n. n ≤ u32_max) c.of 0
+    (λ i lt. subst (λ n. n ≤ u32_max) (count_in-known c i (omega (arith, lt, is.eight))) (is.each i))
 
 decides-counts : (c : Counts) → Decides (are_counts c) (IsCounts c)
 decides-counts c =
     Decides-like (are_counts c) (λ p. record { eight = p.0; each = counts-from c p.0 p.1 }) (λ is. (is.eight, counts-to c is))
-    (Decides-and (eqb (length c.of) 8) (list_all (λ n. leb n u32_max) c.of) (Decides-eqb (length c.of) 8) (decides-all (λ n. leb n u32_max) (λ n. n ≤ u32_max) (λ n. decides-le n u32_max) c.of))
+    (Decides-and (eqb (length c.of) 8) (list_all (λ n. leb n u32_max) c.of) (Decides-eqb (length c.of) 8)
+    (decides-all (λ n. leb n u32_max) (λ n. n ≤ u32_max) (λ n. decides-le n u32_max) c.of))
 
 limit-from : (s : Histories) → All (λ ds. length ds ≤ 1000000) (listed s) → IsWithinLimit s
 unfolding history
@@ -109,13 +118,18 @@ limit-to s few = All-from_get_or (λ ds. length ds ≤ 1000000) (listed s) [] (�
 decides-limit : (s : Histories) → Decides (is_within_limit s) (IsWithinLimit s)
 decides-limit s =
     Decides-like (is_within_limit s) (limit-from s) (limit-to s)
-    (decides-all (λ ds. leb (length ds) 1000000) (λ ds. length ds ≤ 1000000) (λ ds. decides-le (length ds) 1000000) (listed s))
+    (decides-all (λ ds. leb (length ds) 1000000) (λ ds. length ds ≤ 1000000) (λ ds. decides-le (length ds) 1000000)
+    (listed s))
 
 decides-body : (body : Body) → Decides (is_body body) (IsBody body)
-decides-body (Offer base more) = Decides-and (are_counts base) (list_all is_update more) (decides-counts base) (decides-updates more)
+decides-body (Offer base more) =
+    Decides-and (are_counts base) (list_all is_update more) (decides-counts base) (decides-updates more)
 decides-body Yes = decides-yes
-decides-body (No base more) = Decides-and (are_counts base) (list_all is_update more) (decides-counts base) (decides-updates more)
-decides-body (Tell told) = Decides-and (is_within_limit told) (list_all is_update (updates told)) (decides-limit told) (decides-updates (updates told))
+decides-body (No base more) =
+    Decides-and (are_counts base) (list_all is_update more) (decides-counts base) (decides-updates more)
+decides-body (Tell told) =
+    Decides-and (is_within_limit told) (list_all is_update (updates told)) (decides-limit told)
+    (decides-updates (updates told))
 
 decides-two : (a b c d : ℕ) → Decides (leb a b && leb c d) ((a ≤ b) × (c ≤ d))
 decides-two a b c d = Decides-and (leb a b) (leb c d) (decides-le a b) (decides-le c d)
@@ -156,6 +170,7 @@ decides-call (Decide r c v) =
     (Decides-and (leb r u8_max) (leb c u8_max && leb v u64_max) (decides-le r u8_max) (decides-two c u8_max v u64_max))
 decides-call (Ask r o q) =
     Decides-like (is_call (Ask r o q)) (λ p. (p.0, p.1.0, p.1.1)) (λ is. (is.0, (is.1, is.2)))
-    (Decides-and (leb r u8_max) (leb o u16_max && is_query q) (decides-le r u8_max) (Decides-and (leb o u16_max) (is_query q) (decides-le o u16_max) (decides-query q)))
+    (Decides-and (leb r u8_max) (leb o u16_max && is_query q) (decides-le r u8_max)
+    (Decides-and (leb o u16_max) (is_query q) (decides-le o u16_max) (decides-query q)))
 decides-call Tick = decides-yes
 decides-call (Receive m) = decides-message m

@@ -38,8 +38,10 @@ tick_word = codes "tick"
 -- the line of a call
 abbrev pub text : Call → List ℕ
 text (Submit replica object op) = joined 32 (spelling keyword.Submit ∷ decimal replica ∷ decimal object ∷ op_words op)
-text (Decide replica commit value) = joined 32 (spelling keyword.Decide ∷ decimal replica ∷ decimal commit ∷ decimal value ∷ [])
-text (Ask replica object query) = joined 32 (spelling keyword.Ask ∷ decimal replica ∷ decimal object ∷ query_words query)
+text (Decide replica commit value) =
+    joined 32 (spelling keyword.Decide ∷ decimal replica ∷ decimal commit ∷ decimal value ∷ [])
+text (Ask replica object query) =
+    joined 32 (spelling keyword.Ask ∷ decimal replica ∷ decimal object ∷ query_words query)
 text Tick = tick_word
 text (Receive message) = message_text message
 

@@ -50,6 +50,7 @@ Gives view said (Err (Fault fault)) = said ≡ Err fault
 Gives view said (Err Memory) = Unit {0}
 
 -- what was read from the first of the words, and the words behind it
-abbrev pub GivesFirst : {A : Type 0} → Result (A × List (List ℕ)) LineFault → Result (A × Bor (List (Bor (List ℕ)))) LineFault → Type 0
+abbrev pub GivesFirst : {A : Type 0} → Result (A × List (List ℕ)) LineFault
+    → Result (A × Bor (List (Bor (List ℕ)))) LineFault → Type 0
 GivesFirst said (Ok r) = said ≡ Ok (r.0, bytes_of r.1.now)
 GivesFirst said (Err fault) = said ≡ Err fault

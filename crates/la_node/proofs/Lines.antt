@@ -21,17 +21,20 @@ module _ (n : KeptState) (line : List ℕ) (call : Call) (is : is_line line ≡ 
   comes_to : acts_by n (named (or_tick (call_line line)).line) ≡ acts n call
   comes_to = ap (acts_by n) names
 
-  pub step_taken : (r : Result code_received.Received NodeError) (after : KeptState) → IfOk r (λ given. acts n call ≡ Some (given_of given, after))
+  pub step_taken : (r : Result code_received.Received NodeError) (after : KeptState)
+      → IfOk r (λ given. acts n call ≡ Some (given_of given, after))
       → OnOk r (step n (or_tick (call_line line)) ≡ Some after)
   step_taken (Ok given) after h = ap (option_map (λ (made : Given × KeptState). made.1)) (comes_to ∙ h)
   step_taken (Err e) after h = tt
 
-  pub answer_given : (r : Result code_received.Received NodeError) (after : KeptState) → IfOk r (λ given. acts n call ≡ Some (given_of given, after))
+  pub answer_given : (r : Result code_received.Received NodeError) (after : KeptState)
+      → IfOk r (λ given. acts n call ≡ Some (given_of given, after))
       → IfOk r (λ given. Some (given_of given) ≡ answers n (or_tick (call_line line)))
   answer_given (Ok given) after h = sym (ap (option_map (λ (made : Given × KeptState). made.0)) (comes_to ∙ h))
   answer_given (Err e) after h = tt
 
-  nothing_taken : (e : NodeError) → IsForMemory e ⊎ (acts n call ≡ None) → IsForMemory e ⊎ (step n (or_tick (call_line line)) ≡ None)
+  nothing_taken : (e : NodeError) → IsForMemory e ⊎ (acts n call ≡ None)
+      → IsForMemory e ⊎ (step n (or_tick (call_line line)) ≡ None)
   nothing_taken e (inl memory) = inl memory
   nothing_taken e (inr none) = inr (ap (option_map (λ (made : Given × KeptState). made.1)) (comes_to ∙ none))
 
@@ -49,8 +52,10 @@ none_where line false is e = refl
 no_line : (line : List ℕ) → may_stand line ≡ false → call_line line ≡ None
 no_line line e = none_where line (is_line line) refl (ap (λ b. b && is_some (named line)) e)
 
-pub is_named : {E : Type 0} (line : List ℕ) (r : Result (Option InputState) E) → IfOk r (λ o. IfSome o (λ input. (input.line ≡ line) × (is_line line ≡ true)))
-    → IfOk r (λ o. o ≡ None → may_stand line ≡ false) → IfOk r (λ read. IsNamed (λ (i : InputState). or_tick (call_line i.line)) (call_line line) read)
+pub is_named : {E : Type 0} (line : List ℕ) (r : Result (Option InputState) E)
+    → IfOk r (λ o. IfSome o (λ input. (input.line ≡ line) × (is_line line ≡ true)))
+    → IfOk r (λ o. o ≡ None → may_stand line ≡ false)
+    → IfOk r (λ read. IsNamed (λ (i : InputState). or_tick (call_line i.line)) (call_line line) read)
 is_named line (Ok (Some input)) some none =
     let c : CallLine = record { line = line; says = some.1 } in
     round_trip c ∙ ap Some (sym (ap or_tick (ap call_line some.0 ∙ round_trip c)))

@@ -5,7 +5,8 @@ use Rattle.la_world.specs.declared.error.WorldError.{WorldError}
 use Rattle.la_world.specs.declared.error.WorldError.TheVariants as world
 use Rattle.la_node.specs.Errors.{by_replica, by_proposal, OfReplica, OfProposal, OfCopied, IfHere}
 
-pub named_by_replica : (Is : ReplicaError → Type 0) (here : Type 0) (e : ReplicaError) → here → Is e → IfHere here (OfReplica Is) (by_replica e)
+pub named_by_replica : (Is : ReplicaError → Type 0) (here : Type 0) (e : ReplicaError) → here → Is e
+    → IfHere here (OfReplica Is) (by_replica e)
 named_by_replica Is here replica.Memory h is = (h, is)
 named_by_replica Is here replica.NoSuchReplica h is = (h, is)
 named_by_replica Is here replica.NoSuchInstance h is = (h, is)
@@ -15,7 +16,8 @@ named_by_replica Is here replica.Gap h is = (h, is)
 named_by_replica Is here (replica.Clash id) h is = (h, is)
 named_by_replica Is here replica.BallotsSpent h is = (h, is)
 
-pub named_by_proposal : (Is : WorldError → Type 0) (here : Type 0) (e : WorldError) → here → Is e → IfHere here (OfProposal Is) (by_proposal e)
+pub named_by_proposal : (Is : WorldError → Type 0) (here : Type 0) (e : WorldError) → here → Is e
+    → IfHere here (OfProposal Is) (by_proposal e)
 named_by_proposal Is here world.Memory h is = (h, is)
 named_by_proposal Is here world.BadConfig h is = (h, is)
 named_by_proposal Is here world.NoSuchReplica h is = (h, is)
@@ -26,7 +28,8 @@ named_by_proposal Is here world.AlreadyProposed h is = (h, is)
 named_by_proposal Is here world.NoSuchObject h is = (h, is)
 named_by_proposal Is here world.TooManyTags h is = (h, is)
 
-pub named_of_copied : (Is : ReplicaError → Type 0) (here : Type 0) (e : ReplicaError) → here → Is e → IfHere here (OfCopied (OfReplica Is)) (by_replica e)
+pub named_of_copied : (Is : ReplicaError → Type 0) (here : Type 0) (e : ReplicaError) → here → Is e
+    → IfHere here (OfCopied (OfReplica Is)) (by_replica e)
 named_of_copied Is here replica.Memory h is = (h, tt)
 named_of_copied Is here replica.NoSuchReplica h is = (h, is)
 named_of_copied Is here replica.NoSuchInstance h is = (h, is)

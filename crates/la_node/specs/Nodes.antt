@@ -72,4 +72,6 @@ answers n c = option_map (λ (made : Given × KeptState). made.0) (acts_by n (na
 
 -- each step's view contains the one before
 abbrev pub ViewsGrow : Type 0
-ViewsGrow = (before after : KeptState) (c : CallLine) → step before c ≡ Some after → IsSubset before.replica.view after.replica.view
+ViewsGrow =
+    (before after : KeptState) (c : CallLine) → step before c ≡ Some after
+    → IsSubset before.replica.view after.replica.view

@@ -23,15 +23,21 @@ use Rattle.la_set.proofs.lemmas.Decisions.{has_update-Decides}
 use Rattle.la_object.specs.Shelves.{IsFirstMore, after_first}
 
 -- of one replica, the updates that the set has are passed over, and those past its count are kept
-passed_over : (a : Histories) (r n : ℕ) (ds : List ObjectOp) → ((k : ℕ) (d : ObjectOp) → slice_get ds k ≡ Some d → object_op_number (history a r) (n + k) ≡ Some d) → filter (lacks a) (numbered r n ds) ≡ []
+passed_over : (a : Histories) (r n : ℕ) (ds : List ObjectOp)
+    → ((k : ℕ) (d : ObjectOp) → slice_get ds k ≡ Some d → object_op_number (history a r) (n + k) ≡ Some d)
+    → filter (lacks a) (numbered r n ds) ≡ []
 passed_over a r n [] same = refl
 passed_over a r n (d ∷ ds) same =
     let u = update_of r n d in
-    let here : object_op_number (history a r) n ≡ Some d = ap (object_op_number (history a r)) {x = n} {y = n + 0} (omega arith) ∙ same 0 d refl in
+    let here : object_op_number (history a r) n ≡ Some d =
+    ap (object_op_number (history a r)) {x = n} {y = n + 0} (omega arith) ∙ same 0 d refl in
     rw (not_from_true (has_update a u) ((has_update-Decides a u).1 (contains-object_op a u here)))
-    (passed_over a r (suc n) ds (λ k e got. ap (object_op_number (history a r)) {x = suc n + k} {y = n + suc k} (omega arith) ∙ same (suc k) e got))
+    (passed_over a r (suc n) ds
+    (λ k e got.
+    ap (object_op_number (history a r)) {x = suc n + k} {y = n + suc k} (omega arith) ∙ same (suc k) e got))
 
-all_kept : (a : Histories) (r n : ℕ) (ds : List ObjectOp) → count a r < n → filter (lacks a) (numbered r n ds) ≡ numbered r n ds
+all_kept : (a : Histories) (r n : ℕ) (ds : List ObjectOp) → count a r < n
+    → filter (lacks a) (numbered r n ds) ≡ numbered r n ds
 all_kept a r n [] past = refl
 all_kept a r n (d ∷ ds) past =
     let u = update_of r n d in
@@ -51,12 +57,14 @@ module _ (a b : Histories) (sub : IsSubset a b) where
   one_replica r =
       let p = subset-prefix a b sub r in
       let rest = drop (count a r) (history b r) in
-      let whole : history b r ≡ history a r ++ rest = sym (take-append-drop (count a r) (history b r)) ∙ ap (λ xs. xs ++ rest) (sym p.front) in
+      let whole : history b r ≡ history a r ++ rest =
+      sym (take-append-drop (count a r) (history b r)) ∙ ap (λ xs. xs ++ rest) (sym p.front) in
       ap (λ ds. filter (lacks a) (numbered r 1 ds)) whole
       ∙ ap (filter (lacks a)) (numbered-append r 1 (history a r) rest)
       ∙ filter-append (lacks a) (numbered r 1 (history a r)) (numbered r (1 + count a r) rest)
       ∙ ap (λ us. us ++ filter (lacks a) (numbered r (1 + count a r) rest))
-      (passed_over a r 1 (history a r) (λ k d got. ap (object_op_number (history a r)) {x = 1 + k} {y = suc k} (omega arith) ∙ got))
+      (passed_over a r 1 (history a r)
+      (λ k d got. ap (object_op_number (history a r)) {x = 1 + k} {y = suc k} (omega arith) ∙ got))
       ∙ all_kept a r (1 + count a r) rest (omega arith)
 
   some_replicas : (r k : ℕ) → filter (lacks a) (updates_from (history b) r k) ≡ new_from a b r k
@@ -75,7 +83,8 @@ module _ (a b : Histories) (sub : IsSubset a b) where
 new_of-none : (a b : Histories) (r : ℕ) → count b r ≤ count a r → new_of a b r ≡ []
 new_of-none a b r le = ap (numbered r (1 + count a r)) (drop_all (count a r) (history b r) le)
 
-new_from-none : (a b : Histories) (r k : ℕ) → ((q : ℕ) → r ≤ q → q < r + k → count b q ≤ count a q) → new_from a b r k ≡ []
+new_from-none : (a b : Histories) (r k : ℕ) → ((q : ℕ) → r ≤ q → q < r + k → count b q ≤ count a q)
+    → new_from a b r k ≡ []
 new_from-none a b r zero none = refl
 new_from-none a b r (suc k) none =
     ap (λ us. us ++ new_from a b (suc r) k) (new_of-none a b r (none r (omega arith) (omega arith)))
@@ -93,31 +102,38 @@ drop-drop (suc n) m [] = nothing m ∙ ap (λ k. drop k []) {x = suc (n + m)} {y
     nothing : {X : Type 0} (m : ℕ) → drop {A = X} m [] ≡ []
     nothing zero = refl
     nothing (suc m) = refl
-drop-drop (suc n) m (x ∷ xs) = drop-drop n m xs ∙ ap (λ k. drop k (x ∷ xs)) {x = suc (n + m)} {y = suc n + m} (omega arith)
+drop-drop (suc n) m (x ∷ xs) =
+    drop-drop n m xs ∙ ap (λ k. drop k (x ∷ xs)) {x = suc (n + m)} {y = suc n + m} (omega arith)
 
 -- updates of one replica, pushed one after another
-pub pushed-numbered : (s : Histories) (r : ℕ) (ds : List ObjectOp) → r < 8 → fold push s (numbered r (1 + count s r) ds) ≡ with_history s r (history s r ++ ds)
+pub pushed-numbered : (s : Histories) (r : ℕ) (ds : List ObjectOp) → r < 8
+    → fold push s (numbered r (1 + count s r) ds) ≡ with_history s r (history s r ++ ds)
 pushed-numbered s r [] lt = sym (with_history-history s r lt) ∙ ap (with_history s r) (sym (append-nil (history s r)))
 pushed-numbered s r (d ∷ ds) lt =
     let t = with_history s r (history s r ++ d ∷ []) in
     let here : history t r ≡ history s r ++ d ∷ [] = history-with_same s r _ r lt refl in
-    ap (λ n. fold push t (numbered r n ds)) {x = suc (1 + count s r)} {y = 1 + count t r} (omega (arith, ap length here, length-append (history s r) (d ∷ [])))
+    ap (λ n. fold push t (numbered r n ds)) {x = suc (1 + count s r)} {y = 1 + count t r}
+    (omega (arith, ap length here, length-append (history s r) (d ∷ [])))
     ∙ pushed-numbered t r ds lt
     ∙ ap (λ h. with_history t r (h ++ ds)) here
     ∙ with_history-with_history s r _ _ lt
     ∙ ap (with_history s r) (append_assoc (history s r) (d ∷ []) ds)
 
-pub next-numbered : (s : Histories) (r : ℕ) (ds : List ObjectOp) → r < 8 → count s r + length ds ≤ 1000000 → AreNext s (numbered r (1 + count s r) ds)
+pub next-numbered : (s : Histories) (r : ℕ) (ds : List ObjectOp) → r < 8 → count s r + length ds ≤ 1000000
+    → AreNext s (numbered r (1 + count s r) ds)
 next-numbered s r [] lt few = tt
 next-numbered s r (d ∷ ds) lt few =
     let t = with_history s r (history s r ++ d ∷ []) in
-    let more : count t r ≡ count s r + 1 = ap length (history-with_same s r _ r lt refl) ∙ length-append (history s r) (d ∷ []) in (
+    let more : count t r ≡ count s r + 1 =
+    ap length (history-with_same s r _ r lt refl) ∙ length-append (history s r) (d ∷ []) in (
       record { known = lt; next = omega arith; within = omega (arith, few) },
-      subst (λ n. AreNext t (numbered r n ds)) {x = 1 + count t r} {y = suc (1 + count s r)} (omega (arith, more)) (next-numbered t r ds lt (omega (arith, few, more))),
+      subst (λ n. AreNext t (numbered r n ds)) {x = 1 + count t r} {y = suc (1 + count s r)} (omega (arith, more))
+          (next-numbered t r ds lt (omega (arith, few, more))),
     )
 
 -- the new updates of the first replica that has some come first
-split_first : (a b : Histories) (r q k : ℕ) → q ≤ r → r < q + k → ((p : ℕ) → p < r → count b p ≤ count a p) → new_from a b q k ≡ new_of a b r ++ new_from a b (suc r) (q + k - suc r)
+split_first : (a b : Histories) (r q k : ℕ) → q ≤ r → r < q + k → ((p : ℕ) → p < r → count b p ≤ count a p)
+    → new_from a b q k ≡ new_of a b r ++ new_from a b (suc r) (q + k - suc r)
 split_first a b r q zero low high none = absurd (omega arith)
 split_first a b r q (suc k) low high none = elim (cases_eq q r) [
   | inl e ↦ ap (λ p. new_of a b p ++ new_from a b (suc p) k) e ∙ ap (λ j. new_of a b r ++ new_from a b (suc r) j) {x = k} {y = q + suc k - suc r} (omega (arith, e))
@@ -127,7 +143,8 @@ split_first a b r q (suc k) low high none = elim (cases_eq q r) [
       ∙ ap (λ j. new_of a b r ++ new_from a b (suc r) j) {x = suc q + k - suc r} {y = q + suc k - suc r} (omega arith)
 ]
 
-new_from-same : (a c b : Histories) (q k : ℕ) → ((p : ℕ) → q ≤ p → history a p ≡ history c p) → new_from a b q k ≡ new_from c b q k
+new_from-same : (a c b : Histories) (q k : ℕ) → ((p : ℕ) → q ≤ p → history a p ≡ history c p)
+    → new_from a b q k ≡ new_from c b q k
 new_from-same a c b q zero same = refl
 new_from-same a c b q (suc k) same =
     ap (λ h. numbered q (1 + length h) (drop (length h) (history b q)) ++ new_from a b (suc q) k) (same q (omega arith))
@@ -149,7 +166,8 @@ module _ (view set : Histories) (sub : IsSubset view set) (r : ℕ) (first : IsF
 
   pub beyond-first : beyond set view ≡ new_of view set r ++ rest
   unfolding rest
-  beyond-first = beyond-new view set sub ∙ split_first view set r 0 8 (omega arith) (omega (arith, first.known)) first.none_before
+  beyond-first =
+      beyond-new view set sub ∙ split_first view set r 0 8 (omega arith) (omega (arith, first.known)) first.none_before
 
   module _ (k : ℕ) (few : own + k ≤ count set r) where
     many : k ≤ length (new_of view set r)
@@ -188,9 +206,12 @@ module _ (view set : Histories) (sub : IsSubset view set) (r : ℕ) (first : IsF
     unfolding rest
     upto-left =
         beyond-new (upto view set r (own + k)) set upto-within
-        ∙ split_first (upto view set r (own + k)) set r 0 8 (omega arith) (omega (arith, first.known)) (λ q lt. omega (arith, first.none_before q lt, ap length (other q (λ e. omega (arith, lt, e)))))
+        ∙ split_first (upto view set r (own + k)) set r 0 8 (omega arith) (omega (arith, first.known))
+        (λ q lt. omega (arith, first.none_before q lt, ap length (other q (λ e. omega (arith, lt, e)))))
         ∙ ap (λ us. us ++ new_from (upto view set r (own + k)) set (suc r) (0 + 8 - suc r)) moved
-        ∙ ap (λ us. drop k (new_of view set r) ++ us) (new_from-same (upto view set r (own + k)) view set (suc r) (0 + 8 - suc r) (λ q low. other q (λ e. omega (arith, low, e))))
+        ∙ ap (λ us. drop k (new_of view set r) ++ us)
+        (new_from-same (upto view set r (own + k)) view set (suc r) (0 + 8 - suc r)
+        (λ q low. other q (λ e. omega (arith, low, e))))
         ∙ sym (drop-append-le k (new_of view set r) rest many)
         ∙ ap (drop k) (sym beyond-first)
       where
@@ -198,7 +219,8 @@ module _ (view set : Histories) (sub : IsSubset view set) (r : ℕ) (first : IsF
         moved =
             ap (λ n. numbered r (1 + n) (drop n (history set r))) long
             ∙ ap (λ ds. numbered r (1 + (own + k)) ds) (sym (drop-drop own k (history set r)))
-            ∙ ap (λ n. numbered r n (drop k (drop own (history set r)))) {x = 1 + (own + k)} {y = 1 + own + k} (omega arith)
+            ∙ ap (λ n. numbered r n (drop k (drop own (history set r)))) {x = 1 + (own + k)} {y = 1 + own + k}
+            (omega arith)
             ∙ sym (drop-numbered r (1 + own) k (drop own (history set r)))
 
 -- ## The list of new updates, as it is gone along
@@ -206,8 +228,10 @@ module _ (view set : Histories) (sub : IsSubset view set) (r : ℕ) (first : IsF
 take-more : {X : Type 0} (n k : ℕ) (xs ys : List X) → ys ≡ drop n xs → take (n + k) xs ≡ take n xs ++ take k ys
 take-more n k xs ys is = take-add n k xs ∙ ap (λ zs. take n xs ++ take k zs) (sym is)
 
-pub after_first-more : (s : Histories) (us : List Update) (n k : ℕ) (left : List Update) → left ≡ drop n us → after_first (after_first s n us) k left ≡ after_first s (n + k) us
-after_first-more s us n k left is = sym (ap (fold push s) (take-more n k us left is) ∙ fold-append push s (take n us) (take k left))
+pub after_first-more : (s : Histories) (us : List Update) (n k : ℕ) (left : List Update) → left ≡ drop n us
+    → after_first (after_first s n us) k left ≡ after_first s (n + k) us
+after_first-more s us n k left is =
+    sym (ap (fold push s) (take-more n k us left is) ∙ fold-append push s (take n us) (take k left))
 
 pub drop-more : (us left : List Update) (n k : ℕ) → left ≡ drop n us → drop k left ≡ drop (n + k) us
 drop-more us left n k is = ap (drop k) is ∙ drop-drop n k us
@@ -221,8 +245,12 @@ nothing_left a b sub none = subset-antisym a b sub (λ u there. elim (cases_Bool
 
 pub length-filter-le : (p : Update → Bool) (us : List Update) → length (filter p us) ≤ length us
 length-filter-le p [] = omega arith
-length-filter-le p (u ∷ us) = let rest = length-filter-le p us in elim (p u) as (λ b. length (cond b (u ∷ filter p us) (filter p us)) ≤ length (u ∷ us)) [ true ↦ omega (arith, rest) | false ↦ omega (arith, rest) ]
+length-filter-le p (u ∷ us) =
+    let rest = length-filter-le p us in
+    elim (p u) as (λ b. length (cond b (u ∷ filter p us) (filter p us)) ≤ length (u ∷ us))
+    [ true ↦ omega (arith, rest) | false ↦ omega (arith, rest) ]
 
 -- a set has nothing beyond itself
 pub nothing_new : (a b : Histories) → b ≡ a → length (beyond b a) ≡ 0
-nothing_new a b same = ap (λ s. length (beyond s a)) same ∙ ap length (nothing_beyond a a (subset-refl a) (λ q lt. omega arith))
+nothing_new a b same =
+    ap (λ s. length (beyond s a)) same ∙ ap length (nothing_beyond a a (subset-refl a) (λ q lt. omega arith))

@@ -54,11 +54,13 @@ kind_of-after (Set a g) u = refl
 
 ups-le : (us : List Update) → All IsSmall us → ups us ≤ length us * 4294967296
 ups-le [] all = omega arith
-ups-le (u ∷ us) all = let h = All-head IsSmall u us all in omega (arith, ups-cons u us, h.0, ups-le us (All-tail IsSmall u us all))
+ups-le (u ∷ us) all =
+    let h = All-head IsSmall u us all in omega (arith, ups-cons u us, h.0, ups-le us (All-tail IsSmall u us all))
 
 downs-le : (us : List Update) → All IsSmall us → downs us ≤ length us * 4294967296
 downs-le [] all = omega arith
-downs-le (u ∷ us) all = let h = All-head IsSmall u us all in omega (arith, downs-cons u us, h.1, downs-le us (All-tail IsSmall u us all))
+downs-le (u ∷ us) all =
+    let h = All-head IsSmall u us all in omega (arith, downs-cons u us, h.1, downs-le us (All-tail IsSmall u us all))
 
 Set-HasRoom : (s : State) (us : List Update) → kind_of s ≡ OrSet → HasRoom (steps s us)
 Set-HasRoom (Counter a b) us e = absurd cc
@@ -66,21 +68,26 @@ Set-HasRoom (Max a) us e = absurd cc
 Set-HasRoom (Set a g) [] e = tt
 Set-HasRoom (Set a g) (u ∷ us) e = Set-HasRoom (after (Set a g) u) us refl
 
-pub steps-HasRoom : (kind : Kind) (us : List Update) → All IsSmall us → length us ≤ 8000000 → HasRoom (steps (start kind) us)
-steps-HasRoom CounterKind us small few = subst HasRoom (sym (steps-Counter 0 0 us)) (omega (arith, ups-le us small), omega (arith, downs-le us small))
+pub steps-HasRoom : (kind : Kind) (us : List Update) → All IsSmall us → length us ≤ 8000000
+    → HasRoom (steps (start kind) us)
+steps-HasRoom CounterKind us small few =
+    subst HasRoom (sym (steps-Counter 0 0 us)) (omega (arith, ups-le us small), omega (arith, downs-le us small))
 steps-HasRoom MaxRegister us small few = subst HasRoom (sym (steps-Max 0 us)) tt
 steps-HasRoom OrSet us small few = Set-HasRoom (start OrSet) us refl
 
 -- what the state of a list of updates answers is what they say
-pub reply-steps : (kind : Kind) (us : List Update) (query : Query) → IsDistinctList us → reply (steps (start kind) us) query ≡ value kind us query
-reply-steps CounterKind us Total distinct = ap (λ s. reply s Total) (steps-Counter 0 0 us) ∙ (λ i. TotalIs (pos (up i) -ℤ pos (down i)))
+pub reply-steps : (kind : Kind) (us : List Update) (query : Query) → IsDistinctList us
+    → reply (steps (start kind) us) query ≡ value kind us query
+reply-steps CounterKind us Total distinct =
+    ap (λ s. reply s Total) (steps-Counter 0 0 us) ∙ (λ i. TotalIs (pos (up i) -ℤ pos (down i)))
   where
     up : 0 + ups us ≡ ups us
     up = omega arith
 
     down : 0 + downs us ≡ downs us
     down = omega arith
-reply-steps CounterKind us (AtLeast bound) distinct = ap (λ s. reply s (AtLeast bound)) (steps-Counter 0 0 us) ∙ (λ i. Reached (reaches (total (up i) (down i)) bound))
+reply-steps CounterKind us (AtLeast bound) distinct =
+    ap (λ s. reply s (AtLeast bound)) (steps-Counter 0 0 us) ∙ (λ i. Reached (reaches (total (up i) (down i)) bound))
   where
     up : 0 + ups us ≡ ups us
     up = omega arith
@@ -100,12 +107,18 @@ reply-steps MaxRegister us Items distinct = ap (λ s. reply s Items) (steps-Max 
 reply-steps OrSet us Total distinct = ap (λ s. reply s Total) (steps-Set map.empty set.empty us)
 reply-steps OrSet us (AtLeast bound) distinct = ap (λ s. reply s (AtLeast bound)) (steps-Set map.empty set.empty us)
 reply-steps OrSet us Largest distinct = ap (λ s. reply s Largest) (steps-Set map.empty set.empty us)
-reply-steps OrSet us (Has x) distinct = ap (λ s. reply s (Has x)) (steps-Set map.empty set.empty us) ∙ ap (λ s. HasIs (map.contains_key s x)) (held-present us distinct)
-reply-steps OrSet us Size distinct = ap (λ s. reply s Size) (steps-Set map.empty set.empty us) ∙ ap (λ s. SizeIs (map.len s)) (held-present us distinct)
-reply-steps OrSet us Items distinct = ap (λ s. reply s Items) (steps-Set map.empty set.empty us) ∙ ap (λ s. ItemsAre (map.keys s)) (held-present us distinct)
+reply-steps OrSet us (Has x) distinct =
+    ap (λ s. reply s (Has x)) (steps-Set map.empty set.empty us)
+    ∙ ap (λ s. HasIs (map.contains_key s x)) (held-present us distinct)
+reply-steps OrSet us Size distinct =
+    ap (λ s. reply s Size) (steps-Set map.empty set.empty us) ∙ ap (λ s. SizeIs (map.len s)) (held-present us distinct)
+reply-steps OrSet us Items distinct =
+    ap (λ s. reply s Items) (steps-Set map.empty set.empty us)
+    ∙ ap (λ s. ItemsAre (map.keys s)) (held-present us distinct)
 
 -- and so are the tags that it observes
-pub tags-steps : (kind : Kind) (us : List Update) (x : ℕ) → IsAscendingList us → tags_of (steps (start kind) us) x ≡ tags_by kind us x
+pub tags-steps : (kind : Kind) (us : List Update) (x : ℕ) → IsAscendingList us
+    → tags_of (steps (start kind) us) x ≡ tags_by kind us x
 tags-steps CounterKind us x ascending = ap (λ s. tags_of s x) (steps-Counter 0 0 us)
 tags-steps MaxRegister us x ascending = ap (λ s. tags_of s x) (steps-Max 0 us)
 tags-steps OrSet us x ascending = ap (λ s. tags_of s x) (steps-Set map.empty set.empty us) ∙ held-live us x ascending

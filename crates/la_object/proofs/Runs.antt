@@ -41,15 +41,19 @@ few-updates s within = omega (
 )
 
 -- updates that come next of a replica
-module _ (view : Histories) (r : ℕ) (known : r < 8) (limit : IsWithinLimit view) (ds : List ObjectOp) (few : count view r + length ds ≤ 1000000) where
+module _ (view : Histories) (r : ℕ) (known : r < 8) (limit : IsWithinLimit view) (ds : List ObjectOp)
+    (few : count view r + length ds ≤ 1000000) where
   pushed-limit : IsWithinLimit (fold push view (numbered r (1 + count view r) ds))
   pushed-limit = subst IsWithinLimit (sym (pushed-numbered view r ds known))
       (count-edited view r (history view r ++ ds) known (omega (arith, few, length-append (history view r) ds)) limit)
 
-  numbered-IsShelf : (ss : List (ℕ × State)) → IsShelf view ss → All IsSmall (numbered r (1 + count view r) ds) → IsShelf (fold push view (numbered r (1 + count view r) ds)) (all_absorbed ss (numbered r (1 + count view r) ds))
-  numbered-IsShelf ss keeps small = run-IsShelf view ss (numbered r (1 + count view r) ds) (next-numbered view r ds known few) small keeps
+  numbered-IsShelf : (ss : List (ℕ × State)) → IsShelf view ss → All IsSmall (numbered r (1 + count view r) ds)
+      → IsShelf (fold push view (numbered r (1 + count view r) ds)) (all_absorbed ss (numbered r (1 + count view r) ds))
+  numbered-IsShelf ss keeps small =
+      run-IsShelf view ss (numbered r (1 + count view r) ds) (next-numbered view r ds known few) small keeps
 
-  numbered-HaveRoom : (ss : List (ℕ × State)) → IsShelf view ss → All IsSmall (numbered r (1 + count view r) ds) → HaveRoom (all_absorbed ss (numbered r (1 + count view r) ds))
+  numbered-HaveRoom : (ss : List (ℕ × State)) → IsShelf view ss → All IsSmall (numbered r (1 + count view r) ds)
+      → HaveRoom (all_absorbed ss (numbered r (1 + count view r) ds))
   numbered-HaveRoom ss keeps small = shelf-HaveRoom _ _ (numbered-IsShelf ss keeps small) (few-updates _ pushed-limit)
 
 take-take : {X : Type 0} (k n : ℕ) (xs : List X) → k ≤ n → take k (take n xs) ≡ take k xs
@@ -58,11 +62,21 @@ take-take (suc k) zero xs le = absurd (omega arith)
 take-take (suc k) (suc n) [] le = refl
 take-take (suc k) (suc n) (x ∷ xs) le = ap (λ ys. x ∷ ys) (take-take k n xs (omega arith))
 
-pub beyond-length : (view set : Histories) (sub : IsSubset view set) (r : ℕ) (first : IsFirstMore view set r) → count set r - count view r ≤ length (beyond set view)
-beyond-length view set sub r first = omega (arith, ap length (beyond-first view set sub r first), length-append (new_of view set r) (rest view set sub r first), length-numbered r (1 + count view r) (drop (count view r) (history set r)), length-drop (count view r) (history set r))
+pub beyond-length : (view set : Histories) (sub : IsSubset view set) (r : ℕ) (first : IsFirstMore view set r)
+    → count set r - count view r ≤ length (beyond set view)
+beyond-length view set sub r first =
+    omega (
+      arith,
+      ap length (beyond-first view set sub r first),
+      length-append (new_of view set r)
+          (rest view set sub r first),
+      length-numbered r (1 + count view r) (drop (count view r) (history set r)),
+      length-drop (count view r) (history set r),
+    )
 
 -- a run of a set's updates of the first replica of which it has more than the view
-module _ (view set : Histories) (sub : IsSubset view set) (r : ℕ) (first : IsFirstMore view set r) (limit : IsWithinLimit set) (us : List Update) (run : us ≡ take 1000 (drop (count view r) (updates_of set r))) where
+module _ (view set : Histories) (sub : IsSubset view set) (r : ℕ) (first : IsFirstMore view set r)
+    (limit : IsWithinLimit set) (us : List Update) (run : us ≡ take 1000 (drop (count view r) (updates_of set r))) where
   ds : List ObjectOp
   ds = drop (count view r) (history set r)
 
@@ -81,15 +95,21 @@ module _ (view set : Histories) (sub : IsSubset view set) (r : ℕ) (first : IsF
 
   short : (k : ℕ) → count view r + length (take k (take 1000 ds)) ≤ count set r
   unfolding ds
-  short k = omega (arith, length-take k (take 1000 ds), length-take 1000 ds, length-drop (count view r) (history set r), first.more)
+  short k =
+      omega
+      (arith, length-take k (take 1000 ds), length-take 1000 ds, length-drop (count view r) (history set r), first.more)
 
   pub run-length : length us ≡ min 1000 (count set r - count view r)
   unfolding ds
-  run-length = ap length is ∙ length-numbered r (1 + count view r) (take 1000 ds) ∙ length-take 1000 ds ∙ ap (min 1000) (length-drop (count view r) (history set r))
+  run-length =
+      ap length is ∙ length-numbered r (1 + count view r) (take 1000 ds) ∙ length-take 1000 ds
+      ∙ ap (min 1000) (length-drop (count view r) (history set r))
 
-  pub run-HaveRoom : (ss : List (ℕ × State)) → IsShelf view ss → (k : ℕ) → All IsSmall (take k us) → HaveRoom (all_absorbed ss (take k us))
+  pub run-HaveRoom : (ss : List (ℕ × State)) → IsShelf view ss → (k : ℕ) → All IsSmall (take k us)
+      → HaveRoom (all_absorbed ss (take k us))
   run-HaveRoom ss keeps k small = subst (λ vs. HaveRoom (all_absorbed ss vs)) (sym (front k))
-      (numbered-HaveRoom view r first.known within (take k (take 1000 ds)) (omega (arith, short k, limit r)) ss keeps (subst (All IsSmall) (front k) small))
+      (numbered-HaveRoom view r first.known within (take k (take 1000 ds)) (omega (arith, short k, limit r)) ss keeps
+      (subst (All IsSmall) (front k) small))
 
   -- the first so many of the run are absorbed
   module _ (many : ℕ) (few : many ≤ length us) where
@@ -100,16 +120,20 @@ module _ (view set : Histories) (sub : IsSubset view set) (r : ℕ) (first : IsF
     unfolding ds
     same_front =
         taken-first view set sub r first many run-count
-        ∙ ap (numbered r (1 + count view r)) (sym (take-take many 1000 (drop (count view r) (history set r)) (omega (arith, few, run-length))))
+        ∙ ap (numbered r (1 + count view r))
+        (sym (take-take many 1000 (drop (count view r) (history set r)) (omega (arith, few, run-length))))
         ∙ sym (front many)
 
-    pub view-after : truncate (with_history view r (history set r)) r (count view r + many) ≡ after_first view many (beyond set view)
+    pub view-after : truncate (with_history view r (history set r)) r (count view r + many)
+        ≡ after_first view many (beyond set view)
     view-after =
         with_history-with_history view r (history set r) _ first.known
-        ∙ ap (λ h. with_history view r (take (count view r + many) h)) (history-with_same view r (history set r) r first.known refl)
+        ∙ ap (λ h. with_history view r (take (count view r + many) h))
+        (history-with_same view r (history set r) r first.known refl)
         ∙ sym (after_first-upto view set sub r first many run-count)
 
-    pub taken-IsShelf : (ss : List (ℕ × State)) → IsShelf view ss → All IsSmall (take many us) → IsShelf (after_first view many (beyond set view)) (all_absorbed ss (take many us))
+    pub taken-IsShelf : (ss : List (ℕ × State)) → IsShelf view ss → All IsSmall (take many us)
+        → IsShelf (after_first view many (beyond set view)) (all_absorbed ss (take many us))
     taken-IsShelf ss keeps small =
         subst (λ vs. IsShelf (fold push view vs) (all_absorbed ss (take many us))) (sym same_front)
         (subst (λ vs. IsShelf (fold push view vs) (all_absorbed ss vs)) (sym (front many))
@@ -119,17 +143,26 @@ module _ (view set : Histories) (sub : IsSubset view set) (r : ℕ) (first : IsF
     run-HasTaken objects = record {
       taken = refl;
       few = omega (arith, beyond-length view set sub r first, run-count);
-      left = ap (beyond set) (after_first-upto view set sub r first many run-count) ∙ upto-left view set sub r first many run-count;
-      within = subst (λ v. IsSubset v set) (sym (after_first-upto view set sub r first many run-count)) (upto-within view set sub r first many run-count);
+      left =
+          ap (beyond set) (after_first-upto view set sub r first many run-count)
+          ∙ upto-left view set sub r first many run-count;
+      within =
+          subst (λ v. IsSubset v set) (sym (after_first-upto view set sub r first many run-count))
+          (upto-within view set sub r first many run-count);
     }
 
     -- what is a shelf's then: the objects after the run, and the view that was held ready
-    module _ {B : Type 0} (f : B → State) (es es' : List (ℕ × B)) (ready view' : Histories) (keeps : IsShelf view (rows f es)) (some : rows f es' ≡ all_absorbed (rows f es) (take many us)) (small : All IsSmall (take many us)) (held : ready ≡ with_history view r (history set r)) (cut : view' ≡ truncate ready r (count view r + many)) where
+    module _ {B : Type 0} (f : B → State) (es es' : List (ℕ × B)) (ready view' : Histories)
+        (keeps : IsShelf view (rows f es)) (some : rows f es' ≡ all_absorbed (rows f es) (take many us))
+        (small : All IsSmall (take many us)) (held : ready ≡ with_history view r (history set r))
+        (cut : view' ≡ truncate ready r (count view r + many)) where
       view-is : view' ≡ after_first view many (beyond set view)
       view-is = cut ∙ ap (λ s. truncate s r (count view r + many)) held ∙ view-after
 
       pub ends-IsShelf : IsShelf view' (rows f es')
-      ends-IsShelf = subst (λ v. IsShelf v (rows f es')) (sym view-is) (subst (IsShelf (after_first view many (beyond set view))) (sym some) (taken-IsShelf (rows f es) keeps small))
+      ends-IsShelf =
+          subst (λ v. IsShelf v (rows f es')) (sym view-is)
+          (subst (IsShelf (after_first view many (beyond set view))) (sym some) (taken-IsShelf (rows f es) keeps small))
 
       kinds-is : kinds (rows f es') ≡ kinds (rows f es)
       kinds-is = ap kinds some ∙ kinds-all_absorbed (rows f es) (take many us)
@@ -139,7 +172,8 @@ module _ (view set : Histories) (sub : IsSubset view set) (r : ℕ) (first : IsF
           (subst (λ new. HasTaken (record { view = view; objects = kinds (rows f es) }) set new many) (λ i. record { view = sym view-is i; objects = sym kinds-is i }) (run-HasTaken (kinds (rows f es))))
 
 -- more after some
-pub more-HasTaken : (a b c : ShelfState) (set : Histories) (n k : ℕ) → HasTaken a set b n → HasTaken b set c k → HasTaken a set c (n + k)
+pub more-HasTaken : (a b c : ShelfState) (set : Histories) (n k : ℕ) → HasTaken a set b n → HasTaken b set c k
+    → HasTaken a set c (n + k)
 more-HasTaken a b c set n k one two =
     let all = beyond set a.view in
     let there : b.view ≡ after_first a.view n all = ap (λ (s : ShelfState). s.view) one.taken in
@@ -147,7 +181,9 @@ more-HasTaken a b c set n k one two =
       taken =
           two.taken
           ∙ ap (λ (s : ShelfState). record s { view = after_first b.view k (beyond set b.view) }) one.taken
-          ∙ ap (λ v. record a { view = v }) (ap (λ v. after_first v k (beyond set b.view)) there ∙ after_first-more a.view all n k (beyond set b.view) one.left);
+          ∙ ap (λ v. record a { view = v })
+          (ap (λ v. after_first v k (beyond set b.view)) there
+          ∙ after_first-more a.view all n k (beyond set b.view) one.left);
       few = omega (arith, two.few, one.few, ap length one.left, length-drop n all);
       left = two.left ∙ drop-more all (beyond set b.view) n k one.left;
       within = two.within;

@@ -24,14 +24,16 @@ unfolding or_else
 or_else-None = refl
 
 -- what a map with one more element answers
-pub get-with_element : (adds : Elements) (id : UpdateId) (x : ℕ) (q : UpdateId) → map.get (with_element adds id (Some x)) q ≡ or_else (map.get adds q) (cond (eq_by_cmp id_cmp q id) (Some x) None)
+pub get-with_element : (adds : Elements) (id : UpdateId) (x : ℕ) (q : UpdateId)
+    → map.get (with_element adds id (Some x)) q ≡ or_else (map.get adds q) (cond (eq_by_cmp id_cmp q id) (Some x) None)
 unfolding or_else
 get-with_element adds id x q = by (map.get adds id) refl (eq_by_cmp id_cmp q id) refl
   where
     tied : eq_by_cmp id_cmp q id ≡ true → map.get adds id ≡ map.get adds q
     tied e = map.get_tied id_cmp_total adds q id ((Equal-is (id_cmp q id)).0 e)
 
-    by : (g : Option ℕ) → map.get adds id ≡ g → (b : Bool) → eq_by_cmp id_cmp q id ≡ b → map.get (cond (is_some g) adds (map.insert adds id x)) q ≡ or_else (map.get adds q) (cond b (Some x) None)
+    by : (g : Option ℕ) → map.get adds id ≡ g → (b : Bool) → eq_by_cmp id_cmp q id ≡ b
+        → map.get (cond (is_some g) adds (map.insert adds id x)) q ≡ or_else (map.get adds q) (cond b (Some x) None)
     by (Some y) is true e = rw (sym (tied e) ∙ is) refl
     by (Some y) is false e = or_none (map.get adds q)
       where
@@ -46,7 +48,9 @@ get-with_element adds id x q = by (map.get adds id) refl (eq_by_cmp id_cmp q id)
         or_none None = refl
 
 -- at one place, at most one of two different ids adds its element
-swapped : (g : Option ℕ) (x y : ℕ) (b c : Bool) → (b ≡ true → c ≡ true → ⊥) → or_else (or_else g (cond b (Some x) None)) (cond c (Some y) None) ≡ or_else (or_else g (cond c (Some y) None)) (cond b (Some x) None)
+swapped : (g : Option ℕ) (x y : ℕ) (b c : Bool) → (b ≡ true → c ≡ true → ⊥)
+    → or_else (or_else g (cond b (Some x) None)) (cond c (Some y) None)
+    ≡ or_else (or_else g (cond c (Some y) None)) (cond b (Some x) None)
 unfolding or_else
 swapped (Some z) x y b c ne = refl
 swapped None x y true true ne = absurd (ne refl refl)
@@ -54,7 +58,8 @@ swapped None x y true false ne = refl
 swapped None x y false true ne = refl
 swapped None x y false false ne = refl
 
-with_element-swap : (adds : Elements) (a b : UpdateId) (x y : Option ℕ) → a ≢ b → with_element (with_element adds a x) b y ≡ with_element (with_element adds b y) a x
+with_element-swap : (adds : Elements) (a b : UpdateId) (x y : Option ℕ) → a ≢ b
+    → with_element (with_element adds a x) b y ≡ with_element (with_element adds b y) a x
 with_element-swap adds a b None None ne = refl
 with_element-swap adds a b None (Some y) ne = refl
 with_element-swap adds a b (Some x) None ne = refl
@@ -62,7 +67,10 @@ with_element-swap adds a b (Some x) (Some y) ne = map.same_map id_cmp_total id_c
     get-with_element (with_element adds a (Some x)) b y q
     ∙ ap (λ g. or_else g (cond (eq_by_cmp id_cmp q b) (Some y) None)) (get-with_element adds a x q)
     ∙ swapped (map.get adds q) x y (eq_by_cmp id_cmp q a) (eq_by_cmp id_cmp q b)
-    (λ e f. ne (sym (id_cmp-IsAntisymmetric q a ((Equal-is (id_cmp q a)).0 e)) ∙ id_cmp-IsAntisymmetric q b ((Equal-is (id_cmp q b)).0 f)))
+    (λ e f.
+    ne
+    (sym (id_cmp-IsAntisymmetric q a ((Equal-is (id_cmp q a)).0 e))
+    ∙ id_cmp-IsAntisymmetric q b ((Equal-is (id_cmp q b)).0 f)))
     ∙ ap (λ g. or_else g (cond (eq_by_cmp id_cmp q a) (Some x) None)) (sym (get-with_element adds b y q))
     ∙ sym (get-with_element (with_element adds b (Some y)) a x q))
 
@@ -75,8 +83,11 @@ or_last_two false false false = refl
 
 with_ids-swap : (gone : IdSet) (xs ys : List UpdateId) → with_ids (with_ids gone xs) ys ≡ with_ids (with_ids gone ys) xs
 with_ids-swap gone xs ys = set.same_set id_cmp_total id_cmp-IsAntisymmetric _ _ (λ q.
-    set.contains-union id_cmp_total _ _ q ∙ ap (λ b. b || set.contains {R = id_cmp} (set.from_list {R = id_cmp} ys) q) (set.contains-union id_cmp_total gone (set.from_list xs) q)
-    ∙ or_last_two (set.contains gone q) (set.contains {R = id_cmp} (set.from_list {R = id_cmp} xs) q) (set.contains {R = id_cmp} (set.from_list {R = id_cmp} ys) q)
+    set.contains-union id_cmp_total _ _ q
+    ∙ ap (λ b. b || set.contains {R = id_cmp} (set.from_list {R = id_cmp} ys) q)
+    (set.contains-union id_cmp_total gone (set.from_list xs) q)
+    ∙ or_last_two (set.contains gone q) (set.contains {R = id_cmp} (set.from_list {R = id_cmp} xs) q)
+    (set.contains {R = id_cmp} (set.from_list {R = id_cmp} ys) q)
     ∙ sym (set.contains-union id_cmp_total _ _ q ∙ ap (λ b. b || set.contains {R = id_cmp} (set.from_list {R = id_cmp} xs) q) (set.contains-union id_cmp_total gone (set.from_list ys) q)))
 
 -- two steps with different ids commute
@@ -92,7 +103,9 @@ after-swap (Max most) u v ne i = Max (maxes i)
   where
     maxes : max (max most (raised u.op)) (raised v.op) ≡ max (max most (raised v.op)) (raised u.op)
     maxes = omega arith
-after-swap (Set adds gone) u v ne i = Set (with_element-swap adds u.id v.id (element u.op) (element v.op) ne i) (with_ids-swap gone (named u.op) (named v.op) i)
+after-swap (Set adds gone) u v ne i =
+    Set (with_element-swap adds u.id v.id (element u.op) (element v.op) ne i)
+    (with_ids-swap gone (named u.op) (named v.op) i)
 
 -- no update in the list has this one's id
 abbrev pub AllOther : Update → List Update → Type 0
@@ -100,14 +113,18 @@ AllOther u [] = Unit {0}
 AllOther u (v ∷ vs) = (u.id ≢ v.id) × AllOther u vs
 
 -- a step may be taken last
-pub steps-last : (s : State) (u : Update) (vs : List Update) → AllOther u vs → steps (after s u) vs ≡ after (steps s vs) u
+pub steps-last : (s : State) (u : Update) (vs : List Update) → AllOther u vs
+    → steps (after s u) vs ≡ after (steps s vs) u
 steps-last s u [] other = refl
 steps-last s u (v ∷ vs) other = ap (λ t. steps t vs) (after-swap s u v other.0) ∙ steps-last (after s v) u vs other.1
 
-pub steps-insert : (s : State) (us : List Update) (u : Update) (vs : List Update) → AllOther u vs → steps s (us ++ u ∷ vs) ≡ after (steps s (us ++ vs)) u
+pub steps-insert : (s : State) (us : List Update) (u : Update) (vs : List Update) → AllOther u vs
+    → steps s (us ++ u ∷ vs) ≡ after (steps s (us ++ vs)) u
 steps-insert s [] u vs other = steps-last s u vs other
 steps-insert s (x ∷ us) u vs other = steps-insert (after s x) us u vs other
 
 pub AllOther-filter : (u : Update) (p : Update → Bool) (vs : List Update) → AllOther u vs → AllOther u (filter p vs)
 AllOther-filter u p [] other = tt
-AllOther-filter u p (v ∷ vs) other = elim (p v) as (λ b. AllOther u (cond b (v ∷ filter p vs) (filter p vs))) [ true ↦ (other.0, AllOther-filter u p vs other.1) | false ↦ AllOther-filter u p vs other.1 ]
+AllOther-filter u p (v ∷ vs) other =
+    elim (p v) as (λ b. AllOther u (cond b (v ∷ filter p vs) (filter p vs)))
+    [ true ↦ (other.0, AllOther-filter u p vs other.1) | false ↦ AllOther-filter u p vs other.1 ]

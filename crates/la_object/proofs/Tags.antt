@@ -28,7 +28,10 @@ IsAscendingList [] = Unit {0}
 IsAscendingList (u ∷ us) = AllAbove u us × IsAscendingList us
 
 greater_differs : (x y : UpdateId) → id_cmp y x ≡ Greater → x ≢ y
-greater_differs x y above same = absurd (subst (λ o. is_eq o ≡ false → ⊥) (sym (tied_itself id_cmp_total x)) (λ e. cc) (ap is_eq (subst (λ z. id_cmp z x ≡ Greater) (sym same) above)))
+greater_differs x y above same =
+    absurd
+    (subst (λ o. is_eq o ≡ false → ⊥) (sym (tied_itself id_cmp_total x)) (λ e. cc)
+    (ap is_eq (subst (λ z. id_cmp z x ≡ Greater) (sym same) above)))
 
 pub AllAbove-other : (u : Update) (vs : List Update) → AllAbove u vs → AllOther u vs
 AllAbove-other u [] above = tt
@@ -40,7 +43,9 @@ ascending-distinct (u ∷ us) ascending = (AllAbove-other u us ascending.0, asce
 
 pub AllAbove-filter : (u : Update) (p : Update → Bool) (vs : List Update) → AllAbove u vs → AllAbove u (filter p vs)
 AllAbove-filter u p [] above = tt
-AllAbove-filter u p (v ∷ vs) above = elim (p v) as (λ b. AllAbove u (cond b (v ∷ filter p vs) (filter p vs))) [ true ↦ (above.0, AllAbove-filter u p vs above.1) | false ↦ AllAbove-filter u p vs above.1 ]
+AllAbove-filter u p (v ∷ vs) above =
+    elim (p v) as (λ b. AllAbove u (cond b (v ∷ filter p vs) (filter p vs)))
+    [ true ↦ (above.0, AllAbove-filter u p vs above.1) | false ↦ AllAbove-filter u p vs above.1 ]
 
 -- ## What was put, in that order
 
@@ -67,7 +72,9 @@ put-last k v (e ∷ es) under =
     ap (λ o. by_order o ((k, v) ∷ e ∷ es) ((e.0, v) ∷ es) (e ∷ map.put id_cmp k v es)) under.0
     ∙ ap (λ xs. e ∷ xs) (put-last k v es under.1)
 
-entries-more : (adds : Elements) (id : UpdateId) (o : Option ℕ) → map.get adds id ≡ None → AllUnder id (map.entries adds) → map.entries (with_element adds id o) ≡ map.entries adds ++ cons_option (option_map (λ y. (id, y)) o) []
+entries-more : (adds : Elements) (id : UpdateId) (o : Option ℕ) → map.get adds id ≡ None
+    → AllUnder id (map.entries adds)
+    → map.entries (with_element adds id o) ≡ map.entries adds ++ cons_option (option_map (λ y. (id, y)) o) []
 entries-more adds id None none under = sym (append-nil (map.entries adds))
 entries-more adds id (Some y) none under =
     ap (λ g. map.entries (cond (is_some g) adds (map.insert adds id y))) none
@@ -83,25 +90,31 @@ AreAbove-nil : (us : List Update) → AreAbove [] us
 AreAbove-nil [] = tt
 AreAbove-nil (u ∷ us) = (tt, AreAbove-nil us)
 
-under-one : (k id : UpdateId) (o : Option ℕ) → id_cmp k id ≡ Greater → AllUnder k (cons_option (option_map (λ y. (id, y)) o) [])
+under-one : (k id : UpdateId) (o : Option ℕ) → id_cmp k id ≡ Greater
+    → AllUnder k (cons_option (option_map (λ y. (id, y)) o) [])
 under-one k id None above = tt
 under-one k id (Some y) above = (above, tt)
 
-AreAbove-more : (es : List Entry) (u : Update) (us : List Update) → AllAbove u us → AreAbove es us → AreAbove (es ++ cons_option (put_by u) []) us
+AreAbove-more : (es : List Entry) (u : Update) (us : List Update) → AllAbove u us → AreAbove es us
+    → AreAbove (es ++ cons_option (put_by u) []) us
 AreAbove-more es u [] above all = tt
-AreAbove-more es u (v ∷ vs) above all = (AllUnder-append v.id es _ all.0 (under-one v.id u.id (element u.op) above.0), AreAbove-more es u vs above.1 all.1)
+AreAbove-more es u (v ∷ vs) above all =
+    (AllUnder-append v.id es _ all.0 (under-one v.id u.id (element u.op) above.0), AreAbove-more es u vs above.1 all.1)
 
 cons_option-append : (o : Option Entry) (es : List Entry) → cons_option o [] ++ es ≡ cons_option o es
 cons_option-append None es = refl
 cons_option-append (Some e) es = refl
 
-entries-adds_after : (adds : Elements) (us : List Update) → AreNew adds us → IsDistinctList us → AreAbove (map.entries adds) us → IsAscendingList us → map.entries (adds_after adds us) ≡ map.entries adds ++ filter_map put_by us
+entries-adds_after : (adds : Elements) (us : List Update) → AreNew adds us → IsDistinctList us
+    → AreAbove (map.entries adds) us → IsAscendingList us
+    → map.entries (adds_after adds us) ≡ map.entries adds ++ filter_map put_by us
 unfolding adds_after
 entries-adds_after adds [] new distinct above ascending = sym (append-nil (map.entries adds))
 entries-adds_after adds (u ∷ us) new distinct above ascending =
     let more = with_element adds u.id (element u.op) in
     let now = entries-more adds u.id (element u.op) new.0 above.0 in
-    entries-adds_after more us (AreNew-more adds u us distinct.0 new.1) distinct.1 (subst (λ es. AreAbove es us) (sym now) (AreAbove-more (map.entries adds) u us ascending.0 above.1)) ascending.1
+    entries-adds_after more us (AreNew-more adds u us distinct.0 new.1) distinct.1
+    (subst (λ es. AreAbove es us) (sym now) (AreAbove-more (map.entries adds) u us ascending.0 above.1)) ascending.1
     ∙ ap (λ es. es ++ filter_map put_by us) now
     ∙ append_assoc (map.entries adds) (cons_option (put_by u) []) (filter_map put_by us)
     ∙ ap (λ es. map.entries adds ++ es) (cons_option-append (put_by u) (filter_map put_by us))
@@ -115,26 +128,49 @@ module _ (gone : UpdateId → Bool) (x : ℕ) where
   abbrev is_live : Update → Bool
   is_live u = is_element x (cond (gone u.id) None (element u.op))
 
-  left-live : (us : List Update) → list_map (λ (e : Entry). e.0) (filter is_left (filter_map put_by us)) ≡ list_map (λ (u : Update). u.id) (filter is_live us)
+  left-live : (us : List Update)
+      → list_map (λ (e : Entry). e.0) (filter is_left (filter_map put_by us))
+      ≡ list_map (λ (u : Update). u.id) (filter is_live us)
   left-live [] = refl
   left-live (u ∷ us) = by (element u.op) (left-live us)
     where
-      by : (o : Option ℕ) → list_map (λ (e : Entry). e.0) (filter is_left (filter_map put_by us)) ≡ list_map (λ (v : Update). v.id) (filter is_live us)
-          → list_map (λ (e : Entry). e.0) (filter is_left (cons_option (option_map (λ y. (u.id, y)) o) (filter_map put_by us))) ≡ list_map (λ (v : Update). v.id) (cond (is_element x (cond (gone u.id) None o)) (u ∷ filter is_live us) (filter is_live us))
-      by None rest = elim (gone u.id) as (λ b. list_map (λ (e : Entry). e.0) (filter is_left (filter_map put_by us)) ≡ list_map (λ (v : Update). v.id) (cond (is_element x (cond b None None)) (u ∷ filter is_live us) (filter is_live us))) [ true ↦ rest | false ↦ rest ]
-      by (Some y) rest = elim (gone u.id) as (λ b. list_map (λ (e : Entry). e.0) (cond (not b && (y == x)) ((u.id, y) ∷ filter is_left (filter_map put_by us)) (filter is_left (filter_map put_by us))) ≡ list_map (λ (v : Update). v.id) (cond (is_element x (cond b None (Some y))) (u ∷ filter is_live us) (filter is_live us))) [
-        | true ↦ rest
-        | false ↦ elim (y == x) as (λ c. list_map (λ (e : Entry). e.0) (cond c ((u.id, y) ∷ filter is_left (filter_map put_by us)) (filter is_left (filter_map put_by us))) ≡ list_map (λ (v : Update). v.id) (cond c (u ∷ filter is_live us) (filter is_live us))) [ true ↦ ap (λ ids. u.id ∷ ids) rest | false ↦ rest ]
-      ]
+      by : (o : Option ℕ)
+          → list_map (λ (e : Entry). e.0) (filter is_left (filter_map put_by us))
+          ≡ list_map (λ (v : Update). v.id) (filter is_live us)
+          → list_map (λ (e : Entry). e.0)
+          (filter is_left (cons_option (option_map (λ y. (u.id, y)) o) (filter_map put_by us)))
+          ≡ list_map (λ (v : Update). v.id)
+          (cond (is_element x (cond (gone u.id) None o)) (u ∷ filter is_live us) (filter is_live us))
+      by None rest =
+          elim (gone u.id) as
+          (λ b.
+          list_map (λ (e : Entry). e.0) (filter is_left (filter_map put_by us))
+          ≡ list_map (λ (v : Update). v.id)
+          (cond (is_element x (cond b None None)) (u ∷ filter is_live us) (filter is_live us)))
+          [ true ↦ rest | false ↦ rest ]
+      by (Some y) rest =
+          elim (gone u.id) as
+          (λ b.
+          list_map (λ (e : Entry). e.0)
+          (cond (not b && (y == x)) ((u.id, y) ∷ filter is_left (filter_map put_by us))
+          (filter is_left (filter_map put_by us)))
+          ≡ list_map (λ (v : Update). v.id)
+          (cond (is_element x (cond b None (Some y))) (u ∷ filter is_live us) (filter is_live us))) [
+            | true ↦ rest
+            | false ↦ elim (y == x) as (λ c. list_map (λ (e : Entry). e.0) (cond c ((u.id, y) ∷ filter is_left (filter_map put_by us)) (filter is_left (filter_map put_by us))) ≡ list_map (λ (v : Update). v.id) (cond c (u ∷ filter is_live us) (filter is_live us))) [ true ↦ ap (λ ids. u.id ∷ ids) rest | false ↦ rest ]
+          ]
 
 -- the tags that the steps hold are those that are live
-pub held-live : (us : List Update) (x : ℕ) → IsAscendingList us → held_tags (adds_after map.empty us) (gone_after set.empty us) x ≡ live_tags us x
+pub held-live : (us : List Update) (x : ℕ) → IsAscendingList us
+    → held_tags (adds_after map.empty us) (gone_after set.empty us) x ≡ live_tags us x
 held-live us x ascending =
     let gone = gone_after set.empty us in
-    let removed : (id : UpdateId) → set.contains gone id ≡ is_removed us id = λ id. contains-gone_after set.empty us id ∙ ap (λ b. b || is_removed us id) (set.contains-empty id_cmp id) in
+    let removed : (id : UpdateId) → set.contains gone id ≡ is_removed us id =
+    λ id. contains-gone_after set.empty us id ∙ ap (λ b. b || is_removed us id) (set.contains-empty id_cmp id) in
     let distinct = ascending-distinct us ascending in
     let put : map.entries (adds_after map.empty us) ≡ filter_map put_by us =
-    entries-adds_after map.empty us (AreNew-empty us) distinct (subst (λ es. AreAbove es us) (sym entries-empty) (AreAbove-nil us)) ascending
+    entries-adds_after map.empty us (AreNew-empty us) distinct
+    (subst (λ es. AreAbove es us) (sym entries-empty) (AreAbove-nil us)) ascending
     ∙ ap (λ es. es ++ filter_map put_by us) entries-empty in
     ap (λ es. list_map (λ (e : Entry). e.0) (filter (λ e. not (set.contains gone e.0) && (e.1 == x)) es)) put
     ∙ (λ i. list_map (λ (e : Entry). e.0) (filter (λ e. not (removed e.0 i) && (e.1 == x)) (filter_map put_by us)))

@@ -28,14 +28,20 @@ pub id_equiv : IsEquivalence id_eq
 id_equiv = subst IsEquivalence (sym id_tests) (eq_by_cmp_equiv id_cmp_total)
 
 -- what a set of ids has
-pub contains-list : (ks : List UpdateId) (q : UpdateId) → map.contains_key (set_of {R = id_cmp} ks) q ≡ list_any (id_eq q) ks
-contains-list ks q = contains-set_of id_cmp_total id_cmp-IsAntisymmetric ks q ∙ sym (ap (λ t. list_any (t q) ks) id_tests)
+pub contains-list : (ks : List UpdateId) (q : UpdateId)
+    → map.contains_key (set_of {R = id_cmp} ks) q ≡ list_any (id_eq q) ks
+contains-list ks q =
+    contains-set_of id_cmp_total id_cmp-IsAntisymmetric ks q ∙ sym (ap (λ t. list_any (t q) ks) id_tests)
 
-contains-more : (s : TagMap) (k q : UpdateId) → map.contains_key (map.insert s k tt) q ≡ (id_eq q k || map.contains_key s q)
-contains-more s k q = contains-put id_cmp_total id_cmp-IsAntisymmetric s k q ∙ ap (λ b. b || map.contains_key s q) (sym (id_test q k))
+contains-more : (s : TagMap) (k q : UpdateId)
+    → map.contains_key (map.insert s k tt) q ≡ (id_eq q k || map.contains_key s q)
+contains-more s k q =
+    contains-put id_cmp_total id_cmp-IsAntisymmetric s k q ∙ ap (λ b. b || map.contains_key s q) (sym (id_test q k))
 
-contains-less : (s : TagMap) (k q : UpdateId) → map.contains_key (map.remove s k) q ≡ (not (id_eq q k) && map.contains_key s q)
-contains-less s k q = contains-taken id_cmp_total id_cmp-IsAntisymmetric s k q ∙ ap (λ b. not b && map.contains_key s q) (sym (id_test q k))
+contains-less : (s : TagMap) (k q : UpdateId)
+    → map.contains_key (map.remove s k) q ≡ (not (id_eq q k) && map.contains_key s q)
+contains-less s k q =
+    contains-taken id_cmp_total id_cmp-IsAntisymmetric s k q ∙ ap (λ b. not b && map.contains_key s q) (sym (id_test q k))
 
 same_tags : (s t : TagMap) → ((q : UpdateId) → map.contains_key s q ≡ map.contains_key t q) → s ≡ t
 same_tags s t h = same_members id_cmp_total id_cmp-IsAntisymmetric s t h
@@ -44,19 +50,24 @@ same_tags s t h = same_members id_cmp_total id_cmp-IsAntisymmetric s t h
 module _ (ks : List UpdateId) (i : ℕ) (id : UpdateId) where
   pub list-put : set_of {R = id_cmp} (insert ks i id) ≡ map.insert (set_of ks) id tt
   list-put = same_tags _ _ (λ q.
-      contains-list (insert ks i id) q ∙ sym (list_any-IsPermutation (id_eq q) (id ∷ ks) (insert ks i id) (IsPermutation-insert ks i id))
+      contains-list (insert ks i id) q
+      ∙ sym (list_any-IsPermutation (id_eq q) (id ∷ ks) (insert ks i id) (IsPermutation-insert ks i id))
       ∙ sym (contains-more (set_of ks) id q ∙ ap (λ b. id_eq q id || b) (contains-list ks q)))
 
   pub list-put-distinct : IsDistinct id_eq ks → list_any (id_eq id) ks ≡ false → IsDistinct id_eq (insert ks i id)
   list-put-distinct distinct new =
-      let first = IsDistinct-IsPermutation id_eq id_equiv.symm (ks ++ id ∷ []) (id ∷ ks) (IsPermutation-to_front ks id) (IsDistinct-push id_equiv ks id distinct new) in
+      let first =
+      IsDistinct-IsPermutation id_eq id_equiv.symm (ks ++ id ∷ []) (id ∷ ks) (IsPermutation-to_front ks id)
+      (IsDistinct-push id_equiv ks id distinct new) in
       IsDistinct-IsPermutation id_eq id_equiv.symm (id ∷ ks) (insert ks i id) (IsPermutation-insert ks i id) first
 
-none-any : (e : UpdateId → UpdateId → Bool) (k : UpdateId) (ks : List UpdateId) → AllByRecursion (λ y. e k y ≡ false) ks → list_any (e k) ks ≡ false
+none-any : (e : UpdateId → UpdateId → Bool) (k : UpdateId) (ks : List UpdateId) → AllByRecursion (λ y. e k y ≡ false) ks
+    → list_any (e k) ks ≡ false
 none-any e k [] h = refl
 none-any e k (x ∷ ks) h = ap (λ b. b || list_any (e k) ks) h.0 ∙ none-any e k ks h.1
 
-pub at_place : (ks : List UpdateId) (i : ℕ) (id d : UpdateId) → slice_get ks i ≡ Some id → (i < length ks) × (id ≡ get_or ks i d)
+pub at_place : (ks : List UpdateId) (i : ℕ) (id d : UpdateId) → slice_get ks i ≡ Some id
+    → (i < length ks) × (id ≡ get_or ks i d)
 at_place [] i id d h = absurd (none-some id h)
 at_place (k ∷ ks) zero id d h = (omega arith, sym (same_Some _ _ h))
 at_place (k ∷ ks) (suc i) id d h = let rest = at_place ks i id d h in (omega (arith, rest.0), rest.1)
@@ -71,7 +82,8 @@ any-at (k ∷ ks) (suc i) id h = ap (λ b. id_eq id k || b) (any-at ks i id h) �
     or_true false = refl
 
 -- an id is taken out
-module _ (ks rest : List UpdateId) (id : UpdateId) (distinct : IsDistinct id_eq ks) (moved : IsPermutation ks (id ∷ rest)) where
+module _ (ks rest : List UpdateId) (id : UpdateId) (distinct : IsDistinct id_eq ks)
+    (moved : IsPermutation ks (id ∷ rest)) where
   still : IsDistinct id_eq (id ∷ rest)
   still = IsDistinct-IsPermutation id_eq id_equiv.symm ks (id ∷ rest) moved distinct
 
@@ -85,19 +97,23 @@ module _ (ks rest : List UpdateId) (id : UpdateId) (distinct : IsDistinct id_eq 
       contains-list rest q ∙ by gone q (id_eq q id) refl
       ∙ sym (contains-less (set_of ks) id q ∙ ap (λ b. not (id_eq q id) && b) (contains-list ks q ∙ list_any-IsPermutation (id_eq q) ks (id ∷ rest) moved)))
     where
-      by : list_any (id_eq id) rest ≡ false → (q : UpdateId) (b : Bool) → id_eq q id ≡ b → list_any (id_eq q) rest ≡ (not b && (b || list_any (id_eq q) rest))
+      by : list_any (id_eq id) rest ≡ false → (q : UpdateId) (b : Bool) → id_eq q id ≡ b
+          → list_any (id_eq q) rest ≡ (not b && (b || list_any (id_eq q) rest))
       by gone q true is = ap (λ k. list_any (id_eq k) rest) (same-id q id is) ∙ gone
       by gone q false is = refl
 
 -- the places of an id
-pub taken_last : (ks : List UpdateId) (i : ℕ) (id : UpdateId) → slice_get ks i ≡ Some id → IsPermutation ks (id ∷ swap_remove ks i id)
+pub taken_last : (ks : List UpdateId) (i : ℕ) (id : UpdateId) → slice_get ks i ≡ Some id
+    → IsPermutation ks (id ∷ swap_remove ks i id)
 taken_last ks i id at = IsPermutation-swap_remove ks i id (at_place ks i id id at).0 (at_place ks i id id at).1
 
-pub taken_out : (ks : List UpdateId) (i : ℕ) (id : UpdateId) → slice_get ks i ≡ Some id → IsPermutation ks (id ∷ remove ks i)
+pub taken_out : (ks : List UpdateId) (i : ℕ) (id : UpdateId) → slice_get ks i ≡ Some id
+    → IsPermutation ks (id ∷ remove ks i)
 taken_out ks i id at = IsPermutation-remove ks i id (at_place ks i id id at).0 (at_place ks i id id at).1
 
 -- an id that is not there
-pub list-absent : (ks : List UpdateId) (id : UpdateId) → list_any (id_eq id) ks ≡ false → set_of {R = id_cmp} ks ≡ map.remove (set_of ks) id
+pub list-absent : (ks : List UpdateId) (id : UpdateId) → list_any (id_eq id) ks ≡ false
+    → set_of {R = id_cmp} ks ≡ map.remove (set_of ks) id
 list-absent ks id none = same_tags _ _ (λ q.
     contains-list ks q ∙ by q (id_eq q id) refl
     ∙ sym (contains-less (set_of ks) id q ∙ ap (λ b. not (id_eq q id) && b) (contains-list ks q)))
@@ -122,13 +138,15 @@ length-keys [] = refl
 length-keys (e ∷ es) = ap (λ n. suc n) (length-keys es)
 
 pub length-list : (ks : List UpdateId) → IsDistinct id_eq ks → length (map.keys (set_of {R = id_cmp} ks)) ≡ length ks
-length-list ks h = length-keys (map.entries (set_of {R = id_cmp} ks)) ∙ sym (map.len-entries (set_of ks)) ∙ len-list ks h
+length-list ks h =
+    length-keys (map.entries (set_of {R = id_cmp} ks)) ∙ sym (map.len-entries (set_of ks)) ∙ len-list ks h
 
 some_length : {X : Type 0} (xs : List X) → nat_lt 0 (length xs) ≡ has_any xs
 some_length [] = refl
 some_length (x ∷ xs) = lt-ltb 0 (suc (length xs)) (omega arith)
 
-pub any-list : (ks : List UpdateId) → IsDistinct id_eq ks → nat_lt 0 (length ks) ≡ has_any (map.keys (set_of {R = id_cmp} ks))
+pub any-list : (ks : List UpdateId) → IsDistinct id_eq ks
+    → nat_lt 0 (length ks) ≡ has_any (map.keys (set_of {R = id_cmp} ks))
 any-list ks h = ap (nat_lt 0) (sym (length-list ks h)) ∙ some_length (map.keys (set_of {R = id_cmp} ks))
 
 -- ## In ascending order
@@ -150,7 +168,8 @@ or_right true b h = refl
 or_right false b h = h
 
 -- what is pushed is one more, where it is new
-pub pushed : (ts : List UpdateId) (id : UpdateId) (new : Bool) → (IsTrue new ↔ (Contains ts id → ⊥)) → (q : UpdateId) → list_any (id_eq q) (if new then with_tag id ts else ts) ≡ (list_any (id_eq q) ts || id_eq q id)
+pub pushed : (ts : List UpdateId) (id : UpdateId) (new : Bool) → (IsTrue new ↔ (Contains ts id → ⊥)) → (q : UpdateId)
+    → list_any (id_eq q) (if new then with_tag id ts else ts) ≡ (list_any (id_eq q) ts || id_eq q id)
 pushed ts id true is q = both_ways _ _
     (λ h. elim (with_tag-members id q ts (Contains-from_any same-id q (with_tag id ts) h)) [
       | inl e ↦ or_right (list_any (id_eq q) ts) (id_eq q id) (ap (id_eq q) (sym e) ∙ id_equiv.refl q)
@@ -169,25 +188,32 @@ pushed ts id false is q = both_ways _ _
   where
     known : (b : Bool) → list_any (id_eq id) ts ≡ b → b ≡ true
     known true h = refl
-    known false h = absurd (false≢true (is.1 (λ there. false≢true (sym h ∙ list_any-from_Contains id_equiv id ts there))))
+    known false h =
+        absurd (false≢true (is.1 (λ there. false≢true (sym h ∙ list_any-from_Contains id_equiv id ts there))))
 
 pub strict : (ts : List UpdateId) → AllPairs IsBelow ts → IsStrictlySortedBy id_cmp ts
 strict ts up = let d : UpdateId = record { replica = 0; number = 0 } in
-    sorted_from_all_adjacent id_cmp_total ts d (λ k lt. below-cmp (get_or ts k d) (get_or ts (k + 1) d) (up k (k + 1) d (omega arith) lt))
+    sorted_from_all_adjacent id_cmp_total ts d
+    (λ k lt. below-cmp (get_or ts k d) (get_or ts (k + 1) d) (up k (k + 1) d (omega arith) lt))
 
 -- ascending ids with a set's members
-pub ascending-list : (ts ks : List UpdateId) → AllPairs IsBelow ts → ((q : UpdateId) → list_any (id_eq q) ts ≡ list_any (id_eq q) ks) → ts ≡ map.keys (set_of {R = id_cmp} ks)
+pub ascending-list : (ts ks : List UpdateId) → AllPairs IsBelow ts
+    → ((q : UpdateId) → list_any (id_eq q) ts ≡ list_any (id_eq q) ks) → ts ≡ map.keys (set_of {R = id_cmp} ks)
 ascending-list ts ks up h =
-    sym (keys-set_of id_cmp_total id_cmp-IsAntisymmetric ts (sorted-units id_cmp_total id_cmp-IsAntisymmetric ts (strict ts up)))
+    sym
+    (keys-set_of id_cmp_total id_cmp-IsAntisymmetric ts
+    (sorted-units id_cmp_total id_cmp-IsAntisymmetric ts (strict ts up)))
     ∙ ap map.keys (same_tags (set_of ts) (set_of ks) (λ q. contains-list ts q ∙ h q ∙ sym (contains-list ks q)))
 
 -- ascending ids that are all among others are no more than these
-pub no_more : (ts ks : List UpdateId) → AllPairs IsBelow ts → ((q : UpdateId) → list_any (id_eq q) ts ≡ list_any (id_eq q) ks) → length ts ≤ length ks
+pub no_more : (ts ks : List UpdateId) → AllPairs IsBelow ts
+    → ((q : UpdateId) → list_any (id_eq q) ts ≡ list_any (id_eq q) ks) → length ts ≤ length ks
 no_more ts ks up h =
     let distinct = subst (λ e. IsDistinct e ts) (sym id_tests) (IsDistinct-from_sorted id_cmp ts (strict ts up)) in
     length-le_from_is_member id_equiv ts ks distinct (λ q there. sym (h q) ∙ there)
 
-pub any-take_more : (ks : List UpdateId) (i : ℕ) (d q : UpdateId) → i < length ks → list_any (id_eq q) (take (i + 1) ks) ≡ (list_any (id_eq q) (take i ks) || id_eq q (get_or ks i d))
+pub any-take_more : (ks : List UpdateId) (i : ℕ) (d q : UpdateId) → i < length ks
+    → list_any (id_eq q) (take (i + 1) ks) ≡ (list_any (id_eq q) (take i ks) || id_eq q (get_or ks i d))
 any-take_more ks i d q lt =
     ap (list_any (id_eq q)) (take_more ks i d lt) ∙ list_any-append (id_eq q) (take i ks) (get_or ks i d ∷ [])
     ∙ ap (λ b. list_any (id_eq q) (take i ks) || b) (or_false (id_eq q (get_or ks i d)))
@@ -197,6 +223,10 @@ any-take_more ks i d q lt =
     or_false false = refl
 
 -- one step further through a list, each id of which is pushed
-pub pushed_at : (ts new ks : List UpdateId) (i : ℕ) (d id : UpdateId) (is_new : Bool) → new ≡ (if is_new then with_tag id ts else ts) → (IsTrue is_new ↔ (Contains ts id → ⊥)) → id ≡ get_or ks i d → i < length ks → ((q : UpdateId) → list_any (id_eq q) ts ≡ list_any (id_eq q) (take i ks)) → (q : UpdateId) → list_any (id_eq q) new ≡ list_any (id_eq q) (take (i + 1) ks)
+pub pushed_at : (ts new ks : List UpdateId) (i : ℕ) (d id : UpdateId) (is_new : Bool)
+    → new ≡ (if is_new then with_tag id ts else ts) → (IsTrue is_new ↔ (Contains ts id → ⊥)) → id ≡ get_or ks i d
+    → i < length ks → ((q : UpdateId) → list_any (id_eq q) ts ≡ list_any (id_eq q) (take i ks)) → (q : UpdateId)
+    → list_any (id_eq q) new ≡ list_any (id_eq q) (take (i + 1) ks)
 pushed_at ts new ks i d id is_new ok is here lt before q =
-    ap (list_any (id_eq q)) ok ∙ pushed ts id is_new is q ∙ (λ j. before q j || id_eq q (here j)) ∙ sym (any-take_more ks i d q lt)
+    ap (list_any (id_eq q)) ok ∙ pushed ts id is_new is q ∙ (λ j. before q j || id_eq q (here j))
+    ∙ sym (any-take_more ks i d q lt)

@@ -18,16 +18,19 @@ use Rattle.la_orset.proofs.Sets.{same_members, contains-put, contains-taken, som
 pub tied : (x y : ℕ) → eq_by_cmp nat_cmp x y ≡ (y == x)
 tied x y = unsigned_tied x y ∙ nat_eq_equiv.symm x y
 
-module _ (old new : Index) (x : ℕ) (o : Option TagMap) (changed : (y : ℕ) → map.get new y ≡ cond (is_at (nat_cmp x) y) o (map.get old y)) where
+module _ (old new : Index) (x : ℕ) (o : Option TagMap)
+    (changed : (y : ℕ) → map.get new y ≡ cond (is_at (nat_cmp x) y) o (map.get old y)) where
   pub has_tags : (tags : TagMap) → tags_or o ≡ tags → HasTags old x tags new
-  has_tags tags is y = ap tags_or (changed y) ∙ by (is_at (nat_cmp x) y) ∙ ap (λ b. cond b tags (tags_at old y)) (tied x y)
+  has_tags tags is y =
+      ap tags_or (changed y) ∙ by (is_at (nat_cmp x) y) ∙ ap (λ b. cond b tags (tags_at old y)) (tied x y)
     where
       by : (b : Bool) → tags_or (cond b o (map.get old y)) ≡ cond b tags (tags_at old y)
       by true = is
       by false = refl
 
   pub still_whole : IsWhole old → is_some o ≡ has_any (map.keys (tags_or o)) → IsWhole new
-  still_whole whole one y = ap is_some (changed y) ∙ by (is_at (nat_cmp x) y) ∙ ap (λ g. has_any (map.keys (tags_or g))) (sym (changed y))
+  still_whole whole one y =
+      ap is_some (changed y) ∙ by (is_at (nat_cmp x) y) ∙ ap (λ g. has_any (map.keys (tags_or g))) (sym (changed y))
     where
       by : (b : Bool) → is_some (cond b o (map.get old y)) ≡ has_any (map.keys (tags_or (cond b o (map.get old y))))
       by true = one
@@ -37,10 +40,16 @@ pub whole-none : false ≡ has_any (map.keys (tags_or None))
 whole-none = ap has_any (sym (keys-empty id_cmp (Unit {0})))
 
 pub whole-empty : IsWhole map.empty
-whole-empty y = ap is_some (map.get-empty nat_cmp y) ∙ whole-none ∙ ap (λ g. has_any (map.keys (tags_or g))) (sym (map.get-empty nat_cmp y))
+whole-empty y =
+    ap is_some (map.get-empty nat_cmp y) ∙ whole-none
+    ∙ ap (λ g. has_any (map.keys (tags_or g))) (sym (map.get-empty nat_cmp y))
 
 pub whole-put : (tags : TagMap) (id : UpdateId) → true ≡ has_any (map.keys (map.insert tags id tt))
-whole-put tags id = sym (something_in id_cmp_total id_cmp-IsAntisymmetric (map.insert tags id tt) id (contains-put id_cmp_total id_cmp-IsAntisymmetric tags id id ∙ ap (λ r. is_eq r || map.contains_key tags id) (tied_itself id_cmp_total id)))
+whole-put tags id =
+    sym
+    (something_in id_cmp_total id_cmp-IsAntisymmetric (map.insert tags id tt) id
+    (contains-put id_cmp_total id_cmp-IsAntisymmetric tags id id
+    ∙ ap (λ r. is_eq r || map.contains_key tags id) (tied_itself id_cmp_total id)))
 
 -- nothing is taken out of nothing
 pub taken-empty : (id : UpdateId) → map.empty ≡ map.remove (map.empty {X = Unit {0}} {R = id_cmp}) id
@@ -52,11 +61,16 @@ taken-empty id = same_members id_cmp_total id_cmp-IsAntisymmetric _ _ (λ q.
     and_false false = refl
 
 -- entries that differ under one element make maps that differ there
-pub changed_from : (es fs : List (ℕ × TagMap)) (x : ℕ) (o : Option TagMap) → ((q : ℕ) → lookup (is_at (nat_cmp q)) fs ≡ cond (is_at (nat_cmp x) q) o (lookup (is_at (nat_cmp q)) es)) → (y : ℕ) → map.get (map.from_entries {R = nat_cmp} fs) y ≡ cond (is_at (nat_cmp x) y) o (map.get (map.from_entries {R = nat_cmp} es) y)
-changed_from es fs x o h y = get-lookup nat_cmp_total fs y ∙ h y ∙ ap (cond (is_at (nat_cmp x) y) o) (sym (get-lookup nat_cmp_total es y))
+pub changed_from : (es fs : List (ℕ × TagMap)) (x : ℕ) (o : Option TagMap)
+    → ((q : ℕ) → lookup (is_at (nat_cmp q)) fs ≡ cond (is_at (nat_cmp x) q) o (lookup (is_at (nat_cmp q)) es)) → (y : ℕ)
+    → map.get (map.from_entries {R = nat_cmp} fs) y
+    ≡ cond (is_at (nat_cmp x) y) o (map.get (map.from_entries {R = nat_cmp} es) y)
+changed_from es fs x o h y =
+    get-lookup nat_cmp_total fs y ∙ h y ∙ ap (cond (is_at (nat_cmp x) y) o) (sym (get-lookup nat_cmp_total es y))
 
 -- what is there is put there
-pub put_again : (index : Index) (x : ℕ) (o : Option TagMap) → map.get index x ≡ o → (y : ℕ) → cond (is_at (nat_cmp x) y) o (map.get index y) ≡ map.get index y
+pub put_again : (index : Index) (x : ℕ) (o : Option TagMap) → map.get index x ≡ o → (y : ℕ)
+    → cond (is_at (nat_cmp x) y) o (map.get index y) ≡ map.get index y
 put_again index x o there y = by (is_at (nat_cmp x) y) refl
   where
     by : (b : Bool) → is_at (nat_cmp x) y ≡ b → cond b o (map.get index y) ≡ map.get index y
@@ -86,7 +100,9 @@ none_of (Some x) h = absurd (false≢true (sym h))
 -- ## One tag
 
 contains-only : (there q : UpdateId) → map.contains_key (only_tag there) q ≡ (eq_by_cmp id_cmp q there || false)
-contains-only there q = contains-put id_cmp_total id_cmp-IsAntisymmetric map.empty there q ∙ ap (λ g. eq_by_cmp id_cmp q there || is_some g) (map.get-empty id_cmp q)
+contains-only there q =
+    contains-put id_cmp_total id_cmp-IsAntisymmetric map.empty there q
+    ∙ ap (λ g. eq_by_cmp id_cmp q there || is_some g) (map.get-empty id_cmp q)
 
 -- taken out
 pub taken-only : (id : UpdateId) → map.empty ≡ map.remove (only_tag id) id
@@ -104,10 +120,15 @@ kept-only there id ne = same_members id_cmp_total id_cmp-IsAntisymmetric _ _ (λ
     by q (eq_by_cmp id_cmp q id) refl ∙ sym (contains-taken id_cmp_total id_cmp-IsAntisymmetric (only_tag there) id q))
   where
     other : (q : UpdateId) → eq_by_cmp id_cmp q id ≡ true → (b : Bool) → eq_by_cmp id_cmp q there ≡ b → b ≡ false
-    other q e true t = absurd (ne (sym (id_cmp-IsAntisymmetric q there ((Equal-is (id_cmp q there)).0 t)) ∙ id_cmp-IsAntisymmetric q id ((Equal-is (id_cmp q id)).0 e)))
+    other q e true t =
+        absurd
+        (ne
+        (sym (id_cmp-IsAntisymmetric q there ((Equal-is (id_cmp q there)).0 t))
+        ∙ id_cmp-IsAntisymmetric q id ((Equal-is (id_cmp q id)).0 e)))
     other q e false t = refl
 
-    by : (q : UpdateId) (b : Bool) → eq_by_cmp id_cmp q id ≡ b → map.contains_key (only_tag there) q ≡ (not b && map.contains_key (only_tag there) q)
+    by : (q : UpdateId) (b : Bool) → eq_by_cmp id_cmp q id ≡ b
+        → map.contains_key (only_tag there) q ≡ (not b && map.contains_key (only_tag there) q)
     by q true e = contains-only there q ∙ ap (λ b. b || false) (other q e (eq_by_cmp id_cmp q there) refl)
     by q false e = refl
 
@@ -121,4 +142,9 @@ same-id a b h = by (eqb a.replica b.replica) refl (eqb a.number b.number) refl h
     by false p y q h = absurd (false≢true h)
 
 pub other-id : (a b : UpdateId) → (eqb a.replica b.replica && eqb a.number b.number) ≡ false → a ≡ b → ⊥
-other-id a b h e = false≢true (sym h ∙ (λ i. eq-eqb a.replica b.replica (ap (λ (id : UpdateId). id.replica) e) i && eq-eqb a.number b.number (ap (λ (id : UpdateId). id.number) e) i))
+other-id a b h e =
+    false≢true
+    (sym h
+    ∙ (λ i.
+    eq-eqb a.replica b.replica (ap (λ (id : UpdateId). id.replica) e) i
+    && eq-eqb a.number b.number (ap (λ (id : UpdateId). id.number) e) i))

@@ -26,30 +26,50 @@ at_later row rows n i at = record { in_range = omega (arith, at.in_range); has_n
 -- a number that no row has
 absent : (rows : List Row) (n : ℕ) → IsNotBefore rows n (length rows) → at_number rows n ≡ None
 absent [] n none = refl
-absent (row ∷ rows) n none = grind (arith, nat_tests, none 0 (omega arith), absent rows n (not_before_later row rows n _ none))
+absent (row ∷ rows) n none =
+    grind (arith, nat_tests, none 0 (omega arith), absent rows n (not_before_later row rows n _ none))
 
 -- the first row that has it
-present : (rows : List Row) (n i : ℕ) → IsAt rows n i → IsNotBefore rows n i → at_number rows n ≡ Some (known (get_or rows i no_row))
+present : (rows : List Row) (n i : ℕ) → IsAt rows n i → IsNotBefore rows n i
+    → at_number rows n ≡ Some (known (get_or rows i no_row))
 present [] n i at none = absurd (omega (arith, at.in_range))
 present (row ∷ rows) n zero at none = grind (arith, nat_tests, at.has_number)
-present (row ∷ rows) n (suc i) at none = grind (arith, nat_tests, none 0 (omega arith), present rows n i (at_later row rows n i at) (not_before_later row rows n i none))
+present (row ∷ rows) n (suc i) at none =
+    grind (
+      arith,
+      nat_tests,
+      none 0 (omega arith),
+      present rows n i (at_later row rows n i at)
+          (not_before_later row rows n i none),
+    )
 
 -- a row in the place of the first that has its number
-put_set : (rows : List Row) (row : Row) (i : ℕ) → IsAt rows row.number i → IsNotBefore rows row.number i → IsPut rows row.number (Some (known row)) (set rows i row)
+put_set : (rows : List Row) (row : Row) (i : ℕ) → IsAt rows row.number i → IsNotBefore rows row.number i
+    → IsPut rows row.number (Some (known row)) (set rows i row)
 put_set [] row i at none q = absurd (omega (arith, at.in_range))
 put_set (x ∷ rows) row zero at none q = grind (arith, nat_tests, at.has_number)
-put_set (x ∷ rows) row (suc i) at none q = grind (arith, nat_tests, none 0 (omega arith), put_set rows row i (at_later x rows row.number i at) (not_before_later x rows row.number i none) q)
+put_set (x ∷ rows) row (suc i) at none q =
+    grind (
+      arith,
+      nat_tests,
+      none 0 (omega arith),
+      put_set rows row i (at_later x rows row.number i at)
+          (not_before_later x rows row.number i none) q,
+    )
 
 -- a new row before any that has its number
-put_insert : (rows : List Row) (row : Row) (i : ℕ) → IsNotBefore rows row.number i → IsPut rows row.number (Some (known row)) (insert rows i row)
+put_insert : (rows : List Row) (row : Row) (i : ℕ) → IsNotBefore rows row.number i
+    → IsPut rows row.number (Some (known row)) (insert rows i row)
 put_insert rows row zero none q = grind (arith, nat_tests)
 put_insert [] row (suc i) none q = grind (arith, nat_tests)
-put_insert (x ∷ rows) row (suc i) none q = grind (arith, nat_tests, none 0 (omega arith), put_insert rows row i (not_before_later x rows row.number i none) q)
+put_insert (x ∷ rows) row (suc i) none q =
+    grind (arith, nat_tests, none 0 (omega arith), put_insert rows row i (not_before_later x rows row.number i none) q)
 
 module _ (rows : List Row) (ascending : IsAscending rows) (n : ℕ) where
   comparisons_rise : IsNonDecreasingBy (λ row. ordering_index (nat_cmp row.number n)) rows
   comparisons_rise = IsNonDecreasingBy-from_default (λ row. ordering_index (nat_cmp row.number n)) rows no_row (λ i j le in_range.
-      let rise : number_at rows i ≤ number_at rows j = grind (arith, ascending i j, λ (same : i ≡ j). ap (number_at rows) same) in
+      let rise : number_at rows i ≤ number_at rows j =
+      grind (arith, ascending i j, λ (same : i ≡ j). ap (number_at rows) same) in
       grind (arith, nat_tests))
 
   -- where a binary search ends
@@ -72,30 +92,56 @@ module _ (rows : List Row) (ascending : IsAscending rows) (n i : ℕ) (at : IsAt
   row_there = present rows n i at none_before
 
   pub put_there : (row : Row) → row.number ≡ n → IsPut rows n (Some (known row)) (set rows i row)
-  put_there row is = subst (λ m. IsPut rows m (Some (known row)) (set rows i row)) is (put_set rows row i (subst (λ m. IsAt rows m i) (sym is) at) (subst (λ m. IsNotBefore rows m i) (sym is) none_before))
+  put_there row is =
+      subst (λ m. IsPut rows m (Some (known row)) (set rows i row)) is
+      (put_set rows row i (subst (λ m. IsAt rows m i) (sym is) at)
+      (subst (λ m. IsNotBefore rows m i) (sym is) none_before))
 
   pub set_ascending : (row : Row) → row.number ≡ n → IsAscending (set rows i row)
-  set_ascending row is j k lt in_range = grind (arith, common_steps, is, ascending j k, ascending j i, ascending i k, at.in_range, at.has_number)
+  set_ascending row is j k lt in_range =
+      grind (arith, common_steps, is, ascending j k, ascending j i, ascending i k, at.in_range, at.has_number)
 
 module _ (rows : List Row) (n i : ℕ) (gap : IsGapFor rows n i) where
   pub not_there : at_number rows n ≡ None
   not_there = absent rows n (λ j lt same. grind (arith, gap.lower_before j, gap.higher_after j))
 
   pub put_between : (row : Row) → row.number ≡ n → IsPut rows n (Some (known row)) (insert rows i row)
-  put_between row is = subst (λ m. IsPut rows m (Some (known row)) (insert rows i row)) is (put_insert rows row i (λ j lt same. omega (arith, is, same, gap.lower_before j lt)))
+  put_between row is =
+      subst (λ m. IsPut rows m (Some (known row)) (insert rows i row)) is
+      (put_insert rows row i (λ j lt same. omega (arith, is, same, gap.lower_before j lt)))
 
   pub insert_ascending : (row : Row) → row.number ≡ n → IsAscending rows → IsAscending (insert rows i row)
   insert_ascending row is ascending j k lt in_range =
       let new = insert rows i row in
       let number = λ (x : Row). x.number in
       let length_new = length-insert rows i row gap.in_range in
-      let below : (j : ℕ) → j < i → number_at new j ≡ number_at rows j = λ j lt. ap number (get_or-insert_below rows i row no_row j lt gap.in_range) in
-      let here : (j : ℕ) → j ≡ i → number_at new j ≡ n = λ j same. rw same (ap number (get_or-insert_at rows i row no_row gap.in_range) ∙ is) in
-      let above : (j : ℕ) → i < j → number_at new j ≡ number_at rows (j - 1) = λ j lt. subst (λ q. number_at new q ≡ number_at rows (j - 1)) {x = j - 1 + 1} (omega arith) (ap number (get_or-insert_above rows i row no_row (j - 1) (omega arith) gap.in_range)) in
-      grind (arith, below j, here j, above j, below k, here k, above k, ascending j k, ascending j (k - 1), ascending (j - 1) (k - 1), gap.lower_before j, gap.higher_after (k - 1))
+      let below : (j : ℕ) → j < i → number_at new j ≡ number_at rows j =
+      λ j lt. ap number (get_or-insert_below rows i row no_row j lt gap.in_range) in
+      let here : (j : ℕ) → j ≡ i → number_at new j ≡ n =
+      λ j same. rw same (ap number (get_or-insert_at rows i row no_row gap.in_range) ∙ is) in
+      let above : (j : ℕ) → i < j → number_at new j ≡ number_at rows (j - 1) =
+      λ j lt.
+      subst (λ q. number_at new q ≡ number_at rows (j - 1)) {x = j - 1 + 1} (omega arith)
+      (ap number (get_or-insert_above rows i row no_row (j - 1) (omega arith) gap.in_range)) in
+      grind (
+        arith,
+        below j,
+        here j,
+        above j,
+        below k,
+        here k,
+        above k,
+        ascending j k,
+        ascending j (k - 1),
+        ascending
+            (j - 1) (k - 1),
+        gap.lower_before j,
+        gap.higher_after (k - 1),
+      )
 
 -- whether a number was found
-pub searched_has : (rows : List Row) (n : ℕ) (r : Result ℕ ℕ) → IsAscending rows → IfOk r (IsAt rows n) → IfErr r (IsGapFor rows n) → is_ok r ≡ is_some (at_number rows n)
+pub searched_has : (rows : List Row) (n : ℕ) (r : Result ℕ ℕ) → IsAscending rows → IfOk r (IsAt rows n)
+    → IfErr r (IsGapFor rows n) → is_ok r ≡ is_some (at_number rows n)
 searched_has rows n (Ok i) ascending at gap = sym (ap is_some (row_there rows ascending n i at))
 searched_has rows n (Err i) ascending at gap = sym (ap is_some (not_there rows n i gap))
 
@@ -108,14 +154,17 @@ put_nothing rows n none q = by (eqb n q) refl
 
 -- what follows the first row
 pub later_ascending : (row : Row) (rows : List Row) → IsAscending (row ∷ rows) → IsAscending rows
-later_ascending row rows ascending i j lt in_range = ascending (suc i) (suc j) (omega (arith, lt)) (omega (arith, in_range))
+later_ascending row rows ascending i j lt in_range =
+    ascending (suc i) (suc j) (omega (arith, lt)) (omega (arith, in_range))
 
 pub later_none : (row : Row) (rows : List Row) → IsAscending (row ∷ rows) → at_number rows row.number ≡ None
-later_none row rows ascending = absent rows row.number (λ j lt same. omega (arith, same, ascending 0 (suc j) (omega arith) (omega (arith, lt))))
+later_none row rows ascending =
+    absent rows row.number (λ j lt same. omega (arith, same, ascending 0 (suc j) (omega arith) (omega (arith, lt))))
 
 -- ## A row that was read
 
-module _ (rows : List Row) (ascending : IsAscending rows) (n i : ℕ) (at : IsAt rows n i) (row : Row) (read : row ≡ get_or rows i row) where
+module _ (rows : List Row) (ascending : IsAscending rows) (n i : ℕ) (at : IsAt rows n i) (row : Row)
+    (read : row ≡ get_or rows i row) where
   read_is : row ≡ get_or rows i no_row
   read_is = read ∙ get_or_default rows i row no_row at.in_range
 

@@ -27,5 +27,6 @@ filter-swap p q (x ∷ xs) = elim (cases_Bool (p x)) [
 ]
 
 -- an object's updates without Marks and Votes, taken from all or from those without
-pub of_object-without : (number : ℕ) (us : List Update) → of_object number (without_marks_and_votes us) ≡ without_marks_and_votes (of_object number us)
+pub of_object-without : (number : ℕ) (us : List Update)
+    → of_object number (without_marks_and_votes us) ≡ without_marks_and_votes (of_object number us)
 of_object-without number us = filter-swap (λ u. u.object == number) (λ u. is_of_some_kind u.op) us

@@ -65,7 +65,9 @@ keys-empty {K} R X = ap (list_map (λ (e : K × X). e.0)) (entries-empty R X)
 module _ {K : Type 0} {R : K → K → Ordering} (o : IsTotalOrder R) (same : IsAntisymmetric R) where
   get-set_of : (ks : List K) (q : K) → map.get (set_of {R = R} ks) q ≡ marked (list_any (eq_by_cmp R q) ks)
   get-set_of [] q = map.get-empty R q
-  get-set_of (k ∷ ks) q = map.get-insert o (set_of ks) k tt q ∙ ap (cond (eq_by_cmp R q k) (Some tt)) (get-set_of ks q) ∙ marked-or (eq_by_cmp R q k) (list_any (eq_by_cmp R q) ks)
+  get-set_of (k ∷ ks) q =
+      map.get-insert o (set_of ks) k tt q ∙ ap (cond (eq_by_cmp R q k) (Some tt)) (get-set_of ks q)
+      ∙ marked-or (eq_by_cmp R q k) (list_any (eq_by_cmp R q) ks)
 
   pub contains-set_of : (ks : List K) (q : K) → map.contains_key (set_of {R = R} ks) q ≡ list_any (eq_by_cmp R q) ks
   contains-set_of ks q = ap is_some (get-set_of ks q) ∙ is_some-marked _
@@ -73,26 +75,35 @@ module _ {K : Type 0} {R : K → K → Ordering} (o : IsTotalOrder R) (same : Is
   pub same_members : (s t : FinMap R (Unit {0})) → ((q : K) → map.contains_key s q ≡ map.contains_key t q) → s ≡ t
   same_members s t h = map.same_map o same s t (λ q. marks _ ∙ ap marked (h q) ∙ sym (marks _))
 
-  pub contains-put : (s : FinMap R (Unit {0})) (k q : K) → map.contains_key (map.insert s k tt) q ≡ (eq_by_cmp R q k || map.contains_key s q)
+  pub contains-put : (s : FinMap R (Unit {0})) (k q : K)
+      → map.contains_key (map.insert s k tt) q ≡ (eq_by_cmp R q k || map.contains_key s q)
   contains-put s k q = ap is_some (map.get-insert o s k tt q) ∙ some-or _ _
 
-  pub contains-taken : (s : FinMap R (Unit {0})) (k q : K) → map.contains_key (map.remove s k) q ≡ (not (eq_by_cmp R q k) && map.contains_key s q)
+  pub contains-taken : (s : FinMap R (Unit {0})) (k q : K)
+      → map.contains_key (map.remove s k) q ≡ (not (eq_by_cmp R q k) && map.contains_key s q)
   contains-taken s k q = ap is_some (map.get-remove o s k q) ∙ none-and _ _
 
   pub sorted-units : (ks : List K) → IsStrictlySortedBy R ks → T (is_sorted R (units ks))
   sorted-units ks h = sorted-keys R (units ks) (subst (IsStrictlySortedBy R) (sym (keys-units ks)) h)
 
   pub keys-set_of : (ks : List K) → T (is_sorted R (units ks)) → map.keys (set_of {R = R} ks) ≡ ks
-  keys-set_of ks h = ap (list_map (λ (e : K × Unit {0}). e.0)) (entries-from_entries o same (units ks) h) ∙ keys-units ks
+  keys-set_of ks h =
+      ap (list_map (λ (e : K × Unit {0}). e.0)) (entries-from_entries o same (units ks) h) ∙ keys-units ks
 
-  pub one_more : (ks ls : List K) (k : K) → ((q : K) → list_any (is_at (R q)) ls ≡ cond (is_at (R k) q) true (list_any (is_at (R q)) ks)) → set_of {R = R} ls ≡ map.insert (set_of ks) k tt
+  pub one_more : (ks ls : List K) (k : K)
+      → ((q : K) → list_any (is_at (R q)) ls ≡ cond (is_at (R k) q) true (list_any (is_at (R q)) ks))
+      → set_of {R = R} ls ≡ map.insert (set_of ks) k tt
   one_more ks ls k h = same_members _ _ (λ q.
-      contains-set_of ls q ∙ h q ∙ ap (λ b. cond b true (list_any (is_at (R q)) ks)) ((eq_by_cmp_equiv o).symm k q) ∙ cond-or (eq_by_cmp R q k) (list_any (eq_by_cmp R q) ks)
+      contains-set_of ls q ∙ h q ∙ ap (λ b. cond b true (list_any (is_at (R q)) ks)) ((eq_by_cmp_equiv o).symm k q)
+      ∙ cond-or (eq_by_cmp R q k) (list_any (eq_by_cmp R q) ks)
       ∙ sym (contains-put (set_of ks) k q ∙ ap (λ b. eq_by_cmp R q k || b) (contains-set_of ks q)))
 
-  pub one_less : (ks ls : List K) (k : K) → ((q : K) → list_any (is_at (R q)) ls ≡ cond (is_at (R k) q) false (list_any (is_at (R q)) ks)) → set_of {R = R} ls ≡ map.remove (set_of ks) k
+  pub one_less : (ks ls : List K) (k : K)
+      → ((q : K) → list_any (is_at (R q)) ls ≡ cond (is_at (R k) q) false (list_any (is_at (R q)) ks))
+      → set_of {R = R} ls ≡ map.remove (set_of ks) k
   one_less ks ls k h = same_members _ _ (λ q.
-      contains-set_of ls q ∙ h q ∙ ap (λ b. cond b false (list_any (is_at (R q)) ks)) ((eq_by_cmp_equiv o).symm k q) ∙ cond-and (eq_by_cmp R q k) (list_any (eq_by_cmp R q) ks)
+      contains-set_of ls q ∙ h q ∙ ap (λ b. cond b false (list_any (is_at (R q)) ks)) ((eq_by_cmp_equiv o).symm k q)
+      ∙ cond-and (eq_by_cmp R q k) (list_any (eq_by_cmp R q) ks)
       ∙ sym (contains-taken (set_of ks) k q ∙ ap (λ b. not (eq_by_cmp R q k) && b) (contains-set_of ks q)))
 
   -- a set that nothing is in
@@ -102,11 +113,13 @@ module _ {K : Type 0} {R : K → K → Ordering} (o : IsTotalOrder R) (same : Is
   pub something_in : (s : FinMap R (Unit {0})) (k : K) → map.contains_key s k ≡ true → has_any (map.keys s) ≡ true
   something_in s k h = has_any-true (eq_by_cmp R k) (map.keys s) (sym (map.contains_key-keys s k) ∙ h)
 
-below-units : {K X : Type 0} (R : K → K → Ordering) (x : K) (es : List (K × X)) → below_all R x (units (list_map (λ (e : K × X). e.0) es)) ≡ below_all R x es
+below-units : {K X : Type 0} (R : K → K → Ordering) (x : K) (es : List (K × X))
+    → below_all R x (units (list_map (λ (e : K × X). e.0) es)) ≡ below_all R x es
 below-units R x [] = refl
 below-units R x (e ∷ es) = ap (λ b. is_lt (R x e.0) && b) (below-units R x es)
 
 -- the keys of entries in strict order
-pub sorted-entries : {K X : Type 0} (R : K → K → Ordering) (es : List (K × X)) → is_sorted R (units (list_map (λ (e : K × X). e.0) es)) ≡ is_sorted R es
+pub sorted-entries : {K X : Type 0} (R : K → K → Ordering) (es : List (K × X))
+    → is_sorted R (units (list_map (λ (e : K × X). e.0) es)) ≡ is_sorted R es
 sorted-entries R [] = refl
 sorted-entries R (e ∷ es) = (λ i. below-units R e.0 es i && sorted-entries R es i)

@@ -24,25 +24,32 @@ group_with h kinds = record { votes = h.votes; commits = h.commits; cap = h.cap;
 abbrev text_for : List ShelfState → ℕ → Said → List ℕ
 text_for shelves n said =
     let g = group_with said.group (kinds_of (take n shelves)) in
-    (version_line said.version ++ codes "\n" ++ (codes "replicas " ++ decimal n ++ codes " commits " ++ decimal said.group.commits ++ codes " cap " ++ decimal said.group.cap ++ codes "\n") ++ votes_text said.version said.group.votes)
+    (version_line said.version ++ codes "\n"
+    ++ (codes "replicas " ++ decimal n ++ codes " commits " ++ decimal said.group.commits ++ codes " cap "
+    ++ decimal said.group.cap ++ codes "\n") ++ votes_text said.version said.group.votes)
     ++ lines_text 1 (lines g (map event_of said.events))
-    ++ (views_text 0 (views g (trace_of g (map event_of said.events))) ++ decisions_text (decisions g (trace_of g (map event_of said.events))))
+    ++ (views_text 0 (views g (trace_of g (map event_of said.events)))
+    ++ decisions_text (decisions g (trace_of g (map event_of said.events))))
 
 abbrev text_of_said : List ShelfState → Said → List ℕ
 text_of_said shelves said = text_for shelves (length said.group.votes) said
 
-of_said : (shelves : List ShelfState) (s : Script) → IsConfig s.config → answer s shelves ≡ text_of_said shelves (said_by s)
+of_said : (shelves : List ShelfState) (s : Script) → IsConfig s.config
+    → answer s shelves ≡ text_of_said shelves (said_by s)
 of_said shelves s is = ap (λ n. text_for shelves n (said_by s)) is.group.replicas
 
 abbrev ok_or : Said → Result Said ScriptFault → Said
 ok_or otherwise (Ok said) = said
 ok_or otherwise (Err fault) = otherwise
 
-pub one_text : (shelves : List ShelfState) (input : List ℕ) (s t : Script) → Says input s → Says input t → answer s shelves ≡ answer t shelves
+pub one_text : (shelves : List ShelfState) (input : List ℕ) (s t : Script) → Says input s → Says input t
+    → answer s shelves ≡ answer t shelves
 one_text shelves input s t p q =
-    of_said shelves s p.config ∙ ap (text_of_said shelves) (ap (ok_or (said_by s)) (sym p.said ∙ q.said)) ∙ sym (of_said shelves t q.config)
+    of_said shelves s p.config ∙ ap (text_of_said shelves) (ap (ok_or (said_by s)) (sym p.said ∙ q.said))
+    ∙ sym (of_said shelves t q.config)
 
-pub answers : (shelves : List ShelfState) (input text : List ℕ) (s : Script) → Says input s → text ≡ answer s shelves → Answers shelves input text
+pub answers : (shelves : List ShelfState) (input text : List ℕ) (s : Script) → Says input s → text ≡ answer s shelves
+    → Answers shelves input text
 answers shelves input text s p is = record {
   script = s;
   says = p;

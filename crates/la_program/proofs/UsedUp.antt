@@ -11,11 +11,15 @@ pub record AreLeft (es left : List Event) (i : ℕ) : Type 0 where
 
 reverse_twice : (xs : List Event) → xs ≡ reverse (reverse xs)
 reverse_twice [] = refl
-reverse_twice (x ∷ xs) = ap (λ l. x ∷ l) (reverse_twice xs) ∙ sym (reverse-append (reverse xs) (x ∷ [])) ∙ ap reverse (sym (reverse-append (x ∷ []) xs))
+reverse_twice (x ∷ xs) =
+    ap (λ l. x ∷ l) (reverse_twice xs) ∙ sym (reverse-append (reverse xs) (x ∷ []))
+    ∙ ap reverse (sym (reverse-append (x ∷ []) xs))
 
 length_reversed : (xs : List Event) → length (reverse xs) ≡ length xs
 length_reversed [] = refl
-length_reversed (x ∷ xs) = ap length (reverse-append (x ∷ []) xs) ∙ length-append (reverse xs) (x ∷ []) ∙ let e = length_reversed xs in omega arith
+length_reversed (x ∷ xs) =
+    ap length (reverse-append (x ∷ []) xs) ∙ length-append (reverse xs) (x ∷ [])
+    ∙ let e = length_reversed xs in omega arith
 
 pub all_left : (es left : List Event) → left ≡ reverse es → AreLeft es left 0
 all_left es left is = record {
@@ -24,24 +28,31 @@ all_left es left is = record {
 }
 
 -- one is taken
-module _ (es left rest : List Event) (event : Event) (i : ℕ) (h : AreLeft es left i) (is : left ≡ rest ++ event ∷ []) where
-  pub taken_within : i < length es
-  taken_within =
-      let many = h.many in
-      let e : length left ≡ length rest + 1 = ap length is ∙ length-append rest (event ∷ []) in
-      omega arith
+module _ (es left rest : List Event) (event : Event) (i : ℕ) (h : AreLeft es left i) (is : left ≡ rest ++ event ∷ [])
+  where
+    pub taken_within : i < length es
+    taken_within =
+        let many = h.many in
+        let e : length left ≡ length rest + 1 = ap length is ∙ length-append rest (event ∷ []) in
+        omega arith
 
-  split : es ≡ take i es ++ event ∷ reverse rest
-  split = h.are ∙ ap (λ l. take i es ++ reverse l) is ∙ ap (λ l. take i es ++ l) (reverse-append rest (event ∷ []))
+    split : es ≡ take i es ++ event ∷ reverse rest
+    split = h.are ∙ ap (λ l. take i es ++ reverse l) is ∙ ap (λ l. take i es ++ l) (reverse-append rest (event ∷ []))
 
-  pub taken_is : (d : Event) → get_or es i d ≡ event
-  taken_is d =
-      let lt = taken_within in
-      let k : length (take i es) ≡ i = length-take-le i es (omega arith) in
-      ap (λ l. get_or l i d) split ∙ ap (λ n. get_or (take i es ++ event ∷ reverse rest) n d) (sym k) ∙ get_or-append_seam (take i es) event (reverse rest) d
+    pub taken_is : (d : Event) → get_or es i d ≡ event
+    taken_is d =
+        let lt = taken_within in
+        let k : length (take i es) ≡ i = length-take-le i es (omega arith) in
+        ap (λ l. get_or l i d) split ∙ ap (λ n. get_or (take i es ++ event ∷ reverse rest) n d) (sym k)
+        ∙ get_or-append_seam (take i es) event (reverse rest) d
 
-  pub one_taken : AreLeft es rest (i + 1)
-  one_taken = record {
-    are = split ∙ sym (append_assoc (take i es) (event ∷ []) (reverse rest)) ∙ ap (λ l. l ++ reverse rest) (sym (take_more es i event taken_within ∙ ap (λ e. take i es ++ e ∷ []) (taken_is event)));
-    many = let many = h.many in let e : length left ≡ length rest + 1 = ap length is ∙ length-append rest (event ∷ []) in omega arith;
-  }
+    pub one_taken : AreLeft es rest (i + 1)
+    one_taken = record {
+      are =
+          split ∙ sym (append_assoc (take i es) (event ∷ []) (reverse rest))
+          ∙ ap (λ l. l ++ reverse rest)
+          (sym (take_more es i event taken_within ∙ ap (λ e. take i es ++ e ∷ []) (taken_is event)));
+      many =
+          let many = h.many in
+          let e : length left ≡ length rest + 1 = ap length is ∙ length-append rest (event ∷ []) in omega arith;
+    }

@@ -24,25 +24,36 @@ use Rattle.la_proposer.proofs.Proposals.{history-joined, knows_no_more}
 
 -- a ballot that takes what waits leaves nothing waiting
 opening_submits : (p : ProposerState) → p.own < 8 → all_submitted (after_opening p) ≡ all_submitted p
-opening_submits p known = append-nil (history (with_more p.updates p.own p.waiting) p.own) ∙ history-with_same p.updates p.own (history p.updates p.own ++ p.waiting) p.own known refl
+opening_submits p known =
+    append-nil (history (with_more p.updates p.own p.waiting) p.own)
+    ∙ history-with_same p.updates p.own (history p.updates p.own ++ p.waiting) p.own known refl
 
-pub submission_adds : (p : ProposerState) (d : ObjectOp) → p.own < 8 → all_submitted (after_submission p d) ≡ all_submitted p ++ d ∷ []
+pub submission_adds : (p : ProposerState) (d : ObjectOp) → p.own < 8
+    → all_submitted (after_submission p d) ≡ all_submitted p ++ d ∷ []
 submission_adds p d known =
     let waits = sym (append_assoc (history p.updates p.own) p.waiting (d ∷ [])) in
-    cond_both p.is_asking (with_waiting p d) (after_opening (with_waiting p d)) (λ q. all_submitted q ≡ all_submitted p ++ d ∷ [])
+    cond_both p.is_asking (with_waiting p d) (after_opening (with_waiting p d))
+    (λ q. all_submitted q ≡ all_submitted p ++ d ∷ [])
     (λ e. waits)
     (λ e. opening_submits (with_waiting p d) known ∙ waits)
 
 module _ (p : ProposerState) (a : ℕ) (r : Reply) where
-  verdict_submits : (v : Verdict) → IsProposerState p → Fits p r → all_submitted (after_verdict (with_reply p a r) v) ≡ all_submitted p
+  verdict_submits : (v : Verdict) → IsProposerState p → Fits p r
+      → all_submitted (after_verdict (with_reply p a r) v) ≡ all_submitted p
   verdict_submits Waits is fits = refl
   verdict_submits Refines is fits =
       let known = All-push (λ (c : Counted). KnowsNoMore p.updates p.own c.reply) p.tally (record { from = a; reply = r }) is.own_known (knows_no_more p r fits) in
       ap (λ h. h ++ p.waiting) (history-joined p.updates p.own (tally_with p.tally a r) known)
-  verdict_submits Learns is fits = cond_both (is_nothing p.waiting) (closed (with_reply p a r)) (after_opening (with_reply p a r)) (λ q. all_submitted q ≡ all_submitted p) (λ e. refl) (λ e. opening_submits (with_reply p a r) (omega (arith, is.known, is.few)))
+  verdict_submits Learns is fits =
+      cond_both (is_nothing p.waiting) (closed (with_reply p a r)) (after_opening (with_reply p a r))
+      (λ q. all_submitted q ≡ all_submitted p) (λ e. refl)
+      (λ e. opening_submits (with_reply p a r) (omega (arith, is.known, is.few)))
 
-  pub reply_submits : (b : ℕ) → IsProposerState p → ReplyFits p a b r → all_submitted (after_reply p a b r) ≡ all_submitted p
-  reply_submits b is fits = cond_both (counts p a b) (after_counting (with_reply p a r)) p (λ q. all_submitted q ≡ all_submitted p) (λ counted. verdict_submits (verdict_of (with_reply p a r)) is (fits counted)) (λ e. refl)
+  pub reply_submits : (b : ℕ) → IsProposerState p → ReplyFits p a b r
+      → all_submitted (after_reply p a b r) ≡ all_submitted p
+  reply_submits b is fits =
+      cond_both (counts p a b) (after_counting (with_reply p a r)) p (λ q. all_submitted q ≡ all_submitted p)
+      (λ counted. verdict_submits (verdict_of (with_reply p a r)) is (fits counted)) (λ e. refl)
 
 -- ## What is learnt
 
@@ -59,7 +70,8 @@ set_of said.Ignored t = t
 set_of (said.Refined b) t = t
 
 module _ (p : ProposerState) (a b : ℕ) (r : Reply) (s : Histories) (o : Option Ballot) where
-  counted_learnt : (c : Bool) → cond c (heard_counting (with_reply p a r)) said.Ignored ≡ said.Learnt s o → (c ≡ true) × (heard_counting (with_reply p a r) ≡ said.Learnt s o)
+  counted_learnt : (c : Bool) → cond c (heard_counting (with_reply p a r)) said.Ignored ≡ said.Learnt s o
+      → (c ≡ true) × (heard_counting (with_reply p a r) ≡ said.Learnt s o)
   counted_learnt true e = (refl, e)
   counted_learnt false e = absurd (cc)
 
@@ -81,4 +93,5 @@ module _ (p : ProposerState) (a b : ℕ) (r : Reply) (s : Histories) (o : Option
     pub learnt_majority : IsTrue (is_majority p.votes (said_yes (tally_with p.tally a r)))
     learnt_majority =
         let tally = tally_with p.tally a r in
-        verdict-majority (is_majority p.votes (said_yes tally)) (has_refusal tally && is_majority p.votes (has_counted tally)) learnt_by.0
+        verdict-majority (is_majority p.votes (said_yes tally))
+        (has_refusal tally && is_majority p.votes (has_counted tally)) learnt_by.0

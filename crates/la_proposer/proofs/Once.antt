@@ -49,13 +49,17 @@ module _ (p q : ℕ → Bool) (more : (r : ℕ) → p r ≡ true → q r ≡ tru
   ]
 
 -- one reply more, of an acceptor that has not counted
-pub counts_once : (tally : List Counted) (from n : ℕ) (reply : Reply) → from < n → has_counted tally from ≡ false → length tally ≤ how_many n (has_counted tally) → length (tally_with tally from reply) ≤ how_many n (has_counted (tally_with tally from reply))
+pub counts_once : (tally : List Counted) (from n : ℕ) (reply : Reply) → from < n → has_counted tally from ≡ false
+    → length tally ≤ how_many n (has_counted tally)
+    → length (tally_with tally from reply) ≤ how_many n (has_counted (tally_with tally from reply))
 counts_once tally from n reply lt new le =
     omega (
       arith,
       length-append tally (record { from = from; reply = reply } ∷ []),
       le,
-      one_more (has_counted tally) (has_counted (tally_with tally from reply)) (λ r e. split r ∙ ap (λ v. v || has_counted here r) e) from new (split from ∙ ap (λ v. v || has_counted here from) new ∙ itself) n lt,
+      one_more (has_counted tally) (has_counted (tally_with tally from reply))
+          (λ r e. split r ∙ ap (λ v. v || has_counted here r) e) from new
+          (split from ∙ ap (λ v. v || has_counted here from) new ∙ itself) n lt,
     )
   where
     here : List Counted

@@ -74,7 +74,8 @@ module _ (p : ProposerState) (t : Histories) (is : IsRepresented p t) where
           from = (stands-represented (after_opening q) s opened b [] s last_is refl refl, tt);
         }
 
-  module _ (from : ℕ) (reply : Reply) (asking : p.is_asking ≡ true) (in_group : from < length p.votes) (new : has_counted p.tally from ≡ false) (fits : Fits p reply) where
+  module _ (from : ℕ) (reply : Reply) (asking : p.is_asking ≡ true) (in_group : from < length p.votes)
+      (new : has_counted p.tally from ≡ false) (fits : Fits p reply) where
     counted : IsRepresented (with_reply p from reply) (alone p.own (all_submitted p))
     counted = counting_represented p _ is_written from reply asking in_group new fits
 
@@ -82,7 +83,11 @@ module _ (p : ProposerState) (t : Histories) (is : IsRepresented p t) where
     unfolding after_commit IsPreparedFrom
     counts_leads = record {
       to = stands (with_reply p from reply) _ counted (last_of p) (tally_with p.tally from reply) _ refl refl refl;
-      from = (stands-represented (with_reply p from reply) _ counted (last_of p) (tally_with p.tally from reply) _ refl refl refl, tt);
+      from = (
+        stands-represented (with_reply p from reply) _ counted (last_of p) (tally_with p.tally from reply) _ refl refl
+            refl,
+        tt,
+      );
     }
 
     -- what was joined before agrees with the reply
@@ -94,19 +99,29 @@ module _ (p : ProposerState) (t : Histories) (is : IsRepresented p t) where
         (subst (λ xs. Agrees (joined_with_refusals p.updates xs) reply) (take-append_seam p.tally (c ∷ []))
         (agrees-joined p.updates cs (length p.tally) c (one_each-push p from reply is.proposer_state.one_each fits) (omega (arith, length-append p.tally (c ∷ []))) (sym (get_or_push p.tally c c (length p.tally) refl))))
 
-    pub refines_leads : (b : Ballot) (joined set : Histories) → joined ≡ joined_with_refusals p.updates p.tally → set ≡ with_refusal joined reply → b ≡ record { number = p.number + 1; updates = set } → p.number < 8000000
-        → Leads p (Opens b (record { from = from; counts = told_by p.updates reply })) (after_refinement (with_reply p from reply)) × (b ≡ refined_ballot (with_reply p from reply))
+    pub refines_leads : (b : Ballot) (joined set : Histories) → joined ≡ joined_with_refusals p.updates p.tally → set ≡ with_refusal joined reply → b ≡ record { number = p.number + 1; updates = set } → p.number < 8000000 → Leads p (Opens b (record { from = from; counts = told_by p.updates reply })) (after_refinement (with_reply p from reply)) × (b ≡ refined_ballot (with_reply p from reply))
     unfolding after_commit IsPreparedFrom
     refines_leads b joined set joined_is set_is b_is left =
         let q = with_reply p from reply in
         let c : Counted = record { from = from; reply = reply } in
-        let updates_is : set ≡ joined_with_refusals p.updates q.tally = set_is ∙ ap (λ u. with_refusal u reply) joined_is ∙ sym (joined-append p.updates p.tally c) in
+        let updates_is : set ≡ joined_with_refusals p.updates q.tally =
+        set_is ∙ ap (λ u. with_refusal u reply) joined_is ∙ sym (joined-append p.updates p.tally c) in
         let last_is : b ≡ refined_ballot q = b_is ∙ ap (λ u. record { number = p.number + 1; updates = u }) updates_is in
         let refined = refinement_represented q _ counted left in
         let asks : (after_refinement q).is_asking ≡ true = asking in (
           record {
-            to = (λ i. proposer_state_of p.votes p.own p.cap b (sym asking i) [] (alone p.own (all_submitted p)) q.reported) ∙ stands (after_refinement q) _ refined b [] _ last_is refl refl;
-            from = (subst (λ a. IsRepresented (proposer_state_of p.votes p.own p.cap b a [] (alone p.own (all_submitted p)) q.reported) (alone p.own (all_submitted p))) asking (stands-represented (after_refinement q) _ refined b [] _ last_is refl refl), in_group);
+            to =
+                (λ i. proposer_state_of p.votes p.own p.cap b (sym asking i) [] (alone p.own (all_submitted p)) q.reported)
+                ∙ stands (after_refinement q) _ refined b [] _ last_is refl refl;
+            from = (
+              subst
+                  (λ a.
+                  IsRepresented
+                  (proposer_state_of p.votes p.own p.cap b a [] (alone p.own (all_submitted p)) q.reported)
+                  (alone p.own (all_submitted p))) asking
+                  (stands-represented (after_refinement q) _ refined b [] _ last_is refl refl),
+              in_group,
+            );
           },
           last_is,
         )
@@ -115,8 +130,7 @@ module _ (p : ProposerState) (t : Histories) (is : IsRepresented p t) where
     heard : IsRepresented (noted p from reply) (alone p.own (all_submitted p))
     heard = noting_represented p _ is_written from reply
 
-    pub opens_leads : (b : Ballot) → b ≡ record { number = p.number + 1; updates = join p.updates t } → p.number < 8000000
-        → Leads p (Opens b (record { from = from; counts = told_by p.updates reply })) (after_opening (noted p from reply)) × (b ≡ next_ballot p)
+    pub opens_leads : (b : Ballot) → b ≡ record { number = p.number + 1; updates = join p.updates t } → p.number < 8000000 → Leads p (Opens b (record { from = from; counts = told_by p.updates reply })) (after_opening (noted p from reply)) × (b ≡ next_ballot p)
     unfolding after_commit IsPreparedFrom
     opens_leads b b_is left =
         let q = noted p from reply in
@@ -151,55 +165,76 @@ module _ (p : ProposerState) (t : Histories) (is : IsRepresented p t) where
     unfolding after_commit IsPreparedFrom
     closes_leads = record {
       to = stands (closed (noted p from reply)) _ closed_represented (last_of p) [] _ refl refl refl;
-      from = (stands-represented (closed (noted p from reply)) _ closed_represented (last_of p) [] _ refl refl refl, in_group);
+      from =
+          (stands-represented (closed (noted p from reply)) _ closed_represented (last_of p) [] _ refl refl refl, in_group);
     }
 
 -- ## What is committed
 
 module _ (x : Inside) (q : ProposerState) (view_is : stands_for x ≡ q) (change c : Change) (same : change ≡ c)
     (last : Ballot) (asking : Bool) (tally : List Counted) (u : Histories) (reported : List numbers.Counts)
-    (last_is : last ≡ last_after (stands_for x) c) (asking_is : asking ≡ asking_after (stands_for x) c) (tally_is : tally ≡ tally_after (stands_for x) c) (u_is : u ≡ submissions_after (stands_for x) c)
+    (last_is : last ≡ last_after (stands_for x) c) (asking_is : asking ≡ asking_after (stands_for x) c)
+    (tally_is : tally ≡ tally_after (stands_for x) c) (u_is : u ≡ submissions_after (stands_for x) c)
     (reported_is : reported ≡ reported_after (stands_for x) c) where
   pub committed : proposer_state_of (votes_of x.votes) x.own x.cap last asking tally u reported ≡ after_commit q change
   unfolding after_commit
   committed =
-      (λ i. proposer_state_of (votes_of x.votes) x.own x.cap (last_is i) (asking_is i) (tally_is i) (u_is i) (reported_is i))
+      (λ i.
+      proposer_state_of (votes_of x.votes) x.own x.cap (last_is i) (asking_is i) (tally_is i) (u_is i)
+      (reported_is i))
       ∙ ap (λ r. after_commit r c) view_is
       ∙ ap (after_commit q) (sym same)
 
-  pub committed-represented : IsPreparedFrom q change → IsRepresented (proposer_state_of (votes_of x.votes) x.own x.cap last asking tally u reported) u
+  pub committed-represented : IsPreparedFrom q change
+      → IsRepresented (proposer_state_of (votes_of x.votes) x.own x.cap last asking tally u reported) u
   unfolding after_commit IsPreparedFrom
   committed-represented from =
       let made = (subst (λ r. IsPreparedFrom r c) (sym view_is) (subst (IsPreparedFrom q) same from)).0 in
       let s = submissions_after (stands_for x) c in
       let told = reported_after (stands_for x) c in
-      subst (λ v. IsRepresented (proposer_state_of (votes_of x.votes) x.own x.cap last asking tally u v) u) (sym reported_is)
+      subst (λ v. IsRepresented (proposer_state_of (votes_of x.votes) x.own x.cap last asking tally u v) u)
+      (sym reported_is)
       (subst (λ v. IsRepresented (proposer_state_of (votes_of x.votes) x.own x.cap last asking tally v told) v) (sym u_is)
       (subst (λ ts. IsRepresented (proposer_state_of (votes_of x.votes) x.own x.cap last asking ts s told) s) (sym tally_is)
       (subst (λ a. IsRepresented (proposer_state_of (votes_of x.votes) x.own x.cap last a (tally_after (stands_for x) c) s told) s) (sym asking_is)
       (subst (λ b. IsRepresented (proposer_state_of (votes_of x.votes) x.own x.cap b (asking_after (stands_for x) c) (tally_after (stands_for x) c) s told) s) (sym last_is) made))))
 
 -- where one reply more is a proposer's, there is room for it
-pub has_room : (p : ProposerState) (change : Change) (c : Counted) → change ≡ Counts c → IsPreparedFrom p change → length p.tally < 8
+pub has_room : (p : ProposerState) (change : Change) (c : Counted) → change ≡ Counts c → IsPreparedFrom p change
+    → length p.tally < 8
 unfolding after_commit IsPreparedFrom
 has_room p change c same from =
     let made = (subst (IsPreparedFrom p) same from).0 in
-    omega (arith, few_counted (proposer_state_of p.votes p.own p.cap (last_of p) p.is_asking (p.tally ++ c ∷ []) (alone p.own (all_submitted p)) (reported_after p (Counts c))) made.proposer_state, length-append p.tally (c ∷ []))
+    omega (
+      arith,
+      few_counted
+          (proposer_state_of p.votes p.own p.cap (last_of p) p.is_asking (p.tally ++ c ∷ [])
+          (alone p.own (all_submitted p)) (reported_after p (Counts c))) made.proposer_state,
+      length-append p.tally
+          (c ∷ []),
+    )
 
 -- whom the reply is from that a change notes, there is an entry for
-pub counts_known : (p : ProposerState) (change : Change) (c : Counted) → change ≡ Counts c → IsPreparedFrom p change → c.from < 8
+pub counts_known : (p : ProposerState) (change : Change) (c : Counted) → change ≡ Counts c → IsPreparedFrom p change
+    → c.from < 8
 unfolding after_commit IsPreparedFrom
 counts_known p change c same from =
     let made = (subst (IsPreparedFrom p) same from).0.proposer_state in
-    omega (arith, made.few, (All-pop (λ (d : Counted). d.from < length p.votes) (p.tally ++ c ∷ []) p.tally (Some c) refl made.in_group).1)
+    omega (
+      arith,
+      made.few,
+      (All-pop (λ (d : Counted). d.from < length p.votes) (p.tally ++ c ∷ []) p.tally (Some c) refl made.in_group).1,
+    )
 
-pub opens_known : (p : ProposerState) (change : Change) (b : Ballot) (told : Told) → change ≡ Opens b told → IsPreparedFrom p change → told.from < 8
+pub opens_known : (p : ProposerState) (change : Change) (b : Ballot) (told : Told) → change ≡ Opens b told
+    → IsPreparedFrom p change → told.from < 8
 unfolding after_commit IsPreparedFrom
 opens_known p change b told same from =
     let made = subst (IsPreparedFrom p) same from in
     omega (arith, made.1, made.0.proposer_state.few)
 
-pub closes_known : (p : ProposerState) (change : Change) (told : Told) → change ≡ Closes told → IsPreparedFrom p change → told.from < 8
+pub closes_known : (p : ProposerState) (change : Change) (told : Told) → change ≡ Closes told → IsPreparedFrom p change
+    → told.from < 8
 unfolding after_commit IsPreparedFrom
 closes_known p change told same from =
     let made = subst (IsPreparedFrom p) same from in
@@ -213,10 +248,12 @@ has_left p idle spares = elim (cases_lt p.number 8000000) [ inl lt ↦ lt | inr 
 pub submission_holds : (p : ProposerState) (d : ObjectOp) → p.is_asking ≡ true → with_waiting p d ≡ after_submission p d
 submission_holds p d asking = ap (λ a. cond a (with_waiting p d) (after_opening (with_waiting p d))) (sym asking)
 
-pub submission_opening : (p : ProposerState) (d : ObjectOp) → p.is_asking ≡ false → after_opening (with_waiting p d) ≡ after_submission p d
+pub submission_opening : (p : ProposerState) (d : ObjectOp) → p.is_asking ≡ false
+    → after_opening (with_waiting p d) ≡ after_submission p d
 submission_opening p d idle = ap (λ a. cond a (with_waiting p d) (after_opening (with_waiting p d))) (sym idle)
 
-pub submission_opens_then : (p : ProposerState) (d : ObjectOp) → p.is_asking ≡ false → Some (next_ballot (with_waiting p d)) ≡ submission_opens p d
+pub submission_opens_then : (p : ProposerState) (d : ObjectOp) → p.is_asking ≡ false
+    → Some (next_ballot (with_waiting p d)) ≡ submission_opens p d
 submission_opens_then p d idle = ap (λ a. cond a None (Some (next_ballot (with_waiting p d)))) (sym idle)
 
 is_nothing-empty : (ds : List ObjectOp) → length ds ≡ 0 → is_nothing ds ≡ true
@@ -236,5 +273,8 @@ learning_reopens p some = ap (λ a. cond a (closed p) (after_opening p)) (sym (i
 pub learning_opens_then : (p : ProposerState) → ¬ (length p.waiting ≡ 0) → Some (next_ballot p) ≡ learning_opens p
 learning_opens_then p some = ap (λ a. cond a None (Some (next_ballot p))) (sym (is_nothing-some p.waiting some))
 
-pub waiting_left : (p : ProposerState) → ¬ (length p.waiting ≡ 0) → ¬ StepSpends (not (is_nothing p.waiting)) p → p.number < 8000000
-waiting_left p some spares = elim (cases_lt p.number 8000000) [ inl lt ↦ lt | inr le ↦ absurd (spares (ap not (is_nothing-some p.waiting some), le)) ]
+pub waiting_left : (p : ProposerState) → ¬ (length p.waiting ≡ 0) → ¬ StepSpends (not (is_nothing p.waiting)) p
+    → p.number < 8000000
+waiting_left p some spares =
+    elim (cases_lt p.number 8000000)
+    [ inl lt ↦ lt | inr le ↦ absurd (spares (ap not (is_nothing-some p.waiting some), le)) ]

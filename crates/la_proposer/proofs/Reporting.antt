@@ -33,18 +33,24 @@ verdict_reported p Waits = refl
 verdict_reported p Refines = refl
 verdict_reported p Learns = opened_reported p (is_nothing p.waiting)
 
-pub counted_reports : (p : ProposerState) (a ballot : ℕ) (reply : Reply) → a < length p.reported → counts p a ballot ≡ true → reported (after_reply p a ballot reply) a ≡ told_by p.updates reply
+pub counted_reports : (p : ProposerState) (a ballot : ℕ) (reply : Reply) → a < length p.reported
+    → counts p a ballot ≡ true → reported (after_reply p a ballot reply) a ≡ told_by p.updates reply
 counted_reports p a ballot reply there heard =
     ap (λ b. reported (cond b (after_verdict (with_reply p a reply) (verdict_of (with_reply p a reply))) p) a) heard
-    ∙ ap (λ (cs : List numbers.Counts). reported (record p { reported = cs }) a) (verdict_reported (with_reply p a reply) (verdict_of (with_reply p a reply)))
+    ∙ ap (λ (cs : List numbers.Counts). reported (record p { reported = cs }) a)
+    (verdict_reported (with_reply p a reply) (verdict_of (with_reply p a reply)))
     ∙ get_or-set_same p.reported a (told_by p.updates reply) zero_counts there
 
-pub others_reported : (p : ProposerState) (a from ballot : ℕ) (reply : Reply) → a ≢ from → reported (after_reply p from ballot reply) a ≡ reported p a
+pub others_reported : (p : ProposerState) (a from ballot : ℕ) (reply : Reply) → a ≢ from
+    → reported (after_reply p from ballot reply) a ≡ reported p a
 others_reported p a from ballot reply other = go (counts p from ballot)
   where
-    go : (b : Bool) → reported (cond b (after_verdict (with_reply p from reply) (verdict_of (with_reply p from reply))) p) a ≡ reported p a
+    go : (b : Bool)
+        → reported (cond b (after_verdict (with_reply p from reply) (verdict_of (with_reply p from reply))) p) a
+        ≡ reported p a
     go true =
-        ap (λ (cs : List numbers.Counts). reported (record p { reported = cs }) a) (verdict_reported (with_reply p from reply) (verdict_of (with_reply p from reply)))
+        ap (λ (cs : List numbers.Counts). reported (record p { reported = cs }) a)
+        (verdict_reported (with_reply p from reply) (verdict_of (with_reply p from reply)))
         ∙ get_or-set_other p.reported from a (told_by p.updates reply) zero_counts other
     go false = refl
 
@@ -75,7 +81,9 @@ module _ (p : ProposerState) (c : Change) (from : IsPreparedFrom p c) where
 
   counted_of_group : (d : Counted) → c ≡ Counts d → d.from < length p.votes
   unfolding IsPreparedFrom after_commit
-  counted_of_group d e = (All-pop (λ k. k.from < length p.votes) (p.tally ++ d ∷ []) p.tally (Some d) refl (subst (λ x. All (λ k. k.from < length p.votes) (tally_after p x)) e from.0.proposer_state.in_group)).1
+  counted_of_group d e =
+      (All-pop (λ k. k.from < length p.votes) (p.tally ++ d ∷ []) p.tally (Some d) refl
+      (subst (λ x. All (λ k. k.from < length p.votes) (tally_after p x)) e from.0.proposer_state.in_group)).1
 
   ends_by : (d : Change) → c ≡ d → EndsByOneOf p d
   unfolding IsPreparedFrom
@@ -89,13 +97,16 @@ module _ (p : ProposerState) (c : Change) (from : IsPreparedFrom p c) where
   of_group (Opens b t) e told is = omega (arith, ends_by (Opens b t) e, ap from_of is)
   of_group (Closes t) e told is = omega (arith, ends_by (Closes t) e, ap from_of is)
 
-  pub told_is_reported : (told : Told) → told_in p.updates c ≡ Some told → reported (after_commit p c) told.from ≡ told.counts
+  pub told_is_reported : (told : Told) → told_in p.updates c ≡ Some told
+      → reported (after_commit p c) told.from ≡ told.counts
   unfolding after_commit
   told_is_reported told is =
       ap (λ t. slice_index_or (with_told p.reported t) told.from zero_counts) is
-      ∙ get_or-set_same p.reported told.from told.counts zero_counts (omega (arith, of_group c refl told is, few, eight))
+      ∙ get_or-set_same p.reported told.from told.counts zero_counts
+      (omega (arith, of_group c refl told is, few, eight))
 
-  pub others_stay : (told : Told) (a : ℕ) → told_in p.updates c ≡ Some told → a ≢ told.from → reported (after_commit p c) a ≡ reported p a
+  pub others_stay : (told : Told) (a : ℕ) → told_in p.updates c ≡ Some told → a ≢ told.from
+      → reported (after_commit p c) a ≡ reported p a
   unfolding after_commit
   others_stay told a is other =
       ap (λ t. slice_index_or (with_told p.reported t) a zero_counts) is
@@ -116,17 +127,23 @@ module _ (tally : List Counted) (from : ℕ) (s t : Histories) where
 
   said : (a : ℕ) → said_yes (tally_with tally from (No s)) a ≡ said_yes (tally_with tally from (No t)) a
   unfolding one other
-  said a = list_any-append (λ c. (c.from == a) && is_yes c.reply) tally (one ∷ []) ∙ sym (list_any-append (λ c. (c.from == a) && is_yes c.reply) tally (other ∷ []))
+  said a =
+      list_any-append (λ c. (c.from == a) && is_yes c.reply) tally (one ∷ [])
+      ∙ sym (list_any-append (λ c. (c.from == a) && is_yes c.reply) tally (other ∷ []))
 
   heard : (a : ℕ) → has_counted (tally_with tally from (No s)) a ≡ has_counted (tally_with tally from (No t)) a
   unfolding one other
-  heard a = list_any-append (λ c. c.from == a) tally (one ∷ []) ∙ sym (list_any-append (λ c. c.from == a) tally (other ∷ []))
+  heard a =
+      list_any-append (λ c. c.from == a) tally (one ∷ []) ∙ sym (list_any-append (λ c. c.from == a) tally (other ∷ []))
 
   refused : has_refusal (tally_with tally from (No s)) ≡ has_refusal (tally_with tally from (No t))
   unfolding one other
-  refused = list_any-append (λ c. not (is_yes c.reply)) tally (one ∷ []) ∙ sym (list_any-append (λ c. not (is_yes c.reply)) tally (other ∷ []))
+  refused =
+      list_any-append (λ c. not (is_yes c.reply)) tally (one ∷ [])
+      ∙ sym (list_any-append (λ c. not (is_yes c.reply)) tally (other ∷ []))
 
-  pub verdicts_alike : (votes : List ℕ) → verdict votes (tally_with tally from (No s)) ≡ verdict votes (tally_with tally from (No t))
+  pub verdicts_alike : (votes : List ℕ)
+      → verdict votes (tally_with tally from (No s)) ≡ verdict votes (tally_with tally from (No t))
   verdicts_alike votes = λ i.
       if is_majority votes (λ a. said a i) then Learns else
       if refused i && is_majority votes (λ a. heard a i) then Refines else Waits

@@ -33,7 +33,8 @@ one_more : (n : ℕ) → n + 1 ≡ suc n
 one_more n = omega arith
 
 -- the last update of a replica, where it is this one
-holds_last : (s : Histories) (r : ℕ) (before : List ObjectOp) (d : ObjectOp) → history s r ≡ before ++ d ∷ [] → ContainsUpdate s (update_of r (length before + 1) d)
+holds_last : (s : Histories) (r : ℕ) (before : List ObjectOp) (d : ObjectOp) → history s r ≡ before ++ d ∷ []
+    → ContainsUpdate s (update_of r (length before + 1) d)
 holds_last s r before d e =
     ap (λ n. get s (record { replica = r; number = n })) (one_more (length before))
     ∙ ap (λ (ds : List ObjectOp). option_map (update_of r (suc (length before))) (slice_get ds (length before))) e
@@ -41,7 +42,8 @@ holds_last s r before d e =
     ∙ ap (λ n. Some (update_of r n d)) (sym (one_more (length before)))
 
 -- an update that was learnt answers its job
-pub update_answers : (old new : MemberState) (object : ℕ) (op : Op) (l : Learned) → IsUpdateOf old new l.updates → submitted_in new 0 ≡ submitted_in old 0 ++ op_on object op ∷ []
+pub update_answers : (old new : MemberState) (object : ℕ) (op : Op) (l : Learned) → IsUpdateOf old new l.updates
+    → submitted_in new 0 ≡ submitted_in old 0 ++ op_on object op ∷ []
     → AnswersUpdate new (length (submitted_in old 0) + 1) object op (entry.Learned l)
 update_answers old new object op l up submitted = (
   up.learnt.own,
@@ -67,14 +69,17 @@ instance_within m i s e = go (slice_get m.instances i) refl e
     go (Some x) same l = slice_get_within m.instances i x same
 
 -- an object with a decision is one of the group's
-pub commit_within : (m : MemberState) (k value : ℕ) (reached : Outcome) → IsMember m → IsDecision k value m reached → k < MAX_COMMITS
+pub commit_within : (m : MemberState) (k value : ℕ) (reached : Outcome) → IsMember m → IsDecision k value m reached
+    → k < MAX_COMMITS
 commit_within m k value reached is d =
     let within = instance_within m (second_instance k) d.second d.is_second.learnt in
     let most = is.most in
     omega (arith, within, most)
 
 -- a decision by the sets that were learnt last
-pub decision_is : (m : MemberState) (k value : ℕ) (reached : Outcome) (s t : Histories) → IsDecision k value m reached → last_learnt m (first_instance k) ≡ Some s → last_learnt m (second_instance k) ≡ Some t → IsDecided m k value s t reached
+pub decision_is : (m : MemberState) (k value : ℕ) (reached : Outcome) (s t : Histories) → IsDecision k value m reached
+    → last_learnt m (first_instance k) ≡ Some s → last_learnt m (second_instance k) ≡ Some t
+    → IsDecided m k value s t reached
 decision_is m k value reached s t d one two =
     subst (λ (z : Histories × Histories). IsDecided m k value z.0 z.1 reached) (λ i. (some_same (sym d.is_first.learnt ∙ one) i, some_same (sym d.is_second.learnt ∙ two) i)) (record {
       first_own = d.is_first.own;
@@ -104,6 +109,5 @@ pub known_view : (m : MemberState) → IsMember m → (s : Histories) → s ≡ 
 known_view m is s e = subst (IsKnownTo m) (sym e) (view_is m is)
 
 -- a shelf that has absorbed a set answers by it
-pub asked_at : (shelf next : ShelfState) (set seen : Histories) (object : ℕ) (query : Query) (answer : Answer) → seen ≡ set → next ≡ record shelf { view = set } → answer_at next object query ≡ Some answer
-    → answer_at (record { view = seen; objects = shelf.objects }) object query ≡ Some answer
+pub asked_at : (shelf next : ShelfState) (set seen : Histories) (object : ℕ) (query : Query) (answer : Answer) → seen ≡ set → next ≡ record shelf { view = set } → answer_at next object query ≡ Some answer → answer_at (record { view = seen; objects = shelf.objects }) object query ≡ Some answer
 asked_at shelf next set seen object query answer same is e = ap (λ v. answer_at (record { view = v; objects = shelf.objects }) object query) same ∙ ap (λ (s : ShelfState). answer_at s object query) (sym is) ∙ e

@@ -33,40 +33,56 @@ legal_of (Some k) is = is.0
 pub legal_at : (ps : List Known) (a : ℕ) → IsPassAt (slice_get ps a) → IsLegal (seen_at ps a)
 legal_at ps a is = subst IsLegal (sym (seen_at_is ps a)) (legal_of (slice_get ps a) is)
 
-own_of : (k : Option Known) (s : Histories) (r : Reply) → IsPassAt k → HasEntry (mine_of k) s r → HasEntry (seen_of k) s r
+own_of : (k : Option Known) (s : Histories) (r : Reply) → IsPassAt k → HasEntry (mine_of k) s r
+    → HasEntry (seen_of k) s r
 own_of None s r is e = e
 own_of (Some k) s r is e = owns-has k.number k.seen k.mine s r is.1 e
 
 -- an own entry is one that was seen
-pub own_at : (ps : List Known) (a : ℕ) (s : Histories) (r : Reply) → IsPassAt (slice_get ps a) → HasEntry (mine_at ps a) s r → HasEntry (seen_at ps a) s r
-own_at ps a s r is e = subst (λ l. HasEntry l s r) (sym (seen_at_is ps a)) (own_of (slice_get ps a) s r is (subst (λ l. HasEntry l s r) (mine_at_is ps a) e))
+pub own_at : (ps : List Known) (a : ℕ) (s : Histories) (r : Reply) → IsPassAt (slice_get ps a)
+    → HasEntry (mine_at ps a) s r → HasEntry (seen_at ps a) s r
+own_at ps a s r is e =
+    subst (λ l. HasEntry l s r) (sym (seen_at_is ps a))
+    (own_of (slice_get ps a) s r is (subst (λ l. HasEntry l s r) (mine_at_is ps a) e))
 
 -- a majority goes over from one fact to another
 pub of_majority : (votes : List ℕ) (P Q : ℕ → Type 0) → ((a : ℕ) → P a → Q a) → OfMajority votes P → OfMajority votes Q
 of_majority votes P Q f m = (m.0, m.1, λ a e. f a (m.2 a e))
 
-pub own_certificate : (votes : List ℕ) (ps : List Known) (s : Histories) → ((a : ℕ) → IsPassAt (slice_get ps a)) → HasOwnCertificate votes ps s → HasCertificate votes ps s
-own_certificate votes ps s are c = of_majority votes (λ a. HasYes (mine_at ps a) s) (λ a. HasYes (seen_at ps a) s) (λ a e. own_at ps a s Yes (are a) e) c
+pub own_certificate : (votes : List ℕ) (ps : List Known) (s : Histories) → ((a : ℕ) → IsPassAt (slice_get ps a))
+    → HasOwnCertificate votes ps s → HasCertificate votes ps s
+own_certificate votes ps s are c =
+    of_majority votes (λ a. HasYes (mine_at ps a) s) (λ a. HasYes (seen_at ps a) s) (λ a e. own_at ps a s Yes (are a) e) c
 
 -- a certificate stays
-pub certificate_stays : (votes : List ℕ) (ps qs : List Known) (s : Histories) → ((a : ℕ) → IsPrefix (seen_at ps a) (seen_at qs a)) → HasCertificate votes ps s → HasCertificate votes qs s
-certificate_stays votes ps qs s go c = of_majority votes (λ a. HasYes (seen_at ps a) s) (λ a. HasYes (seen_at qs a) s) (λ a e. has-prefix (seen_at ps a) (seen_at qs a) s Yes (go a) e) c
+pub certificate_stays : (votes : List ℕ) (ps qs : List Known) (s : Histories)
+    → ((a : ℕ) → IsPrefix (seen_at ps a) (seen_at qs a)) → HasCertificate votes ps s → HasCertificate votes qs s
+certificate_stays votes ps qs s go c =
+    of_majority votes (λ a. HasYes (seen_at ps a) s) (λ a. HasYes (seen_at qs a) s)
+    (λ a e. has-prefix (seen_at ps a) (seen_at qs a) s Yes (go a) e) c
 
-pub own_certificate_stays : (votes : List ℕ) (ps qs : List Known) (s : Histories) → ((a : ℕ) → IsPrefix (mine_at ps a) (mine_at qs a)) → HasOwnCertificate votes ps s → HasOwnCertificate votes qs s
-own_certificate_stays votes ps qs s go c = of_majority votes (λ a. HasYes (mine_at ps a) s) (λ a. HasYes (mine_at qs a) s) (λ a e. has-prefix (mine_at ps a) (mine_at qs a) s Yes (go a) e) c
+pub own_certificate_stays : (votes : List ℕ) (ps qs : List Known) (s : Histories)
+    → ((a : ℕ) → IsPrefix (mine_at ps a) (mine_at qs a)) → HasOwnCertificate votes ps s → HasOwnCertificate votes qs s
+own_certificate_stays votes ps qs s go c =
+    of_majority votes (λ a. HasYes (mine_at ps a) s) (λ a. HasYes (mine_at qs a) s)
+    (λ a e. has-prefix (mine_at ps a) (mine_at qs a) s Yes (go a) e) c
 
 union_is : (a b : Histories) → IsCompatible a b → IsUnionOf (join a b) a b
 union_is a b one u = (contains-join_cases a b u, contains-join a b one u)
 
 -- the two majorities share an acceptor, and there one set was acknowledged after the other
-pub certificates_compare : (votes : List ℕ) (ps : List Known) (s t : Histories) → ((a : ℕ) → IsPassAt (slice_get ps a)) → HasCertificate votes ps s → HasCertificate votes ps t → AreComparable s t
+pub certificates_compare : (votes : List ℕ) (ps : List Known) (s t : Histories) → ((a : ℕ) → IsPassAt (slice_get ps a))
+    → HasCertificate votes ps s → HasCertificate votes ps t → AreComparable s t
 certificates_compare votes ps s t are c d =
     let there = majorities_meet votes c.0 d.0 c.1 d.1 in
-    yes_comparable subset-join_left union_is subset-from_yes empty (seen_at ps there.0) s t (legal_at ps there.0 (are there.0)) (c.2 there.0 there.3) (d.2 there.0 there.4)
+    yes_comparable subset-join_left union_is subset-from_yes empty (seen_at ps there.0) s t
+    (legal_at ps there.0 (are there.0)) (c.2 there.0 there.3) (d.2 there.0 there.4)
 
 -- a set that a majority acknowledged after a certificate was seen contains the certificate's set
-pub contains_earlier : (votes : List ℕ) (ps qs : List Known) (s t : Histories) → ((a : ℕ) → IsPassAt (slice_get qs a)) → HasCertificate votes ps t → OfMajority votes (λ a. Beyond ps qs a s) → IsSubset t s
+pub contains_earlier : (votes : List ℕ) (ps qs : List Known) (s t : Histories) → ((a : ℕ) → IsPassAt (slice_get qs a))
+    → HasCertificate votes ps t → OfMajority votes (λ a. Beyond ps qs a s) → IsSubset t s
 contains_earlier votes ps qs s t are c d =
     let there = majorities_meet votes c.0 d.0 c.1 d.1 in
     let b = d.2 there.0 there.4 in
-    later_contains subset-join_left union_is subset-from_yes (seen_at ps there.0) b.0 t s Yes (subst IsLegal b.1 (legal_at qs there.0 (are there.0))) (c.2 there.0 there.3) b.2
+    later_contains subset-join_left union_is subset-from_yes (seen_at ps there.0) b.0 t s Yes
+    (subst IsLegal b.1 (legal_at qs there.0 (are there.0))) (c.2 there.0 there.3) b.2

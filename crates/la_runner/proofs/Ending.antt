@@ -40,7 +40,8 @@ learnt_by (Some d) = d.1
 abbrev doing : InstanceState → Doing
 doing x = (x.proposer, x.learnt)
 
-submitted_by_is : (xs : List InstanceState) (i : ℕ) → submitted_of (slice_get xs i) ≡ submitted_by (slice_get (map doing xs) i)
+submitted_by_is : (xs : List InstanceState) (i : ℕ)
+    → submitted_of (slice_get xs i) ≡ submitted_by (slice_get (map doing xs) i)
 submitted_by_is [] i = refl
 submitted_by_is (x ∷ xs) zero = refl
 submitted_by_is (x ∷ xs) (suc i) = submitted_by_is xs i
@@ -50,20 +51,28 @@ learnt_by_is [] i = refl
 learnt_by_is (x ∷ xs) zero = refl
 learnt_by_is (x ∷ xs) (suc i) = learnt_by_is xs i
 
-cap_by_is : (xs ys : List InstanceState) → map doing ys ≡ map doing xs → IsSomeAnd (slice_get xs 0) (λ x. x.proposer.cap ≤ submitted x.proposer) → IsSomeAnd (slice_get ys 0) (λ x. x.proposer.cap ≤ submitted x.proposer)
+cap_by_is : (xs ys : List InstanceState) → map doing ys ≡ map doing xs
+    → IsSomeAnd (slice_get xs 0) (λ x. x.proposer.cap ≤ submitted x.proposer)
+    → IsSomeAnd (slice_get ys 0) (λ x. x.proposer.cap ≤ submitted x.proposer)
 cap_by_is [] ys e h = absurd h
 cap_by_is (x ∷ xs) [] e h = absurd (cc e)
-cap_by_is (x ∷ xs) (y ∷ ys) e h = let same : x.proposer ≡ y.proposer = ap (λ (d : Doing). d.0) (first_is (doing x) (doing y) (map doing xs) (map doing ys) (sym e)) in subst (λ (p : ProposerState). p.cap ≤ submitted p) same h
+cap_by_is (x ∷ xs) (y ∷ ys) e h =
+    let same : x.proposer ≡ y.proposer =
+    ap (λ (d : Doing). d.0) (first_is (doing x) (doing y) (map doing xs) (map doing ys) (sym e)) in
+    subst (λ (p : ProposerState). p.cap ≤ submitted p) same h
   where
     first_is : (a b : Doing) (more others : List Doing) → a ∷ more ≡ b ∷ others → a ≡ b
     first_is a b more others e = cc
 
 module _ (old new : MemberState) (same : doings new ≡ doings old) where
   submitted_same : (i : ℕ) → submitted_in new i ≡ submitted_in old i
-  submitted_same i = submitted_by_is new.instances i ∙ ap (λ l. submitted_by (slice_get l i)) same ∙ sym (submitted_by_is old.instances i)
+  submitted_same i =
+      submitted_by_is new.instances i ∙ ap (λ l. submitted_by (slice_get l i)) same
+      ∙ sym (submitted_by_is old.instances i)
 
   learnt_same : (i : ℕ) → last_learnt new i ≡ last_learnt old i
-  learnt_same i = learnt_by_is new.instances i ∙ ap (λ l. learnt_by (slice_get l i)) same ∙ sym (learnt_by_is old.instances i)
+  learnt_same i =
+      learnt_by_is new.instances i ∙ ap (λ l. learnt_by (slice_get l i)) same ∙ sym (learnt_by_is old.instances i)
 
   long_same : length new.instances ≡ length old.instances
   long_same = sym (long_map doing new.instances) ∙ ap length same ∙ long_map doing old.instances
@@ -79,7 +88,8 @@ module _ (old new : MemberState) (same : doings new ≡ doings old) where
   other_there k value (inr h) = inr (h.0, submitted_same (first_instance k) ∙ h.1, h.2)
 
   -- a reason that fits still fits, where nothing was done since
-  pub fits_still : (objects : List (ℕ × Kind)) (j : Job) (why : Stopped) → StopFits objects old j why → StopFits objects new j why
+  pub fits_still : (objects : List (ℕ × Kind)) (j : Job) (why : Stopped) → StopFits objects old j why
+      → StopFits objects new j why
   fits_still objects (Update object op) cause.Full h = cap_by_is old.instances new.instances same h
   fits_still objects (Update object op) cause.NoSuchObject h = h
   fits_still objects (Update object op) cause.NoSuchCommit h = h
@@ -101,11 +111,13 @@ module _ (old new : MemberState) (same : doings new ≡ doings old) where
   fits_still objects (Ask object query) why h = h
 
 -- a worker that has done its jobs, sent its notes and taken those of its peers
-pub worked : (first ended last : MemberState) (shelf between absorbed : ShelfState) (jobs : List Job) (entries : List Entry) (why stopped : Option Stopped)
-    → HasDone first shelf.objects jobs entries ended → GoesOn first ended → (n : ℕ) → n ≡ length entries → (m : ℕ) → m ≡ length jobs → IfNone why (n ≡ m) → IfSome why (StopsAt shelf.objects ended jobs n)
-    → GoesOn ended last → doings last ≡ doings ended → IsMember last → (replica : ℕ) → replica ≡ last.replica
-    → between.objects ≡ shelf.objects → absorbed.objects ≡ between.objects
-    → (stopped ≡ None → (why ≡ None) × (absorbed.view ≡ view last)) → IfSome stopped (λ w. (w ≡ cause.Memory) ⊎ (why ≡ Some w))
+pub worked : (first ended last : MemberState) (shelf between absorbed : ShelfState) (jobs : List Job)
+    (entries : List Entry) (why stopped : Option Stopped) → HasDone first shelf.objects jobs entries ended
+    → GoesOn first ended → (n : ℕ) → n ≡ length entries → (m : ℕ) → m ≡ length jobs → IfNone why (n ≡ m)
+    → IfSome why (StopsAt shelf.objects ended jobs n) → GoesOn ended last → doings last ≡ doings ended → IsMember last
+    → (replica : ℕ) → replica ≡ last.replica → between.objects ≡ shelf.objects → absorbed.objects ≡ between.objects
+    → (stopped ≡ None → (why ≡ None) × (absorbed.view ≡ view last))
+    → IfSome stopped (λ w. (w ≡ cause.Memory) ⊎ (why ≡ Some w))
     → IsWorked first shelf jobs replica last absorbed entries stopped
 worked first ended last shelf between absorbed jobs entries why stopped done goes n n_is m m_is all stop then same is replica named kept kept_too none some = record {
   is = is;
@@ -118,7 +130,8 @@ worked first ended last shelf between absorbed jobs entries why stopped done goe
   stop = reason stopped some;
 }
   where
-    reason : (s : Option Stopped) → IfSome s (λ w. (w ≡ cause.Memory) ⊎ (why ≡ Some w)) → IfSome s (λ w. (w ≡ cause.Memory) ⊎ StopsAt shelf.objects last jobs (length entries) w)
+    reason : (s : Option Stopped) → IfSome s (λ w. (w ≡ cause.Memory) ⊎ (why ≡ Some w))
+        → IfSome s (λ w. (w ≡ cause.Memory) ⊎ StopsAt shelf.objects last jobs (length entries) w)
     reason None h = h
     reason (Some w) (inl e) = inl e
     reason (Some w) (inr e) =

@@ -29,7 +29,10 @@ use Rattle.la_runner.specs.Starting.{newcomer, IsNewInstance, cap_in, IsNewMembe
 
 none_listed : (own : ℕ) (ds : List ObjectOp) → history empty own ≡ ds → ds ≡ []
 none_listed own [] e = refl
-none_listed own (d ∷ ds) e = absurd (contains-empty (update_of own 1 d) (contains-object_op empty (update_of own 1 d) (ap (λ h. object_op_number h 1) e)))
+none_listed own (d ∷ ds) e =
+    absurd
+    (contains-empty (update_of own 1 d)
+    (contains-object_op empty (update_of own 1 d) (ap (λ h. object_op_number h 1) e)))
 
 history-empty : (own : ℕ) → history empty own ≡ []
 history-empty own = none_listed own (history empty own) refl
@@ -59,7 +62,8 @@ same_acceptors : (row : List AcceptorName) → acceptors_of (map newcomer row) �
 same_acceptors [] = refl
 same_acceptors (r ∷ row) = ap (λ rs. r ∷ rs) (same_acceptors row)
 
-module _ (votes : List ℕ) (own cap : ℕ) (row : List AcceptorName) (known : own < length votes) (few : length votes ≤ 8) (most : cap ≤ 1000000) (sizes : length row ≡ length votes) where
+module _ (votes : List ℕ) (own cap : ℕ) (row : List AcceptorName) (known : own < length votes) (few : length votes ≤ 8)
+    (most : cap ≤ 1000000) (sizes : length row ≡ length votes) where
   fresh_sound : IsSound (start votes own cap empty) (map newcomer row)
   fresh_sound = record {
     proposer = start_is votes own cap known few most;
@@ -74,16 +78,23 @@ module _ (votes : List ℕ) (own cap : ℕ) (row : List AcceptorName) (known : o
 
   pub fresh_instance : (some : 1 ≤ cap) (x : InstanceState) → IsNewInstance votes own cap row x → IsInstance x
   fresh_instance some x is = record {
-    sound = subst (λ (z : ProposerState × List Known). IsSound z.0 z.1) (λ i. (sym is.proposer i, sym is.passes i)) fresh_sound;
+    sound =
+        subst (λ (z : ProposerState × List Known). IsSound z.0 z.1) (λ i. (sym is.proposer i, sym is.passes i))
+        fresh_sound;
     view = inl is.view;
     learnt = subst (λ o. IfSome o (IsLearntSet x.proposer x.passes)) (sym is.learnt) tt;
     cap = subst (λ (p : ProposerState). 1 ≤ p.cap) (sym is.proposer) some;
-    under_way = λ none made. let nothing : length (all_submitted x.proposer) ≡ 0 = ap (λ (p : ProposerState). length (all_submitted p)) is.proposer ∙ nothing_submitted votes own cap in absurd (omega arith);
+    under_way =
+        λ none made.
+        let nothing : length (all_submitted x.proposer) ≡ 0 =
+        ap (λ (p : ProposerState). length (all_submitted p)) is.proposer ∙ nothing_submitted votes own cap in
+        absurd (omega arith);
   }
 
 -- ## The instances of a member, one after another
 
-get_push : {A : Type 0} (xs : List A) (x : A) (i : ℕ) (z : A) → slice_get (xs ++ x ∷ []) i ≡ Some z → (slice_get xs i ≡ Some z) ⊎ ((i ≡ length xs) × (x ≡ z))
+get_push : {A : Type 0} (xs : List A) (x : A) (i : ℕ) (z : A) → slice_get (xs ++ x ∷ []) i ≡ Some z
+    → (slice_get xs i ≡ Some z) ⊎ ((i ≡ length xs) × (x ≡ z))
 get_push [] x zero z e = inr (refl, cc)
 get_push [] x (suc i) z e = absurd (cc)
 get_push (y ∷ ys) x zero z e = inl e
@@ -94,12 +105,15 @@ map_push f [] x = refl
 map_push f (y ∷ ys) x = ap (λ zs. f y ∷ zs) (map_push f ys x)
 
 -- so many of the instances stand
-pub record AreNew (group : List (List AcceptorName)) (votes : List ℕ) (own cap at : ℕ) (xs : List InstanceState) : Type 0 where
+pub record AreNew (group : List (List AcceptorName)) (votes : List ℕ) (own cap at : ℕ) (xs : List InstanceState) : Type
+    0 where
   pub count : length xs ≡ at
   pub of : map (λ x. acceptors_of x.passes) xs ≡ take at group
-  pub each : (i : ℕ) (row : List AcceptorName) (x : InstanceState) → slice_get group i ≡ Some row → slice_get xs i ≡ Some x → IsNewInstance votes own (cap_in cap i) row x
+  pub each : (i : ℕ) (row : List AcceptorName) (x : InstanceState) → slice_get group i ≡ Some row
+      → slice_get xs i ≡ Some x → IsNewInstance votes own (cap_in cap i) row x
 
-pub take_more : {A : Type 0} (xs : List A) (i : ℕ) (x : A) → slice_get xs i ≡ Some x → take (suc i) xs ≡ take i xs ++ x ∷ []
+pub take_more : {A : Type 0} (xs : List A) (i : ℕ) (x : A) → slice_get xs i ≡ Some x
+    → take (suc i) xs ≡ take i xs ++ x ∷ []
 take_more [] i x e = absurd (cc)
 take_more (y ∷ ys) zero x e = let same : y ≡ x = cc in ap (λ z. z ∷ []) same
 take_more (y ∷ ys) (suc i) x e = ap (λ zs. y ∷ zs) (take_more ys i x e)
@@ -107,16 +121,22 @@ take_more (y ∷ ys) (suc i) x e = ap (λ zs. y ∷ zs) (take_more ys i x e)
 one_more : (n : ℕ) → n + 1 ≡ suc n
 one_more n = omega arith
 
-pub new_push : (group : List (List AcceptorName)) (votes : List ℕ) (own cap at : ℕ) (xs : List InstanceState) (row : List AcceptorName) (x : InstanceState) → AreNew group votes own cap at xs → slice_get group at ≡ Some row → IsNewInstance votes own (cap_in cap at) row x → AreNew group votes own cap (at + 1) (xs ++ x ∷ [])
+pub new_push : (group : List (List AcceptorName)) (votes : List ℕ) (own cap at : ℕ) (xs : List InstanceState)
+    (row : List AcceptorName) (x : InstanceState) → AreNew group votes own cap at xs → slice_get group at ≡ Some row
+    → IsNewInstance votes own (cap_in cap at) row x → AreNew group votes own cap (at + 1) (xs ++ x ∷ [])
 new_push group votes own cap at xs row x are there new = record {
   count = length-append xs (x ∷ []) ∙ ap (λ n. n + 1) are.count;
-  of = map_push (λ z. acceptors_of z.passes) xs x ∙ (λ i. are.of i ++ (ap acceptors_of new.passes ∙ same_acceptors row) i ∷ []) ∙ sym (ap (λ n. take n group) (one_more at) ∙ take_more group at row there);
+  of =
+      map_push (λ z. acceptors_of z.passes) xs x
+      ∙ (λ i. are.of i ++ (ap acceptors_of new.passes ∙ same_acceptors row) i ∷ [])
+      ∙ sym (ap (λ n. take n group) (one_more at) ∙ take_more group at row there);
   each = λ i r z here e. elim (get_push xs x i z e) [
     | inl old ↦ are.each i r z here old
     | inr last ↦
         let place : i ≡ at = last.0 ∙ are.count in
         let same : row ≡ r = some_same (sym there ∙ ap (slice_get group) (sym place) ∙ here) in
-        subst (λ (w : ℕ × List AcceptorName × InstanceState). IsNewInstance votes own (cap_in cap w.0) w.1 w.2) (λ j. (sym place j, same j, last.1 j)) new
+        subst (λ (w : ℕ × List AcceptorName × InstanceState). IsNewInstance votes own (cap_in cap w.0) w.1 w.2)
+        (λ j. (sym place j, same j, last.1 j)) new
   ];
 }
   where
@@ -131,7 +151,10 @@ names_long names (r ∷ rs) = ap suc (names_long names rs)
 
 -- ## A member
 
-module _ (group : List (List AcceptorName)) (votes : List ℕ) (own cap : ℕ) (known : own < length votes) (few : length votes ≤ 8) (some : 1 ≤ cap) (most : cap ≤ 1000000) (sizes : All (λ row. length row ≡ length votes) group) (m : MemberState) (votes_is : m.votes ≡ votes) (own_is : m.replica ≡ own) (are : AreNew group votes own cap (length group) m.instances) where
+module _ (group : List (List AcceptorName)) (votes : List ℕ) (own cap : ℕ) (known : own < length votes)
+    (few : length votes ≤ 8) (some : 1 ≤ cap) (most : cap ≤ 1000000)
+    (sizes : All (λ row. length row ≡ length votes) group) (m : MemberState) (votes_is : m.votes ≡ votes)
+    (own_is : m.replica ≡ own) (are : AreNew group votes own cap (length group) m.instances) where
   capped : (b : Bool) → cond b cap 1 ≤ 1000000
   capped true = most
   capped false = omega arith
@@ -140,12 +163,15 @@ module _ (group : List (List AcceptorName)) (votes : List ℕ) (own cap : ℕ) (
   cap_some true = some
   cap_some false = omega arith
 
-  row_at : (g : List (List AcceptorName)) (i : ℕ) → i < length g → All (λ row. length row ≡ length votes) g → (row : List AcceptorName) × (slice_get g i ≡ Some row) × (length row ≡ length votes)
+  row_at : (g : List (List AcceptorName)) (i : ℕ) → i < length g → All (λ row. length row ≡ length votes) g
+      → (row : List AcceptorName) × (slice_get g i ≡ Some row) × (length row ≡ length votes)
   row_at [] i lt all = absurd (omega arith)
   row_at (r ∷ g) zero lt all = (r, refl, All-head (λ (row : List AcceptorName). length row ≡ length votes) r g all)
-  row_at (r ∷ g) (suc i) lt all = row_at g i (omega arith) (All-tail (λ (row : List AcceptorName). length row ≡ length votes) r g all)
+  row_at (r ∷ g) (suc i) lt all =
+      row_at g i (omega arith) (All-tail (λ (row : List AcceptorName). length row ≡ length votes) r g all)
 
-  new_in : (i : ℕ) (x : InstanceState) → slice_get m.instances i ≡ Some x → (row : List AcceptorName) × (length row ≡ length votes) × IsNewInstance votes own (cap_in cap i) row x
+  new_in : (i : ℕ) (x : InstanceState) → slice_get m.instances i ≡ Some x
+      → (row : List AcceptorName) × (length row ≡ length votes) × IsNewInstance votes own (cap_in cap i) row x
   new_in i x e =
       let there = row_at group i (subst (λ n. i < n) are.count (slice_get_within m.instances i x e)) sizes in
       (there.0, there.2, are.each i there.0 x there.1 e)
@@ -160,7 +186,8 @@ module _ (group : List (List AcceptorName)) (votes : List ℕ) (own cap : ℕ) (
   -- it has submitted nothing anywhere
   nothing_in : (i : ℕ) (o : Option InstanceState) → slice_get m.instances i ≡ o → submitted_of o ≡ []
   nothing_in i None e = refl
-  nothing_in i (Some x) e = let new = new_in i x e in ap all_submitted new.2.proposer ∙ ap (λ h. h ++ []) (history-empty own)
+  nothing_in i (Some x) e =
+      let new = new_in i x e in ap all_submitted new.2.proposer ∙ ap (λ h. h ++ []) (history-empty own)
 
   fresh_participant : (k : ℕ) → IsParticipant m k
   fresh_participant k = record {
@@ -191,25 +218,33 @@ cons_rest : {A : Type 0} {x y : A} {xs ys : List A} → x ∷ xs ≡ y ∷ ys �
 cons_rest e = cc
 
 -- the item at a place
-pub item_there : {A : Type 0} (xs : List A) (i : ℕ) (x : A) → i < length xs → x ≡ slice_index_or xs i x → slice_get xs i ≡ Some x
+pub item_there : {A : Type 0} (xs : List A) (i : ℕ) (x : A) → i < length xs → x ≡ slice_index_or xs i x
+    → slice_get xs i ≡ Some x
 item_there xs i x lt e = slice_get-get_or xs i x lt ∙ ap Some (sym e)
 
-pub popped : (o : Option MemberState) (xs ys : List MemberState) → xs ≡ ys ++ option_to_list o → reverse xs ≡ option_to_list o ++ reverse ys
+pub popped : (o : Option MemberState) (xs ys : List MemberState) → xs ≡ ys ++ option_to_list o
+    → reverse xs ≡ option_to_list o ++ reverse ys
 popped None xs ys e = ap reverse e ∙ reverse-append ys []
 popped (Some m) xs ys e = ap reverse e ∙ reverse-append ys (m ∷ [])
 
 -- the member that is taken out, and those that are left
-pub taken : (group : GroupState) (cap r : ℕ) (o : Option MemberState) (old new : List MemberState) → old ≡ option_to_list o ++ new → AreMembersFrom group cap r old → IfSome o (λ m. IsNewMember group cap r m × AreMembersFrom group cap (r + 1) new)
+pub taken : (group : GroupState) (cap r : ℕ) (o : Option MemberState) (old new : List MemberState)
+    → old ≡ option_to_list o ++ new → AreMembersFrom group cap r old
+    → IfSome o (λ m. IsNewMember group cap r m × AreMembersFrom group cap (r + 1) new)
 taken group cap r None old new e are = tt
 taken group cap r (Some m) old new e are = subst (AreMembersFrom group cap r) e are
 
 -- ## First passes, by the row that they are of
 
 module _ {R F : Type 0} (names : R → List AcceptorName) (seats : F → List Known) where
-  pub firsts_at : (fs : List F) (rs : List R) (i : ℕ) (f : F) (r : R) → map seats fs ≡ map (λ z. map newcomer (names z)) rs → slice_get fs i ≡ Some f → slice_get rs i ≡ Some r → seats f ≡ map newcomer (names r)
+  pub firsts_at : (fs : List F) (rs : List R) (i : ℕ) (f : F) (r : R)
+      → map seats fs ≡ map (λ z. map newcomer (names z)) rs → slice_get fs i ≡ Some f → slice_get rs i ≡ Some r
+      → seats f ≡ map newcomer (names r)
   firsts_at [] rs i f r all fe re = absurd (cc)
   firsts_at (g ∷ fs) [] i f r all fe re = absurd (cc)
-  firsts_at (g ∷ fs) (s ∷ rs) zero f r all fe re = let one : g ≡ f = cc in let other : s ≡ r = cc in ap seats (sym one) ∙ cons_first all ∙ ap (λ z. map newcomer (names z)) other
+  firsts_at (g ∷ fs) (s ∷ rs) zero f r all fe re =
+      let one : g ≡ f = cc in
+      let other : s ≡ r = cc in ap seats (sym one) ∙ cons_first all ∙ ap (λ z. map newcomer (names z)) other
   firsts_at (g ∷ fs) (s ∷ rs) (suc i) f r all fe re = firsts_at fs rs i f r (cons_rest all) fe re
 
   pub row_of : (rs : List R) (i : ℕ) (r : R) → slice_get rs i ≡ Some r → slice_get (map names rs) i ≡ Some (names r)
@@ -217,7 +252,8 @@ module _ {R F : Type 0} (names : R → List AcceptorName) (seats : F → List Kn
   row_of (s ∷ rs) zero r e = let same : s ≡ r = cc in ap (λ z. Some (names z)) same
   row_of (s ∷ rs) (suc i) r e = row_of rs i r e
 
-  pub firsts_there : (fs : List F) (rs : List R) (i : ℕ) (f : F) → map seats fs ≡ map (λ z. map newcomer (names z)) rs → i < length rs → f ≡ slice_index_or fs i f → slice_get fs i ≡ Some f
+  pub firsts_there : (fs : List F) (rs : List R) (i : ℕ) (f : F) → map seats fs ≡ map (λ z. map newcomer (names z)) rs
+      → i < length rs → f ≡ slice_index_or fs i f → slice_get fs i ≡ Some f
   firsts_there [] [] i f all lt e = absurd (omega arith)
   firsts_there [] (s ∷ rs) i f all lt e = absurd (cc)
   firsts_there (g ∷ fs) [] i f all lt e = absurd (omega arith)

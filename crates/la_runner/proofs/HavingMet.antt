@@ -33,14 +33,17 @@ use Rattle.la_runner.proofs.Stepping.{if_some_on, learnt_on}
 use Rattle.la_runner.proofs.Viewing.{is_larger_set, empty_within}
 
 -- a map that each item keeps
-map_each : {A B : Type 0} (f : A → B) (xs ys : List A) → length ys ≡ length xs → ((i : ℕ) (x y : A) → slice_get xs i ≡ Some x → slice_get ys i ≡ Some y → f y ≡ f x) → map f ys ≡ map f xs
+map_each : {A B : Type 0} (f : A → B) (xs ys : List A) → length ys ≡ length xs
+    → ((i : ℕ) (x y : A) → slice_get xs i ≡ Some x → slice_get ys i ≡ Some y → f y ≡ f x) → map f ys ≡ map f xs
 map_each f [] [] e each = refl
 map_each f [] (y ∷ ys) e each = absurd (omega arith)
 map_each f (x ∷ xs) [] e each = absurd (omega arith)
-map_each f (x ∷ xs) (y ∷ ys) e each = ap₂ (λ z l. z ∷ l) (each zero x y refl refl) (map_each f xs ys (omega arith) (λ i. each (suc i)))
+map_each f (x ∷ xs) (y ∷ ys) e each =
+    ap₂ (λ z l. z ∷ l) (each zero x y refl refl) (map_each f xs ys (omega arith) (λ i. each (suc i)))
 
 -- items at one place of two lists of one length
-there_too : {A B : Type 0} (xs : List A) (ys : List B) (i : ℕ) (y : B) → length ys ≡ length xs → slice_get ys i ≡ Some y → (x : A) × (slice_get xs i ≡ Some x)
+there_too : {A B : Type 0} (xs : List A) (ys : List B) (i : ℕ) (y : B) → length ys ≡ length xs → slice_get ys i ≡ Some y
+    → (x : A) × (slice_get xs i ≡ Some x)
 there_too xs [] i y e at = absurd (cc)
 there_too [] (z ∷ ys) i y e at = absurd (omega arith)
 there_too (x ∷ xs) (z ∷ ys) zero y e at = (x, refl)
@@ -51,22 +54,33 @@ there_too (x ∷ xs) (z ∷ ys) (suc i) y e at = there_too xs ys i y (omega arit
 pub meets_instance : (t : List Told) (x y : InstanceState) → IsInstance x → Meets t x y → IsInstance y
 meets_instance t x y is m = record {
   sound = m.sound;
-  view = subst (λ (z : ProposerState × Histories). IsView z.0.votes y.passes z.1) (λ i. (sym m.proposer i, sym m.view i)) (view_stays x.proposer.votes x.passes y.passes x.view m.goes is.view);
-  learnt = subst (λ (z : ProposerState × Option Histories). IfSome z.1 (IsLearntSet z.0 y.passes)) (λ i. (sym m.proposer i, sym m.learnt i))
-      (if_some_on (IsLearntSet x.proposer x.passes) (IsLearntSet x.proposer y.passes) x.learnt (λ s. learnt_on x.proposer x.proposer x.passes y.passes s refl refl (prefix_self (all_submitted x.proposer)) m.goes.mine) is.learnt);
+  view =
+      subst (λ (z : ProposerState × Histories). IsView z.0.votes y.passes z.1) (λ i. (sym m.proposer i, sym m.view i))
+      (view_stays x.proposer.votes x.passes y.passes x.view m.goes is.view);
+  learnt =
+      subst (λ (z : ProposerState × Option Histories). IfSome z.1 (IsLearntSet z.0 y.passes))
+      (λ i. (sym m.proposer i, sym m.learnt i))
+      (if_some_on (IsLearntSet x.proposer x.passes) (IsLearntSet x.proposer y.passes) x.learnt
+      (λ s.
+      learnt_on x.proposer x.proposer x.passes y.passes s refl refl (prefix_self (all_submitted x.proposer))
+      m.goes.mine) is.learnt);
   cap = subst (λ (p : ProposerState). 1 ≤ p.cap) (sym m.proposer) is.cap;
-  under_way = subst (λ (z : ProposerState × Option Histories). z.1 ≡ None → 1 ≤ length (all_submitted z.0) → z.0.is_asking ≡ true) (λ i. (sym m.proposer i, sym m.learnt i)) is.under_way;
+  under_way =
+      subst (λ (z : ProposerState × Option Histories). z.1 ≡ None → 1 ≤ length (all_submitted z.0) → z.0.is_asking ≡ true)
+      (λ i. (sym m.proposer i, sym m.learnt i)) is.under_way;
 }
 
 -- two sets, each of which may be a view
-views_compare : (votes : List ℕ) (ps : List Known) (v w : Histories) → ((a : ℕ) → IsPassAt (slice_get ps a)) → IsView votes ps v → IsView votes ps w → AreComparable v w
+views_compare : (votes : List ℕ) (ps : List Known) (v w : Histories) → ((a : ℕ) → IsPassAt (slice_get ps a))
+    → IsView votes ps v → IsView votes ps w → AreComparable v w
 views_compare votes ps v w are (inl e) d = inl (subst (λ z. IsSubset z w) (sym e) (empty_within w))
 views_compare votes ps v w are (inr c) (inl e) = inr (subst (λ z. IsSubset z v) (sym e) (empty_within v))
 views_compare votes ps v w are (inr c) (inr d) = certificates_compare votes ps v w are c d
 
 -- ## All of them
 
-module _ (m : MemberState) (is : IsMember m) (n : NoteState) (note : IsNote n) (votes : n.votes ≡ m.votes) (ys : List InstanceState) (all : AllMeet n.told m.instances ys) (told_long : length m.instances ≡ length n.told) where
+module _ (m : MemberState) (is : IsMember m) (n : NoteState) (note : IsNote n) (votes : n.votes ≡ m.votes)
+    (ys : List InstanceState) (all : AllMeet n.told m.instances ys) (told_long : length m.instances ≡ length n.told) where
   -- the passes have met, the view not yet
   abbrev pub mid : MemberState
   mid = record m { instances = ys }
@@ -85,7 +99,9 @@ module _ (m : MemberState) (is : IsMember m) (n : NoteState) (note : IsNote n) (
       record { x = one.0; t = two.0; was = one.1; told = two.1; meets = all.each i two.0 one.0 y two.1 one.1 e }
 
   -- a fact of each instance, or of none
-  each_met : (R : Option InstanceState → Option InstanceState → Option (List Told) → Type 0) → ((t : List Told) (x y : InstanceState) → Meets t x y → R (Some x) (Some y) (Some t)) → R None None None → (i : ℕ) → R (slice_get m.instances i) (slice_get ys i) (slice_get n.told i)
+  each_met : (R : Option InstanceState → Option InstanceState → Option (List Told) → Type 0)
+      → ((t : List Told) (x y : InstanceState) → Meets t x y → R (Some x) (Some y) (Some t)) → R None None None → (i : ℕ)
+      → R (slice_get m.instances i) (slice_get ys i) (slice_get n.told i)
   each_met R here none i = go (slice_get ys i) refl
     where
       gone : slice_get ys i ≡ None → (o : Option InstanceState) → slice_get m.instances i ≡ o → o ≡ None
@@ -97,18 +113,22 @@ module _ (m : MemberState) (is : IsMember m) (n : NoteState) (note : IsNote n) (
 
       gone_told : slice_get m.instances i ≡ None → (o : Option (List Told)) → slice_get n.told i ≡ o → o ≡ None
       gone_told e None f = refl
-      gone_told e (Some x) f = absurd (let w = there_too m.instances n.told i x (sym told_long) f in none_some (sym e ∙ w.1))
+      gone_told e (Some x) f =
+          absurd (let w = there_too m.instances n.told i x (sym told_long) f in none_some (sym e ∙ w.1))
         where
           none_some : {A : Type 0} {a : A} → None ≡ Some a → ⊥
           none_some e = cc
 
-      go : (o : Option InstanceState) → slice_get ys i ≡ o → R (slice_get m.instances i) (slice_get ys i) (slice_get n.told i)
+      go : (o : Option InstanceState) → slice_get ys i ≡ o
+          → R (slice_get m.instances i) (slice_get ys i) (slice_get n.told i)
       go None e =
           let was = gone e (slice_get m.instances i) refl in
-          subst (λ (z : Option InstanceState × Option InstanceState × Option (List Told)). R z.0 z.1 z.2) (λ k. (sym was k, sym e k, sym (gone_told was (slice_get n.told i) refl) k)) none
+          subst (λ (z : Option InstanceState × Option InstanceState × Option (List Told)). R z.0 z.1 z.2)
+          (λ k. (sym was k, sym e k, sym (gone_told was (slice_get n.told i) refl) k)) none
       go (Some y) e =
           let at = met_at i y e in
-          subst (λ (z : Option InstanceState × Option InstanceState × Option (List Told)). R z.0 z.1 z.2) (λ k. (sym at.was k, sym e k, sym at.told k)) (here at.t at.x y at.meets)
+          subst (λ (z : Option InstanceState × Option InstanceState × Option (List Told)). R z.0 z.1 z.2)
+          (λ k. (sym at.was k, sym e k, sym at.told k)) (here at.t at.x y at.meets)
 
   same_submitted : (i : ℕ) → submitted_in mid i ≡ submitted_in m i
   same_submitted i = each_met (λ o q t. submitted_of q ≡ submitted_of o) (λ t x y m. ap all_submitted m.proposer) refl i
@@ -141,9 +161,19 @@ module _ (m : MemberState) (is : IsMember m) (n : NoteState) (note : IsNote n) (
   mid_goes_on = record {
     votes = refl;
     replica = refl;
-    acceptors = map_each (λ (z : InstanceState). acceptors_of z.passes) m.instances ys all.sizes (λ i x y at now. (all.each i (there_too n.told m.instances i x told_long at).0 x y (there_too n.told m.instances i x told_long at).1 at now).goes.acceptors);
-    seen = λ i a. each_met (λ o q t. IsPrefix (seen_at (passes_of o) a) (seen_at (passes_of q) a)) (λ t x y m. m.goes.seen a) (prefix_self (seen_at [] a)) i;
-    mine = λ i a. each_met (λ o q t. IsPrefix (mine_at (passes_of o) a) (mine_at (passes_of q) a)) (λ t x y m. m.goes.mine a) (prefix_self (mine_at [] a)) i;
+    acceptors =
+        map_each (λ (z : InstanceState). acceptors_of z.passes) m.instances ys all.sizes
+        (λ i x y at now.
+        (all.each i (there_too n.told m.instances i x told_long at).0 x y
+        (there_too n.told m.instances i x told_long at).1 at now).goes.acceptors);
+    seen =
+        λ i a.
+        each_met (λ o q t. IsPrefix (seen_at (passes_of o) a) (seen_at (passes_of q) a)) (λ t x y m. m.goes.seen a)
+        (prefix_self (seen_at [] a)) i;
+    mine =
+        λ i a.
+        each_met (λ o q t. IsPrefix (mine_at (passes_of o) a) (mine_at (passes_of q) a)) (λ t x y m. m.goes.mine a)
+        (prefix_self (mine_at [] a)) i;
     submitted = λ i. same_prefix (submitted_in m i) (submitted_in mid i) (same_submitted i);
     grows = subst (IsSubset (view m)) (sym same_view) (subset-refl (view m));
   }
@@ -152,11 +182,18 @@ module _ (m : MemberState) (is : IsMember m) (n : NoteState) (note : IsNote n) (
   unfolding told_at
   told_nothing a = refl
 
-  pub mid_told : (i a : ℕ) → IsPrefix (told_at (told_of (slice_get n.told i)) a) (seen_at (passes_of (slice_get ys i)) a)
-  mid_told i a = each_met (λ o q t. IsPrefix (told_at (told_of t) a) (seen_at (passes_of q) a)) (λ t x z m. m.told a) (subst (λ l. IsPrefix l (seen_at [] a)) (sym (told_nothing a)) (seen_at [] a, refl)) i
+  pub mid_told : (i a : ℕ)
+      → IsPrefix (told_at (told_of (slice_get n.told i)) a) (seen_at (passes_of (slice_get ys i)) a)
+  mid_told i a =
+      each_met (λ o q t. IsPrefix (told_at (told_of t) a) (seen_at (passes_of q) a)) (λ t x z m. m.told a)
+      (subst (λ l. IsPrefix l (seen_at [] a)) (sym (told_nothing a)) (seen_at [] a, refl)) i
 
   pub mid_doings : doings mid ≡ doings m
-  mid_doings = map_each (λ (z : InstanceState). (z.proposer, z.learnt)) m.instances ys all.sizes (λ i x z was now. let t = there_too n.told m.instances i x told_long was in let e = all.each i t.0 x z t.1 was now in λ k. (e.proposer k, e.learnt k))
+  mid_doings =
+      map_each (λ (z : InstanceState). (z.proposer, z.learnt)) m.instances ys all.sizes
+      (λ i x z was now.
+      let t = there_too n.told m.instances i x told_long was in
+      let e = all.each i t.0 x z t.1 was now in λ k. (e.proposer k, e.learnt k))
 
   -- ## The view
 
@@ -176,7 +213,9 @@ module _ (m : MemberState) (is : IsMember m) (n : NoteState) (note : IsNote n) (
     ]
 
     pub comparable_views : AreComparable y.view n.view
-    comparable_views = views_compare y.proposer.votes y.passes y.view n.view first.meets.sound.are (mid_member.each 0 y at).0.view told_view
+    comparable_views =
+        views_compare y.proposer.votes y.passes y.view n.view first.meets.sound.are (mid_member.each 0 y at).0.view
+        told_view
 
     module _ (w : Histories) (larger : IsLarger n.view y.view w) where
       abbrev pub now : InstanceState
@@ -207,46 +246,82 @@ module _ (m : MemberState) (is : IsMember m) (n : NoteState) (note : IsNote n) (
 
       pub has_met : HasMet n m (with_instance mid 0 now)
       has_met = record {
-        told = λ i a. subst (λ l. IsPrefix (told_at (told_of (slice_get n.told i)) a) (seen_at l a)) (sym (passes_now i)) (mid_told i a);
-        mine = λ i a. ap (λ l. mine_at l a) (passes_now i) ∙ each_met (λ o q t. mine_at (passes_of q) a ≡ mine_at (passes_of o) a) (λ t x z m. m.mine a) refl i;
+        told =
+            λ i a.
+            subst (λ l. IsPrefix (told_at (told_of (slice_get n.told i)) a) (seen_at l a)) (sym (passes_now i))
+            (mid_told i a);
+        mine =
+            λ i a.
+            ap (λ l. mine_at l a) (passes_now i)
+            ∙ each_met (λ o q t. mine_at (passes_of q) a ≡ mine_at (passes_of o) a) (λ t x z m. m.mine a) refl i;
         same = map-set_other (λ (z : InstanceState). (z.proposer, z.learnt)) ys 0 y now at refl ∙ mid_doings;
-        view = subst (λ (z : Histories × Histories). IsLarger n.view z.0 z.1) (λ k. ((sym (ap view_of at) ∙ same_view) k, sym (ap view_of (there mid 0 y now at)) k)) larger;
+        view =
+            subst (λ (z : Histories × Histories). IsLarger n.view z.0 z.1)
+            (λ k. ((sym (ap view_of at) ∙ same_view) k, sym (ap view_of (there mid 0 y now at)) k)) larger;
       }
 
 -- ## By what the code knows
 
-module _ (m : Inside) (n : MemberState) (same : stands_for m ≡ n) (is : IsMember (stands_for m)) (note : notes.Inside) (told : NoteState) (told_is : note_stands_for note ≡ told) (holds : IsNote (note_stands_for note)) (group : GroupState) (of : IsOf group n) (note_of : IsNoteOf group told) (ys : List Instance) (all : AllMeet (map (λ n. n.notes.items) note.told.items) (map state_of m.instances.items) (map state_of ys)) where
+module _ (m : Inside) (n : MemberState) (same : stands_for m ≡ n) (is : IsMember (stands_for m)) (note : notes.Inside)
+    (told : NoteState) (told_is : note_stands_for note ≡ told) (holds : IsNote (note_stands_for note))
+    (group : GroupState) (of : IsOf group n) (note_of : IsNoteOf group told) (ys : List Instance)
+    (all : AllMeet (map (λ n. n.notes.items) note.told.items) (map state_of m.instances.items) (map state_of ys)) where
   votes_same : (note_stands_for note).votes ≡ (stands_for m).votes
-  votes_same = ap (λ (z : NoteState). z.votes) told_is ∙ note_of.votes ∙ sym of.votes ∙ sym (ap (λ (z : MemberState). z.votes) same)
+  votes_same =
+      ap (λ (z : NoteState). z.votes) told_is ∙ note_of.votes ∙ sym of.votes
+      ∙ sym (ap (λ (z : MemberState). z.votes) same)
 
   as_long : length (map state_of m.instances.items) ≡ length (note_stands_for note).told
-  as_long = sym (long_map (λ (z : InstanceState). acceptors_of z.passes) (map state_of m.instances.items)) ∙ ap length (ap acceptors_in same ∙ of.acceptors ∙ sym note_of.acceptors) ∙ long_map told_names told.told ∙ sym (ap (λ (z : NoteState). length z.told) told_is)
+  as_long =
+      sym (long_map (λ (z : InstanceState). acceptors_of z.passes) (map state_of m.instances.items))
+      ∙ ap length (ap acceptors_in same ∙ of.acceptors ∙ sym note_of.acceptors) ∙ long_map told_names told.told
+      ∙ sym (ap (λ (z : NoteState). length z.told) told_is)
 
   module _ (y : Instance) (y_is : y ≡ slice_index_or ys 0 y) where
     here : slice_get (map state_of ys) 0 ≡ Some (state_of y)
-    here = get_map state_of ys 0 y (item_at ys 0 y (let some = is.some in let sizes = all.sizes in let long = long_map state_of ys in omega (arith, some, sizes, long)) y_is)
+    here =
+        get_map state_of ys 0 y
+        (item_at ys 0 y
+        (let some = is.some in
+        let sizes = all.sizes in let long = long_map state_of ys in omega (arith, some, sizes, long)) y_is)
 
     pub comparable_here : AreComparable y.view note.view
-    comparable_here = comparable_views (stands_for m) is (note_stands_for note) holds votes_same (map state_of ys) all as_long (state_of y) here
+    comparable_here =
+        comparable_views (stands_for m) is (note_stands_for note) holds votes_same (map state_of ys) all as_long
+        (state_of y) here
 
-    module _ (now : Instance) (w : Histories) (now_is : state_of now ≡ record (state_of y) { view = w }) (larger : w ≡ larger_of y.view note.view) (grows : IsSubset y.view w) (has : IsSubset note.view w) where
+    module _ (now : Instance) (w : Histories) (now_is : state_of now ≡ record (state_of y) { view = w })
+        (larger : w ≡ larger_of y.view note.view) (grows : IsSubset y.view w) (has : IsSubset note.view w) where
       is_larger : IsLarger note.view y.view w
       is_larger = is_larger_set y.view note.view w larger grows has
 
       abbrev after : MemberState
       after = record (stands_for m) { instances = map state_of (slice_set ys 0 now) }
 
-      after_is : after ≡ with_instance (record (stands_for m) { instances = map state_of ys }) 0 (record (state_of y) { view = w })
-      after_is = ap (λ l. record (stands_for m) { instances = l }) (map_set state_of ys 0 now ∙ ap (slice_set (map state_of ys) 0) now_is)
+      after_is : after
+          ≡ with_instance (record (stands_for m) { instances = map state_of ys }) 0 (record (state_of y) { view = w })
+      after_is =
+          ap (λ l. record (stands_for m) { instances = l })
+          (map_set state_of ys 0 now ∙ ap (slice_set (map state_of ys) 0) now_is)
 
       pub member_met : IsMember (record (stands_for m) { instances = map state_of (slice_set ys 0 now) })
-      member_met = subst IsMember (sym after_is) (met_member (stands_for m) is (note_stands_for note) holds votes_same (map state_of ys) all as_long (state_of y) here w is_larger)
+      member_met =
+          subst IsMember (sym after_is)
+          (met_member (stands_for m) is (note_stands_for note) holds votes_same (map state_of ys) all as_long
+          (state_of y) here w is_larger)
 
       pub goes_on_met : GoesOn n (record (stands_for m) { instances = map state_of (slice_set ys 0 now) })
-      goes_on_met = subst (λ (z : MemberState × MemberState). GoesOn z.0 z.1) (λ k. (same k, sym after_is k)) (met_goes_on (stands_for m) is (note_stands_for note) holds votes_same (map state_of ys) all as_long (state_of y) here w is_larger)
+      goes_on_met =
+          subst (λ (z : MemberState × MemberState). GoesOn z.0 z.1) (λ k. (same k, sym after_is k))
+          (met_goes_on (stands_for m) is (note_stands_for note) holds votes_same (map state_of ys) all as_long
+          (state_of y) here w is_larger)
 
       pub of_met : IsOf group (record (stands_for m) { instances = map state_of (slice_set ys 0 now) })
       of_met = of_after group n (record (stands_for m) { instances = map state_of (slice_set ys 0 now) }) of goes_on_met
 
       pub has_met_now : HasMet told n (record (stands_for m) { instances = map state_of (slice_set ys 0 now) })
-      has_met_now = subst (λ (z : NoteState × MemberState × MemberState). HasMet z.0 z.1 z.2) (λ k. (told_is k, same k, sym after_is k)) (has_met (stands_for m) is (note_stands_for note) holds votes_same (map state_of ys) all as_long (state_of y) here w is_larger)
+      has_met_now =
+          subst (λ (z : NoteState × MemberState × MemberState). HasMet z.0 z.1 z.2)
+          (λ k. (told_is k, same k, sym after_is k))
+          (has_met (stands_for m) is (note_stands_for note) holds votes_same (map state_of ys) all as_long (state_of y)
+          here w is_larger)

@@ -15,9 +15,13 @@ one_more : (n : ℕ) → n + 1 ≡ suc n
 one_more n = omega arith
 
 -- a pass more
-pub newcomers_push : (row : List AcceptorName) (at : ℕ) (a : AcceptorName) (old new : Known) (ks made : List Known) → ks ≡ map newcomer row → slice_get row at ≡ Some a → slice_get ks at ≡ Some old → IsNewcomer a old.seen new → made ≡ map newcomer (take at row) → made ++ new ∷ [] ≡ map newcomer (take (at + 1) row)
+pub newcomers_push : (row : List AcceptorName) (at : ℕ) (a : AcceptorName) (old new : Known) (ks made : List Known)
+    → ks ≡ map newcomer row → slice_get row at ≡ Some a → slice_get ks at ≡ Some old → IsNewcomer a old.seen new
+    → made ≡ map newcomer (take at row) → made ++ new ∷ [] ≡ map newcomer (take (at + 1) row)
 newcomers_push row at a old new ks made firsts here there is made_is =
-    let one : Some old ≡ Some (newcomer a) = sym there ∙ ap (λ xs. slice_get xs at) firsts ∙ get_map newcomer row at a here in
+    let one : Some old ≡ Some (newcomer a) =
+    sym there ∙ ap (λ xs. slice_get xs at) firsts ∙ get_map newcomer row at a here in
     let old_is : old ≡ newcomer a = cc in
     let new_is = newcomer_is a old.seen new (ap (λ (k : Known). k.seen) old_is) is in
-    (λ i. made_is i ++ new_is i ∷ []) ∙ sym (map_push newcomer (take at row) a) ∙ sym (ap (map newcomer) (ap (λ n. take n row) (one_more at) ∙ take_more row at a here))
+    (λ i. made_is i ++ new_is i ∷ []) ∙ sym (map_push newcomer (take at row) a)
+    ∙ sym (ap (map newcomer) (ap (λ n. take n row) (one_more at) ∙ take_more row at a here))

@@ -35,14 +35,17 @@ pub record Showing (s : Histories) (told : List Told) (ps : List Known) (at : �
   pub mine : (a : ℕ) → mine_at qs a ≡ mine_at ps a
   pub done : (a : ℕ) → a < at → IsPrefix (told_at told a) (seen_at qs a)
 
-pub none_shown : (s : Histories) (told : List Told) (ps : List Known) → ((a : ℕ) → IsPassAt (slice_get ps a)) → Showing s told ps 0 ps
+pub none_shown : (s : Histories) (told : List Told) (ps : List Known) → ((a : ℕ) → IsPassAt (slice_get ps a))
+    → Showing s told ps 0 ps
 none_shown s told ps are = record {
   on = record { sizes = refl; on = on_refl ps; are = are; offered = λ a t r e. inl e };
   mine = λ a. refl;
   done = λ a lt. absurd (omega (arith, lt));
 }
 
-module _ (s : Histories) (told : List Told) (ps : List Known) (at : ℕ) (qs : List Known) (k w : Known) (m : Showing s told ps at qs) (here : slice_get qs at ≡ Some k) (is : IsPass w) (same_one : w.acceptor ≡ k.acceptor) (seen : IsPrefix k.seen w.seen) (mine : w.mine ≡ k.mine) (heard : IsPrefix (told_at told at) w.seen) where
+module _ (s : Histories) (told : List Told) (ps : List Known) (at : ℕ) (qs : List Known) (k w : Known)
+    (m : Showing s told ps at qs) (here : slice_get qs at ≡ Some k) (is : IsPass w) (same_one : w.acceptor ≡ k.acceptor)
+    (seen : IsPrefix k.seen w.seen) (mine : w.mine ≡ k.mine) (heard : IsPrefix (told_at told at) w.seen) where
   step : Grown s qs (slice_set qs at w)
   step = pass_grown s qs at k w here is same_one seen mine m.on.are
 
@@ -65,33 +68,46 @@ unfolding seen_at
 seen_there ps a k e = ap seen_of e
 
 -- by what the code knows: the pass that tells, the one that is told, and their acceptor
-module _ (s : Histories) (js ps : List Known) (names : List AcceptorName) (at : ℕ) (qs : List Known) (tells : acceptors_of js ≡ names) (ours : acceptors_of ps ≡ names) (lt : at < length names) (m : Showing s (map told_by js) ps at qs) (k : Known) (a : AcceptorName) (k_is : k ≡ slice_index_or qs at k) (a_is : a ≡ slice_index_or names at a) where
+module _ (s : Histories) (js ps : List Known) (names : List AcceptorName) (at : ℕ) (qs : List Known)
+    (tells : acceptors_of js ≡ names) (ours : acceptors_of ps ≡ names) (lt : at < length names)
+    (m : Showing s (map told_by js) ps at qs) (k : Known) (a : AcceptorName) (k_is : k ≡ slice_index_or qs at k)
+    (a_is : a ≡ slice_index_or names at a) where
   within : at < length qs
-  within = let n = ap length ours in let l = long_names (λ (z : Known). z.acceptor) ps in let z = m.on.sizes in omega (arith, n, l, z, lt)
+  within =
+      let n = ap length ours in
+      let l = long_names (λ (z : Known). z.acceptor) ps in let z = m.on.sizes in omega (arith, n, l, z, lt)
 
   there : slice_get qs at ≡ Some k
   there = item_at qs at k within k_is
 
   pub names_pass : k.acceptor ≡ a
-  names_pass = sym (acceptor_there qs at k a there (a_is ∙ ap (λ l. slice_index_or l at a) (sym (m.on.on.acceptors ∙ ours))))
+  names_pass =
+      sym (acceptor_there qs at k a there (a_is ∙ ap (λ l. slice_index_or l at a) (sym (m.on.on.acceptors ∙ ours))))
 
-  pub shown_next : (j w : Known) → slice_get js at ≡ Some j → IsPass w → w.acceptor ≡ a → IsPrefix k.seen w.seen → w.mine ≡ k.mine → IsPrefix j.seen w.seen → Showing s (map told_by js) ps (at + 1) (slice_set qs at w)
+  pub shown_next : (j w : Known) → slice_get js at ≡ Some j → IsPass w → w.acceptor ≡ a → IsPrefix k.seen w.seen
+      → w.mine ≡ k.mine → IsPrefix j.seen w.seen → Showing s (map told_by js) ps (at + 1) (slice_set qs at w)
   shown_next j w told is of seen mine heard =
-      one_shown s (map told_by js) ps at qs k w m there is (of ∙ sym names_pass) seen mine (subst (λ l. IsPrefix l w.seen) (sym (told_is_seen js at ∙ seen_there js at j told)) heard)
+      one_shown s (map told_by js) ps at qs k w m there is (of ∙ sym names_pass) seen mine
+      (subst (λ l. IsPrefix l w.seen) (sym (told_is_seen js at ∙ seen_there js at j told)) heard)
 
-pub all_shown : (s : Histories) (told : List Told) (ps : List Known) (at : ℕ) (qs : List Known) → Showing s told ps at qs → length told ≤ at → (a : ℕ) → IsPrefix (told_at told a) (seen_at qs a)
+pub all_shown : (s : Histories) (told : List Told) (ps : List Known) (at : ℕ) (qs : List Known)
+    → Showing s told ps at qs → length told ≤ at → (a : ℕ) → IsPrefix (told_at told a) (seen_at qs a)
 unfolding told_at
 all_shown s told ps at qs m whole a = elim (cases_lt a at) [
   | inl lt ↦ m.done a lt
   | inr past ↦ subst (λ l. IsPrefix l (seen_at qs a)) (sym (told_past told a (omega (arith, whole, past)))) (seen_at qs a, refl)
 ]
 
-pub shown_meets : (x y : InstanceState) (js : List Known) (at : ℕ) → IsSound x.proposer x.passes → Showing x.proposer.updates (map told_by js) x.passes at y.passes → length js ≤ at → y.proposer ≡ x.proposer → y.learnt ≡ x.learnt → y.view ≡ x.view → Meets (map told_by js) x y
+pub shown_meets : (x y : InstanceState) (js : List Known) (at : ℕ) → IsSound x.proposer x.passes
+    → Showing x.proposer.updates (map told_by js) x.passes at y.passes → length js ≤ at → y.proposer ≡ x.proposer
+    → y.learnt ≡ x.learnt → y.view ≡ x.view → Meets (map told_by js) x y
 shown_meets x y js at sound m whole proposer learnt view = record {
   sound = subst (λ p. IsSound p y.passes) (sym proposer) (sound_grown x.proposer x.passes y.passes sound m.on);
   goes = m.on.on;
   mine = m.mine;
-  told = all_shown x.proposer.updates (map told_by js) x.passes at y.passes m (let l = long_map told_by js in omega (arith, l, whole));
+  told =
+      all_shown x.proposer.updates (map told_by js) x.passes at y.passes m
+      (let l = long_map told_by js in omega (arith, l, whole));
   proposer = proposer;
   learnt = learnt;
   view = view;
@@ -99,17 +115,20 @@ shown_meets x y js at sound m whole proposer learnt view = record {
 
 -- ## All instances
 
-pub record ShowingAll (told : List (List Told)) (xs : List InstanceState) (at : ℕ) (ys : List InstanceState) : Type 0 where
-  pub sizes : length ys ≡ length xs
-  pub after : (i : ℕ) → at ≤ i → slice_get ys i ≡ slice_get xs i
-  pub done :
-      (i : ℕ) (t : List Told) (x y : InstanceState) → i < at → slice_get told i ≡ Some t
-      → slice_get xs i ≡ Some x → slice_get ys i ≡ Some y → Meets t x y
+pub record ShowingAll (told : List (List Told)) (xs : List InstanceState) (at : ℕ) (ys : List InstanceState) : Type 0
+  where
+    pub sizes : length ys ≡ length xs
+    pub after : (i : ℕ) → at ≤ i → slice_get ys i ≡ slice_get xs i
+    pub done :
+        (i : ℕ) (t : List Told) (x y : InstanceState) → i < at → slice_get told i ≡ Some t
+        → slice_get xs i ≡ Some x → slice_get ys i ≡ Some y → Meets t x y
 
 pub none_of_all : (told : List (List Told)) (xs : List InstanceState) → ShowingAll told xs 0 xs
 none_of_all told xs = record { sizes = refl; after = λ i le. refl; done = λ i t x y lt. absurd (omega (arith, lt)) }
 
-module _ (told : List (List Told)) (xs : List InstanceState) (at : ℕ) (ys : List InstanceState) (m : ShowingAll told xs at ys) (n : List Told) (x y : InstanceState) (told_here : slice_get told at ≡ Some n) (here : slice_get ys at ≡ Some x) (meets : Meets n x y) where
+module _ (told : List (List Told)) (xs : List InstanceState) (at : ℕ) (ys : List InstanceState)
+    (m : ShowingAll told xs at ys) (n : List Told) (x y : InstanceState) (told_here : slice_get told at ≡ Some n)
+    (here : slice_get ys at ≡ Some x) (meets : Meets n x y) where
   one_more : ShowingAll told xs (at + 1) (slice_set ys at y)
   one_more = record {
     sizes = length-set ys at y ∙ m.sizes;
@@ -118,8 +137,12 @@ module _ (told : List (List Told)) (xs : List InstanceState) (at : ℕ) (ys : Li
       | inl e ↦
           let one : n ≡ t = some_same (sym told_here ∙ ap (slice_get told) (sym e) ∙ te) in
           let two : x ≡ u = some_same (sym here ∙ m.after at (omega arith) ∙ ap (slice_get xs) (sym e) ∙ ue) in
-          let three : y ≡ v = some_same (sym (get-set_same ys at y (slice_get_within ys at x here)) ∙ ap (slice_get (slice_set ys at y)) (sym e) ∙ ve) in
-          subst (λ (z : List Told × InstanceState × InstanceState). Meets z.0 z.1 z.2) (λ k. (one k, two k, three k)) meets
+          let three : y ≡ v =
+          some_same
+          (sym (get-set_same ys at y (slice_get_within ys at x here)) ∙ ap (slice_get (slice_set ys at y)) (sym e)
+          ∙ ve) in
+          subst (λ (z : List Told × InstanceState × InstanceState). Meets z.0 z.1 z.2) (λ k. (one k, two k, three k))
+          meets
       | inr ne ↦ m.done i t u v (omega (arith, lt, ne)) te ue (sym (get-set_other ys at i y ne) ∙ ve)
     ];
   }
@@ -128,12 +151,26 @@ abbrev pub told_of_all : List Instance → List (List Told)
 told_of_all xs = map (λ x. map told_by x.passes.items) xs
 
 -- by what the code knows: the instances and the row at a place
-module _ (rows : List Row) (froms tos : List Instance) (names : map (λ x. acceptors_of x.passes.items) froms ≡ map (λ r. r.acceptors.items) rows) (their : map (λ x. acceptors_of x.passes.items) tos ≡ map (λ r. r.acceptors.items) rows) (at : ℕ) (from to : List Instance) (same : map state_of from ≡ map state_of froms) (m : ShowingAll (told_of_all froms) (map state_of tos) at (map state_of to)) (lt : at < length rows) (x y : Instance) (r : Row) (x_is : x ≡ slice_index_or from at x) (y_is : y ≡ slice_index_or to at y) (r_is : r ≡ slice_index_or rows at r) where
+module _ (rows : List Row) (froms tos : List Instance)
+    (names : map (λ x. acceptors_of x.passes.items) froms ≡ map (λ r. r.acceptors.items) rows)
+    (their : map (λ x. acceptors_of x.passes.items) tos ≡ map (λ r. r.acceptors.items) rows) (at : ℕ)
+    (from to : List Instance) (same : map state_of from ≡ map state_of froms)
+    (m : ShowingAll (told_of_all froms) (map state_of tos) at (map state_of to)) (lt : at < length rows) (x y : Instance)
+    (r : Row) (x_is : x ≡ slice_index_or from at x) (y_is : y ≡ slice_index_or to at y)
+    (r_is : r ≡ slice_index_or rows at r) where
   from_there : slice_get from at ≡ Some x
-  from_there = item_at from at x (let a = long_map state_of from in let b = ap length same in let c = as_many_rows (map state_of froms) rows (names_known froms rows names) in omega (arith, a, b, c, lt)) x_is
+  from_there =
+      item_at from at x
+      (let a = long_map state_of from in
+      let b = ap length same in
+      let c = as_many_rows (map state_of froms) rows (names_known froms rows names) in omega (arith, a, b, c, lt)) x_is
 
   to_there : slice_get to at ≡ Some y
-  to_there = item_at to at y (let a = long_map state_of to in let b = m.sizes in let c = as_many_rows (map state_of tos) rows (names_known tos rows their) in omega (arith, a, b, c, lt)) y_is
+  to_there =
+      item_at to at y
+      (let a = long_map state_of to in
+      let b = m.sizes in
+      let c = as_many_rows (map state_of tos) rows (names_known tos rows their) in omega (arith, a, b, c, lt)) y_is
 
   was : slice_get (map state_of tos) at ≡ Some (state_of y)
   was = sym (m.after at (omega arith)) ∙ get_map state_of to at y to_there
@@ -142,25 +179,38 @@ module _ (rows : List Row) (froms tos : List Instance) (names : map (λ x. accep
   tells = ap (λ l. slice_get l at) (sym same) ∙ get_map state_of from at x from_there
 
   pub from_names : acceptors_of x.passes.items ≡ r.acceptors.items
-  from_names = acceptors_there (map state_of froms) rows (names_known froms rows names) at (state_of x) r tells (item_at rows at r lt r_is)
+  from_names =
+      acceptors_there (map state_of froms) rows (names_known froms rows names) at (state_of x) r tells
+      (item_at rows at r lt r_is)
 
   pub to_names : acceptors_of y.passes.items ≡ r.acceptors.items
-  to_names = acceptors_there (map state_of tos) rows (names_known tos rows their) at (state_of y) r was (item_at rows at r lt r_is)
+  to_names =
+      acceptors_there (map state_of tos) rows (names_known tos rows their) at (state_of y) r was
+      (item_at rows at r lt r_is)
 
-  pub to_sound : ((i : ℕ) (z : InstanceState) → slice_get (map state_of tos) i ≡ Some z → IsSound z.proposer z.passes) → IsSound y.proposer y.passes.items
+  pub to_sound : ((i : ℕ) (z : InstanceState) → slice_get (map state_of tos) i ≡ Some z → IsSound z.proposer z.passes)
+      → IsSound y.proposer y.passes.items
   to_sound each = each at (state_of y) was
 
   told_there : slice_get (told_of_all froms) at ≡ Some (map told_by x.passes.items)
-  told_there = ap (λ l. slice_get l at) (tells_of froms) ∙ get_map (λ (z : InstanceState). map told_by z.passes) (map state_of froms) at (state_of x) tells
+  told_there =
+      ap (λ l. slice_get l at) (tells_of froms)
+      ∙ get_map (λ (z : InstanceState). map told_by z.passes) (map state_of froms) at (state_of x) tells
 
   pub from_after : (z : Instance) → state_of z ≡ state_of x → map state_of (slice_set from at z) ≡ map state_of froms
   from_after z e = map-set_other state_of from at x z from_there e ∙ same
 
-  pub next_shown : (w : Instance) → Meets (map told_by x.passes.items) (state_of y) (state_of w) → ShowingAll (told_of_all froms) (map state_of tos) (at + 1) (map state_of (slice_set to at w))
-  next_shown w meets = subst (ShowingAll (told_of_all froms) (map state_of tos) (at + 1)) (sym (map_set state_of to at w))
-      (one_more (told_of_all froms) (map state_of tos) at (map state_of to) m (map told_by x.passes.items) (state_of y) (state_of w) told_there (get_map state_of to at y to_there) meets)
+  pub next_shown : (w : Instance) → Meets (map told_by x.passes.items) (state_of y) (state_of w)
+      → ShowingAll (told_of_all froms) (map state_of tos) (at + 1) (map state_of (slice_set to at w))
+  next_shown w meets =
+      subst (ShowingAll (told_of_all froms) (map state_of tos) (at + 1)) (sym (map_set state_of to at w))
+      (one_more (told_of_all froms) (map state_of tos) at (map state_of to) m (map told_by x.passes.items) (state_of y)
+      (state_of w) told_there (get_map state_of to at y to_there) meets)
 
-pub all_instances : (rows : List Row) (froms tos : List Instance) (at : ℕ) (to : List Instance) → map (λ x. acceptors_of x.passes.items) froms ≡ map (λ r. r.acceptors.items) rows → at ≡ length rows → ShowingAll (told_of_all froms) (map state_of tos) at (map state_of to) → AllMeet (told_of_all froms) (map state_of tos) (map state_of to)
+pub all_instances : (rows : List Row) (froms tos : List Instance) (at : ℕ) (to : List Instance)
+    → map (λ x. acceptors_of x.passes.items) froms ≡ map (λ r. r.acceptors.items) rows → at ≡ length rows
+    → ShowingAll (told_of_all froms) (map state_of tos) at (map state_of to)
+    → AllMeet (told_of_all froms) (map state_of tos) (map state_of to)
 all_instances rows froms tos at to names end m = record {
   sizes = m.sizes;
   each = λ i t x y te. m.done i t x y (
@@ -173,7 +223,10 @@ all_instances rows froms tos at to names end m = record {
 
 -- ## Members
 
-module _ (group : GroupState) (f m : Inside) (from to : MemberState) (from_is : stands_for f ≡ from) (to_is : stands_for m ≡ to) (is : IsMember (stands_for m)) (of_from : IsOf group from) (of_to : IsOf group to) (ys : List Instance) (all : AllMeet (told_of_all f.instances.items) (map state_of m.instances.items) (map state_of ys)) where
+module _ (group : GroupState) (f m : Inside) (from to : MemberState) (from_is : stands_for f ≡ from)
+    (to_is : stands_for m ≡ to) (is : IsMember (stands_for m)) (of_from : IsOf group from) (of_to : IsOf group to)
+    (ys : List Instance)
+    (all : AllMeet (told_of_all f.instances.items) (map state_of m.instances.items) (map state_of ys)) where
   abbrev told : NoteState
   told = record { votes = (stands_for m).votes; giver = 0; told = told_of_all f.instances.items; view = empty }
 
@@ -181,7 +234,8 @@ module _ (group : GroupState) (f m : Inside) (from to : MemberState) (from_is : 
   as_long =
       let a = long_map (λ (z : InstanceState). acceptors_of z.passes) (stands_for m).instances in
       let b = long_map (λ (z : InstanceState). acceptors_of z.passes) (stands_for f).instances in
-      let c = ap length (ap acceptors_in to_is ∙ of_to.acceptors ∙ sym of_from.acceptors ∙ sym (ap acceptors_in from_is)) in
+      let c =
+      ap length (ap acceptors_in to_is ∙ of_to.acceptors ∙ sym of_from.acceptors ∙ sym (ap acceptors_in from_is)) in
       let d = long_map state_of f.instances.items in
       let e = long_map (λ (x : Instance). map told_by x.passes.items) f.instances.items in
       omega (arith, a, b, c, d, e)
@@ -200,7 +254,8 @@ module _ (group : GroupState) (f m : Inside) (from to : MemberState) (from_is : 
     kept = same_view (stands_for m) is told (inl refl) refl (map state_of ys) all as_long;
   })
 
-  told_seen : (i a : ℕ) → told_at (told_of (slice_get (told_of_all f.instances.items) i)) a ≡ seen_at (passes_in from i) a
+  told_seen : (i a : ℕ)
+      → told_at (told_of (slice_get (told_of_all f.instances.items) i)) a ≡ seen_at (passes_in from i) a
   told_seen i a = ap (λ l. told_at (told_of (slice_get l i)) a) (tells_of f.instances.items)
       ∙ ap (λ l. told_at l a) (told_of_instance (map state_of f.instances.items) i)
       ∙ told_is_seen (passes_in (stands_for f) i) a
@@ -209,5 +264,8 @@ module _ (group : GroupState) (f m : Inside) (from to : MemberState) (from_is : 
   pub shown_seen : HasSeen from (record (stands_for m) { instances = map state_of ys })
   shown_seen = record {
     votes = ap (λ (z : MemberState). z.votes) to_is ∙ of_to.votes ∙ sym of_from.votes;
-    sees = λ i a. subst (λ l. IsPrefix l (seen_at (passes_in after i) a)) (told_seen i a) (mid_told (stands_for m) is told (inl refl) refl (map state_of ys) all as_long i a);
+    sees =
+        λ i a.
+        subst (λ l. IsPrefix l (seen_at (passes_in after i) a)) (told_seen i a)
+        (mid_told (stands_for m) is told (inl refl) refl (map state_of ys) all as_long i a);
   }

@@ -26,14 +26,16 @@ get-set_same [] i x lt = absurd (omega arith)
 get-set_same (y ∷ ys) zero x lt = refl
 get-set_same (y ∷ ys) (suc i) x lt = get-set_same ys i x (omega arith)
 
-pub get-set_other : {A : Type 0} (xs : List A) (i j : ℕ) (x : A) → j ≢ i → slice_get (slice_set xs i x) j ≡ slice_get xs j
+pub get-set_other : {A : Type 0} (xs : List A) (i j : ℕ) (x : A) → j ≢ i
+    → slice_get (slice_set xs i x) j ≡ slice_get xs j
 get-set_other [] i j x ne = refl
 get-set_other (y ∷ ys) zero zero x ne = absurd (ne refl)
 get-set_other (y ∷ ys) zero (suc j) x ne = refl
 get-set_other (y ∷ ys) (suc i) zero x ne = refl
 get-set_other (y ∷ ys) (suc i) (suc j) x ne = get-set_other ys i j x (λ e. ne (ap suc e))
 
-pub map-set_other : {A B : Type 0} (f : A → B) (xs : List A) (i : ℕ) (k w : A) → slice_get xs i ≡ Some k → f w ≡ f k → map f (slice_set xs i w) ≡ map f xs
+pub map-set_other : {A B : Type 0} (f : A → B) (xs : List A) (i : ℕ) (k w : A) → slice_get xs i ≡ Some k → f w ≡ f k
+    → map f (slice_set xs i w) ≡ map f xs
 map-set_other f [] i k w at e = refl
 map-set_other f (x ∷ xs) zero k w at e = let same : x ≡ k = cc in ap (λ y. y ∷ map f xs) (e ∙ ap f (sym same))
 map-set_other f (x ∷ xs) (suc i) k w at e = ap (λ ys. f x ∷ ys) (map-set_other f xs i k w at e)
@@ -53,19 +55,24 @@ pub record Grown (s : Histories) (ps qs : List Known) : Type 0 where
   pub sizes : length qs ≡ length ps
   pub on : GoOn ps qs
   pub are : (a : ℕ) → IsPassAt (slice_get qs a)
-  pub offered : (a : ℕ) (t : Histories) (r : Reply) → HasEntry (mine_at qs a) t r → HasEntry (mine_at ps a) t r ⊎ (s ≡ t)
+  pub offered : (a : ℕ) (t : Histories) (r : Reply) → HasEntry (mine_at qs a) t r
+      → HasEntry (mine_at ps a) t r ⊎ (s ≡ t)
 
-module _ (s : Histories) (ps : List Known) (a : ℕ) (k w : Known) (at : slice_get ps a ≡ Some k) (is : IsPass w) (same_one : w.acceptor ≡ k.acceptor) where
+module _ (s : Histories) (ps : List Known) (a : ℕ) (k w : Known) (at : slice_get ps a ≡ Some k) (is : IsPass w)
+    (same_one : w.acceptor ≡ k.acceptor) where
   -- a fact of one pass and what it becomes
-  each_pass : (R : Option Known → Option Known → Type 0) → R (Some k) (Some w) → (b : ℕ) → R (slice_get ps b) (slice_get ps b) → R (slice_get ps b) (slice_get (slice_set ps a w) b)
+  each_pass : (R : Option Known → Option Known → Type 0) → R (Some k) (Some w) → (b : ℕ)
+      → R (slice_get ps b) (slice_get ps b) → R (slice_get ps b) (slice_get (slice_set ps a w) b)
   each_pass R here b same = elim (cases_eq b a) [
     | inl e ↦ subst (λ c. R (slice_get ps c) (slice_get (slice_set ps a w) c)) (sym e)
-        (subst (λ o. R o (slice_get (slice_set ps a w) a)) (sym at) (subst (R (Some k)) (sym (get-set_same ps a w (slice_get_within ps a k at))) here))
+        (subst (λ o. R o (slice_get (slice_set ps a w) a)) (sym at)
+        (subst (R (Some k)) (sym (get-set_same ps a w (slice_get_within ps a k at))) here))
     | inr ne ↦ subst (R (slice_get ps b)) (sym (get-set_other ps a b w ne)) same
   ]
 
   pub grown : ((b : ℕ) → IsPassAt (slice_get ps b)) → IsPrefix k.seen w.seen → IsPrefix k.mine w.mine
-      → ((t : Histories) (r : Reply) → HasEntry w.mine t r → HasEntry k.mine t r ⊎ (s ≡ t)) → Grown s ps (slice_set ps a w)
+      → ((t : Histories) (r : Reply) → HasEntry w.mine t r → HasEntry k.mine t r ⊎ (s ≡ t))
+      → Grown s ps (slice_set ps a w)
   unfolding seen_at mine_at
   grown are seen mine offered = record {
     sizes = length-set ps a w;
@@ -75,14 +82,19 @@ module _ (s : Histories) (ps : List Known) (a : ℕ) (k w : Known) (at : slice_g
       mine = λ b. each_pass (λ o q. IsPrefix (mine_of o) (mine_of q)) mine b (prefix_self (mine_at ps b));
     };
     are = λ b. each_pass (λ o q. IsPassAt q) is b (are b);
-    offered = λ b t r. each_pass (λ o q. HasEntry (mine_of q) t r → HasEntry (mine_of o) t r ⊎ (s ≡ t)) (offered t r) b (λ e. inl e);
+    offered =
+        λ b t r.
+        each_pass (λ o q. HasEntry (mine_of q) t r → HasEntry (mine_of o) t r ⊎ (s ≡ t)) (offered t r) b (λ e. inl e);
   }
 
   pub grown_same : ((b : ℕ) → IsPassAt (slice_get ps b)) → IsSamePass k w → Grown s ps (slice_set ps a w)
-  grown_same are same = grown are (subst (IsPrefix k.seen) (sym same.0) (prefix_self k.seen)) (subst (IsPrefix k.mine) (sym same.1) (prefix_self k.mine))
+  grown_same are same =
+      grown are (subst (IsPrefix k.seen) (sym same.0) (prefix_self k.seen))
+      (subst (IsPrefix k.mine) (sym same.1) (prefix_self k.mine))
       (λ t r e. inl (subst (λ l. HasEntry l t r) same.1 e))
 
-  extended : (n : ℕ) (r q : Reply) (t : Histories) → HasEntry (k.mine ++ entry n s r ∷ []) t q → HasEntry k.mine t q ⊎ (s ≡ t)
+  extended : (n : ℕ) (r q : Reply) (t : Histories) → HasEntry (k.mine ++ entry n s r ∷ []) t q
+      → HasEntry k.mine t q ⊎ (s ≡ t)
   extended n r q t e = elim (has-cases k.mine (entry n s r ∷ []) t q e) [
     | inl old ↦ inl old
     | inr (inl new) ↦ inr new.0
@@ -90,7 +102,9 @@ module _ (s : Histories) (ps : List Known) (a : ℕ) (k w : Known) (at : slice_g
   ]
 
   pub grown_more : (r : Reply) → ((b : ℕ) → IsPassAt (slice_get ps b)) → Extends s r k w → Grown s ps (slice_set ps a w)
-  grown_more r are x = grown are (x.1.0 ++ entry x.0 s r ∷ [], sym (append_assoc k.seen x.1.0 (entry x.0 s r ∷ [])) ∙ sym x.1.3) (entry x.0 s r ∷ [], sym x.1.4)
+  grown_more r are x =
+      grown are (x.1.0 ++ entry x.0 s r ∷ [], sym (append_assoc k.seen x.1.0 (entry x.0 s r ∷ [])) ∙ sym x.1.3)
+      (entry x.0 s r ∷ [], sym x.1.4)
       (λ t q e. extended x.0 r q t (subst (λ l. HasEntry l t q) x.1.4 e))
 
   -- the entry stands there, after what was seen
@@ -103,6 +117,7 @@ module _ (s : Histories) (ps : List Known) (a : ℕ) (k w : Known) (at : slice_g
   unfolding seen_at mine_at
   beyond_new r x agreed = (
     x.1.0 ++ entry x.0 s r ∷ [],
-    ap seen_of (get-set_same ps a w (slice_get_within ps a k at)) ∙ x.1.3 ∙ append_assoc k.seen x.1.0 (entry x.0 s r ∷ []) ∙ ap (λ o. seen_of o ++ (x.1.0 ++ entry x.0 s r ∷ [])) (sym at),
+    ap seen_of (get-set_same ps a w (slice_get_within ps a k at)) ∙ x.1.3
+        ∙ append_assoc k.seen x.1.0 (entry x.0 s r ∷ []) ∙ ap (λ o. seen_of o ++ (x.1.0 ++ entry x.0 s r ∷ [])) (sym at),
     has-right x.1.0 (entry x.0 s r ∷ []) s Yes (inl (refl, agreed)),
   )

@@ -66,34 +66,41 @@ grows : (p : ProposerState) (xs : List Answered) → p.number ≤ (after_answers
 grows p [] = omega arith
 grows p (x ∷ xs) = go (after_one p x) (one_turns p x) (grows (after_one p x) xs)
   where
-    go : (q : ProposerState) → Turns p q → q.number ≤ (after_answers q xs).number → p.number ≤ (after_answers q xs).number
+    go : (q : ProposerState) → Turns p q → q.number ≤ (after_answers q xs).number
+        → p.number ≤ (after_answers q xs).number
     go q (stays n t) le = omega (arith, n, le)
     go q (ends n e) le = omega (arith, n, le)
     go q (opens lt) le = omega (arith, lt, le)
 
 -- as long as the same ballot is open
-counted_stay : (p : ProposerState) (xs : List Answered) → (after_answers p xs).is_asking ≡ true → (after_answers p xs).number ≡ p.number → IsPrefix p.tally (after_answers p xs).tally
+counted_stay : (p : ProposerState) (xs : List Answered) → (after_answers p xs).is_asking ≡ true
+    → (after_answers p xs).number ≡ p.number → IsPrefix p.tally (after_answers p xs).tally
 counted_stay p [] asks same = prefix_self p.tally
 counted_stay p (x ∷ xs) asks same = go (after_one p x) (one_turns p x) asks same (counted_stay (after_one p x) xs)
   where
-    go : (q : ProposerState) → Turns p q → (after_answers q xs).is_asking ≡ true → (after_answers q xs).number ≡ p.number
-        → ((after_answers q xs).is_asking ≡ true → (after_answers q xs).number ≡ q.number → IsPrefix q.tally (after_answers q xs).tally)
-        → IsPrefix p.tally (after_answers q xs).tally
+    go : (q : ProposerState) → Turns p q → (after_answers q xs).is_asking ≡ true
+        → (after_answers q xs).number ≡ p.number
+        → ((after_answers q xs).is_asking ≡ true → (after_answers q xs).number ≡ q.number
+        → IsPrefix q.tally (after_answers q xs).tally) → IsPrefix p.tally (after_answers q xs).tally
     go q (stays n t) last is rest = prefix_trans p.tally q.tally (after_answers q xs).tally t (rest last (is ∙ sym n))
-    go q (ends n idle) last is rest = absurd (true≢false (sym last ∙ ap (λ (z : ProposerState). z.is_asking) (rests q xs idle) ∙ idle))
+    go q (ends n idle) last is rest =
+        absurd (true≢false (sym last ∙ ap (λ (z : ProposerState). z.is_asking) (rests q xs idle) ∙ idle))
     go q (opens lt) last is rest = absurd (omega (arith, grows q xs, lt, is))
 
 -- where a ballot is open, what had counted in it still counts
-pub still_counts : (p q : ProposerState) (ps qs : List Known) (missed : List Answered) → Hears p q ps qs missed → (q.number ≡ p.number → q.updates ≡ p.updates) → q.is_asking ≡ true → StillCounts p q
+pub still_counts : (p q : ProposerState) (ps qs : List Known) (missed : List Answered) → Hears p q ps qs missed
+    → (q.number ≡ p.number → q.updates ≡ p.updates) → q.is_asking ≡ true → StillCounts p q
 still_counts p q ps qs missed h same asks = record {
   offers = same;
   counted = λ e. subst (λ (z : ProposerState). IsPrefix p.tally z.tally) (sym h.leads)
-      (counted_stay p h.heard (ap (λ (z : ProposerState). z.is_asking) (sym h.leads) ∙ asks) (ap (λ (z : ProposerState). z.number) (sym h.leads) ∙ e));
+      (counted_stay p h.heard (ap (λ (z : ProposerState). z.is_asking) (sym h.leads) ∙ asks)
+      (ap (λ (z : ProposerState). z.number) (sym h.leads) ∙ e));
 }
 
 -- ## One offer after another
 
-answers_then : (p : ProposerState) (xs ys : List Answered) → after_answers (after_answers p xs) ys ≡ after_answers p (xs ++ ys)
+answers_then : (p : ProposerState) (xs ys : List Answered)
+    → after_answers (after_answers p xs) ys ≡ after_answers p (xs ++ ys)
 answers_then p [] ys = refl
 answers_then p (x ∷ xs) ys = answers_then (after_one p x) xs ys
 
@@ -103,23 +110,30 @@ kept_then false e es fs = refl
 
 entries_then : (a : ℕ) (xs ys : List Answered) → entries_at a (xs ++ ys) ≡ entries_at a xs ++ entries_at a ys
 entries_then a [] ys = refl
-entries_then a (x ∷ xs) ys = ap (kept_if (x.acceptor == a) x.entry) (entries_then a xs ys) ∙ kept_then (x.acceptor == a) x.entry (entries_at a xs) (entries_at a ys)
+entries_then a (x ∷ xs) ys =
+    ap (kept_if (x.acceptor == a) x.entry) (entries_then a xs ys)
+    ∙ kept_then (x.acceptor == a) x.entry (entries_at a xs) (entries_at a ys)
 
 pub hears_nothing : (p : ProposerState) (ps : List Known) → Hears p p ps ps []
 hears_nothing p ps = record { heard = []; recorded = λ a. sym (append-nil (mine_at ps a)); leads = refl }
 
-pub hears_then : (p q r : ProposerState) (ps qs rs : List Known) (missed : List Answered) → Hears p q ps qs [] → Hears q r qs rs missed → Hears p r ps rs missed
+pub hears_then : (p q r : ProposerState) (ps qs rs : List Known) (missed : List Answered) → Hears p q ps qs []
+    → Hears q r qs rs missed → Hears p r ps rs missed
 hears_then p q r ps qs rs missed f g = record {
   heard = f.heard ++ g.heard;
   recorded = λ a.
       g.recorded a
       ∙ ap (λ l. l ++ entries_at a (g.heard ++ missed)) (f.recorded a)
       ∙ append_assoc (mine_at ps a) (entries_at a (f.heard ++ [])) (entries_at a (g.heard ++ missed))
-      ∙ ap (λ l. mine_at ps a ++ l) (sym (entries_then a (f.heard ++ []) (g.heard ++ missed)) ∙ ap (entries_at a) (ap (λ l. l ++ (g.heard ++ missed)) (append-nil f.heard) ∙ sym (append_assoc f.heard g.heard missed)));
+      ∙ ap (λ l. mine_at ps a ++ l)
+      (sym (entries_then a (f.heard ++ []) (g.heard ++ missed))
+      ∙ ap (entries_at a)
+      (ap (λ l. l ++ (g.heard ++ missed)) (append-nil f.heard) ∙ sym (append_assoc f.heard g.heard missed)));
   leads = g.leads ∙ ap (λ z. after_answers z g.heard) f.leads ∙ answers_then p f.heard g.heard;
 }
 
-pub misses_then : (p q r : ProposerState) (ps qs rs : List Known) → Hears p q ps qs [] → HearsMost q r qs rs → HearsMost p r ps rs
+pub misses_then : (p q r : ProposerState) (ps qs rs : List Known) → Hears p q ps qs [] → HearsMost q r qs rs
+    → HearsMost p r ps rs
 misses_then p q r ps qs rs f g = (g.0, g.1, hears_then p q r ps qs rs g.0 f g.2)
 
 -- ## What one offer leaves
@@ -148,7 +162,8 @@ module _ (ps : List Known) (a : ℕ) (k w : Known) (at : slice_get ps a ≡ Some
         go (inl same) = absurd (ne (sym (eqb-true a b same)))
         go (inr other) = ap (λ v. kept_if v e []) other
 
-    pub one_recorded : w.mine ≡ k.mine ++ e ∷ [] → (b : ℕ) → mine_at (slice_set ps a w) b ≡ mine_at ps b ++ entries_at b one
+    pub one_recorded : w.mine ≡ k.mine ++ e ∷ [] → (b : ℕ)
+        → mine_at (slice_set ps a w) b ≡ mine_at ps b ++ entries_at b one
     one_recorded more b = elim (cases_eq b a) [
       | inl same ↦ subst (λ c. mine_at (slice_set ps a w) c ≡ mine_at ps c ++ entries_at c one) (sym same) (mine_after ∙ more ∙ ap (λ l. l ++ e ∷ []) (sym mine_before) ∙ ap (λ l. mine_at ps a ++ l) (sym here))
       | inr ne ↦ mine_beside b ne ∙ sym (append-nil (mine_at ps b)) ∙ ap (λ l. mine_at ps b ++ l) (sym (none_beside b ne))

@@ -45,12 +45,19 @@ never None P f h = h
 never (Some x) P f h = f x h
 
 -- rounds are never refused so
-rounds_never : (rounds : ℕ) (d : ObjectOp) (old new : MemberState) (e : RunnerError) → ((n m : ℕ) → IsRoundsRefusal rounds n m e → ⊥) → InInstance old 0 (λ x. IsRefusedRounds rounds (with_update d x) 0 new e) → ⊥
-rounds_never rounds d old new e f h = never (slice_get old.instances 0) (λ (x : InstanceState). IsRefusedRounds rounds (with_update d x) 0 new e) (λ x r. f (with_update d x).proposer.number (number_in new 0) r.refusal) h
+rounds_never : (rounds : ℕ) (d : ObjectOp) (old new : MemberState) (e : RunnerError)
+    → ((n m : ℕ) → IsRoundsRefusal rounds n m e → ⊥)
+    → InInstance old 0 (λ x. IsRefusedRounds rounds (with_update d x) 0 new e) → ⊥
+rounds_never rounds d old new e f h =
+    never (slice_get old.instances 0) (λ (x : InstanceState). IsRefusedRounds rounds (with_update d x) 0 new e)
+    (λ x r. f (with_update d x).proposer.number (number_in new 0) r.refusal) h
 
 -- an update's refusal is one that a job may meet, and a reason why the jobs end
-pub update_error : (rounds : ℕ) (d : ObjectOp) (old new : MemberState) (e : RunnerError) → IsRefusedUpdate rounds d old new e → IsJobError e
-update_error rounds d old new BadConfig (inl h) = never (slice_get old.instances 0) (λ (x : InstanceState). IsSubmissionRefusal x.proposer BadConfig) (λ x. submission x.proposer BadConfig) h.0
+pub update_error : (rounds : ℕ) (d : ObjectOp) (old new : MemberState) (e : RunnerError)
+    → IsRefusedUpdate rounds d old new e → IsJobError e
+update_error rounds d old new BadConfig (inl h) =
+    never (slice_get old.instances 0) (λ (x : InstanceState). IsSubmissionRefusal x.proposer BadConfig)
+    (λ x. submission x.proposer BadConfig) h.0
 update_error rounds d old new BadConfig (inr h) = rounds_never rounds d old new BadConfig (λ n m r. r) h.1
 update_error rounds d old new NoSuchCommit h = tt
 update_error rounds d old new AlreadyProposed h = tt
@@ -61,14 +68,22 @@ update_error rounds d old new NoMajority h = tt
 update_error rounds d old new TryAgain h = tt
 update_error rounds d old new Memory h = tt
 
-pub update_stops : (rounds : ℕ) (d : ObjectOp) (old new : MemberState) (e : RunnerError) → IsRefusedUpdate rounds d old new e → StopsUpdate new (stop_by e)
+pub update_stops : (rounds : ℕ) (d : ObjectOp) (old new : MemberState) (e : RunnerError)
+    → IsRefusedUpdate rounds d old new e → StopsUpdate new (stop_by e)
 update_stops rounds d old new BadConfig h = tt
-update_stops rounds d old new NoSuchCommit (inl h) = never (slice_get old.instances 0) (λ (x : InstanceState). IsSubmissionRefusal x.proposer NoSuchCommit) (λ x. submission x.proposer NoSuchCommit) h.0
+update_stops rounds d old new NoSuchCommit (inl h) =
+    never (slice_get old.instances 0) (λ (x : InstanceState). IsSubmissionRefusal x.proposer NoSuchCommit)
+    (λ x. submission x.proposer NoSuchCommit) h.0
 update_stops rounds d old new NoSuchCommit (inr h) = rounds_never rounds d old new NoSuchCommit (λ n m r. r) h.1
-update_stops rounds d old new AlreadyProposed (inl h) = never (slice_get old.instances 0) (λ (x : InstanceState). IsSubmissionRefusal x.proposer AlreadyProposed) (λ x. submission x.proposer AlreadyProposed) h.0
+update_stops rounds d old new AlreadyProposed (inl h) =
+    never (slice_get old.instances 0) (λ (x : InstanceState). IsSubmissionRefusal x.proposer AlreadyProposed)
+    (λ x. submission x.proposer AlreadyProposed) h.0
 update_stops rounds d old new AlreadyProposed (inr h) = rounds_never rounds d old new AlreadyProposed (λ n m r. r) h.1
 update_stops rounds d old new (Clash id) h = tt
-update_stops rounds d old new Full (inl h) = subst HasSubmittedCap (sym h.1) (some_and (slice_get old.instances 0) (λ (x : InstanceState). IsSubmissionRefusal x.proposer Full) (λ (x : InstanceState). x.proposer.cap ≤ submitted x.proposer) (λ x. submission x.proposer Full) h.0)
+update_stops rounds d old new Full (inl h) =
+    subst HasSubmittedCap (sym h.1)
+    (some_and (slice_get old.instances 0) (λ (x : InstanceState). IsSubmissionRefusal x.proposer Full)
+    (λ (x : InstanceState). x.proposer.cap ≤ submitted x.proposer) (λ x. submission x.proposer Full) h.0)
 update_stops rounds d old new Full (inr h) = absurd (rounds_never rounds d old new Full (λ n m r. r) h.1)
 update_stops rounds d old new BallotsSpent h = tt
 update_stops rounds d old new NoMajority h = tt
@@ -76,7 +91,8 @@ update_stops rounds d old new TryAgain h = tt
 update_stops rounds d old new Memory h = tt
 
 -- the same of a decision
-pub decide_error : (rounds k value : ℕ) (old new : MemberState) (e : RunnerError) → IsRefusedDecision rounds k value old new e → IsJobError e
+pub decide_error : (rounds k value : ℕ) (old new : MemberState) (e : RunnerError)
+    → IsRefusedDecision rounds k value old new e → IsJobError e
 decide_error rounds k value old new BadConfig h = h
 decide_error rounds k value old new NoSuchCommit h = tt
 decide_error rounds k value old new AlreadyProposed h = tt
@@ -87,10 +103,13 @@ decide_error rounds k value old new NoMajority h = tt
 decide_error rounds k value old new TryAgain h = tt
 decide_error rounds k value old new Memory h = tt
 
-pub decide_stops : (rounds k value : ℕ) (old new : MemberState) (e : RunnerError) → IsRefusedDecision rounds k value old new e → StopsDecide new k value (stop_by e)
+pub decide_stops : (rounds k value : ℕ) (old new : MemberState) (e : RunnerError)
+    → IsRefusedDecision rounds k value old new e → StopsDecide new k value (stop_by e)
 decide_stops rounds k value old new BadConfig h = tt
-decide_stops rounds k value old new NoSuchCommit h = subst (λ m. StopsDecide m k value (stop_by NoSuchCommit)) (sym h.1) h.0
-decide_stops rounds k value old new AlreadyProposed h = subst (λ m. StopsDecide m k value (stop_by AlreadyProposed)) (sym h.2) (h.0, h.1)
+decide_stops rounds k value old new NoSuchCommit h =
+    subst (λ m. StopsDecide m k value (stop_by NoSuchCommit)) (sym h.1) h.0
+decide_stops rounds k value old new AlreadyProposed h =
+    subst (λ m. StopsDecide m k value (stop_by AlreadyProposed)) (sym h.2) (h.0, h.1)
 decide_stops rounds k value old new (Clash id) h = tt
 decide_stops rounds k value old new Full h = absurd h
 decide_stops rounds k value old new BallotsSpent h = tt

@@ -26,7 +26,8 @@ use Rattle.la_runner.proofs.Keeping.{goes_on_then}
 use Rattle.la_runner.proofs.Proposing.{none_some}
 use Rattle.la_runner.proofs.Standing.{stay}
 
-pub record UnderWay (first : MemberState) (objects : List (ℕ × Kind)) (all : List Job) (entries : List Entry) (now : MemberState) (shelf : ShelfState) (rest : List Job) : Type 0 where
+pub record UnderWay (first : MemberState) (objects : List (ℕ × Kind)) (all : List Job) (entries : List Entry)
+    (now : MemberState) (shelf : ShelfState) (rest : List Job) : Type 0 where
   pub done : HasDone first objects all entries now
   pub goes : GoesOn first now
   pub submitted : length (submitted_in now 0) ≡ length (submitted_in first 0) + updates_of (take (length entries) all)
@@ -35,7 +36,8 @@ pub record UnderWay (first : MemberState) (objects : List (ℕ × Kind)) (all : 
   pub left : rest ≡ drop (length entries) all
 
 -- an item of a longer list is one of the list, or the last
-snoc_cases : {X : Type 0} (xs : List X) (y : X) (k : ℕ) (x : X) → slice_get (xs ++ y ∷ []) k ≡ Some x → (slice_get xs k ≡ Some x) ⊎ ((k ≡ length xs) × (x ≡ y))
+snoc_cases : {X : Type 0} (xs : List X) (y : X) (k : ℕ) (x : X) → slice_get (xs ++ y ∷ []) k ≡ Some x
+    → (slice_get xs k ≡ Some x) ⊎ ((k ≡ length xs) × (x ≡ y))
 snoc_cases [] y zero x e = inr (refl, cc)
 snoc_cases [] y (suc k) x e = absurd (none_some e)
 snoc_cases (z ∷ xs) y zero x e = inl e
@@ -54,9 +56,13 @@ next_left [] (suc n) x rest e = absurd (cc e)
 next_left (y ∷ xs) zero x rest e = cc e
 next_left (y ∷ xs) (suc n) x rest e = next_left xs n x rest e
 
-one_more : (xs : List Job) (n : ℕ) (j : Job) → slice_get xs n ≡ Some j → (b : Bool) → is_update j ≡ b → updates_of (take (n + 1) xs) ≡ updates_of (take n xs) + cond b 1 0
-one_more xs n j e true is = count_by_more_yes is_update xs n j (slice_get_within xs n j e) (ap is_update (get_or_from_slice_get xs n j j e) ∙ is)
-one_more xs n j e false is = count_by_more_no is_update xs n j (slice_get_within xs n j e) (ap is_update (get_or_from_slice_get xs n j j e) ∙ is) ∙ omega arith
+one_more : (xs : List Job) (n : ℕ) (j : Job) → slice_get xs n ≡ Some j → (b : Bool) → is_update j ≡ b
+    → updates_of (take (n + 1) xs) ≡ updates_of (take n xs) + cond b 1 0
+one_more xs n j e true is =
+    count_by_more_yes is_update xs n j (slice_get_within xs n j e) (ap is_update (get_or_from_slice_get xs n j j e) ∙ is)
+one_more xs n j e false is =
+    count_by_more_no is_update xs n j (slice_get_within xs n j e) (ap is_update (get_or_from_slice_get xs n j j e) ∙ is)
+    ∙ omega arith
 
 length_snoc : {X : Type 0} (xs : List X) (y : X) → length (xs ++ y ∷ []) ≡ length xs + 1
 length_snoc [] y = refl
@@ -68,8 +74,13 @@ known_stays old new g s (inl e) = inl e
 known_stays old new g s (inr c) = inr ((stay old new g 0 s).0 c)
 
 -- an answer stays one
-pub answer_stays : (old new : MemberState) → GoesOn old new → (n : ℕ) (objects : List (ℕ × Kind)) (j : Job) (e : Entry) → Answers old n objects j e → Answers new n objects j e
-answer_stays old new g n objects (Update object op) (Learned l) h = ((stay old new g 0 l.updates).1 h.0, subst (λ r. ContainsUpdate l.updates (update_of r n (op_on object op))) (sym g.replica) h.1)
+pub answer_stays : (old new : MemberState) → GoesOn old new → (n : ℕ) (objects : List (ℕ × Kind)) (j : Job) (e : Entry)
+    → Answers old n objects j e → Answers new n objects j e
+answer_stays old new g n objects (Update object op) (Learned l) h = (
+  (stay old new g 0 l.updates).1 h.0,
+  subst (λ r. ContainsUpdate l.updates (update_of r n (op_on object op)))
+      (sym g.replica) h.1,
+)
 answer_stays old new g n objects (Update object op) (Decided s t o) h = h
 answer_stays old new g n objects (Update object op) (Answer seen answer) h = h
 answer_stays old new g n objects (Decide k value) (Learned l) h = h
@@ -89,9 +100,13 @@ pub of_goes : (group : GroupState) (old new : MemberState) → GoesOn old new �
 of_goes group old new g of = record { votes = g.votes ∙ of.votes; acceptors = g.acceptors ∙ of.acceptors }
 
 -- what was done stays done while the member goes on
-pub keeps_done : (first : MemberState) (objects : List (ℕ × Kind)) (all : List Job) (es : List Entry) (now next : MemberState) → HasDone first objects all es now → GoesOn now next → HasDone first objects all es next
+pub keeps_done : (first : MemberState) (objects : List (ℕ × Kind)) (all : List Job) (es : List Entry)
+    (now next : MemberState) → HasDone first objects all es now → GoesOn now next → HasDone first objects all es next
 keeps_done first objects all es now next h g = record {
-  answers = λ k e at. let a = h.answers k e at in (a.0, a.1, answer_stays now next g (next_number first (take k all)) objects a.0 e a.2);
+  answers =
+      λ k e at.
+      let a = h.answers k e at in
+      (a.0, a.1, answer_stays now next g (next_number first (take k all)) objects a.0 e a.2);
   growing = h.growing;
   within = λ k e s at is u has. g.grows u (h.within k e s at is u has);
 }
@@ -103,15 +118,19 @@ Names e new = IfSome (set_of e) (λ s. s ≡ view new)
 named : (e : Entry) (new : MemberState) (t : Histories) → Names e new → set_of e ≡ Some t → t ≡ view new
 named e new t names is = subst (λ (o : Option Histories). IfSome o (λ s. s ≡ view new)) is names
 
-module _ (first : MemberState) (objects : List (ℕ × Kind)) (all : List Job) (es : List Entry) (now : MemberState) (shelf : ShelfState) (j : Job) (rest : List Job) (h : UnderWay first objects all es now shelf (j ∷ rest)) where
+module _ (first : MemberState) (objects : List (ℕ × Kind)) (all : List Job) (es : List Entry) (now : MemberState)
+    (shelf : ShelfState) (j : Job) (rest : List Job) (h : UnderWay first objects all es now shelf (j ∷ rest)) where
   at_job : slice_get all (length es) ≡ Some j
   at_job = first_left all (length es) j rest h.left
 
-  module _ (e : Entry) (next : MemberState) (later : ShelfState) (answers : Answers next (length (submitted_in now 0) + 1) objects j e) (names : Names e next) (goes : GoesOn now next) where
+  module _ (e : Entry) (next : MemberState) (later : ShelfState)
+      (answers : Answers next (length (submitted_in now 0) + 1) objects j e) (names : Names e next)
+      (goes : GoesOn now next) where
     kept : HasDone first objects all es next
     kept = keeps_done first objects all es now next h.done goes
 
-    answers_more : (k : ℕ) (f : Entry) → slice_get (es ++ e ∷ []) k ≡ Some f → (i : Job) × (slice_get all k ≡ Some i) × Answers next (next_number first (take k all)) objects i f
+    answers_more : (k : ℕ) (f : Entry) → slice_get (es ++ e ∷ []) k ≡ Some f
+        → (i : Job) × (slice_get all k ≡ Some i) × Answers next (next_number first (take k all)) objects i f
     answers_more k f got = elim (snoc_cases es e k f got) [
       | inl old ↦ kept.answers k f old
       | inr last ↦ (
@@ -123,13 +142,15 @@ module _ (first : MemberState) (objects : List (ℕ × Kind)) (all : List Job) (
       )
     ]
 
-    within_more : (k : ℕ) (f : Entry) (s : Histories) → slice_get (es ++ e ∷ []) k ≡ Some f → set_of f ≡ Some s → IsSubset s (view next)
+    within_more : (k : ℕ) (f : Entry) (s : Histories) → slice_get (es ++ e ∷ []) k ≡ Some f → set_of f ≡ Some s
+        → IsSubset s (view next)
     within_more k f s got is = elim (snoc_cases es e k f got) [
       | inl old ↦ kept.within k f s old is
       | inr last ↦ subst (λ z. IsSubset s z) (named e next s names (ap set_of (sym last.1) ∙ is)) (λ u has. has)
     ]
 
-    growing_more : (k m : ℕ) (f g : Entry) (s t : Histories) → k < m → slice_get (es ++ e ∷ []) k ≡ Some f → slice_get (es ++ e ∷ []) m ≡ Some g → set_of f ≡ Some s → set_of g ≡ Some t → IsSubset s t
+    growing_more : (k m : ℕ) (f g : Entry) (s t : Histories) → k < m → slice_get (es ++ e ∷ []) k ≡ Some f
+        → slice_get (es ++ e ∷ []) m ≡ Some g → set_of f ≡ Some s → set_of g ≡ Some t → IsSubset s t
     growing_more k m f g s t less got_f got_g is_f is_g = elim (snoc_cases es e m g got_g) [
       | inl old_g ↦ (elim (snoc_cases es e k f got_f) [
         | inl old_f ↦ h.done.growing k m f g s t less old_f old_g is_f is_g
@@ -138,25 +159,31 @@ module _ (first : MemberState) (objects : List (ℕ × Kind)) (all : List Job) (
       | inr last_g ↦ subst (λ z. IsSubset s z) (sym (named e next t names (ap set_of (sym last_g.1) ∙ is_g))) (within_more k f s got_f is_f)
     ]
 
-    pub goes_on_more : length (submitted_in next 0) ≡ length (submitted_in now 0) + cond (is_update j) 1 0 → later.objects ≡ objects → IsSubset later.view (view next)
+    pub goes_on_more : length (submitted_in next 0) ≡ length (submitted_in now 0) + cond (is_update j) 1 0
+        → later.objects ≡ objects → IsSubset later.view (view next)
         → UnderWay first objects all (es ++ e ∷ []) next later rest
     goes_on_more submitted same within = record {
       done = record { answers = answers_more; growing = growing_more; within = within_more };
       goes = goes_on_then first now next h.goes goes;
       submitted =
           let o = one_more all (length es) j at_job (is_update j) refl in
-          let t : updates_of (take (length (es ++ e ∷ [])) all) ≡ updates_of (take (length es + 1) all) = ap (λ (m : ℕ). updates_of (take m all)) (length_snoc es e) in
+          let t : updates_of (take (length (es ++ e ∷ [])) all) ≡ updates_of (take (length es + 1) all) =
+          ap (λ (m : ℕ). updates_of (take m all)) (length_snoc es e) in
           let s = h.submitted in
           omega (arith, submitted, o, t, s);
       same = same;
       within = within;
-      left = (let q : suc (length es) ≡ length (es ++ e ∷ []) = (let n = length_snoc es e in omega (arith, n)) in next_left all (length es) j rest h.left ∙ ap (λ (m : ℕ). drop m all) q);
+      left =
+          (let q : suc (length es) ≡ length (es ++ e ∷ []) = (let n = length_snoc es e in omega (arith, n)) in
+          next_left all (length es) j rest h.left ∙ ap (λ (m : ℕ). drop m all) q);
     }
 
-  pub stops_here : (n : ℕ) (next : MemberState) (why : Stopped) → n ≡ length es → StopFits objects next j why → StopsAt objects next all n why
+  pub stops_here : (n : ℕ) (next : MemberState) (why : Stopped) → n ≡ length es → StopFits objects next j why
+      → StopsAt objects next all n why
   stops_here n next why is fits = subst (λ (m : ℕ). StopsAt objects next all m why) (sym is) (j, at_job, fits)
 
-starts : (first : MemberState) (all : List Job) (shelf : ShelfState) → IsSubset shelf.view (view first) → UnderWay first shelf.objects all [] first shelf all
+starts : (first : MemberState) (all : List Job) (shelf : ShelfState) → IsSubset shelf.view (view first)
+    → UnderWay first shelf.objects all [] first shelf all
 starts first all shelf within = record {
   done = record {
     answers = λ k e at. absurd (none_some at);
@@ -170,14 +197,19 @@ starts first all shelf within = record {
   left = refl;
 }
 
-pub begins : (first : MemberState) (all : List Job) (shelf : ShelfState) (es : List Entry) (rest : List Job) → es ≡ [] → rest ≡ all → IsSubset shelf.view (view first) → UnderWay first shelf.objects all es first shelf rest
+pub begins : (first : MemberState) (all : List Job) (shelf : ShelfState) (es : List Entry) (rest : List Job) → es ≡ []
+    → rest ≡ all → IsSubset shelf.view (view first) → UnderWay first shelf.objects all es first shelf rest
 begins first all shelf es rest none is within =
-    subst (λ (xs : List Entry). UnderWay first shelf.objects all xs first shelf rest) (sym none) (subst (λ (xs : List Job). UnderWay first shelf.objects all [] first shelf xs) (sym is) (starts first all shelf within))
+    subst (λ (xs : List Entry). UnderWay first shelf.objects all xs first shelf rest) (sym none)
+    (subst (λ (xs : List Job). UnderWay first shelf.objects all [] first shelf xs) (sym is)
+    (starts first all shelf within))
 
-pub turn : (first : MemberState) (objects : List (ℕ × Kind)) (all : List Job) (es es1 : List Entry) (now : MemberState) (shelf : ShelfState) (j : Job) (rest0 rest : List Job)
-    → UnderWay first objects all es now shelf rest0 → rest0 ≡ j ∷ rest → es1 ≡ es → UnderWay first objects all es1 now shelf (j ∷ rest)
+pub turn : (first : MemberState) (objects : List (ℕ × Kind)) (all : List Job) (es es1 : List Entry) (now : MemberState)
+    (shelf : ShelfState) (j : Job) (rest0 rest : List Job) → UnderWay first objects all es now shelf rest0
+    → rest0 ≡ j ∷ rest → es1 ≡ es → UnderWay first objects all es1 now shelf (j ∷ rest)
 turn first objects all es es1 now shelf j rest0 rest h is same =
-    subst (λ (xs : List Entry). UnderWay first objects all xs now shelf (j ∷ rest)) (sym same) (subst (λ (xs : List Job). UnderWay first objects all es now shelf xs) is h)
+    subst (λ (xs : List Entry). UnderWay first objects all xs now shelf (j ∷ rest)) (sym same)
+    (subst (λ (xs : List Job). UnderWay first objects all es now shelf xs) is h)
 
 pub memory_fits : (objects : List (ℕ × Kind)) (m : MemberState) (j : Job) → StopFits objects m j Memory
 memory_fits objects m (Update object op) = tt

@@ -85,7 +85,8 @@ next_number first jobs = length (submitted_in first 0) + updates_of jobs + 1
 
 -- the entries answer the first jobs, in order, and each names a set that contains those before it;
 -- the view contains all
-pub record HasDone (first : MemberState) (objects : List (ℕ × Kind)) (jobs : List Job) (entries : List Entry) (now : MemberState) : Type 0 where
+pub record HasDone (first : MemberState) (objects : List (ℕ × Kind)) (jobs : List Job) (entries : List Entry)
+    (now : MemberState) : Type 0 where
   pub answers :
       (k : ℕ) (e : Entry) → slice_get entries k ≡ Some e
       → (j : Job) × (slice_get jobs k ≡ Some j)

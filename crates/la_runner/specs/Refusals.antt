@@ -118,7 +118,8 @@ IsVoteError Full = ⊥
 -- ## Refusals of a member's calls
 
 -- of rounds in an instance that begin so: a ballot stays open there
-pub record IsRefusedRounds (rounds : ℕ) (start : InstanceState) (instance : ℕ) (new : MemberState) (e : RunnerError) : Type 0 where
+pub record IsRefusedRounds (rounds : ℕ) (start : InstanceState) (instance : ℕ) (new : MemberState) (e : RunnerError) :
+    Type 0 where
   pub refusal : IsRoundsRefusal rounds start.proposer.number (number_in new instance) e
   pub asks : is_asking_in new instance ≡ true
   pub kept : InInstance new instance (λ y. KeepsCounted start y e)
@@ -136,7 +137,8 @@ IsRefusedUpdate rounds update old new e =
 
 -- of a vote in an instance: its submission was refused, and nothing is submitted there; or it is
 -- cast, and the rounds were
-abbrev pub IsRefusedVote : (rounds commit : ℕ) → Vote → (instance : ℕ) → MemberState → MemberState → RunnerError → Type 0
+abbrev pub IsRefusedVote : (rounds commit : ℕ) → Vote → (instance : ℕ) → MemberState → MemberState → RunnerError
+    → Type 0
 IsRefusedVote rounds k v i old new e =
     ((submitted_in new i ≡ []) × InInstance new i (λ x. IsSubmissionRefusal x.proposer e))
     ⊎ ((submitted_in new i ≡ casts k v ∷ [])

@@ -21,7 +21,8 @@ pub record IsReady (group : GroupState) (m : MemberState) (shelf : ShelfState) :
 -- what comes back of a member, its shelf and its jobs: the member has gone on, the entries answer the
 -- first jobs in order; without a reason to stop they answer all, and the shelf's view is the
 -- member's; a reason is want of memory, or fits the first job that is not done
-pub record IsWorked (first : MemberState) (shelf : ShelfState) (jobs : List Job) (replica : ℕ) (member : MemberState) (last : ShelfState) (entries : List Entry) (stopped : Option Stopped) : Type 0 where
+pub record IsWorked (first : MemberState) (shelf : ShelfState) (jobs : List Job) (replica : ℕ) (member : MemberState)
+    (last : ShelfState) (entries : List Entry) (stopped : Option Stopped) : Type 0 where
   pub is : IsMember member
   pub named : replica ≡ member.replica
   pub goes : GoesOn first member
@@ -34,7 +35,8 @@ pub record IsWorked (first : MemberState) (shelf : ShelfState) (jobs : List Job)
       (λ why. (why ≡ Memory) ⊎ StopsAt shelf.objects member jobs (length entries) why)
 
 -- a work has the member, the shelf and the jobs that were given
-pub record IsWorkOf (given : MemberState) (with_shelf : ShelfState) (with_jobs : List Job) (its_member : MemberState) (its_shelf : ShelfState) (its_jobs : List Job) : Type 0 where
+pub record IsWorkOf (given : MemberState) (with_shelf : ShelfState) (with_jobs : List Job) (its_member : MemberState)
+    (its_shelf : ShelfState) (its_jobs : List Job) : Type 0 where
   pub member : its_member ≡ given
   pub shelf : its_shelf ≡ with_shelf
   pub jobs : its_jobs ≡ with_jobs

@@ -27,27 +27,34 @@ one_word (d ∷ ds) are = grind (arith, common_steps, not_space, one_word ds)
 some_word : (n : ℕ) → eqb (suc n) 0 ≡ false
 some_word n = search (rules, tests)
 
-delivery_form : (version : Version) (d : ℕ) (ds : List ℕ) → form_of version (spelling keyword.Deliver ∷ (d ∷ ds) ∷ []) ≡ Some form.Deliver
+delivery_form : (version : Version) (d : ℕ) (ds : List ℕ)
+    → form_of version (spelling keyword.Deliver ∷ (d ∷ ds) ∷ []) ≡ Some form.Deliver
 delivery_form One d ds = rw (some_word (length ds)) refl
 delivery_form Two d ds = rw (some_word (length ds)) refl
 
 -- a number is canonical
 canonical : (word : List ℕ) (n : ℕ) → Some n ≡ number 0 u64_max word → is_canonical word ≡ true
-canonical word n e = by_test (is_canonical word) (nat_le (digits_value 10 word) u64_max) (nat_le 0 (digits_value 10 word)) (digits_value 10 word) e
+canonical word n e =
+    by_test (is_canonical word) (nat_le (digits_value 10 word) u64_max) (nat_le 0 (digits_value 10 word))
+    (digits_value 10 word) e
   where
     by_test : (b c d : Bool) (value : ℕ) → Some n ≡ cond ((b && c) && d) (Some value) None → b ≡ true
     by_test true c d value h = refl
     by_test false c d value h = absurd cc
 
 -- what the words of a delivery say
-said : (version : Version) (word : List ℕ) (n : ℕ) → Some n ≡ number 0 u64_max word → event_in (spelling keyword.Deliver ∷ word ∷ []) (form_of version (spelling keyword.Deliver ∷ word ∷ [])) ≡ Ok (Deliver n)
+said : (version : Version) (word : List ℕ) (n : ℕ) → Some n ≡ number 0 u64_max word
+    → event_in (spelling keyword.Deliver ∷ word ∷ []) (form_of version (spelling keyword.Deliver ∷ word ∷ []))
+    ≡ Ok (Deliver n)
 said version [] n e = absurd cc
 said version (d ∷ ds) n e = rw (delivery_form version d ds, sym e) refl
 
 -- the keyword, a space and a number deliver the message with this number
-delivers : (version : Version) (word : List ℕ) (n : ℕ) → Some n ≡ number 0 u64_max word → event_of version (spelling keyword.Deliver ++ 32 ∷ word) ≡ Ok (Deliver n)
+delivers : (version : Version) (word : List ℕ) (n : ℕ) → Some n ≡ number 0 u64_max word
+    → event_of version (spelling keyword.Deliver ++ 32 ∷ word) ≡ Ok (Deliver n)
 delivers version word n e =
-    let words : words_of (spelling keyword.Deliver ++ 32 ∷ word) ≡ spelling keyword.Deliver ∷ word ∷ [] = rw (one_word word (canonical_digits word (canonical word n e))) refl in
+    let words : words_of (spelling keyword.Deliver ++ 32 ∷ word) ≡ spelling keyword.Deliver ∷ word ∷ [] =
+    rw (one_word word (canonical_digits word (canonical word n e))) refl in
     ap (λ ws. event_in ws (form_of version ws)) words ∙ said version word n e
 
 behind_space : (rest : List ℕ) → 1 ≤ length rest → get_or rest 0 0 ≡ 32 → rest ≡ 32 ∷ drop 1 rest
@@ -55,7 +62,8 @@ behind_space [] some is = absurd (omega arith)
 behind_space (b ∷ bs) some is = ap (λ x. x ∷ bs) is
 
 -- where a space and a number stand behind the keyword, it is the number of the message
-pub delivered : (line rest : List ℕ) → line ≡ spelling keyword.Deliver ++ rest → 1 ≤ length rest → get_or rest 0 0 ≡ 32 → (r : Option ℕ) → r ≡ number 0 u64_max (take (length rest - 1) (drop 1 rest))
+pub delivered : (line rest : List ℕ) → line ≡ spelling keyword.Deliver ++ rest → 1 ≤ length rest → get_or rest 0 0 ≡ 32
+    → (r : Option ℕ) → r ≡ number 0 u64_max (take (length rest - 1) (drop 1 rest))
     → IfSome r (λ n. (version : Version) → event_of version line ≡ Ok (Deliver n))
 delivered line rest is some space None read = tt
 delivered line rest is some space (Some n) read = λ version.

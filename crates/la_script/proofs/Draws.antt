@@ -33,7 +33,8 @@ unfolding state_after
 at_first seed = refl
 
 -- the generator after the two words of event number i, and the events with this one
-pub generator_on : (seed i a b : ℕ) (g h k : Lcg) → g ≡ after seed (2 * i) → (a, h) ≡ pcg32 g → (b, k) ≡ pcg32 h → k ≡ after seed (2 * (i + 1))
+pub generator_on : (seed i a b : ℕ) (g h k : Lcg) → g ≡ after seed (2 * i) → (a, h) ≡ pcg32 g → (b, k) ≡ pcg32 h
+    → k ≡ after seed (2 * (i + 1))
 generator_on seed i a b g h k at first second =
     let twice : suc (suc (2 * i)) ≡ 2 * (i + 1) = omega arith in
     drawn_after seed (suc (2 * i)) b h k (drawn_after seed (2 * i) a g h at first) second ∙ ap (after seed) twice
@@ -43,7 +44,9 @@ pub events_on : (seed n i a b : ℕ) (g h k : Lcg) (events more : List Event)
     → events ≡ random_events seed n i → more ≡ events ++ event_by n i a b ∷ [] → more ≡ random_events seed n (i + 1)
 events_on seed n i a b g h k events more at first second so_far is =
     let a_is = drawn_word seed (2 * i) a g h at first in
-    let b_is = drawn_word seed (suc (2 * i)) b h k (drawn_after seed (2 * i) a g h at first) second ∙ ap (word seed) (sym (add-one (2 * i))) in
+    let b_is =
+    drawn_word seed (suc (2 * i)) b h k (drawn_after seed (2 * i) a g h at first) second
+    ∙ ap (word seed) (sym (add-one (2 * i))) in
     is ∙ ap (λ (es : List Event). es ++ event_by n i a b ∷ []) so_far
     ∙ ap (λ (x : ℕ). random_events seed n i ++ event_by n i x b ∷ []) a_is
     ∙ ap (λ (x : ℕ). random_events seed n i ++ event_by n i (word seed (2 * i)) x ∷ []) b_is

@@ -28,14 +28,16 @@ ids_from-append r n (suc a) b =
 pub ids_text-append : (xs ys : List UpdateId) → ids_text (xs ++ ys) ≡ ids_text xs ++ next_ids (has_ids xs) ys
 ids_text-append [] ys = refl
 ids_text-append (x ∷ xs) ys =
-    ap (λ t. id_text x ++ t) (flat_map-append (λ id. codes " " ++ id_text id) xs ys) ∙ sym (append_assoc (id_text x) (others_text xs) (others_text ys))
+    ap (λ t. id_text x ++ t) (flat_map-append (λ id. codes " " ++ id_text id) xs ys)
+    ∙ sym (append_assoc (id_text x) (others_text xs) (others_text ys))
 
 -- one more id
 pub front_more : (r n : ℕ) → front true r n ++ (codes " " ++ id_text (record { replica = r; number = n + 1 })) ≡ front true r (n + 1)
 unfolding front
 front_more r n =
     let next : 1 + n ≡ n + 1 = omega arith in
-    sym (ap others_text (ids_from-append r 1 n 1) ∙ flat_map-append (λ id. codes " " ++ id_text id) (ids_from r 1 n) (ids_from r (1 + n) 1)
+    sym
+    (ap others_text (ids_from-append r 1 n 1) ∙ flat_map-append (λ id. codes " " ++ id_text id) (ids_from r 1 n) (ids_from r (1 + n) 1)
     ∙ ap (λ t. others_text (ids_from r 1 n) ++ t) (append-nil _ ∙ ap (λ k. codes " " ++ id_text (record { replica = r; number = k })) next))
 
 -- a front of the text of more ids is the text of fewer ids
@@ -44,11 +46,14 @@ unfolding front
 front-split r n m le =
     let all : n + (m - n) ≡ m = omega arith in (
       others_text (ids_from r (1 + n) (m - n)),
-      ap (λ k. others_text (ids_from r 1 k)) (sym all) ∙ ap others_text (ids_from-append r 1 n (m - n)) ∙ flat_map-append (λ id. codes " " ++ id_text id) (ids_from r 1 n) (ids_from r (1 + n) (m - n)),
+      ap (λ k. others_text (ids_from r 1 k)) (sym all) ∙ ap others_text (ids_from-append r 1 n (m - n))
+          ∙ flat_map-append (λ id. codes " " ++ id_text id) (ids_from r 1 n) (ids_from r (1 + n) (m - n)),
     )
 
 pub take-front : (r n m : ℕ) → n ≤ m → take (length (front true r n)) (front true r m) ≡ front true r n
-take-front r n m le = let s = front-split r n m le in ap (take (length (front true r n))) s.1 ∙ take_at (front true r n) s.0 (length (front true r n)) refl
+take-front r n m le =
+    let s = front-split r n m le in
+    ap (take (length (front true r n))) s.1 ∙ take_at (front true r n) s.0 (length (front true r n)) refl
 
 pub length-front-le : (r n m : ℕ) → n ≤ m → length (front true r n) ≤ length (front true r m)
 length-front-le r n m le =
@@ -70,25 +75,35 @@ front_some false r zero lt = absurd (omega arith)
 front_some false r (suc n) lt =
     let id : UpdateId = record { replica = r; number = 1 } in
     let one : length (codes ".") ≡ 1 = omega arith in
-    omega (arith, length-append (id_text id) (others_text (ids_from r 2 n)), length-append (decimal r ++ codes ".") (decimal 1), length-append (decimal r) (codes "."))
+    omega (
+      arith,
+      length-append (id_text id) (others_text (ids_from r 2 n)),
+      length-append (decimal r ++ codes ".")
+          (decimal 1),
+      length-append (decimal r) (codes "."),
+    )
 
 -- ids are ASCII
 ascii_id : (id : UpdateId) → id.replica < 2 ^ 64 → id.number < 2 ^ 64 → IsAscii (id_text id)
 ascii_id id low high =
     IsAscii-append (decimal id.replica ++ codes ".") (decimal id.number)
-    (IsAscii-append (decimal id.replica) (codes ".") (IsAscii-decimal id.replica low) (IsAscii-cons 46 [] (omega arith) IsAscii-nil)) (IsAscii-decimal id.number high)
+    (IsAscii-append (decimal id.replica) (codes ".") (IsAscii-decimal id.replica low)
+    (IsAscii-cons 46 [] (omega arith) IsAscii-nil)) (IsAscii-decimal id.number high)
 
 ascii_others : (r n k : ℕ) → r < 2 ^ 64 → n + k ≤ 2 ^ 64 → IsAscii (others_text (ids_from r n k))
 ascii_others r n zero low high = IsAscii-nil
 ascii_others r n (suc k) low high =
     let id : UpdateId = record { replica = r; number = n } in
-    IsAscii-append (codes " " ++ id_text id) (others_text (ids_from r (suc n) k)) (IsAscii-cons 32 (id_text id) (omega arith) (ascii_id id low (omega arith))) (ascii_others r (suc n) k low (omega arith))
+    IsAscii-append (codes " " ++ id_text id) (others_text (ids_from r (suc n) k))
+    (IsAscii-cons 32 (id_text id) (omega arith) (ascii_id id low (omega arith)))
+    (ascii_others r (suc n) k low (omega arith))
 
 ascii_ids : (r n k : ℕ) → r < 2 ^ 64 → n + k ≤ 2 ^ 64 → IsAscii (ids_text (ids_from r n k))
 ascii_ids r n zero low high = IsAscii-nil
 ascii_ids r n (suc k) low high =
     let id : UpdateId = record { replica = r; number = n } in
-    IsAscii-append (id_text id) (others_text (ids_from r (suc n) k)) (ascii_id id low (omega arith)) (ascii_others r (suc n) k low (omega arith))
+    IsAscii-append (id_text id) (others_text (ids_from r (suc n) k)) (ascii_id id low (omega arith))
+    (ascii_others r (suc n) k low (omega arith))
 
 pub front-utf8 : (b : Bool) (r n : ℕ) → r < 2 ^ 64 → n < 2 ^ 64 → IsUtf8 (front b r n)
 unfolding front
@@ -119,12 +134,16 @@ module _ (r : ℕ) (text ends : List ℕ) (is : IsIdText r text ends) where
       omega (arith, end_is n at some le read, length-front-le r n (length ends) le)
 
   pub kept-front : (n at : ℕ) → 0 < n → n ≤ length ends → at ≡ get_or ends (n - 1) at → take at text ≡ front true r n
-  kept-front n at some le read = ap (λ k. take k text) (end_is n at some le read) ∙ ap (take (length (front true r n))) is.is ∙ take-front r n (length ends) le
+  kept-front n at some le read =
+      ap (λ k. take k text) (end_is n at some le read) ∙ ap (take (length (front true r n))) is.is
+      ∙ take-front r n (length ends) le
 
   -- one more id
   module _ (piece more ends_more : List ℕ) (is_piece : piece ≡ codes " " ++ id_text (record { replica = r; number = length ends + 1 })) (is_more : more ≡ text ++ piece) (is_ends : ends_more ≡ ends ++ length more ∷ []) where
     more_text : more ≡ front true r (length ends + 1)
-    more_text = is_more ∙ ap (λ t. t ++ piece) is.is ∙ ap (λ t. front true r (length ends) ++ t) is_piece ∙ front_more r (length ends)
+    more_text =
+        is_more ∙ ap (λ t. t ++ piece) is.is ∙ ap (λ t. front true r (length ends) ++ t) is_piece
+        ∙ front_more r (length ends)
 
     each_end : (k : ℕ) → k < length ends + 1 → get_or (ends ++ length more ∷ []) k 0 ≡ length (front true r (k + 1))
     each_end k lt = elim (cases_lt k (length ends)) [

@@ -60,5 +60,7 @@ module _ (counts : ℕ → ℕ) (r n : ℕ) (b : Bool) (is : n ≡ counts r) (be
   pub behind_more : b || ltb 0 n ≡ has_ids (ids_before counts (r + 1))
   behind_more =
       let next : r + 1 ≡ suc r = omega arith in
-      ap (λ t. t || ltb 0 n) behind ∙ ap (λ k. has_ids (ids_before counts r) || ltb 0 k) is ∙ ap (λ t. has_ids (ids_before counts r) || t) (sym (some-from r (counts r)))
-      ∙ sym (some-append (ids_before counts r) (ids_from r 1 (counts r))) ∙ ap (λ k. has_ids (ids_before counts k)) (sym next)
+      ap (λ t. t || ltb 0 n) behind ∙ ap (λ k. has_ids (ids_before counts r) || ltb 0 k) is
+      ∙ ap (λ t. has_ids (ids_before counts r) || t) (sym (some-from r (counts r)))
+      ∙ sym (some-append (ids_before counts r) (ids_from r 1 (counts r)))
+      ∙ ap (λ k. has_ids (ids_before counts k)) (sym next)

@@ -8,14 +8,16 @@ use Rattle.la_set.specs.Counts.{from_counts}
 use Rattle.la_set.specs.Representation.{four_of, lengths_of}
 
 -- the list of a replica, of two times four
-pub four-low : (low high : List (List Update)) (r : ℕ) → r < 4 → get_or (four_of low ++ four_of high) r [] ≡ get_or low (r % 4) []
+pub four-low : (low high : List (List Update)) (r : ℕ) → r < 4
+    → get_or (four_of low ++ four_of high) r [] ≡ get_or low (r % 4) []
 four-low low high zero lt = refl
 four-low low high (suc zero) lt = refl
 four-low low high (suc (suc zero)) lt = refl
 four-low low high (suc (suc (suc zero))) lt = refl
 four-low low high (suc (suc (suc (suc r)))) lt = absurd (omega arith)
 
-pub four-high : (low high : List (List Update)) (r : ℕ) → 4 ≤ r → r < 8 → get_or (four_of low ++ four_of high) r [] ≡ get_or high (r % 4) []
+pub four-high : (low high : List (List Update)) (r : ℕ) → 4 ≤ r → r < 8
+    → get_or (four_of low ++ four_of high) r [] ≡ get_or high (r % 4) []
 four-high low high zero le lt = absurd (omega arith)
 four-high low high (suc zero) le lt = absurd (omega arith)
 four-high low high (suc (suc zero)) le lt = absurd (omega arith)
@@ -31,13 +33,15 @@ pub none-eight : (r : ℕ) → r < 8 → get_or (four_of [] ++ four_of []) r [] 
 none-eight r lt = elim (cases_lt r 4) [ inl low ↦ four-low [] [] r low | inr high ↦ four-high [] [] r high lt ]
 
 -- how long each of eight is, by the lengths of four and four
-pub four-counts : (c : Counts) (low high : List (List Update)) → c.of ≡ map length (four_of low) ++ map length (four_of high) → c ≡ lengths_of (four_of low ++ four_of high)
+pub four-counts : (c : Counts) (low high : List (List Update))
+    → c.of ≡ map length (four_of low) ++ map length (four_of high) → c ≡ lengths_of (four_of low ++ four_of high)
 unfolding from_counts
 four-counts c low high e = λ i. record { of = e i }
 
 -- ## What arrays are read as
 
-pub four-read : {T : Type 0} (xs : List T) (d : T) → length xs ≡ 4 → get_or xs 0 d ∷ get_or xs 1 d ∷ get_or xs 2 d ∷ get_or xs 3 d ∷ [] ≡ xs
+pub four-read : {T : Type 0} (xs : List T) (d : T) → length xs ≡ 4
+    → get_or xs 0 d ∷ get_or xs 1 d ∷ get_or xs 2 d ∷ get_or xs 3 d ∷ [] ≡ xs
 four-read [] d is = absurd (omega arith)
 four-read (a ∷ []) d is = absurd (omega arith)
 four-read (a ∷ b ∷ []) d is = absurd (omega arith)
@@ -46,11 +50,13 @@ four-read (a ∷ b ∷ c ∷ e ∷ []) d is = refl
 four-read (a ∷ b ∷ c ∷ e ∷ f ∷ xs) d is = absurd (omega arith)
 
 pub fours-read : {T : Type 0} (xs ys : List T) (d : T) → length xs ≡ 4 → length ys ≡ 4
-    → get_or xs 0 d ∷ get_or xs 1 d ∷ get_or xs 2 d ∷ get_or xs 3 d ∷ get_or ys 0 d ∷ get_or ys 1 d ∷ get_or ys 2 d ∷ get_or ys 3 d ∷ [] ≡ xs ++ ys
+    → get_or xs 0 d ∷ get_or xs 1 d ∷ get_or xs 2 d ∷ get_or xs 3 d ∷ get_or ys 0 d ∷ get_or ys 1 d ∷ get_or ys 2 d
+    ∷ get_or ys 3 d ∷ [] ≡ xs ++ ys
 fours-read xs ys d four_xs four_ys = ap₂ (λ us vs. us ++ vs) (four-read xs d four_xs) (four-read ys d four_ys)
 
 -- the lists of two halves
-module _ (low high of : List (List Update)) (four_low : length low ≡ 4) (four_high : length high ≡ 4) (is : low ++ high ≡ of) where
+module _ (low high of : List (List Update)) (four_low : length low ≡ 4) (four_high : length high ≡ 4)
+    (is : low ++ high ≡ of) where
   pub fours-are : four_of low ++ four_of high ≡ of
   fours-are = fours-read low high [] four_low four_high ∙ is
 

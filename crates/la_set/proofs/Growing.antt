@@ -16,7 +16,8 @@ use Rattle.la_set.proofs.lemmas.SetHistories.{history-with_same, history-with_ot
 use Rattle.la_set.proofs.lemmas.Counting.{history-within}
 
 -- a front, with the item that comes next in the whole
-pub next-front : (list all : List Update) (n : ℕ) (u : Update) → n ≡ length list → IsFront list all → slice_get all n ≡ Some u → take (n + 1) all ≡ list ++ u ∷ []
+pub next-front : (list all : List Update) (n : ℕ) (u : Update) → n ≡ length list → IsFront list all
+    → slice_get all n ≡ Some u → take (n + 1) all ≡ list ++ u ∷ []
 next-front list all n u is front got =
     take_more all n u (slice_get_within all n u got)
     ∙ ap (λ v. take n all ++ v ∷ []) (get_or_from_slice_get all n u u got)
@@ -26,14 +27,21 @@ pub take-front : (all : List Update) (n : ℕ) → IsFront (take n all) all
 take-front all n = sym (ap (λ k. take k all) (length-take n all) ∙ take_min n all)
 
 -- what is within counts is made of fronts
-pub fronts-grow : (x : Histories) (c : Counts) (lists : List (List Update)) (flags : List Bool) → length flags ≡ 8 → IsRepresentation lists → represented lists ≡ within x c → GrowsFrom x lists flags
+pub fronts-grow : (x : Histories) (c : Counts) (lists : List (List Update)) (flags : List Bool) → length flags ≡ 8
+    → IsRepresentation lists → represented lists ≡ within x c → GrowsFrom x lists flags
 fronts-grow x c lists flags eight keeps is = record {
   keeps = keeps;
   eight = eight;
-  own = λ r lt flag. subst (λ us. IsFront us (updates_of x r)) (sym (list_at lists (within x c) r [] lt keeps is ∙ ap (numbered r 1) (history-within x c r) ∙ sym (take-numbered r 1 (count_in c r) (history x r)))) (take-front (updates_of x r) (count_in c r));
+  own =
+      λ r lt flag.
+      subst (λ us. IsFront us (updates_of x r))
+      (sym
+      (list_at lists (within x c) r [] lt keeps is ∙ ap (numbered r 1) (history-within x c r)
+      ∙ sym (take-numbered r 1 (count_in c r) (history x r)))) (take-front (updates_of x r) (count_in c r));
 }
 
-module _ (x : Histories) (lists : List (List Update)) (flags : List Bool) (grows : GrowsFrom x lists flags) (r : ℕ) (known : r < 8) where
+module _ (x : Histories) (lists : List (List Update)) (flags : List Bool) (grows : GrowsFrom x lists flags) (r : ℕ)
+    (known : r < 8) where
   pub grown-list : (d : List Update) → get_or lists r d ≡ numbered r 1 (history (represented lists) r)
   grown-list d = list_at lists (represented lists) r d known grows.keeps refl
 
@@ -45,34 +53,60 @@ module _ (x : Histories) (lists : List (List Update)) (flags : List Bool) (grows
       subst (λ us. IsFront us (updates_of x r)) (get_or_default lists r [] d (omega (arith, grows.keeps.eight)))
       (grows.own r known (get_or_default flags r false f (omega (arith, grows.eight)) ∙ flag))
 
-module _ (x : Histories) (lists : List (List Update)) (flags : List Bool) (grows : GrowsFrom x lists flags) (u : Update) (next : IsNext (represented lists) u.id) (d more : List Update) (is : more ≡ get_or lists u.id.replica d ++ u ∷ []) where
-  longer : more ≡ numbered u.id.replica 1 (history (represented lists) u.id.replica ++ object_op_of u ∷ [])
-  longer = pushed-list (represented lists) u more next.next (is ∙ ap (λ us. us ++ u ∷ []) (grown-list x lists flags grows u.id.replica next.known d))
+module _ (x : Histories) (lists : List (List Update)) (flags : List Bool) (grows : GrowsFrom x lists flags) (u : Update)
+    (next : IsNext (represented lists) u.id) (d more : List Update) (is : more ≡ get_or lists u.id.replica d ++ u ∷ [])
+  where
+    longer : more ≡ numbered u.id.replica 1 (history (represented lists) u.id.replica ++ object_op_of u ∷ [])
+    longer =
+        pushed-list (represented lists) u more next.next
+        (is ∙ ap (λ us. us ++ u ∷ []) (grown-list x lists flags grows u.id.replica next.known d))
 
-  pub grown-pushed : represented (set lists u.id.replica more) ≡ push (represented lists) u
-  grown-pushed =
-      represented-edited lists (represented lists) u.id.replica more next.known grows.keeps.eight grows.keeps.in_order (numbered-object_ops more u.id.replica _ longer)
-      ∙ ap (with_history (represented lists) u.id.replica) (ap (map object_op_of) longer ∙ object_ops-numbered u.id.replica 1 _)
+    pub grown-pushed : represented (set lists u.id.replica more) ≡ push (represented lists) u
+    grown-pushed =
+        represented-edited lists (represented lists) u.id.replica more next.known grows.keeps.eight grows.keeps.in_order
+        (numbered-object_ops more u.id.replica _ longer)
+        ∙ ap (with_history (represented lists) u.id.replica)
+        (ap (map object_op_of) longer ∙ object_ops-numbered u.id.replica 1 _)
 
-  few : length more ≤ 1000000
-  few = omega (arith, ap length is, length-append (get_or lists u.id.replica d) (u ∷ []), grown-length x lists flags grows u.id.replica next.known d, next.next, next.within)
+    few : length more ≤ 1000000
+    few =
+        omega (
+          arith,
+          ap length is,
+          length-append (get_or lists u.id.replica d) (u ∷ []),
+          grown-length x lists flags grows
+              u.id.replica next.known d,
+          next.next,
+          next.within,
+        )
 
-  still : (flag : Bool) → (IsTrue flag → IsFront more (updates_of x u.id.replica)) → (q : ℕ) → q < 8 → IsTrue (get_or (set flags u.id.replica flag) q false) → IsFront (get_or (set lists u.id.replica more) q []) (updates_of x q)
-  still flag own q lt on = elim (cases_eq q u.id.replica) [
-    | inl e ↦ subst (λ p. IsTrue (get_or (set flags u.id.replica flag) p false) → IsFront (get_or (set lists u.id.replica more) p []) (updates_of x p)) (sym e)
-        (λ here. subst (λ us. IsFront us (updates_of x u.id.replica)) (sym (get_or-set_same lists u.id.replica more [] (omega (arith, next.known, grows.keeps.eight)))) (own (sym (get_or-set_same flags u.id.replica flag false (omega (arith, next.known, grows.eight))) ∙ here))) on
-    | inr ne ↦ subst (λ us. IsFront us (updates_of x q)) (sym (get_or-set_other lists u.id.replica q more [] ne)) (grows.own q lt (sym (get_or-set_other flags u.id.replica q flag false ne) ∙ on))
-  ]
+    still : (flag : Bool) → (IsTrue flag → IsFront more (updates_of x u.id.replica)) → (q : ℕ) → q < 8
+        → IsTrue (get_or (set flags u.id.replica flag) q false)
+        → IsFront (get_or (set lists u.id.replica more) q []) (updates_of x q)
+    still flag own q lt on = elim (cases_eq q u.id.replica) [
+      | inl e ↦ subst (λ p. IsTrue (get_or (set flags u.id.replica flag) p false) → IsFront (get_or (set lists u.id.replica more) p []) (updates_of x p)) (sym e)
+          (λ here.
+          subst (λ us. IsFront us (updates_of x u.id.replica))
+          (sym (get_or-set_same lists u.id.replica more [] (omega (arith, next.known, grows.keeps.eight))))
+          (own (sym (get_or-set_same flags u.id.replica flag false (omega (arith, next.known, grows.eight))) ∙ here)))
+          on
+      | inr ne ↦ subst (λ us. IsFront us (updates_of x q)) (sym (get_or-set_other lists u.id.replica q more [] ne)) (grows.own q lt (sym (get_or-set_other flags u.id.replica q flag false ne) ∙ on))
+    ]
 
-  pub grown-on : (flag : Bool) → (IsTrue flag → IsFront more (updates_of x u.id.replica)) → GrowsFrom x (set lists u.id.replica more) (set flags u.id.replica flag)
-  grown-on flag own = record {
-    keeps = IsRepresentation-edited lists (represented lists) u.id.replica more next.known grows.keeps.eight grows.keeps.in_order (numbered-object_ops more u.id.replica _ longer) few grows.keeps.within;
-    eight = length-set flags u.id.replica flag ∙ grows.eight;
-    own = still flag own;
-  }
+    pub grown-on : (flag : Bool) → (IsTrue flag → IsFront more (updates_of x u.id.replica))
+        → GrowsFrom x (set lists u.id.replica more) (set flags u.id.replica flag)
+    grown-on flag own = record {
+      keeps =
+          IsRepresentation-edited lists (represented lists) u.id.replica more next.known grows.keeps.eight
+          grows.keeps.in_order (numbered-object_ops more u.id.replica _ longer) few grows.keeps.within;
+      eight = length-set flags u.id.replica flag ∙ grows.eight;
+      own = still flag own;
+    }
 
 -- counts, with the number of an update that comes next
-pub counts-push : (s : Histories) (u : Update) (counts : List ℕ) → IsNext s u.id → length counts ≡ 8 → ((r : ℕ) → r < 8 → get_or counts r 0 ≡ count s r) → (r : ℕ) → r < 8 → get_or (set counts u.id.replica u.id.number) r 0 ≡ count (push s u) r
+pub counts-push : (s : Histories) (u : Update) (counts : List ℕ) → IsNext s u.id → length counts ≡ 8
+    → ((r : ℕ) → r < 8 → get_or counts r 0 ≡ count s r) → (r : ℕ) → r < 8
+    → get_or (set counts u.id.replica u.id.number) r 0 ≡ count (push s u) r
 counts-push s u counts next eight each r lt =
     let q = u.id.replica in let longer = history s q ++ object_op_of u ∷ [] in
     elim (cases_eq r q) [

@@ -19,33 +19,48 @@ use Rattle.la_set.proofs.lemmas.NumberedLists.{take-numbered}
 use Rattle.la_set.proofs.lemmas.Inclusions.{compatible-agree}
 use Rattle.la_set.proofs.lemmas.Counting.{history-within, count-within, count_in-from_counts, count_in-counts_of}
 
-module _ (x s : Histories) (base : Counts) (mine : HasCounts x base) (theirs : HasCounts s base) (few : IsWithinLimit s) (same : within x base ≡ within s base) where
+module _ (x s : Histories) (base : Counts) (mine : HasCounts x base) (theirs : HasCounts s base) (few : IsWithinLimit s)
+    (same : within x base ≡ within s base) where
   -- a set's delta stands for the set, over each that has the base and the same within it
   pub rebuilt-over : rebuilt x (delta_over s base) ≡ s
-  rebuilt-over = ap (λ w. pushed w (over s base)) same ∙ pushed-PushesTo (over s base) (within s base) s (over-pushes s base theirs few)
+  rebuilt-over =
+      ap (λ w. pushed w (over s base)) same
+      ∙ pushed-PushesTo (over s base) (within s base) s (over-pushes s base theirs few)
 
   pub stands-over : IsOver x (delta_over s base)
   stands-over = record { base = mine; next = subst (λ w. AreNext w (over s base)) (sym same) (next-PushesTo (over s base) (within s base) s (over-pushes s base theirs few)) }
 
 -- the same of a delta that is known to be one
-pub rebuilt-agreeing : (x s : Histories) (base : Counts) (d : DeltaState) → delta_over s base ≡ d → HasCounts s base → IsWithinLimit s → IsOver x d → AgreesWithin x d → s ≡ rebuilt x d
+pub rebuilt-agreeing : (x s : Histories) (base : Counts) (d : DeltaState) → delta_over s base ≡ d → HasCounts s base
+    → IsWithinLimit s → IsOver x d → AgreesWithin x d → s ≡ rebuilt x d
 rebuilt-agreeing x s base d e has few stands agrees =
-    subst (λ t. IsOver x t → AgreesWithin x t → s ≡ rebuilt x t) e (λ over agree. sym (rebuilt-over x s base over.base has few (agree s refl))) stands agrees
+    subst (λ t. IsOver x t → AgreesWithin x t → s ≡ rebuilt x t) e
+    (λ over agree. sym (rebuilt-over x s base over.base has few (agree s refl))) stands agrees
 
-fronts : (n : ℕ) (xs ys : List ObjectOp) → n ≤ length xs → n ≤ length ys → ((k : ℕ) (d e : ObjectOp) → slice_get xs k ≡ Some d → slice_get ys k ≡ Some e → d ≡ e) → take n xs ≡ take n ys
+fronts : (n : ℕ) (xs ys : List ObjectOp) → n ≤ length xs → n ≤ length ys
+    → ((k : ℕ) (d e : ObjectOp) → slice_get xs k ≡ Some d → slice_get ys k ≡ Some e → d ≡ e) → take n xs ≡ take n ys
 fronts zero xs ys a b same = refl
 fronts (suc n) [] ys a b same = absurd (omega arith)
 fronts (suc n) (x ∷ xs) [] a b same = absurd (omega arith)
-fronts (suc n) (x ∷ xs) (y ∷ ys) a b same = ap (λ z. z ∷ take n xs) (same 0 x y refl refl) ∙ ap (λ zs. y ∷ zs) (fronts n xs ys (omega arith) (omega arith) (λ k d e. same (suc k) d e))
+fronts (suc n) (x ∷ xs) (y ∷ ys) a b same =
+    ap (λ z. z ∷ take n xs) (same 0 x y refl refl)
+    ∙ ap (λ zs. y ∷ zs) (fronts n xs ys (omega arith) (omega arith) (λ k d e. same (suc k) d e))
 
 -- sets without a clash have the same within counts that both have
-pub same-within : (x s : Histories) (base : Counts) → HasCounts x base → HasCounts s base → IsCompatible x s → within x base ≡ within s base
-same-within x s base mine theirs one = same_histories _ _ (λ r lt. history-within x base r ∙ fronts (count_in base r) (history x r) (history s r) (mine r) (theirs r) (compatible-agree x s one r) ∙ sym (history-within s base r))
+pub same-within : (x s : Histories) (base : Counts) → HasCounts x base → HasCounts s base → IsCompatible x s
+    → within x base ≡ within s base
+same-within x s base mine theirs one =
+    same_histories _ _
+    (λ r lt.
+    history-within x base r
+    ∙ fronts (count_in base r) (history x r) (history s r) (mine r) (theirs r) (compatible-agree x s one r)
+    ∙ sym (history-within s base r))
 
 -- ## What is known to be the same
 
 -- an update that comes next leaves all before it
-push-front : (s : Histories) (u : Update) → IsNext s u.id → (r n : ℕ) → n ≤ count s r → (n ≤ count (push s u) r) × (take n (history (push s u) r) ≡ take n (history s r))
+push-front : (s : Histories) (u : Update) → IsNext s u.id → (r n : ℕ) → n ≤ count s r
+    → (n ≤ count (push s u) r) × (take n (history (push s u) r) ≡ take n (history s r))
 push-front s u next r n le =
     let q = u.id.replica in let more = history s q ++ object_op_of u ∷ [] in
     elim (cases_eq r q) [
@@ -53,14 +68,16 @@ push-front s u next r n le =
           let is = history-with_same s q more r next.known e in
           let few : n ≤ length (history s q) = subst (λ p. n ≤ count s p) e le in (
             omega (arith, few, ap length is, length-append (history s q) (object_op_of u ∷ [])),
-            ap (take n) is ∙ take-append-le n (history s q) (object_op_of u ∷ []) few ∙ ap (λ p. take n (history s p)) (sym e),
+            ap (take n) is ∙ take-append-le n (history s q) (object_op_of u ∷ []) few
+                ∙ ap (λ p. take n (history s p)) (sym e),
           )
       | inr ne ↦
           let is = history-with_other s q more r ne in
           (omega (arith, le, ap length is), ap (take n) is)
     ]
 
-pushed-front : (us : List Update) (s : Histories) → AreNext s us → (r n : ℕ) → n ≤ count s r → take n (history (pushed s us) r) ≡ take n (history s r)
+pushed-front : (us : List Update) (s : Histories) → AreNext s us → (r n : ℕ) → n ≤ count s r
+    → take n (history (pushed s us) r) ≡ take n (history s r)
 pushed-front [] s all r n le = refl
 pushed-front (u ∷ us) s all r n le =
     let one = push-front s u all.0 r n le in
@@ -90,14 +107,17 @@ reads-front (suc n) (x ∷ xs) zero lt = refl
 reads-front (suc n) (x ∷ xs) (suc k) lt = reads-front n xs k (omega arith)
 
 -- sets with the same within counts agree so far
-pub within-agree : (a b : Histories) (c : Counts) → within a c ≡ within b c → (r : ℕ) → AgreeBelow (numbered r 1 (history a r)) (numbered r 1 (history b r)) (count_in c r)
+pub within-agree : (a b : Histories) (c : Counts) → within a c ≡ within b c → (r : ℕ)
+    → AgreeBelow (numbered r 1 (history a r)) (numbered r 1 (history b r)) (count_in c r)
 within-agree a b c same r k x y lt in_a in_b =
     let n = count_in c r in
     let fronts_are : take n (numbered r 1 (history a r)) ≡ take n (numbered r 1 (history b r)) =
     take-numbered r 1 n (history a r)
     ∙ ap (numbered r 1) (sym (history-within a c r) ∙ ap (λ s. history s r) same ∙ history-within b c r)
     ∙ sym (take-numbered r 1 n (history b r)) in
-    same_Some x y (sym (reads-front n (numbered r 1 (history a r)) k lt ∙ in_a) ∙ ap (λ us. slice_get us k) fronts_are ∙ reads-front n (numbered r 1 (history b r)) k lt ∙ in_b)
+    same_Some x y
+    (sym (reads-front n (numbered r 1 (history a r)) k lt ∙ in_a) ∙ ap (λ us. slice_get us k) fronts_are
+    ∙ reads-front n (numbered r 1 (history b r)) k lt ∙ in_b)
 
 -- the smaller counts of two, as `Counts::min` answers them
 abbrev pub min_counts : Counts → Counts → Counts
@@ -107,19 +127,24 @@ min_counts c d = from_counts (λ r. min (count_in c r) (count_in d r))
 abbrev pub common : Counts → Histories → Histories → Counts
 common base s a = min_counts (min_counts base (counts_of s)) (counts_of a)
 
-common-least : (base : Counts) (s a : Histories) (r : ℕ) → r < 8 → count_in (common base s a) r ≡ min (min (count_in base r) (count s r)) (count a r)
+common-least : (base : Counts) (s a : Histories) (r : ℕ) → r < 8
+    → count_in (common base s a) r ≡ min (min (count_in base r) (count s r)) (count a r)
 common-least base s a r lt =
     count_in-from_counts (λ q. min (count_in (min_counts base (counts_of s)) q) (count_in (counts_of a) q)) r lt
-    ∙ ap (λ n. min n (count_in (counts_of a) r)) (count_in-from_counts (λ q. min (count_in base q) (count_in (counts_of s) q)) r lt ∙ ap (min (count_in base r)) (count_in-counts_of s r))
+    ∙ ap (λ n. min n (count_in (counts_of a) r))
+    (count_in-from_counts (λ q. min (count_in base q) (count_in (counts_of s) q)) r lt
+    ∙ ap (min (count_in base r)) (count_in-counts_of s r))
     ∙ ap (min (min (count_in base r) (count s r))) (count_in-counts_of a r)
 
 -- what two sets have of a third is the same, so far as both have it
-pub within-common : (s a b : Histories) (base : Counts) → IsCompatible s a → within s base ≡ within b base → within a (common base s a) ≡ within b (common base s a)
+pub within-common : (s a b : Histories) (base : Counts) → IsCompatible s a → within s base ≡ within b base
+    → within a (common base s a) ≡ within b (common base s a)
 within-common s a b base one same = same_histories _ _ (λ r lt.
     let c = common base s a in let n = count_in c r in let m = count_in base r in
     let few = common-least base s a r lt in
     history-within a c r
-    ∙ fronts n (history a r) (history s r) (omega (arith, few)) (omega (arith, few)) (λ k d e in_a in_s. sym (compatible-agree s a one r k e d in_s in_a))
+    ∙ fronts n (history a r) (history s r) (omega (arith, few)) (omega (arith, few))
+    (λ k d e in_a in_s. sym (compatible-agree s a one r k e d in_s in_a))
     ∙ sym (take-take n m (history s r) (omega (arith, few)))
     ∙ ap (take n) (sym (history-within s base r) ∙ ap (λ t. history t r) same ∙ history-within b base r)
     ∙ take-take n m (history b r) (omega (arith, few))

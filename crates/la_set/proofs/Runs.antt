@@ -11,7 +11,9 @@ map-reverse f (x ∷ xs) =
     ∙ sym (reverse-append (f x ∷ []) (map f xs))
 
 -- all the way back
-pub whole-run : {X Y : Type 0} (f : X → Y) (n m end : ℕ) (all left : List Y) (run : List X) → end ≡ min (n + m) (length all) → length left ≤ n → drop n left ++ reverse (map f run) ≡ drop n (take end all) → map f (reverse run) ≡ take m (drop n all)
+pub whole-run : {X Y : Type 0} (f : X → Y) (n m end : ℕ) (all left : List Y) (run : List X)
+    → end ≡ min (n + m) (length all) → length left ≤ n → drop n left ++ reverse (map f run) ≡ drop n (take end all)
+    → map f (reverse run) ≡ take m (drop n all)
 whole-run f n m end all left run is few e =
     map-reverse f run
     ∙ ap (λ ys. ys ++ reverse (map f run)) (sym (drop_all n left few))

@@ -8,7 +8,8 @@ use Rattle.la_set.proofs.lemmas.Counting.{eight-counts, same_counts, count_in-kn
 
 -- the two parts of a number
 pub parts : {l h a b n : ℕ} → l ≡ low_part a → a ≡ n → h ≡ high_part b → b ≡ n → l + 65536 * h ≡ n
-parts {n = n} low a high b = ap₂ (λ x y. x + 65536 * y) (low ∙ ap low_part a) (high ∙ ap high_part b) ∙ mod-add-div n 65536
+parts {n = n} low a high b =
+    ap₂ (λ x y. x + 65536 * y) (low ∙ ap low_part a) (high ∙ ap high_part b) ∙ mod-add-div n 65536
 
 -- counts are those that they have
 pub counts-again : (c : Counts) → length c.of ≡ 8 → from_counts (count_in c) ≡ c

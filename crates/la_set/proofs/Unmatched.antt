@@ -18,7 +18,8 @@ unmatched-all (u ∷ us) = refl
 -- ## One place further to the front
 
 drop_at : {X : Type 0} (xs : List X) (k : ℕ) (x : X) → slice_get xs k ≡ Some x → drop k xs ≡ x ∷ drop (k + 1) xs
-drop_at xs k x got = drop_more xs k x (slice_get_within xs k x got) ∙ ap (λ y. y ∷ drop (k + 1) xs) (get_or_from_slice_get xs k x x got)
+drop_at xs k x got =
+    drop_more xs k x (slice_get_within xs k x got) ∙ ap (λ y. y ∷ drop (k + 1) xs) (get_or_from_slice_get xs k x x got)
 
 -- what the second has not, from a place on
 abbrev pub from : List Update → List Update → ℕ → List Update
@@ -29,21 +30,30 @@ module _ (xs ys : List Update) (k n : ℕ) (is : n ≡ k + 1) (x : Update) (at_x
   from_same y at_y e =
       ap (λ us. unmatched us (drop k ys)) (drop_at xs k x at_x)
       ∙ ap (unmatched (x ∷ drop (k + 1) xs)) (drop_at ys k y at_y)
-      ∙ ap (λ b. cond b (unmatched (drop (k + 1) xs) (drop (k + 1) ys)) (x ∷ unmatched (drop (k + 1) xs) (drop (k + 1) ys))) ((update_eq-Decides y x).1 e)
+      ∙ ap
+      (λ b.
+      cond b (unmatched (drop (k + 1) xs) (drop (k + 1) ys)) (x ∷ unmatched (drop (k + 1) xs) (drop (k + 1) ys)))
+      ((update_eq-Decides y x).1 e)
       ∙ ap (from xs ys) (sym is)
 
   from_other : (y : Update) → slice_get ys k ≡ Some y → y ≢ x → from xs ys k ≡ x ∷ from xs ys n
   from_other y at_y ne =
       ap (λ us. unmatched us (drop k ys)) (drop_at xs k x at_x)
       ∙ ap (unmatched (x ∷ drop (k + 1) xs)) (drop_at ys k y at_y)
-      ∙ ap (λ b. cond b (unmatched (drop (k + 1) xs) (drop (k + 1) ys)) (x ∷ unmatched (drop (k + 1) xs) (drop (k + 1) ys))) (false_from_ne_true _ (λ t. ne ((update_eq-Decides y x).0 t)))
+      ∙ ap
+      (λ b.
+      cond b (unmatched (drop (k + 1) xs) (drop (k + 1) ys)) (x ∷ unmatched (drop (k + 1) xs) (drop (k + 1) ys)))
+      (false_from_ne_true _ (λ t. ne ((update_eq-Decides y x).0 t)))
       ∙ ap (λ m. x ∷ from xs ys m) (sym is)
 
   from_past : length ys ≤ k → from xs ys k ≡ x ∷ from xs ys n
   from_past le =
       ap (λ us. unmatched us (drop k ys)) (drop_at xs k x at_x)
       ∙ ap (unmatched (x ∷ drop (k + 1) xs)) (drop_all k ys le)
-      ∙ ap (λ us. x ∷ us) (sym (unmatched-all (drop (k + 1) xs)) ∙ ap (unmatched (drop (k + 1) xs)) (sym (drop_all (k + 1) ys (omega (arith, le)))) ∙ ap (from xs ys) (sym is))
+      ∙ ap (λ us. x ∷ us)
+      (sym (unmatched-all (drop (k + 1) xs))
+      ∙ ap (unmatched (drop (k + 1) xs)) (sym (drop_all (k + 1) ys (omega (arith, le))))
+      ∙ ap (from xs ys) (sym is))
 
   pub from_unmatched : (slice_get ys k ≡ Some x → ⊥) → from xs ys k ≡ x ∷ from xs ys n
   from_unmatched not = elim (cases_lt k (length ys)) [
@@ -52,7 +62,8 @@ module _ (xs ys : List Update) (k n : ℕ) (is : n ≡ k + 1) (x : Update) (at_x
   ]
 
   -- the reversed list with the update that is found next
-  pub found_next : (found now : List Update) (u : Update) → found ≡ reverse (from xs ys n) → now ≡ found ++ u ∷ [] → u ≡ x → from xs ys k ≡ x ∷ from xs ys n → now ≡ reverse (from xs ys k)
+  pub found_next : (found now : List Update) (u : Update) → found ≡ reverse (from xs ys n) → now ≡ found ++ u ∷ []
+      → u ≡ x → from xs ys k ≡ x ∷ from xs ys n → now ≡ reverse (from xs ys k)
   found_next found now u so_far more e next =
       more ∙ ap (λ us. us ++ u ∷ []) so_far ∙ ap (λ v. reverse (from xs ys n) ++ v ∷ []) e
       ∙ sym (ap reverse next ∙ reverse-append (x ∷ []) (from xs ys n))
@@ -75,25 +86,33 @@ from_none (x ∷ xs) (y ∷ ys) (suc k) e = from_none xs ys k (none_left (update
 
 module _ (s : Histories) (r : ℕ) where
   has_none : (m : ℕ) (d : ObjectOp) → length (history s r) ≤ m → has_update s (update_of r (suc m) d) ≡ false
-  has_none m d le = ap (λ o. is_update (option_map (update_of r (suc m)) o) (update_of r (suc m) d)) (slice_get_past (history s r) m le)
+  has_none m d le =
+      ap (λ o. is_update (option_map (update_of r (suc m)) o) (update_of r (suc m) d)) (slice_get_past (history s r) m le)
 
-  has_some : (m : ℕ) (d e : ObjectOp) → slice_get (history s r) m ≡ Some e → has_update s (update_of r (suc m) d) ≡ update_eq (update_of r (suc m) e) (update_of r (suc m) d)
+  has_some : (m : ℕ) (d e : ObjectOp) → slice_get (history s r) m ≡ Some e
+      → has_update s (update_of r (suc m) d) ≡ update_eq (update_of r (suc m) e) (update_of r (suc m) d)
   has_some m d e got = ap (λ o. is_update (option_map (update_of r (suc m)) o) (update_of r (suc m) d)) got
 
   chosen : (b : Bool) (u : Update) (us : List Update) → cond (not b) (u ∷ us) us ≡ cond b us (u ∷ us)
   chosen true u us = refl
   chosen false u us = refl
 
-  pub lacked-is : (m : ℕ) (ds : List ObjectOp) → filter (lacks s) (numbered r (suc m) ds) ≡ unmatched (numbered r (suc m) ds) (numbered r (suc m) (drop m (history s r)))
+  pub lacked-is : (m : ℕ) (ds : List ObjectOp)
+      → filter (lacks s) (numbered r (suc m) ds)
+      ≡ unmatched (numbered r (suc m) ds) (numbered r (suc m) (drop m (history s r)))
   lacked-is m [] = refl
   lacked-is m (d ∷ ds) = elim (cases_lt m (length (history s r))) [
     | inl lt ↦
         let e = get_or (history s r) m d in
         let got = slice_get-get_or (history s r) m d lt in
-        let more : drop m (history s r) ≡ e ∷ drop (suc m) (history s r) = drop_more (history s r) m d lt ∙ ap (λ n. e ∷ drop n (history s r)) {x = m + 1} {y = suc m} (omega arith) in
+        let more : drop m (history s r) ≡ e ∷ drop (suc m) (history s r) =
+        drop_more (history s r) m d lt ∙ ap (λ n. e ∷ drop n (history s r)) {x = m + 1} {y = suc m} (omega arith) in
         let rest = lacked-is (suc m) ds in
         let u = update_of r (suc m) d in
-        ap (λ b. cond (not b) (u ∷ filter (lacks s) (numbered r (suc (suc m)) ds)) (filter (lacks s) (numbered r (suc (suc m)) ds))) (has_some m d e got)
+        ap
+        (λ b.
+        cond (not b) (u ∷ filter (lacks s) (numbered r (suc (suc m)) ds))
+        (filter (lacks s) (numbered r (suc (suc m)) ds))) (has_some m d e got)
         ∙ chosen (update_eq (update_of r (suc m) e) u) u (filter (lacks s) (numbered r (suc (suc m)) ds))
         ∙ ap (λ us. cond (update_eq (update_of r (suc m) e) u) us (u ∷ us)) rest
         ∙ sym (ap (λ es. unmatched (u ∷ numbered r (suc (suc m)) ds) (numbered r (suc m) es)) more)
@@ -101,15 +120,22 @@ module _ (s : Histories) (r : ℕ) where
         let u = update_of r (suc m) d in
         let none = drop_all m (history s r) le in
         let none_further = drop_all (suc m) (history s r) (omega (arith, le)) in
-        ap (λ b. cond (not b) (u ∷ filter (lacks s) (numbered r (suc (suc m)) ds)) (filter (lacks s) (numbered r (suc (suc m)) ds))) (has_none m d le)
-        ∙ ap (λ us. u ∷ us) (lacked-is (suc m) ds ∙ ap (λ es. unmatched (numbered r (suc (suc m)) ds) (numbered r (suc (suc m)) es)) none_further ∙ unmatched-all (numbered r (suc (suc m)) ds))
+        ap
+        (λ b.
+        cond (not b) (u ∷ filter (lacks s) (numbered r (suc (suc m)) ds))
+        (filter (lacks s) (numbered r (suc (suc m)) ds))) (has_none m d le)
+        ∙ ap (λ us. u ∷ us)
+        (lacked-is (suc m) ds
+        ∙ ap (λ es. unmatched (numbered r (suc (suc m)) ds) (numbered r (suc (suc m)) es)) none_further
+        ∙ unmatched-all (numbered r (suc (suc m)) ds))
         ∙ sym (ap (λ es. unmatched (u ∷ numbered r (suc (suc m)) ds) (numbered r (suc m) es)) none)
   ]
 
 -- ## Going back along two lists
 
 -- the last of a list, which is the first so many items of another
-module _ (xs items before : List Update) (x : Update) (is : items ≡ take (length items) xs) (within : length items ≤ length xs) (ends : items ≡ before ++ x ∷ []) where
+module _ (xs items before : List Update) (x : Update) (is : items ≡ take (length items) xs)
+    (within : length items ≤ length xs) (ends : items ≡ before ++ x ∷ []) where
   pub one_less : length items ≡ length before + 1
   one_less = ap length ends ∙ length-append before (x ∷ [])
 
@@ -121,7 +147,8 @@ module _ (all items : List Update) (len k : ℕ) (next : len ≡ k + 1) (is : it
   many = ap length is ∙ length-take len all
 
   -- it reaches to the place: this is what stands there
-  pub reaching : (before : List Update) (y : Update) → items ≡ before ++ y ∷ [] → length items ≡ len → (before ≡ take k all) × (slice_get all k ≡ Some y)
+  pub reaching : (before : List Update) (y : Update) → items ≡ before ++ y ∷ [] → length items ≡ len
+      → (before ≡ take k all) × (slice_get all k ≡ Some y)
   reaching before y ends same = last_is all before k len y next (omega (arith, next, same, many)) (sym is ∙ ends)
 
   few_from : (k < length all) ⊎ (length all ≤ k) → (length items ≡ len → ⊥) → length all ≤ k
@@ -135,12 +162,16 @@ module _ (all items : List Update) (len k : ℕ) (next : len ≡ k + 1) (is : it
       (is ∙ take_all len all (omega (arith, next, few)) ∙ sym (take_all k all few), slice_get_past all k few)
 
 -- of two sets' lists of a replica, what the first has and the second set has not
-pub lacked-lists : (s : Histories) (r : ℕ) (ds : List ObjectOp) (us vs : List Update) → us ≡ numbered r 1 ds → vs ≡ numbered r 1 (history s r) → unmatched us vs ≡ filter (lacks s) (numbered r 1 ds)
-lacked-lists s r ds us vs mine theirs = ap (λ ws. unmatched ws vs) mine ∙ ap (unmatched (numbered r 1 ds)) theirs ∙ sym (lacked-is s r 0 ds)
+pub lacked-lists : (s : Histories) (r : ℕ) (ds : List ObjectOp) (us vs : List Update) → us ≡ numbered r 1 ds
+    → vs ≡ numbered r 1 (history s r) → unmatched us vs ≡ filter (lacks s) (numbered r 1 ds)
+lacked-lists s r ds us vs mine theirs =
+    ap (λ ws. unmatched ws vs) mine ∙ ap (unmatched (numbered r 1 ds)) theirs ∙ sym (lacked-is s r 0 ds)
 
 -- where all are there, nothing is lacked
-pub none_lacked : (s : Histories) (us : List Update) → ((k : ℕ) (d : Update) → k < length us → ContainsUpdate s (get_or us k d)) → filter (lacks s) us ≡ []
+pub none_lacked : (s : Histories) (us : List Update)
+    → ((k : ℕ) (d : Update) → k < length us → ContainsUpdate s (get_or us k d)) → filter (lacks s) us ≡ []
 none_lacked s [] there = refl
 none_lacked s (u ∷ us) there =
-    ap (λ b. cond (not b) (u ∷ filter (lacks s) us) (filter (lacks s) us)) ((has_update-Decides s u).1 (there 0 u (omega arith)))
+    ap (λ b. cond (not b) (u ∷ filter (lacks s) us) (filter (lacks s) us))
+    ((has_update-Decides s u).1 (there 0 u (omega arith)))
     ∙ none_lacked s us (λ k d lt. there (suc k) d (omega (arith, lt)))

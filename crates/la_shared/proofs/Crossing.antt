@@ -34,12 +34,22 @@ pass_send = search (set_send, seat_send, heap.crosses, knot.crosses, sendable) d
 pub note_send : IsSend (Note.the_field).row
 note_send = search (set_send, seat_send, heap.crosses, knot.crosses, sendable) depth 60 fits 20000
 
-shared_sync : (S V K P : RattleType) (g : Ghosts P.Denot S.Denot V.Denot K.Denot) → IsSend S → IsSync (Shared.the_row S V K P g)
+shared_sync : (S V K P : RattleType) (g : Ghosts P.Denot S.Denot V.Denot K.Denot) → IsSend S
+    → IsSync (Shared.the_row S V K P g)
 shared_sync S V K P g s = let fields : IsSync (Struct (shape (Shared.the_type S V K P g))) = search sendable depth 20 in
-    record { shared = λ d b o ν. (fields.shared (d.words, (d.slots, (tt, tt))) b o ν, shares_keyless S s V.coded.code d.table_id (g.holds d.key) d.words d.slots ν) }
+    record {
+      shared =
+          λ d b o ν. (
+            fields.shared (d.words, (d.slots, (tt, tt))) b o ν,
+            shares_keyless S s V.coded.code d.table_id
+                (g.holds d.key) d.words d.slots ν,
+          );
+    }
 
-lease_sync : (T A : RattleType) (g : alloc.Ghosts A.Denot) → IsSend A → Frees g g.dealloc_token → IsSync (SendLease.the_row T A g)
-lease_sync T A g s f = record { shared = λ d b o ν q. part_keyless (SendLease.the_row T A g) (right_send T A g f) q d b o }
+lease_sync : (T A : RattleType) (g : alloc.Ghosts A.Denot) → IsSend A → Frees g g.dealloc_token
+    → IsSync (SendLease.the_row T A g)
+lease_sync T A g s f =
+    record { shared = λ d b o ν q. part_keyless (SendLease.the_row T A g) (right_send T A g f) q d b o }
 
 core_sync : IsSync (Core.the_field).row
 core_sync = search (set_send, shared_sync, lease_sync, heap.crosses, knot.crosses, sendable) depth 60 fits 20000

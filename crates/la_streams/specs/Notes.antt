@@ -31,7 +31,8 @@ proposed_note own commit = note own (codes "proposed" ∷ decimal commit ∷ [])
 
 -- in an instance the set of a ballot was learnt, which has so many updates of each replica
 abbrev pub learnt_note : (own instance ballot : ℕ) → Counts → List ℕ
-learnt_note own instance ballot counts = note own (codes "learnt" ∷ decimal instance ∷ decimal ballot ∷ count_words counts)
+learnt_note own instance ballot counts =
+    note own (codes "learnt" ∷ decimal instance ∷ decimal ballot ∷ count_words counts)
 
 -- its view has so many updates of each replica now
 abbrev pub view_note : (own : ℕ) → Counts → List ℕ

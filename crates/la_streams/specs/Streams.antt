@@ -63,8 +63,10 @@ last_kind false (b ∷ line) = next.Cut
 -- what stands next
 abbrev pub IsNext : (before after : Option (List ℕ)) → (line : List ℕ) → Next → Type 0
 IsNext before after line next.Line = IsOneLine line × Consumes before after (line ++ 10 ∷ [])
-IsNext before after line next.Long = (long : List ℕ) × IsOneLine long × (MAX_LINE < length long) × Consumes before after (long ++ 10 ∷ [])
-IsNext before after line next.Cut = (rest : List ℕ) × (0 < length rest) × IsOneLine rest × Consumes before after rest × IsAtEnd after
+IsNext before after line next.Long =
+    (long : List ℕ) × IsOneLine long × (MAX_LINE < length long) × Consumes before after (long ++ 10 ∷ [])
+IsNext before after line next.Cut =
+    (rest : List ℕ) × (0 < length rest) × IsOneLine rest × Consumes before after rest × IsAtEnd after
 IsNext before after line next.End = Consumes before after [] × IsAtEnd after
 
 -- so far these lines were read, each with its end
@@ -87,11 +89,13 @@ pub record ReadsAll (left_before left_after : Option (List ℕ)) (lines : List (
 -- ## What is told
 
 -- a line was told, or a front of it and the rest was refused
-abbrev pub Tells : {E : Type 0} (contents : E → Option (List ℕ)) (refuses : E → List ℕ → E → Type 0) → (old new : E) → List ℕ → Type 0
+abbrev pub Tells : {E : Type 0} (contents : E → Option (List ℕ)) (refuses : E → List ℕ → E → Type 0) → (old new : E)
+    → List ℕ → Type 0
 Tells contents refuses old new line = Writes contents old new line ⊎ Refuses contents refuses old new line
 
 -- lines were told one after another
-abbrev pub TellsAll : {E : Type 0} (contents : E → Option (List ℕ)) (refuses : E → List ℕ → E → Type 0) → (old new : E) → List (List ℕ) → Type 0
+abbrev pub TellsAll : {E : Type 0} (contents : E → Option (List ℕ)) (refuses : E → List ℕ → E → Type 0) → (old new : E)
+    → List (List ℕ) → Type 0
 TellsAll contents refuses old new [] = new ≡ old
 TellsAll {E} contents refuses old new (line ∷ lines) =
     (between : E) × Tells contents refuses old between line × TellsAll contents refuses between new lines

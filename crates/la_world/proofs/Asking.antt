@@ -37,7 +37,9 @@ line_added : (g : Group) (es : List Event) (e : Event) → let t = trace g (runs
 unfolding runs
 line_added g es e = go (refused g (trace g (runs g es).accepted) e)
   where
-    go : (o : Option Refusal) → (runs_on g (runs g es) e (trace g (runs g es).accepted) o).lines ≡ becomes g (trace g (runs g es).accepted) e o ∷ (runs g es).lines
+    go : (o : Option Refusal)
+        → (runs_on g (runs g es) e (trace g (runs g es).accepted) o).lines
+        ≡ becomes g (trace g (runs g es).accepted) e o ∷ (runs g es).lines
     go None = refl
     go (Some name) = refl
 
@@ -56,17 +58,26 @@ module _ (g : Group) where
   line_at [] k d e = absurd (none-some d e)
   line_at (e ∷ es) k d is = elim (cases_lt k (length es)) [
     | inl lt ↦
-        let there : slice_get (reverse es) k ≡ Some d = sym (slice_get-append_left (reverse es) (e ∷ []) k (omega (arith, events_many))) ∙ ap (λ xs. slice_get xs k) (sym listed) ∙ is in
-        let same : take k (reverse (e ∷ es)) ≡ take k (reverse es) = ap (take k) listed ∙ take-append-le k (reverse es) (e ∷ []) (omega (arith, events_many)) in
-        ap (λ ls. slice_get ls k) lines_listed ∙ slice_get-append_left (reverse (runs g es).lines) (line ∷ []) k (omega (arith, lines_many))
+        let there : slice_get (reverse es) k ≡ Some d =
+        sym (slice_get-append_left (reverse es) (e ∷ []) k (omega (arith, events_many)))
+        ∙ ap (λ xs. slice_get xs k) (sym listed) ∙ is in
+        let same : take k (reverse (e ∷ es)) ≡ take k (reverse es) =
+        ap (take k) listed ∙ take-append-le k (reverse es) (e ∷ []) (omega (arith, events_many)) in
+        ap (λ ls. slice_get ls k) lines_listed
+        ∙ slice_get-append_left (reverse (runs g es).lines) (line ∷ []) k (omega (arith, lines_many))
         ∙ line_at es k d there
         ∙ ap (λ xs. let t = trace_of g xs in Some (becomes g t d (refused g t d))) (sym same)
     | inr le ↦
         let in_list : k < length (reverse (e ∷ es)) = slice_get_within (reverse (e ∷ es)) k d is in
         let last : k ≡ length es = omega (arith, length-reverse (e ∷ es)) in
-        let at : e ≡ d = same_Some e d (sym (last_is (reverse es) e k (last ∙ sym events_many)) ∙ ap (λ xs. slice_get xs k) (sym listed) ∙ is) in
-        let all : take k (reverse (e ∷ es)) ≡ reverse es = ap (take k) listed ∙ take-append-le k (reverse es) (e ∷ []) (omega (arith, events_many)) ∙ take_all k (reverse es) (omega (arith, events_many)) in
-        let then : trace_of g (take k (reverse (e ∷ es))) ≡ trace g (runs g es).accepted = ap (trace_of g) all ∙ ap (λ xs. trace g (runs g xs).accepted) (reverse-reverse es) in
+        let at : e ≡ d =
+        same_Some e d
+        (sym (last_is (reverse es) e k (last ∙ sym events_many)) ∙ ap (λ xs. slice_get xs k) (sym listed) ∙ is) in
+        let all : take k (reverse (e ∷ es)) ≡ reverse es =
+        ap (take k) listed ∙ take-append-le k (reverse es) (e ∷ []) (omega (arith, events_many))
+        ∙ take_all k (reverse es) (omega (arith, events_many)) in
+        let then : trace_of g (take k (reverse (e ∷ es))) ≡ trace g (runs g es).accepted =
+        ap (trace_of g) all ∙ ap (λ xs. trace g (runs g xs).accepted) (reverse-reverse es) in
         ap (λ ls. slice_get ls k) lines_listed ∙ last_is (reverse (runs g es).lines) line k (last ∙ sym lines_many)
         ∙ ap₂ (λ t z. Some (becomes g t z (refused g t z))) (sym then) at
   ]
@@ -104,7 +115,8 @@ done_by (Done s) = Some s
 done_by (Refused name) = None
 
 -- what is not refused is answered
-value_there : (o : Option Kind) (f : Kind → Answer) (answer : Answer) → refused_object o ≡ None → unwrap_or (option_map f o) Foreign ≡ answer → option_map f o ≡ Some answer
+value_there : (o : Option Kind) (f : Kind → Answer) (answer : Answer) → refused_object o ≡ None
+    → unwrap_or (option_map f o) Foreign ≡ answer → option_map f o ≡ Some answer
 value_there None f answer allowed is = cc
 value_there (Some kind) f answer allowed is = ap Some is
 
@@ -121,15 +133,19 @@ answers_are_values g events place r object query answer h = go (refused g t e) r
     line_is : becomes g t e (refused g t e) ≡ Done h.step
     line_is = same_Some _ _ (sym (line_of_place g events place e h.asked) ∙ h.done)
 
-    go : (o : Option Refusal) → refused g t e ≡ o → becomes g t e o ≡ Done h.step → answer_of g t r object query ≡ Some answer
+    go : (o : Option Refusal) → refused g t e ≡ o → becomes g t e o ≡ Done h.step
+        → answer_of g t r object query ≡ Some answer
     go (Some name) is k = absurd (none-some h.step (ap done_by k))
     go None allowed k =
         let done = same_Some _ h.step (ap done_by k) in
         let replied = same_Some _ answer (ap (λ (s : Step). replied_by s.did) done ∙ ap replied_by h.replied) in
-        let object_allowed = (none_from_cond (nat_le (replicas g) r) NoSuchReplica (refused_object (kind_at (kinds_on g r) object)) allowed).1 in
+        let object_allowed =
+        (none_from_cond (nat_le (replicas g) r) NoSuchReplica (refused_object (kind_at (kinds_on g r) object)) allowed).1
+        in
         value_there (kind_at (kinds_on g r) object) _ answer object_allowed replied
 
-pub answers_alike : (g : Group) (events : List Event) (steps : List Line) → AnswersAreValues g events steps → EqualViewsAnswerAlike g events steps
+pub answers_alike : (g : Group) (events : List Event) (steps : List Line) → AnswersAreValues g events steps
+    → EqualViewsAnswerAlike g events steps
 answers_alike g events steps values j k r q object query a b x y kinds views =
     same_Some a b (sym (values j r object query a x)
     ∙ ap₂ (λ o v. option_map (λ kind. value kind (updates_at v object) query) o) kinds views

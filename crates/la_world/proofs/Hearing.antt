@@ -39,7 +39,9 @@ abbrev IsAcceptedMessage : Trace → Message → Type 0
 IsAcceptedMessage t m = IsAccepted t m m.body
 
 accepted_stays : (x : Entry) (t : Trace) (m : Message) (body : Body) → IsAccepted t m body → IsAccepted (x ∷ t) m body
-accepted_stays x t m (No s) h = subset-trans s (accepted t m.instance m.from) (accepted (x ∷ t) m.instance m.from) h (accepted_more x t m.instance m.from)
+accepted_stays x t m (No s) h =
+    subset-trans s (accepted t m.instance m.from) (accepted (x ∷ t) m.instance m.from) h
+    (accepted_more x t m.instance m.from)
 accepted_stays x t m (Offer s) h = tt
 accepted_stays x t m Yes h = tt
 accepted_stays x t m (Tell s) h = tt
@@ -52,7 +54,10 @@ answer_accepted x t m s d e = go (is_subset u s)
     u = accepted t m.instance m.to
 
     at : offered_to m.instance m.to x.delivered ≡ s ∷ []
-    at = ap (offered_to m.instance m.to) d ∙ cond-true ((m.instance == m.instance) && (m.to == m.to)) (offered m.body) [] (and_from _ _ (eq-eqb m.instance m.instance refl) (eq-eqb m.to m.to refl)) ∙ ap offered e
+    at =
+        ap (offered_to m.instance m.to) d
+        ∙ cond-true ((m.instance == m.instance) && (m.to == m.to)) (offered m.body) []
+        (and_from _ _ (eq-eqb m.instance m.instance refl) (eq-eqb m.to m.to refl)) ∙ ap offered e
 
     go : (v : Bool) → let a = cond v replied.Yes (replied.No (join u s)) in IsAccepted (x ∷ t) (reply_to m a) (body_of a)
     go true = tt
@@ -65,29 +70,36 @@ next_accepted : (n : ℕ) (t : Trace) (o : Option Opening) → AllIn (IsAccepted
 next_accepted n t None = tt
 next_accepted n t (Some b) = offers_accepted n t b
 
-new_accepted : (g : Group) (x : Entry) (t : Trace) (e : Event) (m : Option Message) (d : Did) → x.delivered ≡ m → EventCases g t e m d → AllIn (IsAcceptedMessage (x ∷ t)) (sent_by (replicas g) m d)
+new_accepted : (g : Group) (x : Entry) (t : Trace) (e : Event) (m : Option Message) (d : Did) → x.delivered ≡ m
+    → EventCases g t e m d → AllIn (IsAcceptedMessage (x ∷ t)) (sent_by (replicas g) m d)
 new_accepted g x t v m d p (silent o l s) = subst (AllIn (IsAcceptedMessage (x ∷ t))) (sym s) tt
 new_accepted g x t v m d p (opens b o) = offers_accepted (replicas g) (x ∷ t) b
 new_accepted g x t v m d p (answers_offer k s e) = (answer_accepted x t k s p e, tt)
 new_accepted g x t v m d p (refines b o) = offers_accepted (replicas g) (x ∷ t) b
 new_accepted g x t v m d p (learns k a next e c y o) =
-    AllIn-append (IsAcceptedMessage (x ∷ t)) (tells_for (replicas g) (round t k.instance k.to)) (offers_for_next (replicas g) next)
-    (tells_all (IsAcceptedMessage (x ∷ t)) (replicas g) (round t k.instance k.to) (λ z to lt. tt)) (next_accepted (replicas g) (x ∷ t) next)
+    AllIn-append (IsAcceptedMessage (x ∷ t)) (tells_for (replicas g) (round t k.instance k.to))
+    (offers_for_next (replicas g) next)
+    (tells_all (IsAcceptedMessage (x ∷ t)) (replicas g) (round t k.instance k.to) (λ z to lt. tt))
+    (next_accepted (replicas g) (x ∷ t) next)
 
 -- ## Reports
 
 -- an acknowledgement that counts is to the open ballot, whose set was what its acceptor had accepted
-backed_accepted : (g : Group) (t : Trace) → Holds g t → (m : Message) → counts t m ≡ true → IsBacked t m.instance m.to m.ballot m.from
+backed_accepted : (g : Group) (t : Trace) → Holds g t → (m : Message) → counts t m ≡ true
+    → IsBacked t m.instance m.to m.ballot m.from
     → IsSubset (round t m.instance m.to).updates (accepted t m.instance m.from)
 backed_accepted g t h m c b =
     let is = counts_is t m c in
     let last = round t m.instance m.to in
-    let same : b.ballot ≡ last = same_number (ballots t m.instance m.to) b.ballot last (h.quorum.numbered m.instance m.to) b.opened (open_in t m.instance m.to is.0) (b.is_number ∙ is.1) in
-    subst (λ s. IsSubset s (accepted t m.instance m.from)) (b.was ∙ ap (λ (o : Opening). o.updates) same) (accepted_earlier b.later t m.instance m.from)
+    let same : b.ballot ≡ last =
+    same_number (ballots t m.instance m.to) b.ballot last (h.quorum.numbered m.instance m.to) b.opened
+    (open_in t m.instance m.to is.0) (b.is_number ∙ is.1) in
+    subst (λ s. IsSubset s (accepted t m.instance m.from)) (b.was ∙ ap (λ (o : Opening). o.updates) same)
+    (accepted_earlier b.later t m.instance m.from)
 
 -- what a reply that counts says its acceptor has
-told_accepted : (g : Group) (t : Trace) → Holds g t → (m : Message) (body : Body) → counts t m ≡ true → IsJustified t m body → IsAccepted t m body
-    → (before : Histories) → IsSubset before (accepted t m.instance m.from)
+told_accepted : (g : Group) (t : Trace) → Holds g t → (m : Message) (body : Body) → counts t m ≡ true
+    → IsJustified t m body → IsAccepted t m body → (before : Histories) → IsSubset before (accepted t m.instance m.from)
     → IsSubset (unwrap_or (told_by (round t m.instance m.to).updates body) before) (accepted t m.instance m.from)
 told_accepted g t h m Yes c j w before b = backed_accepted g t h m c j
 told_accepted g t h m (No s) c j w before b = w
@@ -110,7 +122,9 @@ module _ (g : Group) (t : Trace) (h : Holds g t) (are : AreAccepted g t) where
       here : counts t m ≡ true → Goal m.instance m.to m.from
       here c =
           let is_in = was_sent m refl in
-          told_accepted g t h m m.body c (stands g t h m is_in) (AllIn_at (IsAcceptedMessage t) (sent (replicas g) t) m are.refusals is_in) (reported t m.instance m.to m.from) (are.reports m.instance m.to m.from)
+          told_accepted g t h m m.body c (stands g t h m is_in)
+          (AllIn_at (IsAcceptedMessage t) (sent (replicas g) t) m are.refusals is_in)
+          (reported t m.instance m.to m.from) (are.reports m.instance m.to m.from)
 
       go : (v : Bool) → ((m.instance == i) && ((m.to == r) && ((m.from == a) && counts t m))) ≡ v
           → IsSubset (unwrap_or (cond v (told_by (round t i r).updates m.body) None) (reported t i r a)) (accepted t i a)
@@ -118,26 +132,33 @@ module _ (g : Group) (t : Trace) (h : Holds g t) (are : AreAccepted g t) where
           let p = and_parts (m.instance == i) ((m.to == r) && ((m.from == a) && counts t m)) e in
           let q = and_parts (m.to == r) ((m.from == a) && counts t m) p.1 in
           let s = and_parts (m.from == a) (counts t m) q.1 in
-          subst (λ j. Goal j r a) (eqb-true m.instance i p.0) (subst₂ (λ j k. Goal m.instance j k) (eqb-true m.to r q.0) (eqb-true m.from a s.0) (here s.1))
+          subst (λ j. Goal j r a) (eqb-true m.instance i p.0)
+          (subst₂ (λ j k. Goal m.instance j k) (eqb-true m.to r q.0) (eqb-true m.from a s.0) (here s.1))
       go false e = are.reports i r a
 
 pub accepted_start : (g : Group) → AreAccepted g []
 unfolding sent reported
 accepted_start g = record { refusals = tt; reports = λ i r a. empty_least (accepted [] i a) }
 
-pub accepted_kept : (g : Group) (t : Trace) (x : Entry) → Step g t x → Holds g t → AreAccepted g t → AreAccepted g (x ∷ t)
+pub accepted_kept : (g : Group) (t : Trace) (x : Entry) → Step g t x → Holds g t → AreAccepted g t
+    → AreAccepted g (x ∷ t)
 unfolding sent reported
 accepted_kept g t x step h are = record {
   refusals = AllIn-append (IsAcceptedMessage (x ∷ t)) (sent (replicas g) t) (sent_by (replicas g) x.delivered x.did)
-      (AllIn-each (IsAcceptedMessage t) (IsAcceptedMessage (x ∷ t)) (λ m k. accepted_stays x t m m.body k) (sent (replicas g) t) are.refusals)
+      (AllIn-each (IsAcceptedMessage t) (IsAcceptedMessage (x ∷ t)) (λ m k. accepted_stays x t m m.body k)
+      (sent (replicas g) t) are.refusals)
       (new_accepted g x t x.event x.delivered x.did refl step.cases);
-  reports = λ i r a. subset-trans (unwrap_or (heard_from t i r a x.delivered) (reported t i r a)) (accepted t i a) (accepted (x ∷ t) i a)
+  reports =
+      λ i r a.
+      subset-trans (unwrap_or (heard_from t i r a x.delivered) (reported t i r a)) (accepted t i a)
+      (accepted (x ∷ t) i a)
       (heard_accepted g t h are i r a x.delivered step.was_sent) (accepted_more x t i a);
 }
 
 pub reports_are_accepted : ReportsAreAccepted
 unfolding trace
-reports_are_accepted g events [] i r a = (always g (AreAccepted g) (accepted_start g) (accepted_kept g) events).reports i r a
+reports_are_accepted g events [] i r a =
+    (always g (AreAccepted g) (accepted_start g) (accepted_kept g) events).reports i r a
 reports_are_accepted g events (e ∷ later) i r a =
     let t = trace g (later ++ events) in
     subset-trans (reported (trace g events) i r a) (accepted t i a) (accepted (entry g t e ∷ t) i a)

@@ -58,12 +58,17 @@ pub submitted_by : (x : Entry) (t : Trace) (i r : ℕ) → (submitted (x ∷ t) 
 unfolding submitted
 submitted_by x t i r = go (submission_by x.event x.did) refl
   where
-    go : (o : Option Submission) → submission_by x.event x.did ≡ o → (submitted (x ∷ t) i r ≡ submitted t i r) ⊎ IsSubmitted x t i r
+    go : (o : Option Submission) → submission_by x.event x.did ≡ o
+        → (submitted (x ∷ t) i r ≡ submitted t i r) ⊎ IsSubmitted x t i r
     go None e = inl (ap (λ z. submitted t i r ++ object_op_in i r z) e ∙ append-nil (submitted t i r))
     go (Some s) e = here ((s.instance == i) && (s.replica == r)) refl
       where
-        here : (v : Bool) → ((s.instance == i) && (s.replica == r)) ≡ v → (submitted (x ∷ t) i r ≡ submitted t i r) ⊎ IsSubmitted x t i r
-        here false k = inl (ap (λ z. submitted t i r ++ object_op_in i r z) e ∙ ap (λ v. submitted t i r ++ cond v (s.object_op ∷ []) []) k ∙ append-nil (submitted t i r))
+        here : (v : Bool) → ((s.instance == i) && (s.replica == r)) ≡ v
+            → (submitted (x ∷ t) i r ≡ submitted t i r) ⊎ IsSubmitted x t i r
+        here false k =
+            inl
+            (ap (λ z. submitted t i r ++ object_op_in i r z) e
+            ∙ ap (λ v. submitted t i r ++ cond v (s.object_op ∷ []) []) k ∙ append-nil (submitted t i r))
         here true k =
             let p = and_parts (s.instance == i) (s.replica == r) k in
             inr record { submission = s; by = e; instance = eqb-true s.instance i p.0; replica = eqb-true s.replica r p.1; all = ap (λ z. submitted t i r ++ object_op_in i r z) e ∙ ap (λ v. submitted t i r ++ cond v (s.object_op ∷ []) []) k }
@@ -76,7 +81,8 @@ module _ (g : Group) (t : Trace) (h : Grouped g t) where
   counted_grouped : (m : Message) → counts t m ≡ true → IsOfGroup g m.instance m.to
   counted_grouped m c = open_grouped m.instance m.to (open_in t m.instance m.to (counts_is t m c).0)
 
-  module _ (x : Entry) (step : Step g t x) (new : (s : Submission) → submission_by x.event x.did ≡ Some s → IsOfGroup g s.instance s.replica) where
+  module _ (x : Entry) (step : Step g t x)
+      (new : (s : Submission) → submission_by x.event x.did ≡ Some s → IsOfGroup g s.instance s.replica) where
     submissions_more : (i r : ℕ) → (submitted (x ∷ t) i r ≡ []) ⊎ IsOfGroup g i r
     submissions_more i r = elim (submitted_by x t i r) [
       | inl e ↦ subst (λ zs. (zs ≡ []) ⊎ IsOfGroup g i r) (sym e) (h.submissions i r)
@@ -97,7 +103,8 @@ module _ (g : Group) (t : Trace) (h : Grouped g t) where
     unfolding ballots
     ballots_more i r = go (only i r (opened_by x.did)) refl
       where
-        go : (v : Option Opening) → only i r (opened_by x.did) ≡ v → AllIn (λ b. IsOfGroup g i r) (cons_option v (ballots t i r))
+        go : (v : Option Opening) → only i r (opened_by x.did) ≡ v
+            → AllIn (λ b. IsOfGroup g i r) (cons_option v (ballots t i r))
         go None e = h.ballots i r
         go (Some b) e =
             let p = only_is i r (opened_by x.did) b e in
@@ -106,11 +113,14 @@ module _ (g : Group) (t : Trace) (h : Grouped g t) where
     offers_between : (b : Opening) → IsOfGroup g b.instance b.replica → AllIn (IsBetween g) (offers_for (replicas g) b)
     offers_between b ok = AllIn-made (IsBetween g) (offer_to (sender_for (replicas g) b) (ballot_of b)) (λ q. q < replicas g) (λ q lt. record { instance = ok.instance; from = ok.replica; to = lt }) (group (replicas g)) (group_within (replicas g))
 
-    next_between : (o : Option Opening) → ((b : Opening) → o ≡ Some b → IsOfGroup g b.instance b.replica) → AllIn (IsBetween g) (offers_for_next (replicas g) o)
+    next_between : (o : Option Opening) → ((b : Opening) → o ≡ Some b → IsOfGroup g b.instance b.replica)
+        → AllIn (IsBetween g) (offers_for_next (replicas g) o)
     next_between None ok = tt
     next_between (Some b) ok = offers_between b (ok b refl)
 
-    new_between : (v : Event) (m : Option Message) (d : Did) → EventCases g t v m d → ((b : Opening) → opened_by d ≡ Some b → IsOfGroup g b.instance b.replica) → ((k : Message) → m ≡ Some k → IsBetween g k) → AllIn (IsBetween g) (sent_by (replicas g) m d)
+    new_between : (v : Event) (m : Option Message) (d : Did) → EventCases g t v m d
+        → ((b : Opening) → opened_by d ≡ Some b → IsOfGroup g b.instance b.replica)
+        → ((k : Message) → m ≡ Some k → IsBetween g k) → AllIn (IsBetween g) (sent_by (replicas g) m d)
     new_between v m d (silent o l s) ok k = subst (AllIn (IsBetween g)) (sym s) tt
     new_between v m d (opens b o) ok k = offers_between b (ok b refl)
     new_between v m d (answers_offer c s e) ok k = let w = k c refl in (record { instance = w.instance; from = w.to; to = w.from }, tt)
@@ -129,17 +139,22 @@ module _ (g : Group) (t : Trace) (h : Grouped g t) where
       submissions = submissions_more;
       ballots = ballots_more;
       messages = AllIn-append (IsBetween g) (sent (replicas g) t) (sent_by (replicas g) x.delivered x.did) h.messages
-          (new_between x.event x.delivered x.did step.cases (λ b e. opened_grouped b (step_opens g t x step b e)) (λ m e. AllIn_at (IsBetween g) (sent (replicas g) t) m h.messages (step.was_sent m e)));
+          (new_between x.event x.delivered x.did step.cases (λ b e. opened_grouped b (step_opens g t x step b e))
+          (λ m e. AllIn_at (IsBetween g) (sent (replicas g) t) m h.messages (step.was_sent m e)));
     }
 
 -- ## What is not refused
 
 -- a second vote is of the second instance of the same object
-pub second_vote_is : (b : Opening) (s : Submission) → second_vote b ≡ Some s → (is_first_instance b.instance ≡ true) × (s.instance ≡ second_instance (commit_of b.instance)) × (s.replica ≡ b.replica)
+pub second_vote_is : (b : Opening) (s : Submission) → second_vote b ≡ Some s
+    → (is_first_instance b.instance ≡ true) × (s.instance ≡ second_instance (commit_of b.instance))
+    × (s.replica ≡ b.replica)
 second_vote_is b s e = go (is_first_instance b.instance) refl (proposed b.updates b.replica) e
   where
-    go : (v : Bool) → is_first_instance b.instance ≡ v → (o : Option ℕ) → cond v (second_vote_of (commit_of b.instance) b.replica b.updates o) None ≡ Some s
-        → (is_first_instance b.instance ≡ true) × (s.instance ≡ second_instance (commit_of b.instance)) × (s.replica ≡ b.replica)
+    go : (v : Bool) → is_first_instance b.instance ≡ v → (o : Option ℕ)
+        → cond v (second_vote_of (commit_of b.instance) b.replica b.updates o) None ≡ Some s
+        → (is_first_instance b.instance ≡ true) × (s.instance ≡ second_instance (commit_of b.instance))
+        × (s.replica ≡ b.replica)
     go false f o k = absurd (none-some s k)
     go true f None k = absurd (none-some s k)
     go true f (Some value) k =
@@ -147,15 +162,18 @@ second_vote_is b s e = go (is_first_instance b.instance) refl (proposed b.update
         (f, ap (λ (z : Submission). z.instance) (sym same), ap (λ (z : Submission). z.replica) (sym same))
 
 -- the second instance of an object is of the group, where the first is
-pub second_within : (g : Group) (i : ℕ) → is_first_instance i ≡ true → i < instances g → second_instance (commit_of i) < instances g
+pub second_within : (g : Group) (i : ℕ) → is_first_instance i ≡ true → i < instances g
+    → second_instance (commit_of i) < instances g
 second_within g i first lt = let odd = eqb-true (i % 2) 1 first in omega (arith, div-add-mod i 2)
 
-pub vote_after : (o : Option Opening) (s : Submission) → second_vote_after o ≡ Some s → (b : Opening) × (o ≡ Some b) × (second_vote b ≡ Some s)
+pub vote_after : (o : Option Opening) (s : Submission) → second_vote_after o ≡ Some s
+    → (b : Opening) × (o ≡ Some b) × (second_vote b ≡ Some s)
 vote_after None s e = absurd (none-some s e)
 vote_after (Some b) s e = (b, refl, e)
 
 -- what an event submits that is not refused
-submits_grouped : (g : Group) (t : Trace) (e : Event) → Grouped g t → refused g t e ≡ None → (s : Submission) → submission_by e (entry g t e).did ≡ Some s → IsOfGroup g s.instance s.replica
+submits_grouped : (g : Group) (t : Trace) (e : Event) → Grouped g t → refused g t e ≡ None → (s : Submission)
+    → submission_by e (entry g t e).did ≡ Some s → IsOfGroup g s.instance s.replica
 submits_grouped g t (Submit r object_op) h allowed s e =
     let same = same_Some _ s e in
     subst (λ (z : Submission). IsOfGroup g z.instance z.replica) same (record { instance = omega arith; replica = submitter_known g t r object_op allowed })
@@ -191,10 +209,12 @@ grouped g (e ∷ events) legal =
 -- ## How much was submitted
 
 -- the event submits this in instance 0
-capped_more : (g : Group) (t : Trace) (e : Event) → refused g t e ≡ None → (q : ℕ) → length (submitted t 0 q) ≤ g.cap → IsSubmitted (entry g t e) t 0 q → length (submitted (entry g t e ∷ t) 0 q) ≤ g.cap
+capped_more : (g : Group) (t : Trace) (e : Event) → refused g t e ≡ None → (q : ℕ) → length (submitted t 0 q) ≤ g.cap
+    → IsSubmitted (entry g t e) t 0 q → length (submitted (entry g t e ∷ t) 0 q) ≤ g.cap
 capped_more g t (Submit r object_op) allowed q le s =
     let same : r ≡ q = ap (λ (z : Submission). z.replica) (same_Some _ s.submission s.by) ∙ s.replica in
-    let room : length (submitted t 0 q) < g.cap = subst (λ p. length (submitted t 0 p) < g.cap) same (submitter_room g t r object_op allowed) in
+    let room : length (submitted t 0 q) < g.cap =
+    subst (λ p. length (submitted t 0 p) < g.cap) same (submitter_room g t r object_op allowed) in
     omega (arith, room, ap length s.all ∙ length_push (submitted t 0 q) s.submission.object_op)
 capped_more g t (Decide r k value) allowed q le s =
     let at : first_instance k ≡ 0 = ap (λ (z : Submission). z.instance) (same_Some _ s.submission s.by) ∙ s.instance in
@@ -205,7 +225,8 @@ capped_more g t (Deliver k) allowed q le s =
     absurd (omega (arith, is.1, s.instance))
 capped_more g t (Ask r object query) allowed q le s = absurd (none-some s.submission s.by)
 
-pub capped : (g : Group) (events : List Event) → IsLegal g events → (q : ℕ) → length (submitted (trace g events) 0 q) ≤ g.cap
+pub capped : (g : Group) (events : List Event) → IsLegal g events → (q : ℕ)
+    → length (submitted (trace g events) 0 q) ≤ g.cap
 unfolding trace submitted
 capped g [] legal q = omega arith
 capped g (e ∷ events) legal q =

@@ -6,7 +6,8 @@ use Rattle.la_world.specs.Kept.{KeptCall, after_call, KeptListsLeadOn, KeptLists
 abbrev played : Option ReplicaState → List KeptCall → Option ReplicaState
 played o calls = fold (λ o call. option_and_then (λ s. after_call s call) o) o calls
 
-played-append : (o : Option ReplicaState) (calls more : List KeptCall) → played o (calls ++ more) ≡ played (played o calls) more
+played-append : (o : Option ReplicaState) (calls more : List KeptCall)
+    → played o (calls ++ more) ≡ played (played o calls) more
 played-append o [] more = refl
 played-append o (call ∷ calls) more = played-append (option_and_then (λ s. after_call s call) o) calls more
 

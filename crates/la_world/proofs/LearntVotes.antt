@@ -59,21 +59,27 @@ pub record IsSecond (t : Trace) (k : ℕ) (v : Vote) : Type 0 where
   pub voted : HasVoted t k replica
   pub is : v ≡ second_vote_for voted.first.updates voted.value
 
-module _ (g : Group) (events : List Event) (few : replicas g ≤ 8) (legal : IsLegal g events) (x : Learnt) (was : Contains (learnt (trace g events)) x) where
+module _ (g : Group) (events : List Event) (few : replicas g ≤ 8) (legal : IsLegal g events) (x : Learnt)
+    (was : Contains (learnt (trace g events)) x) where
   opened : IsIn (learnt_ballot x) (ballots (trace g events) x.instance x.replica)
   opened = (learning_justified g events x (contains_IsIn (learnt (trace g events)) x was)).opened
 
   known : x.replica < 8
   known =
-      let of = AllIn_at (λ (b : Opening). IsOfGroup g x.instance x.replica) (ballots (trace g events) x.instance x.replica) (learnt_ballot x) ((grouped g events legal).ballots x.instance x.replica) opened in
+      let of =
+      AllIn_at (λ (b : Opening). IsOfGroup g x.instance x.replica) (ballots (trace g events) x.instance x.replica)
+      (learnt_ballot x) ((grouped g events legal).ballots x.instance x.replica) opened in
       let lt = of.replica in
       omega (arith, lt, few)
 
   within : IsSubset x.updates (whole (trace g events) x.instance)
-  within = AllIn_at (IsBallotWithin whole (trace g events) x.instance) (ballots (trace g events) x.instance x.replica) (learnt_ballot x) ((holds g events).submitted.ballot x.instance x.replica) opened
+  within =
+      AllIn_at (IsBallotWithin whole (trace g events) x.instance) (ballots (trace g events) x.instance x.replica)
+      (learnt_ballot x) ((holds g events).submitted.ballot x.instance x.replica) opened
 
   -- each of its updates was submitted
-  update_submitted : (u : Update) → ContainsUpdate x.updates u → object_op_number (submitted (trace g events) x.instance u.id.replica) u.id.number ≡ Some (object_op_of u)
+  update_submitted : (u : Update) → ContainsUpdate x.updates u
+      → object_op_number (submitted (trace g events) x.instance u.id.replica) u.id.number ≡ Some (object_op_of u)
   update_submitted u member =
       let t = trace g events in
       let at = object_op-contains (whole t x.instance) u (within u member) in
@@ -83,13 +89,17 @@ module _ (g : Group) (events : List Event) (few : replicas g ≤ 8) (legal : IsL
       ]
 
   -- where these are all that its replica submitted there, it is one of them
-  submitted_at : (i : ℕ) → x.instance ≡ i → (u : Update) → ContainsUpdate x.updates u → (ds : List ObjectOp) → submitted (trace g events) i u.id.replica ≡ ds → object_op_number ds u.id.number ≡ Some (object_op_of u)
-  submitted_at i at u member ds e = subst (λ zs. object_op_number zs u.id.number ≡ Some (object_op_of u)) (ap (λ j. submitted (trace g events) j u.id.replica) at ∙ e) (update_submitted u member)
+  submitted_at : (i : ℕ) → x.instance ≡ i → (u : Update) → ContainsUpdate x.updates u → (ds : List ObjectOp)
+      → submitted (trace g events) i u.id.replica ≡ ds → object_op_number ds u.id.number ≡ Some (object_op_of u)
+  submitted_at i at u member ds e =
+      subst (λ zs. object_op_number zs u.id.number ≡ Some (object_op_of u))
+      (ap (λ j. submitted (trace g events) j u.id.replica) at ∙ e) (update_submitted u member)
 
   casts_only : (u : Update) (v w : Vote) (k : ℕ) → vote_of u.op ≡ Some v → casts k w ≡ object_op_of u → v ≡ w
   casts_only u v w k e same = sym (same_Some w v (ap (λ (d : ObjectOp). vote_of d.op) same ∙ e))
 
-  pub first_votes : (k : ℕ) → x.instance ≡ first_instance k → (v : Vote) → Contains (votes x.updates) v → IsProposal events k v
+  pub first_votes : (k : ℕ) → x.instance ≡ first_instance k → (v : Vote) → Contains (votes x.updates) v
+      → IsProposal events k v
   first_votes k at v has =
       let cast = votes-cast x.updates v has in
       let u = cast.update in
@@ -102,11 +112,15 @@ module _ (g : Group) (events : List Event) (few : replicas g ≤ 8) (legal : IsL
               replica = q;
               value = p.value;
               accepted = p.accepted;
-              is = casts_only u v (first_vote_for p.value) k cast.casts (numbered_one d u.id.number (object_op_of u) (submitted_at (first_instance k) at u cast.member (d ∷ []) p.all));
+              is =
+                  casts_only u v (first_vote_for p.value) k cast.casts
+                  (numbered_one d u.id.number (object_op_of u)
+                  (submitted_at (first_instance k) at u cast.member (d ∷ []) p.all));
             }
       ]
 
-  pub second_votes : (k : ℕ) → x.instance ≡ second_instance k → (v : Vote) → Contains (votes x.updates) v → IsSecond (trace g events) k v
+  pub second_votes : (k : ℕ) → x.instance ≡ second_instance k → (v : Vote) → Contains (votes x.updates) v
+      → IsSecond (trace g events) k v
   second_votes k at v has =
       let cast = votes-cast x.updates v has in
       let u = cast.update in
@@ -119,7 +133,10 @@ module _ (g : Group) (events : List Event) (few : replicas g ≤ 8) (legal : IsL
             record {
               replica = q;
               voted = w;
-              is = casts_only u v y k cast.casts (numbered_one d u.id.number (object_op_of u) (submitted_at (second_instance k) at u cast.member (d ∷ []) w.all));
+              is =
+                  casts_only u v y k cast.casts
+                  (numbered_one d u.id.number (object_op_of u)
+                  (submitted_at (second_instance k) at u cast.member (d ∷ []) w.all));
             }
       ]
 
@@ -131,19 +148,24 @@ module _ (g : Group) (events : List Event) (few : replicas g ≤ 8) (legal : IsL
   abbrev own_op : ObjectOp
   own_op = (learnt_first g events x was).object_op
 
-  own_submitted : (i : ℕ) → x.instance ≡ i → (ds : List ObjectOp) → submitted (trace g events) i r ≡ ds → object_op_number ds 1 ≡ Some own_op
+  own_submitted : (i : ℕ) → x.instance ≡ i → (ds : List ObjectOp) → submitted (trace g events) i r ≡ ds
+      → object_op_number ds 1 ≡ Some own_op
   own_submitted i at ds e = submitted_at i at (update_of r 1 own_op) (learnt_first g events x was).is ds e
 
   own_casts : (k : ℕ) (v : Vote) → casts k v ≡ own_op → HoldsVote x.updates r v
-  own_casts k v same = ap (option_and_then (λ (u : Update). vote_of u.op)) (learnt_first g events x was).is ∙ sym (ap (λ (d : ObjectOp). vote_of d.op) same)
+  own_casts k v same =
+      ap (option_and_then (λ (u : Update). vote_of u.op)) (learnt_first g events x was).is
+      ∙ sym (ap (λ (d : ObjectOp). vote_of d.op) same)
 
-  pub own_first : (k : ℕ) → x.instance ≡ first_instance k → (p : HasProposed events (trace g events) k r) × HoldsVote x.updates r (first_vote_for p.value)
+  pub own_first : (k : ℕ) → x.instance ≡ first_instance k
+      → (p : HasProposed events (trace g events) k r) × HoldsVote x.updates r (first_vote_for p.value)
   own_first k at = elim (proposals g events legal k r) [
     | inl none ↦ absurd (numbered_none 1 own_op (own_submitted (first_instance k) at [] none))
     | inr p ↦ let d = casts k (first_vote_for p.value) in (p, own_casts k (first_vote_for p.value) (numbered_one d 1 own_op (own_submitted (first_instance k) at (d ∷ []) p.all)))
   ]
 
-  pub own_second : (k : ℕ) → x.instance ≡ second_instance k → (w : HasVoted (trace g events) k r) × HoldsVote x.updates r (second_vote_for w.first.updates w.value)
+  pub own_second : (k : ℕ) → x.instance ≡ second_instance k
+      → (w : HasVoted (trace g events) k r) × HoldsVote x.updates r (second_vote_for w.first.updates w.value)
   own_second k at = elim (second_votes_cast g events legal k r) [
     | inl none ↦ absurd (numbered_none 1 own_op (own_submitted (second_instance k) at [] none))
     | inr w ↦

@@ -56,7 +56,8 @@ few_over b (body.Tell t) few = few
 
 one_told : (over : Histories) (m n : code.Message) → TellsAs m n → IsOneTold over n.body → IsOneTold over m.body
 one_told over m n (inl alike) one = one_alike over m.body n.body alike.body one
-one_told over m n (inr (b, may, alike)) one = one_alike over m.body (rebased_body b n.body) alike.body (one_over over b n.body one)
+one_told over m n (inr (b, may, alike)) one =
+    one_alike over m.body (rebased_body b n.body) alike.body (one_over over b n.body one)
 
 few_told : (m n : code.Message) → TellsAs m n → IsTellWithinLimit n.body → IsTellWithinLimit m.body
 few_told m n (inl alike) few = few_alike m.body n.body alike.body few
@@ -68,50 +69,65 @@ tells_in m n (inr over) = over.2.instance
 
 -- ## In a live group
 
-module _ (nodes : List NodeState) (network : List code.Message) (is : IsReached nodes network) (r : ℕ) (node : NodeState) (at : slice_get nodes r ≡ Some node) (m : code.Message) (has : Contains network m) (to : m.to ≡ r) where
-  abbrev n : code.Message
-  n = (is.sent m has).0
+module _ (nodes : List NodeState) (network : List code.Message) (is : IsReached nodes network) (r : ℕ)
+    (node : NodeState) (at : slice_get nodes r ≡ Some node) (m : code.Message) (has : Contains network m) (to : m.to ≡ r)
+  where
+    abbrev n : code.Message
+    n = (is.sent m has).0
 
-  abbrev tells : TellsAs m n
-  tells = (is.sent m has).2
+    abbrev tells : TellsAs m n
+    tells = (is.sent m has).2
 
-  abbrev events : Past
-  events = events_of is.calls
+    abbrev events : Past
+    events = events_of is.calls
 
-  abbrev stored : (place : ℕ) × (slice_get (told_by_calls is.config is.calls) place ≡ Some n)
-  stored = IsIn_place (told_by_calls is.config is.calls) n (contains_IsIn (told_by_calls is.config is.calls) n (is.sent m has).1)
+    abbrev stored : (place : ℕ) × (slice_get (told_by_calls is.config is.calls) place ≡ Some n)
+    stored =
+        IsIn_place (told_by_calls is.config is.calls) n
+        (contains_IsIn (told_by_calls is.config is.calls) n (is.sent m has).1)
 
-  here_one : IsOneTold (view_of node.replica m.instance) m.body
-  here_one =
-      let g = live_group_of is.config in
-      let stands = groups_stand is.config is.calls is.group is.reached in
-      let found = ap (λ ns. slice_get ns r) is.nodes_are ∙ at in
-      let same : replica_state g (trace g events) n.to ≡ node.replica = ap (replica_state g (trace g events)) (sym (tells_to m n tells) ∙ to) ∙ sym (is_state is.config is.group events stands r node found) in
-      let one = sent_one_told g events (few_of is.config [] stands.config) stands.config.group.cap_most stands.led.legal stored.0 n stored.1 in
-      one_told (view_of node.replica m.instance) m n tells
-      (subst (λ i. IsOneTold (view_of node.replica i) n.body) (sym (tells_in m n tells))
-      (subst (λ q. IsOneTold (view_of q n.instance) n.body) same one))
+    here_one : IsOneTold (view_of node.replica m.instance) m.body
+    here_one =
+        let g = live_group_of is.config in
+        let stands = groups_stand is.config is.calls is.group is.reached in
+        let found = ap (λ ns. slice_get ns r) is.nodes_are ∙ at in
+        let same : replica_state g (trace g events) n.to ≡ node.replica =
+        ap (replica_state g (trace g events)) (sym (tells_to m n tells) ∙ to)
+        ∙ sym (is_state is.config is.group events stands r node found) in
+        let one =
+        sent_one_told g events (few_of is.config [] stands.config) stands.config.group.cap_most stands.led.legal
+        stored.0 n stored.1 in
+        one_told (view_of node.replica m.instance) m n tells
+        (subst (λ i. IsOneTold (view_of node.replica i) n.body) (sym (tells_in m n tells))
+        (subst (λ q. IsOneTold (view_of q n.instance) n.body) same one))
 
-  here_few : IsTellWithinLimit m.body
-  here_few =
-      let g = live_group_of is.config in
-      let stands = groups_stand is.config is.calls is.group is.reached in
-      few_told m n tells (sent_within_limit g events (few_of is.config [] stands.config) stands.config.group.cap_most stands.led.legal stored.0 n stored.1)
+    here_few : IsTellWithinLimit m.body
+    here_few =
+        let g = live_group_of is.config in
+        let stands = groups_stand is.config is.calls is.group is.reached in
+        few_told m n tells
+        (sent_within_limit g events (few_of is.config [] stands.config) stands.config.group.cap_most stands.led.legal
+        stored.0 n stored.1)
 
-  pub parcel_is : (p : Parcel) (believed : Counts) → (alike : AreAlikeParcels p (wrapped believed m)) → UnwrapsIn node.replica p → AreAlike (unwrapped_in node.replica p) m
-  parcel_is p believed alike unwraps =
-      let over = view_of node.replica m.instance in
-      let k = unwrapped over p in
-      let stands = parcel_alike_stands over p (wrapped believed m) alike (subst (λ i. Unwraps (view_of node.replica i) p.content) alike.instance unwraps) in
-      subst (λ i. AreAlike (unwrapped (view_of node.replica i) p) m) (sym alike.instance)
-      (subst (AreAlike k) (parcel_unwrapped over believed m stands here_one here_few) (parcel_alike over p (wrapped believed m) alike))
+    pub parcel_is : (p : Parcel) (believed : Counts) → (alike : AreAlikeParcels p (wrapped believed m))
+        → UnwrapsIn node.replica p → AreAlike (unwrapped_in node.replica p) m
+    parcel_is p believed alike unwraps =
+        let over = view_of node.replica m.instance in
+        let k = unwrapped over p in
+        let stands =
+        parcel_alike_stands over p (wrapped believed m) alike
+        (subst (λ i. Unwraps (view_of node.replica i) p.content) alike.instance unwraps) in
+        subst (λ i. AreAlike (unwrapped (view_of node.replica i) p) m) (sym alike.instance)
+        (subst (AreAlike k) (parcel_unwrapped over believed m stands here_one here_few)
+        (parcel_alike over p (wrapped believed m) alike))
 
 the_one : (k x : code.Message) → Contains (k ∷ []) x → k ≡ x
 the_one k x (zero, lt, is) = is
 the_one k x (suc n, lt, is) = absurd (omega arith)
 
 -- with the message that it is on the network too
-with_message : (nodes : List NodeState) (network : List code.Message) (k m : code.Message) → IsReached nodes network → Contains network m → AreAlike k m → IsReached nodes (k ∷ network)
+with_message : (nodes : List NodeState) (network : List code.Message) (k m : code.Message) → IsReached nodes network
+    → Contains network m → AreAlike k m → IsReached nodes (k ∷ network)
 with_message nodes network k m is has alike = record {
   config = is.config;
   calls = is.calls;
@@ -124,7 +140,8 @@ with_message nodes network k m is has alike = record {
   ];
 }
 
-without_message : (nodes : List NodeState) (network mail : List code.Message) (k : code.Message) → IsReached nodes (k ∷ network ++ mail) → IsReached nodes (network ++ mail)
+without_message : (nodes : List NodeState) (network mail : List code.Message) (k : code.Message)
+    → IsReached nodes (k ∷ network ++ mail) → IsReached nodes (network ++ mail)
 without_message nodes network mail k is = record {
   config = is.config;
   calls = is.calls;

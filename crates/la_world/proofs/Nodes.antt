@@ -34,40 +34,55 @@ use Rattle.la_world.proofs.Voters.{exists, start_participates, update_participat
 abbrev pub with_replica : NodeState → ReplicaState → NodeState
 with_replica n after = record { replica = after; shelf = n.shelf }
 
-pub update_keeps : (n : NodeState) (d : ObjectOp) (out : Out) (after : ReplicaState) → IsNode n → submits n.replica 0 d ≡ Some (out, after) → IsNode (with_replica n after) × IsSubset n.replica.view after.view
+pub update_keeps : (n : NodeState) (d : ObjectOp) (out : Out) (after : ReplicaState) → IsNode n
+    → submits n.replica 0 d ≡ Some (out, after) → IsNode (with_replica n after) × IsSubset n.replica.view after.view
 update_keeps n d out after is e =
     let grows = submits_grows n.replica 0 d out after e in
     (record { within = subset-trans n.shelf.view n.replica.view after.view is.within grows; participates = update_participates n.replica d out after is.participates e }, grows)
 
-pub proposal_keeps : (n : NodeState) (k i : ℕ) (d : ObjectOp) (out : Out) (after : ReplicaState) → IsNode n → i ≡ first_instance k → submitted_in n.replica (first_instance k) ≡ Some 0 → submits n.replica i d ≡ Some (out, after) → IsNode (with_replica n after)
+pub proposal_keeps : (n : NodeState) (k i : ℕ) (d : ObjectOp) (out : Out) (after : ReplicaState) → IsNode n
+    → i ≡ first_instance k → submitted_in n.replica (first_instance k) ≡ Some 0
+    → submits n.replica i d ≡ Some (out, after) → IsNode (with_replica n after)
 proposal_keeps n k i d out after is at none e = record {
   within = subset-trans n.shelf.view n.replica.view after.view is.within (submits_grows n.replica i d out after e);
-  participates = proposal_participates n.replica k d out after is.participates none (subst (λ j. submits n.replica j d ≡ Some (out, after)) at e);
+  participates =
+      proposal_participates n.replica k d out after is.participates none
+      (subst (λ j. submits n.replica j d ≡ Some (out, after)) at e);
 }
 
-pub receipt_keeps : (n : NodeState) (m : Message) (taken : Taken) (after : ReplicaState) → IsNode n → takes n.replica m ≡ Some (taken, after) → IsNode (with_replica n after) × IsSubset n.replica.view after.view
+pub receipt_keeps : (n : NodeState) (m : Message) (taken : Taken) (after : ReplicaState) → IsNode n
+    → takes n.replica m ≡ Some (taken, after) → IsNode (with_replica n after) × IsSubset n.replica.view after.view
 receipt_keeps n m taken after is e =
     let both = taken_participates n.replica m taken after is.participates e in
     (record { within = subset-trans n.shelf.view n.replica.view after.view is.within both.1; participates = both.0 }, both.1)
 
 -- ## A receipt
 
-within_at : {X : Type 0} (P : X → Type 0) (xs : List X) (i : ℕ) (o : Option X) → slice_get xs i ≡ o → IsSomeAnd o P → i < length xs
+within_at : {X : Type 0} (P : X → Type 0) (xs : List X) (i : ℕ) (o : Option X) → slice_get xs i ≡ o → IsSomeAnd o P
+    → i < length xs
 within_at P xs i None e some = absurd some
 within_at P xs i (Some x) e some = slice_get_within xs i x e
 
-refused_body : (r : ReplicaState) (x : Instance) (m : Message) (b : Body) (s : Histories) → learnt_in (receives_body (sender_of r m.instance) x r.view m b).said ≡ Some s → FitsBody x m b → SparesBody x m b → IsBodyRefusal x r.view m b Memory
+refused_body : (r : ReplicaState) (x : Instance) (m : Message) (b : Body) (s : Histories)
+    → learnt_in (receives_body (sender_of r m.instance) x r.view m b).said ≡ Some s → FitsBody x m b → SparesBody x m b
+    → IsBodyRefusal x r.view m b Memory
 refused_body r x m (Offer offered) s e fits spares = absurd (none-some s e)
-refused_body r x m Yes s e fits spares = let c = body_counts (sender_of r m.instance) x r.view m Yes s e in (c, λ id h. h, spares c)
-refused_body r x m (No accepted) s e fits spares = let c = body_counts (sender_of r m.instance) x r.view m (No accepted) s e in (c, fits c, spares c)
-refused_body r x m (Tell told) s e fits spares = absurd (body_counts (sender_of r m.instance) x r.view m (Tell told) s e)
+refused_body r x m Yes s e fits spares =
+    let c = body_counts (sender_of r m.instance) x r.view m Yes s e in (c, λ id h. h, spares c)
+refused_body r x m (No accepted) s e fits spares =
+    let c = body_counts (sender_of r m.instance) x r.view m (No accepted) s e in (c, fits c, spares c)
+refused_body r x m (Tell told) s e fits spares =
+    absurd (body_counts (sender_of r m.instance) x r.view m (Tell told) s e)
 
 -- ## Making one, and looking
 
-pub start_keeps : (c : Config) (own : ℕ) (shelf : ShelfState) → MayStart c shelf → own < c.replicas → IsNode (node_at_start c own shelf)
+pub start_keeps : (c : Config) (own : ℕ) (shelf : ShelfState) → MayStart c shelf → own < c.replicas
+    → IsNode (node_at_start c own shelf)
 start_keeps c own shelf may lt = record {
   within = λ u h. subst (λ v. ContainsUpdate v u) may.unused h;
-  participates = start_participates (votes_of c.votes) own c.cap c.commits (omega (arith, lt, may.config.group.few)) may.config.commits;
+  participates =
+      start_participates (votes_of c.votes) own c.cap c.commits (omega (arith, lt, may.config.group.few))
+      may.config.commits;
 }
 
 -- there are no more objects than a group may have
@@ -75,9 +90,12 @@ pub past_all : (r : ReplicaState) (k : ℕ) → IsParticipant r → MAX_COMMITS 
 past_all r k is most = omega (arith, is.few, most)
 
 pub none_returned : (r : ReplicaState) (k : ℕ) → IsParticipant r → MAX_COMMITS ≤ k → None ≡ returned_by k r
-none_returned r k is most = ap (λ o. option_and_then (λ s. outcome_of s r.own) (learnt_of o)) (sym (slice_get_past r.instances (second_instance k) (let past = past_all r k is most in omega (arith, past))))
+none_returned r k is most =
+    ap (λ o. option_and_then (λ s. outcome_of s r.own) (learnt_of o))
+    (sym (slice_get_past r.instances (second_instance k) (let past = past_all r k is most in omega (arith, past))))
 
-pub none_proposed : (r : ReplicaState) (i k : ℕ) → i ≡ first_instance k → submitted_in r i ≡ None → length r.instances ≤ first_instance k
+pub none_proposed : (r : ReplicaState) (i k : ℕ) → i ≡ first_instance k → submitted_in r i ≡ None
+    → length r.instances ≤ first_instance k
 none_proposed r i k at none = elim (cases_lt i (length r.instances)) [
   | inl lt ↦ absurd (let x = exists r.instances i lt in none-some (submitted x.0.proposer) (sym none ∙ ap (option_map (λ z. submitted z.proposer)) x.1))
   | inr le ↦ omega (arith, le, at)
@@ -86,7 +104,8 @@ none_proposed r i k at none = elim (cases_lt i (length r.instances)) [
 -- ## A look at the shelf
 
 -- what a shelf that has absorbed the view refuses is refused by the node too
-pub observed_refused : (tags : Option (List UpdateId)) (r : Result (List UpdateId) ShelfError) → IfErr r (IsTagsRefusal tags) → IfErr r (IsObservedRefusal tags)
+pub observed_refused : (tags : Option (List UpdateId)) (r : Result (List UpdateId) ShelfError)
+    → IfErr r (IsTagsRefusal tags) → IfErr r (IsObservedRefusal tags)
 observed_refused tags (Ok ids) h = tt
 observed_refused tags (Err NoSuchObject) h = h
 observed_refused tags (Err TooManyTags) h = h

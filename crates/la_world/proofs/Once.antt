@@ -69,25 +69,35 @@ pub record VotesOnce (t : Trace) : Type 0 where
 
 module _ (g : Group) (t : Trace) (x : Entry) (h : Holds g t) (step_is : Step g t x) where
   -- nothing opens where all that was submitted is in the last ballot, and no refusal counts
-  opens_none : (i r : ℕ) → length (submitted (x ∷ t) i r) ≤ 1 → 1 ≤ count (round t i r).updates r → (is_open t i r ≡ true → is_refined x.did ≡ true → ⊥) → only i r (opened_by x.did) ≡ None
+  opens_none : (i r : ℕ) → length (submitted (x ∷ t) i r) ≤ 1 → 1 ≤ count (round t i r).updates r
+      → (is_open t i r ≡ true → is_refined x.did ≡ true → ⊥) → only i r (opened_by x.did) ≡ None
   opens_none i r le some not_joined = go (only i r (opened_by x.did)) refl
     where
       begins : IsPrefix (history (round t i r).updates r) (submitted (x ∷ t) i r)
-      begins = IsPrefix-trans (history (round t i r).updates r) (submitted t i r) (submitted (x ∷ t) i r) (own g t h i r) (submitted_prefix x t i r)
+      begins =
+          IsPrefix-trans (history (round t i r).updates r) (submitted t i r) (submitted (x ∷ t) i r) (own g t h i r)
+          (submitted_prefix x t i r)
 
       all : history (round t i r).updates r ≡ submitted (x ∷ t) i r
       all = IsPrefix-antisym (history (round t i r).updates r) (submitted (x ∷ t) i r) begins (omega (arith, le, some))
 
       taken : IsSubset (alone r (submitted (x ∷ t) i r)) (round t i r).updates
-      taken = alone_within r (submitted (x ∷ t) i r) (round t i r).updates (λ lt. subst (λ zs. IsPrefix zs (history (round t i r).updates r)) all (prefix_same (history (round t i r).updates r)))
+      taken =
+          alone_within r (submitted (x ∷ t) i r) (round t i r).updates
+          (λ lt.
+          subst (λ zs. IsPrefix zs (history (round t i r).updates r)) all
+          (prefix_same (history (round t i r).updates r)))
 
       never : (b : Opening) → (b.instance ≡ i) → (b.replica ≡ r) → Source t x b → ⊥
-      never b ei er (gathers plain made new) = new (subst₂ (λ j q. IsSubset (alone q (submitted (x ∷ t) j q)) (round t j q).updates) (sym ei) (sym er) taken)
-      never b ei er (joins refined m a p body c mi mr made some_no) = not_joined (subst₂ (λ j q. is_open t j q ≡ true) (sym mi ∙ ei) (sym mr ∙ er) (counts_is t m c).0) refined
+      never b ei er (gathers plain made new) =
+          new (subst₂ (λ j q. IsSubset (alone q (submitted (x ∷ t) j q)) (round t j q).updates) (sym ei) (sym er) taken)
+      never b ei er (joins refined m a p body c mi mr made some_no) =
+          not_joined (subst₂ (λ j q. is_open t j q ≡ true) (sym mi ∙ ei) (sym mr ∙ er) (counts_is t m c).0) refined
 
       go : (o : Option Opening) → only i r (opened_by x.did) ≡ o → o ≡ None
       go None e = refl
-      go (Some b) e = let p = only_is i r (opened_by x.did) b e in absurd (never b p.1 p.2 (step_opens g t x step_is b p.0).source)
+      go (Some b) e =
+          let p = only_is i r (opened_by x.did) b e in absurd (never b p.1 p.2 (step_opens g t x step_is b p.0).source)
 
   pub still_done : (i r : ℕ) → length (submitted (x ∷ t) i r) ≤ 1 → IsDone t i r → IsDone (x ∷ t) i r
   still_done i r le d = record {
@@ -103,36 +113,43 @@ module _ (g : Group) (t : Trace) (x : Entry) (h : Holds g t) (step_is : Step g t
       go (Some b) e = is_open-learnt x t i r b none e
 
   -- where a ballot is learnt that has such an update
-  pub now_done : (i r : ℕ) → length (submitted (x ∷ t) i r) ≤ 1 → (b : Opening) → learnt_by x.did ≡ Some b → 1 ≤ count b.updates b.replica → b.instance ≡ i → b.replica ≡ r → IsDone (x ∷ t) i r
+  pub now_done : (i r : ℕ) → length (submitted (x ∷ t) i r) ≤ 1 → (b : Opening) → learnt_by x.did ≡ Some b
+      → 1 ≤ count b.updates b.replica → b.instance ≡ i → b.replica ≡ r → IsDone (x ∷ t) i r
   now_done i r le b e own_there ei er = record {
     closed = is_open-learnt x t i r b none (ap (only i r) e ∙ only_of i r b (record { instance = ei; replica = er }));
     voted = subst (λ (c : Opening). 1 ≤ count c.updates r) (sym (round-same x t i r none)) voted_before;
   }
     where
       last : round t i r ≡ b
-      last = subst₂ (λ j q. round t j q ≡ b) ei er (event_learns g t x.event x.delivered x.did step_is.cases b e).is_last
+      last =
+          subst₂ (λ j q. round t j q ≡ b) ei er (event_learns g t x.event x.delivered x.did step_is.cases b e).is_last
 
       voted_before : 1 ≤ count (round t i r).updates r
-      voted_before = subst (λ (c : Opening). 1 ≤ count c.updates r) (sym last) (subst (λ q. 1 ≤ count b.updates q) er own_there)
+      voted_before =
+          subst (λ (c : Opening). 1 ≤ count c.updates r) (sym last) (subst (λ q. 1 ≤ count b.updates q) er own_there)
 
       none : only i r (opened_by x.did) ≡ None
       none = opens_none i r le voted_before (λ asks f. learnt_only x.did b e f)
 
 -- the first instance of the object of which a vote is in the second one
-pub voted_first : (i k : ℕ) → is_first_instance i ≡ true → second_instance (commit_of i) ≡ second_instance k → i ≡ first_instance k
+pub voted_first : (i k : ℕ) → is_first_instance i ≡ true → second_instance (commit_of i) ≡ second_instance k
+    → i ≡ first_instance k
 voted_first i k first e = let odd = eqb-true (i % 2) 1 first in omega (arith, div-add-mod i 2, e)
 
 module _ (g : Group) (t : Trace) (h : Holds g t) (v : VotesOnce t) where
   -- a proposal is the first one
-  first_at : (e : Event) → refused g t e ≡ None → (k r : ℕ) → IsSubmitted (entry g t e) t (first_instance k) r → length (submitted (entry g t e ∷ t) (first_instance k) r) ≤ 1
+  first_at : (e : Event) → refused g t e ≡ None → (k r : ℕ) → IsSubmitted (entry g t e) t (first_instance k) r
+      → length (submitted (entry g t e ∷ t) (first_instance k) r) ≤ 1
   first_at (Submit q object_op) allowed k r s =
-      let at : 0 ≡ first_instance k = ap (λ (z : Submission). z.instance) (same_Some _ s.submission s.by) ∙ s.instance in
+      let at : 0 ≡ first_instance k =
+      ap (λ (z : Submission). z.instance) (same_Some _ s.submission s.by) ∙ s.instance in
       absurd (omega (arith, at))
   first_at (Decide q j value) allowed k r s =
       let same = same_Some _ s.submission s.by in
       let at : first_instance j ≡ first_instance k = ap (λ (z : Submission). z.instance) same ∙ s.instance in
       let by : q ≡ r = ap (λ (z : Submission). z.replica) same ∙ s.replica in
-      let none : length (submitted t (first_instance k) r) < 1 = subst₂ (λ i p. length (submitted t i p) < 1) at by (not_proposed g t q j value allowed) in
+      let none : length (submitted t (first_instance k) r) < 1 =
+      subst₂ (λ i p. length (submitted t i p) < 1) at by (not_proposed g t q j value allowed) in
       omega (arith, none, ap length s.all ∙ length_push (submitted t (first_instance k) r) s.submission.object_op)
   first_at (Deliver j) allowed k r s =
       let w = vote_after (learnt_by (entry g t (Deliver j)).did) s.submission s.by in
@@ -140,19 +157,23 @@ module _ (g : Group) (t : Trace) (h : Holds g t) (v : VotesOnce t) where
       absurd (omega (arith, is.1, s.instance))
   first_at (Ask q object query) allowed k r s = absurd (none-some s.submission s.by)
 
-  first_more : (e : Event) → refused g t e ≡ None → (k r : ℕ) → length (submitted (entry g t e ∷ t) (first_instance k) r) ≤ 1
+  first_more : (e : Event) → refused g t e ≡ None → (k r : ℕ)
+      → length (submitted (entry g t e ∷ t) (first_instance k) r) ≤ 1
   first_more e allowed k r = elim (submitted_by (entry g t e) t (first_instance k) r) [
     | inl same ↦ subst (λ (zs : List ObjectOp). length zs ≤ 1) (sym same) (v.first k r)
     | inr s ↦ first_at e allowed k r s
   ]
 
   -- a second vote comes by a learning in the first instance
-  second_at : (e : Event) → refused g t e ≡ None → (k r : ℕ) → IsSubmitted (entry g t e) t (second_instance k) r → IsDone (entry g t e ∷ t) (first_instance k) r × (length (submitted (entry g t e ∷ t) (second_instance k) r) ≤ 1)
+  second_at : (e : Event) → refused g t e ≡ None → (k r : ℕ) → IsSubmitted (entry g t e) t (second_instance k) r
+      → IsDone (entry g t e ∷ t) (first_instance k) r × (length (submitted (entry g t e ∷ t) (second_instance k) r) ≤ 1)
   second_at (Submit q object_op) allowed k r s =
-      let at : 0 ≡ second_instance k = ap (λ (z : Submission). z.instance) (same_Some _ s.submission s.by) ∙ s.instance in
+      let at : 0 ≡ second_instance k =
+      ap (λ (z : Submission). z.instance) (same_Some _ s.submission s.by) ∙ s.instance in
       absurd (omega (arith, at))
   second_at (Decide q j value) allowed k r s =
-      let at : first_instance j ≡ second_instance k = ap (λ (z : Submission). z.instance) (same_Some _ s.submission s.by) ∙ s.instance in
+      let at : first_instance j ≡ second_instance k =
+      ap (λ (z : Submission). z.instance) (same_Some _ s.submission s.by) ∙ s.instance in
       absurd (omega (arith, at))
   second_at (Deliver j) allowed k r s =
       let x = entry g t (Deliver j) in
@@ -161,8 +182,11 @@ module _ (g : Group) (t : Trace) (h : Holds g t) (v : VotesOnce t) where
       let is = second_vote_is b s.submission w.2 in
       let ei : b.instance ≡ first_instance k = voted_first b.instance k is.0 (sym is.1 ∙ s.instance) in
       let er : b.replica ≡ r = sym is.2 ∙ s.replica in
-      let asking = subst₂ (λ i q. is_open t i q ≡ true) ei er (event_learns g t x.event x.delivered x.did (step g t (Deliver j)).cases b w.1).asking in (
-        now_done g t x h (step g t (Deliver j)) (first_instance k) r (first_more (Deliver j) allowed k r) b w.1 (has_voted b s.submission w.2) ei er,
+      let asking =
+      subst₂ (λ i q. is_open t i q ≡ true) ei er
+      (event_learns g t x.event x.delivered x.did (step g t (Deliver j)).cases b w.1).asking in (
+        now_done g t x h (step g t (Deliver j)) (first_instance k) r (first_more (Deliver j) allowed k r) b w.1
+            (has_voted b s.submission w.2) ei er,
         elim (v.done k r) [
           | inl none ↦ omega (arith, ap length none, ap length s.all ∙ length_push (submitted t (second_instance k) r) s.submission.object_op)
           | inr d ↦ absurd (true≢false (sym asking ∙ d.closed))
@@ -203,11 +227,16 @@ once t zero r v some = absurd (some refl)
 once t (suc i) r v some = go (i % 2) refl
   where
     go : (n : ℕ) → i % 2 ≡ n → length (submitted t (suc i) r) ≤ 1
-    go zero e = let same : first_instance (i / 2) ≡ suc i = omega (arith, div-add-mod i 2, e) in subst (λ j. length (submitted t j r) ≤ 1) same (v.first (i / 2) r)
-    go (suc zero) e = let same : second_instance (i / 2) ≡ suc i = omega (arith, div-add-mod i 2, e) in subst (λ j. length (submitted t j r) ≤ 1) same (v.second (i / 2) r)
+    go zero e =
+        let same : first_instance (i / 2) ≡ suc i = omega (arith, div-add-mod i 2, e) in
+        subst (λ j. length (submitted t j r) ≤ 1) same (v.first (i / 2) r)
+    go (suc zero) e =
+        let same : second_instance (i / 2) ≡ suc i = omega (arith, div-add-mod i 2, e) in
+        subst (λ j. length (submitted t j r) ≤ 1) same (v.second (i / 2) r)
     go (suc (suc n)) e = let lt : i % 2 < 2 = mod-lt i (omega arith) in absurd (omega (arith, lt, e))
 
-pub submitted_most : (g : Group) (events : List Event) → IsLegal g events → (i r : ℕ) → length (submitted (trace g events) i r) ≤ cap_of g i
+pub submitted_most : (g : Group) (events : List Event) → IsLegal g events → (i r : ℕ)
+    → length (submitted (trace g events) i r) ≤ cap_of g i
 submitted_most g events legal i r = elim (cases_eq i 0) [
   | inl e ↦ subst (λ j. length (submitted (trace g events) j r) ≤ cap_of g j) (sym e) (capped g events legal r)
   | inr ne ↦ subst (λ n. length (submitted (trace g events) i r) ≤ n) (sym (cond-false (i == 0) g.cap 1 (ne_eqb i 0 ne))) (once (trace g events) i r (votes_once g events legal) ne)

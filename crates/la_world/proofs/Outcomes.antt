@@ -56,7 +56,8 @@ use Rattle.la_world.proofs.Staying.{outcomes_stay}
 pub second_is : (i k : ℕ) → i ≡ second_instance k → is_second_instance i ≡ true
 second_is i k e =
     let lt : i % 2 < 2 = mod-lt i (omega arith) in
-    and_from ((i % 2) == 0) (not (i == 0)) (eq-eqb (i % 2) 0 (omega (arith, lt, div-add-mod i 2, e))) (ap not (ne_eqb i 0 (λ z. omega (arith, e, z))))
+    and_from ((i % 2) == 0) (not (i == 0)) (eq-eqb (i % 2) 0 (omega (arith, lt, div-add-mod i 2, e)))
+    (ap not (ne_eqb i 0 (λ z. omega (arith, e, z))))
 
 pub first_is : (i k : ℕ) → i ≡ first_instance k → is_first_instance i ≡ true
 first_is i k e = let lt : i % 2 < 2 = mod-lt i (omega arith) in eq-eqb (i % 2) 1 (omega (arith, lt, div-add-mod i 2, e))
@@ -65,17 +66,25 @@ first_is i k e = let lt : i % 2 < 2 = mod-lt i (omega arith) in eq-eqb (i % 2) 1
 
 pub learnings_return : LearningsReturn
 learnings_return g events x k few legal was at =
-    subst (λ (o : Option Vote). IsSome (option_map (λ (v : Vote). outcome x.updates v.value) o)) (sym (own_second g events few legal x was k at).1) refl
+    subst (λ (o : Option Vote). IsSome (option_map (λ (v : Vote). outcome x.updates v.value) o))
+    (sym (own_second g events few legal x was k at).1) refl
 
 pub learnings_vote : LearningsVote
 learnings_vote g events x k few legal was at =
     let own = own_first g events few legal x was k at in
-    subst (λ (v : Bool). IsSome (cond v (second_vote_of (commit_of x.instance) x.replica x.updates (proposed x.updates x.replica)) None)) (sym (first_is x.instance k at))
-    (subst (λ (o : Option Vote). IsSome (second_vote_of (commit_of x.instance) x.replica x.updates (option_and_then proposal o))) (sym own.1) refl)
+    subst
+    (λ (v : Bool).
+    IsSome (cond v (second_vote_of (commit_of x.instance) x.replica x.updates (proposed x.updates x.replica)) None))
+    (sym (first_is x.instance k at))
+    (subst
+    (λ (o : Option Vote).
+    IsSome (second_vote_of (commit_of x.instance) x.replica x.updates (option_and_then proposal o))) (sym own.1)
+    refl)
 
 -- ## What is listed
 
-in_each : {X Y : Type 0} (f : X → List Y) (xs : List X) (x : X) (y : Y) → IsIn x xs → IsIn y (f x) → IsIn y (flat_map f xs)
+in_each : {X Y : Type 0} (f : X → List Y) (xs : List X) (x : X) (y : Y) → IsIn x xs → IsIn y (f x)
+    → IsIn y (flat_map f xs)
 in_each f [] x y i j = absurd i
 in_each f (z ∷ zs) x y (inl e) j = IsIn-left y (f z) (flat_map f zs) (subst (λ w. IsIn y (f w)) (sym e) j)
 in_each f (z ∷ zs) x y (inr i) j = IsIn-right y (f z) (flat_map f zs) (in_each f zs x y i j)
@@ -88,14 +97,18 @@ in_range k (suc n) r le lt = elim (cases_eq k r) [
 ]
 
 -- by object, and then by whatever else
-pub listed_by : {X : Type 0} (f : ℕ → X → Option Decision) (xs : List X) (n k : ℕ) (x : X) (y : Decision) → k < n → IsIn x xs → f k x ≡ Some y → Contains (flat_map (λ j. filter_map (f j) xs) (range_with_len 0 n)) y
+pub listed_by : {X : Type 0} (f : ℕ → X → Option Decision) (xs : List X) (n k : ℕ) (x : X) (y : Decision) → k < n
+    → IsIn x xs → f k x ≡ Some y → Contains (flat_map (λ j. filter_map (f j) xs) (range_with_len 0 n)) y
 listed_by f xs n k x y lt is_in gives =
-    IsIn_contains _ y (in_each (λ j. filter_map (f j) xs) (range_with_len 0 n) k y (in_range 0 n k (omega arith) (omega (arith, lt)))
+    IsIn_contains _ y
+    (in_each (λ j. filter_map (f j) xs) (range_with_len 0 n) k y (in_range 0 n k (omega arith) (omega (arith, lt)))
     (contains_IsIn (filter_map (f k) xs) y (contains-filter_map (f k) xs x y (IsIn_contains xs x is_in) gives)))
 
-pub is_listed : (g : Group) (t : Trace) (k r : ℕ) (o : Outcome) → k < g.commits → r < replicas g → returned t k r ≡ Some o → Contains (decisions g t) (decision_of k r o)
+pub is_listed : (g : Group) (t : Trace) (k r : ℕ) (o : Outcome) → k < g.commits → r < replicas g
+    → returned t k r ≡ Some o → Contains (decisions g t) (decision_of k r o)
 is_listed g t k r o there known e =
-    listed_by (λ j q. option_map (decision_of j q) (returned t j q)) (group (replicas g)) g.commits k r (decision_of k r o) there
+    listed_by (λ j q. option_map (decision_of j q) (returned t j q)) (group (replicas g)) g.commits k r
+    (decision_of k r o) there
     (in_range 0 (replicas g) r (omega arith) (omega (arith, known))) (ap (option_map (decision_of k r)) e)
 
 -- ## A step
@@ -124,9 +137,11 @@ quietly : (r n : ℕ) (o : Option Opening) (b : Opening) → learnt_by (opens_or
 quietly r n None b e = none-some b e
 quietly r n (Some c) b e = none-some b e
 
-submits_quietly : (t : Trace) (i r : ℕ) (object_op : ObjectOp) (b : Opening) → learnt_by (submits t i r object_op) ≡ Some b → ⊥
+submits_quietly : (t : Trace) (i r : ℕ) (object_op : ObjectOp) (b : Opening)
+    → learnt_by (submits t i r object_op) ≡ Some b → ⊥
 unfolding submits
-submits_quietly t i r object_op b = let all = submitted t i r ++ object_op ∷ [] in quietly r (length all) (opens_for t i r all) b
+submits_quietly t i r object_op b =
+    let all = submitted t i r ++ object_op ∷ [] in quietly r (length all) (opens_for t i r all) b
 
 -- what is so once a step shows this learning in the second instance of object k
 pub record IsTold (g : Group) (t : Trace) (k : ℕ) (d : step.Did) (y : Learnt) : Type 0 where
@@ -157,30 +172,38 @@ module _ (g : Group) (events : Past) (e : Event) (few : replicas g ≤ 8) (legal
     was_learnt = learnt_now x t b ends
 
     told : (k : ℕ) → b.instance ≡ second_instance k → outcome_by b ≡ outcome_of b.updates b.replica
-    told k at = cond-true (is_second_instance b.instance) (outcome_of b.updates b.replica) None (second_is b.instance k at)
+    told k at =
+        cond-true (is_second_instance b.instance) (outcome_of b.updates b.replica) None (second_is b.instance k at)
 
-    returned_so : (k : ℕ) → b.instance ≡ second_instance k → returned (x ∷ t) k b.replica ≡ outcome_of b.updates b.replica
+    returned_so : (k : ℕ) → b.instance ≡ second_instance k
+        → returned (x ∷ t) k b.replica ≡ outcome_of b.updates b.replica
     returned_so k at =
         let here : only (second_instance k) b.replica (learnt_by x.did) ≡ Some b = ap (only (second_instance k) b.replica) ends ∙ only_of (second_instance k) b.replica b (record { instance = at; replica = refl }) in
-        ap (λ l. option_and_then (λ s. outcome_of s b.replica) (option_map (λ (c : Ballot). c.updates) l)) (last_learnt_ballot-some x t (second_instance k) b.replica b here)
+        ap (λ l. option_and_then (λ s. outcome_of s b.replica) (option_map (λ (c : Ballot). c.updates) l))
+        (last_learnt_ballot-some x t (second_instance k) b.replica b here)
 
     returns : (k : ℕ) → b.instance ≡ second_instance k → IsSome (outcome_by b)
-    returns k at = subst IsSome (sym (told k at)) (learnings_return g (e ∷ events) (learning (length t) b) k few legal was_learnt at)
+    returns k at =
+        subst IsSome (sym (told k at)) (learnings_return g (e ∷ events) (learning (length t) b) k few legal was_learnt at)
 
-  pub is_told : (d : step.Did) → d ≡ shown_as n (length t) x.did → (y : Learnt) (k : ℕ) → learnt_in d ≡ Some y → y.instance ≡ second_instance k → IsTold g (x ∷ t) k d y
+  pub is_told : (d : step.Did) → d ≡ shown_as n (length t) x.did → (y : Learnt) (k : ℕ) → learnt_in d ≡ Some y
+      → y.instance ≡ second_instance k → IsTold g (x ∷ t) k d y
   is_told d is y k learns at =
       let w = was_shown n (length t) x.did y (ap learnt_in (sym is) ∙ learns) in
       let b = w.ballot in
       let ends : learnt_by x.did ≡ Some b = ap learnt_by w.is in
       let place : b.instance ≡ second_instance k = ap (λ (z : Learnt). z.instance) w.learnt ∙ at in
       let who : b.replica ≡ y.replica = ap (λ (z : Learnt). z.replica) w.learnt in
-      let shows : outcome_told d ≡ outcome_by b = ap outcome_told is ∙ ap (λ z. outcome_told (shown_as n (length t) z)) w.is in
+      let shows : outcome_told d ≡ outcome_by b =
+      ap outcome_told is ∙ ap (λ z. outcome_told (shown_as n (length t) z)) w.is in
       let lt = (of_group b ends).instance in
       record {
         object = omega (arith, lt, place);
         replica = subst (λ q. q < replicas g) who (of_group b ends).replica;
         told = subst IsSome (sym shows) (returns b ends k place);
-        returned = subst (λ q. returned (x ∷ t) k q ≡ outcome_told d) who (returned_so b ends k place ∙ sym (told b ends k place) ∙ sym shows);
+        returned =
+            subst (λ q. returned (x ∷ t) k q ≡ outcome_told d) who
+            (returned_so b ends k place ∙ sym (told b ends k place) ∙ sym shows);
       }
 
 -- ## A vote
@@ -191,37 +214,49 @@ IsVote k r o = IsSomeAnd o (λ (b : Opening). (b.instance ≡ second_instance k)
 
 module _ (g : Group) (events : Past) (few : replicas g ≤ 8) (k : ℕ) where
   -- what a delivery learns in a first instance leads to a vote
-  delivered_votes : (j : ℕ) (m : Message) → IsLegal g (Deliver j ∷ events) → slice_get (sent (replicas g) (trace g events)) j ≡ Some m → (b : Opening) → learnt_by (receives g (trace g events) (Some m)) ≡ Some b → b.instance ≡ first_instance k → IsSome (second_vote b) → IsVote k b.replica (opened_by (receives g (trace g events) (Some m)))
+  delivered_votes : (j : ℕ) (m : Message) → IsLegal g (Deliver j ∷ events)
+      → slice_get (sent (replicas g) (trace g events)) j ≡ Some m → (b : Opening)
+      → learnt_by (receives g (trace g events) (Some m)) ≡ Some b → b.instance ≡ first_instance k → IsSome (second_vote b)
+      → IsVote k b.replica (opened_by (receives g (trace g events) (Some m)))
   delivered_votes j m legal is b ends at some = go (second_vote b) refl some
     where
       t : Trace
       t = trace g events
 
-      go : (o : Option Submission) → second_vote b ≡ o → IsSome o → IsVote k b.replica (opened_by (receives g t (Some m)))
+      go : (o : Option Submission) → second_vote b ≡ o → IsSome o
+          → IsVote k b.replica (opened_by (receives g t (Some m)))
       go None f h = absurd (true≢false (sym h))
       go (Some s) f h =
           let opens = vote_opens g events legal.1 few j m is s (ap second_vote_after ends ∙ f) in
           let of = second_vote_is b s f in
           let last : round t m.instance m.to ≡ b = same_Some _ b (sym (ap learnt_by opens) ∙ ends) in
           subst (IsVote k b.replica) (sym (ap opened_by opens)) (
-            of.1 ∙ (let lt : b.instance % 2 < 2 = mod-lt b.instance (omega arith) in omega (arith, at, lt, div-add-mod b.instance 2)),
+            of.1
+                ∙ (let lt : b.instance % 2 < 2 = mod-lt b.instance (omega arith) in
+                omega (arith, at, lt, div-add-mod b.instance 2)),
             sym (round_is t m.instance m.to).replica ∙ ap (λ (z : Opening). z.replica) last,
           )
 
-  votes_by : (e : Event) → IsLegal g (e ∷ events) → (b : Opening) → learnt_by (entry g (trace g events) e).did ≡ Some b → b.instance ≡ first_instance k → IsSome (second_vote b) → IsVote k b.replica (opened_by (entry g (trace g events) e).did)
+  votes_by : (e : Event) → IsLegal g (e ∷ events) → (b : Opening) → learnt_by (entry g (trace g events) e).did ≡ Some b
+      → b.instance ≡ first_instance k → IsSome (second_vote b)
+      → IsVote k b.replica (opened_by (entry g (trace g events) e).did)
   votes_by (Submit r object_op) legal b ends at some = absurd (submits_quietly (trace g events) 0 r object_op b ends)
-  votes_by (Decide r c value) legal b ends at some = absurd (submits_quietly (trace g events) (first_instance c) r (first_vote c value) b ends)
+  votes_by (Decide r c value) legal b ends at some =
+      absurd (submits_quietly (trace g events) (first_instance c) r (first_vote c value) b ends)
   votes_by (Ask r object query) legal b ends at some = absurd (none-some b ends)
   votes_by (Deliver j) legal b ends at some = go (slice_get (sent (replicas g) t) j) refl ends
     where
       t : Trace
       t = trace g events
 
-      go : (o : Option Message) → slice_get (sent (replicas g) t) j ≡ o → learnt_by (receives g t o) ≡ Some b → IsVote k b.replica (opened_by (receives g t (slice_get (sent (replicas g) t) j)))
+      go : (o : Option Message) → slice_get (sent (replicas g) t) j ≡ o → learnt_by (receives g t o) ≡ Some b
+          → IsVote k b.replica (opened_by (receives g t (slice_get (sent (replicas g) t) j)))
       go None f h = absurd (none-some b h)
-      go (Some m) f h = subst (λ o. IsVote k b.replica (opened_by (receives g t o))) (sym f) (delivered_votes j m legal f b h at some)
+      go (Some m) f h =
+          subst (λ o. IsVote k b.replica (opened_by (receives g t o))) (sym f) (delivered_votes j m legal f b h at some)
 
-pub shows_vote : (g : Group) (events : Past) (e : Event) → replicas g ≤ 8 → IsLegal g (e ∷ events) → (d : step.Did) → d ≡ shown_as (replicas g) (length (trace g events)) (entry g (trace g events) e).did → ShowsVote d
+pub shows_vote : (g : Group) (events : Past) (e : Event) → replicas g ≤ 8 → IsLegal g (e ∷ events) → (d : step.Did)
+    → d ≡ shown_as (replicas g) (length (trace g events)) (entry g (trace g events) e).did → ShowsVote d
 shows_vote g events e few legal d is y k learns at =
     let t = trace g events in
     let x = entry g t e in
@@ -230,9 +265,13 @@ shows_vote g events e few legal d is y k learns at =
     let ends : learnt_by x.did ≡ Some b = ap learnt_by w.is in
     let place : b.instance ≡ first_instance k = ap (λ (z : Learnt). z.instance) w.learnt ∙ at in
     let who : b.replica ≡ y.replica = ap (λ (z : Learnt). z.replica) w.learnt in
-    let some : IsSome (second_vote b) = learnings_vote g (e ∷ events) (learning (length t) b) k few legal (was_learnt g events e few legal b ends) place in
-    let opened : opened_with d ≡ opened_by x.did = ap opened_with is ∙ ap (λ z. opened_with (shown_as (replicas g) (length t) z)) w.is ∙ sym (ap opened_by w.is) in
-    subst (IsVote k y.replica) (sym opened) (subst (λ q. IsVote k q (opened_by x.did)) who (votes_by g events few k e legal b ends place some))
+    let some : IsSome (second_vote b) =
+    learnings_vote g (e ∷ events) (learning (length t) b) k few legal (was_learnt g events e few legal b ends) place
+    in
+    let opened : opened_with d ≡ opened_by x.did =
+    ap opened_with is ∙ ap (λ z. opened_with (shown_as (replicas g) (length t) z)) w.is ∙ sym (ap opened_by w.is) in
+    subst (IsVote k y.replica) (sym opened)
+    (subst (λ q. IsVote k q (opened_by x.did)) who (votes_by g events few k e legal b ends place some))
 
 -- ## A list that is played
 
@@ -240,10 +279,12 @@ abbrev did_in : Line → step.Did
 did_in (Done s) = s.did
 did_in (Refused name) = shown.Ignored
 
-pub did_of_line : (g : Group) (t : Trace) (e : Event) (s : Step) → line_of g t e ≡ Done s → s.did ≡ shown_as (replicas g) (length t) (entry g t e).did
+pub did_of_line : (g : Group) (t : Trace) (e : Event) (s : Step) → line_of g t e ≡ Done s
+    → s.did ≡ shown_as (replicas g) (length t) (entry g t e).did
 did_of_line g t e s line = sym (ap did_in line)
 
-pub outcomes_listed : (g : Group) (events : List Event) → replicas g ≤ 8 → OutcomesAreListed (lines g events) (decisions g (trace_of g events))
+pub outcomes_listed : (g : Group) (events : List Event) → replicas g ≤ 8
+    → OutcomesAreListed (lines g events) (decisions g (trace_of g events))
 unfolding trace
 outcomes_listed g events few place k y o h at =
     let p = handed_in_at g events place (Done h.step) h.done in
@@ -251,8 +292,12 @@ outcomes_listed g events few place k y o h at =
     let before = accepted_of g (take place events) in
     let next = accepted_next g events place p.0 p.1 was.allowed in
     let legal : IsLegal g (p.0 ∷ before) = subst (IsLegal g) next (runs_legal g (reverse (take (place + 1) events))) in
-    let told = is_told g before p.0 few legal h.step.did (did_of_line g (trace g before) p.0 h.step was.line) y k h.learnt at in
+    let told =
+    is_told g before p.0 few legal h.step.did (did_of_line g (trace g before) p.0 h.step was.line) y k h.learnt at in
     let all = accepted_before g events (place + 1) in
     let now : accepted_of g events ≡ all.more ++ p.0 ∷ before = all.is ∙ ap (λ es. all.more ++ es) next in
-    let stays : returned (trace g (all.more ++ p.0 ∷ before)) k y.replica ≡ Some o = outcomes_stay g (p.0 ∷ before) all.more k y.replica o (subst (IsLegal g) now (runs_legal g (reverse events))) (told.returned ∙ h.outcome) in
-    is_listed g (trace_of g events) k y.replica o told.object told.replica (ap (λ es. returned (trace g es) k y.replica) now ∙ stays)
+    let stays : returned (trace g (all.more ++ p.0 ∷ before)) k y.replica ≡ Some o =
+    outcomes_stay g (p.0 ∷ before) all.more k y.replica o (subst (IsLegal g) now (runs_legal g (reverse events)))
+    (told.returned ∙ h.outcome) in
+    is_listed g (trace_of g events) k y.replica o told.object told.replica
+    (ap (λ es. returned (trace g es) k y.replica) now ∙ stays)

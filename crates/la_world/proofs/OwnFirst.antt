@@ -37,7 +37,8 @@ some_new s r ds new = elim (cases_lt r 8) [
   | inr le ↦ absurd (new (alone_within r ds s (λ lt. absurd (omega (arith, lt, le)))))
 ] where
   go : (zs : List ObjectOp) → ds ≡ zs → 1 ≤ length zs
-  go [] e = absurd (new (subst (λ zs. IsSubset (alone r zs) s) (sym e) (alone_within r [] s (λ lt. record { front = refl }))))
+  go [] e =
+      absurd (new (subst (λ zs. IsSubset (alone r zs) s) (sym e) (alone_within r [] s (λ lt. record { front = refl }))))
   go (z ∷ zs) e = omega arith
 
 module _ (g : Group) (t : Trace) (x : Entry) (h : Holds g t) (step_is : Step g t x) where
@@ -54,16 +55,22 @@ module _ (g : Group) (t : Trace) (x : Entry) (h : Holds g t) (step_is : Step g t
       all = submitted (x ∷ t) i r
 
       begins : IsPrefix (history (round t i r).updates r) all
-      begins = IsPrefix-trans (history (round t i r).updates r) (submitted t i r) all (own g t h i r) (submitted_prefix x t i r)
+      begins =
+          IsPrefix-trans (history (round t i r).updates r) (submitted t i r) all (own g t h i r)
+          (submitted_prefix x t i r)
 
       go : Source t x b → 1 ≤ count b.updates r
       go (gathers plain made new) =
           let some = some_new (round t i r).updates r all new in
-          let has : history b.updates r ≡ all = ap (λ s. history s r) made ∙ own_all (round t i r).updates r all some.0 begins in
+          let has : history b.updates r ≡ all =
+          ap (λ s. history s r) made ∙ own_all (round t i r).updates r all some.0 begins in
           omega (arith, some.1, ap length has)
       go (joins refined m a p body c ei er made refusal) =
-          let last = subst₂ (λ j q. IsIn (round t j q) (ballots t j q)) (sym ei) (sym er) (open_in t m.instance m.to (counts_is t m c).0) in
-          let had : 1 ≤ count (round t i r).updates r = AllIn_at (λ (z : Opening). 1 ≤ count z.updates r) (ballots t i r) (round t i r) (before i r) last in
+          let last =
+          subst₂ (λ j q. IsIn (round t j q) (ballots t j q)) (sym ei) (sym er)
+          (open_in t m.instance m.to (counts_is t m c).0) in
+          let had : 1 ≤ count (round t i r).updates r =
+          AllIn_at (λ (z : Opening). 1 ≤ count z.updates r) (ballots t i r) (round t i r) (before i r) last in
           let more = subset-count (round t i r).updates b.updates o.follows.contains r in
           omega (arith, had, more)
 
@@ -71,7 +78,8 @@ module _ (g : Group) (t : Trace) (x : Entry) (h : Holds g t) (step_is : Step g t
   unfolding ballots
   own_more before i r = go (only i r (opened_by x.did)) refl
     where
-      go : (v : Option Opening) → only i r (opened_by x.did) ≡ v → AllIn (λ (b : Opening). 1 ≤ count b.updates r) (cons_option v (ballots t i r))
+      go : (v : Option Opening) → only i r (opened_by x.did) ≡ v
+          → AllIn (λ (b : Opening). 1 ≤ count b.updates r) (cons_option v (ballots t i r))
       go None e = before i r
       go (Some b) e =
           let p = only_is i r (opened_by x.did) b e in
@@ -81,8 +89,11 @@ own_start : HoldOwn []
 unfolding ballots
 own_start i r = tt
 
-pub own_held : (g : Group) (events : List Event) (i r : ℕ) (b : Opening) → IsIn b (ballots (trace g events) i r) → 1 ≤ count b.updates r
-own_held g events i r b is_in = AllIn_at (λ (z : Opening). 1 ≤ count z.updates r) (ballots (trace g events) i r) b (always g HoldOwn own_start (λ t x step h p. own_more g t x h step p) events i r) is_in
+pub own_held : (g : Group) (events : List Event) (i r : ℕ) (b : Opening) → IsIn b (ballots (trace g events) i r)
+    → 1 ≤ count b.updates r
+own_held g events i r b is_in =
+    AllIn_at (λ (z : Opening). 1 ≤ count z.updates r) (ballots (trace g events) i r) b
+    (always g HoldOwn own_start (λ t x step h p. own_more g t x h step p) events i r) is_in
 
 -- a learnt set has its learner's first update
 pub record HasFirst (s : Histories) (r : ℕ) : Type 0 where
@@ -94,5 +105,9 @@ has_first s r some =
     let d = exists (history s r) 0 (omega (arith, some)) in
     record { object_op = d.0; is = ap (option_map (update_of r 1)) d.1 }
 
-pub learnt_first : (g : Group) (events : List Event) (x : Learnt) → Contains (learnt (trace g events)) x → HasFirst x.updates x.replica
-learnt_first g events x was = has_first x.updates x.replica (own_held g events x.instance x.replica (learnt_ballot x) (learning_justified g events x (contains_IsIn (learnt (trace g events)) x was)).opened)
+pub learnt_first : (g : Group) (events : List Event) (x : Learnt) → Contains (learnt (trace g events)) x
+    → HasFirst x.updates x.replica
+learnt_first g events x was =
+    has_first x.updates x.replica
+    (own_held g events x.instance x.replica (learnt_ballot x)
+    (learning_justified g events x (contains_IsIn (learnt (trace g events)) x was)).opened)

@@ -45,13 +45,15 @@ use Rattle.la_world.proofs.SubmissionLines.{ops_before, found, listed}
 
 -- ## Fronts
 
-pub get_taken : {A : Type 0} (n k : ℕ) (xs : List A) (x : A) → slice_get (take n xs) k ≡ Some x → (k < n) × (slice_get xs k ≡ Some x)
+pub get_taken : {A : Type 0} (n k : ℕ) (xs : List A) (x : A) → slice_get (take n xs) k ≡ Some x
+    → (k < n) × (slice_get xs k ≡ Some x)
 get_taken zero k xs x e = absurd (none-some x e)
 get_taken (suc n) k [] x e = absurd (none-some x e)
 get_taken (suc n) zero (y ∷ xs) x e = (omega arith, e)
 get_taken (suc n) (suc k) (y ∷ xs) x e = let p = get_taken n k xs x e in (omega (arith, p.0), p.1)
 
-get_in_front : {A : Type 0} (n k : ℕ) (xs : List A) (x : A) → k < n → slice_get xs k ≡ Some x → slice_get (take n xs) k ≡ Some x
+get_in_front : {A : Type 0} (n k : ℕ) (xs : List A) (x : A) → k < n → slice_get xs k ≡ Some x
+    → slice_get (take n xs) k ≡ Some x
 get_in_front zero k xs x lt e = absurd (omega arith)
 get_in_front (suc n) k [] x lt e = absurd (none-some x e)
 get_in_front (suc n) zero (y ∷ xs) x lt e = e
@@ -60,8 +62,11 @@ get_in_front (suc n) (suc k) (y ∷ xs) x lt e = get_in_front n k xs x (omega ar
 -- ## What was submitted
 
 -- what is in all that was submitted, by its number
-whole_number : (t : Trace) (i : ℕ) (u : Update) → ContainsUpdate (whole t i) u → object_op_number (submitted t i u.id.replica) u.id.number ≡ Some (object_op_of u)
-whole_number t i u h = object_op_number-reads (history (whole t i) r) (submitted t i r) begins u.id.number (object_op_of u) (object_op-contains (whole t i) u h)
+whole_number : (t : Trace) (i : ℕ) (u : Update) → ContainsUpdate (whole t i) u
+    → object_op_number (submitted t i u.id.replica) u.id.number ≡ Some (object_op_of u)
+whole_number t i u h =
+    object_op_number-reads (history (whole t i) r) (submitted t i r) begins u.id.number (object_op_of u)
+    (object_op-contains (whole t i) u h)
   where
     r : ℕ
     r = u.id.replica
@@ -78,7 +83,8 @@ module _ (g : Group) (events : List Event) where
 
   pub learnt_were_submitted : LearntWereSubmitted events (lines g events)
   learnt_were_submitted place x u at holds =
-      go u.id.number refl (whole_number (trace g until) i u (learnt_submitted g until x (learnt_then g events place x at) u holds))
+      go u.id.number refl
+      (whole_number (trace g until) i u (learnt_submitted g until x (learnt_then g events place x at) u holds))
     where
       i : ℕ
       i = x.instance
@@ -92,14 +98,20 @@ module _ (g : Group) (events : List Event) where
       until : List Event
       until = accepted_of g (take n events)
 
-      go : (m : ℕ) → u.id.number ≡ m → object_op_number (submitted (trace g until) i r) m ≡ Some (object_op_of u) → (k : ℕ) × (k ≤ place) × Submits events (lines g events) k i u
+      go : (m : ℕ) → u.id.number ≡ m → object_op_number (submitted (trace g until) i r) m ≡ Some (object_op_of u)
+          → (k : ℕ) × (k ≤ place) × Submits events (lines g events) k i u
       go zero is e = absurd (none-some (object_op_of u) e)
       go (suc j) is e =
-          let p = found (take n events) (take n steps) i r j (object_op_of u) (ap (λ ds. slice_get ds j) (ops_before g events n i r) ∙ e) in
+          let p =
+          found (take n events) (take n steps) i r j (object_op_of u)
+          (ap (λ ds. slice_get ds j) (ops_before g events n i r) ∙ e) in
           let q = get_taken n p.place events p.event p.handed_in in
           let w = get_taken n p.place steps p.line p.became in
           let le : p.place ≤ n = omega (arith, q.0) in
-          let before : j ≡ length (ops_at (take p.place events) (take p.place steps) i r) = p.before ∙ ap₂ (λ es ls. length (ops_at es ls i r)) (take-take p.place n events le) (take-take p.place n steps le) in (
+          let before : j ≡ length (ops_at (take p.place events) (take p.place steps) i r) =
+          p.before
+          ∙ ap₂ (λ es ls. length (ops_at es ls i r)) (take-take p.place n events le)
+          (take-take p.place n steps le) in (
             p.place,
             omega (arith, q.0),
             record {
@@ -113,22 +125,27 @@ module _ (g : Group) (events : List Event) where
           )
 
   -- what is submitted before a place stands under its number in all that was submitted by then
-  stands_under : (k n i : ℕ) (u : Update) → Submits events (lines g events) k i u → k < n → object_op_number (submitted (trace_of g (take n events)) i u.id.replica) u.id.number ≡ Some (object_op_of u)
+  stands_under : (k n i : ℕ) (u : Update) → Submits events (lines g events) k i u → k < n
+      → object_op_number (submitted (trace_of g (take n events)) i u.id.replica) u.id.number ≡ Some (object_op_of u)
   stands_under k n i u s lt =
       let r = u.id.replica in
       let all = submitted (trace_of g (take n events)) i r in
       let d = object_op_of u in
       let le : k ≤ n = omega arith in
       let before = length (ops_at (take k events) (take k steps) i r) in
-      let same : length (ops_at (take k (take n events)) (take k (take n steps)) i r) ≡ before = ap₂ (λ es ls. length (ops_at es ls i r)) (take-take k n events le) (take-take k n steps le) in
-      let there : slice_get all before ≡ Some d = subst₂ (λ ds m. slice_get ds m ≡ Some d) (ops_before g events n i r) same
-      (listed (take n events) (take n steps) i r k d s.event s.line (get_in_front n k events s.event lt s.handed_in) (get_in_front n k steps s.line lt s.became) s.submits) in
+      let same : length (ops_at (take k (take n events)) (take k (take n steps)) i r) ≡ before =
+      ap₂ (λ es ls. length (ops_at es ls i r)) (take-take k n events le) (take-take k n steps le) in
+      let there : slice_get all before ≡ Some d =
+      subst₂ (λ ds m. slice_get ds m ≡ Some d) (ops_before g events n i r) same
+      (listed (take n events) (take n steps) i r k d s.event s.line (get_in_front n k events s.event lt s.handed_in)
+      (get_in_front n k steps s.line lt s.became) s.submits) in
       let number : suc before ≡ u.id.number = omega (arith, s.number) in
       subst (λ m. object_op_number all m ≡ Some d) number there
 
 -- ## The ballot that takes it
 
-taker_opened : (n place : ℕ) (d : Did) (b : Opening) → taker_in (shown_as n place d) ≡ Some b → (opened_by d ≡ Some b) × (is_refined d ≡ false)
+taker_opened : (n place : ℕ) (d : Did) (b : Opening) → taker_in (shown_as n place d) ≡ Some b
+    → (opened_by d ≡ Some b) × (is_refined d ≡ false)
 taker_opened n place (did.Opened c) b e = (e, refl)
 taker_opened n place (did.Learnt c next) b e = (e, refl)
 taker_opened n place (did.Held id) b e = absurd (none-some b e)
@@ -140,7 +157,8 @@ taker_opened n place (did.Took s) b e = absurd (none-some b e)
 taker_opened n place did.Kept b e = absurd (none-some b e)
 taker_opened n place (did.Replied answer) b e = absurd (none-some b e)
 
-learnt_ended : (n place : ℕ) (d : Did) (x : Learnt) → learnt_in (shown_as n place d) ≡ Some x → (c : Opening) × (learnt_by d ≡ Some c) × (learning place c ≡ x)
+learnt_ended : (n place : ℕ) (d : Did) (x : Learnt) → learnt_in (shown_as n place d) ≡ Some x
+    → (c : Opening) × (learnt_by d ≡ Some c) × (learning place c ≡ x)
 learnt_ended n place (did.Learnt c next) x e = (c, refl, same_Some (learning place c) x e)
 learnt_ended n place (did.Opened c) x e = absurd (none-some x e)
 learnt_ended n place (did.Held id) x e = absurd (none-some x e)
@@ -153,7 +171,8 @@ learnt_ended n place did.Kept x e = absurd (none-some x e)
 learnt_ended n place (did.Replied answer) x e = absurd (none-some x e)
 
 -- a ballot that is no refinement takes all that was submitted
-taken_now : (x : Entry) (t : Trace) (b : Opening) → opened_by x.did ≡ Some b → is_refined x.did ≡ false → taken (x ∷ t) b.instance b.replica b.ballot ≡ submitted (x ∷ t) b.instance b.replica
+taken_now : (x : Entry) (t : Trace) (b : Opening) → opened_by x.did ≡ Some b → is_refined x.did ≡ false
+    → taken (x ∷ t) b.instance b.replica b.ballot ≡ submitted (x ∷ t) b.instance b.replica
 unfolding taken
 taken_now x t b e plain =
     let i = b.instance in
@@ -162,7 +181,8 @@ taken_now x t b e plain =
     ap₂ (λ v w. taken_at b.ballot v w all (taken t i r)) (ap (only i r) e ∙ only_same b) plain
     ∙ cond-true (b.ballot == b.ballot) all (taken t i r b.ballot) (eq-eqb b.ballot b.ballot refl)
 
-ballots_still : (g : Group) (more events : List Event) (i r : ℕ) (b : Opening) → IsIn b (ballots (trace g events) i r) → IsIn b (ballots (trace g (more ++ events)) i r)
+ballots_still : (g : Group) (more events : List Event) (i r : ℕ) (b : Opening) → IsIn b (ballots (trace g events) i r)
+    → IsIn b (ballots (trace g (more ++ events)) i r)
 unfolding trace
 ballots_still g [] events i r b h = h
 ballots_still g (e ∷ more) events i r b h =
@@ -174,7 +194,8 @@ module _ (g : Group) (events : List Event) where
   record IsPlayed (k : ℕ) (d : step.Did) : Type 0 where
     event : Event
     next : accepted_of g (take (k + 1) events) ≡ event ∷ accepted_of g (take k events)
-    did : shown_as (replicas g) (length (trace_of g (take k events))) (entry g (trace_of g (take k events)) event).did ≡ d
+    did : shown_as (replicas g) (length (trace_of g (take k events))) (entry g (trace_of g (take k events)) event).did
+        ≡ d
 
   played : (k : ℕ) (s : Step) → slice_get (lines g events) k ≡ Some (Done s) → IsPlayed k s.did
   played k s done =
@@ -190,7 +211,8 @@ module _ (g : Group) (events : List Event) where
     opened : IsIn b (ballots (trace g until) b.instance b.replica)
     all : b.replica < 8 → history b.updates b.replica ≡ submitted (trace g until) b.instance b.replica
 
-  takes : (began : ℕ) (b : Opening) → IsOpenedAt (lines g events) began b → Takes b (accepted_of g (take (began + 1) events))
+  takes : (began : ℕ) (b : Opening) → IsOpenedAt (lines g events) began b
+      → Takes b (accepted_of g (take (began + 1) events))
   unfolding trace
   takes began b h = subst (Takes b) (sym p.next) record { opened = is_in; all = λ lt. has_taken g (p.event ∷ before) b.instance b.replica lt b is_in ∙ taken_now x t b is.0 is.1 }
     where
@@ -213,8 +235,11 @@ module _ (g : Group) (events : List Event) where
       is_in = opened_in x t b is.0
 
   -- a set that is learnt later contains it
-  contains_ballot : (began place : ℕ) (b : Opening) (x : Learnt) → IsOpenedAt (lines g events) began b → IsLearntAt (lines g events) place x → began < place → b.instance ≡ x.instance → b.replica ≡ x.replica → IsSubset b.updates x.updates
-  contains_ballot began place b x opened at lt ei er = subst (λ (y : Learnt). IsSubset b.updates y.updates) ended.2 within
+  contains_ballot : (began place : ℕ) (b : Opening) (x : Learnt) → IsOpenedAt (lines g events) began b
+      → IsLearntAt (lines g events) place x → began < place → b.instance ≡ x.instance → b.replica ≡ x.replica
+      → IsSubset b.updates x.updates
+  contains_ballot began place b x opened at lt ei er =
+      subst (λ (y : Learnt). IsSubset b.updates y.updates) ended.2 within
     where
       until : List Event
       until = accepted_of g (take place events)
@@ -234,22 +259,28 @@ module _ (g : Group) (events : List Event) where
       there : IsIn b (ballots t b.instance b.replica)
       there =
           let q = accepted_between g events (began + 1) place (omega arith) in
-          subst (λ es. IsIn b (ballots (trace g es) b.instance b.replica)) (sym q.is) (ballots_still g q.more (accepted_of g (take (began + 1) events)) b.instance b.replica b (takes began b opened).opened)
+          subst (λ es. IsIn b (ballots (trace g es) b.instance b.replica)) (sym q.is)
+          (ballots_still g q.more (accepted_of g (take (began + 1) events)) b.instance b.replica b
+          (takes began b opened).opened)
 
       here : IsIn b (ballots t c.instance c.replica)
-      here = subst₂ (λ i r. IsIn b (ballots t i r)) (ei ∙ sym (ap (λ (y : Learnt). y.instance) ended.2)) (er ∙ sym (ap (λ (y : Learnt). y.replica) ended.2)) there
+      here =
+          subst₂ (λ i r. IsIn b (ballots t i r)) (ei ∙ sym (ap (λ (y : Learnt). y.instance) ended.2))
+          (er ∙ sym (ap (λ (y : Learnt). y.replica) ended.2)) there
 
       within : IsSubset b.updates c.updates
       within =
           let x = entry g t p.event in
           let last = event_learns g t x.event x.delivered x.did (step g t p.event).cases c ended.1 in
-          subst (λ (z : Opening). IsSubset b.updates z.updates) last.is_last (last_grows t c.instance c.replica b ((holds g until).growing c.instance c.replica) here)
+          subst (λ (z : Opening). IsSubset b.updates z.updates) last.is_last
+          (last_grows t c.instance c.replica b ((holds g until).growing c.instance c.replica) here)
 
   opened_in_group : (began : ℕ) (b : Opening) → IsOpenedAt (lines g events) began b → b.replica < replicas g
   opened_in_group began b opened =
       let until = accepted_of g (take (began + 1) events) in
       let all = (grouped g until (runs_legal g (reverse (take (began + 1) events)))).ballots b.instance b.replica in
-      (AllIn_at (λ c. IsOfGroup g b.instance b.replica) (ballots (trace g until) b.instance b.replica) b all (takes began b opened).opened).replica
+      (AllIn_at (λ c. IsOfGroup g b.instance b.replica) (ballots (trace g until) b.instance b.replica) b all
+      (takes began b opened).opened).replica
 
   pub learnt_hold_their_own : replicas g ≤ 8 → LearntHoldTheirOwn events (lines g events)
   learnt_hold_their_own few began place k b x u opened at lt ei er s mine le =
@@ -257,7 +288,8 @@ module _ (g : Group) (events : List Event) where
       let t = trace_of g (take (began + 1) events) in
       let own : r ≡ b.replica = mine ∙ sym er in
       let known : b.replica < 8 = omega (arith, opened_in_group began b opened, few) in
-      let all : history b.updates r ≡ submitted t x.instance r = ap (history b.updates) own ∙ (takes began b opened).all known ∙ ap₂ (submitted t) ei (sym own) in
+      let all : history b.updates r ≡ submitted t x.instance r =
+      ap (history b.updates) own ∙ (takes began b opened).all known ∙ ap₂ (submitted t) ei (sym own) in
       let number = stands_under g events k (began + 1) x.instance u s (omega arith) in
       contains_ballot began place b x opened at lt ei er u
       (contains-object_op b.updates u (ap (λ ds. object_op_number ds u.id.number) all ∙ number))

@@ -26,12 +26,15 @@ submission_of i r v = record { instance = second_instance (commit_of i); replica
 due_is : (i r : ℕ) (s : Histories) → second_vote_in i r s ≡ option_map (submission_of i r) (vote_in i r s)
 due_is i r s = go (is_first_instance i) (proposed s r)
   where
-    go : (v : Bool) (o : Option ℕ) → cond v (second_vote_of (commit_of i) r s o) None ≡ option_map (submission_of i r) (cond v (option_map (second_vote_for s) o) None)
+    go : (v : Bool) (o : Option ℕ)
+        → cond v (second_vote_of (commit_of i) r s o) None
+        ≡ option_map (submission_of i r) (cond v (option_map (second_vote_for s) o) None)
     go true None = refl
     go true (Some value) = refl
     go false o = refl
 
-all_due : (i r : ℕ) (o : Option Histories) → option_and_then (second_vote_in i r) o ≡ option_map (submission_of i r) (option_and_then (vote_in i r) o)
+all_due : (i r : ℕ) (o : Option Histories)
+    → option_and_then (second_vote_in i r) o ≡ option_map (submission_of i r) (option_and_then (vote_in i r) o)
 all_due i r None = refl
 all_due i r (Some s) = due_is i r s
 
@@ -39,23 +42,31 @@ all_due i r (Some s) = due_is i r s
 votes_in_first : (i r : ℕ) (s : Histories) (v : Vote) → vote_in i r s ≡ Some v → is_first_instance i ≡ true
 votes_in_first i r s v e = go (is_first_instance i) refl e
   where
-    go : (b : Bool) → is_first_instance i ≡ b → cond b (option_map (second_vote_for s) (proposed s r)) None ≡ Some v → is_first_instance i ≡ true
+    go : (b : Bool) → is_first_instance i ≡ b → cond b (option_map (second_vote_for s) (proposed s r)) None ≡ Some v
+        → is_first_instance i ≡ true
     go true is k = is
     go false is k = absurd (none-some v k)
 
-next_instance : (i r : ℕ) (o : Option Histories) (v : Vote) → option_and_then (vote_in i r) o ≡ Some v → second_instance (commit_of i) ≡ i + 1
+next_instance : (i r : ℕ) (o : Option Histories) (v : Vote) → option_and_then (vote_in i r) o ≡ Some v
+    → second_instance (commit_of i) ≡ i + 1
 next_instance i r None v e = absurd (none-some v e)
-next_instance i r (Some s) v e = let odd = eqb-true (i % 2) 1 (votes_in_first i r s v e) in omega (arith, div-add-mod i 2, odd)
+next_instance i r (Some s) v e =
+    let odd = eqb-true (i % 2) 1 (votes_in_first i r s v e) in omega (arith, div-add-mod i 2, odd)
 
 -- what was prepared leads there, once it is committed
-pub led_is : (r after : ReplicaState) (out : Out) (c : Change) (o : Option (Out × ReplicaState)) → o ≡ led r out c → after_commit r c ≡ Some after → o ≡ Some (out, after)
+pub led_is : (r after : ReplicaState) (out : Out) (c : Change) (o : Option (Out × ReplicaState)) → o ≡ led r out c
+    → after_commit r c ≡ Some after → o ≡ Some (out, after)
 led_is r after out c o step done = step ∙ ap (option_map (λ (s : ReplicaState). (out, s))) done
 
-pub leads_on : (r : ReplicaState) (out : Out) (c : Change) → IsPreparedFrom r c → (after : ReplicaState) × (led r out c ≡ Some (out, after))
+pub leads_on : (r : ReplicaState) (out : Out) (c : Change) → IsPreparedFrom r c
+    → (after : ReplicaState) × (led r out c ≡ Some (out, after))
 leads_on r out c from = go (slice_get r.instances c.instance) from
   where
     go : (o : Option Instance) → IsSomeAnd o (λ x. IsProposerFrom x.proposer c.proposer × LeavesAgreeing r.view x c)
-        → (after : ReplicaState) × (option_map {U = Out × ReplicaState} (λ (s : ReplicaState). (out, s)) (option_map (λ x. with_instance r c.instance (at_after x c) (view_next r.view c.view)) o) ≡ Some (out, after))
+        → (after : ReplicaState)
+        × (option_map {U = Out × ReplicaState} (λ (s : ReplicaState). (out, s))
+        (option_map (λ x. with_instance r c.instance (at_after x c) (view_next r.view c.view)) o)
+        ≡ Some (out, after))
     go None h = absurd h
     go (Some x) h = (with_instance r c.instance (at_after x c) (view_next r.view c.view), refl)
 
@@ -67,26 +78,40 @@ module _ (at : ReplicaState) (m : Message) where
   due x = all_due m.instance at.own (learnt_in x)
 
   -- where this vote is due, it is submitted in the next instance
-  pub due_next : (v : Vote) (x : Said) → vote_by x ≡ Some v → (vote_due m.instance at.own x ≡ Some (submission_of m.instance at.own v)) × (second_instance (commit_of m.instance) ≡ m.instance + 1)
-  due_next v x is = (due x ∙ ap (option_map (submission_of m.instance at.own)) is, next_instance m.instance at.own (learnt_in x) v is)
+  pub due_next : (v : Vote) (x : Said) → vote_by x ≡ Some v
+      → (vote_due m.instance at.own x ≡ Some (submission_of m.instance at.own v))
+      × (second_instance (commit_of m.instance) ≡ m.instance + 1)
+  due_next v x is =
+      (due x ∙ ap (option_map (submission_of m.instance at.own)) is, next_instance m.instance at.own (learnt_in x) v is)
 
   -- and may be submitted there
-  pub may_vote : VoteFits at m → (out : Out) (c : Change) → acting.receives at m ≡ led at out c → IsPreparedFrom at c → (v : Vote) → Some v ≡ vote_by out.said → HasRoom at (m.instance + 1) × SubmittingSpares at (m.instance + 1)
+  pub may_vote : VoteFits at m → (out : Out) (c : Change) → acting.receives at m ≡ led at out c → IsPreparedFrom at c
+      → (v : Vote) → Some v ≡ vote_by out.said → HasRoom at (m.instance + 1) × SubmittingSpares at (m.instance + 1)
   may_vote fits out c step from v wanted =
       let on = leads_on at out c from in let next = due_next v out.said (sym wanted) in
-      subst (λ i. HasRoom at i × SubmittingSpares at i) next.1 (fits (out, on.0) (submission_of m.instance at.own v) (step ∙ on.1) next.0)
+      subst (λ i. HasRoom at i × SubmittingSpares at i) next.1
+      (fits (out, on.0) (submission_of m.instance at.own v) (step ∙ on.1) next.0)
 
   -- no vote is due
-  pub takes_plainly : (out : Out) (then : ReplicaState) → acting.receives at m ≡ Some (out, then) → None ≡ vote_by out.said → takes at m ≡ Some (without_vote out, then)
+  pub takes_plainly : (out : Out) (then : ReplicaState) → acting.receives at m ≡ Some (out, then)
+      → None ≡ vote_by out.said → takes at m ≡ Some (without_vote out, then)
   takes_plainly out then received none =
-      ap (option_and_then (λ (made : Out × ReplicaState). then_votes made (vote_due m.instance at.own made.0.said))) received
+      ap (option_and_then (λ (made : Out × ReplicaState). then_votes made (vote_due m.instance at.own made.0.said)))
+      received
       ∙ ap (then_votes (out, then)) (due out.said ∙ ap (option_map (submission_of m.instance at.own)) (sym none))
 
   -- this vote is due, and is cast in what stands then
-  pub takes_voting : (v : Vote) (out cast : Out) (then after : ReplicaState) → acting.receives at m ≡ Some (out, then) → Some v ≡ vote_by out.said → acting.submits then (m.instance + 1) (casts (commit_of m.instance) v) ≡ Some (cast, after) → takes at m ≡ Some (with_vote out (m.instance + 1) cast, after)
+  pub takes_voting : (v : Vote) (out cast : Out) (then after : ReplicaState) → acting.receives at m ≡ Some (out, then)
+      → Some v ≡ vote_by out.said
+      → acting.submits then (m.instance + 1) (casts (commit_of m.instance) v) ≡ Some (cast, after)
+      → takes at m ≡ Some (with_vote out (m.instance + 1) cast, after)
   takes_voting v out cast then after received wanted submitted =
       let next = due_next v out.said (sym wanted) in
-      ap (option_and_then (λ (made : Out × ReplicaState). then_votes made (vote_due m.instance at.own made.0.said))) received
+      ap (option_and_then (λ (made : Out × ReplicaState). then_votes made (vote_due m.instance at.own made.0.said)))
+      received
       ∙ ap (then_votes (out, then)) next.0
-      ∙ ap (λ j. option_map (λ (c : Out × ReplicaState). (with_vote out j c.0, c.1)) (acting.submits then j (casts (commit_of m.instance) v))) next.1
+      ∙ ap
+      (λ j.
+      option_map (λ (c : Out × ReplicaState). (with_vote out j c.0, c.1))
+      (acting.submits then j (casts (commit_of m.instance) v))) next.1
       ∙ ap (option_map (λ (c : Out × ReplicaState). (with_vote out (m.instance + 1) c.0, c.1))) submitted

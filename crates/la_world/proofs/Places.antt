@@ -42,35 +42,52 @@ pub record Later (g : Group) (all before : List Event) : Type 0 where
   pub more : List Event
   pub is : all ≡ more ++ before
 
-accepted_earlier : (g : Group) (es : List Event) (k : ℕ) → Later g (runs g es).accepted (accepted_of g (take k (reverse es)))
+accepted_earlier : (g : Group) (es : List Event) (k : ℕ)
+    → Later g (runs g es).accepted (accepted_of g (take k (reverse es)))
 unfolding runs
 accepted_earlier g [] k = record { more = []; is = sym (ap (λ xs. accepted_of g xs) (take_all k [] (omega arith))) }
 accepted_earlier g (e ∷ es) k = elim (cases_lt (length es) k) [
   | inl all ↦
-      let whole : take k (reverse (e ∷ es)) ≡ reverse (e ∷ es) = take_all k (reverse (e ∷ es)) (omega (arith, length-reverse (e ∷ es), all)) in
+      let whole : take k (reverse (e ∷ es)) ≡ reverse (e ∷ es) =
+      take_all k (reverse (e ∷ es)) (omega (arith, length-reverse (e ∷ es), all)) in
       record { more = []; is = sym (ap (accepted_of g) whole ∙ ap (λ xs. (runs g xs).accepted) (reverse-reverse (e ∷ es))) }
   | inr le ↦
-      let same : take k (reverse (e ∷ es)) ≡ take k (reverse es) = ap (take k) (reverse-append (e ∷ []) es) ∙ take-append-le k (reverse es) (e ∷ []) (omega (arith, length-reverse es, le)) in
-      subst (λ xs. Later g (runs g (e ∷ es)).accepted (accepted_of g xs)) (sym same) (go (refused g (trace g (runs g es).accepted) e) (accepted_earlier g es k))
+      let same : take k (reverse (e ∷ es)) ≡ take k (reverse es) =
+      ap (take k) (reverse-append (e ∷ []) es)
+      ∙ take-append-le k (reverse es) (e ∷ []) (omega (arith, length-reverse es, le)) in
+      subst (λ xs. Later g (runs g (e ∷ es)).accepted (accepted_of g xs)) (sym same)
+      (go (refused g (trace g (runs g es).accepted) e) (accepted_earlier g es k))
 ]
   where
-    go : (o : Option Refusal) → Later g (runs g es).accepted (accepted_of g (take k (reverse es))) → Later g (runs_on g (runs g es) e (trace g (runs g es).accepted) o).accepted (accepted_of g (take k (reverse es)))
+    go : (o : Option Refusal) → Later g (runs g es).accepted (accepted_of g (take k (reverse es)))
+        → Later g (runs_on g (runs g es) e (trace g (runs g es).accepted) o).accepted
+        (accepted_of g (take k (reverse es)))
     go None h = record { more = e ∷ h.more; is = ap (λ xs. e ∷ xs) h.is }
     go (Some name) h = h
 
 -- those of a front come first
-pub accepted_before : (g : Group) (events : List Event) (k : ℕ) → Later g (accepted_of g events) (accepted_of g (take k events))
-accepted_before g events k = subst (λ xs. Later g (accepted_of g events) (accepted_of g (take k xs))) (reverse-reverse events) (accepted_earlier g (reverse events) k)
+pub accepted_before : (g : Group) (events : List Event) (k : ℕ)
+    → Later g (accepted_of g events) (accepted_of g (take k events))
+accepted_before g events k =
+    subst (λ xs. Later g (accepted_of g events) (accepted_of g (take k xs))) (reverse-reverse events)
+    (accepted_earlier g (reverse events) k)
 
 -- of a longer front
-pub accepted_between : (g : Group) (events : List Event) (j k : ℕ) → j ≤ k → Later g (accepted_of g (take k events)) (accepted_of g (take j events))
-accepted_between g events j k le = subst (λ xs. Later g (accepted_of g (take k events)) (accepted_of g xs)) (take-take j k events le) (accepted_before g (take k events) j)
+pub accepted_between : (g : Group) (events : List Event) (j k : ℕ) → j ≤ k
+    → Later g (accepted_of g (take k events)) (accepted_of g (take j events))
+accepted_between g events j k le =
+    subst (λ xs. Later g (accepted_of g (take k events)) (accepted_of g xs)) (take-take j k events le)
+    (accepted_before g (take k events) j)
 
 -- an event that is accepted at its place comes next
-pub accepted_next : (g : Group) (events : List Event) (k : ℕ) (d : Event) → slice_get events k ≡ Some d → refused g (trace_of g (take k events)) d ≡ None → accepted_of g (take (k + 1) events) ≡ d ∷ accepted_of g (take k events)
+pub accepted_next : (g : Group) (events : List Event) (k : ℕ) (d : Event) → slice_get events k ≡ Some d
+    → refused g (trace_of g (take k events)) d ≡ None
+    → accepted_of g (take (k + 1) events) ≡ d ∷ accepted_of g (take k events)
 unfolding runs
 accepted_next g events k d at allowed =
-    ap (accepted_of g) (take_more events k d (slice_get_within events k d at) ∙ ap (λ z. take k events ++ z ∷ []) (get_or_from_slice_get events k d d at))
+    ap (accepted_of g)
+    (take_more events k d (slice_get_within events k d at)
+    ∙ ap (λ z. take k events ++ z ∷ []) (get_or_from_slice_get events k d d at))
     ∙ ap (λ xs. (runs g xs).accepted) (reverse-append (take k events) (d ∷ []))
     ∙ ap (λ o. (runs_on g (runs g (reverse (take k events))) d (trace_of g (take k events)) o).accepted) allowed
 
@@ -81,7 +98,8 @@ pub record IsDone (g : Group) (events : List Event) (k : ℕ) (d : Event) (s : S
   pub allowed : refused g (trace_of g (take k events)) d ≡ None
   pub line : line_of g (trace_of g (take k events)) d ≡ Done s
 
-pub was_done : (g : Group) (events : List Event) (k : ℕ) (d : Event) (s : Step) → slice_get events k ≡ Some d → slice_get (lines g events) k ≡ Some (Done s) → IsDone g events k d s
+pub was_done : (g : Group) (events : List Event) (k : ℕ) (d : Event) (s : Step) → slice_get events k ≡ Some d
+    → slice_get (lines g events) k ≡ Some (Done s) → IsDone g events k d s
 was_done g events k d s at done = go (refused g t d) refl (same_Some _ _ (sym (line_of_place g events k d at) ∙ done))
   where
     t : Trace
@@ -92,9 +110,11 @@ was_done g events k d s at done = go (refused g t d) refl (same_Some _ _ (sym (l
     go (Some name) is line = absurd (none-some s (ap done_by line))
 
 -- each line has its event
-pub handed_in_at : (g : Group) (events : List Event) (k : ℕ) (line : Line) → slice_get (lines g events) k ≡ Some line → (d : Event) × (slice_get events k ≡ Some d)
+pub handed_in_at : (g : Group) (events : List Event) (k : ℕ) (line : Line) → slice_get (lines g events) k ≡ Some line
+    → (d : Event) × (slice_get events k ≡ Some d)
 handed_in_at g events k line at =
-    let many : length (lines g events) ≡ length events = length-reverse (runs g (reverse events)).lines ∙ line_each g (reverse events) ∙ length-reverse events in
+    let many : length (lines g events) ≡ length events =
+    length-reverse (runs g (reverse events)).lines ∙ line_each g (reverse events) ∙ length-reverse events in
     there events k (omega (arith, many, slice_get_within (lines g events) k line at))
   where
     there : (xs : List Event) (k : ℕ) → k < length xs → (d : Event) × (slice_get xs k ≡ Some d)
@@ -126,21 +146,25 @@ placed (Some b) place x e = ap (λ ls. (get_or ls 0 x).place) (sym e)
 
 module _ (g : Group) (events : List Event) where
   -- it is among those that were learnt by then
-  pub learnt_then : (j : ℕ) (x : Learnt) → IsLearntAt (lines g events) j x → Contains (learnt (trace g (accepted_of g (take (j + 1) events)))) x
+  pub learnt_then : (j : ℕ) (x : Learnt) → IsLearntAt (lines g events) j x
+      → Contains (learnt (trace g (accepted_of g (take (j + 1) events)))) x
   unfolding trace learnt done_did
   learnt_then j x h =
       let p = handed_in_at g events j (Done h.step) h.done in
       let d = p.0 in
       let was = was_done g events j d h.step p.1 h.done in
-      subst (λ es. Contains (learnt (trace g es)) x) (sym (accepted_next g events j d p.1 was.allowed)) (now d h.step was.line h.learnt)
+      subst (λ es. Contains (learnt (trace g es)) x) (sym (accepted_next g events j d p.1 was.allowed))
+      (now d h.step was.line h.learnt)
     where
       t : Trace
       t = trace_of g (take j events)
 
-      now : (d : Event) (s : Step) → line_of g t d ≡ Done s → learnt_in s.did ≡ Some x → Contains (learnt (trace g (d ∷ accepted_of g (take j events)))) x
+      now : (d : Event) (s : Step) → line_of g t d ≡ Done s → learnt_in s.did ≡ Some x
+          → Contains (learnt (trace g (d ∷ accepted_of g (take j events)))) x
       now d s line e =
           let did = (entry g t d).did in
-          let listed : learning_of (length t) (learnt_by did) ≡ x ∷ [] = sym (learnings_shown (replicas g) (length t) did) ∙ ap done_did line ∙ learnt_listed s.did x e in
+          let listed : learning_of (length t) (learnt_by did) ≡ x ∷ [] =
+          sym (learnings_shown (replicas g) (length t) did) ∙ ap done_did line ∙ learnt_listed s.did x e in
           subst (λ ls. Contains (learnt t ++ ls) x) (sym listed) (Contains-push (learnt t) x)
 
   -- its place counts the events that were accepted before
@@ -151,22 +175,29 @@ module _ (g : Group) (events : List Event) where
       let t = trace_before g events j in
       let did = (entry g t p.0).did in
       let was = was_done g events j p.0 h.step p.1 h.done in
-      placed (learnt_by did) (length t) x (sym (learnings_shown (replicas g) (length t) did) ∙ ap done_did was.line ∙ learnt_listed h.step.did x h.learnt)
+      placed (learnt_by did) (length t) x
+      (sym (learnings_shown (replicas g) (length t) did) ∙ ap done_did was.line ∙ learnt_listed h.step.did x h.learnt)
 
   -- and it stays
   pub learnt_at_end : (j : ℕ) (x : Learnt) → IsLearntAt (lines g events) j x → Contains (learnt (trace_of g events)) x
   learnt_at_end j x h =
       let p = accepted_before g events (j + 1) in
-      subst (λ es. Contains (learnt (trace g es)) x) (sym p.is) (learnt_still g p.more (accepted_of g (take (j + 1) events)) x (learnt_then j x h))
+      subst (λ es. Contains (learnt (trace g es)) x) (sym p.is)
+      (learnt_still g p.more (accepted_of g (take (j + 1) events)) x (learnt_then j x h))
 
   -- what is submitted at a later place was not yet submitted then
-  submitted_after : (j k : ℕ) (x : Learnt) (id : UpdateId) → j < k → IsSubmittedAt g events (lines g events) k x.instance id → IsSubmittedLater (trace g (accepted_of g (take (j + 1) events))) x.instance id
+  submitted_after : (j k : ℕ) (x : Learnt) (id : UpdateId) → j < k
+      → IsSubmittedAt g events (lines g events) k x.instance id
+      → IsSubmittedLater (trace g (accepted_of g (take (j + 1) events))) x.instance id
   submitted_after j k x id lt h =
       let i = x.instance in
       let p = accepted_between g events (j + 1) k (omega arith) in
       let early = accepted_of g (take (j + 1) events) in
-      let fewer : length (submitted (trace g early) i id.replica) ≤ length (submitted (trace_before g events k) i id.replica) = subst (λ es. length (submitted (trace g early) i id.replica) ≤ length (submitted (trace g es) i id.replica)) (sym p.is) (stays_submitted g p.more early i id.replica) in
-      let number : id.number ≡ length (submitted (trace_before g events k) i id.replica) + 1 = h.number ∙ ap (λ r. length (submitted (trace_before g events k) i r) + 1) (sym h.replica) in
+      let fewer : length (submitted (trace g early) i id.replica) ≤ length (submitted (trace_before g events k) i id.replica) =
+      subst (λ es. length (submitted (trace g early) i id.replica) ≤ length (submitted (trace g es) i id.replica))
+      (sym p.is) (stays_submitted g p.more early i id.replica) in
+      let number : id.number ≡ length (submitted (trace_before g events k) i id.replica) + 1 =
+      h.number ∙ ap (λ r. length (submitted (trace_before g events k) i r) + 1) (sym h.replica) in
       omega (arith, fewer, number)
 
   pub learnt_in_order_of_places : ArePlacesInOrder g events (lines g events)
@@ -178,13 +209,16 @@ module _ (g : Group) (events : List Event) where
 -- ## Removes
 
 module _ (g : Group) (events : List Event) where
-  learnt_before : (place : ℕ) (tag : UpdateId) → WasLearntBefore (lines g events) place tag → WasLearnt (trace g (accepted_of g (take place events))) tag
+  learnt_before : (place : ℕ) (tag : UpdateId) → WasLearntBefore (lines g events) place tag
+      → WasLearnt (trace g (accepted_of g (take place events))) tag
   learnt_before place tag h =
       let p = accepted_between g events (h.earlier + 1) place (let lt = h.before in omega arith) in
       let then = learnt_then g events h.earlier h.learnt_as h.was in
       record {
         learnt_as = h.learnt_as;
-        was = subst (λ es. Contains (learnt (trace g es)) h.learnt_as) (sym p.is) (learnt_still g p.more (accepted_of g (take (h.earlier + 1) events)) h.learnt_as then);
+        was =
+            subst (λ es. Contains (learnt (trace g es)) h.learnt_as) (sym p.is)
+            (learnt_still g p.more (accepted_of g (take (h.earlier + 1) events)) h.learnt_as then);
         of_objects = h.of_objects;
         holds = h.holds;
       }
@@ -194,9 +228,13 @@ module _ (g : Group) (events : List Event) where
       let e = submission_of r object (Remove tags) in
       let was = was_done g events place e step at done in
       let p = accepted_before g events (place + 1) in
-      let all : accepted_of g events ≡ p.more ++ e ∷ accepted_of g (take place events) = p.is ∙ ap (λ es. p.more ++ es) (accepted_next g events place e at was.allowed) in
-      let q = IsIn_made (view (trace_of g events)) (group (replicas g)) shown (contains_IsIn (views g (trace_of g events)) shown listed) in
-      let same : view (trace g (p.more ++ e ∷ accepted_of g (take place events))) q.0 ≡ shown = sym (ap (λ es. view (trace g es) q.0) all) ∙ q.1 in
+      let all : accepted_of g events ≡ p.more ++ e ∷ accepted_of g (take place events) =
+      p.is ∙ ap (λ es. p.more ++ es) (accepted_next g events place e at was.allowed) in
+      let q =
+      IsIn_made (view (trace_of g events)) (group (replicas g)) shown
+      (contains_IsIn (views g (trace_of g events)) shown listed) in
+      let same : view (trace g (p.more ++ e ∷ accepted_of g (take place events))) q.0 ≡ shown =
+      sym (ap (λ es. view (trace g es) q.0) all) ∙ q.1 in
       subst (λ s. IsSome (get s tag)) same
       (removed_held g (accepted_of g (take place events)) p.more r object tags q.0 (λ u c. learnt_before place u (stood u c))
       (subst (λ s. IsSome (get s (next_id (trace_before g events place) r))) (sym same) holds) tag named)

@@ -48,7 +48,8 @@ quiet_placed i r d opened learnt plain = record {
 }
 
 -- a replica's next ballot in an instance
-next_of : (t : Trace) (i r : ℕ) (all : List ObjectOp) (b : Opening) → next_ballot (round t i r) all ≡ Some b → IsOf i r b
+next_of : (t : Trace) (i r : ℕ) (all : List ObjectOp) (b : Opening) → next_ballot (round t i r) all ≡ Some b
+    → IsOf i r b
 next_of t i r all b e = go (is_subset (alone (round t i r).replica all) (round t i r).updates) e
   where
     next : Opening
@@ -69,7 +70,8 @@ module _ (g : Group) (t : Trace) (m : Message) where
   last = round t i r
 
   -- what opens where the last ballot is learnt and leads to this vote
-  vote_placed : (v : Option Submission) → second_vote last ≡ v → (b : Opening) → after_vote t last v ≡ Some b → IsOf (opens_in i v) r b
+  vote_placed : (v : Option Submission) → second_vote last ≡ v → (b : Opening) → after_vote t last v ≡ Some b
+      → IsOf (opens_in i v) r b
   vote_placed None is b e = next_of t i r (submitted t last.instance last.replica) b e
   vote_placed (Some s) is b e = go (is_open t s.instance s.replica) e
     where
@@ -78,7 +80,9 @@ module _ (g : Group) (t : Trace) (m : Message) where
 
       go : (v : Bool) → cond v None (next_ballot (round t s.instance s.replica) all) ≡ Some b → IsOf s.instance r b
       go true k = absurd (none-some b k)
-      go false k = subst (λ q. IsOf s.instance q b) ((second_vote_is last s is).2 ∙ (round_is t i r).replica) (next_of t s.instance s.replica all b k)
+      go false k =
+          subst (λ q. IsOf s.instance q b) ((second_vote_is last s is).2 ∙ (round_is t i r).replica)
+          (next_of t s.instance s.replica all b k)
 
   ends_placed : (tally : List Counted) (w : Verdict) → IsPlaced i r (ends t last tally w)
   unfolding after_learning

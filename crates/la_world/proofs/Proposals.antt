@@ -37,17 +37,23 @@ module _ (g : Group) (t : Trace) (r k value : ℕ) where
   known_replica lt = cond-false (nat_le (replicas g) r) (Some NoSuchReplica) by_commit (lt-leb (replicas g) r lt)
 
   known_commit : r < replicas g → k < g.commits → refused g t (Decide r k value) ≡ by_proposals
-  known_commit lt lk = known_replica lt ∙ cond-false (nat_le g.commits k) (Some NoSuchCommit) by_proposals (lt-leb g.commits k lk)
+  known_commit lt lk =
+      known_replica lt ∙ cond-false (nat_le g.commits k) (Some NoSuchCommit) by_proposals (lt-leb g.commits k lk)
 
   has_proposed : r < replicas g → k < g.commits → 1 ≤ proposals → refused g t (Decide r k value) ≡ Some AlreadyProposed
-  has_proposed lt lk some = known_commit lt lk ∙ cond-true (nat_le 1 proposals) (Some AlreadyProposed) None (le-leb 1 proposals some)
+  has_proposed lt lk some =
+      known_commit lt lk ∙ cond-true (nat_le 1 proposals) (Some AlreadyProposed) None (le-leb 1 proposals some)
 
   in_order : AreTestedInOrder g t r k value
   in_order = record {
     replica = λ le. cond-true (nat_le (replicas g) r) (Some NoSuchReplica) by_commit (le-leb (replicas g) r le);
-    commit = λ lt le. known_replica lt ∙ cond-true (nat_le g.commits k) (Some NoSuchCommit) by_proposals (le-leb g.commits k le);
+    commit =
+        λ lt le.
+        known_replica lt ∙ cond-true (nat_le g.commits k) (Some NoSuchCommit) by_proposals (le-leb g.commits k le);
     proposed = has_proposed;
-    first = λ lt lk none. known_commit lt lk ∙ cond-false (nat_le 1 proposals) (Some AlreadyProposed) None (lt-leb 1 proposals none);
+    first =
+        λ lt lk none.
+        known_commit lt lk ∙ cond-false (nat_le 1 proposals) (Some AlreadyProposed) None (lt-leb 1 proposals none);
   }
 
 pub tested_in_order : ProposalsAreTestedInOrder
@@ -56,26 +62,39 @@ tested_in_order g events r k value = in_order g (trace g events) r k value
 -- ## Another one later
 
 -- a proposal is submitted
-is_submitted : (g : Group) (events : List Event) (r k value : ℕ) → 1 ≤ length (submitted (trace g (Decide r k value ∷ events)) (first_instance k) r)
+is_submitted : (g : Group) (events : List Event) (r k value : ℕ)
+    → 1 ≤ length (submitted (trace g (Decide r k value ∷ events)) (first_instance k) r)
 unfolding trace
 is_submitted g events r k value =
     let t = trace g events in
     let vote : Submission = record { instance = first_instance k; replica = r; object_op = first_vote k value } in
-    omega (arith, ap length (submitted_with (entry g t (Decide r k value)) t (first_instance k) r vote refl refl refl) ∙ length_push (submitted t (first_instance k) r) (first_vote k value))
+    omega (
+      arith,
+      ap length (submitted_with (entry g t (Decide r k value)) t (first_instance k) r vote refl refl refl)
+          ∙ length_push (submitted t (first_instance k) r) (first_vote k value),
+    )
 
 -- what is submitted stays so
-pub stays_submitted : (g : Group) (more events : List Event) (i r : ℕ) → length (submitted (trace g events) i r) ≤ length (submitted (trace g (more ++ events)) i r)
+pub stays_submitted : (g : Group) (more events : List Event) (i r : ℕ)
+    → length (submitted (trace g events) i r) ≤ length (submitted (trace g (more ++ events)) i r)
 unfolding trace
 stays_submitted g [] events i r = omega arith
 stays_submitted g (e ∷ more) events i r =
     let t = trace g (more ++ events) in
-    omega (arith, stays_submitted g more events i r, IsPrefix-length (submitted t i r) (submitted (entry g t e ∷ t) i r) (submitted_prefix (entry g t e) t i r))
+    omega (
+      arith,
+      stays_submitted g more events i r,
+      IsPrefix-length (submitted t i r) (submitted (entry g t e ∷ t) i r)
+          (submitted_prefix (entry g t e) t i r),
+    )
 
 pub second_refused : SecondProposalsAreRefused
 second_refused g events more r k value other e =
     let t = trace g events in
-    has_proposed g (trace g (more ++ Decide r k value ∷ events)) r k other (proposer_known g t r k value e) (object_known g t r k value e)
-    (omega (arith, is_submitted g events r k value, stays_submitted g more (Decide r k value ∷ events) (first_instance k) r))
+    has_proposed g (trace g (more ++ Decide r k value ∷ events)) r k other (proposer_known g t r k value e)
+    (object_known g t r k value e)
+    (omega
+    (arith, is_submitted g events r k value, stays_submitted g more (Decide r k value ∷ events) (first_instance k) r))
 
 -- ## Limits
 

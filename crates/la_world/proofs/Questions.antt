@@ -62,7 +62,8 @@ kept_invariant w after k h = record {
 }
 
 -- what is played after nothing has happened is played before it
-pub kept_plays : (w now : World) → Keeps w now → (events : List Event) (e : Event) (step : Step) (after : World) → Plays now events e step after → Plays w events e step after
+pub kept_plays : (w now : World) → Keeps w now → (events : List Event) (e : Event) (step : Step) (after : World)
+    → Plays now events e step after → Plays w events e step after
 kept_plays w now k events e step after p =
     let same = kept_group w now k in
     record {
@@ -75,7 +76,8 @@ kept_plays w now k events e step after p =
 
 -- ## The entry of a question concerns no replica
 
-asked_concerns : (g : Group) (t : Trace) (r object : ℕ) (query : Query) (q : ℕ) → Concerns 0 q (entry g t (Ask r object query))
+asked_concerns : (g : Group) (t : Trace) (r object : ℕ) (query : Query) (q : ℕ)
+    → Concerns 0 q (entry g t (Ask r object query))
 asked_concerns g t r object query q = record {
   opened = λ b e. absurd (none-some b e);
   learnt = λ b e. absurd (none-some b e);
@@ -83,10 +85,13 @@ asked_concerns g t r object query q = record {
   message = λ m e. absurd (none-some m e);
 }
 
-replicas_stay : (g : Group) (t : Trace) (r object : ℕ) (query : Query) → replica_states g t ≡ replica_states g (entry g t (Ask r object query) ∷ t)
+replicas_stay : (g : Group) (t : Trace) (r object : ℕ) (query : Query)
+    → replica_states g t ≡ replica_states g (entry g t (Ask r object query) ∷ t)
 replicas_stay g t r object query =
     let x = entry g t (Ask r object query) in
-    map_same (replica_state g t) (replica_state g (x ∷ t)) 0 (replicas g) (λ q le. sym (replica_state-else g x t 0 (suc q) q (asked_concerns g t r object query (suc q)) (λ e. omega (arith, e))))
+    map_same (replica_state g t) (replica_state g (x ∷ t)) 0 (replicas g)
+    (λ q le.
+    sym (replica_state-else g x t 0 (suc q) q (asked_concerns g t r object query (suc q)) (λ e. omega (arith, e))))
 
 -- ## What stands for events
 
@@ -102,19 +107,30 @@ module _ (w : World) (events : List Event) (stands : StandsFor w events) where
 
   module _ (r : ℕ) (s : ShelfState) (found : slice_get w.shelves r ≡ Some s) where
     pub is_replica : r < replicas g
-    is_replica = let lt = slice_get_within w.shelves r s found in let a = stands.shelves in let b = stands.config.group.replicas in omega arith
+    is_replica =
+        let lt = slice_get_within w.shelves r s found in
+        let a = stands.shelves in let b = stands.config.group.replicas in omega arith
 
     pub shelf_kinds : s.objects ≡ kinds_on g r
-    shelf_kinds = sym (ap (λ (o : Option (List (ℕ × Kind))). unwrap_or o []) (slice_get-map (λ (z : ShelfState). z.objects) w.shelves r ∙ ap (option_map (λ (z : ShelfState). z.objects)) found))
+    shelf_kinds =
+        sym
+        (ap (λ (o : Option (List (ℕ × Kind))). unwrap_or o [])
+        (slice_get-map (λ (z : ShelfState). z.objects) w.shelves r
+        ∙ ap (option_map (λ (z : ShelfState). z.objects)) found))
 
-    known_replica : (object : ℕ) (query : Query) → refused g t (Ask r object query) ≡ refused_object (kind_at s.objects object)
-    known_replica object query = cond-false (nat_le (replicas g) r) (Some NoSuchReplica) (refused_object (kind_at (kinds_on g r) object)) (lt-leb (replicas g) r is_replica) ∙ ap (λ o. refused_object (kind_at o object)) (sym shelf_kinds)
+    known_replica : (object : ℕ) (query : Query)
+        → refused g t (Ask r object query) ≡ refused_object (kind_at s.objects object)
+    known_replica object query =
+        cond-false (nat_le (replicas g) r) (Some NoSuchReplica) (refused_object (kind_at (kinds_on g r) object))
+        (lt-leb (replicas g) r is_replica) ∙ ap (λ o. refused_object (kind_at o object)) (sym shelf_kinds)
 
     -- where the shelf has absorbed the whole view
     module _ (follows : view_in w r ≡ Some s.view) where
       shelf_is : ◌≡◌ {A = ShelfState} (shelf_of g t r) s
       shelf_is =
-          let there : view_in w r ≡ Some (view t r) = view_is w events stands r ∙ cond-true (nat_lt r (replicas g)) (Some (view t r)) None (lt-ltb r (replicas g) is_replica) in
+          let there : view_in w r ≡ Some (view t r) =
+          view_is w events stands r
+          ∙ cond-true (nat_lt r (replicas g)) (Some (view t r)) None (lt-ltb r (replicas g) is_replica) in
           λ j. record { view = same_Some (view t r) s.view (sym there ∙ follows) j; objects = sym shelf_kinds j }
 
       pub answer_is : (object : ℕ) (query : Query) → answer_of g t r object query ≡ answer_at s object query
@@ -123,7 +139,8 @@ module _ (w : World) (events : List Event) (stands : StandsFor w events) where
 
       pub tags_are : (object element : ℕ) → tags_of g t r object element ≡ tags_at s object element
       tags_are object element =
-          cond-true (nat_lt r (replicas g)) (tags_at (shelf_of g t r) object element) None (lt-ltb r (replicas g) is_replica)
+          cond-true (nat_lt r (replicas g)) (tags_at (shelf_of g t r) object element) None
+          (lt-ltb r (replicas g) is_replica)
           ∙ ap (λ (z : ShelfState). tags_at z object element) shelf_is
 
   -- ### Refusals
@@ -132,17 +149,20 @@ module _ (w : World) (events : List Event) (stands : StandsFor w events) where
   some_object None h = cc
   some_object (Some kind) h = refl
 
-  pub question_allowed : (r object : ℕ) (query : Query) → HasObject w.shelves r object → refused g t (Ask r object query) ≡ None
+  pub question_allowed : (r object : ℕ) (query : Query) → HasObject w.shelves r object
+      → refused g t (Ask r object query) ≡ None
   question_allowed r object query there = go (slice_get w.shelves r) refl there
     where
-      go : (o : Option ShelfState) → slice_get w.shelves r ≡ o → IsSomeAnd o (λ (s : ShelfState). IsSome (kind_at s.objects object)) → refused g t (Ask r object query) ≡ None
+      go : (o : Option ShelfState) → slice_get w.shelves r ≡ o
+          → IsSomeAnd o (λ (s : ShelfState). IsSome (kind_at s.objects object)) → refused g t (Ask r object query) ≡ None
       go None found k = absurd k
       go (Some s) found k = known_replica r s found object query ∙ some_object (kind_at s.objects object) k
 
   -- ### An answer
 
   -- the world after a question stands for the events with it
-  asked_stands : (r object : ℕ) (query : Query) → refused g t (Ask r object query) ≡ None → StandsFor (record w { count = w.count + 1 }) (Ask r object query ∷ events)
+  asked_stands : (r object : ℕ) (query : Query) → refused g t (Ask r object query) ≡ None
+      → StandsFor (record w { count = w.count + 1 }) (Ask r object query ∷ events)
   unfolding trace sent told learnt
   asked_stands r object query allowed =
       let x = entry g t (Ask r object query) in
@@ -160,11 +180,11 @@ module _ (w : World) (events : List Event) (stands : StandsFor w events) where
         count = let c = stands.count in omega arith;
       }
 
-  pub question_plays : (r object : ℕ) (query : Query) (s : ShelfState) (answer : Answer) → slice_get w.shelves r ≡ Some s → view_in w r ≡ Some s.view → HasObject w.shelves r object → answer_at s object query ≡ Some answer
-      → Plays w events (Ask r object query) (record { did = shown.Replied answer; first = length w.messages; sent = 0 }) (record w { count = w.count + 1 })
+  pub question_plays : (r object : ℕ) (query : Query) (s : ShelfState) (answer : Answer) → slice_get w.shelves r ≡ Some s → view_in w r ≡ Some s.view → HasObject w.shelves r object → answer_at s object query ≡ Some answer → Plays w events (Ask r object query) (record { did = shown.Replied answer; first = length w.messages; sent = 0 }) (record w { count = w.count + 1 })
   question_plays r object query s answer found follows there is =
       let allowed = question_allowed r object query there in
-      let same : unwrap_or (answer_of g t r object query) Foreign ≡ answer = ap (λ o. unwrap_or o Foreign) (answer_is r s found follows object query ∙ is) in
+      let same : unwrap_or (answer_of g t r object query) Foreign ≡ answer =
+      ap (λ o. unwrap_or o Foreign) (answer_is r s found follows object query ∙ is) in
       record {
         allowed = allowed;
         line = λ j. Done (record { did = shown.Replied (sym same j); first = sent_is w events stands j; sent = 0 });
@@ -189,14 +209,16 @@ pub record HasAbsorbed (at : ReplicaState) (s new : ShelfState) : Type 0 where
 -- ## A shelf that follows
 
 -- what is found in a list in which one thing was put
-pub get_set : {A : Type 0} (xs : List A) (k q : ℕ) (y z : A) → slice_get (slice_set xs k y) q ≡ Some z → ((q ≡ k) × (y ≡ z)) ⊎ (slice_get xs q ≡ Some z)
+pub get_set : {A : Type 0} (xs : List A) (k q : ℕ) (y z : A) → slice_get (slice_set xs k y) q ≡ Some z
+    → ((q ≡ k) × (y ≡ z)) ⊎ (slice_get xs q ≡ Some z)
 get_set [] k q y z e = inr e
 get_set (x ∷ xs) zero zero y z e = inl (refl, same_Some y z e)
 get_set (x ∷ xs) zero (suc q) y z e = inr e
 get_set (x ∷ xs) (suc k) zero y z e = inr e
 get_set (x ∷ xs) (suc k) (suc q) y z e = elim (get_set xs k q y z e) [ inl p ↦ inl (ap suc p.0, p.1) | inr p ↦ inr p ]
 
-pub get_put : {A : Type 0} (xs : List A) (k : ℕ) (x y : A) → slice_get xs k ≡ Some x → slice_get (slice_set xs k y) k ≡ Some y
+pub get_put : {A : Type 0} (xs : List A) (k : ℕ) (x y : A) → slice_get xs k ≡ Some x
+    → slice_get (slice_set xs k y) k ≡ Some y
 get_put [] k x y e = absurd (none-some x e)
 get_put (z ∷ xs) zero x y e = refl
 get_put (z ∷ xs) (suc k) x y e = get_put xs k x y e
@@ -213,20 +235,27 @@ module _ {w : World} {r : ℕ} {at : ReplicaState} {s : ShelfState} (is : IsShel
     view_then : at.view ≡ view (trace (group_in w) events) r
     view_then =
         let g = group_in w in let t = trace g events in
-        same_Some at.view (view t r) (sym view_at_is ∙ view_is w events stands r ∙ cond-true (nat_lt r (replicas g)) (Some (view t r)) None (lt-ltb r (replicas g) (is_replica w events stands r s is.found)))
+        same_Some at.view (view t r)
+        (sym view_at_is ∙ view_is w events stands r
+        ∙ cond-true (nat_lt r (replicas g)) (Some (view t r)) None
+        (lt-ltb r (replicas g) (is_replica w events stands r s is.found)))
 
     within : IsSubset s.view at.view
     within = subst (IsSubset s.view) (sym view_then) (stands.absorbed r s is.found)
 
   module _ {new : ShelfState} (absorbed : HasAbsorbed at s new) where
     kinds_stay : kinds_of (slice_set w.shelves r new) ≡ kinds_of w.shelves
-    kinds_stay = map-set_same (λ (z : ShelfState). z.objects) w.shelves r new s (absorbed.objects ∙ ap (λ (z : ShelfState). z.objects) (sym (get_or_from_slice_get w.shelves r s s is.found)))
+    kinds_stay =
+        map-set_same (λ (z : ShelfState). z.objects) w.shelves r new s
+        (absorbed.objects ∙ ap (λ (z : ShelfState). z.objects) (sym (get_or_from_slice_get w.shelves r s s is.found)))
 
-    behind : (events : List Event) → StandsFor w events → AreBehind (slice_set w.shelves r new) (trace (group_in w) events)
+    behind : (events : List Event) → StandsFor w events
+        → AreBehind (slice_set w.shelves r new) (trace (group_in w) events)
     behind events stands q z there u has = elim (get_set w.shelves r q new z there) [
       | inl p ↦
           let t = trace (group_in w) events in
-          let new_within : IsSubset new.view (view t r) = subst (IsSubset new.view) (view_then events stands) (absorbed.within (within events stands)) in
+          let new_within : IsSubset new.view (view t r) =
+          subst (IsSubset new.view) (view_then events stands) (absorbed.within (within events stands)) in
           subst₂ (λ (y : ShelfState) (k : ℕ). IsSubset y.view (view t k)) p.1 (sym p.0) new_within u has
       | inr old ↦ stands.absorbed q z old u has
     ]
@@ -238,13 +267,15 @@ module _ {w : World} {r : ℕ} {at : ReplicaState} {s : ShelfState} (is : IsShel
       messages = refl;
       count = refl;
       stands = λ events stands.
-          let same : group_of w.config (kinds_of w.shelves) ≡ group_of w.config (kinds_of (slice_set w.shelves r new)) = ap (group_of w.config) (sym kinds_stay) in
+          let same : group_of w.config (kinds_of w.shelves) ≡ group_of w.config (kinds_of (slice_set w.shelves r new)) =
+          ap (group_of w.config) (sym kinds_stay) in
           record {
             config = stands.config;
             led = subst (λ (g : Group). EventsLeadTo g events w.replica_states (whole_mail w.messages)) same stands.led;
             told = subst (λ (g : Group). w.messages ≡ told (replicas g) (trace g events)) same stands.told;
             shelves = length-set w.shelves r new ∙ stands.shelves;
-            absorbed = subst (λ (g : Group). AreBehind (slice_set w.shelves r new) (trace g events)) same (behind events stands);
+            absorbed =
+                subst (λ (g : Group). AreBehind (slice_set w.shelves r new) (trace g events)) same (behind events stands);
             learnt = subst (λ (g : Group). w.learnt ≡ learnt (trace g events)) same stands.learnt;
             count = stands.count;
           };
@@ -261,7 +292,9 @@ pub none_empty : (s : Histories) → length (updates s) ≡ 0 → s ≡ empty
 none_empty s none = sym (same_length empty s (empty_least s) (empty_has_none ∙ sym none))
 
 -- of the shelves so far, and one more
-pub unused_more : (shelves : List ShelfState) (i : ℕ) (s : ShelfState) → AllWithin (λ (z : ShelfState). z.view ≡ empty) shelves 0 i → i < length shelves → s ≡ get_or shelves i s → s.view ≡ empty → AllWithin (λ (z : ShelfState). z.view ≡ empty) shelves 0 (i + 1)
+pub unused_more : (shelves : List ShelfState) (i : ℕ) (s : ShelfState)
+    → AllWithin (λ (z : ShelfState). z.view ≡ empty) shelves 0 i → i < length shelves → s ≡ get_or shelves i s
+    → s.view ≡ empty → AllWithin (λ (z : ShelfState). z.view ≡ empty) shelves 0 (i + 1)
 unused_more shelves i s so_far lt at unused k d le more = elim (cases_lt k i) [
   | inl before ↦ so_far k d le before
   | inr after ↦
@@ -281,8 +314,10 @@ kind_there None f x e = absurd (none-some x e)
 kind_there (Some kind) f x e = refl
 
 -- a shelf that has absorbed the whole view has answered, and the question was noted
-module _ (w : World) (r object : ℕ) (query : Query) (s : ShelfState) (answer : Answer) (found : slice_get w.shelves r ≡ Some s) (following : IsFollowing w r) (is : answer_at s object query ≡ Some answer)
-    (messages : List code.Message) (learnt_then : List Learnt) (count : ℕ) (a : messages ≡ w.messages) (b : learnt_then ≡ w.learnt) (d : count ≡ w.count + 1) where
+module _ (w : World) (r object : ℕ) (query : Query) (s : ShelfState) (answer : Answer)
+    (found : slice_get w.shelves r ≡ Some s) (following : IsFollowing w r) (is : answer_at s object query ≡ Some answer)
+    (messages : List code.Message) (learnt_then : List Learnt) (count : ℕ) (a : messages ≡ w.messages)
+    (b : learnt_then ≡ w.learnt) (d : count ≡ w.count + 1) where
   abbrev pub noted : World
   noted = record { config = w.config; replica_states = w.replica_states; shelves = w.shelves; messages = messages; learnt = learnt_then; count = count }
 
@@ -290,44 +325,58 @@ module _ (w : World) (r object : ℕ) (query : Query) (s : ShelfState) (answer :
   noted_is = λ j. record { config = w.config; replica_states = w.replica_states; shelves = w.shelves; messages = a j; learnt = b j; count = d j }
 
   there : HasObject w.shelves r object
-  there = subst (λ o. IsSomeAnd o (λ (z : ShelfState). IsSome (kind_at z.objects object))) (sym found) (kind_there (kind_at s.objects object) _ answer is)
+  there =
+      subst (λ o. IsSomeAnd o (λ (z : ShelfState). IsSome (kind_at z.objects object))) (sym found)
+      (kind_there (kind_at s.objects object) _ answer is)
 
   pub question_played : (events : List Event) → StandsFor w events → Plays w events (Ask r object query) (record { did = shown.Replied answer; first = length w.messages; sent = 0 }) noted
   question_played events stands =
       subst (λ v. Plays w events (Ask r object query) (record { did = shown.Replied answer; first = length w.messages; sent = 0 }) v) (sym noted_is)
-      (question_plays w events stands r object query s answer found (some_and (slice_get w.shelves r) (λ (z : ShelfState). view_in w r ≡ Some z.view) s following found) there is)
+      (question_plays w events stands r object query s answer found
+      (some_and (slice_get w.shelves r) (λ (z : ShelfState). view_in w r ≡ Some z.view) s following found) there is)
 
   pub question_invariant : HoldsInvariant w → HoldsInvariant noted
   question_invariant h = record { config = h.config; reached = ∥∥₁_map h.reached (λ p. (Ask r object query ∷ p.0, (question_played p.0 p.1).stands)); made = subst (λ (v : World). All IsMade v.messages) (sym noted_is) h.made }
 
 -- ## The tags that are observed
 
-module _ (w now : World) (k : Keeps w now) (events : List Event) (stands : StandsFor w events) (r object element : ℕ) where
-  abbrev tags_then : Option (List UpdateId)
-  tags_then = tags_of (group_in w) (trace (group_in w) events) r object element
+module _ (w now : World) (k : Keeps w now) (events : List Event) (stands : StandsFor w events) (r object element : ℕ)
+  where
+    abbrev tags_then : Option (List UpdateId)
+    tags_then = tags_of (group_in w) (trace (group_in w) events) r object element
 
-  pub tags_kept : (s : ShelfState) → slice_get now.shelves r ≡ Some s → IsFollowing now r → tags_then ≡ tags_at s object element
-  tags_kept s found following =
-      subst (λ (g : Group). tags_of g (trace g events) r object element ≡ tags_at s object element) (kept_group w now k)
-      (tags_are now events (k.stands events stands) r s found (some_and (slice_get now.shelves r) (λ (z : ShelfState). view_in now r ≡ Some z.view) s following found) object element)
+    pub tags_kept : (s : ShelfState) → slice_get now.shelves r ≡ Some s → IsFollowing now r
+        → tags_then ≡ tags_at s object element
+    tags_kept s found following =
+        subst (λ (g : Group). tags_of g (trace g events) r object element ≡ tags_at s object element) (kept_group w now k)
+        (tags_are now events (k.stands events stands) r s found
+        (some_and (slice_get now.shelves r) (λ (z : ShelfState). view_in now r ≡ Some z.view) s following found) object
+        element)
 
-  some_mapped : {A : Type 0} (o : Option Kind) (f : Kind → A) → IsSome o → IsSome (option_map f o)
-  some_mapped None f h = cc
-  some_mapped (Some kind) f h = refl
+    some_mapped : {A : Type 0} (o : Option Kind) (f : Kind → A) → IsSome o → IsSome (option_map f o)
+    some_mapped None f h = cc
+    some_mapped (Some kind) f h = refl
 
-  pub tags_there : HasObject w.shelves r object → IsSome tags_then
-  tags_there has = go (slice_get w.shelves r) refl has
-    where
-      go : (o : Option ShelfState) → slice_get w.shelves r ≡ o → IsSomeAnd o (λ (s : ShelfState). IsSome (kind_at s.objects object)) → IsSome tags_then
-      go None found h = absurd h
-      go (Some s) found h =
-          let g = group_in w in
-          subst IsSome (sym (cond-true (nat_lt r (replicas g)) (tags_at (shelf_of g (trace g events) r) object element) None (lt-ltb r (replicas g) (is_replica w events stands r s found))))
-          (some_mapped (kind_at (kinds_on g r) object) _ (subst (λ o. IsSome (kind_at o object)) (shelf_kinds w events stands r s found) h))
+    pub tags_there : HasObject w.shelves r object → IsSome tags_then
+    tags_there has = go (slice_get w.shelves r) refl has
+      where
+        go : (o : Option ShelfState) → slice_get w.shelves r ≡ o
+            → IsSomeAnd o (λ (s : ShelfState). IsSome (kind_at s.objects object)) → IsSome tags_then
+        go None found h = absurd h
+        go (Some s) found h =
+            let g = group_in w in
+            subst IsSome
+            (sym
+            (cond-true (nat_lt r (replicas g)) (tags_at (shelf_of g (trace g events) r) object element) None
+            (lt-ltb r (replicas g) (is_replica w events stands r s found))))
+            (some_mapped (kind_at (kinds_on g r) object) _
+            (subst (λ o. IsSome (kind_at o object)) (shelf_kinds w events stands r s found) h))
 
 -- ## A node that was looked at
 
-module _ (c : Config) (nodes : List NodeState) (journal : Journal) (invariant : HoldsInvariant (world_of_nodes c nodes journal)) (r : ℕ) (n : NodeState) (found : slice_get nodes r ≡ Some n) where
+module _ (c : Config) (nodes : List NodeState) (journal : Journal)
+    (invariant : HoldsInvariant (world_of_nodes c nodes journal)) (r : ℕ) (n : NodeState)
+    (found : slice_get nodes r ≡ Some n) where
   abbrev now : World
   now = world_of_nodes c nodes journal
 
@@ -335,7 +384,8 @@ module _ (c : Config) (nodes : List NodeState) (journal : Journal) (invariant : 
   is_shelf = record { invariant = invariant; state = replica_found nodes r n found; found = shelf_found nodes r n found }
 
   -- its shelf has absorbed some of its view
-  module _ (made : NodeState) (same : made.replica ≡ n.replica) (objects : made.shelf.objects ≡ n.shelf.objects) (within_view : IsSubset made.shelf.view made.replica.view) where
+  module _ (made : NodeState) (same : made.replica ≡ n.replica) (objects : made.shelf.objects ≡ n.shelf.objects)
+      (within_view : IsSubset made.shelf.view made.replica.view) where
     some_absorbed : HasAbsorbed n.replica n.shelf made.shelf
     some_absorbed = record { objects = objects; within = λ was. subst (λ (m : ReplicaState). IsSubset made.shelf.view m.view) same within_view }
 
@@ -365,34 +415,54 @@ module _ (c : Config) (nodes : List NodeState) (journal : Journal) (invariant : 
   following_found = get_put (shelves_of nodes) r n.shelf (followed n) (shelf_found nodes r n found)
 
   follows : IsFollowing following r
-  follows = subst (λ o. IsSomeAnd o (λ (z : ShelfState). view_in following r ≡ Some z.view)) (sym following_found) (ap (option_map (λ (m : ReplicaState). m.view)) (replica_found nodes r n found))
+  follows =
+      subst (λ o. IsSomeAnd o (λ (z : ShelfState). view_in following r ≡ Some z.view)) (sym following_found)
+      (ap (option_map (λ (m : ReplicaState). m.view)) (replica_found nodes r n found))
 
   -- its shelf has absorbed all of its view
-  pub look_follows : (made : NodeState) → made ≡ with_shelf n (followed n) → IsFollowing (world_of_nodes c (slice_set nodes r made) journal) r
+  pub look_follows : (made : NodeState) → made ≡ with_shelf n (followed n)
+      → IsFollowing (world_of_nodes c (slice_set nodes r made) journal) r
   look_follows made made_is = subst (λ v. IsFollowing v r)
       (sym (looked nodes r n found c made journal (ap (λ (m : NodeState). m.replica) made_is)
       ∙ ap (λ (m : NodeState). world_of c (replicas_of nodes) (slice_set (shelves_of nodes) r m.shelf) journal) made_is))
       follows
 
-  pub tags_told : (events : List Event) → StandsFor now events → (object element : ℕ) → tags_of (group_in now) (trace (group_in now) events) r object element ≡ tags_at (followed n) object element
-  tags_told events stands object element = tags_kept now following following_keeps events stands r object element (followed n) following_found follows
+  pub tags_told : (events : List Event) → StandsFor now events → (object element : ℕ)
+      → tags_of (group_in now) (trace (group_in now) events) r object element ≡ tags_at (followed n) object element
+  tags_told events stands object element =
+      tags_kept now following following_keeps events stands r object element (followed n) following_found follows
 
-  pub tags_known : (events : List Event) → StandsFor now events → (object element : ℕ) → HasObject (shelves_of nodes) r object → IsSome (tags_of (group_in now) (trace (group_in now) events) r object element)
+  pub tags_known : (events : List Event) → StandsFor now events → (object element : ℕ)
+      → HasObject (shelves_of nodes) r object
+      → IsSome (tags_of (group_in now) (trace (group_in now) events) r object element)
   tags_known events stands object element = tags_there now following following_keeps events stands r object element
 
   -- it has answered, and the question was noted
-  module _ (made : NodeState) (made_is : made ≡ with_shelf n (followed n)) (object : ℕ) (query : Query) (answer : Answer) (is : answer_at (followed n) object query ≡ Some answer) (after : Journal) (a : after.messages.items ≡ journal.messages.items) (b : after.learnt.items ≡ journal.learnt.items) (d : after.count ≡ journal.count + 1) where
-    asked_as : world_of_nodes c (slice_set nodes r made) after ≡ world_of c (replicas_of nodes) (slice_set (shelves_of nodes) r (followed n)) after
+  module _ (made : NodeState) (made_is : made ≡ with_shelf n (followed n)) (object : ℕ) (query : Query)
+      (answer : Answer) (is : answer_at (followed n) object query ≡ Some answer) (after : Journal)
+      (a : after.messages.items ≡ journal.messages.items) (b : after.learnt.items ≡ journal.learnt.items)
+      (d : after.count ≡ journal.count + 1) where
+    asked_as : world_of_nodes c (slice_set nodes r made) after
+        ≡ world_of c (replicas_of nodes) (slice_set (shelves_of nodes) r (followed n)) after
     asked_as =
         looked nodes r n found c made after (ap (λ (m : NodeState). m.replica) made_is)
         ∙ ap (λ (m : NodeState). world_of c (replicas_of nodes) (slice_set (shelves_of nodes) r m.shelf) after) made_is
 
     pub asked_holds : HoldsInvariant (world_of_nodes c (slice_set nodes r made) after)
-    asked_holds = subst HoldsInvariant (sym asked_as) (question_invariant following r object query (followed n) answer following_found follows is after.messages.items after.learnt.items after.count a b d (kept_invariant now following following_keeps invariant))
+    asked_holds =
+        subst HoldsInvariant (sym asked_as)
+        (question_invariant following r object query (followed n) answer following_found follows is after.messages.items
+        after.learnt.items after.count a b d (kept_invariant now following following_keeps invariant))
 
-    pub asked_plays : {old : World} → now ≡ old → (events : List Event) → StandsFor old events → {step : Step} → step ≡ answer_step journal answer → Plays old events (Ask r object query) step (world_of_nodes c (slice_set nodes r made) after)
+    pub asked_plays : {old : World} → now ≡ old → (events : List Event) → StandsFor old events → {step : Step}
+        → step ≡ answer_step journal answer
+        → Plays old events (Ask r object query) step (world_of_nodes c (slice_set nodes r made) after)
     asked_plays same events stands {step = step} step_is =
         let e = Ask r object query in
-        let p = question_played following r object query (followed n) answer following_found follows is after.messages.items after.learnt.items after.count a b d events (following_keeps.stands events (subst (λ v. StandsFor v events) (sym same) stands)) in
+        let p =
+        question_played following r object query (followed n) answer following_found follows is after.messages.items
+        after.learnt.items after.count a b d events
+        (following_keeps.stands events (subst (λ v. StandsFor v events) (sym same) stands)) in
         subst (λ v. Plays v events e step (world_of_nodes c (slice_set nodes r made) after)) same
-        (subst₂ (λ t v. Plays now events e t v) (sym step_is) (sym asked_as) (kept_plays now following following_keeps events e (answer_step journal answer) _ p))
+        (subst₂ (λ t v. Plays now events e t v) (sym step_is) (sym asked_as)
+        (kept_plays now following following_keeps events e (answer_step journal answer) _ p))

@@ -32,7 +32,8 @@ use Rattle.la_world.proofs.ShownLater.{shown_later}
 
 -- ## The line of a learnt set
 
-learnt_shown : (n place : ℕ) (d : Did) (y : Learnt) → IsIn y (learning_of place (learnt_by d)) → learnt_in (shown_as n place d) ≡ Some y
+learnt_shown : (n place : ℕ) (d : Did) (y : Learnt) → IsIn y (learning_of place (learnt_by d))
+    → learnt_in (shown_as n place d) ≡ Some y
 learnt_shown n place (did.Learnt b next) y (inl e) = ap Some e
 learnt_shown n place (did.Learnt b next) y (inr h) = absurd h
 learnt_shown n place (did.Opened b) y h = absurd h
@@ -49,7 +50,8 @@ last_at : {A : Type 0} (xs : List A) (x : A) → slice_get (xs ++ x ∷ []) (len
 last_at [] x = refl
 last_at (y ∷ xs) x = last_at xs x
 
-line_in : (g : Group) (es : List Event) (y : Learnt) → IsIn y (learnt (trace g (runs g es).accepted)) → (j : ℕ) × IsLearntAt (reverse (runs g es).lines) j y
+line_in : (g : Group) (es : List Event) (y : Learnt) → IsIn y (learnt (trace g (runs g es).accepted))
+    → (j : ℕ) × IsLearntAt (reverse (runs g es).lines) j y
 unfolding runs trace learnt
 line_in g [] y h = absurd h
 line_in g (e ∷ es) y h = go (line_in g es y) (refused g t e) h
@@ -63,13 +65,16 @@ line_in g (e ∷ es) y h = go (line_in g es y) (refused g t e) h
     n : ℕ
     n = length (reverse ran.lines)
 
-    kept : (l : Line) → (j : ℕ) × IsLearntAt (reverse ran.lines) j y → (j : ℕ) × IsLearntAt (reverse (l ∷ ran.lines)) j y
+    kept : (l : Line) → (j : ℕ) × IsLearntAt (reverse ran.lines) j y
+        → (j : ℕ) × IsLearntAt (reverse (l ∷ ran.lines)) j y
     kept l p =
         let within = slice_get_within (reverse ran.lines) p.0 (Done p.1.step) p.1.done in (
           p.0,
           record {
             step = p.1.step;
-            done = ap (λ ls. slice_get ls p.0) (reverse-append (l ∷ []) ran.lines) ∙ slice_get-append_left (reverse ran.lines) (l ∷ []) p.0 within ∙ p.1.done;
+            done =
+                ap (λ ls. slice_get ls p.0) (reverse-append (l ∷ []) ran.lines)
+                ∙ slice_get-append_left (reverse ran.lines) (l ∷ []) p.0 within ∙ p.1.done;
             learnt = p.1.learnt;
           },
         )
@@ -77,7 +82,9 @@ line_in g (e ∷ es) y h = go (line_in g es y) (refused g t e) h
     last : (l : Line) → slice_get (reverse (l ∷ ran.lines)) n ≡ Some l
     last l = ap (λ ls. slice_get ls n) (reverse-append (l ∷ []) ran.lines) ∙ last_at (reverse ran.lines) l
 
-    go : (IsIn y (learnt t) → (j : ℕ) × IsLearntAt (reverse ran.lines) j y) → (o : Option Refusal) → IsIn y (learnt (trace g (runs_on g ran e t o).accepted)) → (j : ℕ) × IsLearntAt (reverse (runs_on g ran e t o).lines) j y
+    go : (IsIn y (learnt t) → (j : ℕ) × IsLearntAt (reverse ran.lines) j y) → (o : Option Refusal)
+        → IsIn y (learnt (trace g (runs_on g ran e t o).accepted))
+        → (j : ℕ) × IsLearntAt (reverse (runs_on g ran e t o).lines) j y
     go rest (Some name) k = kept (Refused name) (rest k)
     go rest None k =
         let d = (entry g t e).did in
@@ -88,10 +95,12 @@ line_in g (e ∷ es) y h = go (line_in g es y) (refused g t e) h
 
 module _ (g : Group) (events : List Event) where
   -- what was learnt by a place was learnt at a line before
-  line_before : (k : ℕ) (y : Learnt) → IsIn y (learnt (trace_of g (take k events))) → (j : ℕ) × (j < k) × IsLearntAt (lines g events) j y
+  line_before : (k : ℕ) (y : Learnt) → IsIn y (learnt (trace_of g (take k events)))
+      → (j : ℕ) × (j < k) × IsLearntAt (lines g events) j y
   line_before k y h =
       let p = line_in g (reverse (take k events)) y h in
-      let at : slice_get (take k (lines g events)) p.0 ≡ Some (Done p.1.step) = ap (λ ls. slice_get ls p.0) (sym (lines_before g events k)) ∙ p.1.done in
+      let at : slice_get (take k (lines g events)) p.0 ≡ Some (Done p.1.step) =
+      ap (λ ls. slice_get ls p.0) (sym (lines_before g events k)) ∙ p.1.done in
       let q = get_taken k p.0 (lines g events) (Done p.1.step) at in
       (p.0, q.0, record { step = p.1.step; done = q.1; learnt = p.1.learnt })
 
@@ -99,7 +108,8 @@ module _ (g : Group) (events : List Event) where
   marks_are_read m j k object mark x query answer s at of_objects holds lt asked =
       let r = x.replica in
       let shown = view_at_place g events k r in
-      let has : IsSome (get shown mark.id) = held_within x.updates shown mark.id (shown_later g events j k x at of_objects lt) holds in
+      let has : IsSome (get shown mark.id) =
+      held_within x.updates shown mark.id (shown_later g events j k x at of_objects lt) holds in
       let known = view_learnt g (accepted_of g (take k events)) r mark.id has in
       let read = known.learnt_as in
       let line = line_before k read known.was in
@@ -110,8 +120,14 @@ module _ (g : Group) (events : List Event) where
         was = line.2;
         of_objects = known.of_objects;
         value = ap (λ u. answer_at (record { view = u; objects = kinds_on g r }) object query) known.set ∙ answers_are_values g events k r object query answer asked;
-        own = λ l y at_y before of_y of_r. subst (IsSubset y.updates) (sym known.set) (subst (λ q. IsSubset y.updates (view_at_place g events k q)) of_r (shown_later g events l k y at_y of_y before));
+        own =
+            λ l y at_y before of_y of_r.
+            subst (IsSubset y.updates) (sym known.set)
+            (subst (λ q. IsSubset y.updates (view_at_place g events k q)) of_r
+            (shown_later g events l k y at_y of_y before));
         current = λ l y at_y before of_y.
-            learnt_in_order_of_places g events l m line.0 y read mark.id at_y (subst (λ i. IsSubmittedAt g events (lines g events) m i mark.id) (sym of_y) (submits_by_trace g events m 0 mark s)) before
+            learnt_in_order_of_places g events l m line.0 y read mark.id at_y
+            (subst (λ i. IsSubmittedAt g events (lines g events) m i mark.id) (sym of_y)
+            (submits_by_trace g events m 0 mark s)) before
             line.2 (of_y ∙ sym known.of_objects) (subst (λ u. IsSome (get u mark.id)) (sym known.set) has);
       }

@@ -30,11 +30,13 @@ use Rattle.la_world.proofs.LargestViews.{empty_least}
 use Rattle.la_world.proofs.Delivered.{told_sent, known, within_limit}
 
 -- nothing clashes with no updates
-one_here : (here : Bool) (view set : Histories) → (here ≡ true → IsCompatible view set) → IsCompatible (if here then view else empty) set
+one_here : (here : Bool) (view set : Histories) → (here ≡ true → IsCompatible view set)
+    → IsCompatible (if here then view else empty) set
 one_here true view set one = one refl
 one_here false view set one = compatible-subset empty set (empty_least set)
 
-module _ (g : Group) (events : Past) (few : replicas g ≤ 8) (small : g.cap ≤ 1000000) (legal : IsLegal g events) (k : ℕ) (m : code.Message) (stored : slice_get (told (replicas g) (trace g events)) k ≡ Some m) where
+module _ (g : Group) (events : Past) (few : replicas g ≤ 8) (small : g.cap ≤ 1000000) (legal : IsLegal g events) (k : ℕ)
+    (m : code.Message) (stored : slice_get (told (replicas g) (trace g events)) k ≡ Some m) where
   abbrev at : ReplicaState
   at = replica_state g (trace g events) m.to
 
@@ -49,13 +51,15 @@ module _ (g : Group) (events : Past) (few : replicas g ≤ 8) (small : g.cap ≤
   pub sent_one_told : IsOneTold (view_of at m.instance) m.body
   sent_one_told = go (slice_get at.instances m.instance) whole.0.view
     where
-      for_body : (x : Instance) (c : code_body.Body) → FitsViewBody x at.view (whole_of m) (whole_body c) → IsOneTold (view_of at m.instance) c
+      for_body : (x : Instance) (c : code_body.Body) → FitsViewBody x at.view (whole_of m) (whole_body c)
+          → IsOneTold (view_of at m.instance) c
       for_body x (body.Offer d) h = tt
       for_body x body.Yes h = tt
       for_body x (body.No d) h = tt
       for_body x (body.Tell set) h = one_here (m.instance == 0) at.view set (λ e. h (eqb-true m.instance 0 e))
 
-      go : (o : Option Instance) → IsSomeAnd o (λ x. FitsViewBody x at.view (whole_of m) (whole_body m.body)) → IsOneTold (view_of at m.instance) m.body
+      go : (o : Option Instance) → IsSomeAnd o (λ x. FitsViewBody x at.view (whole_of m) (whole_body m.body))
+          → IsOneTold (view_of at m.instance) m.body
       go None h = absurd h
       go (Some x) h = for_body x m.body h
 
@@ -67,7 +71,8 @@ module _ (g : Group) (events : Past) (few : replicas g ≤ 8) (small : g.cap ≤
       for_body (body.Offer d) is = tt
       for_body body.Yes is = tt
       for_body (body.No d) is = tt
-      for_body (body.Tell set) is = within_limit g events legal small k m stored set (known g events legal small k m stored (body.Tell set) is)
+      for_body (body.Tell set) is =
+          within_limit g events legal small k m stored set (known g events legal small k m stored (body.Tell set) is)
 
   pub unwrapped_here : (believed : Counts) → IsUnwrapped at believed m
   unwrapped_here believed = record {
@@ -85,8 +90,10 @@ module _ (g : Group) (events : Past) (few : replicas g ≤ 8) (small : g.cap ≤
     received_over = record {
       stands = over_stands at b m may sent_one;
       agrees = over_agrees at b m may sent_one;
-      received = λ has. over_received at b m may (over_stands at b m may sent_one has) (over_agrees at b m may sent_one has);
-      fits = λ has. over_fits at b m may (over_stands at b m may sent_one has) (over_agrees at b m may sent_one has) whole.0;
+      received =
+          λ has. over_received at b m may (over_stands at b m may sent_one has) (over_agrees at b m may sent_one has);
+      fits =
+          λ has. over_fits at b m may (over_stands at b m may sent_one has) (over_agrees at b m may sent_one has) whole.0;
       refused = λ e h. refusal e (over_refused at b m may sent_one e h);
     }
 

@@ -32,7 +32,8 @@ use Rattle.la_world.proofs.Delivered.{told_sent, told_deliverable}
 use Rattle.la_world.proofs.Deliverable.{IsDeliverableAt, IsDeliverableIn, deliverable_stands, deliverable_agrees, deliverable_carried}
 
 -- what stands is rebuilt, but for memory
-told_stands : (o : Option Told) → IfSome o (λ t. IsOver t.over t.delta) → (e : SetError) → IsSomeAnd o (λ t. IsRebuildRefusal t.over t.delta e) → e ≡ set_error.Memory
+told_stands : (o : Option Told) → IfSome o (λ t. IsOver t.over t.delta) → (e : SetError)
+    → IsSomeAnd o (λ t. IsRebuildRefusal t.over t.delta e) → e ≡ set_error.Memory
 told_stands None over e h = absurd h
 told_stands (Some t) over set_error.NoBase h = absurd (h over.base)
 told_stands (Some t) over set_error.Gap h = absurd (h.1 over.next)
@@ -40,11 +41,13 @@ told_stands (Some t) over set_error.Memory h = refl
 told_stands (Some t) over set_error.TooManyTags h = absurd h
 told_stands (Some t) over (set_error.Clash id) h = absurd h
 
-there_stands : (m : code.Message) (o : Option Instance) → IsSomeAnd o (λ x. StandsAt x m) → (e : SetError) → IsSomeAnd o (λ x. IsUnbuilt x m e) → e ≡ set_error.Memory
+there_stands : (m : code.Message) (o : Option Instance) → IsSomeAnd o (λ x. StandsAt x m) → (e : SetError)
+    → IsSomeAnd o (λ x. IsUnbuilt x m e) → e ≡ set_error.Memory
 there_stands m None over e h = absurd h
 there_stands m (Some x) over e h = told_stands (told_at x m) over e h
 
-module _ (g : Group) (events : Past) (few : replicas g ≤ 8) (small : g.cap ≤ 1000000) (legal : IsLegal g events) (k : ℕ) (m : code.Message) (stored : slice_get (told (replicas g) (trace g events)) k ≡ Some m) where
+module _ (g : Group) (events : Past) (few : replicas g ≤ 8) (small : g.cap ≤ 1000000) (legal : IsLegal g events) (k : ℕ)
+    (m : code.Message) (stored : slice_get (told (replicas g) (trace g events)) k ≡ Some m) where
   abbrev t : Trace
   t = trace g events
 
@@ -62,7 +65,8 @@ module _ (g : Group) (events : Past) (few : replicas g ≤ 8) (small : g.cap ≤
 
   is_deliverable : IsDeliverableIn at m
   is_deliverable =
-      subst (λ o. IsSomeAnd o (λ x. IsDeliverableAt x m)) (sym (get_instance g t m.to m.instance (legal_between g events legal k (whole_of m) is_sent).instance))
+      subst (λ o. IsSomeAnd o (λ x. IsDeliverableAt x m))
+      (sym (get_instance g t m.to m.instance (legal_between g events legal k (whole_of m) is_sent).instance))
       (told_deliverable g events legal small k m stored)
 
   stands : StandsIn at m
@@ -87,8 +91,12 @@ module _ (g : Group) (events : Past) (few : replicas g ≤ 8) (small : g.cap ≤
 pub deliveries_fit : DeliveriesFit
 deliveries_fit g events k m few small legal stored = record {
   stands = stands g events few small legal k m stored;
-  agrees = deliverable_agrees (replica_state g (trace g events) m.to) m (is_made g events few small legal k m stored) (is_deliverable g events few small legal k m stored);
+  agrees =
+      deliverable_agrees (replica_state g (trace g events) m.to) m (is_made g events few small legal k m stored)
+      (is_deliverable g events few small legal k m stored);
   carried = carried g events few small legal k m stored;
-  fits = carried_fits (replica_state g (trace g events) m.to) m (carried g events few small legal k m stored) (whole g events few small legal k m stored).0;
+  fits =
+      carried_fits (replica_state g (trace g events) m.to) m (carried g events few small legal k m stored)
+      (whole g events few small legal k m stored).0;
   memory = refusal g events few small legal k m stored;
 }

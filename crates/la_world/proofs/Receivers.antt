@@ -38,25 +38,33 @@ module _ {A : Type 0} (some : ∥ A ∥₁) where
   body_spares at m (No s) h = λ c k. never (λ x. h x c k)
   body_spares at m (Tell s) h = tt
 
-  view_fits : (at : Instance) (view : Histories) (m : Message) (b : Body) → (A → FitsViewBody at view m b) → FitsViewBody at view m b
+  view_fits : (at : Instance) (view : Histories) (m : Message) (b : Body) → (A → FitsViewBody at view m b)
+      → FitsViewBody at view m b
   view_fits at view m (Offer s) h = tt
   view_fits at view m Yes h = λ e. compatible_from view at.proposer.updates (λ x. h x e)
   view_fits at view m (No s) h = λ e. compatible_from view at.proposer.updates (λ x. h x e)
   view_fits at view m (Tell s) h = λ e. compatible_from view s (λ x. h x e)
 
-  in_some : (o : Option Instance) (P : Instance → Type 0) → ((at : Instance) → (A → P at) → P at) → (A → IsSomeAnd o P) → IsSomeAnd o P
+  in_some : (o : Option Instance) (P : Instance → Type 0) → ((at : Instance) → (A → P at) → P at) → (A → IsSomeAnd o P)
+      → IsSomeAnd o P
   in_some None P f h = absurd (never h)
   in_some (Some at) P f h = f at h
 
   is_for : (m : ReplicaState) (message : Message) → (A → IsFor m message) → IsFor m message
-  is_for m message h = (∥∥₁_elim some (hlevel (ℕ_set, le_prop)) (λ x. (h x).0), ∥∥₁_elim some (hlevel (ℕ_set, le_prop)) (λ x. (h x).1))
+  is_for m message h =
+      (∥∥₁_elim some (hlevel (ℕ_set, le_prop)) (λ x. (h x).0), ∥∥₁_elim some (hlevel (ℕ_set, le_prop)) (λ x. (h x).1))
 
 pub fits_from : {A : Type 0} (at : ReplicaState) (m : Message) → ∥ A ∥₁ → (A → FitsReceiver at m) → FitsReceiver at m
 fits_from at m some h = record {
   receivable = (
     is_for some at m (λ x. (h x).receivable.0),
-    in_some some (slice_get at.instances m.instance) (λ y. FitsBody y m m.body) (λ y. body_fits some y m m.body) (λ x. (h x).receivable.1),
+    in_some some (slice_get at.instances m.instance) (λ y. FitsBody y m m.body) (λ y. body_fits some y m m.body)
+        (λ x. (h x).receivable.1),
   );
-  spares = in_some some (slice_get at.instances m.instance) (λ y. SparesBody y m m.body) (λ y. body_spares some y m m.body) (λ x. (h x).spares);
-  view = in_some some (slice_get at.instances m.instance) (λ y. FitsViewBody y at.view m m.body) (λ y. view_fits some y at.view m m.body) (λ x. (h x).view);
+  spares =
+      in_some some (slice_get at.instances m.instance) (λ y. SparesBody y m m.body) (λ y. body_spares some y m m.body)
+      (λ x. (h x).spares);
+  view =
+      in_some some (slice_get at.instances m.instance) (λ y. FitsViewBody y at.view m m.body)
+      (λ y. view_fits some y at.view m m.body) (λ x. (h x).view);
 }

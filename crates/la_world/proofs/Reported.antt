@@ -33,7 +33,8 @@ use Rattle.la_world.proofs.WorldSteps.{few_of}
 
 -- ## The lines show exactly what was learnt
 
-line_learns : (n place : ℕ) (d : Did) → cons_option (learnt_in (shown_as n place d)) [] ≡ learning_of place (learnt_by d)
+line_learns : (n place : ℕ) (d : Did)
+    → cons_option (learnt_in (shown_as n place d)) [] ≡ learning_of place (learnt_by d)
 line_learns n place (did.Learnt b next) = refl
 line_learns n place (did.Opened b) = refl
 line_learns n place (did.Held id) = refl
@@ -45,7 +46,8 @@ line_learns n place (did.Took s) = refl
 line_learns n place did.Kept = refl
 line_learns n place (did.Replied answer) = refl
 
-listed_in : (g : Group) (es : List Event) → learnt (trace g (runs g es).accepted) ≡ filter_map learnt_on (reverse (runs g es).lines)
+listed_in : (g : Group) (es : List Event)
+    → learnt (trace g (runs g es).accepted) ≡ filter_map learnt_on (reverse (runs g es).lines)
 unfolding runs trace learnt
 listed_in g [] = refl
 listed_in g (e ∷ es) = go (refused g t e) (listed_in g es)
@@ -56,10 +58,15 @@ listed_in g (e ∷ es) = go (refused g t e) (listed_in g es)
     t : Trace
     t = trace g (runs g es).accepted
 
-    pushed : (l : Line) → filter_map learnt_on (reverse (l ∷ ran.lines)) ≡ filter_map learnt_on (reverse ran.lines) ++ cons_option (learnt_on l) []
-    pushed l = ap (filter_map learnt_on) (reverse-append (l ∷ []) ran.lines) ∙ filter_map-append learnt_on (reverse ran.lines) (l ∷ [])
+    pushed : (l : Line)
+        → filter_map learnt_on (reverse (l ∷ ran.lines))
+        ≡ filter_map learnt_on (reverse ran.lines) ++ cons_option (learnt_on l) []
+    pushed l =
+        ap (filter_map learnt_on) (reverse-append (l ∷ []) ran.lines)
+        ∙ filter_map-append learnt_on (reverse ran.lines) (l ∷ [])
 
-    go : (o : Option Refusal) → learnt t ≡ filter_map learnt_on (reverse ran.lines) → learnt (trace g (runs_on g ran e t o).accepted) ≡ filter_map learnt_on (reverse (runs_on g ran e t o).lines)
+    go : (o : Option Refusal) → learnt t ≡ filter_map learnt_on (reverse ran.lines)
+        → learnt (trace g (runs_on g ran e t o).accepted) ≡ filter_map learnt_on (reverse (runs_on g ran e t o).lines)
     go None h =
         let d = (entry g t e).did in
         ap (λ ls. ls ++ learning_of (length t) (learnt_by d)) h
@@ -98,7 +105,8 @@ module _ {X Y : Type 0} (f : X → Option Y) where
     second = record { at = suc h.second.at; is = h.second.is; after = let le = h.second.after in omega arith };
   }
 
-  give_both : (xs : List X) (j k : ℕ) (y z : Y) → option_and_then f (slice_get xs j) ≡ Some y → option_and_then f (slice_get xs k) ≡ Some z → j < k → AreShown (filter_map f xs) y z
+  give_both : (xs : List X) (j k : ℕ) (y z : Y) → option_and_then f (slice_get xs j) ≡ Some y
+      → option_and_then f (slice_get xs k) ≡ Some z → j < k → AreShown (filter_map f xs) y z
   give_both [] j k y z e h lt = absurd (none-some y e)
   give_both (x ∷ xs) zero zero y z e h lt = absurd (omega arith)
   give_both (x ∷ xs) (suc j) zero y z e h lt = absurd (omega arith)
@@ -106,16 +114,19 @@ module _ {X Y : Type 0} (f : X → Option Y) where
       let later = gives xs k z h in
       subst (λ o. AreShown (cons_option o (filter_map f xs)) y z) (sym e)
       (record { first = record { at = 0; is = refl; after = omega arith }; second = record { at = suc later.at; is = later.is; after = omega arith } })
-  give_both (x ∷ xs) (suc j) (suc k) y z e h lt = both_behind (f x) (filter_map f xs) y z (give_both xs j k y z e h (omega arith))
+  give_both (x ∷ xs) (suc j) (suc k) y z e h lt =
+      both_behind (f x) (filter_map f xs) y z (give_both xs j k y z e h (omega arith))
 
 -- ## What lines promise
 
-line_at : (steps : List Line) (k : ℕ) (x : Learnt) → IsLearntAt steps k x → option_and_then learnt_on (slice_get steps k) ≡ Some x
+line_at : (steps : List Line) (k : ℕ) (x : Learnt) → IsLearntAt steps k x
+    → option_and_then learnt_on (slice_get steps k) ≡ Some x
 line_at steps k x h = ap (option_and_then learnt_on) h.done ∙ h.learnt
 
 module _ (g : Group) (events : List Event) where
   lines_comparable : LinesAreComparable (lines g events)
-  lines_comparable j k x y a b same = learnt_comparable g (accepted_of g events) x y (learnt_at_end g events j x a) (learnt_at_end g events k y b) same
+  lines_comparable j k x y a b same =
+      learnt_comparable g (accepted_of g events) x y (learnt_at_end g events j x a) (learnt_at_end g events k y b) same
 
   lines_grow : LinesGrow (lines g events)
   lines_grow j k x y a b ei er lt =

@@ -23,7 +23,9 @@ use Rattle.la_world.proofs.Openings.{IsAway, not_both}
 module _ (x : Entry) (t : Trace) (i r : ℕ) where
   nothing_new : ((a : ℕ) → heard_from t i r a x.delivered ≡ None) → reports (x ∷ t) i r ≡ reports t i r
   unfolding reports reported
-  nothing_new none = map_same (λ a. counts_of (unwrap_or (heard_from t i r a x.delivered) (reported t i r a))) (λ a. counts_of (reported t i r a)) 0 8
+  nothing_new none =
+      map_same (λ a. counts_of (unwrap_or (heard_from t i r a x.delivered) (reported t i r a)))
+      (λ a. counts_of (reported t i r a)) 0 8
       (λ a le. ap (λ o. counts_of (unwrap_or o (reported t i r a))) (none a))
 
   -- nothing is delivered
@@ -35,12 +37,16 @@ module _ (x : Entry) (t : Trace) (i r : ℕ) where
   away_false true false w e = refl
   away_false false v w e = refl
 
-  away : (a : ℕ) (o : Option Message) → ((m : Message) → o ≡ Some m → IsAway m.instance m.to i r) → heard_from t i r a o ≡ None
+  away : (a : ℕ) (o : Option Message) → ((m : Message) → o ≡ Some m → IsAway m.instance m.to i r)
+      → heard_from t i r a o ≡ None
   away a None h = refl
-  away a (Some m) h = cond-false _ (told_by (round t i r).updates m.body) None (away_false (m.instance == i) (m.to == r) ((m.from == a) && counts t m) (not_both m.instance m.to i r (h m refl)))
+  away a (Some m) h =
+      cond-false _ (told_by (round t i r).updates m.body) None
+      (away_false (m.instance == i) (m.to == r) ((m.from == a) && counts t m) (not_both m.instance m.to i r (h m refl)))
 
   -- what is delivered is to another replica, or of another instance
-  pub reports-away : ((m : Message) → x.delivered ≡ Some m → IsAway m.instance m.to i r) → reports (x ∷ t) i r ≡ reports t i r
+  pub reports-away : ((m : Message) → x.delivered ≡ Some m → IsAway m.instance m.to i r)
+      → reports (x ∷ t) i r ≡ reports t i r
   reports-away left = nothing_new (λ a. away a x.delivered left)
 
   module _ (m : Message) (delivers : x.delivered ≡ Some m) where
@@ -52,7 +58,12 @@ module _ (x : Entry) (t : Trace) (i r : ℕ) where
 
     -- a reply that does not count
     pub reports-ignored : counts t m ≡ false → reports (x ∷ t) i r ≡ reports t i r
-    reports-ignored e = nothing_new (λ a. ap (heard_from t i r a) delivers ∙ cond-false _ (told_by (round t i r).updates m.body) None (last_false (m.instance == i) (m.to == r) (m.from == a) (counts t m) e))
+    reports-ignored e =
+        nothing_new
+        (λ a.
+        ap (heard_from t i r a) delivers
+        ∙ cond-false _ (told_by (round t i r).updates m.body) None
+        (last_false (m.instance == i) (m.to == r) (m.from == a) (counts t m) e))
 
     no_reply : (s : Histories) (b : Body) → reply_of m.from b ≡ [] → told_by s b ≡ None
     no_reply s Yes e = cc
@@ -66,11 +77,17 @@ module _ (x : Entry) (t : Trace) (i r : ℕ) where
 
     -- a message that is no reply
     pub reports-quiet : reply_of m.from m.body ≡ [] → reports (x ∷ t) i r ≡ reports t i r
-    reports-quiet e = nothing_new (λ a. ap (heard_from t i r a) delivers ∙ either ((m.instance == i) && ((m.to == r) && ((m.from == a) && counts t m))) (told_by (round t i r).updates m.body) (no_reply (round t i r).updates m.body e))
+    reports-quiet e =
+        nothing_new
+        (λ a.
+        ap (heard_from t i r a) delivers
+        ∙ either ((m.instance == i) && ((m.to == r) && ((m.from == a) && counts t m)))
+        (told_by (round t i r).updates m.body) (no_reply (round t i r).updates m.body e))
 
 -- ## A reply that counts
 
-module _ (x : Entry) (t : Trace) (m : Message) (reply : Reply) (delivers : x.delivered ≡ Some m) (is : m.body ≡ body_of reply) (heeded : counts t m ≡ true) where
+module _ (x : Entry) (t : Trace) (m : Message) (reply : Reply) (delivers : x.delivered ≡ Some m)
+    (is : m.body ≡ body_of reply) (heeded : counts t m ≡ true) where
   abbrev i : ℕ
   i = m.instance
 
@@ -80,14 +97,17 @@ module _ (x : Entry) (t : Trace) (m : Message) (reply : Reply) (delivers : x.del
   abbrev updates : Histories
   updates = (round t i r).updates
 
-  told_counts : (a : Reply) (before : Histories) → counts_of (unwrap_or (told_by updates (body_of a)) before) ≡ proposer.told_by updates a
+  told_counts : (a : Reply) (before : Histories)
+      → counts_of (unwrap_or (told_by updates (body_of a)) before) ≡ proposer.told_by updates a
   told_counts replied.Yes before = refl
   told_counts (replied.No s) before = refl
 
   from_it : heard_from t i r m.from x.delivered ≡ told_by updates m.body
   from_it =
       ap (heard_from t i r m.from) delivers
-      ∙ cond-true _ (told_by updates m.body) None (and_from _ _ (eq-eqb m.instance i refl) (and_from _ _ (eq-eqb m.to r refl) (and_from _ _ (eq-eqb m.from m.from refl) heeded)))
+      ∙ cond-true _ (told_by updates m.body) None
+      (and_from _ _ (eq-eqb m.instance i refl)
+      (and_from _ _ (eq-eqb m.to r refl) (and_from _ _ (eq-eqb m.from m.from refl) heeded)))
 
   other_false : (u v w c : Bool) → w ≡ false → (u && (v && (w && c))) ≡ false
   other_false true true w c e = ap (λ z. z && c) e
@@ -97,13 +117,16 @@ module _ (x : Entry) (t : Trace) (m : Message) (reply : Reply) (delivers : x.del
   from_other : (a : ℕ) → a ≢ m.from → heard_from t i r a x.delivered ≡ None
   from_other a ne =
       ap (heard_from t i r a) delivers
-      ∙ cond-false _ (told_by updates m.body) None (other_false (m.instance == i) (m.to == r) (m.from == a) (counts t m) (ne_eqb m.from a (λ e. ne (sym e))))
+      ∙ cond-false _ (told_by updates m.body) None
+      (other_false (m.instance == i) (m.to == r) (m.from == a) (counts t m) (ne_eqb m.from a (λ e. ne (sym e))))
 
   -- is what its acceptor reports
   pub reports-heard : reports (x ∷ t) i r ≡ slice_set (reports t i r) m.from (proposer.told_by updates reply)
   unfolding reports reported
   reports-heard =
-      set_made (λ a. counts_of (reported t i r a)) (λ a. counts_of (unwrap_or (heard_from t i r a x.delivered) (reported t i r a))) 0 8 m.from m.from (omega arith)
+      set_made (λ a. counts_of (reported t i r a))
+      (λ a. counts_of (unwrap_or (heard_from t i r a x.delivered) (reported t i r a))) 0 8 m.from m.from (omega arith)
       (λ a le ne. sym (ap (λ o. counts_of (unwrap_or o (reported t i r a))) (from_other a ne)))
       ∙ ap (slice_set (reports t i r) m.from)
-      (ap (λ o. counts_of (unwrap_or o (reported t i r m.from))) (from_it ∙ ap (told_by updates) is) ∙ told_counts reply (reported t i r m.from))
+      (ap (λ o. counts_of (unwrap_or o (reported t i r m.from))) (from_it ∙ ap (told_by updates) is)
+      ∙ told_counts reply (reported t i r m.from))

@@ -37,7 +37,10 @@ unfolding last_learnt_ballot
 last_was [] i r s e = absurd (none-some s e)
 last_was (x ∷ t) i r s e = go (only i r (learnt_by x.did)) refl (last_was t i r s) e
   where
-    go : (o : Option Opening) → only i r (learnt_by x.did) ≡ o → (last_learnt t i r ≡ Some s → WasLast t i r s) → option_map (λ (c : Ballot). c.updates) (newest_ballot (cons_option o (filter_map (λ y. only i r (learnt_by y.did)) t))) ≡ Some s → WasLast (x ∷ t) i r s
+    go : (o : Option Opening) → only i r (learnt_by x.did) ≡ o → (last_learnt t i r ≡ Some s → WasLast t i r s)
+        → option_map (λ (c : Ballot). c.updates)
+        (newest_ballot (cons_option o (filter_map (λ y. only i r (learnt_by y.did)) t))) ≡ Some s
+        → WasLast (x ∷ t) i r s
     go None f before k = let w = before k in record { set = w.set; was = learnt_stays x t w.set w.was; instance = w.instance; replica = w.replica; updates = w.updates }
     go (Some b) f before k = let p = only_is i r (learnt_by x.did) b f in record { set = learning (length t) b; was = learnt_now x t b p.0; instance = p.1; replica = p.2; updates = same_Some b.updates s k }
 
@@ -50,17 +53,20 @@ pub record IsReturned (t : Trace) (x : Decision) : Type 0 where
   pub holds : HoldsVote set.updates set.replica own
   pub is : outcome set.updates own.value ≡ x.outcome
 
-outcome_by_own : (s : Histories) (r : ℕ) (o : Outcome) → outcome_of s r ≡ Some o → (v : Vote) × HoldsVote s r v × (outcome s v.value ≡ o)
+outcome_by_own : (s : Histories) (r : ℕ) (o : Outcome) → outcome_of s r ≡ Some o
+    → (v : Vote) × HoldsVote s r v × (outcome s v.value ≡ o)
 outcome_by_own s r o e = go (own_vote s r) refl e
   where
-    go : (w : Option Vote) → own_vote s r ≡ w → option_map (λ (v : Vote). outcome s v.value) w ≡ Some o → (v : Vote) × HoldsVote s r v × (outcome s v.value ≡ o)
+    go : (w : Option Vote) → own_vote s r ≡ w → option_map (λ (v : Vote). outcome s v.value) w ≡ Some o
+        → (v : Vote) × HoldsVote s r v × (outcome s v.value ≡ o)
     go None f k = absurd (none-some o k)
     go (Some v) f k = (v, f, same_Some (outcome s v.value) o k)
 
 returned_by : (t : Trace) (k r : ℕ) (o : Outcome) → returned t k r ≡ Some o → IsReturned t (decision_of k r o)
 returned_by t k r o e = go (last_learnt t (second_instance k) r) refl e
   where
-    go : (l : Option Histories) → last_learnt t (second_instance k) r ≡ l → option_and_then (λ s. outcome_of s r) l ≡ Some o → IsReturned t (decision_of k r o)
+    go : (l : Option Histories) → last_learnt t (second_instance k) r ≡ l
+        → option_and_then (λ s. outcome_of s r) l ≡ Some o → IsReturned t (decision_of k r o)
     go None f h = absurd (none-some o h)
     go (Some s) f h =
         let w = last_was t (second_instance k) r s f in
@@ -74,7 +80,8 @@ returned_by t k r o e = go (last_learnt t (second_instance k) r) refl e
           is = ap (λ u. outcome u v.0.value) w.updates ∙ v.2;
         }
 
-decided : (t : Trace) (k r : ℕ) (x : Decision) (o : Option Outcome) → returned t k r ≡ o → option_map (decision_of k r) o ≡ Some x → IsReturned t x
+decided : (t : Trace) (k r : ℕ) (x : Decision) (o : Option Outcome) → returned t k r ≡ o
+    → option_map (decision_of k r) o ≡ Some x → IsReturned t x
 decided t k r x None e k_is = absurd (none-some x k_is)
 decided t k r x (Some o) e k_is = subst (IsReturned t) (same_Some (decision_of k r o) x k_is) (returned_by t k r o e)
 
@@ -82,5 +89,7 @@ pub was_returned : (g : Group) (t : Trace) (x : Decision) → Contains (decision
 was_returned g t x has =
     let on = in_flat_map (decisions_on g t) (range_with_len 0 g.commits) x (contains_IsIn (decisions g t) x has) in
     let k = on.0 in
-    let by = filter_map-contains (λ r. option_map (decision_of k r) (returned t k r)) (group (replicas g)) x (IsIn_contains (decisions_on g t k) x on.1) in
+    let by =
+    filter_map-contains (λ r. option_map (decision_of k r) (returned t k r)) (group (replicas g)) x
+    (IsIn_contains (decisions_on g t k) x on.1) in
     decided t k by.item x (returned t k by.item) refl by.gives

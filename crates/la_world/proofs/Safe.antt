@@ -22,7 +22,9 @@ use Rattle.la_world.proofs.WorldSteps.{few_of}
 
 -- of a world
 pub returns_safely : (w : World) (events : List Event) → StandsFor w events → IsAdoptCommit events (decisions_in w)
-returns_safely w events stands = subst (IsAdoptCommit events) (sym (decisions_are w events stands)) (adopt_commit (group_in w) events (few_of w.config (kinds_of w.shelves) stands.config) stands.led.legal)
+returns_safely w events stands =
+    subst (IsAdoptCommit events) (sym (decisions_are w events stands))
+    (adopt_commit (group_in w) events (few_of w.config (kinds_of w.shelves) stands.config) stands.led.legal)
 
 -- ## A list that is played
 
@@ -32,7 +34,8 @@ unfolding runs
 runs_legal g [] = tt
 runs_legal g (e ∷ es) = go (refused g (trace g (runs g es).accepted) e) refl (runs_legal g es)
   where
-    go : (o : Option Refusal) → refused g (trace g (runs g es).accepted) e ≡ o → IsLegal g (runs g es).accepted → IsLegal g (runs_on g (runs g es) e (trace g (runs g es).accepted) o).accepted
+    go : (o : Option Refusal) → refused g (trace g (runs g es).accepted) e ≡ o → IsLegal g (runs g es).accepted
+        → IsLegal g (runs_on g (runs g es) e (trace g (runs g es).accepted) o).accepted
     go None is legal = (is, legal)
     go (Some name) is legal = legal
 
@@ -42,11 +45,13 @@ unfolding runs
 line_each g [] = refl
 line_each g (e ∷ es) = go (refused g (trace g (runs g es).accepted) e) (line_each g es)
   where
-    go : (o : Option Refusal) → length (runs g es).lines ≡ length es → length (runs_on g (runs g es) e (trace g (runs g es).accepted) o).lines ≡ suc (length es)
+    go : (o : Option Refusal) → length (runs g es).lines ≡ length es
+        → length (runs_on g (runs g es) e (trace g (runs g es).accepted) o).lines ≡ suc (length es)
     go None each = ap suc each
     go (Some name) each = ap suc each
 
-among-push : (es : List Event) (ls : List Line) (e : Event) (l : Line) → length es ≡ length ls → accepted_among (es ++ e ∷ []) (ls ++ l ∷ []) ≡ accepted_among es ls ++ accepted_among (e ∷ []) (l ∷ [])
+among-push : (es : List Event) (ls : List Line) (e : Event) (l : Line) → length es ≡ length ls
+    → accepted_among (es ++ e ∷ []) (ls ++ l ∷ []) ≡ accepted_among es ls ++ accepted_among (e ∷ []) (l ∷ [])
 among-push [] [] e l same = refl
 among-push [] (k ∷ ls) e l same = absurd (omega (arith, same))
 among-push (d ∷ es) [] e l same = absurd (omega (arith, same))
@@ -54,7 +59,8 @@ among-push (d ∷ es) (Done s ∷ ls) e l same = ap (λ xs. d ∷ xs) (among-pus
 among-push (d ∷ es) (Refused name ∷ ls) e l same = among-push es ls e l (omega (arith, same))
 
 -- the events that were accepted are those whose line says so
-pub accepted_are : (g : Group) (es : List Event) → accepted_among (reverse es) (reverse (runs g es).lines) ≡ reverse (runs g es).accepted
+pub accepted_are : (g : Group) (es : List Event)
+    → accepted_among (reverse es) (reverse (runs g es).lines) ≡ reverse (runs g es).accepted
 unfolding runs
 accepted_are g [] = refl
 accepted_are g (e ∷ es) = go (refused g t e) (accepted_are g es)
@@ -68,13 +74,16 @@ accepted_are g (e ∷ es) = go (refused g t e) (accepted_are g es)
     same : length (reverse es) ≡ length (reverse ran.lines)
     same = length-reverse es ∙ sym (line_each g es) ∙ sym (length-reverse ran.lines)
 
-    pushed : (l : Line) → accepted_among (reverse es) (reverse ran.lines) ≡ reverse ran.accepted → accepted_among (reverse (e ∷ es)) (reverse (l ∷ ran.lines)) ≡ reverse ran.accepted ++ accepted_among (e ∷ []) (l ∷ [])
+    pushed : (l : Line) → accepted_among (reverse es) (reverse ran.lines) ≡ reverse ran.accepted
+        → accepted_among (reverse (e ∷ es)) (reverse (l ∷ ran.lines))
+        ≡ reverse ran.accepted ++ accepted_among (e ∷ []) (l ∷ [])
     pushed l before =
         ap₂ accepted_among (reverse-append (e ∷ []) es) (reverse-append (l ∷ []) ran.lines)
         ∙ among-push (reverse es) (reverse ran.lines) e l same
         ∙ ap (λ xs. xs ++ accepted_among (e ∷ []) (l ∷ [])) before
 
-    go : (o : Option Refusal) → accepted_among (reverse es) (reverse ran.lines) ≡ reverse ran.accepted → accepted_among (reverse (e ∷ es)) (reverse (runs_on g ran e t o).lines) ≡ reverse (runs_on g ran e t o).accepted
+    go : (o : Option Refusal) → accepted_among (reverse es) (reverse ran.lines) ≡ reverse ran.accepted
+        → accepted_among (reverse (e ∷ es)) (reverse (runs_on g ran e t o).lines) ≡ reverse (runs_on g ran e t o).accepted
     go None before = pushed (line_of g t e) before ∙ sym (reverse-append (e ∷ []) ran.accepted)
     go (Some name) before = pushed (Refused name) before ∙ append-nil (reverse ran.accepted)
 
@@ -86,7 +95,8 @@ Contains-reverse (y ∷ xs) x has = subst (λ zs. Contains zs x) (sym (reverse-a
 ])
 
 -- in whatever order the events are listed
-in_order : (events : List Event) (returned : List Decision) → IsAdoptCommit events returned → IsAdoptCommit (reverse events) returned
+in_order : (events : List Event) (returned : List Decision) → IsAdoptCommit events returned
+    → IsAdoptCommit (reverse events) returned
 in_order events returned h = record {
   agree = h.agree;
   proposed = λ x has. let p = h.proposed x has in (p.0, Contains-reverse events _ p.1);
@@ -98,5 +108,6 @@ reported c kinds events is =
     let g = group_of c kinds in
     let es = reverse events in
     let accepted = (runs g es).accepted in
-    subst (λ xs. IsAdoptCommit xs (decisions g (trace g accepted))) (sym (ap (λ xs. accepted_among xs (reverse (runs g es).lines)) (sym (reverse-reverse events)) ∙ accepted_are g es))
+    subst (λ xs. IsAdoptCommit xs (decisions g (trace g accepted)))
+    (sym (ap (λ xs. accepted_among xs (reverse (runs g es).lines)) (sym (reverse-reverse events)) ∙ accepted_are g es))
     (in_order accepted (decisions g (trace g accepted)) (adopt_commit g accepted (few_of c kinds is) (runs_legal g es)))

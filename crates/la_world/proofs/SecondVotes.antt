@@ -46,15 +46,18 @@ first_nil [] ys e = refl
 first_nil (x ∷ xs) ys e = cc
 
 -- nothing opens where nothing was submitted and no ballot is open
-opens_nothing : (g : Group) (t : Trace) (x : Entry) → Step g t x → (i r : ℕ) → submitted (x ∷ t) i r ≡ [] → ballots t i r ≡ [] → (b : Opening) → opened_by x.did ≡ Some b → b.instance ≡ i → b.replica ≡ r → ⊥
+opens_nothing : (g : Group) (t : Trace) (x : Entry) → Step g t x → (i r : ℕ) → submitted (x ∷ t) i r ≡ []
+    → ballots t i r ≡ [] → (b : Opening) → opened_by x.did ≡ Some b → b.instance ≡ i → b.replica ≡ r → ⊥
 opens_nothing g t x step i r none unopened b e ei er = go (step_opens g t x step b e).source
   where
     go : Source t x b → ⊥
     go (gathers plain made new) =
-        new (subst (λ ds. IsSubset (alone b.replica ds) (round t b.instance b.replica).updates) (sym (subst₂ (λ j q. submitted (x ∷ t) j q ≡ []) (sym ei) (sym er) none))
+        new
+        (subst (λ ds. IsSubset (alone b.replica ds) (round t b.instance b.replica).updates) (sym (subst₂ (λ j q. submitted (x ∷ t) j q ≡ []) (sym ei) (sym er) none))
         (alone_within b.replica [] (round t b.instance b.replica).updates (λ lt. record { front = refl })))
     go (joins refined m a p body c mi mr made some) =
-        subst (IsIn (round t m.instance m.to)) (subst₂ (λ j q. ballots t j q ≡ []) (sym ei ∙ mi) (sym er ∙ mr) unopened) (open_in t m.instance m.to (counts_is t m c).0)
+        subst (IsIn (round t m.instance m.to)) (subst₂ (λ j q. ballots t j q ≡ []) (sym ei ∙ mi) (sym er ∙ mr) unopened)
+        (open_in t m.instance m.to (counts_is t m c).0)
 
 idle_more : (g : Group) (t : Trace) (x : Entry) → Step g t x → IsIdle t → IsIdle (x ∷ t)
 unfolding submitted ballots
@@ -65,7 +68,8 @@ idle_more g t x step idle i r none = go (only i r (opened_by x.did)) refl
 
     go : (v : Option Opening) → only i r (opened_by x.did) ≡ v → cons_option v (ballots t i r) ≡ []
     go None e = before
-    go (Some b) e = let p = only_is i r (opened_by x.did) b e in absurd (opens_nothing g t x step i r none before b p.0 p.1 p.2)
+    go (Some b) e =
+        let p = only_is i r (opened_by x.did) b e in absurd (opens_nothing g t x step i r none before b p.0 p.1 p.2)
 
 idle_start : IsIdle []
 unfolding ballots
@@ -75,7 +79,8 @@ idle : (g : Group) (events : List Event) → IsIdle (trace g events)
 idle g events = always g IsIdle idle_start (λ t x step h p. idle_more g t x step p) events
 
 -- so none is open
-unopened : (g : Group) (events : List Event) (i r : ℕ) → submitted (trace g events) i r ≡ [] → is_open (trace g events) i r ≡ false
+unopened : (g : Group) (events : List Event) (i r : ℕ) → submitted (trace g events) i r ≡ []
+    → is_open (trace g events) i r ≡ false
 unopened g events i r none = go (is_open t i r) refl
   where
     t : Trace
@@ -102,7 +107,8 @@ module _ (g : Group) (t : Trace) (m : Message) (s : Submission) where
   abbrev Votes : Did → Type 0
   Votes d = second_vote_after (learnt_by d) ≡ Some s
 
-  heard_votes : (reply : Reply) → m.body ≡ body_of reply → counts t m ≡ true → (w : Verdict) → verdict g.votes (counted_with t m reply) ≡ w → Votes (ends t last (counted_with t m reply) w) → LeadsTo g t m s
+  heard_votes : (reply : Reply) → m.body ≡ body_of reply → counts t m ≡ true → (w : Verdict)
+      → verdict g.votes (counted_with t m reply) ≡ w → Votes (ends t last (counted_with t m reply) w) → LeadsTo g t m s
   heard_votes reply is heeded Waits e v = absurd (none-some s v)
   heard_votes reply is heeded Refines e v = absurd (none-some s v)
   heard_votes reply is heeded Learns e v = record { reply = reply; body = is; heeded = heeded; learns = e; vote = v }
@@ -111,7 +117,9 @@ module _ (g : Group) (t : Trace) (m : Message) (s : Submission) where
   unfolding hears
   hears_votes reply is = go (counts t m) refl
     where
-      go : (v : Bool) → counts t m ≡ v → Votes (cond v (ends t last (counted_with t m reply) (verdict g.votes (counted_with t m reply))) Ignored) → LeadsTo g t m s
+      go : (v : Bool) → counts t m ≡ v
+          → Votes (cond v (ends t last (counted_with t m reply) (verdict g.votes (counted_with t m reply))) Ignored)
+          → LeadsTo g t m s
       go true e v = heard_votes reply is e (verdict g.votes (counted_with t m reply)) refl v
       go false e v = absurd (none-some s v)
 
@@ -137,7 +145,10 @@ module _ (g : Group) (t : Trace) (m : Message) (s : Submission) where
   -- and then this is what it does
   pub does_learn : LeadsTo g t m s → receives g t (Some m) ≡ Learnt last (after_learning t last)
   unfolding hears
-  does_learn l = ap (receives_body g t m) l.body ∙ of_reply l.reply ∙ cond-true (counts t m) (ends t last tally (verdict g.votes tally)) Ignored l.heeded ∙ ap (ends t last tally) l.learns
+  does_learn l =
+      ap (receives_body g t m) l.body ∙ of_reply l.reply
+      ∙ cond-true (counts t m) (ends t last tally (verdict g.votes tally)) Ignored l.heeded
+      ∙ ap (ends t last tally) l.learns
     where
       tally : List Counted
       tally = counted_with t m l.reply

@@ -83,22 +83,35 @@ module _ (g : Group) where
   abbrev sent_after : List Event → List Message
   sent_after es = sent (replicas g) (trace g es)
 
-  sent_stays : (more es : List Event) (n : ℕ) (m : Message) → slice_get (sent_after es) n ≡ Some m → slice_get (sent_after (more ++ es)) n ≡ Some m
+  sent_stays : (more es : List Event) (n : ℕ) (m : Message) → slice_get (sent_after es) n ≡ Some m
+      → slice_get (sent_after (more ++ es)) n ≡ Some m
   unfolding trace sent
   sent_stays [] es n m e = e
-  sent_stays (d ∷ more) es n m e = still (sent_after (more ++ es)) (sent_at (replicas g) (entry g (trace g (more ++ es)) d)) n m (sent_stays more es n m e)
+  sent_stays (d ∷ more) es n m e =
+      still (sent_after (more ++ es)) (sent_at (replicas g) (entry g (trace g (more ++ es)) d)) n m
+      (sent_stays more es n m e)
 
   sent_longer : (more es : List Event) → length (sent_after es) ≤ length (sent_after (more ++ es))
   unfolding trace sent
   sent_longer [] es = omega arith
-  sent_longer (d ∷ more) es = omega (arith, sent_longer more es, length-append (sent_after (more ++ es)) (sent_at (replicas g) (entry g (trace g (more ++ es)) d)))
+  sent_longer (d ∷ more) es =
+      omega (
+        arith,
+        sent_longer more es,
+        length-append (sent_after (more ++ es))
+            (sent_at (replicas g) (entry g (trace g (more ++ es)) d)),
+      )
 
-  seen_stays : (more es : List Event) (r : ℕ) (s : Histories) → IsIn s (seen (trace g es) r) → IsIn s (seen (trace g (more ++ es)) r)
+  seen_stays : (more es : List Event) (r : ℕ) (s : Histories) → IsIn s (seen (trace g es) r)
+      → IsIn s (seen (trace g (more ++ es)) r)
   unfolding trace seen
   seen_stays [] es r s h = h
-  seen_stays (d ∷ more) es r s h = IsIn-left s (seen (trace g (more ++ es)) r) (seen_at r (entry g (trace g (more ++ es)) d)) (seen_stays more es r s h)
+  seen_stays (d ∷ more) es r s h =
+      IsIn-left s (seen (trace g (more ++ es)) r) (seen_at r (entry g (trace g (more ++ es)) d))
+      (seen_stays more es r s h)
 
-  seen_now : (es : List Event) (d : Event) (r : ℕ) (s : Histories) → IsIn s (seen_at r (entry g (trace g es) d)) → IsIn s (seen (trace g (d ∷ es)) r)
+  seen_now : (es : List Event) (d : Event) (r : ℕ) (s : Histories) → IsIn s (seen_at r (entry g (trace g es) d))
+      → IsIn s (seen (trace g (d ∷ es)) r)
   unfolding trace seen
   seen_now es d r s h = IsIn-right s (seen (trace g es) r) (seen_at r (entry g (trace g es) d)) h
 
@@ -108,13 +121,16 @@ module _ (g : Group) where
 abbrev tell_of : (n : ℕ) → Learnt → (r : ℕ) → Message
 tell_of n x r = tell_to (record { replicas = n; from = x.replica; instance = x.instance }) x.ballot x.updates r
 
-tells_are : (n : ℕ) (b : Opening) (place r : ℕ) → b.instance ≡ 0 → r < n → (r ≡ b.replica → ⊥) → slice_get (tells_for n b) (place_beside b.replica r) ≡ Some (tell_of n (learning place b) r)
+tells_are : (n : ℕ) (b : Opening) (place r : ℕ) → b.instance ≡ 0 → r < n → (r ≡ b.replica → ⊥)
+    → slice_get (tells_for n b) (place_beside b.replica r) ≡ Some (tell_of n (learning place b) r)
 tells_are n b place r zeroth lt ne =
     ap (λ ms. slice_get ms (place_beside b.replica r)) (cond-true (b.instance == 0) _ [] (eq-eqb b.instance 0 zeroth))
-    ∙ tell_at (sender_for n b) b.ballot b.updates 0 n r (place_beside b.replica r) (beside_is b.replica r ne) (omega arith) (omega arith) ne
+    ∙ tell_at (sender_for n b) b.ballot b.updates 0 n r (place_beside b.replica r) (beside_is b.replica r ne)
+    (omega arith) (omega arith) ne
 
 told_is : (n : ℕ) (x : Learnt) (r : ℕ) → x.instance ≡ 0 → IsIn x.updates (told_to r (Some (tell_of n x r)))
-told_is n x r zeroth = subst (λ v. IsIn x.updates (cond v (x.updates ∷ []) [])) (sym (both_at x.instance r 0 r zeroth refl)) (inl refl)
+told_is n x r zeroth =
+    subst (λ v. IsIn x.updates (cond v (x.updates ∷ []) [])) (sym (both_at x.instance r 0 r zeroth refl)) (inl refl)
 
 module _ (g : Group) (events : List Event) where
   abbrev before : ℕ → List Event
@@ -123,9 +139,12 @@ module _ (g : Group) (events : List Event) where
   -- a line's message numbers go on from what was sent before
   record IsTelling (j : ℕ) (teller : Step) (x : Learnt) : Type 0 where
     first : teller.first ≡ length (sent_after g (before j))
-    sends : (r : ℕ) → x.instance ≡ 0 → r < replicas g → (r ≡ x.replica → ⊥) → slice_get (sent_after g (before (j + 1))) (teller.first + place_beside x.replica r) ≡ Some (tell_of (replicas g) x r)
+    sends : (r : ℕ) → x.instance ≡ 0 → r < replicas g → (r ≡ x.replica → ⊥)
+        → slice_get (sent_after g (before (j + 1))) (teller.first + place_beside x.replica r)
+        ≡ Some (tell_of (replicas g) x r)
 
-  telling : (j : ℕ) (teller : Step) (x : Learnt) → slice_get (lines g events) j ≡ Some (Done teller) → learnt_in teller.did ≡ Some x → IsTelling j teller x
+  telling : (j : ℕ) (teller : Step) (x : Learnt) → slice_get (lines g events) j ≡ Some (Done teller)
+      → learnt_in teller.did ≡ Some x → IsTelling j teller x
   unfolding trace sent
   telling j teller x done learns =
       let p = handed_in_at g events j (Done teller) done in
@@ -138,11 +157,18 @@ module _ (g : Group) (events : List Event) where
       let first : teller.first ≡ length (sent n t) = sym (ap (λ (z : Step). z.first) same) in
       let l = did_learn n (length t) y.did x (ap (λ (z : Step). learnt_in z.did) same ∙ learns) in
       let b = l.ballot in
-      let all : sent_after g (before (j + 1)) ≡ sent n t ++ sent_by n y.delivered y.did = ap (sent_after g) (accepted_next g events j d p.1 was.allowed) in
-      let mail : sent_by n y.delivered y.did ≡ tells_for n b ++ offers_for_next n l.next = ap (sent_by n y.delivered) l.is in
+      let all : sent_after g (before (j + 1)) ≡ sent n t ++ sent_by n y.delivered y.did =
+      ap (sent_after g) (accepted_next g events j d p.1 was.allowed) in
+      let mail : sent_by n y.delivered y.did ≡ tells_for n b ++ offers_for_next n l.next =
+      ap (sent_by n y.delivered) l.is in
       record {
         first = first;
-        sends = subst (λ (z : Learnt). (r : ℕ) → z.instance ≡ 0 → r < n → (r ≡ z.replica → ⊥) → slice_get (sent_after g (before (j + 1))) (teller.first + place_beside z.replica r) ≡ Some (tell_of n z r)) l.same
+        sends =
+            subst
+            (λ (z : Learnt).
+            (r : ℕ) → z.instance ≡ 0 → r < n → (r ≡ z.replica → ⊥)
+            → slice_get (sent_after g (before (j + 1))) (teller.first + place_beside z.replica r)
+            ≡ Some (tell_of n z r)) l.same
             (λ r zeroth lt ne.
             let q = place_beside b.replica r in
             ap (λ ms. slice_get ms (teller.first + q)) (all ∙ ap (λ ms. sent n t ++ ms) mail)
@@ -151,22 +177,31 @@ module _ (g : Group) (events : List Event) where
             ∙ still (tells_for n b) (offers_for_next n l.next) q (tell_of n (learning (length t) b) r) (tells_are n b (length t) r zeroth lt ne));
       }
 
-  was_told : (place r : ℕ) (x : Learnt) → IsToldAt g events (lines g events) place r x → IsIn x.updates (seen (trace_of g events) r)
+  was_told : (place r : ℕ) (x : Learnt) → IsToldAt g events (lines g events) place r x
+      → IsIn x.updates (seen (trace_of g events) r)
   was_told place r x h =
       let n = h.teller.first + place_beside x.replica r in
       let e = Deliver n in
       let tells = telling h.learnt_at h.teller x h.tells h.learnt in
       let sends = tells.sends r h.of_objects h.in_group h.other in
       let was = was_done g events place e h.told h.delivered h.done in
-      let known : n < length (sent_after g (before place)) = leb-false (length (sent_after g (before place))) n (none_from_cond (nat_le (length (sent_after g (before place))) n) NoSuchMessage None was.allowed).0 in
-      let there : slice_get (sent_after g (before place)) n ≡ Some (tell_of (replicas g) x r) = elim (cases_lt h.learnt_at place) [
+      let known : n < length (sent_after g (before place)) =
+      leb-false (length (sent_after g (before place))) n
+      (none_from_cond (nat_le (length (sent_after g (before place))) n) NoSuchMessage None was.allowed).0 in
+      let there : slice_get (sent_after g (before place)) n ≡ Some (tell_of (replicas g) x r) =
+      elim (cases_lt h.learnt_at place) [
         | inl lt ↦ (let p = accepted_between g events (h.learnt_at + 1) place (omega arith) in ap (λ es. slice_get (sent_after g es) n) p.is ∙ sent_stays g p.more (before (h.learnt_at + 1)) n (tell_of (replicas g) x r) sends)
         | inr le ↦ absurd (let p = accepted_between g events place h.learnt_at le in let first = tells.first in let longer = sent_longer g p.more (before place) in let same = ap (λ es. length (sent_after g es)) p.is in omega arith)
       ] in
       let p = accepted_before g events (place + 1) in
-      let now : IsIn x.updates (seen_at r (entry g (trace g (before place)) e)) = IsIn-right x.updates (set_of (only 0 r (learnt_by (entry g (trace g (before place)) e).did))) (told_to r (delivered g (trace g (before place)) e)) (subst (λ o. IsIn x.updates (told_to r o)) (sym there) (told_is (replicas g) x r h.of_objects)) in
+      let now : IsIn x.updates (seen_at r (entry g (trace g (before place)) e)) =
+      IsIn-right x.updates (set_of (only 0 r (learnt_by (entry g (trace g (before place)) e).did)))
+      (told_to r (delivered g (trace g (before place)) e))
+      (subst (λ o. IsIn x.updates (told_to r o)) (sym there) (told_is (replicas g) x r h.of_objects)) in
       subst (λ es. IsIn x.updates (seen (trace g es) r)) (sym p.is)
-      (seen_stays g p.more (before (place + 1)) r x.updates (subst (λ es. IsIn x.updates (seen (trace g es) r)) (sym (accepted_next g events place e h.delivered was.allowed)) (seen_now g (before place) e r x.updates now)))
+      (seen_stays g p.more (before (place + 1)) r x.updates
+      (subst (λ es. IsIn x.updates (seen (trace g es) r))
+      (sym (accepted_next g events place e h.delivered was.allowed)) (seen_now g (before place) e r x.updates now)))
 
   learnt_seen : (t : Trace) (x : Learnt) → IsIn x (learnt t) → x.instance ≡ 0 → IsIn x.updates (seen t x.replica)
   unfolding learnt seen
@@ -182,7 +217,10 @@ module _ (g : Group) (events : List Event) where
       own b same =
           let zeroth : b.instance ≡ 0 = ap (λ (z : Learnt). z.instance) same ∙ e in
           let at : b.replica ≡ x.replica = ap (λ (z : Learnt). z.replica) same in
-          subst (λ o. IsIn x.updates (set_of o)) (sym (cond-true ((b.instance == 0) && (b.replica == x.replica)) (Some b) None (both_at b.instance b.replica 0 x.replica zeroth at)))
+          subst (λ o. IsIn x.updates (set_of o))
+          (sym
+          (cond-true ((b.instance == 0) && (b.replica == x.replica)) (Some b) None
+          (both_at b.instance b.replica 0 x.replica zeroth at)))
           (inl (ap (λ (z : Learnt). z.updates) same))
 
       now : (o : Option Opening) → IsIn x (learning_of (length t) o) → IsIn x.updates (set_of (only 0 x.replica o))
@@ -190,8 +228,12 @@ module _ (g : Group) (events : List Event) where
       now (Some b) (inl same) = own b same
       now (Some b) (inr none) = absurd none
 
-  was_seen : (place r : ℕ) (x : Learnt) → IsSeenAt g events (lines g events) place r x → IsIn x.updates (seen (trace_of g events) r)
-  was_seen place r x (inl h) = subst (λ q. IsIn x.updates (seen (trace_of g events) q)) h.replica (learnt_seen (trace_of g events) x (contains_IsIn (learnt (trace_of g events)) x (learnt_at_end g events place x h.learnt)) h.of_objects)
+  was_seen : (place r : ℕ) (x : Learnt) → IsSeenAt g events (lines g events) place r x
+      → IsIn x.updates (seen (trace_of g events) r)
+  was_seen place r x (inl h) =
+      subst (λ q. IsIn x.updates (seen (trace_of g events) q)) h.replica
+      (learnt_seen (trace_of g events) x
+      (contains_IsIn (learnt (trace_of g events)) x (learnt_at_end g events place x h.learnt)) h.of_objects)
   was_seen place r x (inr h) = was_told place r x h
 
 -- ## What was seen, lines show
@@ -215,7 +257,8 @@ record IsTeller (g : Group) (steps : List Line) (n : ℕ) (m : Message) : Type 0
   set : told_set m.body ≡ Some learnt_as.updates
   number : n ≡ teller.first + place_beside learnt_as.replica m.to
 
-teller_stays : (g : Group) (steps more : List Line) (n : ℕ) (m : Message) → IsTeller g steps n m → IsTeller g (steps ++ more) n m
+teller_stays : (g : Group) (steps more : List Line) (n : ℕ) (m : Message) → IsTeller g steps n m
+    → IsTeller g (steps ++ more) n m
 teller_stays g steps more n m h = record {
   learnt_as = h.learnt_as;
   learnt_at = h.learnt_at;
@@ -229,10 +272,12 @@ teller_stays g steps more n m h = record {
   number = h.number;
 }
 
-seen_later : (g : Group) (events more : List Event) (steps longer : List Line) (r : ℕ) (s : Histories) → WasSeen g events steps r s → WasSeen g (events ++ more) (steps ++ longer) r s
+seen_later : (g : Group) (events more : List Event) (steps longer : List Line) (r : ℕ) (s : Histories)
+    → WasSeen g events steps r s → WasSeen g (events ++ more) (steps ++ longer) r s
 seen_later g events more steps longer r s h = record { place = h.place; learnt_as = h.learnt_as; seen = go h.seen; set = h.set }
   where
-    go : IsSeenAt g events steps h.place r h.learnt_as → IsSeenAt g (events ++ more) (steps ++ longer) h.place r h.learnt_as
+    go : IsSeenAt g events steps h.place r h.learnt_as
+        → IsSeenAt g (events ++ more) (steps ++ longer) h.place r h.learnt_as
     go (inl k) = inl (record {
       learnt = record { step = k.learnt.step; done = still steps longer h.place (Done k.learnt.step) k.learnt.done; learnt = k.learnt.learnt };
       of_objects = k.of_objects;
@@ -258,7 +303,8 @@ offers_tell_nothing : (n : ℕ) (o : Option Opening) → AllIn TellsNothing (off
 offers_tell_nothing n None = tt
 offers_tell_nothing n (Some b) = AllIn-map TellsNothing (offer_to (sender_for n b) (ballot_of b)) (λ a. refl) (group n)
 
-no_tell : (ms : List Message) (q : ℕ) (m : Message) (s : Histories) → AllIn TellsNothing ms → slice_get ms q ≡ Some m → told_set m.body ≡ Some s → ⊥
+no_tell : (ms : List Message) (q : ℕ) (m : Message) (s : Histories) → AllIn TellsNothing ms → slice_get ms q ≡ Some m
+    → told_set m.body ≡ Some s → ⊥
 no_tell ms q m s none at is = none-some s (sym (AllIn_at TellsNothing ms m none (IsIn_get ms q m at)) ∙ is)
 
 replies_tell_nothing : (d : Option Message) (reply : Reply) → AllIn TellsNothing (replies_for d reply)
@@ -274,7 +320,9 @@ record TellsAt (n : ℕ) (d : Did) (q : ℕ) (m : Message) : Type 0 where
   of_objects : ballot.instance ≡ 0
   tell : IsTell (sender_for n ballot) ballot.ballot ballot.updates 0 n q m
 
-learning_tells : (n : ℕ) (b : Opening) (next : Option Opening) (q : ℕ) (m : Message) (s : Histories) → slice_get (tells_for n b ++ offers_for_next n next) q ≡ Some m → told_set m.body ≡ Some s → TellsAt n (did.Learnt b next) q m
+learning_tells : (n : ℕ) (b : Opening) (next : Option Opening) (q : ℕ) (m : Message) (s : Histories)
+    → slice_get (tells_for n b ++ offers_for_next n next) q ≡ Some m → told_set m.body ≡ Some s
+    → TellsAt n (did.Learnt b next) q m
 learning_tells n b next q m s at is = elim (cases_lt q (length (tells_for n b))) [
   | inl lt ↦ go (b.instance == 0) refl (sym (slice_get-append_left (tells_for n b) (offers_for_next n next) q lt) ∙ at)
   | inr le ↦ absurd (
@@ -283,15 +331,22 @@ learning_tells n b next q m s at is = elim (cases_lt q (length (tells_for n b)))
       no_tell (offers_for_next n next) k m s (offers_tell_nothing n next) (sym (slice_get-append_right (tells_for n b) (offers_for_next n next) k) ∙ ap (slice_get (tells_for n b ++ offers_for_next n next)) sum ∙ at) is)
 ]
   where
-    go : (v : Bool) → (b.instance == 0) ≡ v → slice_get (cond v (filter (is_to_other (sender_for n b)) (map (tell_to (sender_for n b) b.ballot b.updates) (group n))) []) q ≡ Some m → TellsAt n (did.Learnt b next) q m
+    go : (v : Bool) → (b.instance == 0) ≡ v
+        → slice_get
+        (cond v (filter (is_to_other (sender_for n b)) (map (tell_to (sender_for n b) b.ballot b.updates) (group n)))
+        []) q ≡ Some m → TellsAt n (did.Learnt b next) q m
     go true zeroth there = record { ballot = b; next = next; is = refl; of_objects = eqb-true b.instance 0 zeroth; tell = tell_is (sender_for n b) b.ballot b.updates 0 n q m there }
     go false zeroth there = absurd (none-some m there)
 
-sent_tells : (n : ℕ) (delivery : Option Message) (d : Did) (q : ℕ) (m : Message) (s : Histories) → slice_get (sent_by n delivery d) q ≡ Some m → told_set m.body ≡ Some s → TellsAt n d q m
+sent_tells : (n : ℕ) (delivery : Option Message) (d : Did) (q : ℕ) (m : Message) (s : Histories)
+    → slice_get (sent_by n delivery d) q ≡ Some m → told_set m.body ≡ Some s → TellsAt n d q m
 sent_tells n delivery (did.Learnt b next) q m s at is = learning_tells n b next q m s at is
-sent_tells n delivery (did.Opened b) q m s at is = absurd (no_tell (offers_for n b) q m s (offers_tell_nothing n (Some b)) at is)
-sent_tells n delivery (did.Refined b) q m s at is = absurd (no_tell (offers_for n b) q m s (offers_tell_nothing n (Some b)) at is)
-sent_tells n delivery (did.Answered reply) q m s at is = absurd (no_tell (replies_for delivery reply) q m s (replies_tell_nothing delivery reply) at is)
+sent_tells n delivery (did.Opened b) q m s at is =
+    absurd (no_tell (offers_for n b) q m s (offers_tell_nothing n (Some b)) at is)
+sent_tells n delivery (did.Refined b) q m s at is =
+    absurd (no_tell (offers_for n b) q m s (offers_tell_nothing n (Some b)) at is)
+sent_tells n delivery (did.Answered reply) q m s at is =
+    absurd (no_tell (replies_for delivery reply) q m s (replies_tell_nothing delivery reply) at is)
 sent_tells n delivery (did.Held id) q m s at is = absurd (none-some m at)
 sent_tells n delivery did.Counted q m s at is = absurd (none-some m at)
 sent_tells n delivery did.Ignored q m s at is = absurd (none-some m at)
@@ -303,7 +358,9 @@ many_lines : (g : Group) (es : List Event) → length (reverse (runs g es).lines
 many_lines g es = length-reverse (runs g es).lines ∙ line_each g es ∙ sym (length-reverse es)
 
 -- the learning that sent it, where that is the newest event
-newest_teller : (g : Group) (steps : List Line) (t : Trace) (e : Event) (q : ℕ) (m : Message) → TellsAt (replicas g) (entry g t e).did q m → IsTeller g (steps ++ line_of g t e ∷ []) (length (sent (replicas g) t) + q) m
+newest_teller : (g : Group) (steps : List Line) (t : Trace) (e : Event) (q : ℕ) (m : Message)
+    → TellsAt (replicas g) (entry g t e).did q m
+    → IsTeller g (steps ++ line_of g t e ∷ []) (length (sent (replicas g) t) + q) m
 newest_teller g steps t e q m h =
     let n = replicas g in
     let b = h.ballot in
@@ -320,11 +377,16 @@ newest_teller g steps t e q m h =
       in_group = let to : m.to ≡ x.to = ap (λ (z : Message). z.to) x.is in let lt = x.below in omega arith;
       other = λ same. x.other (sym (ap (λ (z : Message). z.to) x.is) ∙ same);
       set = ap (λ (z : Message). told_set z.body) x.is;
-      number = ap (λ k. length (sent n t) + k) (beside_only b.replica x.to q x.other x.beside ∙ ap (place_beside b.replica) (sym (ap (λ (z : Message). z.to) x.is)));
+      number =
+          ap (λ k. length (sent n t) + k)
+          (beside_only b.replica x.to q x.other x.beside
+          ∙ ap (place_beside b.replica) (sym (ap (λ (z : Message). z.to) x.is)));
     }
 
 module _ (g : Group) where
-  teller_of : (es : List Event) (n : ℕ) (m : Message) (s : Histories) → slice_get (sent (replicas g) (trace g (runs g es).accepted)) n ≡ Some m → told_set m.body ≡ Some s → IsTeller g (reverse (runs g es).lines) n m
+  teller_of : (es : List Event) (n : ℕ) (m : Message) (s : Histories)
+      → slice_get (sent (replicas g) (trace g (runs g es).accepted)) n ≡ Some m → told_set m.body ≡ Some s
+      → IsTeller g (reverse (runs g es).lines) n m
   unfolding runs trace sent
   teller_of [] n m s at is = absurd (none-some m at)
   teller_of (e ∷ es) n m s at is = go (λ there. teller_of es n m s there is) (refused g t e) at
@@ -339,16 +401,23 @@ module _ (g : Group) where
       earlier = sent (replicas g) t
 
       more : (l : Line) → IsTeller g (reverse ran.lines) n m → IsTeller g (reverse (l ∷ ran.lines)) n m
-      more l h = subst (λ ls. IsTeller g ls n m) (sym (reverse-append (l ∷ []) ran.lines)) (teller_stays g (reverse ran.lines) (l ∷ []) n m h)
+      more l h =
+          subst (λ ls. IsTeller g ls n m) (sym (reverse-append (l ∷ []) ran.lines))
+          (teller_stays g (reverse ran.lines) (l ∷ []) n m h)
 
-      go : (slice_get earlier n ≡ Some m → IsTeller g (reverse ran.lines) n m) → (o : Option Refusal) → slice_get (sent (replicas g) (trace g (runs_on g ran e t o).accepted)) n ≡ Some m → IsTeller g (reverse (runs_on g ran e t o).lines) n m
+      go : (slice_get earlier n ≡ Some m → IsTeller g (reverse ran.lines) n m) → (o : Option Refusal)
+          → slice_get (sent (replicas g) (trace g (runs_on g ran e t o).accepted)) n ≡ Some m
+          → IsTeller g (reverse (runs_on g ran e t o).lines) n m
       go old (Some name) there = more (Refused name) (old there)
       go old None there = elim (cases_lt n (length earlier)) [
         | inl lt ↦ more (line_of g t e) (old (sym (slice_get-append_left earlier (sent_at (replicas g) (entry g t e)) n lt) ∙ there))
         | inr le ↦ (
             let q = n - length earlier in
             let sum : length earlier + q ≡ n = omega arith in
-            let new = sent_tells (replicas g) (delivered g t e) (entry g t e).did q m s (sym (slice_get-append_right earlier (sent_at (replicas g) (entry g t e)) q) ∙ ap (slice_get (earlier ++ sent_at (replicas g) (entry g t e))) sum ∙ there) is in
+            let new =
+            sent_tells (replicas g) (delivered g t e) (entry g t e).did q m s
+            (sym (slice_get-append_right earlier (sent_at (replicas g) (entry g t e)) q)
+            ∙ ap (slice_get (earlier ++ sent_at (replicas g) (entry g t e))) sum ∙ there) is in
             subst₂ (λ ls k. IsTeller g ls k m) (sym (reverse-append (line_of g t e ∷ []) ran.lines)) sum (newest_teller g (reverse ran.lines) t e q m new))
       ]
 
@@ -374,7 +443,8 @@ module _ (g : Group) where
   heard t (Ask q object query) r s i = absurd i
   heard t (Deliver n) r s i = go (slice_get (sent (replicas g) t) n) refl i
     where
-      told_by : (m : Message) → slice_get (sent (replicas g) t) n ≡ Some m → (v : Bool) → ((m.instance == 0) && (m.to == r)) ≡ v → IsIn s (cond v (told m.body) []) → IsHeard t (Deliver n) r s
+      told_by : (m : Message) → slice_get (sent (replicas g) t) n ≡ Some m → (v : Bool)
+          → ((m.instance == 0) && (m.to == r)) ≡ v → IsIn s (cond v (told m.body) []) → IsHeard t (Deliver n) r s
       told_by m at true both i = record {
         number = n;
         is = refl;
@@ -385,11 +455,13 @@ module _ (g : Group) where
       }
       told_by m at false both i = absurd i
 
-      go : (o : Option Message) → slice_get (sent (replicas g) t) n ≡ o → IsIn s (told_to r o) → IsHeard t (Deliver n) r s
+      go : (o : Option Message) → slice_get (sent (replicas g) t) n ≡ o → IsIn s (told_to r o)
+          → IsHeard t (Deliver n) r s
       go None at i = absurd i
       go (Some m) at i = told_by m at ((m.instance == 0) && (m.to == r)) refl i
 
-  pub seen_from : (es : List Event) (r : ℕ) (s : Histories) → IsIn s (seen (trace g (runs g es).accepted) r) → WasSeen g (reverse es) (reverse (runs g es).lines) r s
+  pub seen_from : (es : List Event) (r : ℕ) (s : Histories) → IsIn s (seen (trace g (runs g es).accepted) r)
+      → WasSeen g (reverse es) (reverse (runs g es).lines) r s
   unfolding runs trace seen
   seen_from [] r s i = absurd i
   seen_from (e ∷ es) r s i = go (λ there. seen_from es r s there) (refused g t e) i
@@ -404,15 +476,22 @@ module _ (g : Group) where
       d = (entry g t e).did
 
       last_line : slice_get (reverse ran.lines ++ line_of g t e ∷ []) (length (reverse es)) ≡ Some (line_of g t e)
-      last_line = ap (slice_get (reverse ran.lines ++ line_of g t e ∷ [])) (sym (many_lines g es)) ∙ last_at (reverse ran.lines) (line_of g t e)
+      last_line =
+          ap (slice_get (reverse ran.lines ++ line_of g t e ∷ [])) (sym (many_lines g es))
+          ∙ last_at (reverse ran.lines) (line_of g t e)
 
-      listed : (l : Line) → WasSeen g (reverse es ++ e ∷ []) (reverse ran.lines ++ l ∷ []) r s → WasSeen g (reverse (e ∷ es)) (reverse (l ∷ ran.lines)) r s
-      listed l h = subst₂ (λ xs ls. WasSeen g xs ls r s) (sym (reverse-append (e ∷ []) es)) (sym (reverse-append (l ∷ []) ran.lines)) h
+      listed : (l : Line) → WasSeen g (reverse es ++ e ∷ []) (reverse ran.lines ++ l ∷ []) r s
+          → WasSeen g (reverse (e ∷ es)) (reverse (l ∷ ran.lines)) r s
+      listed l h =
+          subst₂ (λ xs ls. WasSeen g xs ls r s) (sym (reverse-append (e ∷ []) es))
+          (sym (reverse-append (l ∷ []) ran.lines)) h
 
-      more : (l : Line) → WasSeen g (reverse es) (reverse ran.lines) r s → WasSeen g (reverse (e ∷ es)) (reverse (l ∷ ran.lines)) r s
+      more : (l : Line) → WasSeen g (reverse es) (reverse ran.lines) r s
+          → WasSeen g (reverse (e ∷ es)) (reverse (l ∷ ran.lines)) r s
       more l h = listed l (seen_later g (reverse es) (e ∷ []) (reverse ran.lines) (l ∷ []) r s h)
 
-      learns : (o : Option Opening) → only 0 r (learnt_by d) ≡ o → IsIn s (set_of o) → WasSeen g (reverse es ++ e ∷ []) (reverse ran.lines ++ line_of g t e ∷ []) r s
+      learns : (o : Option Opening) → only 0 r (learnt_by d) ≡ o → IsIn s (set_of o)
+          → WasSeen g (reverse es ++ e ∷ []) (reverse ran.lines ++ line_of g t e ∷ []) r s
       learns None is own = absurd own
       learns (Some b) is (inr none) = absurd none
       learns (Some b) is (inl same) =
@@ -430,7 +509,9 @@ module _ (g : Group) where
 
       hears : IsHeard t e r s → WasSeen g (reverse es ++ e ∷ []) (reverse ran.lines ++ line_of g t e ∷ []) r s
       hears h =
-          let by = teller_stays g (reverse ran.lines) (line_of g t e ∷ []) h.number h.message (teller_of es h.number h.message s h.there h.set) in
+          let by =
+          teller_stays g (reverse ran.lines) (line_of g t e ∷ []) h.number h.message
+          (teller_of es h.number h.message s h.there h.set) in
           record {
             place = length (reverse es);
             learnt_as = by.learnt_as;
@@ -444,12 +525,17 @@ module _ (g : Group) where
               of_objects = by.of_objects;
               in_group = subst (λ q. q < replicas g) h.to by.in_group;
               other = λ same. by.other (h.to ∙ same);
-              delivered = last_at (reverse es) e ∙ ap Some h.is ∙ ap (λ k. Some (Deliver k)) (by.number ∙ ap (λ q. by.teller.first + place_beside by.learnt_as.replica q) h.to);
+              delivered =
+                  last_at (reverse es) e ∙ ap Some h.is
+                  ∙ ap (λ k. Some (Deliver k))
+                  (by.number ∙ ap (λ q. by.teller.first + place_beside by.learnt_as.replica q) h.to);
             });
             set = same_Some by.learnt_as.updates s (sym by.set ∙ h.set);
           }
 
-      go : (IsIn s (seen t r) → WasSeen g (reverse es) (reverse ran.lines) r s) → (o : Option Refusal) → IsIn s (seen (trace g (runs_on g ran e t o).accepted) r) → WasSeen g (reverse (e ∷ es)) (reverse (runs_on g ran e t o).lines) r s
+      go : (IsIn s (seen t r) → WasSeen g (reverse es) (reverse ran.lines) r s) → (o : Option Refusal)
+          → IsIn s (seen (trace g (runs_on g ran e t o).accepted) r)
+          → WasSeen g (reverse (e ∷ es)) (reverse (runs_on g ran e t o).lines) r s
       go rest (Some name) there = more (Refused name) (rest there)
       go rest None there = elim (in_either s (seen t r) (seen_at r (entry g t e)) there) [
         | inl old ↦ more (line_of g t e) (rest old)
@@ -461,12 +547,16 @@ module _ (g : Group) where
 
 -- ## Views
 
-pub views_seen : (g : Group) (events : List Event) → AreLargestSeen g events (lines g events) (views g (trace_of g events))
+pub views_seen : (g : Group) (events : List Event)
+    → AreLargestSeen g events (lines g events) (views g (trace_of g events))
 views_seen g events r s at =
     let sets = seen (trace_of g events) r in
     let largest = (trace_keeps g (accepted_of g events)).largest r s at in
     record {
-      contains = λ u h. largest.contains u (IsIn_contains sets u (subst (λ z. IsIn z sets) h.set (was_seen g events h.place r h.learnt_as h.seen)));
+      contains =
+          λ u h.
+          largest.contains u
+          (IsIn_contains sets u (subst (λ z. IsIn z sets) h.set (was_seen g events h.place r h.learnt_as h.seen)));
       is_one = elim largest.is_one [
         | inl c ↦ inl (subst (λ xs. WasSeen g xs (lines g events) r s) (reverse-reverse events) (seen_from g (reverse events) r s (contains_IsIn sets s c)))
         | inr none ↦ inr ((λ u h. subst (IsIn u) none.0 (subst (λ z. IsIn z sets) h.set (was_seen g events h.place r h.learnt_as h.seen))), none.1)

@@ -19,11 +19,16 @@ use Rattle.la_world.proofs.LargestViews.{views_largest}
 use Rattle.la_world.proofs.Places.{accepted_of, accepted_between, learnt_then}
 
 own_set : (b : Opening) → b.instance ≡ 0 → IsIn b.updates (set_of (only 0 b.replica (Some b)))
-own_set b e = subst (λ v. IsIn b.updates (set_of (cond v (Some b) None))) (sym (ap₂ (λ x y. x && y) (eq-eqb b.instance 0 e) (eq-eqb b.replica b.replica refl))) (inl refl)
+own_set b e =
+    subst (λ v. IsIn b.updates (set_of (cond v (Some b) None)))
+    (sym (ap₂ (λ x y. x && y) (eq-eqb b.instance 0 e) (eq-eqb b.replica b.replica refl))) (inl refl)
 
-learnt_now : (place : ℕ) (o : Option Opening) (x : Learnt) → IsIn x (learning_of place o) → x.instance ≡ 0 → IsIn x.updates (set_of (only 0 x.replica o))
+learnt_now : (place : ℕ) (o : Option Opening) (x : Learnt) → IsIn x (learning_of place o) → x.instance ≡ 0
+    → IsIn x.updates (set_of (only 0 x.replica o))
 learnt_now place None x h e = absurd h
-learnt_now place (Some b) x (inl same) e = subst (λ (y : Learnt). IsIn y.updates (set_of (only 0 y.replica (Some b)))) same (own_set b (ap (λ (y : Learnt). y.instance) same ∙ e))
+learnt_now place (Some b) x (inl same) e =
+    subst (λ (y : Learnt). IsIn y.updates (set_of (only 0 y.replica (Some b)))) same
+    (own_set b (ap (λ (y : Learnt). y.instance) same ∙ e))
 learnt_now place (Some b) x (inr h) e = absurd h
 
 -- what it learnt it saw
@@ -38,10 +43,14 @@ learnt_seen (y ∷ t) x h e =
       | inr new ↦ IsIn-right x.updates (seen t r) (seen_at r y) (IsIn-left x.updates own (told_to r y.delivered) (learnt_now (length t) (learnt_by y.did) x new e))
     ]
 
-pub shown_later : (g : Group) (events : List Event) (j place : ℕ) (x : Learnt) → IsLearntAt (lines g events) j x → x.instance ≡ 0 → j < place → IsSubset x.updates (view_at_place g events place x.replica)
+pub shown_later : (g : Group) (events : List Event) (j place : ℕ) (x : Learnt) → IsLearntAt (lines g events) j x
+    → x.instance ≡ 0 → j < place → IsSubset x.updates (view_at_place g events place x.replica)
 shown_later g events j place x h at lt =
     let p = accepted_between g events (j + 1) place (omega arith) in
     let until = accepted_of g (take place events) in
     let t = trace g until in
-    let was : Contains (learnt t) x = subst (λ es. Contains (learnt (trace g es)) x) (sym p.is) (learnt_still g p.more (accepted_of g (take (j + 1) events)) x (learnt_then g events j x h)) in
-    (views_largest g until x.replica).contains x.updates (IsIn_contains (seen t x.replica) x.updates (learnt_seen t x (contains_IsIn (learnt t) x was) at))
+    let was : Contains (learnt t) x =
+    subst (λ es. Contains (learnt (trace g es)) x) (sym p.is)
+    (learnt_still g p.more (accepted_of g (take (j + 1) events)) x (learnt_then g events j x h)) in
+    (views_largest g until x.replica).contains x.updates
+    (IsIn_contains (seen t x.replica) x.updates (learnt_seen t x (contains_IsIn (learnt t) x was) at))

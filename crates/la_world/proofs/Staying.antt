@@ -32,7 +32,8 @@ unfolding last_learnt_ballot
 nothing_learnt i r = refl
 
 -- a ballot that ends as learnt was open, and is the last one
-module _ (g : Group) (events : List Event) (e : Event) (c : Opening) (ends : learnt_by (entry g (trace g events) e).did ≡ Some c) where
+module _ (g : Group) (events : List Event) (e : Event) (c : Opening)
+    (ends : learnt_by (entry g (trace g events) e).did ≡ Some c) where
   abbrev t : Trace
   t = trace g events
 
@@ -40,13 +41,19 @@ module _ (g : Group) (events : List Event) (e : Event) (c : Opening) (ends : lea
   was_open = (event_learns g t e (entry g t e).delivered (entry g t e).did (step g t e).cases c ends).asking
 
   holds_own : 1 ≤ count c.updates c.replica
-  holds_own = own_held g events c.instance c.replica c (subst (λ z. IsIn z (ballots t c.instance c.replica)) (event_learns g t e (entry g t e).delivered (entry g t e).did (step g t e).cases c ends).is_last (open_in t c.instance c.replica was_open))
+  holds_own =
+      own_held g events c.instance c.replica c
+      (subst (λ z. IsIn z (ballots t c.instance c.replica))
+      (event_learns g t e (entry g t e).delivered (entry g t e).did (step g t e).cases c ends).is_last
+      (open_in t c.instance c.replica was_open))
 
 -- where a set was learnt in an instance of an object, the ballot there has ended for good
-learnt_done : (g : Group) (events : List Event) → IsLegal g events → (i r : ℕ) → (i ≡ 0 → ⊥) → (b : Ballot) → last_learnt_ballot (trace g events) i r ≡ Some b → IsDone (trace g events) i r
+learnt_done : (g : Group) (events : List Event) → IsLegal g events → (i r : ℕ) → (i ≡ 0 → ⊥) → (b : Ballot)
+    → last_learnt_ballot (trace g events) i r ≡ Some b → IsDone (trace g events) i r
 unfolding trace
 learnt_done g [] legal i r above b e = absurd (none-some b (sym (nothing_learnt i r) ∙ e))
-learnt_done g (d ∷ events) legal i r above b e = go (only i r (learnt_by x.did)) refl (learnt_done g events legal.1 i r above b)
+learnt_done g (d ∷ events) legal i r above b e =
+    go (only i r (learnt_by x.did)) refl (learnt_done g events legal.1 i r above b)
   where
     t : Trace
     t = trace g events
@@ -57,12 +64,17 @@ learnt_done g (d ∷ events) legal i r above b e = go (only i r (learnt_by x.did
     le : length (submitted (x ∷ t) i r) ≤ 1
     le = once (x ∷ t) i r (votes_once g (d ∷ events) legal) above
 
-    go : (o : Option Opening) → only i r (learnt_by x.did) ≡ o → (last_learnt_ballot t i r ≡ Some b → IsDone t i r) → IsDone (x ∷ t) i r
-    go None f before = still_done g t x (holds g events) (step g t d) i r le (before (sym (last_learnt_ballot-none x t i r f) ∙ e))
-    go (Some c) f before = let p = only_is i r (learnt_by x.did) c f in now_done g t x (holds g events) (step g t d) i r le c p.0 (holds_own g events d c p.0) p.1 p.2
+    go : (o : Option Opening) → only i r (learnt_by x.did) ≡ o → (last_learnt_ballot t i r ≡ Some b → IsDone t i r)
+        → IsDone (x ∷ t) i r
+    go None f before =
+        still_done g t x (holds g events) (step g t d) i r le (before (sym (last_learnt_ballot-none x t i r f) ∙ e))
+    go (Some c) f before =
+        let p = only_is i r (learnt_by x.did) c f in
+        now_done g t x (holds g events) (step g t d) i r le c p.0 (holds_own g events d c p.0) p.1 p.2
 
 -- and no other set is learnt there
-learnt_more : (g : Group) (events : List Event) (d : Event) → IsLegal g events → (i r : ℕ) → (i ≡ 0 → ⊥) → (b : Ballot) → last_learnt_ballot (trace g events) i r ≡ Some b → last_learnt_ballot (trace g (d ∷ events)) i r ≡ Some b
+learnt_more : (g : Group) (events : List Event) (d : Event) → IsLegal g events → (i r : ℕ) → (i ≡ 0 → ⊥) → (b : Ballot)
+    → last_learnt_ballot (trace g events) i r ≡ Some b → last_learnt_ballot (trace g (d ∷ events)) i r ≡ Some b
 unfolding trace
 learnt_more g events d legal i r above b e = go (only i r (learnt_by x.did)) refl
   where
@@ -76,11 +88,17 @@ learnt_more g events d legal i r above b e = go (only i r (learnt_by x.did)) ref
     go None f = last_learnt_ballot-none x t i r f ∙ e
     go (Some c) f =
         let p = only_is i r (learnt_by x.did) c f in
-        absurd (true≢false (sym (subst₂ (λ j q. is_open t j q ≡ true) p.1 p.2 (was_open g events d c p.0)) ∙ (learnt_done g events legal i r above b e).closed))
+        absurd
+        (true≢false
+        (sym (subst₂ (λ j q. is_open t j q ≡ true) p.1 p.2 (was_open g events d c p.0))
+        ∙ (learnt_done g events legal i r above b e).closed))
 
-learnt_stays : (g : Group) (more events : List Event) → IsLegal g (more ++ events) → (i r : ℕ) → (i ≡ 0 → ⊥) → (b : Ballot) → last_learnt_ballot (trace g events) i r ≡ Some b → last_learnt_ballot (trace g (more ++ events)) i r ≡ Some b
+learnt_stays : (g : Group) (more events : List Event) → IsLegal g (more ++ events) → (i r : ℕ) → (i ≡ 0 → ⊥)
+    → (b : Ballot) → last_learnt_ballot (trace g events) i r ≡ Some b
+    → last_learnt_ballot (trace g (more ++ events)) i r ≡ Some b
 learnt_stays g [] events legal i r above b e = e
-learnt_stays g (d ∷ more) events legal i r above b e = learnt_more g (more ++ events) d legal.1 i r above b (learnt_stays g more events legal.1 i r above b e)
+learnt_stays g (d ∷ more) events legal i r above b e =
+    learnt_more g (more ++ events) d legal.1 i r above b (learnt_stays g more events legal.1 i r above b e)
 
 pub outcomes_stay : OutcomesStay
 outcomes_stay g events more k r o legal e = go (last_learnt_ballot (trace g events) i r) refl
@@ -91,6 +109,7 @@ outcomes_stay g events more k r o legal e = go (last_learnt_ballot (trace g even
     by : Option Ballot → Option Outcome
     by l = option_and_then (λ s. outcome_of s r) (option_map (λ (b : Ballot). b.updates) l)
 
-    go : (l : Option Ballot) → last_learnt_ballot (trace g events) i r ≡ l → by (last_learnt_ballot (trace g (more ++ events)) i r) ≡ Some o
+    go : (l : Option Ballot) → last_learnt_ballot (trace g events) i r ≡ l
+        → by (last_learnt_ballot (trace g (more ++ events)) i r) ≡ Some o
     go None f = absurd (none-some o (sym (ap by f) ∙ e))
     go (Some b) f = ap by (learnt_stays g more events legal i r (λ z. omega (arith, z)) b f ∙ sym f) ∙ e

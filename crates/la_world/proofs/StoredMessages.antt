@@ -9,10 +9,12 @@ use Rattle.la_world.specs.Calls.{StandsForMessage}
 pub messages_length : (stored : List code.Message) (ms : List Message) → CarryAll stored ms → length stored ≡ length ms
 messages_length stored ms h = sym (length-map stored whole_of) ∙ ap length h
 
-pub message_at : (stored : List code.Message) (ms : List Message) (k : ℕ) → CarryAll stored ms → option_map whole_of (slice_get stored k) ≡ slice_get ms k
+pub message_at : (stored : List code.Message) (ms : List Message) (k : ℕ) → CarryAll stored ms
+    → option_map whole_of (slice_get stored k) ≡ slice_get ms k
 message_at stored ms k h = sym (slice_get-map whole_of stored k) ∙ ap (λ xs. slice_get xs k) h
 
-pub stands_for : (stored : Option code.Message) (sent : Option Message) → option_map whole_of stored ≡ sent → StandsForMessage stored sent
+pub stands_for : (stored : Option code.Message) (sent : Option Message) → option_map whole_of stored ≡ sent
+    → StandsForMessage stored sent
 stands_for None None e = tt
 stands_for None (Some w) e = none-some w e
 stands_for (Some m) None e = none-some (whole_of m) (sym e)

@@ -38,12 +38,18 @@ nothing_submitted i r = refl
 -- what was learnt stays so
 pub learnt_stays : (x : Entry) (t : Trace) (l : Learnt) → Contains (learnt t) l → Contains (learnt (x ∷ t)) l
 unfolding learnt
-learnt_stays x t l was = IsIn_contains (learnt t ++ learning_of (length t) (learnt_by x.did)) l (IsIn-left l (learnt t) (learning_of (length t) (learnt_by x.did)) (contains_IsIn (learnt t) l was))
+learnt_stays x t l was =
+    IsIn_contains (learnt t ++ learning_of (length t) (learnt_by x.did)) l
+    (IsIn-left l (learnt t) (learning_of (length t) (learnt_by x.did)) (contains_IsIn (learnt t) l was))
 
 -- a ballot that ends as learnt is among what was learnt
-pub learnt_now : (x : Entry) (t : Trace) (b : Opening) → learnt_by x.did ≡ Some b → Contains (learnt (x ∷ t)) (learning (length t) b)
+pub learnt_now : (x : Entry) (t : Trace) (b : Opening) → learnt_by x.did ≡ Some b
+    → Contains (learnt (x ∷ t)) (learning (length t) b)
 unfolding learnt
-learnt_now x t b e = subst (λ o. Contains (learnt t ++ learning_of (length t) o) (learning (length t) b)) (sym e) (IsIn_contains (learnt t ++ learning (length t) b ∷ []) (learning (length t) b) (IsIn-last (learning (length t) b) (learnt t)))
+learnt_now x t b e =
+    subst (λ o. Contains (learnt t ++ learning_of (length t) o) (learning (length t) b)) (sym e)
+    (IsIn_contains (learnt t ++ learning (length t) b ∷ []) (learning (length t) b)
+    (IsIn-last (learning (length t) b) (learnt t)))
 
 -- ## First votes
 
@@ -53,7 +59,8 @@ pub record HasProposed (events : List Event) (t : Trace) (k r : ℕ) : Type 0 wh
   pub accepted : Contains events (Decide r k value)
   pub all : submitted t (first_instance k) r ≡ first_vote k value ∷ []
 
-first_by : (g : Group) (t : Trace) (events : List Event) (e : Event) → refused g t e ≡ None → (k r : ℕ) → IsSubmitted (entry g t e) t (first_instance k) r → HasProposed (e ∷ events) (entry g t e ∷ t) k r
+first_by : (g : Group) (t : Trace) (events : List Event) (e : Event) → refused g t e ≡ None → (k r : ℕ)
+    → IsSubmitted (entry g t e) t (first_instance k) r → HasProposed (e ∷ events) (entry g t e ∷ t) k r
 first_by g t events (Submit q object_op) allowed k r s =
     let at : 0 ≡ first_instance k = ap (λ (z : Submission). z.instance) (same_Some _ s.submission s.by) ∙ s.instance in
     absurd (omega (arith, at))
@@ -62,11 +69,16 @@ first_by g t events (Decide q j value) allowed k r s =
     let at : first_instance j ≡ first_instance k = ap (λ (z : Submission). z.instance) same ∙ s.instance in
     let by : q ≡ r = ap (λ (z : Submission). z.replica) same ∙ s.replica in
     let of : j ≡ k = omega (arith, at) in
-    let none : submitted t (first_instance k) r ≡ [] = none_of (submitted t (first_instance k) r) (subst₂ (λ i p. length (submitted t i p) < 1) at by (not_proposed g t q j value allowed)) in
-    let casts_it : s.submission.object_op ≡ first_vote k value = sym (ap (λ (z : Submission). z.object_op) same) ∙ ap (λ i. first_vote i value) of in
+    let none : submitted t (first_instance k) r ≡ [] =
+    none_of (submitted t (first_instance k) r)
+    (subst₂ (λ i p. length (submitted t i p) < 1) at by (not_proposed g t q j value allowed)) in
+    let casts_it : s.submission.object_op ≡ first_vote k value =
+    sym (ap (λ (z : Submission). z.object_op) same) ∙ ap (λ i. first_vote i value) of in
     record {
       value = value;
-      accepted = subst₂ (λ p i. Contains (Decide q j value ∷ events) (Decide p i value)) by of (Contains-first (Decide q j value) events);
+      accepted =
+          subst₂ (λ p i. Contains (Decide q j value ∷ events) (Decide p i value)) by of
+          (Contains-first (Decide q j value) events);
       all = s.all ∙ ap (λ ds. ds ++ s.submission.object_op ∷ []) none ∙ ap (λ d. d ∷ []) casts_it;
     }
 first_by g t events (Deliver j) allowed k r s =
@@ -75,7 +87,8 @@ first_by g t events (Deliver j) allowed k r s =
     absurd (omega (arith, is.1, s.instance))
 first_by g t events (Ask q object query) allowed k r s = absurd (none-some s.submission s.by)
 
-pub proposals : (g : Group) (events : List Event) → IsLegal g events → (k r : ℕ) → (submitted (trace g events) (first_instance k) r ≡ []) ⊎ HasProposed events (trace g events) k r
+pub proposals : (g : Group) (events : List Event) → IsLegal g events → (k r : ℕ)
+    → (submitted (trace g events) (first_instance k) r ≡ []) ⊎ HasProposed events (trace g events) k r
 unfolding trace
 proposals g [] legal k r = inl (nothing_submitted (first_instance k) r)
 proposals g (e ∷ events) legal k r =
@@ -101,7 +114,8 @@ proposed_by v value e = go v.sole refl e
 proposed_own : (s : Histories) (r value : ℕ) → proposed s r ≡ Some value → HoldsVote s r (first_vote_for value)
 proposed_own s r value e = go (own_vote s r) refl e
   where
-    go : (o : Option Vote) → own_vote s r ≡ o → option_and_then proposal o ≡ Some value → own_vote s r ≡ Some (first_vote_for value)
+    go : (o : Option Vote) → own_vote s r ≡ o → option_and_then proposal o ≡ Some value
+        → own_vote s r ≡ Some (first_vote_for value)
     go None f k = absurd (none-some value k)
     go (Some v) f k = f ∙ ap Some (proposed_by v value k)
 
@@ -114,7 +128,8 @@ record LeadsTo (b : Opening) (s : Submission) : Type 0 where
 leads_to : (b : Opening) (s : Submission) → second_vote b ≡ Some s → LeadsTo b s
 leads_to b s e = go (is_first_instance b.instance) (proposed b.updates b.replica) refl e
   where
-    go : (v : Bool) (o : Option ℕ) → proposed b.updates b.replica ≡ o → cond v (second_vote_of (commit_of b.instance) b.replica b.updates o) None ≡ Some s → LeadsTo b s
+    go : (v : Bool) (o : Option ℕ) → proposed b.updates b.replica ≡ o
+        → cond v (second_vote_of (commit_of b.instance) b.replica b.updates o) None ≡ Some s → LeadsTo b s
     go false o f k = absurd (none-some s k)
     go true None f k = absurd (none-some s k)
     go true (Some value) f k = record {
@@ -134,12 +149,14 @@ pub record HasVoted (t : Trace) (k r : ℕ) : Type 0 where
   pub own : HoldsVote first.updates r (first_vote_for value)
   pub all : submitted t (second_instance k) r ≡ casts k (second_vote_for first.updates value) ∷ []
 
-second_by : (g : Group) (t : Trace) (e : Event) → VotesOnce (entry g t e ∷ t) → (k r : ℕ) → IsSubmitted (entry g t e) t (second_instance k) r → HasVoted (entry g t e ∷ t) k r
+second_by : (g : Group) (t : Trace) (e : Event) → VotesOnce (entry g t e ∷ t) → (k r : ℕ)
+    → IsSubmitted (entry g t e) t (second_instance k) r → HasVoted (entry g t e ∷ t) k r
 second_by g t (Submit q object_op) once k r s =
     let at : 0 ≡ second_instance k = ap (λ (z : Submission). z.instance) (same_Some _ s.submission s.by) ∙ s.instance in
     absurd (omega (arith, at))
 second_by g t (Decide q j value) once k r s =
-    let at : first_instance j ≡ second_instance k = ap (λ (z : Submission). z.instance) (same_Some _ s.submission s.by) ∙ s.instance in
+    let at : first_instance j ≡ second_instance k =
+    ap (λ (z : Submission). z.instance) (same_Some _ s.submission s.by) ∙ s.instance in
     absurd (omega (arith, at))
 second_by g t (Deliver j) once k r s =
     let x = entry g t (Deliver j) in
@@ -149,7 +166,11 @@ second_by g t (Deliver j) once k r s =
     let leads = leads_to b s.submission w.2 in
     let er : b.replica ≡ r = sym is.2 ∙ s.replica in
     let of : commit_of b.instance ≡ k = let at = sym is.1 ∙ s.instance in omega (arith, at) in
-    let none : submitted t (second_instance k) r ≡ [] = let le = once.second k r in none_of (submitted t (second_instance k) r) (omega (arith, le, ap length s.all ∙ length_push (submitted t (second_instance k) r) s.submission.object_op)) in
+    let none : submitted t (second_instance k) r ≡ [] =
+    let le = once.second k r in
+    none_of (submitted t (second_instance k) r)
+    (omega (arith, le, ap length s.all ∙ length_push (submitted t (second_instance k) r) s.submission.object_op))
+    in
     record {
       first = learning (length t) b;
       was = learnt_now x t b w.1;
@@ -157,11 +178,14 @@ second_by g t (Deliver j) once k r s =
       replica = er;
       value = leads.value;
       own = subst (λ q. HoldsVote b.updates q (first_vote_for leads.value)) er leads.own;
-      all = s.all ∙ ap (λ ds. ds ++ s.submission.object_op ∷ []) none ∙ ap (λ d. d ∷ []) (leads.casts_it ∙ ap (λ i. casts i (second_vote_for b.updates leads.value)) of);
+      all =
+          s.all ∙ ap (λ ds. ds ++ s.submission.object_op ∷ []) none
+          ∙ ap (λ d. d ∷ []) (leads.casts_it ∙ ap (λ i. casts i (second_vote_for b.updates leads.value)) of);
     }
 second_by g t (Ask q object query) once k r s = absurd (none-some s.submission s.by)
 
-pub second_votes_cast : (g : Group) (events : List Event) → IsLegal g events → (k r : ℕ) → (submitted (trace g events) (second_instance k) r ≡ []) ⊎ HasVoted (trace g events) k r
+pub second_votes_cast : (g : Group) (events : List Event) → IsLegal g events → (k r : ℕ)
+    → (submitted (trace g events) (second_instance k) r ≡ []) ⊎ HasVoted (trace g events) k r
 unfolding trace
 second_votes_cast g [] legal k r = inl (nothing_submitted (second_instance k) r)
 second_votes_cast g (e ∷ events) legal k r =

@@ -67,18 +67,22 @@ module _ (p : ProposerState) (learnt : Option Ballot) (is : SubmitsOnce p learnt
       }
   verdict_once from ballot reply Learns asks = learns from ballot reply (is_nothing p.waiting) refl asks
 
-  pub replied_once : (from ballot : ℕ) (reply : Reply) → SubmitsOnce (after_reply p from ballot reply) (last_learnt_after learnt ballot (heard_of p from ballot reply))
+  pub replied_once : (from ballot : ℕ) (reply : Reply)
+      → SubmitsOnce (after_reply p from ballot reply) (last_learnt_after learnt ballot (heard_of p from ballot reply))
   replied_once from ballot reply = go (counts p from ballot) refl
     where
       q : ProposerState
       q = with_reply p from reply
 
-      go : (b : Bool) → counts p from ballot ≡ b → SubmitsOnce (cond b (after_counting q) p) (last_learnt_after learnt ballot (cond b (heard_counting q) heard.Ignored))
+      go : (b : Bool) → counts p from ballot ≡ b
+          → SubmitsOnce (cond b (after_counting q) p)
+          (last_learnt_after learnt ballot (cond b (heard_counting q) heard.Ignored))
       go false e = is
       go true e = verdict_once from ballot reply (verdict_of q) (counts_open p from ballot e)
 
   -- a reply submits nothing at a proposer that has submitted nothing
-  pub replied_before : (from ballot : ℕ) (reply : Reply) → 1 ≤ submitted (after_reply p from ballot reply) → 1 ≤ submitted p
+  pub replied_before : (from ballot : ℕ) (reply : Reply) → 1 ≤ submitted (after_reply p from ballot reply)
+      → 1 ≤ submitted p
   replied_before from ballot reply some = go (counts p from ballot) refl some
     where
       q : ProposerState
@@ -96,7 +100,10 @@ module _ (p : ProposerState) (learnt : Option Ballot) (is : SubmitsOnce p learnt
       q = with_waiting p d
 
       one : 1 ≤ submitted (after_opening q)
-      one = let all = ap length (takes_all q is.known) in omega (arith, all, length-append (history p.updates p.own) (p.waiting ++ d ∷ []), length-append p.waiting (d ∷ []))
+      one =
+          let all = ap length (takes_all q is.known) in
+          omega
+          (arith, all, length-append (history p.updates p.own) (p.waiting ++ d ∷ []), length-append p.waiting (d ∷ []))
 
       go : (b : Bool) → p.is_asking ≡ b → SubmitsOnce (cond b q (after_opening q)) learnt
       go true e = let some = is.asks e in absurd (omega (arith, some, none))
@@ -118,28 +125,33 @@ pub record Advances (x y : Instance) : Type 0 where
   pub submitted : 1 ≤ submitted y.proposer → 1 ≤ submitted x.proposer
 
 -- what was learnt stays, since no reply counts then
-learnt_still : (p : ProposerState) (o : Option Ballot) → SubmitsOnce p o → (from ballot : ℕ) (reply : Reply) → IsSome o → last_learnt_after o ballot (heard_of p from ballot reply) ≡ o
+learnt_still : (p : ProposerState) (o : Option Ballot) → SubmitsOnce p o → (from ballot : ℕ) (reply : Reply) → IsSome o
+    → last_learnt_after o ballot (heard_of p from ballot reply) ≡ o
 learnt_still p o is from ballot reply some = go (counts p from ballot) refl
   where
-    go : (b : Bool) → counts p from ballot ≡ b → last_learnt_after o ballot (cond b (heard_counting (with_reply p from reply)) heard.Ignored) ≡ o
+    go : (b : Bool) → counts p from ballot ≡ b
+        → last_learnt_after o ballot (cond b (heard_counting (with_reply p from reply)) heard.Ignored) ≡ o
     go false e = refl
     go true e = absurd (none_learnt p o is (counts_open p from ballot e) some)
 
-same_advances : (x y : Instance) → y.proposer ≡ x.proposer → y.learnt ≡ x.learnt → SubmitsOnce x.proposer x.learnt → Advances x y
+same_advances : (x y : Instance) → y.proposer ≡ x.proposer → y.learnt ≡ x.learnt → SubmitsOnce x.proposer x.learnt
+    → Advances x y
 same_advances x y pe le is = record {
   once = subst (λ (z : ProposerState × Option Ballot). SubmitsOnce z.0 z.1) (λ j. (sym pe j, sym le j)) is;
   learnt = λ some. le;
   submitted = λ some. subst (λ z. 1 ≤ submitted z) pe some;
 }
 
-reply_advances : (s : Sender) (x : Instance) (view : Histories) (m : Message) (reply : Reply) → SubmitsOnce x.proposer x.learnt → Advances x (steps.hears s x view m reply).at
+reply_advances : (s : Sender) (x : Instance) (view : Histories) (m : Message) (reply : Reply)
+    → SubmitsOnce x.proposer x.learnt → Advances x (steps.hears s x view m reply).at
 reply_advances s x view m reply is = record {
   once = replied_once x.proposer x.learnt is m.from m.ballot reply;
   learnt = learnt_still x.proposer x.learnt is m.from m.ballot reply;
   submitted = replied_before x.proposer x.learnt is m.from m.ballot reply;
 }
 
-pub body_advances : (s : Sender) (x : Instance) (view : Histories) (m : Message) (b : Body) → SubmitsOnce x.proposer x.learnt → Advances x (receives_body s x view m b).at
+pub body_advances : (s : Sender) (x : Instance) (view : Histories) (m : Message) (b : Body)
+    → SubmitsOnce x.proposer x.learnt → Advances x (receives_body s x view m b).at
 body_advances s x view m (Offer offered) is = same_advances x _ refl refl is
 body_advances s x view m Yes is = reply_advances s x view m replied.Yes is
 body_advances s x view m (No accepted) is = reply_advances s x view m (replied.No accepted) is
@@ -147,16 +159,19 @@ body_advances s x view m (Tell told) is = same_advances x _ refl refl is
 
 -- ## A learning
 
-told_none : (b c : Bool) (told s : Histories) → learnt_in (cond b (cond c (said.Took told) said.Kept) said.Ignored) ≡ Some s → ⊥
+told_none : (b c : Bool) (told s : Histories)
+    → learnt_in (cond b (cond c (said.Took told) said.Kept) said.Ignored) ≡ Some s → ⊥
 told_none true true told s e = none-some s e
 told_none true false told s e = none-some s e
 told_none false c told s e = none-some s e
 
 -- a reply by which a set is learnt counts, and the set is kept
-learning_counts : (p : ProposerState) (from ballot : ℕ) (reply : Reply) (s : Histories) → learnt_in (said_of (heard_of p from ballot reply)) ≡ Some s → counts p from ballot ≡ true
+learning_counts : (p : ProposerState) (from ballot : ℕ) (reply : Reply) (s : Histories)
+    → learnt_in (said_of (heard_of p from ballot reply)) ≡ Some s → counts p from ballot ≡ true
 learning_counts p from ballot reply s e = go (counts p from ballot) e
   where
-    go : (b : Bool) → learnt_in (said_of (cond b (heard_counting (with_reply p from reply)) heard.Ignored)) ≡ Some s → b ≡ true
+    go : (b : Bool) → learnt_in (said_of (cond b (heard_counting (with_reply p from reply)) heard.Ignored)) ≡ Some s
+        → b ≡ true
     go true h = refl
     go false h = absurd (none-some s h)
 
@@ -173,7 +188,8 @@ Counting x m Yes = counts x.proposer m.from m.ballot ≡ true
 Counting x m (No accepted) = counts x.proposer m.from m.ballot ≡ true
 Counting x m (Tell told) = ⊥
 
-pub body_counts : (s : Sender) (x : Instance) (view : Histories) (m : Message) (b : Body) (set : Histories) → learnt_in (receives_body s x view m b).said ≡ Some set → Counting x m b
+pub body_counts : (s : Sender) (x : Instance) (view : Histories) (m : Message) (b : Body) (set : Histories)
+    → learnt_in (receives_body s x view m b).said ≡ Some set → Counting x m b
 body_counts s x view m (Offer offered) set e = none-some set e
 body_counts s x view m Yes set e = learning_counts x.proposer m.from m.ballot replied.Yes set e
 body_counts s x view m (No accepted) set e = learning_counts x.proposer m.from m.ballot (replied.No accepted) set e
@@ -181,6 +197,13 @@ body_counts s x view m (Tell told) set e = told_none (s.instance == 0) (is_large
 
 pub body_learns : (s : Sender) (x : Instance) (view : Histories) (m : Message) (b : Body) (set : Histories) → learnt_in (receives_body s x view m b).said ≡ Some set → (x.proposer.is_asking ≡ true) × ((receives_body s x view m b).at.learnt ≡ Some (record { number = m.ballot; updates = set }))
 body_learns s x view m (Offer offered) set e = absurd (none-some set e)
-body_learns s x view m Yes set e = (counts_open x.proposer m.from m.ballot (learning_counts x.proposer m.from m.ballot replied.Yes set e), learning_keeps x.learnt m.ballot (heard_of x.proposer m.from m.ballot replied.Yes) set e)
-body_learns s x view m (No accepted) set e = (counts_open x.proposer m.from m.ballot (learning_counts x.proposer m.from m.ballot (replied.No accepted) set e), learning_keeps x.learnt m.ballot (heard_of x.proposer m.from m.ballot (replied.No accepted)) set e)
+body_learns s x view m Yes set e = (
+  counts_open x.proposer m.from m.ballot (learning_counts x.proposer m.from m.ballot replied.Yes set e),
+  learning_keeps
+      x.learnt m.ballot (heard_of x.proposer m.from m.ballot replied.Yes) set e,
+)
+body_learns s x view m (No accepted) set e = (
+  counts_open x.proposer m.from m.ballot (learning_counts x.proposer m.from m.ballot (replied.No accepted) set e),
+  learning_keeps x.learnt m.ballot (heard_of x.proposer m.from m.ballot (replied.No accepted)) set e,
+)
 body_learns s x view m (Tell told) set e = absurd (told_none (s.instance == 0) (is_larger view told) told set e)

@@ -69,7 +69,10 @@ with_other : (p a r k : ℕ) → (a ≡ p → ⊥) → Beside p (a + 1) r k → 
 with_other p a r k na b = record {
   below = λ l. let h = b.below l in omega arith;
   past = λ l m. let h = b.past l (omega arith) in omega arith;
-  across = λ l m. elim (cases_lt a p) [ inl n ↦ (let h = b.across l (omega arith) in omega arith) | inr n ↦ absurd (na (omega arith)) ];
+  across =
+      λ l m.
+      elim (cases_lt a p)
+      [ inl n ↦ (let h = b.across l (omega arith) in omega arith) | inr n ↦ absurd (na (omega arith)) ];
 }
 
 first_beside : (p a : ℕ) → (a ≡ p → ⊥) → Beside p a a 0
@@ -118,7 +121,8 @@ module _ (s : Sender) (number : ℕ) (set : Histories) where
   first_own a n e = cond-false (not (a == p)) (tell a ∷ tells (a + 1) n) (tells (a + 1) n) (ap not (eq-eqb a p e))
 
   -- the one to r stands at its number
-  pub tell_at : (a n r q : ℕ) → Beside p a r q → a ≤ r → r < a + n → (r ≡ p → ⊥) → slice_get (tells a n) q ≡ Some (tell r)
+  pub tell_at : (a n r q : ℕ) → Beside p a r q → a ≤ r → r < a + n → (r ≡ p → ⊥)
+      → slice_get (tells a n) q ≡ Some (tell r)
   tell_at a zero r q b le lt ne = absurd (omega arith)
   tell_at a (suc n) r q b le lt ne = elim (cases_eq a p) [
     | inl e ↦ ap (λ ms. slice_get ms q) (first_own a n e) ∙ tell_at (a + 1) n r q (drop_own p a r q e (own e) b) (let l = own e in omega arith) (omega arith) ne
@@ -128,7 +132,8 @@ module _ (s : Sender) (number : ℕ) (set : Histories) where
       own : a ≡ p → a < r
       own e = elim (cases_lt a r) [ inl l ↦ l | inr l ↦ absurd (ne (omega arith)) ]
 
-      other : (a ≡ p → ⊥) → ((k : ℕ) → Beside p (a + 1) r k → a + 1 ≤ r → slice_get (tells (a + 1) n) k ≡ Some (tell r)) → (k : ℕ) → Beside p a r k → slice_get (tell a ∷ tells (a + 1) n) k ≡ Some (tell r)
+      other : (a ≡ p → ⊥) → ((k : ℕ) → Beside p (a + 1) r k → a + 1 ≤ r → slice_get (tells (a + 1) n) k ≡ Some (tell r))
+          → (k : ℕ) → Beside p a r k → slice_get (tell a ∷ tells (a + 1) n) k ≡ Some (tell r)
       other na rest zero b = ap (λ z. Some (tell z)) (here p a r na ne b)
       other na rest (suc k) b = rest k (drop_other p a r k na b) (later p a r k ne b)
 
@@ -168,7 +173,8 @@ module _ (s : Sender) (number : ℕ) (set : Histories) where
         beside = with_other p a h.to k na h.beside;
       }
 
-      other : (a ≡ p → ⊥) → ((k : ℕ) → slice_get (tells (a + 1) n) k ≡ Some m → IsTell (a + 1) n k m) → (k : ℕ) → slice_get (tell a ∷ tells (a + 1) n) k ≡ Some m → IsTell a (suc n) k m
+      other : (a ≡ p → ⊥) → ((k : ℕ) → slice_get (tells (a + 1) n) k ≡ Some m → IsTell (a + 1) n k m) → (k : ℕ)
+          → slice_get (tell a ∷ tells (a + 1) n) k ≡ Some m → IsTell a (suc n) k m
       other na rest zero e = record {
         to = a;
         is = sym (same_Some (tell a) m e);

@@ -56,7 +56,8 @@ told_at_carries n x t = wholes (base_of (x ∷ t) (offered_to x.delivered)) (sen
 pub told_carries : (n : ℕ) (t : Trace) → CarryAll (told n t) (sent n t)
 unfolding told sent
 told_carries n [] = refl
-told_carries n (x ∷ t) = map-append whole_of (told n t) (told_at n x t) ∙ ap₂ (λ xs ys. xs ++ ys) (told_carries n t) (told_at_carries n x t)
+told_carries n (x ∷ t) =
+    map-append whole_of (told n t) (told_at n x t) ∙ ap₂ (λ xs ys. xs ++ ys) (told_carries n t) (told_at_carries n x t)
 
 -- ## Its bases
 
@@ -64,10 +65,15 @@ smaller_in : (c d : Counts) (r : ℕ) → r < 8 → count_in (smaller c d) r ≡
 smaller_in c d r lt = count_in-from_counts (λ q. min (count_in c q) (count_in d q)) r lt
 
 smaller_right : (c : Counts) (s : Histories) → HasCounts s (smaller c (counts_of s))
-smaller_right c s = HasCounts-known s (smaller c (counts_of s)) (λ r lt. omega (arith, smaller_in c (counts_of s) r lt, count_in-counts_of s r))
+smaller_right c s =
+    HasCounts-known s (smaller c (counts_of s))
+    (λ r lt. omega (arith, smaller_in c (counts_of s) r lt, count_in-counts_of s r))
 
-smaller_left : (told there : Histories) (d : Counts) → IsSubset told there → HasCounts there (smaller (counts_of told) d)
-smaller_left told there d sub = HasCounts-known there (smaller (counts_of told) d) (λ r lt. omega (arith, smaller_in (counts_of told) d r lt, count_in-counts_of told r, subset-count told there sub r))
+smaller_left : (told there : Histories) (d : Counts) → IsSubset told there
+    → HasCounts there (smaller (counts_of told) d)
+smaller_left told there d sub =
+    HasCounts-known there (smaller (counts_of told) d)
+    (λ r lt. omega (arith, smaller_in (counts_of told) d r lt, count_in-counts_of told r, subset-count told there sub r))
 
 -- the base is what a ballot with this number has
 pub record IsBaseOf (t : Trace) (i r number : ℕ) (base : Counts) : Type 0 where
@@ -89,8 +95,18 @@ pub record StandsMessage (t : Trace) (c : code.Message) : Type 0 where
   pub is : c ≡ told_over base whole
   pub stands : Stands t whole base whole.body
 
-stands_more : (x : Entry) (t : Trace) (m : Message) (base : Counts) (b : Body) → Stands t m base b → Stands (x ∷ t) m base b
-stands_more x t m base (Offer s) h = (h.0, λ r. omega (arith, h.1 r, subset-count (accepted t m.instance m.to) (accepted (x ∷ t) m.instance m.to) (accepted_more x t m.instance m.to) r))
+stands_more : (x : Entry) (t : Trace) (m : Message) (base : Counts) (b : Body) → Stands t m base b
+    → Stands (x ∷ t) m base b
+stands_more x t m base (Offer s) h = (
+  h.0,
+  λ r.
+      omega (
+        arith,
+        h.1 r,
+        subset-count (accepted t m.instance m.to) (accepted (x ∷ t) m.instance m.to)
+            (accepted_more x t m.instance m.to) r,
+      ),
+)
 stands_more x t m base Yes h = tt
 stands_more x t m base (No s) h = (h.0, record { ballot = h.1.ballot; opened = ballots_more x t m.instance m.to h.1.ballot h.1.opened; is_number = h.1.is_number; counts = h.1.counts })
 stands_more x t m base (Tell s) h = tt
@@ -99,21 +115,25 @@ stands_more x t m base (Tell s) h = tt
 abbrev StandsNew : Trace → (offered : Counts) → Message → Type 0
 StandsNew t offered m = Stands t m (base_of t offered m) m.body
 
-module _ (g : Group) (x : Entry) (t : Trace) (h : Holds g t) (are : AreAccepted g (x ∷ t)) (was_sent : (m : Message) → x.delivered ≡ Some m → IsIn m (sent (replicas g) t)) where
+module _ (g : Group) (x : Entry) (t : Trace) (h : Holds g t) (are : AreAccepted g (x ∷ t))
+    (was_sent : (m : Message) → x.delivered ≡ Some m → IsIn m (sent (replicas g) t)) where
   offers_stand : (offered : Counts) (b : Opening) → AllIn (StandsNew (x ∷ t) offered) (offers_for (replicas g) b)
   offers_stand offered b =
       AllIn-map (StandsNew (x ∷ t) offered) (offer_to (sender_for (replicas g) b) (ballot_of b))
       (λ a. (
         smaller_right (counts_of (reported (x ∷ t) b.instance b.replica a)) b.updates,
-        smaller_left (reported (x ∷ t) b.instance b.replica a) (accepted (x ∷ t) b.instance a) (counts_of b.updates) (are.reports b.instance b.replica a),
+        smaller_left (reported (x ∷ t) b.instance b.replica a) (accepted (x ∷ t) b.instance a) (counts_of b.updates)
+            (are.reports b.instance b.replica a),
       ))
       (group (replicas g))
 
-  next_stands : (offered : Counts) (o : Option Opening) → AllIn (StandsNew (x ∷ t) offered) (offers_for_next (replicas g) o)
+  next_stands : (offered : Counts) (o : Option Opening)
+      → AllIn (StandsNew (x ∷ t) offered) (offers_for_next (replicas g) o)
   next_stands offered None = tt
   next_stands offered (Some b) = offers_stand offered b
 
-  answer_stands : (m : Message) (s : Histories) → x.delivered ≡ Some m → m.body ≡ Offer s → StandsNew (x ∷ t) (offered_by m) (reply_to m (answer (accepted t m.instance m.to) s))
+  answer_stands : (m : Message) (s : Histories) → x.delivered ≡ Some m → m.body ≡ Offer s
+      → StandsNew (x ∷ t) (offered_by m) (reply_to m (answer (accepted t m.instance m.to) s))
   answer_stands m s d e = go (is_subset u s)
     where
       u : Histories
@@ -137,7 +157,14 @@ module _ (g : Group) (x : Entry) (t : Trace) (h : Holds g t) (are : AreAccepted 
       go : (v : Bool) → let a = cond v replied.Yes (replied.No (join u s)) in StandsNew (x ∷ t) (offered_by m) (reply_to m a)
       go true = tt
       go false = (
-        λ r. omega (arith, ap (λ c. count_in c r) counts_are, count_in-counts_of s r, subset-count s (join u s) (subset-join_right u s fits) r),
+        λ r.
+            omega (
+              arith,
+              ap (λ c. count_in c r) counts_are,
+              count_in-counts_of s r,
+              subset-count s (join u s)
+                  (subset-join_right u s fits) r,
+            ),
         record {
           ballot = o.ballot;
           opened = ballots_more x t m.instance m.from o.ballot o.opened;
@@ -146,14 +173,17 @@ module _ (g : Group) (x : Entry) (t : Trace) (h : Holds g t) (are : AreAccepted 
         },
       )
 
-  new_stand : (e : Event) (m : Option Message) (d : Did) → x.delivered ≡ m → EventCases g t e m d → AllIn (StandsNew (x ∷ t) (offered_to m)) (sent_by (replicas g) m d)
+  new_stand : (e : Event) (m : Option Message) (d : Did) → x.delivered ≡ m → EventCases g t e m d
+      → AllIn (StandsNew (x ∷ t) (offered_to m)) (sent_by (replicas g) m d)
   new_stand v m d p (silent o l s) = subst (AllIn (StandsNew (x ∷ t) (offered_to m))) (sym s) tt
   new_stand v m d p (opens b o) = offers_stand (offered_to m) b
   new_stand v m d p (answers_offer k s e) = (answer_stands k s p e, tt)
   new_stand v m d p (refines b o) = offers_stand (offered_to m) b
   new_stand v m d p (learns k a next e c y o) =
-      AllIn-append (StandsNew (x ∷ t) (offered_by k)) (tells_for (replicas g) (round t k.instance k.to)) (offers_for_next (replicas g) next)
-      (tells_all (StandsNew (x ∷ t) (offered_by k)) (replicas g) (round t k.instance k.to) (λ z to lt. tt)) (next_stands (offered_by k) next)
+      AllIn-append (StandsNew (x ∷ t) (offered_by k)) (tells_for (replicas g) (round t k.instance k.to))
+      (offers_for_next (replicas g) next)
+      (tells_all (StandsNew (x ∷ t) (offered_by k)) (replicas g) (round t k.instance k.to) (λ z to lt. tt))
+      (next_stands (offered_by k) next)
 
 pub record AreStanding (g : Group) (t : Trace) : Type 0 where
   pub reports : AreAccepted g t
@@ -181,7 +211,8 @@ standing g events = always g (AreStanding g) (standing_start g) (standing_kept g
 
 -- ## What its receiver has
 
-body_stands : (g : Group) (t : Trace) → Holds g t → (m : Message) (base : Counts) (b : Body) → Stands t m base b → StandsBody t (told_over base m) (told_body base b)
+body_stands : (g : Group) (t : Trace) → Holds g t → (m : Message) (base : Counts) (b : Body) → Stands t m base b
+    → StandsBody t (told_over base m) (told_body base b)
 body_stands g t h m base (Offer s) st = st
 body_stands g t h m base Yes st = tt
 body_stands g t h m base (No s) st = (
@@ -189,7 +220,9 @@ body_stands g t h m base (No s) st = (
   λ heeded.
       let is = counts_is t m (ap (counts t) (sym (told_whole base m)) ∙ heeded) in
       let last = round t m.instance m.to in
-      let same : st.1.ballot ≡ last = same_number (ballots t m.instance m.to) st.1.ballot last (h.quorum.numbered m.instance m.to) st.1.opened (open_in t m.instance m.to is.0) (st.1.is_number ∙ is.1) in
+      let same : st.1.ballot ≡ last =
+      same_number (ballots t m.instance m.to) st.1.ballot last (h.quorum.numbered m.instance m.to) st.1.opened
+      (open_in t m.instance m.to is.0) (st.1.is_number ∙ is.1) in
       st.1.counts ∙ ap (λ (o : Opening). counts_of o.updates) same,
 )
 body_stands g t h m base (Tell s) st = tt
@@ -197,8 +230,11 @@ body_stands g t h m base (Tell s) st = tt
 pub told_messages_stand : ToldMessagesStand
 told_messages_stand g events k c at =
     let t = trace g events in
-    let st = AllIn_at (StandsMessage t) (told (replicas g) t) c (standing g events).messages (IsIn_get (told (replicas g) t) k c at) in
-    subst (λ m. StandsBody t m m.body) (sym st.is) (body_stands g t (holds g events) st.whole st.base st.whole.body st.stands)
+    let st =
+    AllIn_at (StandsMessage t) (told (replicas g) t) c (standing g events).messages
+    (IsIn_get (told (replicas g) t) k c at) in
+    subst (λ m. StandsBody t m m.body) (sym st.is)
+    (body_stands g t (holds g events) st.whole st.base st.whole.body st.stands)
 
 -- ## Its deltas were made of sets
 
@@ -210,4 +246,6 @@ over_made base (Tell s) = tt
 
 pub told_are_made : (g : Group) (events : Past) → AllIn IsMade (told (replicas g) (trace g events))
 told_are_made g events =
-    AllIn-each (StandsMessage (trace g events)) IsMade (λ c st. subst IsMade (sym st.is) (over_made st.base st.whole.body)) (told (replicas g) (trace g events)) (standing g events).messages
+    AllIn-each (StandsMessage (trace g events)) IsMade
+    (λ c st. subst IsMade (sym st.is) (over_made st.base st.whole.body)) (told (replicas g) (trace g events))
+    (standing g events).messages

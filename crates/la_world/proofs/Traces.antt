@@ -54,24 +54,30 @@ pub holds : (g : Group) (events : List Event) → Holds g (trace g events)
 holds g events = each g (Holds g) (holds_start g) (holds_more g) events
 
 -- what is kept by each event where all this holds, holds of every list of events
-pub always : (g : Group) (P : Trace → Type 0) → P [] → ((t : Trace) (x : Entry) → Step g t x → Holds g t → P t → P (x ∷ t)) → (events : List Event) → P (trace g events)
-always g P start more events = (each g (λ t. Holds g t × P t) (holds_start g, start) (λ t x step h. (holds_more g t x step h.0, more t x step h.0 h.1)) events).1
+pub always : (g : Group) (P : Trace → Type 0) → P []
+    → ((t : Trace) (x : Entry) → Step g t x → Holds g t → P t → P (x ∷ t)) → (events : List Event) → P (trace g events)
+always g P start more events =
+    (each g (λ t. Holds g t × P t) (holds_start g, start)
+    (λ t x step h. (holds_more g t x step h.0, more t x step h.0 h.1)) events).1
 
 -- ## Ballots
 
 -- a ballot's number is at most the size of its set
-newest_size : (i r : ℕ) (bs : List Opening) → Numbered bs → Growing i r bs → (newest_of i r bs).ballot ≤ total (newest_of i r bs).updates
+newest_size : (i r : ℕ) (bs : List Opening) → Numbered bs → Growing i r bs
+    → (newest_of i r bs).ballot ≤ total (newest_of i r bs).updates
 newest_size i r [] n w = omega arith
 newest_size i r (b ∷ bs) n w =
     let last = newest_of i r bs in
     omega (arith, n.0, last_number i r bs n.1, newest_size i r bs n.1 w.2, total_strict last.updates b.updates w.0 w.1)
 
 -- a reply is to a ballot that was opened
-asked : (t : Trace) (i r b a : ℕ) (w : Reply) → Numbered (ballots t i r) → IsJustifiedReply t i r b a w → b ≤ length (ballots t i r)
+asked : (t : Trace) (i r b a : ℕ) (w : Reply) → Numbered (ballots t i r) → IsJustifiedReply t i r b a w
+    → b ≤ length (ballots t i r)
 asked t i r b a replied.Yes n h = omega (arith, numbered_below (ballots t i r) h.ballot n h.opened, h.is_number)
 asked t i r b a (replied.No s) n h = omega (arith, numbered_below (ballots t i r) h.ballot n h.opened, h.is_number)
 
-unasked_in : (t : Trace) (i r b : ℕ) (cs : List Counted) → Numbered (ballots t i r) → length (ballots t i r) < b → AllIn (IsCountBacked t i r b) cs → cs ≡ []
+unasked_in : (t : Trace) (i r b : ℕ) (cs : List Counted) → Numbered (ballots t i r) → length (ballots t i r) < b
+    → AllIn (IsCountBacked t i r b) cs → cs ≡ []
 unasked_in t i r b [] n lt h = refl
 unasked_in t i r b (c ∷ cs) n lt h = absurd (omega (arith, asked t i r b c.from c.reply n h.0))
 
@@ -99,7 +105,9 @@ module _ (g : Group) (t : Trace) (h : Holds g t) where
 
   pub counted_known : (i r : ℕ) → AllIn (IsCountWithin own_bound t i) (counted t i r)
   unfolding counted
-  counted_known i r = firsts_all (IsCountWithin own_bound t i) (replies t i r (round t i r).ballot) (h.within.reply i r (round t i r).ballot)
+  counted_known i r =
+      firsts_all (IsCountWithin own_bound t i) (replies t i r (round t i r).ballot)
+      (h.within.reply i r (round t i r).ballot)
 
   -- ## Messages
 
@@ -111,8 +119,11 @@ module _ (g : Group) (t : Trace) (h : Holds g t) where
     message_known = AllIn_at (IsMessageWithin own_bound t) (sent (replicas g) t) m h.within.message was_sent
 
   -- nobody has replied to a ballot before it opens
-  pub unasked : (x : Entry) → ((m : Message) → x.delivered ≡ Some m → IsIn m (sent (replicas g) t)) → (i r b : ℕ) → (round t i r).ballot < b → replies (x ∷ t) i r b ≡ []
+  pub unasked : (x : Entry) → ((m : Message) → x.delivered ≡ Some m → IsIn m (sent (replicas g) t)) → (i r b : ℕ)
+      → (round t i r).ballot < b → replies (x ∷ t) i r b ≡ []
   unfolding replies
   unasked x was_sent i r b lt =
-      unasked_in t i r b (replies t i r b ++ reply_at i r b x.delivered) (h.quorum.numbered i r) (let e = last_is i r in omega arith)
-      (AllIn-append (IsCountBacked t i r b) (replies t i r b) (reply_at i r b x.delivered) (h.quorum.backed i r b) (reply_backed t i r b x.delivered (λ m e. stands m (was_sent m e))))
+      unasked_in t i r b (replies t i r b ++ reply_at i r b x.delivered) (h.quorum.numbered i r)
+      (let e = last_is i r in omega arith)
+      (AllIn-append (IsCountBacked t i r b) (replies t i r b) (reply_at i r b x.delivered) (h.quorum.backed i r b)
+      (reply_backed t i r b x.delivered (λ m e. stands m (was_sent m e))))

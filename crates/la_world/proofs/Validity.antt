@@ -25,8 +25,10 @@ record WasSubmitted (t : Trace) (l : Learnt) : Type 0 where
   until_place : length (drop later t) ≡ l.place + 1
   submitted : IsSubmitted (drop later t) l.instance l.updates
 
-new_submitted : (g : Group) (x : Entry) (t : Trace) (v : Event) (m : Option Message) (d : Did) → IsWithinSubmitted g t → EventCases g t v m d → AllIn (WasSubmitted (x ∷ t)) (learning_of (length t) (learnt_by d))
-new_submitted g x t v m d h (silent o l s) = subst (λ z. AllIn (WasSubmitted (x ∷ t)) (learning_of (length t) z)) (sym l) tt
+new_submitted : (g : Group) (x : Entry) (t : Trace) (v : Event) (m : Option Message) (d : Did) → IsWithinSubmitted g t
+    → EventCases g t v m d → AllIn (WasSubmitted (x ∷ t)) (learning_of (length t) (learnt_by d))
+new_submitted g x t v m d h (silent o l s) =
+    subst (λ z. AllIn (WasSubmitted (x ∷ t)) (learning_of (length t) z)) (sym l) tt
 new_submitted g x t v m d h (opens b o) = tt
 new_submitted g x t v m d h (answers_offer c s e) = tt
 new_submitted g x t v m d h (refines b o) = tt
@@ -56,10 +58,12 @@ learnt_valid g events l c =
     record {
       own = taken_within g events l.instance l.replica (learnt_ballot l) s.opened;
       later = w.later;
-      until_place = sym (length_trace g (drop w.later events)) ∙ ap length (sym (trace_drop g w.later events)) ∙ w.until_place;
+      until_place =
+          sym (length_trace g (drop w.later events)) ∙ ap length (sym (trace_drop g w.later events)) ∙ w.until_place;
       submitted = subst (λ u. IsSubmitted u l.instance l.updates) (trace_drop g w.later events) w.submitted;
     }
 
 pub learnt_taken : LearntHoldWhatWasTaken
 learnt_taken g events l c few =
-    has_taken g events l.instance l.replica few (learnt_ballot l) (learning_justified g events l (contains_IsIn (learnt (trace g events)) l c)).opened
+    has_taken g events l.instance l.replica few (learnt_ballot l)
+    (learning_justified g events l (contains_IsIn (learnt (trace g events)) l c)).opened

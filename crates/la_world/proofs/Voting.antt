@@ -48,7 +48,9 @@ use Rattle.la_world.proofs.SecondVotes.{LeadsTo, does_learn, IsDue}
 abbrev pub vote_at : (j r : ℕ) → ObjectOp → Submission
 vote_at j r object_op = record { instance = j; replica = r; object_op = object_op }
 
-module _ (g : Group) (t : Trace) (k : ℕ) (m : Message) (there : m.instance < instances g) (h : Holds g t) (was_sent : IsIn m (sent (replicas g) t)) (lt : m.to < 8) (j : ℕ) (object_op : ObjectOp) (l : LeadsTo g t m (vote_at j m.to object_op)) (d : IsDue g t m.instance j m.to) where
+module _ (g : Group) (t : Trace) (k : ℕ) (m : Message) (there : m.instance < instances g) (h : Holds g t)
+    (was_sent : IsIn m (sent (replicas g) t)) (lt : m.to < 8) (j : ℕ) (object_op : ObjectOp)
+    (l : LeadsTo g t m (vote_at j m.to object_op)) (d : IsDue g t m.instance j m.to) where
   abbrev i : ℕ
   i = m.instance
 
@@ -80,8 +82,14 @@ module _ (g : Group) (t : Trace) (k : ℕ) (m : Message) (there : m.instance < i
   leaves_else : (p q : ℕ) → IsAway i r p q → IsAway j r p q → Leaves p q x
   leaves_else p q first second = record {
     opened = λ b e. subst (λ (z : Opening). IsAway z.instance z.replica p q) (same_Some next b e) second;
-    learnt = λ b e. subst (λ (z : Opening). IsAway z.instance z.replica p q) (same_Some last b e) (λ ei er. first (sym last_is.instance ∙ ei) (sym last_is.replica ∙ er));
-    submission = λ s e. subst (λ (z : Submission). IsAway z.instance z.replica p q) (same_Some (vote_at j r object_op) s (sym l.vote ∙ e)) second;
+    learnt =
+        λ b e.
+        subst (λ (z : Opening). IsAway z.instance z.replica p q) (same_Some last b e)
+        (λ ei er. first (sym last_is.instance ∙ ei) (sym last_is.replica ∙ er));
+    submission =
+        λ s e.
+        subst (λ (z : Submission). IsAway z.instance z.replica p q)
+        (same_Some (vote_at j r object_op) s (sym l.vote ∙ e)) second;
     message = λ n e. subst (λ (z : Message). IsAway z.instance z.to p q) (same_Some m n e) first;
   }
 
@@ -102,21 +110,25 @@ module _ (g : Group) (t : Trace) (k : ℕ) (m : Message) (there : m.instance < i
 
   submitted_here : submitted (x ∷ t) i r ≡ submitted t i r
   submitted_here = submitted-none x t i r
-      (ap (object_op_in i r) l.vote ∙ cond-false ((j == i) && (r == r)) (object_op ∷ []) [] (not_both j r i r (λ e f. d.apart e)))
+      (ap (object_op_in i r) l.vote
+      ∙ cond-false ((j == i) && (r == r)) (object_op ∷ []) [] (not_both j r i r (λ e f. d.apart e)))
 
   last_here : only i r (Some last) ≡ Some last
   last_here = last_only g t k m l.reply l.body h was_sent l.heeded
 
   first_after : proposer_state g (x ∷ t) i r ≡ proposer.closed heeding
   first_after =
-      proposer_state_is g (x ∷ t) i r last false (replies (x ∷ t) i r last.ballot) (submitted t i r) (reports (x ∷ t) i r)
+      proposer_state_is g (x ∷ t) i r last false (replies (x ∷ t) i r last.ballot) (submitted t i r)
+      (reports (x ∷ t) i r)
       (round-same x t i r none_here) (is_open-learnt x t i r last none_here last_here) refl submitted_here refl
-      ∙ ap (keeping g i r last false [] heeding.waiting) (told_after g t k m l.reply l.body h was_sent l.heeded (did.Learnt last (Some next)))
+      ∙ ap (keeping g i r last false [] heeding.waiting)
+      (told_after g t k m l.reply l.body h was_sent l.heeded (did.Learnt last (Some next)))
 
   heard_so : heard_of (proposer_state g t i r) m.from m.ballot l.reply ≡ heard.Learnt last.updates None
   heard_so =
       heard_is g t k m l.reply l.body h was_sent l.heeded ∙ ap (heard_by heeding) l.learns
-      ∙ ap (heard.Learnt last.updates) (cond-true (is_nothing heeding.waiting) None (Some (proposer.next_ballot heeding)) nothing)
+      ∙ ap (heard.Learnt last.updates)
+      (cond-true (is_nothing heeding.waiting) None (Some (proposer.next_ballot heeding)) nothing)
 
   kept_so : after_reply (proposer_state g t i r) m.from m.ballot l.reply ≡ proposer_state g (x ∷ t) i r
   kept_so =
@@ -127,9 +139,11 @@ module _ (g : Group) (t : Trace) (k : ℕ) (m : Message) (there : m.instance < i
   first_is : record { acceptor = accepted t i r; proposer = proposer_state g (x ∷ t) i r; learnt = Some (record { number = m.ballot; updates = last.updates }) } ≡ instance_of g (x ∷ t) r i
   unfolding instance_of
   first_is = λ q. record {
-    acceptor = sym (accepted-none x t i r (no_offer g t k m there (ap offered l.body ∙ reply_offers g t k m there l.reply))) q;
+    acceptor =
+        sym (accepted-none x t i r (no_offer g t k m there (ap offered l.body ∙ reply_offers g t k m there l.reply))) q;
     proposer = proposer_state g (x ∷ t) i r;
-    learnt = sym (last_learnt_ballot-some x t i r last last_here ∙ learnt_number g t k m l.reply l.body h was_sent l.heeded) q;
+    learnt =
+        sym (last_learnt_ballot-some x t i r last last_here ∙ learnt_number g t k m l.reply l.body h was_sent l.heeded) q;
   }
 
   abbrev sender : Sender
@@ -139,7 +153,8 @@ module _ (g : Group) (t : Trace) (k : ℕ) (m : Message) (there : m.instance < i
   abbrev learning : Out
   learning = record { said = said.Learnt last.updates None; mail = tells_for (replicas g) last ++ [] }
 
-  hears_so : steps.receives_body sender (instance_of g t r i) (view t r) m (body_of l.reply) ≡ steps.step_of learning (instance_of g (x ∷ t) r i) (view (x ∷ t) r)
+  hears_so : steps.receives_body sender (instance_of g t r i) (view t r) m (body_of l.reply)
+      ≡ steps.step_of learning (instance_of g (x ∷ t) r i) (view (x ∷ t) r)
   unfolding instance_of
   hears_so =
       let mail = ap (λ z. z ++ []) (tells_are g t k m l.reply l.body h was_sent l.heeded) in
@@ -155,8 +170,15 @@ module _ (g : Group) (t : Trace) (k : ℕ) (m : Message) (there : m.instance < i
   receives_so : acting.receives (replica_state g t r) m ≡ Some (learning, middle)
   unfolding replica_state
   receives_so =
-      ap (λ b. option_map (λ y. acting.after_step (replica_state g t r) i (steps.receives_body sender y (view t r) m b)) (slice_get (replica_state g t r).instances i)) l.body
-      ∙ ap (option_map (λ y. acting.after_step (replica_state g t r) i (steps.receives_body sender y (view t r) m (body_of l.reply)))) (get_instance g t r i there)
+      ap
+      (λ b.
+      option_map (λ y. acting.after_step (replica_state g t r) i (steps.receives_body sender y (view t r) m b))
+      (slice_get (replica_state g t r).instances i)) l.body
+      ∙ ap
+      (option_map
+      (λ y.
+      acting.after_step (replica_state g t r) i (steps.receives_body sender y (view t r) m (body_of l.reply))))
+      (get_instance g t r i there)
       ∙ ap (λ s. Some (acting.after_step (replica_state g t r) i s)) hears_so
 
   -- ## The second instance: a ballot opens
@@ -168,7 +190,9 @@ module _ (g : Group) (t : Trace) (k : ℕ) (m : Message) (there : m.instance < i
   sent_before n e = subst (λ z. IsIn z (sent (replicas g) t)) (same_Some m n e) was_sent
 
   second_after : proposer_state g (x ∷ t) j r ≡ after_submission (proposer_state g t j r) object_op
-  second_after = opened_after g t j r object_op h d.rests lt x sent_before (only_of j r next of_next) (submitted_with x t j r (vote_at j r object_op) l.vote refl refl)
+  second_after =
+      opened_after g t j r object_op h d.rests lt x sent_before (only_of j r next of_next)
+      (submitted_with x t j r (vote_at j r object_op) l.vote refl refl)
       (reports-away x t j r (λ n e ei er. d.apart (sym ei ∙ ap (λ (z : Message). z.instance) (sym (same_Some m n e)))))
 
   abbrev voted : Instance
@@ -177,9 +201,16 @@ module _ (g : Group) (t : Trace) (k : ℕ) (m : Message) (there : m.instance < i
   second_is : voted ≡ instance_of g (x ∷ t) r j
   unfolding instance_of
   second_is = λ q. record {
-    acceptor = sym (accepted-none x t j r (cond-false ((i == j) && (r == r)) (offered m.body) [] (not_both i r j r (λ e f. d.apart (sym e))))) q;
+    acceptor =
+        sym
+        (accepted-none x t j r
+        (cond-false ((i == j) && (r == r)) (offered m.body) [] (not_both i r j r (λ e f. d.apart (sym e))))) q;
     proposer = sym second_after q;
-    learnt = sym (last_learnt_ballot-none x t j r (cond-false (is_of j r last) (Some last) None (not_both last.instance last.replica j r (λ e f. d.apart (sym e ∙ last_is.instance))))) q;
+    learnt =
+        sym
+        (last_learnt_ballot-none x t j r
+        (cond-false (is_of j r last) (Some last) None
+        (not_both last.instance last.replica j r (λ e f. d.apart (sym e ∙ last_is.instance))))) q;
   }
 
   abbrev casting : Out
@@ -188,9 +219,13 @@ module _ (g : Group) (t : Trace) (k : ℕ) (m : Message) (there : m.instance < i
   submits_so : acting.submits middle j object_op ≡ Some (casting, replica_state g (x ∷ t) r)
   unfolding replica_state instance_of
   submits_so =
-      ap (option_map (λ y. acting.after_step middle j (steps.submits (acting.sender_of middle j) y (view (x ∷ t) r) object_op))) (get_second g x t i j r d.apart there (d.there there) left)
+      ap
+      (option_map
+      (λ y. acting.after_step middle j (steps.submits (acting.sender_of middle j) y (view (x ∷ t) r) object_op)))
+      (get_second g x t i j r d.apart there (d.there there) left)
       ∙ ap₂ (λ w z. Some (record { said = w; mail = z }, record middle { instances = slice_set middle.instances j voted })) (opened_said g t j r object_op h d.rests lt) (opened_mail g t j r object_op h d.rests lt)
-      ∙ ap (λ ys. Some (casting, record middle { instances = ys })) (ap (slice_set middle.instances j) second_is ∙ after_both g x t i j r d.apart there (d.there there) left)
+      ∙ ap (λ ys. Some (casting, record middle { instances = ys }))
+      (ap (slice_set middle.instances j) second_is ∙ after_both g x t i j r d.apart there (d.there there) left)
 
   -- ## Both
 
@@ -208,7 +243,11 @@ module _ (g : Group) (t : Trace) (k : ℕ) (m : Message) (there : m.instance < i
 
   -- the step is what the trace says
   pub votes_as : let y = entry_of (Deliver k) (Some m) (receives g t (Some m)) in StepsAs g t y r (taken_at (replicas g) y) (takes (replica_state g t r) m)
-  votes_as = subst (λ d. let y = entry_of (Deliver k) (Some m) d in StepsAs g t y r (taken_at (replicas g) y) (takes (replica_state g t r) m)) (sym did_is) record {
-    step = takes_so;
-    others = λ q ne. replica_state-left g x t q (λ p. leaves_else p q (λ e f. ne (sym f)) (λ e f. ne (sym f)));
-  }
+  votes_as =
+      subst
+      (λ d.
+      let y = entry_of (Deliver k) (Some m) d in
+      StepsAs g t y r (taken_at (replicas g) y) (takes (replica_state g t r) m)) (sym did_is) record {
+        step = takes_so;
+        others = λ q ne. replica_state-left g x t q (λ p. leaves_else p q (λ e f. ne (sym f)) (λ e f. ne (sym f)));
+      }

@@ -68,17 +68,29 @@ same_made f h e [] = refl
 same_made f h e (x ∷ xs) = ap₂ (λ y ys. y ∷ ys) (e x) (same_made f h e xs)
 
 -- what has absorbed nothing is behind
-unused_behind : (shelves : List ShelfState) (t : Trace) → All (λ (s : ShelfState). s.view ≡ empty) shelves → AreBehind shelves t
-unused_behind shelves t unused r s found = subst (λ v. IsSubset v (view t r)) (sym (subst (λ (z : ShelfState). z.view ≡ empty) (get_or_from_slice_get shelves r s s found) (unused r s (slice_get_within shelves r s found)))) (empty_least (view t r))
+unused_behind : (shelves : List ShelfState) (t : Trace) → All (λ (s : ShelfState). s.view ≡ empty) shelves
+    → AreBehind shelves t
+unused_behind shelves t unused r s found =
+    subst (λ v. IsSubset v (view t r))
+    (sym
+    (subst (λ (z : ShelfState). z.view ≡ empty) (get_or_from_slice_get shelves r s s found)
+    (unused r s (slice_get_within shelves r s found)))) (empty_least (view t r))
 
-pub states_at_start : (c : Config) (kinds : List (List (ℕ × Kind))) → replica_states_at_start c ≡ replica_states (group_of c kinds) []
-states_at_start c kinds = let g = group_of c kinds in sym (same_made (replica_state g []) (λ r. start g.votes r c.cap c.commits) (replica_state_at_start g) (group (replicas g)))
+pub states_at_start : (c : Config) (kinds : List (List (ℕ × Kind)))
+    → replica_states_at_start c ≡ replica_states (group_of c kinds) []
+states_at_start c kinds =
+    let g = group_of c kinds in
+    sym
+    (same_made (replica_state g []) (λ r. start g.votes r c.cap c.commits) (replica_state_at_start g)
+    (group (replicas g)))
 
-pub led_at_start : (g : Group) (states : List ReplicaState) (messages : List Message) → states ≡ replica_states g [] → messages ≡ [] → EventsLeadTo g [] states messages
+pub led_at_start : (g : Group) (states : List ReplicaState) (messages : List Message) → states ≡ replica_states g []
+    → messages ≡ [] → EventsLeadTo g [] states messages
 unfolding trace sent
 led_at_start g states messages are none = record { legal = tt; replica_states = are; sent = none }
 
-pub stands_at_start : (c : Config) (shelves : List ShelfState) → IsGroup c shelves → StandsFor (world_at_start c shelves) []
+pub stands_at_start : (c : Config) (shelves : List ShelfState) → IsGroup c shelves
+    → StandsFor (world_at_start c shelves) []
 unfolding trace sent told learnt
 stands_at_start c shelves is = record {
   config = is.config;
@@ -94,7 +106,8 @@ stands_at_start c shelves is = record {
 
 pub submits_learns : (t : Trace) (i r : ℕ) (object_op : ObjectOp) → learnt_by (submits t i r object_op) ≡ None
 unfolding submits
-submits_learns t i r object_op = go (cond (is_open t i r) None (next_ballot (round t i r) (submitted t i r ++ object_op ∷ [])))
+submits_learns t i r object_op =
+    go (cond (is_open t i r) None (next_ballot (round t i r) (submitted t i r ++ object_op ∷ [])))
   where
     go : (o : Option Opening) → learnt_by (opens_or_waits r (length (submitted t i r ++ object_op ∷ [])) o) ≡ None
     go None = refl
@@ -117,13 +130,16 @@ learnt_said (did.Replied answer) = refl
 
 -- where all replicas but one stay as they were
 pub led_on : (g : Group) (events : List Event) (states : List ReplicaState) (messages : List Message) → EventsLeadTo g events states messages → (e : Event) (r : ℕ) (made : ReplicaState) (mail : List Message) → let t = trace g events in
-    refused g t e ≡ None → ((q : ℕ) → q ≢ r → replica_state g (entry g t e ∷ t) q ≡ replica_state g t q) → r < replicas g → made ≡ replica_state g (entry g t e ∷ t) r → mail ≡ sent_at (replicas g) (entry g t e) → EventsLeadTo g (e ∷ events) (slice_set states r made) (messages ++ mail)
+    refused g t e ≡ None → ((q : ℕ) → q ≢ r → replica_state g (entry g t e ∷ t) q ≡ replica_state g t q)
+    → r < replicas g → made ≡ replica_state g (entry g t e ∷ t) r → mail ≡ sent_at (replicas g) (entry g t e)
+    → EventsLeadTo g (e ∷ events) (slice_set states r made) (messages ++ mail)
 unfolding trace sent
 led_on g events states messages led e r made mail allowed others lt is mails =
     let t = trace g events in
     record {
       legal = (allowed, led.legal);
-      replica_states = ap₂ (λ ms m. slice_set ms r m) led.replica_states is ∙ sym (replica_states-set g (entry g t e) t r others);
+      replica_states =
+          ap₂ (λ ms m. slice_set ms r m) led.replica_states is ∙ sym (replica_states-set g (entry g t e) t r others);
       sent = ap₂ (λ xs ys. xs ++ ys) led.sent mails;
     }
 
@@ -153,20 +169,28 @@ module _ (w : World) (events : List Event) (stands : StandsFor w events) where
   t = trace g events
 
   pub get_replica_state : (r : ℕ) → r < replicas g → slice_get w.replica_states r ≡ Some (replica_state g t r)
-  get_replica_state r lt = ap (λ ms. slice_get ms r) stands.led.replica_states ∙ get_made (replica_state g t) 0 (replicas g) r r lt (omega arith)
+  get_replica_state r lt =
+      ap (λ ms. slice_get ms r) stands.led.replica_states
+      ∙ get_made (replica_state g t) 0 (replicas g) r r lt (omega arith)
 
   count_is : w.count ≡ length t
   count_is = stands.count ∙ sym (length_trace g events)
 
   -- a kept message carries the one that was sent
-  pub get_message : (k : ℕ) (m : code.Message) → slice_get w.messages k ≡ Some m → slice_get (sent (replicas g) t) k ≡ Some (whole_of m)
-  get_message k m stored = sym (message_at w.messages (sent (replicas g) t) k stands.led.sent) ∙ ap (option_map whole_of) stored
+  pub get_message : (k : ℕ) (m : code.Message) → slice_get w.messages k ≡ Some m
+      → slice_get (sent (replicas g) t) k ≡ Some (whole_of m)
+  get_message k m stored =
+      sym (message_at w.messages (sent (replicas g) t) k stands.led.sent) ∙ ap (option_map whole_of) stored
 
   -- and is told as the trace says
-  pub get_told : (k : ℕ) (m : code.Message) → slice_get w.messages k ≡ Some m → slice_get (told (replicas g) t) k ≡ Some m
+  pub get_told : (k : ℕ) (m : code.Message) → slice_get w.messages k ≡ Some m
+      → slice_get (told (replicas g) t) k ≡ Some m
   get_told k m stored = sym (ap (λ ms. slice_get ms k) stands.told) ∙ stored
 
-  pub stands_after : (e : Event) (r : ℕ) → refused g t e ≡ None → ((q : ℕ) → q ≢ r → replica_state g (entry g t e ∷ t) q ≡ replica_state g t q) → r < replicas g → (mail : List code.Message) → mail ≡ told_at (replicas g) (entry g t e) t → StandsFor (world_after w r (replica_state g (entry g t e ∷ t) r) mail (entry g t e).did) (e ∷ events)
+  pub stands_after : (e : Event) (r : ℕ) → refused g t e ≡ None
+      → ((q : ℕ) → q ≢ r → replica_state g (entry g t e ∷ t) q ≡ replica_state g t q) → r < replicas g
+      → (mail : List code.Message) → mail ≡ told_at (replicas g) (entry g t e) t
+      → StandsFor (world_after w r (replica_state g (entry g t e ∷ t) r) mail (entry g t e).did) (e ∷ events)
   unfolding trace told learnt
   stands_after e r allowed others lt mail is =
       let x = entry g t e in
@@ -174,10 +198,14 @@ module _ (w : World) (events : List Event) (stands : StandsFor w events) where
       let states = slice_set w.replica_states r (replica_state g (x ∷ t) r) in
       record {
         config = stands.config;
-        led = subst (EventsLeadTo g (e ∷ events) states) (sym (map-append whole_of w.messages mail)) (led_on g events w.replica_states (whole_mail w.messages) stands.led e r _ (whole_mail mail) allowed others lt refl carry);
+        led =
+            subst (EventsLeadTo g (e ∷ events) states) (sym (map-append whole_of w.messages mail))
+            (led_on g events w.replica_states (whole_mail w.messages) stands.led e r _ (whole_mail mail) allowed others
+            lt refl carry);
         told = ap₂ (λ xs ys. xs ++ ys) stands.told is;
         shelves = stands.shelves;
-        absorbed = λ q s found. subset-trans s.view (view t q) (view (x ∷ t) q) (stands.absorbed q s found) (view_more x t q);
+        absorbed =
+            λ q s found. subset-trans s.view (view t q) (view (x ∷ t) q) (stands.absorbed q s found) (view_more x t q);
         learnt = ap₂ (λ ls n. ls ++ learning_of n (learnt_by x.did)) stands.learnt count_is;
         count = let c = stands.count in omega arith;
       }
@@ -189,37 +217,57 @@ module _ (w : World) (events : List Event) (stands : StandsFor w events) where
   pub record PlaysTo (e : Event) (by : Speaker) (made : Option (Taken × ReplicaState)) : Type 0 where
     pub in_group : by.replica < replicas g
     pub step : made ≡ Some (taken_at (replicas g) (entry g t e), replica_state g (entry g t e ∷ t) by.replica)
-    pub shown : shown_by by w.count (said_by (entry g t e).did) (voted_by (entry g t e).did) ≡ shown_as (replicas g) (length t) (entry g t e).did
+    pub shown : shown_by by w.count (said_by (entry g t e).did) (voted_by (entry g t e).did)
+        ≡ shown_as (replicas g) (length t) (entry g t e).did
     pub sides : AllIn (λ (m : Message). (m.from ≡ by.replica) × (m.to < 8)) (sent_at (replicas g) (entry g t e))
-    pub after : (mail : List code.Message) → mail ≡ told_at (replicas g) (entry g t e) t → StandsFor (world_after w by.replica (replica_state g (entry g t e ∷ t) by.replica) mail (entry g t e).did) (e ∷ events)
+    pub after : (mail : List code.Message) → mail ≡ told_at (replicas g) (entry g t e) t
+        → StandsFor (world_after w by.replica (replica_state g (entry g t e ∷ t) by.replica) mail (entry g t e).did)
+        (e ∷ events)
 
   -- a speaker of this world that speaks of an event
-  shown_so : (by : Speaker) (d : Did) → by.replicas ≡ w.config.replicas → SpeaksOf by d → shown_by by w.count (said_by d) (voted_by d) ≡ shown_as (replicas g) (length t) d
-  shown_so by d n h = shown_is by w.count d h ∙ ap₂ (λ k place. shown_as k place d) (n ∙ stands.config.group.replicas) count_is
+  shown_so : (by : Speaker) (d : Did) → by.replicas ≡ w.config.replicas → SpeaksOf by d
+      → shown_by by w.count (said_by d) (voted_by d) ≡ shown_as (replicas g) (length t) d
+  shown_so by d n h =
+      shown_is by w.count d h ∙ ap₂ (λ k place. shown_as k place d) (n ∙ stands.config.group.replicas) count_is
 
   submits_plain : (i r : ℕ) (object_op : ObjectOp) → is_answer (submits t i r object_op) ≡ false
   unfolding submits
-  submits_plain i r object_op = go (cond (is_open t i r) None (next_ballot (round t i r) (submitted t i r ++ object_op ∷ [])))
+  submits_plain i r object_op =
+      go (cond (is_open t i r) None (next_ballot (round t i r) (submitted t i r ++ object_op ∷ [])))
     where
       go : (o : Option Opening) → is_answer (opens_or_waits r (length (submitted t i r ++ object_op ∷ [])) o) ≡ false
       go None = refl
       go (Some b) = refl
 
-  pub submission_plays : (e : Event) (i r : ℕ) (object_op : ObjectOp) → IsSubmission e i r object_op → refused g t e ≡ None → PlaysTo e (submitter_speaks w i r) (submission (acting.submits (replica_state g t r) i object_op))
+  pub submission_plays : (e : Event) (i r : ℕ) (object_op : ObjectOp) → IsSubmission e i r object_op
+      → refused g t e ≡ None
+      → PlaysTo e (submitter_speaks w i r) (submission (acting.submits (replica_state g t r) i object_op))
   submission_plays e i r object_op by allowed =
       let lt = submission_replica g t i r object_op e by allowed in
-      let h = legal_submits g events stands.led.legal few e i r object_op by (submission_instance g t i r object_op e by allowed) lt in
+      let h =
+      legal_submits g events stands.led.legal few e i r object_op by
+      (submission_instance g t i r object_op e by allowed) lt in
       let d = submits t i r object_op in
       let x : Entry = entry_of e None d in
       let same : entry g t e ≡ x = submission_entry g t i r object_op e by in
-      let others : (q : ℕ) → q ≢ r → replica_state g (entry g t e ∷ t) q ≡ replica_state g t q = subst (λ (y : Entry). (q : ℕ) → q ≢ r → replica_state g (y ∷ t) q ≡ replica_state g t q) (sym same) (λ q ne. replica_state-else g x t i r q h.concerns ne) in
+      let others : (q : ℕ) → q ≢ r → replica_state g (entry g t e ∷ t) q ≡ replica_state g t q =
+      subst (λ (y : Entry). (q : ℕ) → q ≢ r → replica_state g (y ∷ t) q ≡ replica_state g t q) (sym same)
+      (λ q ne. replica_state-else g x t i r q h.concerns ne) in
       let none = submits_learns t i r object_op in
       let voted : voted_by d ≡ None = ap (λ o. voted_with (opened_by d) (second_vote_after o)) none in
       record {
         in_group = lt;
-        step = subst (λ (y : Entry). submission (acting.submits (replica_state g t r) i object_op) ≡ Some (taken_at (replicas g) y, replica_state g (y ∷ t) r)) (sym same)
+        step =
+            subst
+            (λ (y : Entry).
+            submission (acting.submits (replica_state g t r) i object_op)
+            ≡ Some (taken_at (replicas g) y, replica_state g (y ∷ t) r)) (sym same)
             (ap submission h.step ∙ ap (λ v. Some (record { said = said_by d; voted = v; mail = sent_at (replicas g) x }, replica_state g (x ∷ t) r)) (sym voted));
-        shown = subst (λ (y : Entry). shown_by (submitter_speaks w i r) w.count (said_by y.did) (voted_by y.did) ≡ shown_as (replicas g) (length t) y.did) (sym same)
+        shown =
+            subst
+            (λ (y : Entry).
+            shown_by (submitter_speaks w i r) w.count (said_by y.did) (voted_by y.did)
+            ≡ shown_as (replicas g) (length t) y.did) (sym same)
             (shown_so (submitter_speaks w i r) d refl (record {
               opened = λ b f. (h.concerns.opened b f).replica;
               here = λ b f unvoted. (h.concerns.opened b f).instance;
@@ -228,8 +276,10 @@ module _ (w : World) (events : List Event) (stands : StandsFor w events) where
               outcome = λ b f. absurd (none-some b (sym none ∙ f));
               no_answer = submits_plain i r object_op;
             }));
-        sides = subst (λ (y : Entry). AllIn (λ (m : Message). (m.from ≡ r) × (m.to < 8)) (sent_at (replicas g) y)) (sym same)
-            (sent_sides (replicas g) r None d few (λ b f. (h.concerns.opened b f).replica) (λ b f. absurd (none-some b (sym none ∙ f))) (λ m f. absurd (none-some m f)));
+        sides =
+            subst (λ (y : Entry). AllIn (λ (m : Message). (m.from ≡ r) × (m.to < 8)) (sent_at (replicas g) y)) (sym same)
+            (sent_sides (replicas g) r None d few (λ b f. (h.concerns.opened b f).replica)
+            (λ b f. absurd (none-some b (sym none ∙ f))) (λ m f. absurd (none-some m f)));
         after = stands_after e r allowed others lt;
       }
 
@@ -239,25 +289,33 @@ module _ (w : World) (events : List Event) (stands : StandsFor w events) where
   pub receiver_in_group : (k : ℕ) (m : code.Message) → slice_get w.messages k ≡ Some m → m.to < replicas g
   receiver_in_group k m stored = (legal_between g events stands.led.legal k (whole_of m) (get_message k m stored)).to
 
-  pub delivery_step : (k : ℕ) (m : code.Message) → slice_get w.messages k ≡ Some m → refused g t (Deliver k) ≡ None → takes (replica_state g t m.to) (whole_of m) ≡ Some (taken_at (replicas g) (entry g t (Deliver k)), replica_state g (entry g t (Deliver k) ∷ t) m.to)
-  delivery_step k m stored allowed = (delivery_steps g events k (whole_of m) few stands.led.legal (get_message k m stored)).step
+  pub delivery_step : (k : ℕ) (m : code.Message) → slice_get w.messages k ≡ Some m → refused g t (Deliver k) ≡ None
+      → takes (replica_state g t m.to) (whole_of m)
+      ≡ Some (taken_at (replicas g) (entry g t (Deliver k)), replica_state g (entry g t (Deliver k) ∷ t) m.to)
+  delivery_step k m stored allowed =
+      (delivery_steps g events k (whole_of m) few stands.led.legal (get_message k m stored)).step
 
   -- of the kept message with this number, where its receiver learns this by it
-  pub delivery_plays : (k : ℕ) (m : code.Message) → slice_get w.messages k ≡ Some m → refused g t (Deliver k) ≡ None → (copy : Option Histories) → copy ≡ learnt_in (said_by (entry g t (Deliver k)).did) → PlaysTo (Deliver k) (receiver_speaks w m copy) (takes (replica_state g t m.to) (whole_of m))
+  pub delivery_plays : (k : ℕ) (m : code.Message) → slice_get w.messages k ≡ Some m → refused g t (Deliver k) ≡ None
+      → (copy : Option Histories) → copy ≡ learnt_in (said_by (entry g t (Deliver k)).did)
+      → PlaysTo (Deliver k) (receiver_speaks w m copy) (takes (replica_state g t m.to) (whole_of m))
   delivery_plays k m stored allowed copy kept =
       let v = whole_of m in
       let is : slice_get (sent (replicas g) t) k ≡ Some v = get_message k m stored in
       let h = delivery_steps g events k v few stands.led.legal is in
       let placed = delivery_placed g events stands.led.legal few k v is in
       let lt = (legal_between g events stands.led.legal k v is).to in
-      let same : (entry g t (Deliver k)).did ≡ receives g t (Some v) = ap (λ (y : Entry). y.did) (entry_delivers g t k v is) in
+      let same : (entry g t (Deliver k)).did ≡ receives g t (Some v) =
+      ap (λ (y : Entry). y.did) (entry_delivers g t k v is) in
       let d = receives g t (Some v) in
       let by = receiver_speaks w m copy in
-      let learnt_copy : copy ≡ option_map (λ (b : Opening). b.updates) (learnt_by d) = kept ∙ ap (λ y. learnt_in (said_by y)) same ∙ learnt_said d in
+      let learnt_copy : copy ≡ option_map (λ (b : Opening). b.updates) (learnt_by d) =
+      kept ∙ ap (λ y. learnt_in (said_by y)) same ∙ learnt_said d in
       record {
         in_group = lt;
         step = h.step;
-        shown = subst (λ y. shown_by by w.count (said_by y) (voted_by y) ≡ shown_as (replicas g) (length t) y) (sym same)
+        shown =
+            subst (λ y. shown_by by w.count (said_by y) (voted_by y) ≡ shown_as (replicas g) (length t) y) (sym same)
             (shown_so by d refl (record {
               opened = λ b f. (placed.opened b f).replica;
               here = λ b f unvoted. (placed.opened b f).instance ∙ ap (opens_in m.instance) unvoted;
@@ -266,22 +324,30 @@ module _ (w : World) (events : List Event) (stands : StandsFor w events) where
               outcome = λ b f. outcome_so m copy d placed learnt_copy b f;
               no_answer = placed.no_answer;
             }));
-        sides = subst (λ (y : Entry). AllIn (λ (n : Message). (n.from ≡ m.to) × (n.to < 8)) (sent_at (replicas g) y)) (sym (entry_delivers g t k v is))
+        sides =
+            subst (λ (y : Entry). AllIn (λ (n : Message). (n.from ≡ m.to) × (n.to < 8)) (sent_at (replicas g) y))
+            (sym (entry_delivers g t k v is))
             (sent_sides (replicas g) m.to (Some v) d few (λ b f. (placed.opened b f).replica) (λ b f. (placed.learnt b f).replica)
             (λ n f. let one = same_Some v n f in (ap (λ (z : Message). z.to) (sym one), subst (λ (z : Message). z.from < replicas g) one (legal_between g events stands.led.legal k v is).from)));
         after = stands_after (Deliver k) m.to allowed h.others lt;
       }
     where
-      outcome_so : (m : code.Message) (copy : Option Histories) (d : Did) → IsPlaced m.instance m.to d → copy ≡ option_map (λ (b : Opening). b.updates) (learnt_by d) → (b : Opening) → learnt_by d ≡ Some b → option_and_then (outcome_in m.instance m.to) copy ≡ outcome_by b
+      outcome_so : (m : code.Message) (copy : Option Histories) (d : Did) → IsPlaced m.instance m.to d
+          → copy ≡ option_map (λ (b : Opening). b.updates) (learnt_by d) → (b : Opening) → learnt_by d ≡ Some b
+          → option_and_then (outcome_in m.instance m.to) copy ≡ outcome_by b
       outcome_so m copy d placed c b f =
           let of = placed.learnt b f in
           ap (option_and_then (outcome_in m.instance m.to)) (c ∙ ap (option_map (λ (b : Opening). b.updates)) f)
           ∙ ap₂ (λ j q. outcome_in j q b.updates) (sym of.instance) (sym of.replica)
 
   -- a kept message fits its receiver
-  pub message_fits : (k : ℕ) (m : code.Message) → slice_get w.messages k ≡ Some m → FitsReceiver (replica_state g t m.to) (whole_of m)
-  message_fits k m stored = (delivery_fits g events k (whole_of m) few stands.config.group.cap_most stands.led.legal (get_message k m stored)).0
+  pub message_fits : (k : ℕ) (m : code.Message) → slice_get w.messages k ≡ Some m
+      → FitsReceiver (replica_state g t m.to) (whole_of m)
+  message_fits k m stored =
+      (delivery_fits g events k (whole_of m) few stands.config.group.cap_most stands.led.legal (get_message k m stored)).0
 
   -- a kept message stands at its receiver for what was sent
-  pub deliverable : (k : ℕ) (m : code.Message) → slice_get w.messages k ≡ Some m → IsDeliverableAt (instance_of g t m.to m.instance) m
-  deliverable k m stored = told_deliverable g events stands.led.legal stands.config.group.cap_most k m (get_told k m stored)
+  pub deliverable : (k : ℕ) (m : code.Message) → slice_get w.messages k ≡ Some m
+      → IsDeliverableAt (instance_of g t m.to m.instance) m
+  deliverable k m stored =
+      told_deliverable g events stands.led.legal stands.config.group.cap_most k m (get_told k m stored)

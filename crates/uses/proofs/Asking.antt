@@ -26,19 +26,25 @@ stands_at (s ∷ ss) (suc r) lt =
     let rest = stands_at ss r (omega arith) in
     record { shelf = rest.shelf; there = (suc rest.there.0, omega arith, rest.there.2); kinds = rest.kinds }
 
-one_kind : (c : Config) (shelves : List ShelfState) → IsGroup c shelves → HaveOneKind shelves → (r q number : ℕ) → r < replicas (group_of c (kinds_of shelves)) → q < replicas (group_of c (kinds_of shelves))
-    → kind_at (kinds_on (group_of c (kinds_of shelves)) r) number ≡ kind_at (kinds_on (group_of c (kinds_of shelves)) q) number
+one_kind : (c : Config) (shelves : List ShelfState) → IsGroup c shelves → HaveOneKind shelves → (r q number : ℕ)
+    → r < replicas (group_of c (kinds_of shelves)) → q < replicas (group_of c (kinds_of shelves))
+    → kind_at (kinds_on (group_of c (kinds_of shelves)) r) number
+    ≡ kind_at (kinds_on (group_of c (kinds_of shelves)) q) number
 one_kind c shelves h one r q number lr lq =
     let few = h.config.group.replicas in
     let each = h.one_each in
     let a = stands_at shelves r (omega arith) in
     let b = stands_at shelves q (omega arith) in
-    ap (λ ks. kind_at ks number) a.kinds ∙ one a.shelf b.shelf number a.there b.there ∙ ap (λ ks. kind_at ks number) (sym b.kinds)
+    ap (λ ks. kind_at ks number) a.kinds ∙ one a.shelf b.shelf number a.there b.there
+    ∙ ap (λ ks. kind_at ks number) (sym b.kinds)
 
 pub run_answers_agree : (c : Config) (shelves : List ShelfState) (events : List Event) (r : Result Report WorldError)
-    → IfOk r (λ (made : Report). EqualViewsAnswerAlike (group_of c (kinds_of shelves)) events made.steps) → OnOk r (IsGroup c shelves) → HaveOneKind shelves
+    → IfOk r (λ (made : Report). EqualViewsAnswerAlike (group_of c (kinds_of shelves)) events made.steps)
+    → OnOk r (IsGroup c shelves) → HaveOneKind shelves
     → IfOk r (λ (made : Report). AnswersAgree (group_of c (kinds_of shelves)) events made.steps)
-run_answers_agree c shelves events (Ok made) alike h one = λ j k r q object query a b lr lq x y views. alike j k r q object query a b x y (one_kind c shelves h one r q object lr lq) views
+run_answers_agree c shelves events (Ok made) alike h one =
+    λ j k r q object query a b lr lq x y views.
+    alike j k r q object query a b x y (one_kind c shelves h one r q object lr lq) views
 run_answers_agree c shelves events (Err d) alike h one = tt
 
 -- ## Shelves without objects

@@ -34,35 +34,54 @@ is_parcel_of : (p : Parcel) (believed : Counts) (m : code.Message) → p ≡ wra
 is_parcel_of p believed m is =
     (believed, subst (λ q. AreAlikeParcels p q) is (record { instance = refl; from = refl; to = refl; ballot = refl; content = contents_refl p.content }))
 
-pub one_more : (parcels : List Parcel) (p : Parcel) (believed : Counts) (m : code.Message) (network : List code.Message) → p ≡ wrapped believed m → Contains network m → AreParcelsAmong parcels network → AreParcelsAmong (parcels ++ p ∷ []) network
+pub one_more : (parcels : List Parcel) (p : Parcel) (believed : Counts) (m : code.Message) (network : List code.Message)
+    → p ≡ wrapped believed m → Contains network m → AreParcelsAmong parcels network
+    → AreParcelsAmong (parcels ++ p ∷ []) network
 one_more parcels p believed m network is has among q within = elim (Contains-push_cases parcels p q within) [
   | inl was ↦ among q was
   | inr same ↦ subst (λ z. IsParcelAmong z network) same (m, has, is_parcel_of p believed m is)
 ]
 
-pub still_among : (parcels : List Parcel) (network mail : List code.Message) → AreParcelsAmong parcels network → AreParcelsAmong parcels (network ++ mail)
-still_among parcels network mail among p has = let a = among p has in (a.0, Contains-append_left network mail a.0 a.1, a.2)
+pub still_among : (parcels : List Parcel) (network mail : List code.Message) → AreParcelsAmong parcels network
+    → AreParcelsAmong parcels (network ++ mail)
+still_among parcels network mail among p has =
+    let a = among p has in (a.0, Contains-append_left network mail a.0 a.1, a.2)
 
 -- ## Calls
 
 -- parcels after mail was taken along
 abbrev pub TakesAlong : (before after : List Parcel) → (mail : List code.Message) → Type 0
-TakesAlong before after mail = (network : List code.Message) → AreParcelsAmong before network → AreParcelsAmong after (network ++ mail)
+TakesAlong before after mail =
+    (network : List code.Message) → AreParcelsAmong before network → AreParcelsAmong after (network ++ mail)
 
-module _ (nodes : List NodeState) (parcels left : List Parcel) (r : ℕ) (node made : NodeState) (at : slice_get nodes r ≡ Some node) where
-  pub submitted : SubmissionsKeepLive → (d : ObjectOp) (out : code_out.Out) → HasRoom node.replica 0 → submits node.replica 0 d ≡ Some (whole_out out, made.replica) → ((offered : Counts) → AreToldFrom made.replica 0 offered out.mail)
-      → TakesAlong parcels left out.mail → AreLiveBy nodes parcels → AreLiveBy (slice_set nodes r made) left
-  submitted keep d out room step told along (network, live, among) =
-      (network ++ out.mail, keep nodes network out.mail r node made d out live at room step told (as_sent out.mail), along network among)
+module _ (nodes : List NodeState) (parcels left : List Parcel) (r : ℕ) (node made : NodeState)
+    (at : slice_get nodes r ≡ Some node) where
+  pub submitted : SubmissionsKeepLive → (d : ObjectOp) (out : code_out.Out) → HasRoom node.replica 0
+      → submits node.replica 0 d ≡ Some (whole_out out, made.replica)
+      → ((offered : Counts) → AreToldFrom made.replica 0 offered out.mail) → TakesAlong parcels left out.mail
+      → AreLiveBy nodes parcels → AreLiveBy (slice_set nodes r made) left
+  submitted keep d out room step told along (network, live, among) = (
+    network
+        ++ out.mail,
+    keep nodes network out.mail r node made d out live at room step told (as_sent out.mail),
+    along
+        network among,
+  )
 
-  pub received : ParcelReceiptsKeepLive → (p : Parcel) (done : Done) → p.to ≡ r → UnwrapsIn node.replica p → StandsIn node.replica (unwrapped_in node.replica p) → takes node.replica (received_in node.replica (unwrapped_in node.replica p)) ≡ Some (whole_done done, made.replica)
-      → AreToldIn made.replica (offered_by (received_in node.replica (unwrapped_in node.replica p))) done.mail → TakesAlong parcels left done.mail → AreLiveBy nodes (p ∷ parcels) → AreLiveBy (slice_set nodes r made) left
+  pub received : ParcelReceiptsKeepLive → (p : Parcel) (done : Done) → p.to ≡ r → UnwrapsIn node.replica p
+      → StandsIn node.replica (unwrapped_in node.replica p)
+      → takes node.replica (received_in node.replica (unwrapped_in node.replica p)) ≡ Some (whole_done done, made.replica)
+      → AreToldIn made.replica (offered_by (received_in node.replica (unwrapped_in node.replica p))) done.mail
+      → TakesAlong parcels left done.mail → AreLiveBy nodes (p ∷ parcels) → AreLiveBy (slice_set nodes r made) left
   received keep p done to unwraps over step told along (network, live, among) = (
     network ++ done.mail,
-    keep nodes network done.mail r node made p done live at (among p (0, omega arith, refl)) to unwraps over step told (as_sent done.mail),
+    keep nodes network done.mail r node made p done live at (among p (0, omega arith, refl)) to unwraps over step told
+        (as_sent done.mail),
     along network (λ q has. among q (Contains-append_right (p ∷ []) parcels q has)),
   )
 
 -- where one is lost
-pub lost : (nodes : List NodeState) (parcels : List Parcel) (p : Parcel) → AreLiveBy nodes (p ∷ parcels) → AreLiveBy nodes parcels
-lost nodes parcels p (network, live, among) = (network, live, λ q has. among q (Contains-append_right (p ∷ []) parcels q has))
+pub lost : (nodes : List NodeState) (parcels : List Parcel) (p : Parcel) → AreLiveBy nodes (p ∷ parcels)
+    → AreLiveBy nodes parcels
+lost nodes parcels p (network, live, among) =
+    (network, live, λ q has. among q (Contains-append_right (p ∷ []) parcels q has))

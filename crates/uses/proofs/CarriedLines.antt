@@ -11,10 +11,13 @@ use Rattle.la_lines.specs.Calls.{Call, Receive}
 use Rattle.la_lines.specs.CallLines.{call_of, said, text, named}
 use Rattle.la_lines.specs.Writable.{IsCall, IsMessage}
 
-module _ (back : (c : Call) → IsCall c → named (text c) ≡ Some c) (alike : (a b : Letter) → said_by a ≡ said_by b → AreAlike a.message b.message) where
-  same_said : (line : List ℕ) (x y : lines.Message) → IsMessage x → line ≡ message_text x → call_of line ≡ Ok (Receive y) → x ≡ y
+module _ (back : (c : Call) → IsCall c → named (text c) ≡ Some c)
+    (alike : (a b : Letter) → said_by a ≡ said_by b → AreAlike a.message b.message) where
+  same_said : (line : List ℕ) (x y : lines.Message) → IsMessage x → line ≡ message_text x
+      → call_of line ≡ Ok (Receive y) → x ≡ y
   same_said line x y is written read =
-      let e : Some (Receive y) ≡ Some (Receive x) = sym (ap said (ap call_of (sym written) ∙ read)) ∙ back (Receive x) is in
+      let e : Some (Receive y) ≡ Some (Receive x) =
+      sym (ap said (ap call_of (sym written) ∙ read)) ∙ back (Receive x) is in
       cc
 
   pub carries : (replicas : ℕ) (m : Message) (line : List ℕ) (r : Result (Option Message) LineError) → IsMessage (said_by (record { replicas = replicas; message = m })) → line ≡ message_text (said_by (record { replicas = replicas; message = m })) → IfOk r (λ came. IfSome came (λ n. call_of line ≡ Ok (Receive (said_by (record { replicas = replicas; message = n }))))) → IfOk r (λ came. IfSome came (AreAlike m))

@@ -19,15 +19,22 @@ use Rattle.la_world.specs.Reading.{vote_after, submission_at, Submits, LearntWer
 use Rattle.uses.specs.Promises.{MarksShowWhatWasLearnt, OffersAreLearnt, NothingIsMadeUp}
 
 pub run_counts_by_marks : (g : Group) (events : List Event) (r : Result Report WorldError)
-    → IfOk r (λ (made : Report). MarksAreRead g events made.steps) → IfOk r (λ (made : Report). MarksShowWhatWasLearnt g events made.steps)
-run_counts_by_marks g events (Ok made) reads = λ i m j k object early x update mark query answer at_early of_early held marked before at_x of_x has later asked.
-    let h = reads m j k object mark x query answer marked.submitted at_x of_x (subst (λ o. IsSome o) (sym has) refl) later asked in
+    → IfOk r (λ (made : Report). MarksAreRead g events made.steps)
+    → IfOk r (λ (made : Report). MarksShowWhatWasLearnt g events made.steps)
+run_counts_by_marks g events (Ok made) reads =
+    λ i m j k object early x update mark query answer at_early of_early held marked before at_x of_x has later asked.
+    let h =
+    reads m j k object mark x query answer marked.submitted at_x of_x (subst (λ o. IsSome o) (sym has) refl) later
+    asked in
     record { set = h.read.updates; value = h.value; holds = h.current i early at_early before of_early update held }
 run_counts_by_marks g events (Err d) reads = tt
 
-pub run_learns_offers : (events : List Event) (r : Result Report WorldError) → IfOk r (λ (made : Report). LearntHoldTheirOwn events made.steps) → IfOk r (λ (made : Report). OffersAreLearnt events made.steps)
+pub run_learns_offers : (events : List Event) (r : Result Report WorldError)
+    → IfOk r (λ (made : Report). LearntHoldTheirOwn events made.steps)
+    → IfOk r (λ (made : Report). OffersAreLearnt events made.steps)
 run_learns_offers events (Ok made) own = λ k place update x offered at later of_objects by.
-    own k place k offered.ballot x update offered.opened at later (offered.of_objects ∙ sym of_objects) (offered.by ∙ sym by)
+    own k place k offered.ballot x update offered.opened at later (offered.of_objects ∙ sym of_objects)
+    (offered.by ∙ sym by)
     (subst (λ i. Submits events made.steps k i update) (sym of_objects) offered.submitted) (sym by) (omega arith)
 run_learns_offers events (Err d) own = tt
 
@@ -37,7 +44,8 @@ run_learns_offers events (Err d) own = tt
 no_vote : (x : Learnt) (s : Submission) → second_vote_in x.instance x.replica x.updates ≡ Some s → s.instance ≡ 0 → ⊥
 no_vote x s e at = go (is_first_instance x.instance) (proposed x.updates x.replica) e
   where
-    go : (v : Bool) (o : Option ℕ) → cond v (second_vote_of (commit_of x.instance) x.replica x.updates o) None ≡ Some s → ⊥
+    go : (v : Bool) (o : Option ℕ) → cond v (second_vote_of (commit_of x.instance) x.replica x.updates o) None ≡ Some s
+        → ⊥
     go false o k = none-some s k
     go true None k = none-some s k
     go true (Some value) k = omega (arith, ap (λ (z : Submission). z.instance) (same_Some _ s k), at)
@@ -45,8 +53,10 @@ no_vote x s e at = go (is_first_instance x.instance) (proposed x.updates x.repli
 -- so it is submitted as such
 by_submission : (e : Event) (l : Line) (u : Update) → submission_at e l ≡ Some (record { instance = 0; replica = u.id.replica; object_op = object_op_of u }) → e ≡ Submit u.id.replica (object_op_of u)
 by_submission e (Refused name) u s = absurd (none-some _ s)
-by_submission (Submit r object_op) (Done step) u s = ap (λ (z : Submission). Submit z.replica z.object_op) (same_Some _ _ s)
-by_submission (Decide r k value) (Done step) u s = absurd (omega (arith, ap (λ (z : Submission). z.instance) (same_Some _ _ s)))
+by_submission (Submit r object_op) (Done step) u s =
+    ap (λ (z : Submission). Submit z.replica z.object_op) (same_Some _ _ s)
+by_submission (Decide r k value) (Done step) u s =
+    absurd (omega (arith, ap (λ (z : Submission). z.instance) (same_Some _ _ s)))
 by_submission (Ask r object query) (Done step) u s = absurd (none-some _ s)
 by_submission (Deliver n) (Done step) u s = go (learnt_in step.did) s
   where
@@ -54,7 +64,9 @@ by_submission (Deliver n) (Done step) u s = go (learnt_in step.did) s
     go None k = absurd (none-some _ k)
     go (Some x) k = absurd (no_vote x _ k refl)
 
-pub run_makes_nothing_up : (events : List Event) (r : Result Report WorldError) → IfOk r (λ (made : Report). LearntWereSubmitted events made.steps) → IfOk r (λ (made : Report). NothingIsMadeUp events made.steps)
+pub run_makes_nothing_up : (events : List Event) (r : Result Report WorldError)
+    → IfOk r (λ (made : Report). LearntWereSubmitted events made.steps)
+    → IfOk r (λ (made : Report). NothingIsMadeUp events made.steps)
 run_makes_nothing_up events (Ok made) were = λ place x update at of_objects held.
     let p = were place x update at held in
     let s = subst (λ i. Submits events made.steps p.0 i update) of_objects p.2 in

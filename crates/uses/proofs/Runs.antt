@@ -37,13 +37,17 @@ the_one y x c = go c.0 c.1 c.2
     go (suc k) lt e = absurd (omega arith)
 
 own_set : (b : Opening) → b.instance ≡ 0 → Contains (set_of (only 0 b.replica (Some b))) b.updates
-own_set b e = subst (λ v. Contains (set_of (cond v (Some b) None)) b.updates) (sym (ap₂ (λ x y. x && y) (eq-eqb b.instance 0 e) (eq-eqb b.replica b.replica refl))) (0, omega arith, refl)
+own_set b e =
+    subst (λ v. Contains (set_of (cond v (Some b) None)) b.updates)
+    (sym (ap₂ (λ x y. x && y) (eq-eqb b.instance 0 e) (eq-eqb b.replica b.replica refl))) (0, omega arith, refl)
 
-learnt_now : (place : ℕ) (o : Option Opening) (x : Learnt) → Contains (learning_of place o) x → x.instance ≡ 0 → Contains (set_of (only 0 x.replica o)) x.updates
+learnt_now : (place : ℕ) (o : Option Opening) (x : Learnt) → Contains (learning_of place o) x → x.instance ≡ 0
+    → Contains (set_of (only 0 x.replica o)) x.updates
 learnt_now place None x c e = absurd (none_in x c)
 learnt_now place (Some b) x c e =
     let same = the_one (learning place b) x c in
-    subst (λ (y : Learnt). Contains (set_of (only 0 y.replica (Some b))) y.updates) same (own_set b (ap (λ (y : Learnt). y.instance) same ∙ e))
+    subst (λ (y : Learnt). Contains (set_of (only 0 y.replica (Some b))) y.updates) same
+    (own_set b (ap (λ (y : Learnt). y.instance) same ∙ e))
 
 learnt_seen : (t : Trace) (x : Learnt) → Contains (learnt t) x → x.instance ≡ 0 → Contains (seen t x.replica) x.updates
 unfolding learnt seen
@@ -59,27 +63,44 @@ learnt_seen (y ∷ t) x c e =
 -- ## The views of a report
 
 -- what stands at a place of a list that is made from the numbers on
-each_from : {A : Type 0} (f : ℕ → A) (P : A → Type 0) (from n r : ℕ) → P (f (from + r)) → IfSome (slice_get (map f (range_with_len from n)) r) P
+each_from : {A : Type 0} (f : ℕ → A) (P : A → Type 0) (from n r : ℕ) → P (f (from + r))
+    → IfSome (slice_get (map f (range_with_len from n)) r) P
 each_from f P from zero r h = tt
 each_from f P from (suc n) zero h = let e : from + 0 ≡ from = omega arith in subst (λ k. P (f k)) e h
-each_from f P from (suc n) (suc r) h = let e : from + suc r ≡ (from + 1) + r = omega arith in each_from f P (from + 1) n r (subst (λ k. P (f k)) e h)
+each_from f P from (suc n) (suc r) h =
+    let e : from + suc r ≡ (from + 1) + r = omega arith in each_from f P (from + 1) n r (subst (λ k. P (f k)) e h)
 
-views_hold : ViewsAreLargest → (g : Group) (events : List Event) → ViewsHoldTheirOwn (views g (trace g events)) (learnt (trace g events))
+views_hold : ViewsAreLargest → (g : Group) (events : List Event)
+    → ViewsHoldTheirOwn (views g (trace g events)) (learnt (trace g events))
 views_hold law g events x c e =
     let t = trace g events in
     let r : x.replica ≡ 0 + x.replica = omega arith in
-    each_from (view t) (IsSubset x.updates) 0 (replicas g) x.replica (subst (λ k. IsSubset x.updates (view t k)) r ((law g events x.replica).contains x.updates (learnt_seen t x c e)))
+    each_from (view t) (IsSubset x.updates) 0 (replicas g) x.replica
+    (subst (λ k. IsSubset x.updates (view t k)) r ((law g events x.replica).contains x.updates (learnt_seen t x c e)))
 
-pub run_shows : ViewsAreLargest → (c : Config) (kinds : List (List (ℕ × Kind))) (events : List Event) (r : Result Report WorldError) → IfOk r (λ made. made ≡ report c kinds events) → IfOk r (λ (made : Report). ViewsHoldTheirOwn made.views made.learnt)
-run_shows law c kinds events (Ok made) e = subst (λ (m : Report). ViewsHoldTheirOwn m.views m.learnt) (sym e) (views_hold law (group_of c kinds) (accepted c kinds events))
+pub run_shows : ViewsAreLargest
+    → (c : Config) (kinds : List (List (ℕ × Kind))) (events : List Event) (r : Result Report WorldError)
+    → IfOk r (λ made. made ≡ report c kinds events) → IfOk r (λ (made : Report). ViewsHoldTheirOwn made.views made.learnt)
+run_shows law c kinds events (Ok made) e =
+    subst (λ (m : Report). ViewsHoldTheirOwn m.views m.learnt) (sym e)
+    (views_hold law (group_of c kinds) (accepted c kinds events))
 run_shows law c kinds events (Err d) e = tt
 
 -- ## Outcomes
 
-pub run_agrees : ReportedOutcomesAreSafe → (c : Config) (shelves : List ShelfState) (events : List Event) (r : Result Report WorldError) → IfOk r (λ made. made ≡ report c (kinds_of shelves) events) → OnOk r (IsGroup c shelves) → IfOk r (λ (made : Report). CommitsAgree made.outcomes)
-run_agrees law c shelves events (Ok made) e is = subst (λ (m : Report). CommitsAgree m.outcomes) (sym e) (law c (kinds_of shelves) events is.config).agree
+pub run_agrees : ReportedOutcomesAreSafe
+    → (c : Config) (shelves : List ShelfState) (events : List Event) (r : Result Report WorldError)
+    → IfOk r (λ made. made ≡ report c (kinds_of shelves) events) → OnOk r (IsGroup c shelves)
+    → IfOk r (λ (made : Report). CommitsAgree made.outcomes)
+run_agrees law c shelves events (Ok made) e is =
+    subst (λ (m : Report). CommitsAgree m.outcomes) (sym e) (law c (kinds_of shelves) events is.config).agree
 run_agrees law c shelves events (Err d) e is = tt
 
-pub run_returns_proposed : ReportedOutcomesAreSafe → (c : Config) (shelves : List ShelfState) (events : List Event) (r : Result Report WorldError) → IfOk r (λ made. made ≡ report c (kinds_of shelves) events) → OnOk r (IsGroup c shelves) → IfOk r (λ (made : Report). ReturnsAreProposed (accepted_among events made.steps) made.outcomes)
-run_returns_proposed law c shelves events (Ok made) e is = subst (λ (m : Report). ReturnsAreProposed (accepted_among events m.steps) m.outcomes) (sym e) (law c (kinds_of shelves) events is.config).proposed
+pub run_returns_proposed : ReportedOutcomesAreSafe
+    → (c : Config) (shelves : List ShelfState) (events : List Event) (r : Result Report WorldError)
+    → IfOk r (λ made. made ≡ report c (kinds_of shelves) events) → OnOk r (IsGroup c shelves)
+    → IfOk r (λ (made : Report). ReturnsAreProposed (accepted_among events made.steps) made.outcomes)
+run_returns_proposed law c shelves events (Ok made) e is =
+    subst (λ (m : Report). ReturnsAreProposed (accepted_among events m.steps) m.outcomes) (sym e)
+    (law c (kinds_of shelves) events is.config).proposed
 run_returns_proposed law c shelves events (Err d) e is = tt

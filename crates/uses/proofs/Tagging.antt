@@ -48,7 +48,8 @@ same_there xs ys new there h = λ id. (
 )
 
 -- an id that comes to both
-same_new : (xs more ys : List UpdateId) (new : UpdateId) → ((id : UpdateId) → Contains more id ↔ ((id ≡ new) ⊎ Contains xs id)) → SameIds xs ys → SameIds more (ys ++ new ∷ [])
+same_new : (xs more ys : List UpdateId) (new : UpdateId)
+    → ((id : UpdateId) → Contains more id ↔ ((id ≡ new) ⊎ Contains xs id)) → SameIds xs ys → SameIds more (ys ++ new ∷ [])
 same_new xs more ys new members h = λ id. (
   λ c. elim ((members id).0 c) [
     | inl e ↦ subst (Contains (ys ++ new ∷ [])) (sym e) (Contains-push ys new)
@@ -61,14 +62,20 @@ same_new xs more ys new members h = λ id. (
 )
 
 abbrev Members : Type 0
-Members = (id other : UpdateId) (tags : List UpdateId) → Contains (with_tag id tags) other ↔ ((other ≡ id) ⊎ Contains tags other)
+Members =
+    (id other : UpdateId) (tags : List UpdateId)
+    → Contains (with_tag id tags) other ↔ ((other ≡ id) ⊎ Contains tags other)
 
 -- tags with the next id of a list, as a push leaves them
-pub tags_more : Members → (tags after ids : List UpdateId) (i : ℕ) (d new : UpdateId) (b : Bool) → i < length ids → get_or ids i d ≡ new → after ≡ cond b (with_tag new tags) tags → (IsTrue b ↔ ¬ Contains tags new) → SameIds tags (take i ids) → SameIds after (take (i + 1) ids)
+pub tags_more : Members → (tags after ids : List UpdateId) (i : ℕ) (d new : UpdateId) (b : Bool) → i < length ids
+    → get_or ids i d ≡ new → after ≡ cond b (with_tag new tags) tags → (IsTrue b ↔ ¬ Contains tags new)
+    → SameIds tags (take i ids) → SameIds after (take (i + 1) ids)
 tags_more members tags after ids i d new b lt is made news h =
-    subst (SameIds after) (sym (take_more ids i d lt ∙ ap (λ z. take i ids ++ z ∷ []) is)) (subst (λ z. SameIds z (take i ids ++ new ∷ [])) (sym made) (go b news))
+    subst (SameIds after) (sym (take_more ids i d lt ∙ ap (λ z. take i ids ++ z ∷ []) is))
+    (subst (λ z. SameIds z (take i ids ++ new ∷ [])) (sym made) (go b news))
   where
-    go : (b : Bool) → (IsTrue b ↔ ¬ Contains tags new) → SameIds (cond b (with_tag new tags) tags) (take i ids ++ new ∷ [])
+    go : (b : Bool) → (IsTrue b ↔ ¬ Contains tags new)
+        → SameIds (cond b (with_tag new tags) tags) (take i ids ++ new ∷ [])
     go true news = same_new tags (with_tag new tags) (take i ids) new (λ id. members new id tags) h
     go false news = elim (is_there tags new) [
       | inl there ↦ same_there tags (take i ids) new there h

@@ -8,7 +8,10 @@ use Rattle.la_filter.specs.Turns.{Turn}
 use Rattle.la_filter.specs.Serving.{Serves, lines_of}
 use Rattle.uses_filter.specs.Serving.{IsServed, kept_by}
 
-pub served : (objects : List (ℕ × Kind)) (before after : NodeMachine) (Told : List (List ℕ) → Type 0) (Left : (turns last : List Turn) → Type 0) (batch left text journal_before journal_after : List ℕ) → Serves objects (kept_by before) Told Left (Some batch) (Some left) (Some []) (Some text) (lines journal_before) (lines journal_after) (kept_by after) → IsServed objects before after journal_before journal_after batch text
+pub served : (objects : List (ℕ × Kind)) (before after : NodeMachine) (Told : List (List ℕ) → Type 0)
+    (Left : (turns last : List Turn) → Type 0) (batch left text journal_before journal_after : List ℕ)
+    → Serves objects (kept_by before) Told Left (Some batch) (Some left) (Some []) (Some text) (lines journal_before)
+    (lines journal_after) (kept_by after) → IsServed objects before after journal_before journal_after batch text
 served objects before after Told Left batch left text journal_before journal_after s =
     let all : List ℕ = file_of (lines_of s.turns) ++ s.rest in
     record {

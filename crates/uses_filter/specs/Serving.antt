@@ -13,7 +13,8 @@ kept_by machine = kept_state machine.replicas machine.node
 
 -- the batch is lines, perhaps with bytes behind them that are no line; the text is what is written of them, and the
 -- journal gained the calls that are kept
-pub record IsServed (objects : List (ℕ × Kind)) (before after : NodeMachine) (journal_before journal_after : List ℕ) (batch text : List ℕ) : Type 0 where
+pub record IsServed (objects : List (ℕ × Kind)) (before after : NodeMachine) (journal_before journal_after : List ℕ)
+    (batch text : List ℕ) : Type 0 where
   pub turns : List Turn
   pub rest : List ℕ
   pub are : AreTurns objects (kept_by before) 1 turns (kept_by after)

@@ -18,15 +18,18 @@ use Rattle.la_world.specs.Laws.{IsSubmittedLater, next_id, WasLearnt}
 use Rattle.worked_runs.specs.RemoveOfALearntAdd.{add, first, second, g, until_learnt, t}
 
 pub first_then : Contains (learnt (trace g until_learnt)) first
-unfolding history from_histories empty updates with_history is_subset join is_majority sent offers accepted ballots round is_open replies counted submitted seen view submits counts after_learning hears answers is_told trace learnt
+unfolding history from_histories empty updates with_history is_subset join is_majority sent offers accepted ballots
+    round is_open replies counted submitted seen view submits counts after_learning hears answers is_told trace learnt
 first_then = (0, omega arith, refl)
 
 pub first_now : Contains (learnt t) first
-unfolding history from_histories empty updates with_history is_subset join is_majority sent offers accepted ballots round is_open replies counted submitted seen view submits counts after_learning hears answers is_told trace learnt
+unfolding history from_histories empty updates with_history is_subset join is_majority sent offers accepted ballots
+    round is_open replies counted submitted seen view submits counts after_learning hears answers is_told trace learnt
 first_now = (0, omega arith, refl)
 
 pub second_now : Contains (learnt t) second
-unfolding history from_histories empty updates with_history is_subset join is_majority sent offers accepted ballots round is_open replies counted submitted seen view submits counts after_learning hears answers is_told trace learnt
+unfolding history from_histories empty updates with_history is_subset join is_majority sent offers accepted ballots
+    round is_open replies counted submitted seen view submits counts after_learning hears answers is_told trace learnt
 second_now = (1, omega arith, refl)
 
 add_then : WasLearnt (trace g until_learnt) add
@@ -34,11 +37,13 @@ unfolding history from_histories
 add_then = record { learnt_as = first; was = first_then; of_objects = refl; holds = refl }
 
 pub removal_later : IsSubmittedLater (trace g until_learnt) 0 (record { replica = 0; number = 2 })
-unfolding history from_histories empty updates with_history is_subset join is_majority sent offers accepted ballots round is_open replies counted submitted seen view submits counts after_learning hears answers is_told trace learnt
+unfolding history from_histories empty updates with_history is_subset join is_majority sent offers accepted ballots
+    round is_open replies counted submitted seen view submits counts after_learning hears answers is_told trace learnt
 removal_later = omega arith
 
 pub removal_held : IsSome (get second.updates (next_id (trace g until_learnt) 0))
-unfolding history from_histories empty updates with_history is_subset join is_majority sent offers accepted ballots round is_open replies counted submitted seen view submits counts after_learning hears answers is_told trace learnt
+unfolding history from_histories empty updates with_history is_subset join is_majority sent offers accepted ballots
+    round is_open replies counted submitted seen view submits counts after_learning hears answers is_told trace learnt
 removal_held = refl
 
 pub removal_there : IsSome (get second.updates (record { replica = 0; number = 2 }))
@@ -46,7 +51,8 @@ unfolding history from_histories
 removal_there = refl
 
 pub removal_shown : IsSome (get (view t 0) (next_id (trace g until_learnt) 0))
-unfolding history from_histories empty updates with_history is_subset join is_majority sent offers accepted ballots round is_open replies counted submitted seen view submits counts after_learning hears answers is_told trace learnt
+unfolding history from_histories empty updates with_history is_subset join is_majority sent offers accepted ballots
+    round is_open replies counted submitted seen view submits counts after_learning hears answers is_told trace learnt
 removal_shown = refl
 
 pub stood : (tag : UpdateId) → Contains (add ∷ []) tag → WasLearnt (trace g until_learnt) tag

@@ -26,7 +26,9 @@ votes-cast s v has =
     record { update = at.item; member = listed-contains s at.item at.member; casts = at.gives }
 
 pub cast-votes : (s : Histories) (v : Vote) → IsCastIn s v → Contains (votes s) v
-cast-votes s v cast = contains-filter_map (λ (u : Update). vote_of u.op) (updates s) cast.update v (contains-listed s cast.update cast.member) cast.casts
+cast-votes s v cast =
+    contains-filter_map (λ (u : Update). vote_of u.op) (updates s) cast.update v
+    (contains-listed s cast.update cast.member) cast.casts
 
 -- the votes of a set are among those of each larger one
 pub votes-subset : (a b : Histories) (v : Vote) → IsSubset a b → Contains (votes a) v → Contains (votes b) v
@@ -40,18 +42,22 @@ sole_votes-vote s v has = filter-contains (λ (x : Vote). x.sole) (votes s) v ha
 pub vote-sole_votes : (s : Histories) (v : Vote) → Contains (votes s) v → v.sole ≡ true → Contains (sole_votes s) v
 vote-sole_votes s v has sole = contains-filter (λ (x : Vote). x.sole) (votes s) v has sole
 
-pub sole_votes-subset : (a b : Histories) (v : Vote) → IsSubset a b → Contains (sole_votes a) v → Contains (sole_votes b) v
+pub sole_votes-subset : (a b : Histories) (v : Vote) → IsSubset a b → Contains (sole_votes a) v
+    → Contains (sole_votes b) v
 sole_votes-subset a b v sub has =
     let at = sole_votes-vote a v has in
     vote-sole_votes b v (votes-subset a b v sub at.0) at.1
 
 -- what stands under an id has this id
-got_id : (id : UpdateId) (o : Option ObjectOp) (u : Update) → option_map (update_of id.replica id.number) o ≡ Some u → u.id ≡ id
+got_id : (id : UpdateId) (o : Option ObjectOp) (u : Update) → option_map (update_of id.replica id.number) o ≡ Some u
+    → u.id ≡ id
 got_id id None u e = absurd (none-some u e)
 got_id id (Some d) u e = ap (λ (v : Update). v.id) (sym (same_Some (update_of id.replica id.number d) u e))
 
 -- an own vote is a vote of the set, cast by the participant's first update
-cast_by : (s : Histories) (id : UpdateId) (v : Vote) (o : Option Update) → get s id ≡ o → option_and_then (λ (u : Update). vote_of u.op) o ≡ Some v → (u : Update) × (get s id ≡ Some u) × (vote_of u.op ≡ Some v)
+cast_by : (s : Histories) (id : UpdateId) (v : Vote) (o : Option Update) → get s id ≡ o
+    → option_and_then (λ (u : Update). vote_of u.op) o ≡ Some v
+    → (u : Update) × (get s id ≡ Some u) × (vote_of u.op ≡ Some v)
 cast_by s id v None is casts = absurd (none-some v casts)
 cast_by s id v (Some u) is casts = (u, is, casts)
 

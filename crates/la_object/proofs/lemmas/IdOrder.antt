@@ -19,7 +19,8 @@ id_cmp_total = then_total by_replica by_number
 
 pub id_cmp-IsAntisymmetric : IsAntisymmetric id_cmp
 id_cmp-IsAntisymmetric x y is =
-    elim (nat_cmp x.replica y.replica) as (λ r. nat_cmp x.replica y.replica ≡ r → ordering_then r (nat_cmp x.number y.number) ≡ Equal → x ≡ y) [
+    elim (nat_cmp x.replica y.replica) as
+    (λ r. nat_cmp x.replica y.replica ≡ r → ordering_then r (nat_cmp x.number y.number) ≡ Equal → x ≡ y) [
       | Less ↦ λ p e. cc
       | Equal ↦ λ p e i. record { replica = nat_cmp-IsAntisymmetric x.replica y.replica p i; number = nat_cmp-IsAntisymmetric x.number y.number e i }
       | Greater ↦ λ p e. cc

@@ -31,13 +31,15 @@ plain_other c (option id) word h = tt
 plain_other c idle word h = tt
 plain_other c positional word h = tt
 
-after_other : (c : List Rule) (waiting : Waiting) (word : Text) (h : Held) (o : Outcome) → IsOther (after_flag c waiting word h o).1
+after_other : (c : List Rule) (waiting : Waiting) (word : Text) (h : Held) (o : Outcome)
+    → IsOther (after_flag c waiting word h o).1
 after_other c waiting word h done = tt
 after_other c waiting word h (waits id) = tt
 after_other c waiting word h plain = plain_other c waiting word h
 after_other c waiting word h refused = plain_other c waiting word h
 
-flag_other : (c : List Rule) (waiting : Waiting) (word : Text) (o : Option (Text × Option Text)) (h : Held) → IsOther (long_or_other c waiting word o h).1
+flag_other : (c : List Rule) (waiting : Waiting) (word : Text) (o : Option (Text × Option Text)) (h : Held)
+    → IsOther (long_or_other c waiting word o h).1
 flag_other c waiting word (Some p) h = after_other c waiting word _ _
 flag_other c waiting word None h = go (short_of word)
   where
@@ -49,7 +51,8 @@ flag_other c waiting word None h = go (short_of word)
 
 module _ (s : Shape) (names : Names) (enabled : s.disable_help_subcommand ≡ false) where
   other_name : (name word : Text) (h : Held) → other_fault s (Some name) word h ≡ [] → bytes_eq name help ≡ false
-  other_name name word h e = go (bytes_eq name help) (subst (λ (d : Bool). cond (bytes_eq name help && not d) found [] ≡ []) enabled e)
+  other_name name word h e =
+      go (bytes_eq name help) (subst (λ (d : Bool). cond (bytes_eq name help && not d) found [] ≡ []) enabled e)
     where
       found : Kinds
       found = kind.DisplayHelp ∷ kind.InvalidSubcommand ∷ []
@@ -58,8 +61,8 @@ module _ (s : Shape) (names : Names) (enabled : s.disable_help_subcommand ≡ fa
       go true f = absurd (some_kinds _ _ f)
       go false f = refl
 
-  other_step : (o : Option Text) (waiting : Waiting) (position : ℕ) (word : Text) (h : Held) → other_fault s o word h ≡ []
-      → IsOther (subcommand_or_other s.rules o waiting position word h).1
+  other_step : (o : Option Text) (waiting : Waiting) (position : ℕ) (word : Text) (h : Held)
+      → other_fault s o word h ≡ [] → IsOther (subcommand_or_other s.rules o waiting position word h).1
   other_step (Some name) waiting position word h e = other_name name word h e
   other_step None waiting position word h e = go (bytes_eq word (45 ∷ 45 ∷ []))
     where
@@ -67,12 +70,13 @@ module _ (s : Shape) (names : Names) (enabled : s.disable_help_subcommand ≡ fa
       go true = tt
       go false = flag_other s.rules waiting word (long_of word) h
 
-  word_other : (t : Bool) (waiting : Waiting) (position : ℕ) (word : Text) (h : Held) → word_fault s names t waiting word h ≡ []
-      → IsOther (word_met s.rules names t waiting position word h).1
+  word_other : (t : Bool) (waiting : Waiting) (position : ℕ) (word : Text) (h : Held)
+      → word_fault s names t waiting word h ≡ [] → IsOther (word_met s.rules names t waiting position word h).1
   word_other true waiting position word h e = tt
   word_other false waiting position word h e = other_step (subcommand_met names waiting word) waiting position word h e
 
-  step_other : (word : Text) (w : Walk) (h : Held) (step : Step) → IsOther step → IsNoHelp w.stopped → IsNoHelp (after_step s.rules word w h step).stopped
+  step_other : (word : Text) (w : Walk) (h : Held) (step : Step) → IsOther step → IsNoHelp w.stopped
+      → IsNoHelp (after_step s.rules word w h step).stopped
   step_other word w h (next waiting) other before = before
   step_other word w h (trailing position) other before = before
   step_other word w h (subcommand name) other before = other
@@ -82,7 +86,8 @@ module _ (s : Shape) (names : Names) (enabled : s.disable_help_subcommand ≡ fa
       go None = before
       go (Some a) = tt
 
-  turn_other : (w : Walk) (word : Text) → turn_fault s names w word ≡ [] → IsNoHelp w.stopped → IsNoHelp (walked s.rules names w word).stopped
+  turn_other : (w : Walk) (word : Text) → turn_fault s names w word ≡ [] → IsNoHelp w.stopped
+      → IsNoHelp (walked s.rules names w word).stopped
   unfolding walked
   turn_other w word e before = go w.stopped e before
     where
@@ -91,12 +96,15 @@ module _ (s : Shape) (names : Names) (enabled : s.disable_help_subcommand ≡ fa
           (step_fault s w.position (word_met s.rules names w.is_trailing w.waiting w.position word w.held).0 (word_met s.rules names w.is_trailing w.waiting w.position word w.held).1)) ≡ []
           → IsNoHelp o → IsNoHelp (walked_from s.rules names o w word).stopped
       go (Some p) f same = same
-      go None f same = step_other word w _ _ (word_other w.is_trailing w.waiting w.position word w.held (first_none _ _ f)) before
+      go None f same =
+          step_other word w _ _ (word_other w.is_trailing w.waiting w.position word w.held (first_none _ _ f)) before
 
-  walk_other : (words : List Text) (w : Walk) → walk_fault s names w words ≡ [] → IsNoHelp w.stopped → IsNoHelp (fold (walked s.rules names) w words).stopped
+  walk_other : (words : List Text) (w : Walk) → walk_fault s names w words ≡ [] → IsNoHelp w.stopped
+      → IsNoHelp (fold (walked s.rules names) w words).stopped
   unfolding walk_fault
   walk_other [] w e before = before
-  walk_other (word ∷ rest) w e before = walk_other rest (walked s.rules names w word) (next_none _ _ e) (turn_other w word (first_none _ _ e) before)
+  walk_other (word ∷ rest) w e before =
+      walk_other rest (walked s.rules names w word) (next_none _ _ e) (turn_other w word (first_none _ _ e) before)
 
 -- ---- the subcommand
 
@@ -110,21 +118,25 @@ none_entered : (s : Shape) (rows : List Row) → s.subcommand_required ≡ true 
 none_entered s rows required e = wanted _ s.subcommand_required _ required e
 
 -- a level of which a subcommand is required, and which has none, always has a fault
-pub level_never : (s : Shape) (words : List Text) → s.subcommand_required ≡ true → level_fault s [] nothing_held words false [] ≡ [] → ⊥
+pub level_never : (s : Shape) (words : List Text) → s.subcommand_required ≡ true
+    → level_fault s [] nothing_held words false [] ≡ [] → ⊥
 level_never s words required e =
     let end = (walk s.rules [] nothing_held words).held in
     let after = next_none (walk_fault s [] (walk_from nothing_held) words) _ e in
     let defaults = next_none (settle_fault s.rules s.args_override_self end) _ after in
-    none_entered s (finished s.rules end) required (next_none (defaults_fault (settled s.rules end).rows s.rules) _ defaults)
+    none_entered s (finished s.rules end) required
+    (next_none (defaults_fault (settled s.rules end).rows s.rules) _ defaults)
 
 -- the words enter a subcommand, which is not `help` and finds no fault in what follows its name
 pub record EntersWell (a : App) (words : List Text) : Type 0 where
-  pub below : entered_fault (built a) (stop_after (built a).top.rules (names_of (built a)) (argument_words a words)) ≡ []
-  pub there : is_some (entered (built a) (stop_after (built a).top.rules (names_of (built a)) (argument_words a words))) ≡ true
+  pub below : entered_fault (built a) (stop_after (built a).top.rules (names_of (built a)) (argument_words a words))
+      ≡ []
+  pub there : is_some (entered (built a) (stop_after (built a).top.rules (names_of (built a)) (argument_words a words)))
+      ≡ true
   pub no_help : IsNoHelp (stop_after (built a).top.rules (names_of (built a)) (argument_words a words))
 
-pub enters_well : (a : App) (words : List Text) → (built a).top.subcommand_required ≡ true → (built a).top.disable_help_subcommand ≡ false
-    → fault_of a words ≡ [] → EntersWell a words
+pub enters_well : (a : App) (words : List Text) → (built a).top.subcommand_required ≡ true
+    → (built a).top.disable_help_subcommand ≡ false → fault_of a words ≡ [] → EntersWell a words
 enters_well a words required enabled e =
     let s = (built a).top in
     let names = names_of (built a) in

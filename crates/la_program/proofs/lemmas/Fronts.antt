@@ -13,8 +13,13 @@ prefix_more a b xs more (n, p) =
     (min n (length xs), subst (Appends a b) (sym (take-append-le (min n (length xs)) xs more within ∙ take_min n xs)) p)
 
 -- some bytes, and then a front of others
-pub prefix_behind : (a b c : Option (List ℕ)) (xs ys : List ℕ) → Appends a b xs → AppendsPrefix b c ys → AppendsPrefix a c (xs ++ ys)
-prefix_behind a b c xs ys p (n, q) = (length xs + n, subst (Appends a c) (sym (take_behind xs ys n)) (Appends-trans a b c xs (take n ys) p q))
+pub prefix_behind : (a b c : Option (List ℕ)) (xs ys : List ℕ) → Appends a b xs → AppendsPrefix b c ys
+    → AppendsPrefix a c (xs ++ ys)
+prefix_behind a b c xs ys p (n, q) =
+    (length xs + n, subst (Appends a c) (sym (take_behind xs ys n)) (Appends-trans a b c xs (take n ys) p q))
   where
     take_behind : (xs ys : List ℕ) (n : ℕ) → take (length xs + n) (xs ++ ys) ≡ xs ++ take n ys
-    take_behind xs ys n = take-add (length xs) n (xs ++ ys) ∙ ap (λ t. t ++ take n (drop (length xs) (xs ++ ys))) (take_at xs ys (length xs) refl) ∙ ap (λ t. xs ++ take n t) (drop_at xs ys (length xs) refl)
+    take_behind xs ys n =
+        take-add (length xs) n (xs ++ ys)
+        ∙ ap (λ t. t ++ take n (drop (length xs) (xs ++ ys))) (take_at xs ys (length xs) refl)
+        ∙ ap (λ t. xs ++ take n t) (drop_at xs ys (length xs) refl)

@@ -73,7 +73,9 @@ module _ (x : Instance) (from ballot : ℕ) where
   body_alike body.Yes body.Yes h = refl
   body_alike (body.No d) (body.No e) h = go (counts x.proposer from ballot)
     where
-      go : (v : Bool) → with_refused (option_map rebuilt_of (refusal_over v x.proposer.updates d)) ≡ with_refused (option_map rebuilt_of (refusal_over v x.proposer.updates e))
+      go : (v : Bool)
+          → with_refused (option_map rebuilt_of (refusal_over v x.proposer.updates d))
+          ≡ with_refused (option_map rebuilt_of (refusal_over v x.proposer.updates e))
       go true = ap No (rebuilt_alike x.proposer.updates d e h)
       go false = refl
   body_alike (body.Tell s) (body.Tell t) h = ap Tell h
@@ -112,10 +114,19 @@ pub alike_received : (r : ReplicaState) (m n : code.Message) → AreAlike m n �
 alike_received r m n h =
     λ i. record { instance = h.instance i; from = h.from i; to = h.to i; ballot = h.ballot i; body = bodies i }
   where
-    here : (o : Option Instance) → with_set (unwrap_or (option_map (λ x. option_map rebuilt_of (told_in_body x m.from m.ballot m.body)) o) None) m.body ≡ with_set (unwrap_or (option_map (λ x. option_map rebuilt_of (told_in_body x m.from m.ballot n.body)) o) None) n.body
+    here : (o : Option Instance)
+        → with_set (unwrap_or (option_map (λ x. option_map rebuilt_of (told_in_body x m.from m.ballot m.body)) o) None)
+        m.body
+        ≡ with_set
+        (unwrap_or (option_map (λ x. option_map rebuilt_of (told_in_body x m.from m.ballot n.body)) o) None)
+        n.body
     here None = nothing_alike m.body n.body h.body
     here (Some x) = body_alike x m.from m.ballot m.body n.body h.body
 
     bodies : (received_in r m).body ≡ (received_in r n).body
     bodies = here (slice_get r.instances m.instance)
-        ∙ (λ i. with_set (unwrap_or (option_map (λ x. option_map rebuilt_of (told_in_body x (h.from i) (h.ballot i) n.body)) (slice_get r.instances (h.instance i))) None) n.body)
+        ∙ (λ i.
+        with_set
+        (unwrap_or
+        (option_map (λ x. option_map rebuilt_of (told_in_body x (h.from i) (h.ballot i) n.body))
+        (slice_get r.instances (h.instance i))) None) n.body)

@@ -33,7 +33,8 @@ told_base_has believed told = HasCounts-known told (told_base believed told) (λ
     omega (arith, count_in-from_counts (λ q. min (count_in believed q) (count_in (counts_of told) q)) r lt, count_in-counts_of told r))
 
 module _ (over : Histories) (believed : Counts) where
-  body_unwraps : (c : code_body.Body) → HasToldBase over believed c → IsOneTold over c → IsTellWithinLimit c → Unwraps over (wrapped_body believed c)
+  body_unwraps : (c : code_body.Body) → HasToldBase over believed c → IsOneTold over c → IsTellWithinLimit c
+      → Unwraps over (wrapped_body believed c)
   body_unwraps (body.Offer d) has one few = tt
   body_unwraps body.Yes has one few = tt
   body_unwraps (body.No d) has one few = tt
@@ -47,7 +48,8 @@ module _ (over : Histories) (believed : Counts) where
   body_based (body.No d) over = tt
   body_based (body.Tell told) over = over.base
 
-  body_unwrapped : (c : code_body.Body) → HasToldBase over believed c → IsOneTold over c → IsTellWithinLimit c → unwrapped_body over (wrapped_body believed c) ≡ c
+  body_unwrapped : (c : code_body.Body) → HasToldBase over believed c → IsOneTold over c → IsTellWithinLimit c
+      → unwrapped_body over (wrapped_body believed c) ≡ c
   body_unwrapped (body.Offer d) has one few = refl
   body_unwrapped body.Yes has one few = refl
   body_unwrapped (body.No d) has one few = refl
@@ -55,25 +57,29 @@ module _ (over : Histories) (believed : Counts) where
       let base = told_base believed told in let theirs = told_base_has believed told in
       ap body.Tell (rebuilt-over over told base has theirs few (same-within over told base has theirs one))
 
-  pub parcel_unwraps : (m : code.Message) → HasToldBase over believed m.body → IsOneTold over m.body → IsTellWithinLimit m.body → Unwraps over (wrapped_body believed m.body)
+  pub parcel_unwraps : (m : code.Message) → HasToldBase over believed m.body → IsOneTold over m.body
+      → IsTellWithinLimit m.body → Unwraps over (wrapped_body believed m.body)
   parcel_unwraps m = body_unwraps m.body
 
   pub parcel_based : (m : code.Message) → Unwraps over (wrapped_body believed m.body) → HasToldBase over believed m.body
   parcel_based m = body_based m.body
 
-  pub parcel_unwrapped : (m : code.Message) → Unwraps over (wrapped_body believed m.body) → IsOneTold over m.body → IsTellWithinLimit m.body → unwrapped over (wrapped believed m) ≡ m
+  pub parcel_unwrapped : (m : code.Message) → Unwraps over (wrapped_body believed m.body) → IsOneTold over m.body
+      → IsTellWithinLimit m.body → unwrapped over (wrapped believed m) ≡ m
   parcel_unwrapped m stands one few = ap (λ c. record { instance = m.instance; from = m.from; to = m.to; ballot = m.ballot; body = c }) (body_unwrapped m.body (body_based m.body stands) one few)
 
 -- ## Made anew
 
-body_alike : (over : Histories) (c e : Content) → AreAlikeContents c e → AreAlikeBodies (unwrapped_body over c) (unwrapped_body over e)
+body_alike : (over : Histories) (c e : Content) → AreAlikeContents c e
+    → AreAlikeBodies (unwrapped_body over c) (unwrapped_body over e)
 body_alike over (content.Offer d) (content.Offer e) h = h
 body_alike over content.Yes content.Yes h = tt
 body_alike over (content.No d) (content.No e) h = h
 body_alike over (content.Tell d) (content.Tell e) h = λ i. pushed (within over (h.0 i)) (h.1 i)
 body_alike over _ _ h = absurd h
 
-pub parcel_alike : (over : Histories) (p q : Parcel) → AreAlikeParcels p q → AreAlike (unwrapped over p) (unwrapped over q)
+pub parcel_alike : (over : Histories) (p q : Parcel) → AreAlikeParcels p q
+    → AreAlike (unwrapped over p) (unwrapped over q)
 parcel_alike over p q h = record {
   instance = h.instance;
   from = h.from;
@@ -89,12 +95,14 @@ content_alike over (content.No d) (content.No e) h stands = tt
 content_alike over (content.Tell d) (content.Tell e) h stands = over_alike over d e h stands
 content_alike over _ _ h stands = absurd h
 
-pub parcel_alike_stands : (over : Histories) (p q : Parcel) → AreAlikeParcels p q → Unwraps over p.content → Unwraps over q.content
+pub parcel_alike_stands : (over : Histories) (p q : Parcel) → AreAlikeParcels p q → Unwraps over p.content
+    → Unwraps over q.content
 parcel_alike_stands over p q h = content_alike over p.content q.content h.content
 
 -- ## Within its base it has what the view has
 
-within_body : (over : Histories) (c : Content) → Unwraps over c → IsTellWithin over (base_of_told c) (unwrapped_body over c)
+within_body : (over : Histories) (c : Content) → Unwraps over c
+    → IsTellWithin over (base_of_told c) (unwrapped_body over c)
 within_body over (content.Offer d) stands = tt
 within_body over content.Yes stands = tt
 within_body over (content.No d) stands = tt
@@ -110,14 +118,18 @@ tell_zero view (body.Tell t) = within-zero view t
 pub seen_zero : (r : ReplicaState) (m : code.Message) (b : Counts) → b ≡ zero_counts → IsSeenWithin r b m
 seen_zero r m b is = subst (λ n. IsSeenWithin r n m) (sym is) (λ first. tell_zero r.view m.body)
 
-unwrapped_within : (r : ReplicaState) (p : Parcel) (k : code.Message) → k ≡ unwrapped_in r p → UnwrapsIn r p → IsSeenWithin r (base_of_told p.content) k
+unwrapped_within : (r : ReplicaState) (p : Parcel) (k : code.Message) → k ≡ unwrapped_in r p → UnwrapsIn r p
+    → IsSeenWithin r (base_of_told p.content) k
 unwrapped_within r p k is stands first =
     let place : p.instance ≡ 0 = sym (ap (λ (z : code.Message). z.instance) is) ∙ first in
     subst (λ v. IsTellWithin v (base_of_told p.content) k.body) (ap (view_of r) place)
-    (subst (λ (z : code.Message). IsTellWithin (view_of r p.instance) (base_of_told p.content) z.body) (sym is) (within_body (view_of r p.instance) p.content stands))
+    (subst (λ (z : code.Message). IsTellWithin (view_of r p.instance) (base_of_told p.content) z.body) (sym is)
+    (within_body (view_of r p.instance) p.content stands))
 
-pub seen_over : (r : ReplicaState) (p : Parcel) (k : code.Message) (over : Histories) → over ≡ view_of r p.instance → k ≡ unwrapped over p → Unwraps over p.content → IsSeenWithin r (base_of_told p.content) k
-seen_over r p k over is same stands = unwrapped_within r p k (subst (λ v. k ≡ unwrapped v p) is same) (subst (λ v. Unwraps v p.content) is stands)
+pub seen_over : (r : ReplicaState) (p : Parcel) (k : code.Message) (over : Histories) → over ≡ view_of r p.instance
+    → k ≡ unwrapped over p → Unwraps over p.content → IsSeenWithin r (base_of_told p.content) k
+seen_over r p k over is same stands =
+    unwrapped_within r p k (subst (λ v. k ≡ unwrapped v p) is same) (subst (λ v. Unwraps v p.content) is stands)
 
 -- ## Refused
 
@@ -129,14 +141,18 @@ module _ (r : ReplicaState) (p : Parcel) where
   tells_something (content.No d) e none shut = shut
   tells_something (content.Tell d) e none shut = none
 
-  shut_tells : (o : Option Instance) (e : SetError) → TellsNothing p.content → ¬ IsSomeAnd o (λ x. IsShut (view_of r p.instance) p.content e)
+  shut_tells : (o : Option Instance) (e : SetError) → TellsNothing p.content
+      → ¬ IsSomeAnd o (λ x. IsShut (view_of r p.instance) p.content e)
   shut_tells None e none shut = shut
   shut_tells (Some x) e none shut = tells_something p.content e none shut
 
-  never : TellsNothing p.content → IsFree r (received_in r (unwrapped_in r p)) → (e : ReplicaError) → ¬ IsUnwrapRefusal r p e
+  never : TellsNothing p.content → IsFree r (received_in r (unwrapped_in r p)) → (e : ReplicaError)
+      → ¬ IsUnwrapRefusal r p e
   never none free NoSuchReplica (inl out) = let lt = free.0.0 in absurd (omega arith)
   never none free NoSuchReplica (inr other) = other free.0.1
-  never none free NoSuchInstance past = subst (λ o. IsSomeAnd o (λ x. IsFreeMessage x r.view (received_in r (unwrapped_in r p)))) (slice_get_past r.instances p.instance past.1) free.1
+  never none free NoSuchInstance past =
+      subst (λ o. IsSomeAnd o (λ x. IsFreeMessage x r.view (received_in r (unwrapped_in r p))))
+      (slice_get_past r.instances p.instance past.1) free.1
   never none free NoBase shut = shut_tells (slice_get r.instances p.instance) set_error.NoBase none shut.1
   never none free Gap shut = shut_tells (slice_get r.instances p.instance) set_error.Gap none shut.1
   never none free Memory shut = shut_tells (slice_get r.instances p.instance) set_error.Memory none shut.1
@@ -144,6 +160,7 @@ module _ (r : ReplicaState) (p : Parcel) where
   never none free (Clash id) shut = shut
   never none free BallotsSpent shut = shut
 
-  pub unwraps_free : {T : Type 0} (a : Result T ReplicaError) → IfErr a (IsUnwrapRefusal r p) → TellsNothing p.content → IsFree r (received_in r (unwrapped_in r p)) → IsOk a
+  pub unwraps_free : {T : Type 0} (a : Result T ReplicaError) → IfErr a (IsUnwrapRefusal r p) → TellsNothing p.content
+      → IsFree r (received_in r (unwrapped_in r p)) → IsOk a
   unwraps_free (Ok m) refused none free = refl
   unwraps_free (Err e) refused none free = absurd (never none free e refused)

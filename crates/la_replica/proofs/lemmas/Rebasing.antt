@@ -47,9 +47,16 @@ record IsRebased (t : Told) : Type 0 where
 module _ (t : Told) (is : IsRebased t) where
   sound : HasCounts t.over t.delta.base → within t.over t.delta.base ≡ within (set_of t.delta) t.delta.base → IsSound t
   sound has same = record {
-    stands = subst (IsOver t.over) (sym is.made) (stands-over t.over (set_of t.delta) t.delta.base has is.base.has is.base.few same);
-    agrees = λ whole e. same ∙ ap (λ z. within z t.delta.base) (same_Some (set_of t.delta) whole (sym (ap (λ (d : DeltaState). d.made_of) is.made) ∙ e));
-    carried = ap (rebuilt t.over) is.made ∙ rebuilt-over t.over (set_of t.delta) t.delta.base has is.base.has is.base.few same;
+    stands =
+        subst (IsOver t.over) (sym is.made)
+        (stands-over t.over (set_of t.delta) t.delta.base has is.base.has is.base.few same);
+    agrees =
+        λ whole e.
+        same
+        ∙ ap (λ z. within z t.delta.base)
+        (same_Some (set_of t.delta) whole (sym (ap (λ (d : DeltaState). d.made_of) is.made) ∙ e));
+    carried =
+        ap (rebuilt t.over) is.made ∙ rebuilt-over t.over (set_of t.delta) t.delta.base has is.base.has is.base.few same;
   }
 
   sound_one : HasCounts t.over t.delta.base → IsCompatible t.over (set_of t.delta) → IsSound t
@@ -83,12 +90,14 @@ module _ (x : Instance) (from ballot : ℕ) (b : Counts) where
   body_rebased (body.Tell told) may = tt
 
   -- what fits the message as it was sent fits it over the base
-  body_one : (c : code_body.Body) → IfSome (told_in_body x from ballot c) One → IfSome (told_in_body x from ballot (rebased_body b c)) One
+  body_one : (c : code_body.Body) → IfSome (told_in_body x from ballot c) One
+      → IfSome (told_in_body x from ballot (rebased_body b c)) One
   body_one (body.Offer d) one = one
   body_one body.Yes one = tt
   body_one (body.No d) one = go (counts x.proposer from ballot) one
     where
-      go : (v : Bool) → IfSome (refusal_over v x.proposer.updates d) One → IfSome (refusal_over v x.proposer.updates (rebased b d)) One
+      go : (v : Bool) → IfSome (refusal_over v x.proposer.updates d) One
+          → IfSome (refusal_over v x.proposer.updates (rebased b d)) One
       go true h = h
       go false h = tt
   body_one (body.Tell told) one = tt
@@ -109,7 +118,8 @@ module _ (r : ReplicaState) (b : Counts) (m : code.Message) (may : MayBeOver b m
   abbrev n : code.Message
   n = rebased_message b m
 
-  at_both : (P Q R : Instance → Type 0) (o : Option Instance) → ((x : Instance) → P x → Q x → R x) → IsSomeAnd o P → IsSomeAnd o Q → IsSomeAnd o R
+  at_both : (P Q R : Instance → Type 0) (o : Option Instance) → ((x : Instance) → P x → Q x → R x) → IsSomeAnd o P
+      → IsSomeAnd o Q → IsSomeAnd o R
   at_both P Q R None f p q = p
   at_both P Q R (Some x) f p q = f x p q
 
@@ -118,47 +128,61 @@ module _ (r : ReplicaState) (b : Counts) (m : code.Message) (may : MayBeOver b m
 
   here_one : (x : Instance) → HasBaseAt x n → IsOneAt x m → IfSome (told_at x n) IsSound
   here_one x has one =
-      both (λ t. HasCounts t.over t.delta.base) (λ t. IsRebased t × One t) IsSound (told_at x n) (λ t h k. sound_one t k.0 h k.1) has
-      (both IsRebased One (λ t. IsRebased t × One t) (told_at x n) (λ t p q. (p, q)) (is_rebased x) (body_one x m.from m.ballot b m.body one))
+      both (λ t. HasCounts t.over t.delta.base) (λ t. IsRebased t × One t) IsSound (told_at x n)
+      (λ t h k. sound_one t k.0 h k.1) has
+      (both IsRebased One (λ t. IsRebased t × One t) (told_at x n) (λ t p q. (p, q)) (is_rebased x)
+      (body_one x m.from m.ballot b m.body one))
 
   here_agreeing : (x : Instance) → StandsAt x n → AgreesAt x n → IfSome (told_at x n) IsSound
   here_agreeing x stands agrees =
-      both (λ t. IsOver t.over t.delta) (λ t. IsRebased t × AgreesWithin t.over t.delta) IsSound (told_at x n) (λ t h k. sound_agreeing t k.0 h k.1) stands
-      (both IsRebased (λ t. AgreesWithin t.over t.delta) (λ t. IsRebased t × AgreesWithin t.over t.delta) (told_at x n) (λ t p q. (p, q)) (is_rebased x) agrees)
+      both (λ t. IsOver t.over t.delta) (λ t. IsRebased t × AgreesWithin t.over t.delta) IsSound (told_at x n)
+      (λ t h k. sound_agreeing t k.0 h k.1) stands
+      (both IsRebased (λ t. AgreesWithin t.over t.delta) (λ t. IsRebased t × AgreesWithin t.over t.delta) (told_at x n)
+      (λ t p q. (p, q)) (is_rebased x) agrees)
 
   pub over_stands : IsOneIn r m → HasBaseIn r n → StandsIn r n
-  over_stands one has = at_both (λ x. HasBaseAt x n) (λ x. IsOneAt x m) (λ x. StandsAt x n) (slice_get r.instances m.instance)
+  over_stands one has =
+      at_both (λ x. HasBaseAt x n) (λ x. IsOneAt x m) (λ x. StandsAt x n) (slice_get r.instances m.instance)
       (λ x p q. one_of IsSound (λ t. IsOver t.over t.delta) (told_at x n) (λ t s. s.stands) (here_one x p q)) has one
 
   pub over_agrees : IsOneIn r m → HasBaseIn r n → AgreesIn r n
-  over_agrees one has = at_both (λ x. HasBaseAt x n) (λ x. IsOneAt x m) (λ x. AgreesAt x n) (slice_get r.instances m.instance)
-      (λ x p q. one_of IsSound (λ t. AgreesWithin t.over t.delta) (told_at x n) (λ t s. s.agrees) (here_one x p q)) has one
+  over_agrees one has =
+      at_both (λ x. HasBaseAt x n) (λ x. IsOneAt x m) (λ x. AgreesAt x n) (slice_get r.instances m.instance)
+      (λ x p q. one_of IsSound (λ t. AgreesWithin t.over t.delta) (told_at x n) (λ t s. s.agrees) (here_one x p q)) has
+      one
 
   pub over_carried : StandsIn r n → AgreesIn r n → IsCarriedIn r n
   over_carried = at_both (λ x. StandsAt x n) (λ x. AgreesAt x n) (λ x. IsCarried x n) (slice_get r.instances m.instance)
-      (λ x p q. one_of IsSound (λ t. rebuilt_of t ≡ set_of t.delta) (told_at x n) (λ t s. s.carried) (here_agreeing x p q))
+      (λ x p q.
+      one_of IsSound (λ t. rebuilt_of t ≡ set_of t.delta) (told_at x n) (λ t s. s.carried) (here_agreeing x p q))
 
   pub over_received : StandsIn r n → AgreesIn r n → receives r (received_in r n) ≡ receives r (whole_of m)
   over_received stands agrees = carried_received r n (over_carried stands agrees) ∙ ap (receives r) (rebased_whole b m)
 
   pub over_fits : StandsIn r n → AgreesIn r n → FitsReceiver r (whole_of m) → FitsReceiver r (received_in r n)
-  over_fits stands agrees h = carried_fits r n (over_carried stands agrees) (subst (FitsReceiver r) (sym (rebased_whole b m)) h)
+  over_fits stands agrees h =
+      carried_fits r n (over_carried stands agrees) (subst (FitsReceiver r) (sym (rebased_whole b m)) h)
 
   -- what stands has its base
   stands_base : StandsIn r n → HasBaseIn r n
-  stands_base h = at_both (λ x. StandsAt x n) (λ x. StandsAt x n) (λ x. HasBaseAt x n) (slice_get r.instances m.instance)
-      (λ x p q. one_of (λ t. IsOver t.over t.delta) (λ t. HasCounts t.over t.delta.base) (told_at x n) (λ t s. s.base) p) h h
+  stands_base h =
+      at_both (λ x. StandsAt x n) (λ x. StandsAt x n) (λ x. HasBaseAt x n) (slice_get r.instances m.instance)
+      (λ x p q. one_of (λ t. IsOver t.over t.delta) (λ t. HasCounts t.over t.delta.base) (told_at x n) (λ t s. s.base) p)
+      h h
 
   -- it is refused for want of its base only where that is wanting, and never for a gap
-  want : (o : Option Told) → IsSomeAnd o (λ t. IsRebuildRefusal t.over t.delta set_error.NoBase) → ¬ IfSome o (λ t. HasCounts t.over t.delta.base)
+  want : (o : Option Told) → IsSomeAnd o (λ t. IsRebuildRefusal t.over t.delta set_error.NoBase)
+      → ¬ IfSome o (λ t. HasCounts t.over t.delta.base)
   want None h has = absurd h
   want (Some t) h has = h has
 
-  wanting : (o : Option Instance) → IsSomeAnd o (λ x. IsUnbuilt x n set_error.NoBase) → ¬ IsSomeAnd o (λ x. HasBaseAt x n)
+  wanting : (o : Option Instance) → IsSomeAnd o (λ x. IsUnbuilt x n set_error.NoBase)
+      → ¬ IsSomeAnd o (λ x. HasBaseAt x n)
   wanting None h has = absurd h
   wanting (Some x) h has = want (told_at x n) h has
 
-  gapless : (o : Option Told) → IsSomeAnd o (λ t. IsRebuildRefusal t.over t.delta set_error.Gap) → (IfSome o (λ t. HasCounts t.over t.delta.base) → IfSome o IsSound) → ⊥
+  gapless : (o : Option Told) → IsSomeAnd o (λ t. IsRebuildRefusal t.over t.delta set_error.Gap)
+      → (IfSome o (λ t. HasCounts t.over t.delta.base) → IfSome o IsSound) → ⊥
   gapless None h s = absurd h
   gapless (Some t) h s = h.1 ((s h.0).stands.next)
 
@@ -167,7 +191,8 @@ module _ (r : ReplicaState) (b : Counts) (m : code.Message) (may : MayBeOver b m
   no_gap (Some x) h one = gapless (told_at x n) h (λ has. here_one x has one)
 
   module _ (one : IsOneIn r m) where
-    as_sent : (e : ReplicaError) → StandsIn r n → IsReceiveRefusal r (received_in r n) e → IsReceiveRefusal r (whole_of m) e
+    as_sent : (e : ReplicaError) → StandsIn r n → IsReceiveRefusal r (received_in r n) e
+        → IsReceiveRefusal r (whole_of m) e
     as_sent e stands h =
         subst (λ w. IsReceiveRefusal r w e) (rebased_whole b m)
         (carried_refusal r n (over_carried stands (over_agrees one (stands_base stands))) e h)
@@ -200,7 +225,8 @@ unclashed a b none u v has_u has_v same = elim (cases_Bool (update_eq u v)) [
 
 -- of a message that fits as it was sent, and what is here, no id has two updates
 module _ (r : ReplicaState) (m : code.Message) where
-  fits_one : (x : Instance) (c : code_body.Body) → FitsBody x (whole_of m) (whole_body c) → IfSome (told_in_body x m.from m.ballot c) One
+  fits_one : (x : Instance) (c : code_body.Body) → FitsBody x (whole_of m) (whole_body c)
+      → IfSome (told_in_body x m.from m.ballot c) One
   fits_one x (body.Offer d) h = h
   fits_one x body.Yes h = tt
   fits_one x (body.No d) h = go (counts x.proposer m.from m.ballot) refl
@@ -213,7 +239,8 @@ module _ (r : ReplicaState) (m : code.Message) where
   pub receivable_one : IsReceivable r (whole_of m) → IsOneIn r m
   receivable_one h = go (slice_get r.instances m.instance) h.1
     where
-      go : (o : Option Instance) → IsSomeAnd o (λ x. FitsBody x (whole_of m) (whole_body m.body)) → IsSomeAnd o (λ x. IsOneAt x m)
+      go : (o : Option Instance) → IsSomeAnd o (λ x. FitsBody x (whole_of m) (whole_body m.body))
+          → IsSomeAnd o (λ x. IsOneAt x m)
       go None k = k
       go (Some x) k = fits_one x m.body k
 
@@ -228,12 +255,14 @@ over_alike s d e h over = record {
 abbrev StandsBody : Instance → (from ballot : ℕ) → code_body.Body → Type 0
 StandsBody x from ballot c = IfSome (told_in_body x from ballot c) (λ t. IsOver t.over t.delta)
 
-body_alike : (x : Instance) (from ballot : ℕ) (c e : code_body.Body) → AreAlikeBodies c e → StandsBody x from ballot c → StandsBody x from ballot e
+body_alike : (x : Instance) (from ballot : ℕ) (c e : code_body.Body) → AreAlikeBodies c e → StandsBody x from ballot c
+    → StandsBody x from ballot e
 body_alike x from ballot (body.Offer d) (body.Offer e) h over = over_alike x.acceptor d e h over
 body_alike x from ballot body.Yes body.Yes h over = tt
 body_alike x from ballot (body.No d) (body.No e) h over = go (counts x.proposer from ballot) over
   where
-    go : (v : Bool) → IfSome (refusal_over v x.proposer.updates d) (λ t. IsOver t.over t.delta) → IfSome (refusal_over v x.proposer.updates e) (λ t. IsOver t.over t.delta)
+    go : (v : Bool) → IfSome (refusal_over v x.proposer.updates d) (λ t. IsOver t.over t.delta)
+        → IfSome (refusal_over v x.proposer.updates e) (λ t. IsOver t.over t.delta)
     go true k = over_alike x.proposer.updates d e h k
     go false k = tt
 body_alike x from ballot (body.Tell s) (body.Tell t) h over = tt
@@ -241,8 +270,11 @@ body_alike x from ballot _ _ h over = absurd h
 
 -- what stands stands as it is made anew
 pub alike_stands : (r : ReplicaState) (m n : code.Message) → AreAlike m n → StandsIn r m → StandsIn r n
-alike_stands r m n h stands = subst (λ i. IsSomeAnd (slice_get r.instances i) (λ x. StandsAt x n)) h.instance (go (slice_get r.instances m.instance) stands)
+alike_stands r m n h stands =
+    subst (λ i. IsSomeAnd (slice_get r.instances i) (λ x. StandsAt x n)) h.instance
+    (go (slice_get r.instances m.instance) stands)
   where
     go : (o : Option Instance) → IsSomeAnd o (λ x. StandsAt x m) → IsSomeAnd o (λ x. StandsAt x n)
     go None k = k
-    go (Some x) k = subst₂ (λ f b. StandsBody x f b n.body) h.from h.ballot (body_alike x m.from m.ballot m.body n.body h.body k)
+    go (Some x) k =
+        subst₂ (λ f b. StandsBody x f b n.body) h.from h.ballot (body_alike x m.from m.ballot m.body n.body h.body k)

@@ -15,7 +15,8 @@ module _ (a b : Histories) where
 
   -- where no id has two updates, an answer that compares counts is the test
   pub counts-subset : IsCompatible a b → (r : Bool) → Decides r (HasNoMore a b) → r ≡ is_subset a b
-  counts-subset one r counts = is_subset-from r a b (λ t. subset-counts a b one (counts.0 t), λ sub. counts.1 (subset-count a b sub))
+  counts-subset one r counts =
+      is_subset-from r a b (λ t. subset-counts a b one (counts.0 t), λ sub. counts.1 (subset-count a b sub))
 
   -- ## Strict inclusion
 
@@ -23,7 +24,9 @@ module _ (a b : Histories) where
   is_larger-Decides = (
     λ t. let p = and_parts (is_subset a b) (not (is_subset b a)) t in
         ((is_subset-Decides a b).0 p.0, λ back. both_ways _ (not-true _ p.1) ((is_subset-Decides b a).1 back)),
-    λ p. and_from (is_subset a b) (not (is_subset b a)) ((is_subset-Decides a b).1 p.0) (not_from_false _ (false_from_ne_true _ (λ t. p.1 ((is_subset-Decides b a).0 t)))),
+    λ p.
+        and_from (is_subset a b) (not (is_subset b a)) ((is_subset-Decides a b).1 p.0)
+        (not_from_false _ (false_from_ne_true _ (λ t. p.1 ((is_subset-Decides b a).0 t)))),
   )
 
   pub larger-within : is_subset a b ≡ true → (back : Bool) → back ≡ is_subset b a → not back ≡ is_larger a b
@@ -36,7 +39,10 @@ module _ (a b : Histories) where
 
   -- the first, where it contains the second
   pub larger-first : is_subset b a ≡ true → a ≡ larger_of a b
-  larger-first has = sym (ap (λ t. cond t b a) (false_from_ne_true (is_larger a b) (λ larger. (is_larger-Decides.0 larger).1 ((is_subset-Decides b a).0 has))))
+  larger-first has =
+      sym
+      (ap (λ t. cond t b a)
+      (false_from_ne_true (is_larger a b) (λ larger. (is_larger-Decides.0 larger).1 ((is_subset-Decides b a).0 has))))
 
   -- and else, of comparable sets, the second
   pub second_grows : AreComparable a b → is_subset b a ≡ false → IsSubset a b
@@ -44,7 +50,10 @@ module _ (a b : Histories) where
   second_grows (inr sub) less = absurd (both_ways _ less ((is_subset-Decides b a).1 sub))
 
   pub larger-second : AreComparable a b → is_subset b a ≡ false → b ≡ larger_of a b
-  larger-second comparable less = sym (ap (λ t. cond t b a) (is_larger-Decides.1 (second_grows comparable less, λ back. both_ways _ less ((is_subset-Decides b a).1 back))))
+  larger-second comparable less =
+      sym
+      (ap (λ t. cond t b a)
+      (is_larger-Decides.1 (second_grows comparable less, λ back. both_ways _ less ((is_subset-Decides b a).1 back))))
 
   -- it contains the first, and of comparable sets both
   pub larger_grows : IsSubset a (larger_of a b)

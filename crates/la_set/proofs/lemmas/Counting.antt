@@ -36,7 +36,12 @@ count_in-counts_of s r = elim (cases_lt r 8) [
 -- the same numbers, one by one
 pub same_counts : (f g : ℕ → ℕ) → ((r : ℕ) → r < 8 → f r ≡ g r) → from_counts f ≡ from_counts g
 unfolding from_counts
-same_counts f g e = λ i. record { of = e 0 (omega arith) i ∷ e 1 (omega arith) i ∷ e 2 (omega arith) i ∷ e 3 (omega arith) i ∷ e 4 (omega arith) i ∷ e 5 (omega arith) i ∷ e 6 (omega arith) i ∷ e 7 (omega arith) i ∷ [] }
+same_counts f g e =
+    λ i.
+    record {
+      of = e 0 (omega arith) i ∷ e 1 (omega arith) i ∷ e 2 (omega arith) i ∷ e 3 (omega arith) i ∷ e 4 (omega arith) i
+          ∷ e 5 (omega arith) i ∷ e 6 (omega arith) i ∷ e 7 (omega arith) i ∷ [];
+    }
 
 pub count-at : (s : Histories) (c : Counts) (r n : ℕ) → c ≡ counts_of s → n ≡ count_in c r → n ≡ count s r
 count-at s c r n is at = at ∙ ap (λ k. count_in k r) is ∙ count_in-counts_of s r
@@ -50,7 +55,8 @@ history-within s c r = elim (cases_lt r 8) [
 ]
 
 pub count-within : (s : Histories) (c : Counts) → HasCounts s c → (r : ℕ) → count (within s c) r ≡ count_in c r
-count-within s c has r = omega (arith, ap length (history-within s c r), length-take (count_in c r) (history s r), has r)
+count-within s c has r =
+    omega (arith, ap length (history-within s c r), length-take (count_in c r) (history s r), has r)
 
 -- counts that are met replica by replica are met
 pub HasCounts-known : (s : Histories) (c : Counts) → ((r : ℕ) → r < 8 → count_in c r ≤ count s r) → HasCounts s c
@@ -63,7 +69,12 @@ HasCounts-known s c each r = elim (cases_lt r 8) [
 pub eight-counts : (c : Counts) → length c.of ≡ 8 → c ≡ from_counts (λ r. get_or c.of r 0)
 unfolding from_counts
 eight-counts c eight = let f : ℕ → ℕ = λ r. get_or c.of r 0 in
-    ap {B = Counts} (λ numbers. record { of = numbers }) (ext_get_or 0 c.of (from_counts f).of eight (λ r lt. sym (sym (count_in-known (from_counts f) r (omega (arith, lt, eight))) ∙ count_in-from_counts f r (omega (arith, lt, eight)))))
+    ap {B = Counts} (λ numbers. record { of = numbers })
+    (ext_get_or 0 c.of (from_counts f).of eight
+    (λ r lt.
+    sym
+    (sym (count_in-known (from_counts f) r (omega (arith, lt, eight)))
+    ∙ count_in-from_counts f r (omega (arith, lt, eight)))))
 
 -- counts, one of them capped
 abbrev pub capped_at : Counts → ℕ → ℕ → ℕ → ℕ
@@ -76,7 +87,8 @@ module _ (c : Counts) (q n : ℕ) where
   pub capped_at-other : (r : ℕ) → r ≢ q → capped_at c q n r ≡ count_in c r
   capped_at-other r ne = ap (λ b. cond b (min (count_in c r) n) (count_in c r)) (ne_eqb r q ne)
 
-  pub capped-known : (m : ℕ) → length c.of ≡ 8 → q < 8 → m ≡ min (get_or c.of q 0) n → record { of = set c.of q m } ≡ from_counts (capped_at c q n)
+  pub capped-known : (m : ℕ) → length c.of ≡ 8 → q < 8 → m ≡ min (get_or c.of q 0) n
+      → record { of = set c.of q m } ≡ from_counts (capped_at c q n)
   capped-known m eight lt is = eight-counts (record { of = set c.of q m }) (length-set c.of q m ∙ eight) ∙ same_counts (λ r. get_or (set c.of q m) r 0) (capped_at c q n) (λ r few. elim (cases_eq r q) [
     | inl e ↦
         ap (λ p. get_or (set c.of q m) p 0) e
@@ -87,4 +99,7 @@ module _ (c : Counts) (q n : ℕ) where
   ])
 
   pub capped-past : length c.of ≡ 8 → 8 ≤ q → c ≡ from_counts (capped_at c q n)
-  capped-past eight past = eight-counts c eight ∙ same_counts (λ r. get_or c.of r 0) (capped_at c q n) (λ r few. sym (count_in-known c r few) ∙ sym (capped_at-other r (λ e. absurd (omega (arith, e, few, past)))))
+  capped-past eight past =
+      eight-counts c eight
+      ∙ same_counts (λ r. get_or c.of r 0) (capped_at c q n)
+      (λ r few. sym (count_in-known c r few) ∙ sym (capped_at-other r (λ e. absurd (omega (arith, e, few, past)))))

@@ -20,7 +20,8 @@ history-from_histories h (suc (suc (suc (suc (suc (suc (suc (suc r)))))))) lt = 
 
 pub history_past : (s : Histories) (r : ℕ) → 8 ≤ r → history s r ≡ []
 unfolding history
-history_past s r past = get_or_past (s.of_0 ∷ s.of_1 ∷ s.of_2 ∷ s.of_3 ∷ s.of_4 ∷ s.of_5 ∷ s.of_6 ∷ s.of_7 ∷ []) r [] past
+history_past s r past =
+    get_or_past (s.of_0 ∷ s.of_1 ∷ s.of_2 ∷ s.of_3 ∷ s.of_4 ∷ s.of_5 ∷ s.of_6 ∷ s.of_7 ∷ []) r [] past
 
 pub same_histories : (s t : Histories) → ((r : ℕ) → r < 8 → history s r ≡ history t r) → s ≡ t
 unfolding history
@@ -39,11 +40,14 @@ pub history-empty : (r : ℕ) → history empty r ≡ []
 unfolding empty
 history-empty r = elim (cases_lt r 8) [ inl lt ↦ history-from_histories (λ q. []) r lt | inr le ↦ history_past _ r le ]
 
-pub history-with_same : (s : Histories) (q : ℕ) (ds : List ObjectOp) (r : ℕ) → q < 8 → r ≡ q → history (with_history s q ds) r ≡ ds
+pub history-with_same : (s : Histories) (q : ℕ) (ds : List ObjectOp) (r : ℕ) → q < 8 → r ≡ q
+    → history (with_history s q ds) r ≡ ds
 unfolding with_history
-history-with_same s q ds r lt e = history-from_histories (λ p. cond (eqb p q) ds (history s p)) r (omega arith) ∙ rw (eq-eqb r q e)
+history-with_same s q ds r lt e =
+    history-from_histories (λ p. cond (eqb p q) ds (history s p)) r (omega arith) ∙ rw (eq-eqb r q e)
 
-pub history-with_other : (s : Histories) (q : ℕ) (ds : List ObjectOp) (r : ℕ) → r ≢ q → history (with_history s q ds) r ≡ history s r
+pub history-with_other : (s : Histories) (q : ℕ) (ds : List ObjectOp) (r : ℕ) → r ≢ q
+    → history (with_history s q ds) r ≡ history s r
 unfolding with_history
 history-with_other s q ds r ne = elim (cases_lt r 8) [
   | inl lt ↦ history-from_histories (λ p. cond (eqb p q) ds (history s p)) r lt ∙ rw (ne_eqb r q ne)
@@ -62,7 +66,8 @@ with_history-history s r lt = same_histories _ _ (λ q _. elim (cases_eq q r) [
   | inr ne ↦ history-with_other s r (history s r) q ne
 ])
 
-pub with_history-with_history : (s : Histories) (r : ℕ) (xs ys : List ObjectOp) → r < 8 → with_history (with_history s r xs) r ys ≡ with_history s r ys
+pub with_history-with_history : (s : Histories) (r : ℕ) (xs ys : List ObjectOp) → r < 8
+    → with_history (with_history s r xs) r ys ≡ with_history s r ys
 with_history-with_history s r xs ys lt = same_histories _ _ (λ q _. elim (cases_eq q r) [
   | inl e ↦ history-with_same (with_history s r xs) r ys q lt e ∙ sym (history-with_same s r ys q lt e)
   | inr ne ↦ history-with_other (with_history s r xs) r ys q ne ∙ history-with_other s r xs q ne ∙ sym (history-with_other s r ys q ne)
@@ -77,13 +82,15 @@ count-push s u next within r =
       | inr ne ↦ omega (arith, ap length (history-with_other s q (history s q ++ object_op_of u ∷ []) r ne), within r)
     ]
 
-pub count-edited : (s : Histories) (q : ℕ) (ds : List ObjectOp) → q < 8 → length ds ≤ 1000000 → IsWithinLimit s → IsWithinLimit (with_history s q ds)
+pub count-edited : (s : Histories) (q : ℕ) (ds : List ObjectOp) → q < 8 → length ds ≤ 1000000 → IsWithinLimit s
+    → IsWithinLimit (with_history s q ds)
 count-edited s q ds known few within r = elim (cases_eq r q) [
   | inl e ↦ omega (arith, ap length (history-with_same s q ds r known e))
   | inr ne ↦ omega (arith, ap length (history-with_other s q ds r ne), within r)
 ]
 
-pub count-shortened : (s : Histories) (q n : ℕ) → q < 8 → IsWithinLimit s → IsWithinLimit (with_history s q (take n (history s q)))
+pub count-shortened : (s : Histories) (q n : ℕ) → q < 8 → IsWithinLimit s
+    → IsWithinLimit (with_history s q (take n (history s q)))
 count-shortened s q n known within r = elim (cases_eq r q) [
   | inl e ↦ omega (arith, ap length (history-with_same s q (take n (history s q)) r known e), length-take n (history s q), within q)
   | inr ne ↦ omega (arith, ap length (history-with_other s q (take n (history s q)) r ne), within r)

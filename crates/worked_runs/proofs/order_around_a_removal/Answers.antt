@@ -10,7 +10,10 @@ returns-clause-by_place c =
 
 pub returns-clause-by_submission : goal.returns-clause-by_submission
 returns-clause-by_submission c =
-    c.learnt_sets_hold_what_was_learnt_before.ensures g until_learnt more 0 removal first second first_then refl second_now refl removal_held
+    c.learnt_sets_hold_what_was_learnt_before.ensures g until_learnt more 0 removal first second first_then refl
+    second_now refl removal_held
 
 pub returns-clause-shown : goal.returns-clause-shown
-returns-clause-shown c = c.views_hold_what_they_remove.ensures g until_learnt more 0 1 (add ∷ []) 0 stood removal_shown add (0, omega arith, refl)
+returns-clause-shown c =
+    c.views_hold_what_they_remove.ensures g until_learnt more 0 1 (add ∷ []) 0 stood removal_shown add
+    (0, omega arith, refl)

@@ -6,11 +6,14 @@ use Rattle.la_commit.proofs.learnt.all_sole.Goals.{in-Some+else-not-vote, in_def
 
 pub returns-then-not-vote : goal.returns-then-not-vote
 returns-then-not-vote c =
-    sym (all-fails (λ v. v.sole) c.args.set.now c.loop-place.place c.in-Some.vote (sym c.in-Some.ensures) (grind (arith, common_steps)) c.loop-place.invariant)
+    sym
+    (all-fails (λ v. v.sole) c.args.set.now c.loop-place.place c.in-Some.vote (sym c.in-Some.ensures)
+    (grind (arith, common_steps)) c.loop-place.invariant)
 
 pub loop-place-preserved : goal.loop-place-preserved
 loop-place-preserved c = elim c.match-vote_at.branch [
   | in-Some+else-not-vote w ↦
-      all-more (λ v. v.sole) c.args.set.now c.loop-place.place w.in-Some.vote (sym w.in-Some.ensures) (grind (arith, common_steps)) c.loop-place.invariant
+      all-more (λ v. v.sole) c.args.set.now c.loop-place.place w.in-Some.vote (sym w.in-Some.ensures)
+      (grind (arith, common_steps)) c.loop-place.invariant
   | in_default w ↦ all-skip (λ v. v.sole) c.args.set.now c.loop-place.place (sym c.vote_at.ensures ∙ w.in_default.is) c.loop-place.invariant
 ]

@@ -15,7 +15,8 @@ returns-in-Ok-clause-outcome g c =
     )
 
 pub returns-in-Ok-clause-grows : goal.returns-in-Ok-clause-grows
-returns-in-Ok-clause-grows g c = c.views_grow.ensures _ _ (or_tick (call_line c.args.input.now.line)) c.in-Ok.ensures.staged.1
+returns-in-Ok-clause-grows g c =
+    c.views_grow.ensures _ _ (or_tick (call_line c.args.input.now.line)) c.in-Ok.ensures.staged.1
 
 pub returns-in-Err-Machine-clause-outcome : goal.returns-in-Err-Machine-clause-outcome
 returns-in-Err-Machine-clause-outcome g c =

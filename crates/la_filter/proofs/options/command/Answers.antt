@@ -46,4 +46,5 @@ unreachable-requires c =
     let kinds = c.in_ok-matches.ensures.kinds (ap is_simple_and_free is ∙ lattice_is_free) in
     let entered = matches.1 ∙ ap (λ (a : App). subcommand_of a words) is in
     some_entered words (sym (ap (λ (a : App). fault_of a words) is) ∙ kinds)
-    (sym (ap (option_map (λ p. rows_of (found_of p.1.now))) c.in-None.is) ∙ c.subcommand.ensures.rows ∙ ap (option_map (λ p. p.1)) entered)
+    (sym (ap (option_map (λ p. rows_of (found_of p.1.now))) c.in-None.is) ∙ c.subcommand.ensures.rows
+    ∙ ap (option_map (λ p. p.1)) entered)

@@ -5,4 +5,6 @@ use Rattle.la_filter.proofs.options.program.Goals as goal
 
 pub returns : goal.returns
 returns c = IfOk-weaker c.subcommand.result _ _
-    (λ made h. h.shape c.in_ok-node.ensures.local ∙ ap₂ with_subcommand c.alone.ensures (ap (λ (a : App). a.top) c.in_ok-node.ensures.app)) c.subcommand.ensures
+    (λ made h.
+    h.shape c.in_ok-node.ensures.local
+    ∙ ap₂ with_subcommand c.alone.ensures (ap (λ (a : App). a.top) c.in_ok-node.ensures.app)) c.subcommand.ensures

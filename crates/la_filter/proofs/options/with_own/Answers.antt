@@ -6,7 +6,9 @@ use Rattle.la_filter.proofs.options.with_own.Goals as goal
 
 pub returns-clause-app : goal.returns-clause-app
 returns-clause-app c =
-    let rule = c.number-own.ensures.rule 0 7 (rw (c.value_parser.ensures, c.new.ensures.start, c.new.ensures.end) at c.range-places.ensures) in
+    let rule =
+    c.number-own.ensures.rule 0 7
+    (rw (c.value_parser.ensures, c.new.ensures.start, c.new.ensures.end) at c.range-places.ensures) in
     let local : c.required.result.global ≡ false = ap (λ a. a.global) c.required.ensures ∙ c.number-own.ensures.local in
     let whole = ap rule_of c.required.ensures ∙ ap (λ (r : Rule). record r { required = true }) rule in
     IfOk-weaker c.arg.result _ _ (λ made h. h.shape local ∙ ap (with_rule (app_of c.args.command)) whole) c.arg.ensures

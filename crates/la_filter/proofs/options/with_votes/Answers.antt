@@ -13,8 +13,11 @@ some_range (Some r) q h = ap Some h
 
 pub returns-clause-app : goal.returns-clause-app
 returns-clause-app c =
-    let rule = c.number-votes.ensures.rule 1 1000 (rw (c.value_parser.ensures, c.new.ensures.start, c.new.ensures.end) at c.range-weights.ensures) in
-    let local : c.num_args.result.global ≡ false = ap (λ a. a.global) c.num_args.ensures.0 ∙ c.number-votes.ensures.local in
+    let rule =
+    c.number-votes.ensures.rule 1 1000
+    (rw (c.value_parser.ensures, c.new.ensures.start, c.new.ensures.end) at c.range-weights.ensures) in
+    let local : c.num_args.result.global ≡ false =
+    ap (λ a. a.global) c.num_args.ensures.0 ∙ c.number-votes.ensures.local in
     let range = some_range c.num_args.result.num_vals (record { start_inclusive = 1; end_inclusive = 8 }) (rw (c.new-2.ensures.start, c.new-2.ensures.end) at c.num_args.ensures.1) in
     let whole = ap rule_of c.num_args.ensures.0
     ∙ ap (λ (r : Rule). record r { range = c.num_args.result.num_vals }) rule
@@ -23,5 +26,6 @@ returns-clause-app c =
 
 pub returns-clause-local : goal.returns-clause-local
 returns-clause-local c none =
-    let local : c.num_args.result.global ≡ false = ap (λ a. a.global) c.num_args.ensures.0 ∙ c.number-votes.ensures.local in
+    let local : c.num_args.result.global ≡ false =
+    ap (λ a. a.global) c.num_args.ensures.0 ∙ c.number-votes.ensures.local in
     IfOk-weaker c.arg.result _ _ (λ made h. stays_local _ _ made h local none) c.arg.ensures

@@ -16,8 +16,11 @@ returns g c = inr (record {
   why = c.in-Err.fault;
   is = c.end_with-in-Err.ensures.status;
   between = c.start.new.errors;
-  stops = subst (λ os. IsRunRefusal os c.args.options.now.config c.args.options.now.own (g.D.Disk.seen c.args.disk) (TellsAll g.E.Write.contents g.E.Listener.refuses c.args.errors.now c.start.new.errors)
-      (LeavesOfRun g.D.Disk.seen g.D.Disk.may_leave g.D.Disk.moment g.D.Disk.left_since (at_start c.args.options.now.config c.args.options.now.own) c.args.disk)
+  stops =
+      subst
+      (λ os. IsRunRefusal os c.args.options.now.config c.args.options.now.own (g.D.Disk.seen c.args.disk) (TellsAll g.E.Write.contents g.E.Listener.refuses c.args.errors.now c.start.new.errors)
+      (LeavesOfRun g.D.Disk.seen g.D.Disk.may_leave g.D.Disk.moment g.D.Disk.left_since
+      (at_start c.args.options.now.config c.args.options.now.own) c.args.disk)
       (g.R.Read.remaining c.args.input.now) (g.R.Read.remaining c.start.new.input) (g.W.Write.contents c.args.output.now) (g.W.Write.contents c.start.new.output) c.in-Err.fault) c.in-Ok-shelf_of.ensures.1 c.in-Err.ensures.err;
   told = c.end_with-in-Err.ensures.told;
 })

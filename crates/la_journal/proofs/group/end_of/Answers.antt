@@ -6,7 +6,9 @@ use Rattle.la_journal.proofs.group.end_of.Goals as goal
 pub returns-in-None-clause-front : goal.returns-in-None-clause-front
 returns-in-None-clause-front c =
     let none = c.first_end.ensures.none c.in-None.is in
-    absurd (drop_not_empty c.loop-done._done (lines c.args.text.now) (omega (arith, c.loop-done-test.true, c.requires)) (sym c.loop-done.invariant.rest ∙ none))
+    absurd
+    (drop_not_empty c.loop-done._done (lines c.args.text.now) (omega (arith, c.loop-done-test.true, c.requires))
+    (sym c.loop-done.invariant.rest ∙ none))
 
 pub loop-done-preserved : goal.loop-done-preserved
 loop-done-preserved c =
@@ -15,7 +17,8 @@ loop-done-preserved c =
     let now = c.loop-done.rest.now in
     let next = drop (c.in-Some.end + 1) now in
     let on : k + 1 ≡ suc k = omega arith in
-    let goes = drop_next k all (take c.in-Some.end now) (lines next) (sym c.loop-done.invariant.rest ∙ c.in-Some.ensures.line) in
+    let goes =
+    drop_next k all (take c.in-Some.end now) (lines next) (sym c.loop-done.invariant.rest ∙ c.in-Some.ensures.line) in
     let rest_is : lines next ≡ drop (k + 1) all = sym (ap (λ n. drop n all) on ∙ goes.1) in
     let front_is : c.args.text.now ≡ file_of (take (k + 1) all) ++ next =
     c.loop-done.invariant.front

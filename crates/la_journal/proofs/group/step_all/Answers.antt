@@ -13,7 +13,8 @@ loop-input-preserved g c =
     let start = g.M.Machine.state c.args.machine.now in
     let all = calls g.M.Machine.call c.args.inputs.now in
     let inv = c.loop-input.invariant in
-    let next : take (k + 1) all ≡ take k all ++ g.M.Machine.call item ∷ [] = next_of g.M.Machine.call c.args.inputs.now k item c.loop-input-test.true c.input-item.is in
+    let next : take (k + 1) all ≡ take k all ++ g.M.Machine.call item ∷ [] =
+    next_of g.M.Machine.call c.args.inputs.now k item c.loop-input-test.true c.input-item.is in
     let pushed = c.push_reserved.ensures.items in
     let within : many ≤ length A = omega (arith, inv.many) in
     record {
@@ -25,7 +26,9 @@ loop-input-preserved g c =
           ∙ ap (map g.M.Machine.answer) (drop-append-le many A (c.in-Ok.answer ∷ []) within)
           ∙ map_push g.M.Machine.answer (drop many A) c.in-Ok.answer
           ∙ (λ i. inv.answers i ++ c.in-Ok.ensures.answer i ∷ [])
-          ∙ sym (replies_push g.M.Machine.step g.M.Machine.answers (take k all) (Some start) (g.M.Machine.call item) (g.M.Machine.state c.loop-input.machine) inv.state)
+          ∙ sym
+          (replies_push g.M.Machine.step g.M.Machine.answers (take k all) (Some start) (g.M.Machine.call item)
+          (g.M.Machine.state c.loop-input.machine) inv.state)
           ∙ ap (λ l. replies_from g.M.Machine.step g.M.Machine.answers l (Some start)) (sym next);
       state = ap (λ l. steps_from g.M.Machine.step l (Some start)) next
           ∙ from_push g.M.Machine.step g.M.Machine.answers (take k all) (Some start) (g.M.Machine.call item)
@@ -42,7 +45,8 @@ returns-in-Err-clause-refusal g c =
     let start = g.M.Machine.state c.args.machine.now in
     let all = calls g.M.Machine.call c.args.inputs.now in
     let inv = c.loop-input.invariant in
-    let next : take (k + 1) all ≡ take k all ++ g.M.Machine.call item ∷ [] = next_of g.M.Machine.call c.args.inputs.now k item c.loop-input-test.true c.input-item.is in
+    let next : take (k + 1) all ≡ take k all ++ g.M.Machine.call item ∷ [] =
+    next_of g.M.Machine.call c.args.inputs.now k item c.loop-input-test.true c.input-item.is in
     let so_many : length A - many + 1 ≡ k + 1 = omega (arith, inv.many) in (
       omega (arith, inv.many, c.loop-input-test.true),
       ⊎_elim (λ lacks. inl lacks)

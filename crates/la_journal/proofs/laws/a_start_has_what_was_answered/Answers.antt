@@ -7,6 +7,11 @@ returns g c dead found recovered t start first calls known begun leaves =
     let read = known (g.D.Disk.seen found) begun.read in (
       read,
       λ c left. ⊎_elim (λ was. known c (begun.crash c was))
-          (λ same. (read.0, read.1, same_lines g.M.Machine.named_state g.M.Machine.named g.M.Machine.step start (g.D.Disk.seen found) c same ∙ read.2))
+          (λ same. (
+            read.0,
+            read.1,
+            same_lines g.M.Machine.named_state g.M.Machine.named g.M.Machine.step start
+                (g.D.Disk.seen found) c same ∙ read.2,
+          ))
           (leaves.each c left),
     )

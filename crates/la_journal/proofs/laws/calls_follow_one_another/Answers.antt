@@ -10,5 +10,7 @@ returns g c old mid new start first next taken later one led two =
     let leads = after g.M.Machine.named_state g.M.Machine.named g.M.Machine.step start in
     let P = LeadsToSome leads g.M.Machine.step (taken ++ later) first in
     joined g.D.Disk.moment g.D.Disk.left_since P old mid new
-    (weaker g.D.Disk.moment g.D.Disk.left_since old mid _ P (λ f some. first_of_all leads g.M.Machine.step taken later first next f some) one)
-    (weaker g.D.Disk.moment g.D.Disk.left_since mid new _ P (λ f some. later_of_all leads g.M.Machine.step taken later first next f led some) two)
+    (weaker g.D.Disk.moment g.D.Disk.left_since old mid _ P
+    (λ f some. first_of_all leads g.M.Machine.step taken later first next f some) one)
+    (weaker g.D.Disk.moment g.D.Disk.left_since mid new _ P
+    (λ f some. later_of_all leads g.M.Machine.step taken later first next f led some) two)

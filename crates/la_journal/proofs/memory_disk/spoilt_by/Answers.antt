@@ -15,12 +15,18 @@ loop-n-preserved c =
       bytes = omega (arith, c.loop-n-test.true, c.min-many.ensures);
       marks = omega (arith, c.loop-n-test.true, c.min-many.ensures);
       so_far = ap (λ (l : List ℕ). l ++ spoilt_by (drop (n + 1) marks) (drop (n + 1) bytes)) c.in_ok-push.ensures.items
-          ∙ one_more c.loop-n.left.items n marks bytes c.as_left.result (omega (arith, c.loop-n-test.true, c.min-many.ensures)) (omega (arith, c.loop-n-test.true, c.min-many.ensures)) byte
+          ∙ one_more c.loop-n.left.items n marks bytes c.as_left.result
+          (omega (arith, c.loop-n-test.true, c.min-many.ensures))
+          (omega (arith, c.loop-n-test.true, c.min-many.ensures)) byte
           ∙ c.loop-n.invariant.so_far;
     }
 
 pub returns : goal.returns
 returns c =
     let n = c.loop-n.n in
-    let none = none_more n c.args.spoilt.now c.args.bytes.now (or_other (length c.args.spoilt.now) (length c.args.bytes.now) n (omega (arith, c.loop-n-test.false, c.min-many.ensures))) in
-    sym (append-nil c.loop-n.left.items) ∙ ap (λ (l : List ℕ). c.loop-n.left.items ++ l) (sym none) ∙ c.loop-n.invariant.so_far
+    let none =
+    none_more n c.args.spoilt.now c.args.bytes.now
+    (or_other (length c.args.spoilt.now) (length c.args.bytes.now) n
+    (omega (arith, c.loop-n-test.false, c.min-many.ensures))) in
+    sym (append-nil c.loop-n.left.items) ∙ ap (λ (l : List ℕ). c.loop-n.left.items ++ l) (sym none)
+    ∙ c.loop-n.invariant.so_far

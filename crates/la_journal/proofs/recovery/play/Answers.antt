@@ -10,7 +10,10 @@ returns-in-Err-clause-cause g c =
     let P = plays g.M.Machine.named g.M.Machine.step in
     let file = c.args.bytes.now in
     let begun = begins g.M.Machine.named_state (says file).state (g.M.Machine.state c.args.machine.now) in
-    cause_stays g.M.Machine.lacks_memory begun _ (λ none. ap (λ (o : Option g.M.Machine.State). steps_from P (says file).calls o) none ∙ none_stays P (says file).calls) c.in-Err.why c.in-Err.ensures.cause
+    cause_stays g.M.Machine.lacks_memory begun _
+    (λ none.
+    ap (λ (o : Option g.M.Machine.State). steps_from P (says file).calls o) none ∙ none_stays P (says file).calls)
+    c.in-Err.why c.in-Err.ensures.cause
 
 pub returns-in-Some-state_in-clause-cause : goal.returns-in-Some-state_in-clause-cause
 returns-in-Some-state_in-clause-cause g c =
@@ -19,7 +22,9 @@ returns-in-Some-state_in-clause-cause g c =
     let is : state_in line ≡ Some c.in-Some-state_in._state.now = search rules in
     ap (steps_from (plays g.M.Machine.named g.M.Machine.step) (says c.args.bytes.now).calls) c.in-Ok.ensures.state
     ∙ sym c.loop-n.invariant.state
-    ∙ stops g.M.Machine.named_state g.M.Machine.named g.M.Machine.step state _ _ line c.in-Some.ensures.line (state_plays_none g.M.Machine.named_state g.M.Machine.named g.M.Machine.step state line c.in-Some-state_in._state.now is)
+    ∙ stops g.M.Machine.named_state g.M.Machine.named g.M.Machine.step state _ _ line c.in-Some.ensures.line
+    (state_plays_none g.M.Machine.named_state g.M.Machine.named g.M.Machine.step state line
+    c.in-Some-state_in._state.now is)
 
 pub returns-in_default-read-2-clause-cause : goal.returns-in_default-read-2-clause-cause
 returns-in_default-read-2-clause-cause g c =
@@ -29,7 +34,8 @@ returns-in_default-read-2-clause-cause g c =
     let no_call : g.M.Machine.named line ≡ None = search rules in
     ap (steps_from (plays g.M.Machine.named g.M.Machine.step) (says c.args.bytes.now).calls) c.in-Ok.ensures.state
     ∙ sym c.loop-n.invariant.state
-    ∙ stops g.M.Machine.named_state g.M.Machine.named g.M.Machine.step state _ _ line c.in-Some.ensures.line (played_as g.M.Machine.named_state g.M.Machine.named g.M.Machine.step state line None no_state no_call)
+    ∙ stops g.M.Machine.named_state g.M.Machine.named g.M.Machine.step state _ _ line c.in-Some.ensures.line
+    (played_as g.M.Machine.named_state g.M.Machine.named g.M.Machine.step state line None no_state no_call)
 
 pub returns-in-Err-apply-clause-cause : goal.returns-in-Err-apply-clause-cause
 returns-in-Err-apply-clause-cause g c =

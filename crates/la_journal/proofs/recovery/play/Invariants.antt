@@ -6,7 +6,9 @@ use Rattle.la_journal.proofs.recovery.play.Given as goal
 
 abbrev pub invariant-loop-n : goal.invariant-loop-n
 invariant-loop-n g l = record {
-  state : steps_from (plays g.M.Machine.named g.M.Machine.step) (lines l.rest) (Some (g.M.Machine.state l.machine)) ≡ steps_from (plays g.M.Machine.named g.M.Machine.step) (says l.bytes).calls (Some (g.M.Machine.state l.initial.machine));
+  state : steps_from (plays g.M.Machine.named g.M.Machine.step) (lines l.rest) (Some (g.M.Machine.state l.machine))
+      ≡ steps_from (plays g.M.Machine.named g.M.Machine.step) (says l.bytes).calls
+      (Some (g.M.Machine.state l.initial.machine));
   within : length l.rest ≤ length l.bytes;
   place : length (file_of (lines l.bytes)) + length l.rest ≡ length l.bytes + length (file_of (lines l.rest));
 }

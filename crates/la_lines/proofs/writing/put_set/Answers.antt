@@ -8,5 +8,7 @@ use Rattle.la_lines.proofs.writing.put_set.Goals as goal
 pub loop-place-preserved : goal.loop-place-preserved
 loop-place-preserved c =
     let got : slice_get (updates c.args.set.now) c.loop-place.place ≡ Some c.in-Some.update.now = search rules in
-    let put : c.put_update.new.out.items ≡ c.loop-place.out.items ++ 59 ∷ update_text c.in-Some.update.now = search rules in
-    put_next 59 update_text (updates c.args.set.now) c.loop-place.place c.in-Some.update.now c.loop-place.out.items c.put_update.new.out.items _ got put c.loop-place.invariant
+    let put : c.put_update.new.out.items ≡ c.loop-place.out.items ++ 59 ∷ update_text c.in-Some.update.now =
+    search rules in
+    put_next 59 update_text (updates c.args.set.now) c.loop-place.place c.in-Some.update.now c.loop-place.out.items
+    c.put_update.new.out.items _ got put c.loop-place.invariant

@@ -5,4 +5,6 @@ use Rattle.la_lines.specs.Updates.{update_text}
 use Rattle.la_lines.proofs.writing.put_set.Given as goal
 
 abbrev pub invariant-loop-place : goal.invariant-loop-place
-invariant-loop-place l = l.out.items ++ spaced 59 (map update_text (drop l.place (updates l.set))) ≡ l.initial.out.items ++ spaced 59 (map update_text (updates l.set))
+invariant-loop-place l =
+    l.out.items ++ spaced 59 (map update_text (drop l.place (updates l.set)))
+    ≡ l.initial.out.items ++ spaced 59 (map update_text (updates l.set))

@@ -8,4 +8,5 @@ pub loop-place-preserved : goal.loop-place-preserved
 loop-place-preserved c =
     let got : slice_get c.args.tags.now c.loop-place.place ≡ Some c.in-Some.tag.now = search rules in
     let put : c.put_tag.new.out.items ≡ c.loop-place.out.items ++ 32 ∷ id_text c.in-Some.tag.now = search rules in
-    put_next 32 id_text c.args.tags.now c.loop-place.place c.in-Some.tag.now c.loop-place.out.items c.put_tag.new.out.items _ got put c.loop-place.invariant
+    put_next 32 id_text c.args.tags.now c.loop-place.place c.in-Some.tag.now c.loop-place.out.items
+    c.put_tag.new.out.items _ got put c.loop-place.invariant

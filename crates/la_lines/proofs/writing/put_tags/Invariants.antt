@@ -4,4 +4,5 @@ use Rattle.la_lines.specs.Joined.{spaced}
 use Rattle.la_lines.proofs.writing.put_tags.Given as goal
 
 abbrev pub invariant-loop-place : goal.invariant-loop-place
-invariant-loop-place l = l.out.items ++ spaced 32 (map id_text (drop l.place l.tags)) ≡ l.initial.out.items ++ spaced 32 (map id_text l.tags)
+invariant-loop-place l =
+    l.out.items ++ spaced 32 (map id_text (drop l.place l.tags)) ≡ l.initial.out.items ++ spaced 32 (map id_text l.tags)

@@ -12,10 +12,13 @@ pub returns-clause-own_steps : goal.returns-clause-own_steps
 returns-clause-own_steps c s us = steps-kept (λ u. is_of_kind (kind_of s) u.op) s (λ u not. not) us
 
 pub returns-clause-marks : goal.returns-clause-marks
-returns-clause-marks c kind us query = value-kept kind (λ u. is_of_some_kind u.op) (λ u not. of_no_kind kind u.op not) us query
+returns-clause-marks c kind us query =
+    value-kept kind (λ u. is_of_some_kind u.op) (λ u not. of_no_kind kind u.op not) us query
 
 pub returns-clause-mark_tags : goal.returns-clause-mark_tags
-returns-clause-mark_tags c kind us x = tags_by-kept kind (λ u. is_of_some_kind u.op) (λ u not. of_no_kind kind u.op not) us x
+returns-clause-mark_tags c kind us x =
+    tags_by-kept kind (λ u. is_of_some_kind u.op) (λ u not. of_no_kind kind u.op not) us x
 
 pub returns-clause-mark_steps : goal.returns-clause-mark_steps
-returns-clause-mark_steps c s us = steps-kept (λ u. is_of_some_kind u.op) s (λ u not. of_no_kind (kind_of s) u.op not) us
+returns-clause-mark_steps c s us =
+    steps-kept (λ u. is_of_some_kind u.op) s (λ u not. of_no_kind (kind_of s) u.op not) us

@@ -12,10 +12,12 @@ returns-clause-commute c = after-swap
 
 pub returns-clause-answers : goal.returns-clause-answers
 returns-clause-answers c kind set number order query one =
-    ap (λ s. reply s query) (steps-IsPermutation (start kind) (updates_at set number) order (distinct-view set number) one)
+    ap (λ s. reply s query)
+    (steps-IsPermutation (start kind) (updates_at set number) order (distinct-view set number) one)
     ∙ reply-steps kind (updates_at set number) query (distinct-view set number)
 
 pub returns-clause-tags : goal.returns-clause-tags
 returns-clause-tags c kind set number order x one =
-    ap (λ s. tags_of s x) (steps-IsPermutation (start kind) (updates_at set number) order (distinct-view set number) one)
+    ap (λ s. tags_of s x)
+    (steps-IsPermutation (start kind) (updates_at set number) order (distinct-view set number) one)
     ∙ tags-steps kind (updates_at set number) x (ascending-view set number)

@@ -5,6 +5,7 @@ use Rattle.la_object.proofs.shelf.absorb_all.Given as goal
 
 abbrev pub invariant-loop-at : goal.invariant-loop-at
 invariant-loop-at g l = record {
-  some : states g.B.Replicated.state l.objects ≡ all_absorbed (states g.B.Replicated.state l.initial.objects) (take l.at (map (λ u. u.now) l.run));
+  some : states g.B.Replicated.state l.objects
+      ≡ all_absorbed (states g.B.Replicated.state l.initial.objects) (take l.at (map (λ u. u.now) l.run));
   small : All IsSmall (take l.at (map (λ u. u.now) l.run));
 }

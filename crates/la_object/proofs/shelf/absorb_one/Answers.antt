@@ -17,19 +17,28 @@ returns-in_default-clause-ok g c =
 
 pub absorb-requires : goal.absorb-requires
 absorb-requires g c =
-    let f = g.B.Replicated.state in let es = c.args.objects.now.entries in let u = c.args.update.now in let v = c.in-Some-get_index_mut.object.now in
+    let f =
+    g.B.Replicated.state in let es = c.args.objects.now.entries in let u = c.args.update.now in let v =
+    c.in-Some-get_index_mut.object.now in
     row-HasRoom (rows f es) c.in-Some.place u.object (f v) c.requires
     (row_here f es c.in-Some.place u v v c.in-Some.ensures (sym c.in-Some-get_index_mut.ensures.value))
 
 pub unreachable-requires : goal.unreachable-requires
-unreachable-requires g c = key-value c.args.objects.now.entries c.in-Some.place c.args.update.now.object c.in-Some.ensures (sym c.in-None.ensures.value)
+unreachable-requires g c =
+    key-value c.args.objects.now.entries c.in-Some.place c.args.update.now.object c.in-Some.ensures
+    (sym c.in-None.ensures.value)
 
 pub returns-clause-ok : goal.returns-clause-ok
 returns-clause-ok g c =
     let f = g.B.Replicated.state in let es = c.args.objects.now.entries in
-    on_ok c.absorb.result (rows-absorbed f es c.in-Some.place c.args.update.now c.in-Some-get_index_mut.object.now c.absorb.new.self c.in-Some.ensures (sym c.in-Some-get_index_mut.ensures.value) c.in-Some-get_index_mut.ensures.unique) c.absorb.ensures.ok
+    on_ok c.absorb.result
+    (rows-absorbed f es c.in-Some.place c.args.update.now c.in-Some-get_index_mut.object.now c.absorb.new.self
+    c.in-Some.ensures (sym c.in-Some-get_index_mut.ensures.value) c.in-Some-get_index_mut.ensures.unique)
+    c.absorb.ensures.ok
 
 pub returns-clause-err : goal.returns-clause-err
 returns-clause-err g c =
     let f = g.B.Replicated.state in let es = c.args.objects.now.entries in
-    on_err c.absorb.result (rows-same f es c.in-Some.place c.args.update.now c.in-Some-get_index_mut.object.now c.absorb.new.self c.in-Some.ensures (sym c.in-Some-get_index_mut.ensures.value)) c.absorb.ensures.err
+    on_err c.absorb.result
+    (rows-same f es c.in-Some.place c.args.update.now c.in-Some-get_index_mut.object.now c.absorb.new.self
+    c.in-Some.ensures (sym c.in-Some-get_index_mut.ensures.value)) c.absorb.ensures.err

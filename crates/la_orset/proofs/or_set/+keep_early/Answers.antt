@@ -16,7 +16,10 @@ not_false true h = refl
 not_false false h = sym h
 
 pub returns-in_default-clause-ok : goal.returns-in_default-clause-ok
-returns-in_default-clause-ok t c = subst (λ ids. KeepsEarly c.args.early.now c.args.puts.now ids c.args.early.now) (sym (drop_none c.args.ids.now c.args.place (sym c.in_default.ensures))) (keeps_none c.args.early.now c.args.puts.now)
+returns-in_default-clause-ok t c =
+    subst (λ ids. KeepsEarly c.args.early.now c.args.puts.now ids c.args.early.now)
+    (sym (drop_none c.args.ids.now c.args.place (sym c.in_default.ensures)))
+    (keeps_none c.args.early.now c.args.puts.now)
 
 pub keep_early-requires : goal.keep_early-requires
 keep_early-requires t c =
@@ -41,7 +44,8 @@ overflow_add-place-2 t c =
 pub returns-then-has-clause-ok : goal.returns-then-has-clause-ok
 returns-then-has-clause-ok t c =
     let early = c.args.early.now in let puts = c.args.puts.now in let id = c.in-Some.id.now in
-    on_ok c.keep_early.result _ _ (λ rest. subst (λ ids. KeepsEarly early puts ids c.keep_early.new.early) (sym (drop_some c.args.ids.now c.args.place id (sym c.in-Some.ensures)))
+    on_ok c.keep_early.result _ _
+    (λ rest. subst (λ ids. KeepsEarly early puts ids c.keep_early.new.early) (sym (drop_some c.args.ids.now c.args.place id (sym c.in-Some.ensures)))
     (keeps_put early puts id (drop (c.args.place + 1) c.args.ids.now) c.keep_early.new.early (sym c.has.ensures ∙ c.if-has.true) rest)) c.keep_early.ensures.ok
 
 pub returns-then-new-clause-err : goal.returns-then-new-clause-err
@@ -57,7 +61,11 @@ returns-else-new-clause-err t c =
 
 pub returns-clause-ok : goal.returns-clause-ok
 returns-clause-ok t c =
-    let early = c.args.early.now in let puts = c.args.puts.now in let id = c.in-Some.id.now in let new = c.keep_early-2.new.early in
+    let early =
+    c.args.early.now in let puts = c.args.puts.now in let id = c.in-Some.id.now in let new = c.keep_early-2.new.early
+    in
     let rest = drop (c.args.place + 1) c.args.ids.now in
-    subst (λ ids. KeepsEarly early puts ids new) (sym (drop_some c.args.ids.now c.args.place id (sym c.in-Some.ensures)))
-    (keeps_more early puts id rest new (sym c.has.ensures ∙ c.if-has.false) (subst (λ s. KeepsEarly s puts rest new) c.in_ok-new.ensures.ok c.in_default-keep_early.ensures.ok))
+    subst (λ ids. KeepsEarly early puts ids new)
+    (sym (drop_some c.args.ids.now c.args.place id (sym c.in-Some.ensures)))
+    (keeps_more early puts id rest new (sym c.has.ensures ∙ c.if-has.false)
+    (subst (λ s. KeepsEarly s puts rest new) c.in_ok-new.ensures.ok c.in_default-keep_early.ensures.ok))

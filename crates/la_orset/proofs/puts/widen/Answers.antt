@@ -8,5 +8,13 @@ loop-alloc-preserved c =
     let old = c.loop-alloc.by_replica.items in
     let items = c.in_ok-push.ensures.items ∙ ap (λ rows. old ++ rows ∷ []) c.new.ensures in (
       ap (entries_from 0) items ∙ entries-nothing 0 old ∙ c.loop-alloc.invariant.0,
-      omega (arith, ap length items, length-append old ([] ∷ []), c.loop-alloc-test.true, c.len.ensures, c.loop-alloc.by_replica.ok, c.requires.least),
+      omega (
+        arith,
+        ap length items,
+        length-append old ([] ∷ []),
+        c.loop-alloc-test.true,
+        c.len.ensures,
+        c.loop-alloc.by_replica.ok,
+        c.requires.least,
+      ),
     )

@@ -11,6 +11,9 @@ returns-in-Ok-clause-ok c =
     let id = c.args.id in let tags = c.new-tags.result in
     let sorted = one_sorted id in
     c.in-Ok.ensures.ok
-    ∙ last_tag tags id [] c.in-Ok.field-0 (subst (λ ts. IsStrictlySortedBy id_cmp (ts ++ id ∷ [])) (sym c.new-tags.ensures) sorted) c.in-Ok.ensures.new
+    ∙ last_tag tags id [] c.in-Ok.field-0
+    (subst (λ ts. IsStrictlySortedBy id_cmp (ts ++ id ∷ [])) (sym c.new-tags.ensures) sorted) c.in-Ok.ensures.new
     ∙ ap (λ ts. ts ++ id ∷ []) c.new-tags.ensures
-    ∙ sym (keys-set_of id_cmp_total id_cmp-IsAntisymmetric (id ∷ []) (sorted-units id_cmp_total id_cmp-IsAntisymmetric (id ∷ []) sorted))
+    ∙ sym
+    (keys-set_of id_cmp_total id_cmp-IsAntisymmetric (id ∷ [])
+    (sorted-units id_cmp_total id_cmp-IsAntisymmetric (id ∷ []) sorted))

@@ -7,5 +7,6 @@ use Rattle.la_orset.proofs.tag_set.with_tag.Goals as goal
 
 pub returns-then-not-has_any-clause-ok : goal.returns-then-not-has_any-clause-ok
 returns-then-not-has_any-clause-ok c =
-    let nothing = nothing_in id_cmp_total id_cmp-IsAntisymmetric c.in-List.list (sym c.has_any.ensures ∙ c.if-not-has_any.true) in
+    let nothing =
+    nothing_in id_cmp_total id_cmp-IsAntisymmetric c.in-List.list (sym c.has_any.ensures ∙ c.if-not-has_any.true) in
     ap (λ t. map.insert t c.args.id tt) (sym nothing ∙ sym (ap tags_of c.in-List.is))

@@ -13,4 +13,5 @@ returns-then-eq c =
 pub returns-else-eq : goal.returns-else-eq
 returns-else-eq c =
     let id = c.args.id in let there = c.in-One.there in
-    kept-only there id (other-id there id (sym c.eq.ensures ∙ c.if-eq.false)) ∙ ap (λ t. map.remove t id) (sym (ap tags_of c.in-One.is))
+    kept-only there id (other-id there id (sym c.eq.ensures ∙ c.if-eq.false))
+    ∙ ap (λ t. map.remove t id) (sym (ap tags_of c.in-One.is))

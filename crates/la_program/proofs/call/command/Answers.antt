@@ -11,11 +11,16 @@ returns-in-Some-clause-ok c =
     let is : app_of c.in_ok-program.field-0 ≡ lattice = c.in_ok-program.ensures.app in
     let matches = c.in_ok-matches.ensures.matches (ap is_simple is ∙ lattice_is_simple) in
     let faultless = c.in_ok-matches.ensures.kinds (ap is_simple_and_free is ∙ lattice_is_free) in
-    let name : subcommand_name_of c.in_ok-matches.matches ≡ Some (codes "play") = sym c.subcommand.ensures.name ∙ ap (option_map (λ p. p.0.now)) c.in-Some.is ∙ ap Some (search rules) in
+    let name : subcommand_name_of c.in_ok-matches.matches ≡ Some (codes "play") =
+    sym c.subcommand.ensures.name ∙ ap (option_map (λ p. p.0.now)) c.in-Some.is ∙ ap Some (search rules) in
     let rows = sym c.subcommand.ensures.rows ∙ ap (option_map (λ p. rows_of (found_of p.1.now))) c.in-Some.is in
     record {
       faultless = sym (ap (λ (a : App). fault_of a words) is) ∙ faultless;
-      named = (_, names_of_parse words c.in_ok-matches.matches (codes "play") _ name rows (matches.1 ∙ ap (λ (a : App). subcommand_of a words) is));
+      named = (
+        _,
+        names_of_parse words c.in_ok-matches.matches (codes "play") _ name rows
+            (matches.1 ∙ ap (λ (a : App). subcommand_of a words) is),
+      );
     }
 
 pub drawn-requires : goal.drawn-requires
@@ -24,9 +29,12 @@ drawn-requires c =
     let is : app_of c.in_ok-program.field-0 ≡ lattice = c.in_ok-program.ensures.app in
     let matches = c.in_ok-matches.ensures.matches (ap is_simple is ∙ lattice_is_simple) in
     let faultless = c.in_ok-matches.ensures.kinds (ap is_simple_and_free is ∙ lattice_is_free) in
-    let name : subcommand_name_of c.in_ok-matches.matches ≡ Some (codes "random") = sym c.subcommand.ensures.name ∙ ap (option_map (λ p. p.0.now)) c.in-Some-2.is ∙ ap Some (search rules) in
+    let name : subcommand_name_of c.in_ok-matches.matches ≡ Some (codes "random") =
+    sym c.subcommand.ensures.name ∙ ap (option_map (λ p. p.0.now)) c.in-Some-2.is ∙ ap Some (search rules) in
     let rows = sym c.subcommand.ensures.rows ∙ ap (option_map (λ p. rows_of (found_of p.1.now))) c.in-Some.is in
-    let named = names_of_parse words c.in_ok-matches.matches (codes "random") _ name rows (matches.1 ∙ ap (λ (a : App). subcommand_of a words) is) in
+    let named =
+    names_of_parse words c.in_ok-matches.matches (codes "random") _ name rows
+    (matches.1 ∙ ap (λ (a : App). subcommand_of a words) is) in
     draw_is_taken words _ (sym (ap (λ (a : App). fault_of a words) is) ∙ faultless) named
 
 pub returns-in-Some-2-clause-ok : goal.returns-in-Some-2-clause-ok
@@ -35,9 +43,12 @@ returns-in-Some-2-clause-ok c =
     let is : app_of c.in_ok-program.field-0 ≡ lattice = c.in_ok-program.ensures.app in
     let matches = c.in_ok-matches.ensures.matches (ap is_simple is ∙ lattice_is_simple) in
     let faultless = c.in_ok-matches.ensures.kinds (ap is_simple_and_free is ∙ lattice_is_free) in
-    let name : subcommand_name_of c.in_ok-matches.matches ≡ Some (codes "random") = sym c.subcommand.ensures.name ∙ ap (option_map (λ p. p.0.now)) c.in-Some-2.is ∙ ap Some (search rules) in
+    let name : subcommand_name_of c.in_ok-matches.matches ≡ Some (codes "random") =
+    sym c.subcommand.ensures.name ∙ ap (option_map (λ p. p.0.now)) c.in-Some-2.is ∙ ap Some (search rules) in
     let rows = sym c.subcommand.ensures.rows ∙ ap (option_map (λ p. rows_of (found_of p.1.now))) c.in-Some.is in
-    let named = names_of_parse words c.in_ok-matches.matches (codes "random") _ name rows (matches.1 ∙ ap (λ (a : App). subcommand_of a words) is) in
+    let named =
+    names_of_parse words c.in_ok-matches.matches (codes "random") _ name rows
+    (matches.1 ∙ ap (λ (a : App). subcommand_of a words) is) in
     record {
       faultless = sym (ap (λ (a : App). fault_of a words) is) ∙ faultless;
       named = draw_is_named words _ c.drawn.result named c.drawn.ensures;
@@ -49,9 +60,12 @@ run_of-requires c =
     let is : app_of c.in_ok-program.field-0 ≡ lattice = c.in_ok-program.ensures.app in
     let matches = c.in_ok-matches.ensures.matches (ap is_simple is ∙ lattice_is_simple) in
     let faultless = c.in_ok-matches.ensures.kinds (ap is_simple_and_free is ∙ lattice_is_free) in
-    let name : subcommand_name_of c.in_ok-matches.matches ≡ Some (codes "threads") = sym c.subcommand.ensures.name ∙ ap (option_map (λ p. p.0.now)) c.in-Some-3.is ∙ ap Some (search rules) in
+    let name : subcommand_name_of c.in_ok-matches.matches ≡ Some (codes "threads") =
+    sym c.subcommand.ensures.name ∙ ap (option_map (λ p. p.0.now)) c.in-Some-3.is ∙ ap Some (search rules) in
     let rows = sym c.subcommand.ensures.rows ∙ ap (option_map (λ p. rows_of (found_of p.1.now))) c.in-Some.is in
-    let named = names_of_parse words c.in_ok-matches.matches (codes "threads") _ name rows (matches.1 ∙ ap (λ (a : App). subcommand_of a words) is) in
+    let named =
+    names_of_parse words c.in_ok-matches.matches (codes "threads") _ name rows
+    (matches.1 ∙ ap (λ (a : App). subcommand_of a words) is) in
     run_is_taken words _ (sym (ap (λ (a : App). fault_of a words) is) ∙ faultless) named
 
 pub returns-in-Some-3-clause-ok : goal.returns-in-Some-3-clause-ok
@@ -60,9 +74,12 @@ returns-in-Some-3-clause-ok c =
     let is : app_of c.in_ok-program.field-0 ≡ lattice = c.in_ok-program.ensures.app in
     let matches = c.in_ok-matches.ensures.matches (ap is_simple is ∙ lattice_is_simple) in
     let faultless = c.in_ok-matches.ensures.kinds (ap is_simple_and_free is ∙ lattice_is_free) in
-    let name : subcommand_name_of c.in_ok-matches.matches ≡ Some (codes "threads") = sym c.subcommand.ensures.name ∙ ap (option_map (λ p. p.0.now)) c.in-Some-3.is ∙ ap Some (search rules) in
+    let name : subcommand_name_of c.in_ok-matches.matches ≡ Some (codes "threads") =
+    sym c.subcommand.ensures.name ∙ ap (option_map (λ p. p.0.now)) c.in-Some-3.is ∙ ap Some (search rules) in
     let rows = sym c.subcommand.ensures.rows ∙ ap (option_map (λ p. rows_of (found_of p.1.now))) c.in-Some.is in
-    let named = names_of_parse words c.in_ok-matches.matches (codes "threads") _ name rows (matches.1 ∙ ap (λ (a : App). subcommand_of a words) is) in
+    let named =
+    names_of_parse words c.in_ok-matches.matches (codes "threads") _ name rows
+    (matches.1 ∙ ap (λ (a : App). subcommand_of a words) is) in
     record {
       faultless = sym (ap (λ (a : App). fault_of a words) is) ∙ faultless;
       named = run_is_named words _ c.run_of.result named c.run_of.ensures;
@@ -84,5 +101,6 @@ unreachable-requires c =
           no_other words _ _ faultless named (sym w.eq.ensures ∙ w.if-eq.false) (search rules) (search rules)
       | in_default-via-in_default w ↦
           some_entered words faultless
-          (sym (ap (option_map (λ p. rows_of (found_of p.1.now))) w.in_default.is) ∙ c.subcommand.ensures.rows ∙ ap (option_map (λ p. p.1)) entered)
+          (sym (ap (option_map (λ p. rows_of (found_of p.1.now))) w.in_default.is) ∙ c.subcommand.ensures.rows
+          ∙ ap (option_map (λ p. p.1)) entered)
     ]

@@ -8,7 +8,8 @@ use Rattle.la_program.proofs.call.node_command.Goals as goal
 pub returns-clause-app : goal.returns-clause-app
 returns-clause-app c =
     ap app_of_fields c.arg_required_else_help.ensures
-    ∙ ap (λ (f : Command-F Command). app_of_fields (record f { arg_required_else_help = true })) c.subcommand_required.ensures
+    ∙ ap (λ (f : Command-F Command). app_of_fields (record f { arg_required_else_help = true }))
+    c.subcommand_required.ensures
     ∙ ap (λ (f : Command-F Command). app_of_fields (record f { arg_required_else_help = true; subcommand_required = true })) c.about.ensures
     ∙ ap only_helps c.new.ensures.app
 

@@ -6,9 +6,13 @@ use Rattle.la_program.proofs.call.program.Goals as goal
 
 pub returns : goal.returns
 returns c =
-    let plays = c.in_ok-plays.ensures.shape c.play_command.ensures.local ∙ ap₂ with_subcommand c.alone.ensures (ap (λ (a : App). a.top) c.play_command.ensures.app) in
+    let plays =
+    c.in_ok-plays.ensures.shape c.play_command.ensures.local
+    ∙ ap₂ with_subcommand c.alone.ensures (ap (λ (a : App). a.top) c.play_command.ensures.app) in
     let draws = c.in_ok-draws.ensures ∙ ap (λ (a : App). with_subcommand a random.top) plays in
     let runs = c.in_ok-runs.ensures ∙ ap (λ (a : App). with_subcommand a threads.top) draws in
     record {
-      app = IfOk-weaker c.with_node.result _ _ (λ made h. h ∙ ap (λ (a : App). with_subcommand a node.top) runs) c.with_node.ensures;
+      app =
+          IfOk-weaker c.with_node.result _ _ (λ made h. h ∙ ap (λ (a : App). with_subcommand a node.top) runs)
+          c.with_node.ensures;
     }

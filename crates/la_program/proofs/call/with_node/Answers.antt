@@ -5,4 +5,7 @@ use Rattle.la_program.proofs.call.with_node.Goals as goal
 
 pub returns : goal.returns
 returns c = IfOk-weaker c.subcommand.result _ _
-    (λ made h. h.shape c.node_command.ensures.local ∙ ap (λ (a : App). with_subcommand (app_of c.args.command) a.top) c.node_command.ensures.app) c.subcommand.ensures
+    (λ made h.
+    h.shape c.node_command.ensures.local
+    ∙ ap (λ (a : App). with_subcommand (app_of c.args.command) a.top) c.node_command.ensures.app)
+    c.subcommand.ensures

@@ -5,4 +5,7 @@ use Rattle.la_program.proofs.call.with_random.Goals as goal
 
 pub returns : goal.returns
 returns c = IfOk-weaker c.subcommand.result _ _
-    (λ made h. h.shape c.in_ok-random.ensures.local ∙ ap (λ (a : App). with_subcommand (app_of c.args.command) a.top) c.in_ok-random.ensures.app) c.subcommand.ensures
+    (λ made h.
+    h.shape c.in_ok-random.ensures.local
+    ∙ ap (λ (a : App). with_subcommand (app_of c.args.command) a.top) c.in_ok-random.ensures.app)
+    c.subcommand.ensures

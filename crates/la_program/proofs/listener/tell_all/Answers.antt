@@ -15,17 +15,20 @@ loop-done-preserved g c = record {
 pub returns-in_err-count-clause-err : goal.returns-in_err-count-clause-err
 returns-in_err-count-clause-err g c =
     always_err c.from_residual.result
-    (rest_is_refused g.E.Write.contents g.E.Listener.refuses _ _ _ c.args.bytes.now c.loop-done.done c.loop-done.invariant.told c.in_err-count.ensures.bytes c.in_err-count.ensures.refused)
+    (rest_is_refused g.E.Write.contents g.E.Listener.refuses _ _ _ c.args.bytes.now c.loop-done.done
+    c.loop-done.invariant.told c.in_err-count.ensures.bytes c.in_err-count.ensures.refused)
 
 pub returns-clause-ok : goal.returns-clause-ok
 returns-clause-ok g c =
     let all : length c.args.bytes.now ≤ c.loop-done.done = omega arith in
     always_ok c.settle.result
-    (all_is_told g.E.Write.contents g.E.Listener.refuses _ _ _ c.args.bytes.now c.loop-done.done c.loop-done.invariant.told c.settle.ensures.bytes all)
+    (all_is_told g.E.Write.contents g.E.Listener.refuses _ _ _ c.args.bytes.now c.loop-done.done
+    c.loop-done.invariant.told c.settle.ensures.bytes all)
 
 pub returns-clause-err : goal.returns-clause-err
 returns-clause-err g c =
     let all : length c.args.bytes.now ≤ c.loop-done.done = omega arith in
     on_err_weaker c.settle.result
-    (flush_is_refused g.E.Write.contents g.E.Listener.refuses _ _ _ c.args.bytes.now c.loop-done.done c.loop-done.invariant.told c.settle.ensures.bytes all)
+    (flush_is_refused g.E.Write.contents g.E.Listener.refuses _ _ _ c.args.bytes.now c.loop-done.done
+    c.loop-done.invariant.told c.settle.ensures.bytes all)
     c.settle.ensures.refused

@@ -15,5 +15,8 @@ returns-clause-ok g c =
 pub returns-clause-error : goal.returns-clause-error
 returns-clause-error g c =
     IfErr-weaker c.fill.result _ _
-    (λ e refusal. only_memory _ e (subst (All CanStand) (sym c.loop.invariant) (All-replicate CanStand c.loop.counter standard_objects standard_stand)) refusal)
+    (λ e refusal.
+    only_memory _ e
+    (subst (All CanStand) (sym c.loop.invariant)
+    (All-replicate CanStand c.loop.counter standard_objects standard_stand)) refusal)
     c.fill.ensures.error

@@ -8,10 +8,13 @@ use Rattle.la_program.proofs.play.play_random.Goals as goal
 use Rattle.la_program.proofs.play.play_random.Goals.{After-write_out}
 
 -- the text that is written is that of the events that are drawn
-answered : (g : _) (c : After-write_out g) → AnswersDraw c.args.shelves.items c.args.seed c.args.replicas c.args.count c.in_ok-text.text
+answered : (g : _) (c : After-write_out g)
+    → AnswersDraw c.args.shelves.items c.args.seed c.args.replicas c.args.count c.in_ok-text.text
 answered g c =
-    draw_is_answered c.args.shelves.items c.args.seed c.args.replicas c.args.count c.random_group.result c.in_ok-events.events c.in_ok-text.text c.random_group.ensures.group
-    (c.in_ok-events.ensures ∙ ap (λ seed. random_events seed c.args.replicas c.args.count) c.from.ensures) c.in_ok-text.ensures
+    draw_is_answered c.args.shelves.items c.args.seed c.args.replicas c.args.count c.random_group.result
+    c.in_ok-events.events c.in_ok-text.text c.random_group.ensures.group
+    (c.in_ok-events.ensures ∙ ap (λ seed. random_events seed c.args.replicas c.args.count) c.from.ensures)
+    c.in_ok-text.ensures
 
 pub returns-clause-ok : goal.returns-clause-ok
 returns-clause-ok g c =

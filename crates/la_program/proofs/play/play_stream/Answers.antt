@@ -19,11 +19,14 @@ returns-in_err-input-clause-taken g c = c.in_err-input.ensures.taken
 
 pub returns-in_err-text-clause-error : goal.returns-in_err-text-clause-error
 returns-in_err-text-clause-error g c =
-    let read : ReadsInput (g.R.Read.remaining c.args.reader.now) (g.R.Read.remaining c.read_all.new.reader) c.in_ok-input.input.items =
+    let read : ReadsInput (g.R.Read.remaining c.args.reader.now) (g.R.Read.remaining c.read_all.new.reader)
+    c.in_ok-input.input.items =
     record { all = c.in_ok-input.ensures.all; short = c.in_ok-input.ensures.short } in
     let fit : FitAnyGroup c.args.shelves.items = search rules in
     let p = err_from_is_err_and c.from_residual-in_err-text.result c.from_residual-in_err-text.ensures.1 in
-    rw (p.1, p.2) (answer_is_refused c.args.shelves.items fit _ _ _ c.in_ok-input.input.items c.in_err-text.field-0.0 read c.in_err-text.ensures.error)
+    rw (p.1, p.2)
+    (answer_is_refused c.args.shelves.items fit _ _ _ c.in_ok-input.input.items c.in_err-text.field-0.0 read
+    c.in_err-text.ensures.error)
 
 pub returns-in_err-text-clause-taken : goal.returns-in_err-text-clause-taken
 returns-in_err-text-clause-taken g c = c.in_ok-input.ensures.taken
@@ -31,9 +34,12 @@ returns-in_err-text-clause-taken g c = c.in_ok-input.ensures.taken
 pub returns-clause-ok : goal.returns-clause-ok
 returns-clause-ok g c =
     let fit : FitAnyGroup c.args.shelves.items = search rules in
-    let read : ReadsInput (g.R.Read.remaining c.args.reader.now) (g.R.Read.remaining c.read_all.new.reader) c.in_ok-input.input.items =
+    let read : ReadsInput (g.R.Read.remaining c.args.reader.now) (g.R.Read.remaining c.read_all.new.reader)
+    c.in_ok-input.input.items =
     record { all = c.in_ok-input.ensures.all; short = c.in_ok-input.ensures.short } in
-    on_ok_weaker c.write_out.result (plays c.args.shelves.items fit _ _ _ _ _ _ c.in_ok-text.text read refl c.in_ok-text.ensures.ok) c.write_out.ensures.ok
+    on_ok_weaker c.write_out.result
+    (plays c.args.shelves.items fit _ _ _ _ _ _ c.in_ok-text.text read refl c.in_ok-text.ensures.ok)
+    c.write_out.ensures.ok
 
 pub returns-clause-error : goal.returns-clause-error
 returns-clause-error g c =

@@ -43,10 +43,13 @@ returns-in-Err-perform-clause-ends g c = inr (inr (inl (record {
 })))
 
 pub returns-in-Err-perform-clause-done : goal.returns-in-Err-perform-clause-done
-returns-in-Err-perform-clause-done g c zero = absurd (a_told_fault_is_no_good_end _ c.in-Err-perform.fault c.end_with.result c.end_with.ensures zero)
+returns-in-Err-perform-clause-done g c zero =
+    absurd (a_told_fault_is_no_good_end _ c.in-Err-perform.fault c.end_with.result c.end_with.ensures zero)
 
 pub returns-in-Err-clause-ends : goal.returns-in-Err-clause-ends
 returns-in-Err-clause-ends g c = inr (inr (inr (c.end_without_call.ensures _ c.in-Err.ensures.error _)))
 
 pub returns-in-Err-clause-done : goal.returns-in-Err-clause-done
-returns-in-Err-clause-done g c zero = without_task_well _ c.args.shelves.items _ _ _ c.end_without_call.result (c.end_without_call.ensures _ c.in-Err.ensures.error _) zero
+returns-in-Err-clause-done g c zero =
+    without_task_well _ c.args.shelves.items _ _ _ c.end_without_call.result
+    (c.end_without_call.ensures _ c.in-Err.ensures.error _) zero

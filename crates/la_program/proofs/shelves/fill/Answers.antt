@@ -5,13 +5,17 @@ use Rattle.la_program.proofs.shelves.fill.Goals as goal
 
 pub loop-objects-init : goal.loop-objects-init
 loop-objects-init g c =
-    let gives = c.into_iter-objects-iterator.ensures.into_iter_gives in
-    (none_shelved g.B.Replicated.state c.args.all.items _ _ gives.0 c.in_ok-shelves.ensures.items, gives.1 ∙ c.args.all.ok.0 ∙ ap length (sym gives.0))
+    let gives = c.into_iter-objects-iterator.ensures.into_iter_gives in (
+      none_shelved g.B.Replicated.state c.args.all.items _ _ gives.0 c.in_ok-shelves.ensures.items,
+      gives.1
+          ∙ c.args.all.ok.0 ∙ ap length (sym gives.0),
+    )
 
 pub loop-objects-preserved : goal.loop-objects-preserved
 loop-objects-preserved g c =
     let i = c.loop-objects.invariant in let steps = c.in-Some.ensures.steps in (
-      one_shelved g.B.Replicated.state _ _ _ _ c.in-Some.objects _ _ _ i.0 steps.0 c.in_ok-shelf_with.ensures.ok c.in_ok-shelf_with.ensures.stand c.in_ok-push.ensures.items,
+      one_shelved g.B.Replicated.state _ _ _ _ c.in-Some.objects _ _ _ i.0 steps.0 c.in_ok-shelf_with.ensures.ok
+          c.in_ok-shelf_with.ensures.stand c.in_ok-push.ensures.items,
       omega (arith, i.1, steps.1, ap length steps.0),
     )
 
@@ -27,9 +31,12 @@ returns-in_err-shelf_with-clause-error g c =
 pub returns-clause-ok : goal.returns-clause-ok
 returns-clause-ok g c =
     let i = c.loop-objects.invariant in
-    i.0.are ∙ ap (λ os. map shelf_of (all_states_of g.B.Replicated.state os)) (all_shelved g.B.Replicated.state _ _ _ _ i.0 (sym i.1 ∙ c.in-None.ensures.steps.0))
+    i.0.are
+    ∙ ap (λ os. map shelf_of (all_states_of g.B.Replicated.state os))
+    (all_shelved g.B.Replicated.state _ _ _ _ i.0 (sym i.1 ∙ c.in-None.ensures.steps.0))
 
 pub returns-clause-stand : goal.returns-clause-stand
 returns-clause-stand g c =
     let i = c.loop-objects.invariant in
-    subst (λ os. All CanStand (all_states_of g.B.Replicated.state os)) (all_shelved g.B.Replicated.state _ _ _ _ i.0 (sym i.1 ∙ c.in-None.ensures.steps.0)) i.0.stand
+    subst (λ os. All CanStand (all_states_of g.B.Replicated.state os))
+    (all_shelved g.B.Replicated.state _ _ _ _ i.0 (sym i.1 ∙ c.in-None.ensures.steps.0)) i.0.stand

@@ -6,4 +6,5 @@ use Rattle.la_program.proofs.shelves.fill.Given as goal
 abbrev pub invariant-loop-objects : goal.invariant-loop-objects
 invariant-loop-objects g l =
     let left = into_iter_items l.objects-iterator in
-    Shelved g.B.Replicated.state l.fn.all.items l.yielded left l.shelves.items × (into_iter_len l.objects-iterator ≡ length left)
+    Shelved g.B.Replicated.state l.fn.all.items l.yielded left l.shelves.items
+    × (into_iter_len l.objects-iterator ≡ length left)

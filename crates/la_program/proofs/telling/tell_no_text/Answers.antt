@@ -4,4 +4,8 @@ use Rattle.la_program.proofs.telling.tell_no_text.Goals as goal
 
 pub returns-clause-err : goal.returns-clause-err
 returns-clause-err g c =
-    subst (λ line. OnErr c.tell_all.result (Refuses g.E.Write.contents g.E.Listener.refuses c.args.errors.now c.tell_all.new.errors line)) c.as_bytes.ensures.value c.tell_all.ensures.err
+    subst
+    (λ line.
+    OnErr c.tell_all.result
+    (Refuses g.E.Write.contents g.E.Listener.refuses c.args.errors.now c.tell_all.new.errors line))
+    c.as_bytes.ensures.value c.tell_all.ensures.err

@@ -14,8 +14,11 @@ returns-in_err-write_out-clause-error g c =
     let new = g.W.Write.contents c.write_out.new.writer in
     let are : AreLogs c.args.shelves.items c.args.replicas c.args.each logs = c.in_ok-logs.ensures.ok in
     let verdict : IsTrue c.agree-agreed.result ↔ Agree logs = c.agree-agreed.ensures in
-    let wrote : AppendsPrefix old new (threads_text c.args.replicas c.args.each logs c.agree-agreed.result) = subst (AppendsPrefix old new) c.in_ok-text.ensures c.in_err-write_out.ensures.error.1 in
-    let refused : IsThreadsRefusal c.args.shelves.items c.args.replicas c.args.each old new c.in_err-write_out.field-0.0 =
-    subst (λ (e : PlayFault). IsThreadsRefusal c.args.shelves.items c.args.replicas c.args.each old new e) (sym c.in_err-write_out.ensures.error.0)
+    let wrote : AppendsPrefix old new (threads_text c.args.replicas c.args.each logs c.agree-agreed.result) =
+    subst (AppendsPrefix old new) c.in_ok-text.ensures c.in_err-write_out.ensures.error.1 in
+    let refused : IsThreadsRefusal c.args.shelves.items c.args.replicas c.args.each old new c.in_err-write_out.field-0.0
+    =
+    subst (λ (e : PlayFault). IsThreadsRefusal c.args.shelves.items c.args.replicas c.args.each old new e)
+    (sym c.in_err-write_out.ensures.error.0)
     (record { fit = fit; logs = logs; agreed = c.agree-agreed.result; are = are; verdict = verdict; wrote = wrote }) in
     search (rules, refused)

@@ -5,5 +5,6 @@ use Rattle.la_program.proofs.threads.put_logs.Given as goal
 
 abbrev pub invariant-loop-replica : goal.invariant-loop-replica
 invariant-loop-replica g l =
-    l.out ++ logs_text l.replica (map (λ x. back_of x.replica x.member x.shelf x.entries x.stopped) (drop l.replica l.logs))
+    l.out
+    ++ logs_text l.replica (map (λ x. back_of x.replica x.member x.shelf x.entries x.stopped) (drop l.replica l.logs))
     ≡ l.initial.out ++ logs_text 0 (map (λ x. back_of x.replica x.member x.shelf x.entries x.stopped) l.logs)

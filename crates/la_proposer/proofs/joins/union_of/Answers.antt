@@ -11,4 +11,5 @@ pub returns-then-contains_compatible : goal.returns-then-contains_compatible
 returns-then-contains_compatible c =
     let one = c.args.one.now in let other = c.args.other.now in
     let within = sym c.contains_compatible.ensures ∙ c.if-contains_compatible.true in
-    subst (λ s. IfOk c.copy.result (λ union. union ≡ s)) (sym (join-subset one other ((is_subset-Decides one other).0 within))) c.copy.ensures
+    subst (λ s. IfOk c.copy.result (λ union. union ≡ s))
+    (sym (join-subset one other ((is_subset-Decides one other).0 within))) c.copy.ensures

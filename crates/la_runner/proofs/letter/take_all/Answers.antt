@@ -9,13 +9,15 @@ pub loop-init : goal.loop-init
 loop-init g c = record { goes = goes_on_self c.args.member.now; same = refl }
 
 pub take_one-requires-clause-of : goal.take_one-requires-clause-of
-take_one-requires-clause-of g c = of_goes c.args.group.now c.args.member.now c.loop.member c.loop.invariant.goes c.requires.of
+take_one-requires-clause-of g c =
+    of_goes c.args.group.now c.args.member.now c.loop.member c.loop.invariant.goes c.requires.of
 
 pub take_one-requires-clause-note : goal.take_one-requires-clause-note
 take_one-requires-clause-note g c = subst (λ z. IsNoteOf z c.opened.result) (sym c.requires.named) c.opened.ensures
 
 pub loop-preserved : goal.loop-preserved
 loop-preserved g c = record {
-  goes = goes_on_then c.args.member.now c.loop.member c.take_one.new.member c.loop.invariant.goes c.take_one.ensures.goes_on;
+  goes =
+      goes_on_then c.args.member.now c.loop.member c.take_one.new.member c.loop.invariant.goes c.take_one.ensures.goes_on;
   same = c.take_one.ensures.same ∙ c.loop.invariant.same;
 }

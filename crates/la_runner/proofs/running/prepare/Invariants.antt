@@ -11,7 +11,10 @@ invariant-loop g l = vec_len l.inboxes ≡ l.counter
 -- that is left
 abbrev pub invariant-loop-start : goal.invariant-loop-start
 invariant-loop-start g l = record {
-  made : (rest : List _) → AllZip (λ s w. IsWorkOf s.member s.shelf s.jobs.items w.member w.shelf w.jobs.items) (into_iter_items l.start-iterator) rest
-      → AllZip (λ s w. IsWorkOf s.member s.shelf s.jobs.items w.member w.shelf w.jobs.items) (vec_items l.fn.starts) (vec_items l.works ++ rest);
+  made : (rest : List _)
+      → AllZip (λ s w. IsWorkOf s.member s.shelf s.jobs.items w.member w.shelf w.jobs.items)
+      (into_iter_items l.start-iterator) rest
+      → AllZip (λ s w. IsWorkOf s.member s.shelf s.jobs.items w.member w.shelf w.jobs.items) (vec_items l.fn.starts)
+      (vec_items l.works ++ rest);
   channels : vec_len l.inboxes ≡ length (into_iter_items l.start-iterator);
 }

@@ -6,6 +6,7 @@ use Rattle.la_runner.proofs.running.start_all.Given as goal
 
 abbrev pub invariant-loop-work : goal.invariant-loop-work
 invariant-loop-work g l = record {
-  started : map (λ h. h.promise.0.value) (vec_items l.handles) ++ into_iter_items l.work-iterator ≡ vec_items l.fn.works;
+  started : map (λ h. h.promise.0.value) (vec_items l.handles) ++ into_iter_items l.work-iterator
+      ≡ vec_items l.fn.works;
   ready : All (λ w. IsReady l.group w.member w.shelf) (into_iter_items l.work-iterator);
 }

@@ -8,12 +8,24 @@ use Rattle.la_runner.proofs.runs.note_all.Goals as goal
 
 pub loop-at-preserved : goal.loop-at-preserved
 loop-at-preserved g c =
-    let long : length c.loop-at.logs.items ≡ length c.args.logs.now.items = sym (long_map (λ l. back_of l.replica l.member l.shelf l.entries l.stopped) c.loop-at.logs.items) ∙ ap length c.loop-at.invariant.same ∙ long_map (λ l. back_of l.replica l.member l.shelf l.entries l.stopped) c.args.logs.now.items in
-    let h = noted (λ l. back_of l.replica l.member l.shelf l.entries l.stopped) (λ l. l.notes) (λ l. view l.member) c.loop-at.logs.items c.args.logs.now.items c.loop-at.at c.index_mut.result.now (record c.index_mut.result.now { notes = c.count_notes-notes.result })
-    (item_at c.loop-at.logs.items c.loop-at.at c.index_mut.result.now (omega (arith, long, c.loop-at-test.true, c.args.logs.now.ok.0)) c.index_mut.ensures.value) refl refl c.loop-at.invariant.same c.loop-at.invariant.counted c.count_notes-notes.ensures.all in
+    let long : length c.loop-at.logs.items ≡ length c.args.logs.now.items =
+    sym (long_map (λ l. back_of l.replica l.member l.shelf l.entries l.stopped) c.loop-at.logs.items)
+    ∙ ap length c.loop-at.invariant.same
+    ∙ long_map (λ l. back_of l.replica l.member l.shelf l.entries l.stopped) c.args.logs.now.items in
+    let h =
+    noted (λ l. back_of l.replica l.member l.shelf l.entries l.stopped) (λ l. l.notes) (λ l. view l.member)
+    c.loop-at.logs.items c.args.logs.now.items c.loop-at.at c.index_mut.result.now
+    (record c.index_mut.result.now { notes = c.count_notes-notes.result })
+    (item_at c.loop-at.logs.items c.loop-at.at c.index_mut.result.now
+    (omega (arith, long, c.loop-at-test.true, c.args.logs.now.ok.0)) c.index_mut.ensures.value) refl refl
+    c.loop-at.invariant.same c.loop-at.invariant.counted c.count_notes-notes.ensures.all in
     record {
       same = h.0;
-      exactly = one_more_exactly (λ l. taker l.replica l.taken (view l.member)) (λ l. l.notes) c.loop-at.logs.items c.loop-at.at c.index_mut.result.now (record c.index_mut.result.now { notes = c.count_notes-notes.result })
-          (item_at c.loop-at.logs.items c.loop-at.at c.index_mut.result.now (omega (arith, long, c.loop-at-test.true, c.args.logs.now.ok.0)) c.index_mut.ensures.value) refl c.loop-at.invariant.exactly c.count_notes-notes.ensures.counted;
+      exactly =
+          one_more_exactly (λ l. taker l.replica l.taken (view l.member)) (λ l. l.notes) c.loop-at.logs.items c.loop-at.at
+          c.index_mut.result.now (record c.index_mut.result.now { notes = c.count_notes-notes.result })
+          (item_at c.loop-at.logs.items c.loop-at.at c.index_mut.result.now
+          (omega (arith, long, c.loop-at-test.true, c.args.logs.now.ok.0)) c.index_mut.ensures.value) refl
+          c.loop-at.invariant.exactly c.count_notes-notes.ensures.counted;
       counted = h.1;
     }

@@ -7,7 +7,9 @@ use Rattle.la_runner.proofs.runs.note_all.Given as goal
 
 abbrev pub invariant-loop-at : goal.invariant-loop-at
 invariant-loop-at g l = record {
-  same : map (λ x. back_of x.replica x.member x.shelf x.entries x.stopped) l.logs.items ≡ map (λ x. back_of x.replica x.member x.shelf x.entries x.stopped) l.initial.logs.items;
-  exactly : ExactlyTo (map (λ x. x.notes) l.logs.items) (map (λ x. taker x.replica x.taken (view x.member)) l.logs.items) l.at;
+  same : map (λ x. back_of x.replica x.member x.shelf x.entries x.stopped) l.logs.items
+      ≡ map (λ x. back_of x.replica x.member x.shelf x.entries x.stopped) l.initial.logs.items;
+  exactly : ExactlyTo (map (λ x. x.notes) l.logs.items)
+      (map (λ x. taker x.replica x.taken (view x.member)) l.logs.items) l.at;
   counted : CountedTo (map (λ x. x.notes) l.logs.items) (map (λ x. view x.member) l.logs.items) l.at;
 }

@@ -13,15 +13,20 @@ use Rattle.la_runner.proofs.Sharing.{all_worked_more, all_compare, all_honest, p
 use Rattle.la_runner.proofs.runs.run.Goals as goal
 
 pub starts-requires-clause-shelves : goal.starts-requires-clause-shelves
-starts-requires-clause-shelves g c = let f = c.is_run.ensures.config.0 c.if-not-is_run.false in omega (arith, f.each_shelf, f.each_member, c.args.shelves.ok.0, c.args.members.ok.0)
+starts-requires-clause-shelves g c =
+    let f = c.is_run.ensures.config.0 c.if-not-is_run.false in
+    omega (arith, f.each_shelf, f.each_member, c.args.shelves.ok.0, c.args.members.ok.0)
 
 pub starts-requires-clause-jobs : goal.starts-requires-clause-jobs
-starts-requires-clause-jobs g c = let f = c.is_run.ensures.config.0 c.if-not-is_run.false in omega (arith, f.each_jobs, f.each_member, c.args.jobs.ok.0, c.args.members.ok.0)
+starts-requires-clause-jobs g c =
+    let f = c.is_run.ensures.config.0 c.if-not-is_run.false in
+    omega (arith, f.each_jobs, f.each_member, c.args.jobs.ok.0, c.args.members.ok.0)
 
 pub run_in-requires-clause-ready : goal.run_in-requires-clause-ready
 run_in-requires-clause-ready g c κs within =
     let f = c.is_run.ensures.config.0 c.if-not-is_run.false in
-    all_of_map (λ (p : Place). IsReady c.args.group.now p.member p.shelf) (λ s. place_of s.member s.shelf s.jobs.items) c.in-Ok.begun.items
+    all_of_map (λ (p : Place). IsReady c.args.group.now p.member p.shelf) (λ s. place_of s.member s.shelf s.jobs.items)
+    c.in-Ok.begun.items
     (subst (All (λ (p : Place). IsReady c.args.group.now p.member p.shelf)) (sym c.in-Ok.ensures)
     (ready_all c.args.group.now c.args.members.items c.args.shelves.items c.args.jobs.items c.requires f.unused))
 
@@ -33,47 +38,80 @@ returns-in-Ok-run_in-clause-each g c =
     let given = (places c.args.members.items c.args.shelves.items c.args.jobs.items) in
     let done = map (λ l. back_of l.replica l.member l.shelf l.entries l.stopped) c.in-Ok-run_in.done.items in
     let first = subst (λ l. AllZip IsBackOf l done) c.in-Ok.ensures
-    (zip_maps (λ s. place_of s.member s.shelf s.jobs.items) (λ l. back_of l.replica l.member l.shelf l.entries l.stopped) IsBackOf c.in-Ok.begun.items c.in-Ok-run_in.done.items c.in-Ok-run_in.ensures) in
-    all_worked_more given done (map (λ l. back_of l.replica l.member l.shelf l.entries l.stopped) c.finish.result) first c.finish.ensures.same
+    (zip_maps (λ s. place_of s.member s.shelf s.jobs.items)
+    (λ l. back_of l.replica l.member l.shelf l.entries l.stopped) IsBackOf c.in-Ok.begun.items
+    c.in-Ok-run_in.done.items c.in-Ok-run_in.ensures) in
+    all_worked_more given done (map (λ l. back_of l.replica l.member l.shelf l.entries l.stopped) c.finish.result) first
+    c.finish.ensures.same
 
 pub returns-in-Ok-run_in-clause-comparable : goal.returns-in-Ok-run_in-clause-comparable
-returns-in-Ok-run_in-clause-comparable g c = all_compare (places c.args.members.items c.args.shelves.items c.args.jobs.items) (map (λ l. back_of l.replica l.member l.shelf l.entries l.stopped) c.finish.result) (returns-in-Ok-run_in-clause-each g c) c.finish.ensures.seen
+returns-in-Ok-run_in-clause-comparable g c =
+    all_compare (places c.args.members.items c.args.shelves.items c.args.jobs.items)
+    (map (λ l. back_of l.replica l.member l.shelf l.entries l.stopped) c.finish.result)
+    (returns-in-Ok-run_in-clause-each g c) c.finish.ensures.seen
 
 pub returns-in-Ok-run_in-clause-honest : goal.returns-in-Ok-run_in-clause-honest
-returns-in-Ok-run_in-clause-honest g c = all_honest (λ l. back_of l.replica l.member l.shelf l.entries l.stopped) (places c.args.members.items c.args.shelves.items c.args.jobs.items) c.finish.result (returns-in-Ok-run_in-clause-each g c)
+returns-in-Ok-run_in-clause-honest g c =
+    all_honest (λ l. back_of l.replica l.member l.shelf l.entries l.stopped)
+    (places c.args.members.items c.args.shelves.items c.args.jobs.items) c.finish.result
+    (returns-in-Ok-run_in-clause-each g c)
 
 pub returns-in-Ok-run_in-clause-decisions : goal.returns-in-Ok-run_in-clause-decisions
-returns-in-Ok-run_in-clause-decisions g c = decisions_compare (places c.args.members.items c.args.shelves.items c.args.jobs.items) (map (λ l. back_of l.replica l.member l.shelf l.entries l.stopped) c.finish.result) (returns-in-Ok-run_in-clause-each g c) c.finish.ensures.seen
+returns-in-Ok-run_in-clause-decisions g c =
+    decisions_compare (places c.args.members.items c.args.shelves.items c.args.jobs.items)
+    (map (λ l. back_of l.replica l.member l.shelf l.entries l.stopped) c.finish.result)
+    (returns-in-Ok-run_in-clause-each g c) c.finish.ensures.seen
 
 pub returns-in-Ok-run_in-clause-agreed : goal.returns-in-Ok-run_in-clause-agreed
-returns-in-Ok-run_in-clause-agreed g c = decisions_agree (places c.args.members.items c.args.shelves.items c.args.jobs.items) (map (λ l. back_of l.replica l.member l.shelf l.entries l.stopped) c.finish.result) (returns-in-Ok-run_in-clause-each g c) c.finish.ensures.seen
+returns-in-Ok-run_in-clause-agreed g c =
+    decisions_agree (places c.args.members.items c.args.shelves.items c.args.jobs.items)
+    (map (λ l. back_of l.replica l.member l.shelf l.entries l.stopped) c.finish.result)
+    (returns-in-Ok-run_in-clause-each g c) c.finish.ensures.seen
 
 pub returns-in-Ok-run_in-clause-theirs : goal.returns-in-Ok-run_in-clause-theirs
-returns-in-Ok-run_in-clause-theirs g c = decisions_are_theirs (places c.args.members.items c.args.shelves.items c.args.jobs.items) (map (λ l. back_of l.replica l.member l.shelf l.entries l.stopped) c.finish.result) (returns-in-Ok-run_in-clause-each g c) c.finish.ensures.seen
+returns-in-Ok-run_in-clause-theirs g c =
+    decisions_are_theirs (places c.args.members.items c.args.shelves.items c.args.jobs.items)
+    (map (λ l. back_of l.replica l.member l.shelf l.entries l.stopped) c.finish.result)
+    (returns-in-Ok-run_in-clause-each g c) c.finish.ensures.seen
 
 pub returns-in-Ok-run_in-clause-counted : goal.returns-in-Ok-run_in-clause-counted
 returns-in-Ok-run_in-clause-counted g c = c.finish.ensures.counted
 
 pub returns-in-Ok-run_in-clause-notes : goal.returns-in-Ok-run_in-clause-notes
-returns-in-Ok-run_in-clause-notes g c = notes_hold (places c.args.members.items c.args.shelves.items c.args.jobs.items) (map (λ l. back_of l.replica l.member l.shelf l.entries l.stopped) c.finish.result) (returns-in-Ok-run_in-clause-each g c) (map (λ l. l.notes) c.finish.result) (views_of (λ l. back_of l.replica l.member l.shelf l.entries l.stopped) (map (λ l. l.notes) c.finish.result) c.finish.result c.finish.ensures.notes)
+returns-in-Ok-run_in-clause-notes g c =
+    notes_hold (places c.args.members.items c.args.shelves.items c.args.jobs.items)
+    (map (λ l. back_of l.replica l.member l.shelf l.entries l.stopped) c.finish.result)
+    (returns-in-Ok-run_in-clause-each g c) (map (λ l. l.notes) c.finish.result)
+    (views_of (λ l. back_of l.replica l.member l.shelf l.entries l.stopped) (map (λ l. l.notes) c.finish.result)
+    c.finish.result c.finish.ensures.notes)
 
 pub returns-in-Ok-run_in-clause-alike : goal.returns-in-Ok-run_in-clause-alike
-returns-in-Ok-run_in-clause-alike g c = notes_agree (places c.args.members.items c.args.shelves.items c.args.jobs.items) (map (λ l. back_of l.replica l.member l.shelf l.entries l.stopped) c.finish.result) (returns-in-Ok-run_in-clause-each g c) (map (λ l. l.notes) c.finish.result) (views_of (λ l. back_of l.replica l.member l.shelf l.entries l.stopped) (map (λ l. l.notes) c.finish.result) c.finish.result c.finish.ensures.notes)
+returns-in-Ok-run_in-clause-alike g c =
+    notes_agree (places c.args.members.items c.args.shelves.items c.args.jobs.items)
+    (map (λ l. back_of l.replica l.member l.shelf l.entries l.stopped) c.finish.result)
+    (returns-in-Ok-run_in-clause-each g c) (map (λ l. l.notes) c.finish.result)
+    (views_of (λ l. back_of l.replica l.member l.shelf l.entries l.stopped) (map (λ l. l.notes) c.finish.result)
+    c.finish.result c.finish.ensures.notes)
 
 pub finish-requires-clause-few : goal.finish-requires-clause-few
 finish-requires-clause-few g c =
     let f = c.is_run.ensures.config.0 c.if-not-is_run.false in
     let a = zip_long _ c.in-Ok.begun.items c.in-Ok-run_in.done.items c.in-Ok-run_in.ensures in
     let b = long_map (λ s. place_of s.member s.shelf s.jobs.items) c.in-Ok.begun.items in
-    let d : length (map (λ s. place_of s.member s.shelf s.jobs.items) c.in-Ok.begun.items) ≡ length (places c.args.members.items c.args.shelves.items c.args.jobs.items) = (λ i. length (c.in-Ok.ensures i)) in
-    let e = places_long c.args.members.items c.args.shelves.items c.args.jobs.items (omega (arith, f.each_shelf, f.each_member)) (omega (arith, f.each_jobs, f.each_member)) in
+    let d : length (map (λ s. place_of s.member s.shelf s.jobs.items) c.in-Ok.begun.items) ≡ length (places c.args.members.items c.args.shelves.items c.args.jobs.items) =
+    (λ i. length (c.in-Ok.ensures i)) in
+    let e =
+    places_long c.args.members.items c.args.shelves.items c.args.jobs.items
+    (omega (arith, f.each_shelf, f.each_member)) (omega (arith, f.each_jobs, f.each_member)) in
     omega (arith, a, b, d, e, f.each_member, c.is_run.ensures.few, c.in-Ok-run_in.done.ok.0)
 
 pub finish-requires-clause-of : goal.finish-requires-clause-of
 finish-requires-clause-of g c κs within =
     let f = c.is_run.ensures.config.0 c.if-not-is_run.false in
-    all_over (λ s b. IsWorked s.member s.shelf s.jobs.items b.replica b.member b.shelf b.entries b.stopped) (λ s. IsReady c.args.group.now s.member s.shelf) (λ b. IsOf c.args.group.now b.member × IsMember b.member)
-    (λ s b h r. (of_goes c.args.group.now s.member b.member h.goes r.of, h.is)) c.in-Ok.begun.items c.in-Ok-run_in.done.items c.in-Ok-run_in.ensures
+    all_over (λ s b. IsWorked s.member s.shelf s.jobs.items b.replica b.member b.shelf b.entries b.stopped)
+    (λ s. IsReady c.args.group.now s.member s.shelf) (λ b. IsOf c.args.group.now b.member × IsMember b.member)
+    (λ s b h r. (of_goes c.args.group.now s.member b.member h.goes r.of, h.is)) c.in-Ok.begun.items
+    c.in-Ok-run_in.done.items c.in-Ok-run_in.ensures
     (all_of_map (λ (p : Place). IsReady c.args.group.now p.member p.shelf) (λ s. place_of s.member s.shelf s.jobs.items) c.in-Ok.begun.items
     (subst (All (λ (p : Place). IsReady c.args.group.now p.member p.shelf)) (sym c.in-Ok.ensures)
     (ready_all c.args.group.now c.args.members.items c.args.shelves.items c.args.jobs.items c.requires f.unused)))

@@ -10,5 +10,7 @@ pub returns : goal.returns
 returns g c =
     let left = into_iter_items c.loop-member.member-iterator in
     let none : length left ≡ 0 = omega (arith, c.in-None.ensures.steps.0, c.loop-member.member-iterator.rest.ok.0) in
-    all_begun (λ s. place_of s.member s.shelf s.jobs.items) (vec_items c.loop-member.starts) left (into_iter_items c.loop-member.shelves) (into_iter_items c.loop-member.jobs)
-    (places (vec_items c.args.members) (vec_items c.args.shelves) (vec_items c.args.jobs)) (none_left left none) c.loop-member.invariant.begun
+    all_begun (λ s. place_of s.member s.shelf s.jobs.items) (vec_items c.loop-member.starts) left
+    (into_iter_items c.loop-member.shelves) (into_iter_items c.loop-member.jobs)
+    (places (vec_items c.args.members) (vec_items c.args.shelves) (vec_items c.args.jobs)) (none_left left none)
+    c.loop-member.invariant.begun

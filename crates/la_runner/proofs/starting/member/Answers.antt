@@ -12,26 +12,51 @@ use Rattle.la_runner.proofs.starting.member.Goals as goal
 
 pub passes-requires : goal.passes-requires
 passes-requires c =
-    firsts_at (λ (r : Row). r.acceptors.items) (λ (f : Firsts). f.passes.items) c.loop-at.firsts.items c.args.rows.now c.loop-at.at c.index_mut.result.now c.index-rows-at.result c.loop-at.invariant.1
-    (firsts_there (λ (r : Row). r.acceptors.items) (λ (f : Firsts). f.passes.items) c.loop-at.firsts.items c.args.rows.now c.loop-at.at c.index_mut.result.now c.loop-at.invariant.1 c.loop-at-test.true c.index_mut.ensures.value) (item_there c.args.rows.now c.loop-at.at c.index-rows-at.result c.loop-at-test.true c.index-rows-at.is)
+    firsts_at (λ (r : Row). r.acceptors.items) (λ (f : Firsts). f.passes.items) c.loop-at.firsts.items c.args.rows.now
+    c.loop-at.at c.index_mut.result.now c.index-rows-at.result c.loop-at.invariant.1
+    (firsts_there (λ (r : Row). r.acceptors.items) (λ (f : Firsts). f.passes.items) c.loop-at.firsts.items
+    c.args.rows.now c.loop-at.at c.index_mut.result.now c.loop-at.invariant.1 c.loop-at-test.true
+    c.index_mut.ensures.value)
+    (item_there c.args.rows.now c.loop-at.at c.index-rows-at.result c.loop-at-test.true c.index-rows-at.is)
     ∙ ap (map newcomer) (sym (c.deref.ensures.value ∙ ap (λ (r : Row). r.acceptors.items) (sym c.index-rows-at.is)))
 
 pub returns-in_err-seats-clause-firsts : goal.returns-in_err-seats-clause-firsts
-returns-in_err-seats-clause-firsts c = map-set_other (λ (f : Firsts). f.passes.items) c.loop-at.firsts.items c.loop-at.at c.index_mut.result.now _ (firsts_there (λ (r : Row). r.acceptors.items) (λ (f : Firsts). f.passes.items) c.loop-at.firsts.items c.args.rows.now c.loop-at.at c.index_mut.result.now c.loop-at.invariant.1 c.loop-at-test.true c.index_mut.ensures.value) c.passes.ensures.same ∙ c.loop-at.invariant.1
+returns-in_err-seats-clause-firsts c =
+    map-set_other (λ (f : Firsts). f.passes.items) c.loop-at.firsts.items c.loop-at.at c.index_mut.result.now _
+    (firsts_there (λ (r : Row). r.acceptors.items) (λ (f : Firsts). f.passes.items) c.loop-at.firsts.items
+    c.args.rows.now c.loop-at.at c.index_mut.result.now c.loop-at.invariant.1 c.loop-at-test.true
+    c.index_mut.ensures.value) c.passes.ensures.same ∙ c.loop-at.invariant.1
 
 pub returns-in_err-push-clause-firsts : goal.returns-in_err-push-clause-firsts
-returns-in_err-push-clause-firsts c = map-set_other (λ (f : Firsts). f.passes.items) c.loop-at.firsts.items c.loop-at.at c.index_mut.result.now _ (firsts_there (λ (r : Row). r.acceptors.items) (λ (f : Firsts). f.passes.items) c.loop-at.firsts.items c.args.rows.now c.loop-at.at c.index_mut.result.now c.loop-at.invariant.1 c.loop-at-test.true c.index_mut.ensures.value) c.passes.ensures.same ∙ c.loop-at.invariant.1
+returns-in_err-push-clause-firsts c =
+    map-set_other (λ (f : Firsts). f.passes.items) c.loop-at.firsts.items c.loop-at.at c.index_mut.result.now _
+    (firsts_there (λ (r : Row). r.acceptors.items) (λ (f : Firsts). f.passes.items) c.loop-at.firsts.items
+    c.args.rows.now c.loop-at.at c.index_mut.result.now c.loop-at.invariant.1 c.loop-at-test.true
+    c.index_mut.ensures.value) c.passes.ensures.same ∙ c.loop-at.invariant.1
 
 pub loop-at-preserved : goal.loop-at-preserved
 loop-at-preserved c =
     let there = item_there c.args.rows.now c.loop-at.at c.index-rows-at.result c.loop-at-test.true c.index-rows-at.is in
     let group = map (λ (r : Row). r.acceptors.items) c.args.rows.now in
-    let seats = c.in_ok-seats.ensures.passes ∙ ap (map newcomer) (c.deref.ensures.value ∙ ap (λ (r : Row). r.acceptors.items) (sym c.index-rows-at.is)) in
-    let new = subst (λ n. IsNewInstance (votes_of c.args.votes) c.args.own n c.index-rows-at.result.acceptors.items (state_of c.new-instance.result)) c.cap_of-most.ensures (c.new-instance.ensures c.index-rows-at.result.acceptors.items seats) in (
-      subst (AreNew group (votes_of c.args.votes) c.args.own c.args.cap (c.loop-at.at + 1)) (sym (ap (map state_of) c.in_ok-push.ensures.items ∙ map_push state_of c.loop-at.instances.items c.new-instance.result))
+    let seats =
+    c.in_ok-seats.ensures.passes
+    ∙ ap (map newcomer) (c.deref.ensures.value ∙ ap (λ (r : Row). r.acceptors.items) (sym c.index-rows-at.is)) in
+    let new =
+    subst
+    (λ n.
+    IsNewInstance (votes_of c.args.votes) c.args.own n c.index-rows-at.result.acceptors.items
+    (state_of c.new-instance.result)) c.cap_of-most.ensures
+    (c.new-instance.ensures c.index-rows-at.result.acceptors.items seats) in (
+      subst (AreNew group (votes_of c.args.votes) c.args.own c.args.cap (c.loop-at.at + 1))
+          (sym
+          (ap (map state_of) c.in_ok-push.ensures.items
+          ∙ map_push state_of c.loop-at.instances.items c.new-instance.result))
           (new_push group (votes_of c.args.votes) c.args.own c.args.cap c.loop-at.at (map state_of c.loop-at.instances.items) c.index-rows-at.result.acceptors.items (state_of c.new-instance.result) c.loop-at.invariant.0
           (row_of (λ (r : Row). r.acceptors.items) (λ (f : Firsts). f.passes.items) c.args.rows.now c.loop-at.at c.index-rows-at.result there) new),
-      map-set_other (λ (f : Firsts). f.passes.items) c.loop-at.firsts.items c.loop-at.at c.index_mut.result.now _ (firsts_there (λ (r : Row). r.acceptors.items) (λ (f : Firsts). f.passes.items) c.loop-at.firsts.items c.args.rows.now c.loop-at.at c.index_mut.result.now c.loop-at.invariant.1 c.loop-at-test.true c.index_mut.ensures.value) c.passes.ensures.same ∙ c.loop-at.invariant.1,
+      map-set_other (λ (f : Firsts). f.passes.items) c.loop-at.firsts.items c.loop-at.at c.index_mut.result.now _
+          (firsts_there (λ (r : Row). r.acceptors.items) (λ (f : Firsts). f.passes.items) c.loop-at.firsts.items
+          c.args.rows.now c.loop-at.at c.index_mut.result.now c.loop-at.invariant.1 c.loop-at-test.true
+          c.index_mut.ensures.value) c.passes.ensures.same ∙ c.loop-at.invariant.1,
     )
 
 pub invariant_of-result : goal.invariant_of-result
@@ -44,4 +69,5 @@ invariant_of-result c =
     let ended : c.loop-at.at ≡ length group = omega (arith, long, c.loop-at-test.false, c.loop-at.auto.at-end) in
     fresh_member group votes c.args.own c.args.cap c.requires.known c.requires.few c.requires.some c.requires.most all
     (record { votes = votes; replica = c.args.own; instances = map state_of c.loop-at.instances.items }) refl refl
-    (subst (λ n. AreNew group votes c.args.own c.args.cap n (map state_of c.loop-at.instances.items)) ended c.loop-at.invariant.0) (omega (arith, long, c.requires.one)) (omega (arith, long, c.requires.instances))
+    (subst (λ n. AreNew group votes c.args.own c.args.cap n (map state_of c.loop-at.instances.items)) ended
+    c.loop-at.invariant.0) (omega (arith, long, c.requires.one)) (omega (arith, long, c.requires.instances))

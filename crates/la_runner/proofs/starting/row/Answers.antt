@@ -10,5 +10,6 @@ loop-number-preserved c =
     let acceptors = c.loop-number.acceptors.items in let acceptor = c.in_ok-acceptor.acceptor in
     let new = newcomer_is acceptor [] c.in_ok-acceptor.pass refl c.in_ok-acceptor.ensures in (
       ap length c.in_ok-push.ensures.items ∙ length_push acceptors acceptor ∙ ap (λ n. n + 1) c.loop-number.invariant.0,
-      c.in_ok-push-2.ensures.items ∙ (λ i. c.loop-number.invariant.1 i ++ new i ∷ []) ∙ sym (ap (map newcomer) c.in_ok-push.ensures.items ∙ map_push newcomer acceptors acceptor),
+      c.in_ok-push-2.ensures.items ∙ (λ i. c.loop-number.invariant.1 i ++ new i ∷ [])
+          ∙ sym (ap (map newcomer) c.in_ok-push.ensures.items ∙ map_push newcomer acceptors acceptor),
     )

@@ -14,7 +14,8 @@ loop-preserved c =
     let passes_of = λ (f : Firsts). f.passes.items in
     let new_of = λ (r : Row). map newcomer r.acceptors.items in (
       ap length c.in_ok-push.ensures.items ∙ length_push made row ∙ ap (λ n. n + 1) c.loop.invariant.0,
-      All-same fits c.push.new.self.items (made ++ row ∷ []) c.in_ok-push.ensures.items (All-push fits made row c.loop.invariant.1 c.in_ok-acceptors.ensures.size),
+      All-same fits c.push.new.self.items (made ++ row ∷ []) c.in_ok-push.ensures.items
+          (All-push fits made row c.loop.invariant.1 c.in_ok-acceptors.ensures.size),
       ap (map passes_of) c.in_ok-push-2.ensures.items ∙ map_push passes_of c.loop.firsts.items c.in_ok-acceptors.passes
           ∙ (λ i. c.loop.invariant.2 i ++ c.in_ok-acceptors.ensures.passes i ∷ [])
           ∙ sym (ap (map new_of) c.in_ok-push.ensures.items ∙ map_push new_of made row),

@@ -13,5 +13,7 @@ absorb_compatible-requires-after_bounds g c κs within =
 pub returns-in-Ok-ask-clause-answers : goal.returns-in-Ok-ask-clause-answers
 returns-in-Ok-ask-clause-answers g c = (
   known_view c.args.member.now c.replica-own.ensures.is c.in-Ok.view (c.in-Ok.ensures ∙ c.view.ensures),
-  asked_at c.args.shelf.now c.absorb_compatible.new.self c.view-2.result.now c.in-Ok.view c.args.object c.args.query.now c.in-Ok-ask.answer (c.in-Ok.ensures ∙ c.view.ensures ∙ sym c.view-2.ensures) c.in-Ok-absorb_compatible.ensures.ok c.in-Ok-ask.ensures.ok,
+  asked_at c.args.shelf.now c.absorb_compatible.new.self c.view-2.result.now c.in-Ok.view c.args.object c.args.query.now
+      c.in-Ok-ask.answer (c.in-Ok.ensures ∙ c.view.ensures ∙ sym c.view-2.ensures) c.in-Ok-absorb_compatible.ensures.ok
+      c.in-Ok-ask.ensures.ok,
 )

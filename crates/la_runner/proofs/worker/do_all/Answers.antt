@@ -12,12 +12,14 @@ use Rattle.la_runner.proofs.worker.do_all.Goals as goal
 
 pub loop-job-init : goal.loop-job-init
 loop-job-init g c = (
-  begins c.args.member.now (vec_items c.args.jobs) c.args.shelf.now (vec_items c.args.entries.now) (into_iter_items c.into_iter-job-iterator.result) c.requires.none (search rules) c.requires.within,
+  begins c.args.member.now (vec_items c.args.jobs) c.args.shelf.now (vec_items c.args.entries.now)
+      (into_iter_items c.into_iter-job-iterator.result) c.requires.none (search rules) c.requires.within,
   search rules,
 )
 
 pub do_job-requires-clause-of : goal.do_job-requires-clause-of
-do_job-requires-clause-of g c κs within = of_goes c.args.group.now c.args.member.now c.loop-job.member c.loop-job.invariant.0.goes c.requires.of
+do_job-requires-clause-of g c κs within =
+    of_goes c.args.group.now c.args.member.now c.loop-job.member c.loop-job.invariant.0.goes c.requires.of
 
 pub loop-job-preserved : goal.loop-job-preserved
 loop-job-preserved g c =
@@ -26,11 +28,23 @@ loop-job-preserved g c =
     let all = vec_items c.args.jobs in
     let es = vec_items c.reserve.new.self in
     let rest = into_iter_items c.next.new.self in
-    let w = turn first objects all (vec_items c.loop-job.entries) es c.loop-job.member c.loop-job.shelf c.in-Some.job (into_iter_items c.loop-job.job-iterator) rest c.loop-job.invariant.0 c.in-Some.ensures.steps.0 c.reserve.ensures.items in
-    let fits = subst (λ (os : List (ℕ × Kind)). Answers c.do_job.new.member (length (submitted_in c.loop-job.member 0) + 1) os c.in-Some.job c.in-Ok.entry) w.same c.in-Ok.ensures.answers in
-    let more = goes_on_more first objects all es c.loop-job.member c.loop-job.shelf c.in-Some.job rest w c.in-Ok.entry c.do_job.new.member c.do_job.new.shelf fits c.in-Ok.ensures.names c.do_job.ensures.goes_on c.in-Ok.ensures.submitted (c.do_job.ensures.objects ∙ w.same) c.do_job.ensures.within in (
-      subst (λ (xs : List Entry). UnderWay first objects all xs c.do_job.new.member c.do_job.new.shelf rest) (sym c.push_reserved.ensures.items) more,
-      omega (arith, c.in-Some.ensures.steps.1, c.push_reserved.ensures.len, c.reserve.ensures.len, c.loop-job.invariant.1),
+    let w =
+    turn first objects all (vec_items c.loop-job.entries) es c.loop-job.member c.loop-job.shelf c.in-Some.job
+    (into_iter_items c.loop-job.job-iterator) rest c.loop-job.invariant.0 c.in-Some.ensures.steps.0
+    c.reserve.ensures.items in
+    let fits =
+    subst
+    (λ (os : List (ℕ × Kind)).
+    Answers c.do_job.new.member (length (submitted_in c.loop-job.member 0) + 1) os c.in-Some.job c.in-Ok.entry)
+    w.same c.in-Ok.ensures.answers in
+    let more =
+    goes_on_more first objects all es c.loop-job.member c.loop-job.shelf c.in-Some.job rest w c.in-Ok.entry
+    c.do_job.new.member c.do_job.new.shelf fits c.in-Ok.ensures.names c.do_job.ensures.goes_on
+    c.in-Ok.ensures.submitted (c.do_job.ensures.objects ∙ w.same) c.do_job.ensures.within in (
+      subst (λ (xs : List Entry). UnderWay first objects all xs c.do_job.new.member c.do_job.new.shelf rest)
+          (sym c.push_reserved.ensures.items) more,
+      omega
+          (arith, c.in-Some.ensures.steps.1, c.push_reserved.ensures.len, c.reserve.ensures.len, c.loop-job.invariant.1),
     )
 
 pub returns-then-is_err-clause-stop : goal.returns-then-is_err-clause-stop
@@ -40,8 +54,12 @@ returns-then-is_err-clause-stop g c =
     let all = vec_items c.args.jobs in
     let es = vec_items c.reserve.new.self in
     let rest = into_iter_items c.next.new.self in
-    let w = turn first objects all (vec_items c.loop-job.entries) es c.loop-job.member c.loop-job.shelf c.in-Some.job (into_iter_items c.loop-job.job-iterator) rest c.loop-job.invariant.0 c.in-Some.ensures.steps.0 c.reserve.ensures.items in
-    stops_here first objects all es c.loop-job.member c.loop-job.shelf c.in-Some.job rest w (vec_len c.reserve.new.self) c.loop-job.member Memory c.reserve.new.self.ok.0 (memory_fits objects c.loop-job.member c.in-Some.job)
+    let w =
+    turn first objects all (vec_items c.loop-job.entries) es c.loop-job.member c.loop-job.shelf c.in-Some.job
+    (into_iter_items c.loop-job.job-iterator) rest c.loop-job.invariant.0 c.in-Some.ensures.steps.0
+    c.reserve.ensures.items in
+    stops_here first objects all es c.loop-job.member c.loop-job.shelf c.in-Some.job rest w (vec_len c.reserve.new.self)
+    c.loop-job.member Memory c.reserve.new.self.ok.0 (memory_fits objects c.loop-job.member c.in-Some.job)
 
 pub returns-in-Err-clause-stop : goal.returns-in-Err-clause-stop
 returns-in-Err-clause-stop g c =
@@ -50,9 +68,14 @@ returns-in-Err-clause-stop g c =
     let all = vec_items c.args.jobs in
     let es = vec_items c.reserve.new.self in
     let rest = into_iter_items c.next.new.self in
-    let w = turn first objects all (vec_items c.loop-job.entries) es c.loop-job.member c.loop-job.shelf c.in-Some.job (into_iter_items c.loop-job.job-iterator) rest c.loop-job.invariant.0 c.in-Some.ensures.steps.0 c.reserve.ensures.items in
-    stops_here first objects all es c.loop-job.member c.loop-job.shelf c.in-Some.job rest w (vec_len c.reserve.new.self) c.do_job.new.member c.in-Err.why c.reserve.new.self.ok.0
-    (subst (λ (os : List (ℕ × Kind)). StopFits os c.do_job.new.member c.in-Some.job c.in-Err.why) w.same c.in-Err.ensures.error)
+    let w =
+    turn first objects all (vec_items c.loop-job.entries) es c.loop-job.member c.loop-job.shelf c.in-Some.job
+    (into_iter_items c.loop-job.job-iterator) rest c.loop-job.invariant.0 c.in-Some.ensures.steps.0
+    c.reserve.ensures.items in
+    stops_here first objects all es c.loop-job.member c.loop-job.shelf c.in-Some.job rest w (vec_len c.reserve.new.self)
+    c.do_job.new.member c.in-Err.why c.reserve.new.self.ok.0
+    (subst (λ (os : List (ℕ × Kind)). StopFits os c.do_job.new.member c.in-Some.job c.in-Err.why) w.same
+    c.in-Err.ensures.error)
 
 pub returns-in-Err-clause-done : goal.returns-in-Err-clause-done
 returns-in-Err-clause-done g c =
@@ -61,8 +84,13 @@ returns-in-Err-clause-done g c =
     let all = vec_items c.args.jobs in
     let es = vec_items c.reserve.new.self in
     let rest = into_iter_items c.next.new.self in
-    let w = turn first objects all (vec_items c.loop-job.entries) es c.loop-job.member c.loop-job.shelf c.in-Some.job (into_iter_items c.loop-job.job-iterator) rest c.loop-job.invariant.0 c.in-Some.ensures.steps.0 c.reserve.ensures.items in
+    let w =
+    turn first objects all (vec_items c.loop-job.entries) es c.loop-job.member c.loop-job.shelf c.in-Some.job
+    (into_iter_items c.loop-job.job-iterator) rest c.loop-job.invariant.0 c.in-Some.ensures.steps.0
+    c.reserve.ensures.items in
     keeps_done first objects all es c.loop-job.member c.do_job.new.member w.done c.do_job.ensures.goes_on
 
 pub returns-in-Err-clause-goes_on : goal.returns-in-Err-clause-goes_on
-returns-in-Err-clause-goes_on g c = goes_on_then c.args.member.now c.loop-job.member c.do_job.new.member c.loop-job.invariant.0.goes c.do_job.ensures.goes_on
+returns-in-Err-clause-goes_on g c =
+    goes_on_then c.args.member.now c.loop-job.member c.do_job.new.member c.loop-job.invariant.0.goes
+    c.do_job.ensures.goes_on

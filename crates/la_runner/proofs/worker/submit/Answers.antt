@@ -7,16 +7,25 @@ use Rattle.la_runner.proofs.Stopping.{update_error, update_stops}
 use Rattle.la_runner.proofs.worker.submit.Goals as goal
 
 pub stop_of-requires : goal.stop_of-requires
-stop_of-requires g c = update_error c.args.rounds (op_on c.args.object c.args.op) c.args.member.now c.update.new.member c.in-Err.error c.in-Err.ensures.error
+stop_of-requires g c =
+    update_error c.args.rounds (op_on c.args.object c.args.op) c.args.member.now c.update.new.member c.in-Err.error
+    c.in-Err.ensures.error
 
 pub returns-in-Ok-clause-answers : goal.returns-in-Ok-clause-answers
-returns-in-Ok-clause-answers g c = update_answers c.args.member.now c.update.new.member c.args.object c.args.op c.in-Ok.learned c.in-Ok.ensures.updated c.in-Ok.ensures.submitted
+returns-in-Ok-clause-answers g c =
+    update_answers c.args.member.now c.update.new.member c.args.object c.args.op c.in-Ok.learned c.in-Ok.ensures.updated
+    c.in-Ok.ensures.submitted
 
 pub returns-in-Ok-clause-names : goal.returns-in-Ok-clause-names
 returns-in-Ok-clause-names g c = ap Some (sym c.in-Ok.ensures.updated.view)
 
 pub returns-in-Ok-clause-submitted : goal.returns-in-Ok-clause-submitted
-returns-in-Ok-clause-submitted g c = one_longer (submitted_in c.args.member.now 0) (submitted_in c.update.new.member 0) (op_on c.args.object c.args.op) c.in-Ok.ensures.submitted
+returns-in-Ok-clause-submitted g c =
+    one_longer (submitted_in c.args.member.now 0) (submitted_in c.update.new.member 0) (op_on c.args.object c.args.op)
+    c.in-Ok.ensures.submitted
 
 pub returns-in-Err-clause-error : goal.returns-in-Err-clause-error
-returns-in-Err-clause-error g c = subst (StopsUpdate c.update.new.member) (sym c.stop_of.ensures) (update_stops c.args.rounds (op_on c.args.object c.args.op) c.args.member.now c.update.new.member c.in-Err.error c.in-Err.ensures.error)
+returns-in-Err-clause-error g c =
+    subst (StopsUpdate c.update.new.member) (sym c.stop_of.ensures)
+    (update_stops c.args.rounds (op_on c.args.object c.args.op) c.args.member.now c.update.new.member c.in-Err.error
+    c.in-Err.ensures.error)

@@ -6,7 +6,8 @@ use Rattle.la_script.proofs.headers.votes_of.Given as goal
 
 abbrev pub invariant-loop-word : goal.invariant-loop-word
 invariant-loop-word l = record {
-  so_far : option_map (λ vs. l.votes.items ++ vs) (each_word vote (map (λ w. w.now) (drop l.word-index l.words))) ≡ each_word vote (map (λ w. w.now) l.words);
+  so_far : option_map (λ vs. l.votes.items ++ vs) (each_word vote (map (λ w. w.now) (drop l.word-index l.words)))
+      ≡ each_word vote (map (λ w. w.now) l.words);
   len : length l.votes.items ≡ l.word-index;
   each : All (λ v. (1 ≤ v) × (v ≤ MAX_VOTES)) l.votes.items;
 }

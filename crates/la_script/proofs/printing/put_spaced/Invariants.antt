@@ -4,4 +4,5 @@ use Rattle.la_script.specs.Text.{spaced_text}
 use Rattle.la_script.proofs.printing.put_spaced.Given as goal
 
 abbrev pub invariant-loop-replica : goal.invariant-loop-replica
-invariant-loop-replica l = l.out ++ spaced_text (drop l.replica (votes_of l.votes)) ≡ l.initial.out ++ spaced_text (votes_of l.votes)
+invariant-loop-replica l =
+    l.out ++ spaced_text (drop l.replica (votes_of l.votes)) ≡ l.initial.out ++ spaced_text (votes_of l.votes)

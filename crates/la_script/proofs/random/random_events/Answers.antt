@@ -7,9 +7,12 @@ loop-number-init c = record { at = c.new-generator.ensures ∙ at_first c.args.s
 
 pub loop-number-preserved : goal.loop-number-preserved
 loop-number-preserved c = record {
-  at = generator_on c.args.seed c.loop-number.number _ _ _ _ _ c.loop-number.invariant.at c.next_word-first.ensures c.next_word-second.ensures;
+  at =
+      generator_on c.args.seed c.loop-number.number _ _ _ _ _ c.loop-number.invariant.at c.next_word-first.ensures
+      c.next_word-second.ensures;
   so_far =
-      events_on c.args.seed c.args.replicas c.loop-number.number _ _ _ _ _ c.loop-number.events c.push.new.self c.loop-number.invariant.at
+      events_on c.args.seed c.args.replicas c.loop-number.number _ _ _ _ _ c.loop-number.events c.push.new.self
+      c.loop-number.invariant.at
       c.next_word-first.ensures c.next_word-second.ensures c.loop-number.invariant.so_far
       (c.in_ok-push.ensures.ok ∙ ap (λ e. c.loop-number.events ++ e ∷ []) c.event_by.ensures);
 }

@@ -19,7 +19,8 @@ all c =
     ∙ ap (λ t. t ++ ids_text (ids_before (count s) c.loop-replica.replica)) c.in_ok-push_ascii.ensures
     ∙ ap (λ k. (old ++ codes "{") ++ ids_text (ids_before (count s) k)) eight
     ∙ ap (λ ids. (old ++ codes "{") ++ ids_text ids) (ids-all s))
-    ∙ append_assoc (old ++ codes "{") (ids_text (ids_of s)) (codes "}") ∙ append_assoc old (codes "{") (ids_text (ids_of s) ++ codes "}")
+    ∙ append_assoc (old ++ codes "{") (ids_text (ids_of s)) (codes "}")
+    ∙ append_assoc old (codes "{") (ids_text (ids_of s) ++ codes "}")
 
 pub returns : goal.returns
 returns c = on_ok_weaker c.push_ascii-2.result (λ e. e ∙ all c) c.push_ascii-2.ensures
@@ -31,7 +32,8 @@ loop-replica-preserved c =
     let n = c.of-count.result in
     let behind = c.loop-replica.behind in
     let before = ids_text (ids_before (count s) r) in
-    let is : n ≡ count s r = c.of-count.ensures ∙ ap (λ k. count_in k r) c.counts-counts.ensures.counts ∙ count_in-counts_of s r in
+    let is : n ≡ count s r =
+    c.of-count.ensures ∙ ap (λ k. count_in k r) c.counts-counts.ensures.counts ∙ count_in-counts_of s r in
     record {
       text =
           c.in_ok-push_ids.ensures ∙ ap (λ t. t ++ front behind r n) c.loop-replica.invariant.text

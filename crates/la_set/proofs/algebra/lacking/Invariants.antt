@@ -6,10 +6,15 @@ use Rattle.la_set.proofs.algebra.lacking.Given as goal
 
 abbrev pub invariant-loop-mine : goal.invariant-loop-mine
 invariant-loop-mine l = record {
-  mine : items_of (option_copied l.mine) ≡ take (length (items_of (option_copied l.mine))) (items_of (option_copied l.list));
-  theirs : items_of (option_copied l.theirs) ≡ take (length (items_of (option_copied l.mine))) (items_of (option_copied l.other));
+  mine : items_of (option_copied l.mine)
+      ≡ take (length (items_of (option_copied l.mine))) (items_of (option_copied l.list));
+  theirs : items_of (option_copied l.theirs)
+      ≡ take (length (items_of (option_copied l.mine))) (items_of (option_copied l.other));
   within : length (items_of (option_copied l.mine)) ≤ length (items_of (option_copied l.list));
-  found : l.lacking.items ≡ reverse (from (items_of (option_copied l.list)) (items_of (option_copied l.other)) (length (items_of (option_copied l.mine))));
+  found : l.lacking.items
+      ≡ reverse
+      (from (items_of (option_copied l.list)) (items_of (option_copied l.other))
+      (length (items_of (option_copied l.mine))));
 }
 
 abbrev pub decreases-loop-mine : goal.decreases-loop-mine

@@ -5,4 +5,6 @@ use Rattle.la_set.proofs.Walks.{begins-Decides}
 use Rattle.la_set.proofs.history.begins_with.Goals as goal
 
 pub returns-then-len_of : goal.returns-then-len_of
-returns-then-len_of g c = begins-Decides (items_of (option_copied c.args.one)) (items_of (option_copied c.args.other)) c.first_difference.result c.is_none.result c.is_none.ensures (omega arith) c.first_difference.ensures
+returns-then-len_of g c =
+    begins-Decides (items_of (option_copied c.args.one)) (items_of (option_copied c.args.other)) c.first_difference.result
+    c.is_none.result c.is_none.ensures (omega arith) c.first_difference.ensures

@@ -13,8 +13,10 @@ loop-left-preserved g c =
     let one_less : n ≡ k + 1 = omega arith in
     let in_mine : k < length xs = omega arith in
     let in_theirs : k < length ys = omega arith in
-    let ours = last_is xs _ k n c.step_back-ours.result.item.now one_less in_mine (sym inv.mine ∙ c.step_back-ours.ensures) in
-    let its = last_is ys _ k n c.step_back-its.result.item.now one_less in_theirs (sym inv.theirs ∙ c.step_back-its.ensures) in
+    let ours =
+    last_is xs _ k n c.step_back-ours.result.item.now one_less in_mine (sym inv.mine ∙ c.step_back-ours.ensures) in
+    let its =
+    last_is ys _ k n c.step_back-its.result.item.now one_less in_theirs (sym inv.theirs ∙ c.step_back-its.ensures) in
     record {
       mine = ours.0;
       theirs = its.0;
@@ -27,4 +29,6 @@ loop-left-preserved g c =
     }
 
 pub returns : goal.returns
-returns g c = found_all (items_of (option_copied c.args.one)) (items_of (option_copied c.args.other)) c.args.from c.loop-left.left c.loop-left.found c.requires (omega arith) c.loop-left.invariant.found
+returns g c =
+    found_all (items_of (option_copied c.args.one)) (items_of (option_copied c.args.other)) c.args.from c.loop-left.left
+    c.loop-left.found c.requires (omega arith) c.loop-left.invariant.found

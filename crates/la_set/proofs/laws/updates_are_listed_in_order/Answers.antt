@@ -5,7 +5,9 @@ use Rattle.la_set.proofs.lemmas.Membership.{updates-ascending, listed-contains, 
 use Rattle.la_set.proofs.laws.updates_are_listed_in_order.Goals as goal
 
 pub returns-clause-ascending : goal.returns-clause-ascending
-returns-clause-ascending c s i j d lt within = updates-ascending s i j _ _ lt (slice_get-get_or (updates s) i d (omega arith)) (slice_get-get_or (updates s) j d within)
+returns-clause-ascending c s i j d lt within =
+    updates-ascending s i j _ _ lt (slice_get-get_or (updates s) i d (omega arith))
+    (slice_get-get_or (updates s) j d within)
 
 pub returns-clause-members : goal.returns-clause-members
 returns-clause-members c s u = (listed-contains s u, contains-listed s u)

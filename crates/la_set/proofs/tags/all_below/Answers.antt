@@ -11,7 +11,8 @@ returns c = λ t k d lt.
     let ids = c.args.ids.now in let id = c.args.id in let end = length ids - 1 in
     let none : UpdateId = record { replica = 0; number = 0 } in
     let read : IsBelow (get_or ids end none) id = lt-below (get_or ids end none) id (sym c.lt.ensures ∙ t) in
-    let last : IsBelow (get_or ids end d) id = subst (λ tag. IsBelow tag id) (get_or_default ids end none d (omega (arith, c.if-len-eq0.false))) read in
+    let last : IsBelow (get_or ids end d) id =
+    subst (λ tag. IsBelow tag id) (get_or_default ids end none d (omega (arith, c.if-len-eq0.false))) read in
     elim (cases_order k end) [
       | inl same ↦ subst (λ j. IsBelow (get_or ids j d) id) (sym same) last
       | inr differ ↦ elim differ [

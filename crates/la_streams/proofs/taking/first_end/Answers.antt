@@ -10,7 +10,9 @@ loop-n-preserved c = record {
 }
 
 pub returns-then-bytes-n-eq10-clause-part : goal.returns-then-bytes-n-eq10-clause-part
-returns-then-bytes-n-eq10-clause-part c = ends_at c.args.bytes.now c.loop-n.n c.loop-n-test.true c.loop-n.invariant.one c.if-bytes-n-eq10.true
+returns-then-bytes-n-eq10-clause-part c =
+    ends_at c.args.bytes.now c.loop-n.n c.loop-n-test.true c.loop-n.invariant.one c.if-bytes-n-eq10.true
 
 pub returns-clause-part : goal.returns-clause-part
-returns-clause-part c = ends_not c.args.bytes.now c.loop-n.n _ _ (omega (arith, c.loop-n-test.false)) refl refl c.loop-n.invariant.one
+returns-clause-part c =
+    ends_not c.args.bytes.now c.loop-n.n _ _ (omega (arith, c.loop-n-test.false)) refl refl c.loop-n.invariant.one

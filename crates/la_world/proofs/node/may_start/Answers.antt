@@ -11,6 +11,7 @@ returns-then-is_group g c = (
       let none : c.len.result ≡ 0 = eqb-true c.len.result 0 e in
       record { config = config; unused = sym c.view.ensures ∙ none_empty c.view.result.now (sym c.len.ensures.len ∙ none) },
   λ may.
-      let none : c.len.result ≡ 0 = c.len.ensures.len ∙ ap (λ s. length (updates s)) (c.view.ensures ∙ may.unused) ∙ empty_has_none in
+      let none : c.len.result ≡ 0 =
+      c.len.ensures.len ∙ ap (λ s. length (updates s)) (c.view.ensures ∙ may.unused) ∙ empty_has_none in
       ap (λ n. nat_eq n 0) none,
 )

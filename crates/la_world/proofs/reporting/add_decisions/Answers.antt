@@ -22,20 +22,29 @@ loop-node-preserved g c =
     let lt : i < length nodes = search rules in
     let states : List ReplicaState = replicas_of nodes in
     let here : ReplicaState = node.replica in
-    let at : slice_get states i ≡ Some here = get_mapped (λ (n : NodeState). n.replica) nodes i node (found_at nodes i node lt c.node-item.is) in
+    let at : slice_get states i ≡ Some here =
+    get_mapped (λ (n : NodeState). n.replica) nodes i node (found_at nodes i node lt c.node-item.is) in
     let so_far : replicas_of (take i nodes) ≡ take i states = sym (take-map (λ (n : NodeState). n.replica) i nodes) in
-    let then : take (i + 1) states ≡ replicas_of (take (i + 1) nodes) = take-map (λ (n : NodeState). n.replica) (i + 1) nodes in
+    let then : take (i + 1) states ≡ replicas_of (take (i + 1) nodes) =
+    take-map (λ (n : NodeState). n.replica) (i + 1) nodes in
     let next : suc i ≡ i + 1 = omega arith in
     elim c.match-outcome.branch [
       | in-Some+in_ok-push w ↦
           let decision : Decision = decision_of k here.own w.in-Some.outcome in
-          let given : decision_by k here ≡ Some decision = ap (option_map (decision_of k here.own)) (sym c.outcome.ensures ∙ w.in-Some.is) in
+          let given : decision_by k here ≡ Some decision =
+          ap (option_map (decision_of k here.own)) (sym c.outcome.ensures ∙ w.in-Some.is) in
           ap (λ (v : _). v.items) w.made-is ∙ w.in_ok-push.ensures.items
           ∙ ap₂ (λ (xs : List Decision) own. xs ++ record { commit = k; replica = own; outcome = w.in-Some.outcome } ∷ []) (c.loop-node.invariant ∙ ap (λ xs. before ++ filter_map (decision_by k) xs) so_far) w.own.ensures
           ∙ append_assoc before (filter_map (decision_by k) (take i states)) (decision ∷ [])
-          ∙ ap (λ xs. before ++ xs) (sym (filter_map-more (decision_by k) states i decision (ap (option_and_then (decision_by k)) at ∙ given)) ∙ ap (λ j. filter_map (decision_by k) (take j states)) next ∙ ap (filter_map (decision_by k)) then)
+          ∙ ap (λ xs. before ++ xs)
+          (sym (filter_map-more (decision_by k) states i decision (ap (option_and_then (decision_by k)) at ∙ given))
+          ∙ ap (λ j. filter_map (decision_by k) (take j states)) next ∙ ap (filter_map (decision_by k)) then)
       | in_default w ↦
-          let given : decision_by k here ≡ None = ap (option_map (decision_of k here.own)) (sym c.outcome.ensures ∙ w.in_default.is) in
-          ap (λ (v : _). v.items) w.made-is ∙ (c.loop-node.invariant ∙ ap (λ xs. before ++ filter_map (decision_by k) xs) so_far)
-          ∙ ap (λ xs. before ++ xs) (sym (filter_map-skip (decision_by k) states i (ap (option_and_then (decision_by k)) at ∙ given)) ∙ ap (λ j. filter_map (decision_by k) (take j states)) next ∙ ap (filter_map (decision_by k)) then)
+          let given : decision_by k here ≡ None =
+          ap (option_map (decision_of k here.own)) (sym c.outcome.ensures ∙ w.in_default.is) in
+          ap (λ (v : _). v.items) w.made-is
+          ∙ (c.loop-node.invariant ∙ ap (λ xs. before ++ filter_map (decision_by k) xs) so_far)
+          ∙ ap (λ xs. before ++ xs)
+          (sym (filter_map-skip (decision_by k) states i (ap (option_and_then (decision_by k)) at ∙ given))
+          ∙ ap (λ j. filter_map (decision_by k) (take j states)) next ∙ ap (filter_map (decision_by k)) then)
     ]

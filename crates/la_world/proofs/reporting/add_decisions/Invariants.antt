@@ -5,4 +5,5 @@ use Rattle.la_world.specs.Nodes.{replicas_of}
 use Rattle.la_world.proofs.reporting.add_decisions.Given as goal
 
 abbrev pub invariant-loop-node : goal.invariant-loop-node
-invariant-loop-node g l = l.made.items ≡ l.fn.made.items ++ filter_map (decision_by l.fn.commit) (replicas_of (take l.node-index l.node-items))
+invariant-loop-node g l =
+    l.made.items ≡ l.fn.made.items ++ filter_map (decision_by l.fn.commit) (replicas_of (take l.node-index l.node-items))

@@ -9,7 +9,8 @@ use Rattle.la_world.proofs.world.nodes_of.Given as goal
 
 abbrev pub invariant-loop-shelf : goal.invariant-loop-shelf
 invariant-loop-shelf g l = record {
-  replicas : replicas_of l.nodes.items ≡ map (λ r. start (votes_of l.fn.config.votes) r l.fn.config.cap l.fn.config.commits) (range_with_len 0 l.own);
+  replicas : replicas_of l.nodes.items
+      ≡ map (λ r. start (votes_of l.fn.config.votes) r l.fn.config.cap l.fn.config.commits) (range_with_len 0 l.own);
   shelves : shelves_of l.nodes.items ++ into_iter_items l.shelf-iterator ≡ vec_items l.fn.shelves;
   own : l.own + length (into_iter_items l.shelf-iterator) ≡ length (vec_items l.fn.shelves);
 }

@@ -8,4 +8,6 @@ use Rattle.uses.proofs.groups.form.Goals as goal
 pub loop-own-preserved : goal.loop-own-preserved
 loop-own-preserved c =
     let node = c.in_ok-new.field-0 in
-    replica_states_more c.args.config (replicas_of c.loop-own.group.items) (replicas_of c.push.new.self.items) node.replica c.loop-own.own c.loop-own.invariant (ap (λ (n : NodeState). n.replica) c.in_ok-new.ensures.start) (ap replicas_of (search rules) ∙ map-append (λ (n : NodeState). n.replica) c.loop-own.group.items (node ∷ []))
+    replica_states_more c.args.config (replicas_of c.loop-own.group.items) (replicas_of c.push.new.self.items)
+    node.replica c.loop-own.own c.loop-own.invariant (ap (λ (n : NodeState). n.replica) c.in_ok-new.ensures.start)
+    (ap replicas_of (search rules) ∙ map-append (λ (n : NodeState). n.replica) c.loop-own.group.items (node ∷ []))

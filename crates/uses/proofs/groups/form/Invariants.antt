@@ -6,4 +6,6 @@ use Rattle.la_world.specs.LiveGroups.{replicas_of}
 use Rattle.uses.proofs.groups.form.Given as goal
 
 abbrev pub invariant-loop-own : goal.invariant-loop-own
-invariant-loop-own l = replicas_of l.group.items ≡ map (λ r. start (votes_of l.config.votes) r l.config.cap l.config.commits) (range_with_len 0 l.own)
+invariant-loop-own l =
+    replicas_of l.group.items
+    ≡ map (λ r. start (votes_of l.config.votes) r l.config.cap l.config.commits) (range_with_len 0 l.own)

@@ -15,6 +15,8 @@ returns-in-Ok g c =
     let old = g.O.Outlet.said c.args.outlet.now in
     let new = g.O.Outlet.said c.serve_all-all_or_some.new.outlet in
     let any = served.any_moment start c.requires.leads in
-    let last = newest (alone g.M.Machine.answer) (moment_of dead) (left_since_of dead) leads g.M.Machine.step all first (given_since old new) (served.keeps start c.requires.leads)
+    let last =
+    newest (alone g.M.Machine.answer) (moment_of dead) (left_since_of dead) leads g.M.Machine.step all first
+    (given_since old new) (served.keeps start c.requires.leads)
     (moment_of c.args.node.disk.contents) any.later any.each in
     (c.in-Ok.ensures.keeps last.0 (answered (alone g.M.Machine.answer) old new) first all last.1 last.2).0

@@ -11,5 +11,6 @@ returns-in-Ok-start c =
     let led = c.in-Ok-handle.ensures.leads acked.0 false c.in-Ok.ensures.leads in
     let same = acked.1.durable (bytes_of c.in-Ok-crash.left.contents) c.in-Ok-crash.ensures.left in
     let is : Some c.in-Ok-start.lease.machine.taken ≡ Some true =
-    sym c.in-Ok-start.ensures.state ∙ ap (after taken_in named taken_after false) same ∙ led ∙ ap Some (takes c.in-Ok.lease.machine.taken c.handle.new.self.machine.taken acked.3) in
+    sym c.in-Ok-start.ensures.state ∙ ap (after taken_in named taken_after false) same ∙ led
+    ∙ ap Some (takes c.in-Ok.lease.machine.taken c.handle.new.self.machine.taken acked.3) in
     search rules

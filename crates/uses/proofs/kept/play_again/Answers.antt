@@ -9,9 +9,13 @@ loop-call-preserved g c =
     let calls = c.args.kept.now in
     let i = c.loop-call.call-index in
     let call = c.call-item.result in
-    ap (λ xs. after_calls c.args.node.now.replica (map call_of xs)) (take_more calls i call c.loop-call-test.true ∙ ap (λ x. take i calls ++ x ∷ []) (sym c.call-item.is))
+    ap (λ xs. after_calls c.args.node.now.replica (map call_of xs))
+    (take_more calls i call c.loop-call-test.true ∙ ap (λ x. take i calls ++ x ∷ []) (sym c.call-item.is))
     ∙ ap (after_calls c.args.node.now.replica) (map-append call_of (take i calls) (call ∷ []))
-    ∙ c.kept_lists_lead_on.ensures c.args.node.now.replica c.loop-call.node.replica c.play_one.new.node.replica (map call_of (take i calls)) (call_of call) c.loop-call.invariant c.in_ok-play_one.ensures
+    ∙ c.kept_lists_lead_on.ensures c.args.node.now.replica c.loop-call.node.replica c.play_one.new.node.replica
+    (map call_of (take i calls)) (call_of call) c.loop-call.invariant c.in_ok-play_one.ensures
 
 pub returns : goal.returns
-returns g c = ap (λ xs. after_calls c.args.node.now.replica (map call_of xs)) (sym (take_all c.loop-call.call-index c.args.kept.now c.loop-call-test.false)) ∙ c.loop-call.invariant
+returns g c =
+    ap (λ xs. after_calls c.args.node.now.replica (map call_of xs))
+    (sym (take_all c.loop-call.call-index c.args.kept.now c.loop-call-test.false)) ∙ c.loop-call.invariant

@@ -5,4 +5,5 @@ use Rattle.uses.proofs.kept.play_again.Given as goal
 
 -- the node has come as far as the calls so far
 abbrev pub invariant-loop-call : goal.invariant-loop-call
-invariant-loop-call g l = after_calls l.initial.node.replica (map call_of (take l.call-index l.kept)) ≡ Some l.node.replica
+invariant-loop-call g l =
+    after_calls l.initial.node.replica (map call_of (take l.call-index l.kept)) ≡ Some l.node.replica

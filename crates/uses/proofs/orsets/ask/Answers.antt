@@ -9,14 +9,19 @@ use Rattle.la_object.specs.Objects.{value}
 use Rattle.la_object.specs.Shelves.{updates_at}
 use Rattle.uses.proofs.orsets.ask.Goals as goal
 
-one_answer : {E : Type 0} (r : Result Answer E) (a : Option Answer) (b : Answer) → a ≡ Some b → IfOk r (λ answer. a ≡ Some answer) → IfOk r (λ answer. answer ≡ b)
+one_answer : {E : Type 0} (r : Result Answer E) (a : Option Answer) (b : Answer) → a ≡ Some b
+    → IfOk r (λ answer. a ≡ Some answer) → IfOk r (λ answer. answer ≡ b)
 one_answer (Ok answer) a b is answers = same_Some _ _ (sym answers ∙ is)
 one_answer (Err e) a b is answers = tt
 
 pub returns : goal.returns
 returns g c u kind there object put stays =
     let view = c.args.shelf.now.view in let number = c.args.number in
-    let listed = contains-filter (λ v. v.object == number) (updates view) u ((c.updates_are_listed_in_order.ensures.members view u).1 there) (ap (λ o. o == number) object ∙ nat_eq_equiv.refl number) in
+    let listed =
+    contains-filter (λ v. v.object == number) (updates view) u
+    ((c.updates_are_listed_in_order.ensures.members view u).1 there)
+    (ap (λ o. o == number) object ∙ nat_eq_equiv.refl number) in
     one_answer c.ask.result _ _
-    (ap (option_map (λ k. value k (updates_at view number) (Has c.args.element))) kind ∙ ap Some (c.live_puts_count.ensures (updates_at view number) u c.args.element listed put stays))
+    (ap (option_map (λ k. value k (updates_at view number) (Has c.args.element))) kind
+    ∙ ap Some (c.live_puts_count.ensures (updates_at view number) u c.args.element listed put stays))
     c.ask.ensures.ok

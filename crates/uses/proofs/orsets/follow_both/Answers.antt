@@ -11,7 +11,8 @@ nothing_within s = refl
 pub follow-requires-after_bounds : goal.follow-requires-after_bounds
 follow-requires-after_bounds c κs =
     let view : c.in_ok-shelf.shelf.view ≡ empty = search rules in
-    subst (λ (v : Histories). IsSubset v c.args.first.now) (sym view) ((c.tests_decide.ensures.subset empty c.args.first.now).0 (nothing_within c.args.first.now))
+    subst (λ (v : Histories). IsSubset v c.args.first.now) (sym view)
+    ((c.tests_decide.ensures.subset empty c.args.first.now).0 (nothing_within c.args.first.now))
 
 pub returns-clause-first : goal.returns-clause-first
 returns-clause-first c =

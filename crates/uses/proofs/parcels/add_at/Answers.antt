@@ -9,12 +9,16 @@ pub returns : goal.returns
 returns g c =
     let nodes = c.args.group.now in
     let any = c.index-group-at.result in
-    submitted nodes c.args.link.now.parcels.items c.send.new.self.parcels.items c.args.at (get_or nodes c.args.at any) c.submit.new.self (slice_get-get_or nodes c.args.at any c.requires)
-    c.submissions_keep_live.ensures (op_on 1 (Inc c.args.by)) c.in_ok-out.out c.in_ok-out.ensures.room c.in_ok-out.ensures.step c.in_ok-out.ensures.told c.send.ensures
+    submitted nodes c.args.link.now.parcels.items c.send.new.self.parcels.items c.args.at (get_or nodes c.args.at any)
+    c.submit.new.self (slice_get-get_or nodes c.args.at any c.requires)
+    c.submissions_keep_live.ensures (op_on 1 (Inc c.args.by)) c.in_ok-out.out c.in_ok-out.ensures.room
+    c.in_ok-out.ensures.step c.in_ok-out.ensures.told c.send.ensures
 
 pub returns-in_err-send : goal.returns-in_err-send
 returns-in_err-send g c =
     let nodes = c.args.group.now in
     let any = c.index-group-at.result in
-    submitted nodes c.args.link.now.parcels.items c.send.new.self.parcels.items c.args.at (get_or nodes c.args.at any) c.submit.new.self (slice_get-get_or nodes c.args.at any c.requires)
-    c.submissions_keep_live.ensures (op_on 1 (Inc c.args.by)) c.in_ok-out.out c.in_ok-out.ensures.room c.in_ok-out.ensures.step c.in_ok-out.ensures.told c.send.ensures
+    submitted nodes c.args.link.now.parcels.items c.send.new.self.parcels.items c.args.at (get_or nodes c.args.at any)
+    c.submit.new.self (slice_get-get_or nodes c.args.at any c.requires)
+    c.submissions_keep_live.ensures (op_on 1 (Inc c.args.by)) c.in_ok-out.out c.in_ok-out.ensures.room
+    c.in_ok-out.ensures.step c.in_ok-out.ensures.told c.send.ensures

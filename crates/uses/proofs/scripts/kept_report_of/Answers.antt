@@ -5,7 +5,8 @@ use Rattle.la_world.specs.Report.{report}
 use Rattle.uses.specs.Scripts.{IsReportOf, IsTextOfKept}
 use Rattle.uses.proofs.scripts.kept_report_of.Goals as goal
 
-keeps : {E : Type 0} → ReportsKeepPromises → (bytes : List ℕ) (r : Result (List ℕ) E) → IfOk r (IsReportOf bytes) → IfOk r (IsTextOfKept bytes)
+keeps : {E : Type 0} → ReportsKeepPromises → (bytes : List ℕ) (r : Result (List ℕ) E) → IfOk r (IsReportOf bytes)
+    → IfOk r (IsTextOfKept bytes)
 keeps law bytes (Ok text) is =
     let script = is.script in
     let kinds = replicate script.config.replicas [] in
@@ -20,4 +21,5 @@ keeps law bytes (Ok text) is =
 keeps law bytes (Err e) is = tt
 
 pub returns-clause-kept : goal.returns-clause-kept
-returns-clause-kept c = keeps c.reports_keep_promises.ensures c.args.bytes.now c.report_of.result c.report_of.ensures.text
+returns-clause-kept c =
+    keeps c.reports_keep_promises.ensures c.args.bytes.now c.report_of.result c.report_of.ensures.text

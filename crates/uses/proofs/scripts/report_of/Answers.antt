@@ -16,5 +16,10 @@ returns-clause-text c =
       script = c.in_ok-script.script;
       said = c.in_ok-script.ensures.ok;
       config = c.in_ok-script.ensures.config;
-      is_text = c.in_ok-text.ensures ∙ ap (text_of c.in_ok-script.script.version) (c.in-Ok.ensures.report ∙ ap₂ (λ (ks : List (List (ℕ × Kind))) (events : List Event). report config ks (map event_of events)) kinds c.all.ensures);
+      is_text =
+          c.in_ok-text.ensures
+          ∙ ap (text_of c.in_ok-script.script.version)
+          (c.in-Ok.ensures.report
+          ∙ ap₂ (λ (ks : List (List (ℕ × Kind))) (events : List Event). report config ks (map event_of events))
+          kinds c.all.ensures);
     }

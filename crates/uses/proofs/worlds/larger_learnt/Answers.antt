@@ -6,4 +6,5 @@ use Rattle.uses.proofs.worlds.larger_learnt.Goals as goal
 pub returns-in-Some : goal.returns-in-Some
 returns-in-Some g c =
     subst₂ (λ steps set. ContainsBoth steps c.args.one c.args.other set)
-    (ap (λ (made : Report). made.steps) c.in_ok-made.ensures.report) (sym c.in_ok-copy-in-Some.ensures) c.in-Some.ensures
+    (ap (λ (made : Report). made.steps) c.in_ok-made.ensures.report) (sym c.in_ok-copy-in-Some.ensures)
+    c.in-Some.ensures

@@ -5,4 +5,6 @@ use Rattle.uses.proofs.Runs.{run_shows}
 use Rattle.uses.proofs.worlds.play.Goals as goal
 
 pub returns-clause-shown : goal.returns-clause-shown
-returns-clause-shown g c = run_shows c.views_are_largest.ensures c.args.config (kinds_of c.args.shelves.items) (map event_of c.args.events.now) c.run.result c.run.ensures.report
+returns-clause-shown g c =
+    run_shows c.views_are_largest.ensures c.args.config (kinds_of c.args.shelves.items) (map event_of c.args.events.now)
+    c.run.result c.run.ensures.report

@@ -7,4 +7,5 @@ pub returns-clause-learnt : goal.returns-clause-learnt
 returns-clause-learnt g c = run_learns_offers (map event_of c.args.events.now) c.run.result c.run.ensures.own
 
 pub returns-clause-submitted : goal.returns-clause-submitted
-returns-clause-submitted g c = run_makes_nothing_up (map event_of c.args.events.now) c.run.result c.run.ensures.submitted
+returns-clause-submitted g c =
+    run_makes_nothing_up (map event_of c.args.events.now) c.run.result c.run.ensures.submitted

@@ -7,5 +7,6 @@ use Rattle.checks_contracts.proofs.acceptor.exactness.offer_beyond_is_exact.Goal
 pub returns-clause-refusal : goal.returns-clause-refusal
 returns-clause-refusal c =
     let a = c.args.one.now in let b = c.args.offered.now in
-    both_refused c.offer_beyond.result c.offer.result (IsOfferRefusal a b) (IsOfferRefusal c.args.other.now b) c.offer_beyond.ensures.error c.offer.ensures.error
+    both_refused c.offer_beyond.result c.offer.result (IsOfferRefusal a b) (IsOfferRefusal c.args.other.now b)
+    c.offer_beyond.ensures.error c.offer.ensures.error
     (λ e f p q. one_offer_refusal a b e f p (subst (λ s. IsOfferRefusal s b f) (sym c.requires.same) q))

@@ -13,5 +13,7 @@ returns c =
     let set = c.args.set.now in
     let u = c.args.update.now in
     let s = Set (adds_of set.puts) (gone_of set.early set.puts) in
-    let stays = sym (c.sets_pass_over_marks_and_votes.ensures.steps set (u ∷ [])) ∙ ap (λ b. steps s (cond b (u ∷ []) [])) c.requires in
+    let stays =
+    sym (c.sets_pass_over_marks_and_votes.ensures.steps set (u ∷ []))
+    ∙ ap (λ b. steps s (cond b (u ∷ []) [])) c.requires in
     either_way c.absorb.result _ _ c.absorb.ensures.ok c.absorb.ensures.err (λ after. after ∙ stays)

@@ -7,4 +7,6 @@ use Rattle.checks_contracts.proofs.orset.laws.backwards_is_observed.Goals as goa
 pub returns : goal.returns
 returns c view number led =
     let us = updates_at view number in
-    subst (λ ids. IfOk c.observed.result (λ tags. tags ≡ ids)) (c.sets_pass_over_marks_and_votes.ensures.tags c.args.set.now view number (reverse us) c.args.element (IsPermutation-reverse us) led) c.observed.ensures.ok
+    subst (λ ids. IfOk c.observed.result (λ tags. tags ≡ ids))
+    (c.sets_pass_over_marks_and_votes.ensures.tags c.args.set.now view number (reverse us) c.args.element
+    (IsPermutation-reverse us) led) c.observed.ensures.ok

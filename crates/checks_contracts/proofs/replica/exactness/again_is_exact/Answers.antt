@@ -4,4 +4,6 @@ use Rattle.checks_contracts.proofs.Carried.{mails_agree}
 use Rattle.checks_contracts.proofs.replica.exactness.again_is_exact.Goals as goal
 
 pub returns : goal.returns
-returns c = mails_agree c.args.replica.now zero_counts (again c.args.replica.now) c.again.result c.again-2.result c.again.ensures.mail c.again-2.ensures.mail (c.again.ensures.told zero_counts) (c.again-2.ensures.told zero_counts)
+returns c =
+    mails_agree c.args.replica.now zero_counts (again c.args.replica.now) c.again.result c.again-2.result
+    c.again.ensures.mail c.again-2.ensures.mail (c.again.ensures.told zero_counts) (c.again-2.ensures.told zero_counts)

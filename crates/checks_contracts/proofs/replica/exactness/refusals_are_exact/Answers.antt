@@ -2,7 +2,11 @@ use Rattle.checks_contracts.proofs.ReplicaAnswers.{refusals_agree, refused_alike
 use Rattle.checks_contracts.proofs.replica.exactness.refusals_are_exact.Goals as goal
 
 pub returns-clause-alike : goal.returns-clause-alike
-returns-clause-alike c = refusals_agree c.args.replica.now c.args.message.now c.prepare.result c.prepare-2.result c.prepare.ensures.error c.prepare-2.ensures.error
+returns-clause-alike c =
+    refusals_agree c.args.replica.now c.args.message.now c.prepare.result c.prepare-2.result c.prepare.ensures.error
+    c.prepare-2.ensures.error
 
 pub returns-clause-alone : goal.returns-clause-alone
-returns-clause-alone c = refused_alike c.args.replica.now c.args.message.now c.prepare.result c.prepare-2.result c.prepare.ensures.error c.prepare-2.ensures.stands c.prepare-2.ensures.fits c.prepare-2.ensures.spares
+returns-clause-alone c =
+    refused_alike c.args.replica.now c.args.message.now c.prepare.result c.prepare-2.result c.prepare.ensures.error
+    c.prepare-2.ensures.stands c.prepare-2.ensures.fits c.prepare-2.ensures.spares

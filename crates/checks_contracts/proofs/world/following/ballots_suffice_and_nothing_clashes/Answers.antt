@@ -3,10 +3,11 @@ use Rattle.la_replica.specs.declared.error.ReplicaError.TheVariants.{Full, Memor
 use Rattle.checks_contracts.proofs.world.following.ballots_suffice_and_nothing_clashes.Goals as goal
 
 pub returns-clause-submissions : goal.returns-clause-submissions
-returns-clause-submissions c g events r i few cap legal known there refused = elim (c.submissions_fit.ensures g events r i few cap legal known there BallotsSpent refused) [
-  | inl p ↦ absurd (other p.0)
-  | inr p ↦ absurd (none p.0)
-]
+returns-clause-submissions c g events r i few cap legal known there refused =
+    elim (c.submissions_fit.ensures g events r i few cap legal known there BallotsSpent refused) [
+      | inl p ↦ absurd (other p.0)
+      | inr p ↦ absurd (none p.0)
+    ]
   where
     other : BallotsSpent ≡ Full → ⊥
     other e = cc
@@ -16,5 +17,6 @@ returns-clause-submissions c g events r i few cap legal known there refused = el
 
 pub returns-clause-deliveries : goal.returns-clause-deliveries
 returns-clause-deliveries c g events k m few cap legal sent id refused =
-    let same : Clash id ≡ Memory = (c.deliveries_fit.ensures g events k m few cap legal sent).memory (Clash id) refused in
+    let same : Clash id ≡ Memory =
+    (c.deliveries_fit.ensures g events k m few cap legal sent).memory (Clash id) refused in
     cc

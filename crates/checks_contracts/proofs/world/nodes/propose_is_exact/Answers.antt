@@ -11,5 +11,8 @@ pub returns-clause-answers : goal.returns-clause-answers
 returns-clause-answers g c =
     let i = first_instance c.args.commit in
     let one = c.propose.new.self.replica in let other = c.propose-2.new.self.replica in
-    outs_agree zero_counts _ _ c.propose.result c.propose-2.result one other (ap (λ (n : NodeState). submits n.replica i (first_vote c.args.commit c.args.value)) c.requires) c.propose.ensures.step c.propose-2.ensures.step
-    (told_in one i zero_counts c.propose.result (c.propose.ensures.told zero_counts)) (told_in other i zero_counts c.propose-2.result (c.propose-2.ensures.told zero_counts))
+    outs_agree zero_counts _ _ c.propose.result c.propose-2.result one other
+    (ap (λ (n : NodeState). submits n.replica i (first_vote c.args.commit c.args.value)) c.requires)
+    c.propose.ensures.step c.propose-2.ensures.step
+    (told_in one i zero_counts c.propose.result (c.propose.ensures.told zero_counts))
+    (told_in other i zero_counts c.propose-2.result (c.propose-2.ensures.told zero_counts))

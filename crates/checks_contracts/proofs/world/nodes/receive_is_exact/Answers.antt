@@ -11,5 +11,9 @@ pub returns-clause-said : goal.returns-clause-said
 returns-clause-said g c =
     let m = c.args.message.now in
     let offered : NodeState → Counts = λ n. offered_by (received_in n.replica m) in
-    receipts_agree (offered c.args.one.now) _ _ c.receive.result c.receive-2.result c.receive.new.self.replica c.receive-2.new.self.replica (ap (λ (n : NodeState). takes n.replica (received_in n.replica m)) c.requires) c.receive.ensures.step c.receive-2.ensures.step
-    c.receive.ensures.told (subst (λ n. IfOk c.receive-2.result (λ x. AreToldIn c.receive-2.new.self.replica (offered n) x.done.mail)) (sym c.requires) c.receive-2.ensures.told)
+    receipts_agree (offered c.args.one.now) _ _ c.receive.result c.receive-2.result c.receive.new.self.replica
+    c.receive-2.new.self.replica (ap (λ (n : NodeState). takes n.replica (received_in n.replica m)) c.requires)
+    c.receive.ensures.step c.receive-2.ensures.step
+    c.receive.ensures.told
+    (subst (λ n. IfOk c.receive-2.result (λ x. AreToldIn c.receive-2.new.self.replica (offered n) x.done.mail))
+    (sym c.requires) c.receive-2.ensures.told)

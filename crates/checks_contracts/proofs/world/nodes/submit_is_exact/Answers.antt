@@ -11,5 +11,7 @@ pub returns-clause-answers : goal.returns-clause-answers
 returns-clause-answers g c =
     let d : ObjectOp = record { object = 1; op = Inc c.args.by } in
     let one = c.submit.new.self.replica in let other = c.submit-2.new.self.replica in
-    outs_agree zero_counts _ _ c.submit.result c.submit-2.result one other (ap (λ (n : NodeState). submits n.replica 0 d) c.requires) c.submit.ensures.step c.submit-2.ensures.step
-    (told_in one 0 zero_counts c.submit.result (c.submit.ensures.told zero_counts)) (told_in other 0 zero_counts c.submit-2.result (c.submit-2.ensures.told zero_counts))
+    outs_agree zero_counts _ _ c.submit.result c.submit-2.result one other
+    (ap (λ (n : NodeState). submits n.replica 0 d) c.requires) c.submit.ensures.step c.submit-2.ensures.step
+    (told_in one 0 zero_counts c.submit.result (c.submit.ensures.told zero_counts))
+    (told_in other 0 zero_counts c.submit-2.result (c.submit-2.ensures.told zero_counts))

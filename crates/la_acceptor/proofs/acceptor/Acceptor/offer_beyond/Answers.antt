@@ -6,4 +6,7 @@ use Rattle.la_acceptor.proofs.acceptor.Acceptor.offer_beyond.Goals as goal
 
 pub returns-clause-again : goal.returns-clause-again
 returns-clause-again c same =
-    ap Ok (c.in_ok-reply.ensures.reply ∙ ap (λ b. cond b Yes (No (join c.args.self.now c.args.offered.now))) (contained-again c.args.offered.now c.args.self.now (sym same)))
+    ap Ok
+    (c.in_ok-reply.ensures.reply
+    ∙ ap (λ b. cond b Yes (No (join c.args.self.now c.args.offered.now)))
+    (contained-again c.args.offered.now c.args.self.now (sym same)))

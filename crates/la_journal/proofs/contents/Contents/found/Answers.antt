@@ -6,7 +6,8 @@ use Rattle.la_journal.proofs.contents.Contents.found.Goals as goal
 
 pub returns-clause-crash : goal.returns-clause-crash
 returns-clause-crash c f left =
-    noted_more c.note.new.self.events c.args.kept 0 c.deref.result.now c.args.bytes.items f c.deref.ensures.value c.args.left.events c.note.ensures left
+    noted_more c.note.new.self.events c.args.kept 0 c.deref.result.now c.args.bytes.items f c.deref.ensures.value
+    c.args.left.events c.note.ensures left
 
 pub returns-clause-seen : goal.returns-clause-seen
 returns-clause-seen c =

@@ -8,4 +8,6 @@ returns-then-free-bytes-clause-crash c f left =
     (was.0, was.1, front_of _ c.args.bytes.now was.0 f was.2)
 
 pub returns-then-free-bytes-clause-time : goal.returns-then-free-bytes-clause-time
-returns-then-free-bytes-clause-time c = elapses_on _ _ _ _ _ _ _ _ c.append.ensures.time c.fail-then-free-bytes.ensures.time c.fail-then-free-bytes.ensures.still
+returns-then-free-bytes-clause-time c =
+    elapses_on _ _ _ _ _ _ _ _ c.append.ensures.time c.fail-then-free-bytes.ensures.time
+    c.fail-then-free-bytes.ensures.still

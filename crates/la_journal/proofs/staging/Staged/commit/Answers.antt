@@ -10,49 +10,84 @@ use Rattle.la_journal.proofs.staging.Staged.commit.Goals as goal
 pub returns-then-is_empty-clause-ok : goal.returns-then-is_empty-clause-ok
 returns-then-is_empty-clause-ok g c =
     let long : length c.args.self.now.text.items ≡ vec_len c.args.self.now.text = search rules in
-    let none = no_bytes c.args.self.now.text.items (long ∙ so_long (vec_len c.args.self.now.text) (sym c.is_empty.ensures ∙ c.if-is_empty.true)) in
-    (c.if-self.false, sym (append-nil (lines (g.D.Disk.seen c.args.self.now.durable.disk))) ∙ ap (λ (t : List ℕ). lines (g.D.Disk.seen c.args.self.now.durable.disk) ++ lines t) (sym none), none)
+    let none =
+    no_bytes c.args.self.now.text.items
+    (long ∙ so_long (vec_len c.args.self.now.text) (sym c.is_empty.ensures ∙ c.if-is_empty.true)) in (
+      c.if-self.false,
+      sym (append-nil (lines (g.D.Disk.seen c.args.self.now.durable.disk)))
+          ∙ ap (λ (t : List ℕ). lines (g.D.Disk.seen c.args.self.now.durable.disk) ++ lines t) (sym none),
+      none,
+    )
 
 pub returns-then-is_empty-clause-leads : goal.returns-then-is_empty-clause-leads
 returns-then-is_empty-clause-leads g c start before calls was are =
     let long : length c.args.self.now.text.items ≡ vec_len c.args.self.now.text = search rules in
-    let none = no_bytes c.args.self.now.text.items (long ∙ so_long (vec_len c.args.self.now.text) (sym c.is_empty.ensures ∙ c.if-is_empty.true)) in
-    was ∙ ap (λ (cs : List g.M.Machine.Call). steps g.M.Machine.step cs before) (sym (no_calls g.M.Machine.text calls (sym are ∙ ap lines none)))
+    let none =
+    no_bytes c.args.self.now.text.items
+    (long ∙ so_long (vec_len c.args.self.now.text) (sym c.is_empty.ensures ∙ c.if-is_empty.true)) in
+    was
+    ∙ ap (λ (cs : List g.M.Machine.Call). steps g.M.Machine.step cs before)
+    (sym (no_calls g.M.Machine.text calls (sym are ∙ ap lines none)))
 
 pub returns-in-Ok-keep-clause-ok : goal.returns-in-Ok-keep-clause-ok
 returns-in-Ok-keep-clause-ok g c =
-    let settled = settled_there g.D.Disk.seen g.D.Disk.may_leave c.args.self.now.durable.disk c.reserve.new.self c.reserve.ensures.seen c.reserve.ensures.crash (c.requires c.if-self.false) in (
+    let settled =
+    settled_there g.D.Disk.seen g.D.Disk.may_leave c.args.self.now.durable.disk c.reserve.new.self
+    c.reserve.ensures.seen c.reserve.ensures.crash (c.requires c.if-self.false) in (
       c.if-self.false,
-      commit_lines g.D.Disk.seen g.D.Disk.may_leave c.reserve.new.self settled c.args.self.now.text.items c.deref.result.now c.args.self.now.whole c.deref.ensures.value c.keep.new.disk c.in-Ok-keep.ensures.written
+      commit_lines g.D.Disk.seen g.D.Disk.may_leave c.reserve.new.self settled c.args.self.now.text.items
+          c.deref.result.now c.args.self.now.whole c.deref.ensures.value c.keep.new.disk c.in-Ok-keep.ensures.written
           ∙ ap (λ (f : List ℕ). lines f ++ lines c.args.self.now.text.items) c.reserve.ensures.seen,
       c.clear.ensures.items,
     )
 
 pub returns-in-Ok-keep-clause-open : goal.returns-in-Ok-keep-clause-open
 returns-in-Ok-keep-clause-open g c is_open =
-    let settled = settled_there g.D.Disk.seen g.D.Disk.may_leave c.args.self.now.durable.disk c.reserve.new.self c.reserve.ensures.seen c.reserve.ensures.crash (c.requires is_open) in
-    commit_settled g.D.Disk.seen g.D.Disk.may_leave c.reserve.new.self settled c.args.self.now.text.items c.deref.result.now c.args.self.now.whole c.deref.ensures.value c.keep.new.disk c.in-Ok-keep.ensures.written c.in-Ok-keep.ensures.durable
+    let settled =
+    settled_there g.D.Disk.seen g.D.Disk.may_leave c.args.self.now.durable.disk c.reserve.new.self
+    c.reserve.ensures.seen c.reserve.ensures.crash (c.requires is_open) in
+    commit_settled g.D.Disk.seen g.D.Disk.may_leave c.reserve.new.self settled c.args.self.now.text.items
+    c.deref.result.now c.args.self.now.whole c.deref.ensures.value c.keep.new.disk c.in-Ok-keep.ensures.written
+    c.in-Ok-keep.ensures.durable
 
 pub returns-in-Ok-keep-clause-leads : goal.returns-in-Ok-keep-clause-leads
 returns-in-Ok-keep-clause-leads g c start before calls was are =
-    let settled = settled_there g.D.Disk.seen g.D.Disk.may_leave c.args.self.now.durable.disk c.reserve.new.self c.reserve.ensures.seen c.reserve.ensures.crash (c.requires c.if-self.false) in
-    commit_leads g.D.Disk.seen g.D.Disk.may_leave c.reserve.new.self settled c.args.self.now.text.items c.deref.result.now c.args.self.now.whole c.deref.ensures.value
-    g.M.Machine.named_state g.M.Machine.named g.M.Machine.step g.M.Machine.text g.met.M.Machine.round_trip g.met.M.Machine.clean start before calls (ap (after g.M.Machine.named_state g.M.Machine.named g.M.Machine.step start) c.reserve.ensures.seen ∙ was) are c.keep.new.disk c.in-Ok-keep.ensures.written
+    let settled =
+    settled_there g.D.Disk.seen g.D.Disk.may_leave c.args.self.now.durable.disk c.reserve.new.self
+    c.reserve.ensures.seen c.reserve.ensures.crash (c.requires c.if-self.false) in
+    commit_leads g.D.Disk.seen g.D.Disk.may_leave c.reserve.new.self settled c.args.self.now.text.items
+    c.deref.result.now c.args.self.now.whole c.deref.ensures.value
+    g.M.Machine.named_state g.M.Machine.named g.M.Machine.step g.M.Machine.text g.met.M.Machine.round_trip
+    g.met.M.Machine.clean start before calls
+    (ap (after g.M.Machine.named_state g.M.Machine.named g.M.Machine.step start) c.reserve.ensures.seen ∙ was) are
+    c.keep.new.disk c.in-Ok-keep.ensures.written
 
 pub returns-in-Ok-keep-clause-any_moment : goal.returns-in-Ok-keep-clause-any_moment
 returns-in-Ok-keep-clause-any_moment g c is_open start before calls was are =
     let unsettled = c.requires is_open in
-    let settled = settled_there g.D.Disk.seen g.D.Disk.may_leave c.args.self.now.durable.disk c.reserve.new.self c.reserve.ensures.seen c.reserve.ensures.crash (c.requires is_open) in
+    let settled =
+    settled_there g.D.Disk.seen g.D.Disk.may_leave c.args.self.now.durable.disk c.reserve.new.self
+    c.reserve.ensures.seen c.reserve.ensures.crash (c.requires is_open) in
     joined g.D.Disk.moment g.D.Disk.left_since _ c.args.self.now.durable.disk c.reserve.new.self c.keep.new.disk
-    (nothing_left g.D.Disk.seen g.D.Disk.may_leave c.args.self.now.durable.disk c.reserve.new.self c.reserve.ensures.seen c.reserve.ensures.crash g.D.Disk.moment g.D.Disk.left_since unsettled (g.met.D.Disk.only_now c.args.self.now.durable.disk) c.reserve.ensures.time (LeadsToSome (after g.M.Machine.named_state g.M.Machine.named g.M.Machine.step start) g.M.Machine.step calls before) (0, omega arith, was))
+    (nothing_left g.D.Disk.seen g.D.Disk.may_leave c.args.self.now.durable.disk c.reserve.new.self
+    c.reserve.ensures.seen c.reserve.ensures.crash g.D.Disk.moment g.D.Disk.left_since unsettled
+    (g.met.D.Disk.only_now c.args.self.now.durable.disk) c.reserve.ensures.time
+    (LeadsToSome (after g.M.Machine.named_state g.M.Machine.named g.M.Machine.step start) g.M.Machine.step calls
+    before) (0, omega arith, was))
     (commit_leaves g.D.Disk.seen g.D.Disk.may_leave c.reserve.new.self settled c.args.self.now.text.items c.deref.result.now c.args.self.now.whole c.deref.ensures.value
     g.M.Machine.named_state g.M.Machine.named g.M.Machine.step g.M.Machine.text g.met.M.Machine.round_trip g.met.M.Machine.clean start before calls (ap (after g.M.Machine.named_state g.M.Machine.named g.M.Machine.step start) c.reserve.ensures.seen ∙ was) are g.D.Disk.moment g.D.Disk.left_since c.keep.new.disk c.keep.ensures.any_moment)
 
 pub returns-in-Err-clause-any_moment : goal.returns-in-Err-clause-any_moment
 returns-in-Err-clause-any_moment g c is_open start before calls was are =
     let unsettled = c.requires is_open in
-    let settled = settled_there g.D.Disk.seen g.D.Disk.may_leave c.args.self.now.durable.disk c.reserve.new.self c.reserve.ensures.seen c.reserve.ensures.crash (c.requires is_open) in
+    let settled =
+    settled_there g.D.Disk.seen g.D.Disk.may_leave c.args.self.now.durable.disk c.reserve.new.self
+    c.reserve.ensures.seen c.reserve.ensures.crash (c.requires is_open) in
     joined g.D.Disk.moment g.D.Disk.left_since _ c.args.self.now.durable.disk c.reserve.new.self c.keep.new.disk
-    (nothing_left g.D.Disk.seen g.D.Disk.may_leave c.args.self.now.durable.disk c.reserve.new.self c.reserve.ensures.seen c.reserve.ensures.crash g.D.Disk.moment g.D.Disk.left_since unsettled (g.met.D.Disk.only_now c.args.self.now.durable.disk) c.reserve.ensures.time (LeadsToSome (after g.M.Machine.named_state g.M.Machine.named g.M.Machine.step start) g.M.Machine.step calls before) (0, omega arith, was))
+    (nothing_left g.D.Disk.seen g.D.Disk.may_leave c.args.self.now.durable.disk c.reserve.new.self
+    c.reserve.ensures.seen c.reserve.ensures.crash g.D.Disk.moment g.D.Disk.left_since unsettled
+    (g.met.D.Disk.only_now c.args.self.now.durable.disk) c.reserve.ensures.time
+    (LeadsToSome (after g.M.Machine.named_state g.M.Machine.named g.M.Machine.step start) g.M.Machine.step calls
+    before) (0, omega arith, was))
     (commit_leaves g.D.Disk.seen g.D.Disk.may_leave c.reserve.new.self settled c.args.self.now.text.items c.deref.result.now c.args.self.now.whole c.deref.ensures.value
     g.M.Machine.named_state g.M.Machine.named g.M.Machine.step g.M.Machine.text g.met.M.Machine.round_trip g.met.M.Machine.clean start before calls (ap (after g.M.Machine.named_state g.M.Machine.named g.M.Machine.step start) c.reserve.ensures.seen ∙ was) are g.D.Disk.moment g.D.Disk.left_since c.keep.new.disk c.keep.ensures.any_moment)

@@ -7,6 +7,10 @@ returns-then-is_err-clause-time g c =
     let second = c.fail.ensures.time in
     record {
       later = omega (arith, first.later, second.later);
-      nothing_else = λ t f le left. ⊎_elim (λ was. ⊎_elim (λ old. inl old) (λ now. inr (c.fail.ensures.still f now)) (first.nothing_else t f le was)) (λ now. inr now) (second.nothing_else t f (omega (arith, le, first.later)) left);
+      nothing_else =
+          λ t f le left.
+          ⊎_elim
+          (λ was. ⊎_elim (λ old. inl old) (λ now. inr (c.fail.ensures.still f now)) (first.nothing_else t f le was))
+          (λ now. inr now) (second.nothing_else t f (omega (arith, le, first.later)) left);
       keeps = λ t f le was. second.keeps t f (omega (arith, le, first.later)) (first.keeps t f le was);
     }

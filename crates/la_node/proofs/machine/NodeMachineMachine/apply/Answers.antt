@@ -5,12 +5,15 @@ use Rattle.la_node.proofs.machine.NodeMachineMachine.apply.Goals as goal
 
 pub returns-clause-step : goal.returns-clause-step
 returns-clause-step c =
-    step_taken _ c.args.input.now.line (called c.call.result.now) c.call.ensures.line (c.call.ensures.says ∙ sym (ap (λ call. Some (called call)) c.call.ensures.is)) c.act.result _ c.act.ensures.ok
+    step_taken _ c.args.input.now.line (called c.call.result.now) c.call.ensures.line
+    (c.call.ensures.says ∙ sym (ap (λ call. Some (called call)) c.call.ensures.is)) c.act.result _ c.act.ensures.ok
 
 pub returns-clause-answer : goal.returns-clause-answer
 returns-clause-answer c =
-    answer_given _ c.args.input.now.line (called c.call.result.now) c.call.ensures.line (c.call.ensures.says ∙ sym (ap (λ call. Some (called call)) c.call.ensures.is)) c.act.result _ c.act.ensures.ok
+    answer_given _ c.args.input.now.line (called c.call.result.now) c.call.ensures.line
+    (c.call.ensures.says ∙ sym (ap (λ call. Some (called call)) c.call.ensures.is)) c.act.result _ c.act.ensures.ok
 
 pub returns-clause-refusal : goal.returns-clause-refusal
 returns-clause-refusal c =
-    step_refused _ c.args.input.now.line (called c.call.result.now) c.call.ensures.line (c.call.ensures.says ∙ sym (ap (λ call. Some (called call)) c.call.ensures.is)) c.act.result c.act.ensures.error
+    step_refused _ c.args.input.now.line (called c.call.result.now) c.call.ensures.line
+    (c.call.ensures.says ∙ sym (ap (λ call. Some (called call)) c.call.ensures.is)) c.act.result c.act.ensures.error

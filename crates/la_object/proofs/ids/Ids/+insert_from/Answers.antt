@@ -14,7 +14,10 @@ not_false true h = refl
 not_false false h = sym h
 
 pub returns-in_default-clause-ok : goal.returns-in_default-clause-ok
-returns-in_default-clause-ok t c = sym (ap (with_ids c.args.self.now) (drop_none c.args.ids.now c.args.place (sym c.in_default.ensures)) ∙ with_ids-nil c.args.self.now)
+returns-in_default-clause-ok t c =
+    sym
+    (ap (with_ids c.args.self.now) (drop_none c.args.ids.now c.args.place (sym c.in_default.ensures))
+    ∙ with_ids-nil c.args.self.now)
 
 pub insert_from-requires : goal.insert_from-requires
 insert_from-requires t c =
@@ -42,4 +45,5 @@ returns-clause-ok t c =
     c.in_default-insert_from.ensures.ok
     ∙ ap (λ s. with_ids s (drop (c.args.place + 1) c.args.ids.now)) c.in_ok-new.ensures.ok
     ∙ with_ids-more c.args.self.now c.in-Some.id.now (drop (c.args.place + 1) c.args.ids.now)
-    ∙ ap (with_ids c.args.self.now) (sym (drop_some c.args.ids.now c.args.place c.in-Some.id.now (sym c.in-Some.ensures)))
+    ∙ ap (with_ids c.args.self.now)
+    (sym (drop_some c.args.ids.now c.args.place c.in-Some.id.now (sym c.in-Some.ensures)))

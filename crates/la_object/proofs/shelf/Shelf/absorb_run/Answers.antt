@@ -9,10 +9,20 @@ use Rattle.la_object.proofs.Runs.{run-length, run-count, run-HaveRoom, beyond-le
 use Rattle.la_object.proofs.shelf.Shelf.absorb_run.Goals as goal
 
 pub returns-in_default-clause-fewer : goal.returns-in_default-clause-fewer
-returns-in_default-clause-fewer g c = omega (arith, beyond-length c.args.self.now.view c.args.set.now c.requires.within c.args.replica c.requires.first, c.requires.first.more)
+returns-in_default-clause-fewer g c =
+    omega (
+      arith,
+      beyond-length c.args.self.now.view c.args.set.now c.requires.within c.args.replica c.requires.first,
+      c.requires.first.more,
+    )
 
 pub returns-in_default-run-clause-fewer : goal.returns-in_default-run-clause-fewer
-returns-in_default-run-clause-fewer g c = omega (arith, beyond-length c.args.self.now.view c.args.set.now c.requires.within c.args.replica c.requires.first, c.requires.first.more)
+returns-in_default-run-clause-fewer g c =
+    omega (
+      arith,
+      beyond-length c.args.self.now.view c.args.set.now c.requires.within c.args.replica c.requires.first,
+      c.requires.first.more,
+    )
 
 pub absorb_all-many-requires-after_bounds : goal.absorb_all-many-requires-after_bounds
 absorb_all-many-requires-after_bounds g c κs within =
@@ -21,8 +31,11 @@ absorb_all-many-requires-after_bounds g c κs within =
     let sub : IsSubset view set = subst (λ v. IsSubset v set) (sym same) c.requires.within in
     let first : IsFirstMore view set r = subst (λ v. IsFirstMore v set r) (sym same) c.requires.first in
     let us : List Update = map (λ u. u.now) c.as_slice-run.result.now in
-    let run : us ≡ take 1000 (drop (count view r) (updates_of set r)) = ap (map (λ u. u.now)) c.as_slice-run.ensures.value ∙ c.in-Ok-run.ensures ∙ ap (λ n. take 1000 (drop n (updates_of set r))) c.count_of-from.ensures.count in
-    run-HaveRoom view set sub r first c.counts-limited.ensures.limit us run (rows g.B.Replicated.state c.self.inside.objects.entries) c.self.invariant
+    let run : us ≡ take 1000 (drop (count view r) (updates_of set r)) =
+    ap (map (λ u. u.now)) c.as_slice-run.ensures.value ∙ c.in-Ok-run.ensures
+    ∙ ap (λ n. take 1000 (drop n (updates_of set r))) c.count_of-from.ensures.count in
+    run-HaveRoom view set sub r first c.counts-limited.ensures.limit us run
+    (rows g.B.Replicated.state c.self.inside.objects.entries) c.self.invariant
 
 pub overflow_cast-many : goal.overflow_cast-many
 overflow_cast-many g c =
@@ -31,8 +44,11 @@ overflow_cast-many g c =
     let sub : IsSubset view set = subst (λ v. IsSubset v set) (sym same) c.requires.within in
     let first : IsFirstMore view set r = subst (λ v. IsFirstMore v set r) (sym same) c.requires.first in
     let us : List Update = map (λ u. u.now) c.as_slice-run.result.now in
-    let run : us ≡ take 1000 (drop (count view r) (updates_of set r)) = ap (map (λ u. u.now)) c.as_slice-run.ensures.value ∙ c.in-Ok-run.ensures ∙ ap (λ n. take 1000 (drop n (updates_of set r))) c.count_of-from.ensures.count in
-    let few : c.absorb_all-many.result ≤ length us = omega (arith, c.absorb_all-many.ensures.few, length-map c.as_slice-run.result.now (λ u. u.now)) in
+    let run : us ≡ take 1000 (drop (count view r) (updates_of set r)) =
+    ap (map (λ u. u.now)) c.as_slice-run.ensures.value ∙ c.in-Ok-run.ensures
+    ∙ ap (λ n. take 1000 (drop n (updates_of set r))) c.count_of-from.ensures.count in
+    let few : c.absorb_all-many.result ≤ length us =
+    omega (arith, c.absorb_all-many.ensures.few, length-map c.as_slice-run.result.now (λ u. u.now)) in
     omega (arith, few, run-length view set sub r first c.counts-limited.ensures.limit us run)
 
 pub overflow_add-from : goal.overflow_add-from
@@ -42,9 +58,18 @@ overflow_add-from g c =
     let sub : IsSubset view set = subst (λ v. IsSubset v set) (sym same) c.requires.within in
     let first : IsFirstMore view set r = subst (λ v. IsFirstMore v set r) (sym same) c.requires.first in
     let us : List Update = map (λ u. u.now) c.as_slice-run.result.now in
-    let run : us ≡ take 1000 (drop (count view r) (updates_of set r)) = ap (map (λ u. u.now)) c.as_slice-run.ensures.value ∙ c.in-Ok-run.ensures ∙ ap (λ n. take 1000 (drop n (updates_of set r))) c.count_of-from.ensures.count in
-    let few : c.absorb_all-many.result ≤ length us = omega (arith, c.absorb_all-many.ensures.few, length-map c.as_slice-run.result.now (λ u. u.now)) in
-    omega (arith, c.count_of-from.ensures.count, c.counts-limited.ensures.limit r, run-count view set sub r first c.counts-limited.ensures.limit us run c.absorb_all-many.result few)
+    let run : us ≡ take 1000 (drop (count view r) (updates_of set r)) =
+    ap (map (λ u. u.now)) c.as_slice-run.ensures.value ∙ c.in-Ok-run.ensures
+    ∙ ap (λ n. take 1000 (drop n (updates_of set r))) c.count_of-from.ensures.count in
+    let few : c.absorb_all-many.result ≤ length us =
+    omega (arith, c.absorb_all-many.ensures.few, length-map c.as_slice-run.result.now (λ u. u.now)) in
+    omega (
+      arith,
+      c.count_of-from.ensures.count,
+      c.counts-limited.ensures.limit r,
+      run-count view set sub r first
+          c.counts-limited.ensures.limit us run c.absorb_all-many.result few,
+    )
 
 pub invariant_of-self : goal.invariant_of-self
 invariant_of-self g c =
@@ -53,10 +78,16 @@ invariant_of-self g c =
     let sub : IsSubset view set = subst (λ v. IsSubset v set) (sym same) c.requires.within in
     let first : IsFirstMore view set r = subst (λ v. IsFirstMore v set r) (sym same) c.requires.first in
     let us : List Update = map (λ u. u.now) c.as_slice-run.result.now in
-    let run : us ≡ take 1000 (drop (count view r) (updates_of set r)) = ap (map (λ u. u.now)) c.as_slice-run.ensures.value ∙ c.in-Ok-run.ensures ∙ ap (λ n. take 1000 (drop n (updates_of set r))) c.count_of-from.ensures.count in
-    let few : c.absorb_all-many.result ≤ length us = omega (arith, c.absorb_all-many.ensures.few, length-map c.as_slice-run.result.now (λ u. u.now)) in
-    ends-IsShelf view set sub r first c.counts-limited.ensures.limit us run c.absorb_all-many.result few g.B.Replicated.state c.self.inside.objects.entries c.absorb_all-many.new.objects.entries c.in-Ok.ready c.first.result
-    c.self.invariant c.absorb_all-many.ensures.some c.absorb_all-many.ensures.small c.in-Ok.ensures (c.first.ensures ∙ ap (λ n. truncate c.in-Ok.ready r (n + c.absorb_all-many.result)) c.count_of-from.ensures.count)
+    let run : us ≡ take 1000 (drop (count view r) (updates_of set r)) =
+    ap (map (λ u. u.now)) c.as_slice-run.ensures.value ∙ c.in-Ok-run.ensures
+    ∙ ap (λ n. take 1000 (drop n (updates_of set r))) c.count_of-from.ensures.count in
+    let few : c.absorb_all-many.result ≤ length us =
+    omega (arith, c.absorb_all-many.ensures.few, length-map c.as_slice-run.result.now (λ u. u.now)) in
+    ends-IsShelf view set sub r first c.counts-limited.ensures.limit us run c.absorb_all-many.result few
+    g.B.Replicated.state c.self.inside.objects.entries c.absorb_all-many.new.objects.entries c.in-Ok.ready
+    c.first.result
+    c.self.invariant c.absorb_all-many.ensures.some c.absorb_all-many.ensures.small c.in-Ok.ensures
+    (c.first.ensures ∙ ap (λ n. truncate c.in-Ok.ready r (n + c.absorb_all-many.result)) c.count_of-from.ensures.count)
 
 pub invariant_of-self-2 : goal.invariant_of-self-2
 invariant_of-self-2 g c =
@@ -65,10 +96,16 @@ invariant_of-self-2 g c =
     let sub : IsSubset view set = subst (λ v. IsSubset v set) (sym same) c.requires.within in
     let first : IsFirstMore view set r = subst (λ v. IsFirstMore v set r) (sym same) c.requires.first in
     let us : List Update = map (λ u. u.now) c.as_slice-run.result.now in
-    let run : us ≡ take 1000 (drop (count view r) (updates_of set r)) = ap (map (λ u. u.now)) c.as_slice-run.ensures.value ∙ c.in-Ok-run.ensures ∙ ap (λ n. take 1000 (drop n (updates_of set r))) c.count_of-from.ensures.count in
-    let few : c.absorb_all-many.result ≤ length us = omega (arith, c.absorb_all-many.ensures.few, length-map c.as_slice-run.result.now (λ u. u.now)) in
-    ends-IsShelf view set sub r first c.counts-limited.ensures.limit us run c.absorb_all-many.result few g.B.Replicated.state c.self.inside.objects.entries c.absorb_all-many.new.objects.entries c.in-Ok.ready c.first.result
-    c.self.invariant c.absorb_all-many.ensures.some c.absorb_all-many.ensures.small c.in-Ok.ensures (c.first.ensures ∙ ap (λ n. truncate c.in-Ok.ready r (n + c.absorb_all-many.result)) c.count_of-from.ensures.count)
+    let run : us ≡ take 1000 (drop (count view r) (updates_of set r)) =
+    ap (map (λ u. u.now)) c.as_slice-run.ensures.value ∙ c.in-Ok-run.ensures
+    ∙ ap (λ n. take 1000 (drop n (updates_of set r))) c.count_of-from.ensures.count in
+    let few : c.absorb_all-many.result ≤ length us =
+    omega (arith, c.absorb_all-many.ensures.few, length-map c.as_slice-run.result.now (λ u. u.now)) in
+    ends-IsShelf view set sub r first c.counts-limited.ensures.limit us run c.absorb_all-many.result few
+    g.B.Replicated.state c.self.inside.objects.entries c.absorb_all-many.new.objects.entries c.in-Ok.ready
+    c.first.result
+    c.self.invariant c.absorb_all-many.ensures.some c.absorb_all-many.ensures.small c.in-Ok.ensures
+    (c.first.ensures ∙ ap (λ n. truncate c.in-Ok.ready r (n + c.absorb_all-many.result)) c.count_of-from.ensures.count)
 
 pub returns-then-many-run-clause-err : goal.returns-then-many-run-clause-err
 returns-then-many-run-clause-err g c =
@@ -77,10 +114,17 @@ returns-then-many-run-clause-err g c =
     let sub : IsSubset view set = subst (λ v. IsSubset v set) (sym same) c.requires.within in
     let first : IsFirstMore view set r = subst (λ v. IsFirstMore v set r) (sym same) c.requires.first in
     let us : List Update = map (λ u. u.now) c.as_slice-run.result.now in
-    let run : us ≡ take 1000 (drop (count view r) (updates_of set r)) = ap (map (λ u. u.now)) c.as_slice-run.ensures.value ∙ c.in-Ok-run.ensures ∙ ap (λ n. take 1000 (drop n (updates_of set r))) c.count_of-from.ensures.count in
-    let few : c.absorb_all-many.result ≤ length us = omega (arith, c.absorb_all-many.ensures.few, length-map c.as_slice-run.result.now (λ u. u.now)) in
-    ends-HasTaken view set sub r first c.counts-limited.ensures.limit us run c.absorb_all-many.result few g.B.Replicated.state c.self.inside.objects.entries c.absorb_all-many.new.objects.entries c.in-Ok.ready c.first.result
-    c.self.invariant c.absorb_all-many.ensures.some c.absorb_all-many.ensures.small c.in-Ok.ensures (c.first.ensures ∙ ap (λ n. truncate c.in-Ok.ready r (n + c.absorb_all-many.result)) c.count_of-from.ensures.count) c.args.self.now c.self.view_is
+    let run : us ≡ take 1000 (drop (count view r) (updates_of set r)) =
+    ap (map (λ u. u.now)) c.as_slice-run.ensures.value ∙ c.in-Ok-run.ensures
+    ∙ ap (λ n. take 1000 (drop n (updates_of set r))) c.count_of-from.ensures.count in
+    let few : c.absorb_all-many.result ≤ length us =
+    omega (arith, c.absorb_all-many.ensures.few, length-map c.as_slice-run.result.now (λ u. u.now)) in
+    ends-HasTaken view set sub r first c.counts-limited.ensures.limit us run c.absorb_all-many.result few
+    g.B.Replicated.state c.self.inside.objects.entries c.absorb_all-many.new.objects.entries c.in-Ok.ready
+    c.first.result
+    c.self.invariant c.absorb_all-many.ensures.some c.absorb_all-many.ensures.small c.in-Ok.ensures
+    (c.first.ensures ∙ ap (λ n. truncate c.in-Ok.ready r (n + c.absorb_all-many.result)) c.count_of-from.ensures.count)
+    c.args.self.now c.self.view_is
 
 pub returns-clause-ok : goal.returns-clause-ok
 returns-clause-ok g c =
@@ -89,10 +133,17 @@ returns-clause-ok g c =
     let sub : IsSubset view set = subst (λ v. IsSubset v set) (sym same) c.requires.within in
     let first : IsFirstMore view set r = subst (λ v. IsFirstMore v set r) (sym same) c.requires.first in
     let us : List Update = map (λ u. u.now) c.as_slice-run.result.now in
-    let run : us ≡ take 1000 (drop (count view r) (updates_of set r)) = ap (map (λ u. u.now)) c.as_slice-run.ensures.value ∙ c.in-Ok-run.ensures ∙ ap (λ n. take 1000 (drop n (updates_of set r))) c.count_of-from.ensures.count in
-    let few : c.absorb_all-many.result ≤ length us = omega (arith, c.absorb_all-many.ensures.few, length-map c.as_slice-run.result.now (λ u. u.now)) in
-    ends-HasTaken view set sub r first c.counts-limited.ensures.limit us run c.absorb_all-many.result few g.B.Replicated.state c.self.inside.objects.entries c.absorb_all-many.new.objects.entries c.in-Ok.ready c.first.result
-    c.self.invariant c.absorb_all-many.ensures.some c.absorb_all-many.ensures.small c.in-Ok.ensures (c.first.ensures ∙ ap (λ n. truncate c.in-Ok.ready r (n + c.absorb_all-many.result)) c.count_of-from.ensures.count) c.args.self.now c.self.view_is
+    let run : us ≡ take 1000 (drop (count view r) (updates_of set r)) =
+    ap (map (λ u. u.now)) c.as_slice-run.ensures.value ∙ c.in-Ok-run.ensures
+    ∙ ap (λ n. take 1000 (drop n (updates_of set r))) c.count_of-from.ensures.count in
+    let few : c.absorb_all-many.result ≤ length us =
+    omega (arith, c.absorb_all-many.ensures.few, length-map c.as_slice-run.result.now (λ u. u.now)) in
+    ends-HasTaken view set sub r first c.counts-limited.ensures.limit us run c.absorb_all-many.result few
+    g.B.Replicated.state c.self.inside.objects.entries c.absorb_all-many.new.objects.entries c.in-Ok.ready
+    c.first.result
+    c.self.invariant c.absorb_all-many.ensures.some c.absorb_all-many.ensures.small c.in-Ok.ensures
+    (c.first.ensures ∙ ap (λ n. truncate c.in-Ok.ready r (n + c.absorb_all-many.result)) c.count_of-from.ensures.count)
+    c.args.self.now c.self.view_is
 
 pub returns-then-many-run-clause-fewer : goal.returns-then-many-run-clause-fewer
 returns-then-many-run-clause-fewer g c =
@@ -101,9 +152,22 @@ returns-then-many-run-clause-fewer g c =
     let sub : IsSubset view set = subst (λ v. IsSubset v set) (sym same) c.requires.within in
     let first : IsFirstMore view set r = subst (λ v. IsFirstMore v set r) (sym same) c.requires.first in
     let us : List Update = map (λ u. u.now) c.as_slice-run.result.now in
-    let run : us ≡ take 1000 (drop (count view r) (updates_of set r)) = ap (map (λ u. u.now)) c.as_slice-run.ensures.value ∙ c.in-Ok-run.ensures ∙ ap (λ n. take 1000 (drop n (updates_of set r))) c.count_of-from.ensures.count in
-    let few : c.absorb_all-many.result ≤ length us = omega (arith, c.absorb_all-many.ensures.few, length-map c.as_slice-run.result.now (λ u. u.now)) in
-    omega (arith, few, c.if-many-run.true, length-map c.as_slice-run.result.now (λ u. u.now), run-length view set sub r first c.counts-limited.ensures.limit us run, beyond-length c.args.self.now.view set c.requires.within r c.requires.first, ap (λ v. count v r) same)
+    let run : us ≡ take 1000 (drop (count view r) (updates_of set r)) =
+    ap (map (λ u. u.now)) c.as_slice-run.ensures.value ∙ c.in-Ok-run.ensures
+    ∙ ap (λ n. take 1000 (drop n (updates_of set r))) c.count_of-from.ensures.count in
+    let few : c.absorb_all-many.result ≤ length us =
+    omega (arith, c.absorb_all-many.ensures.few, length-map c.as_slice-run.result.now (λ u. u.now)) in
+    omega (
+      arith,
+      few,
+      c.if-many-run.true,
+      length-map c.as_slice-run.result.now (λ u. u.now),
+      run-length view set sub r
+          first c.counts-limited.ensures.limit us run,
+      beyond-length c.args.self.now.view set c.requires.within r
+          c.requires.first,
+      ap (λ v. count v r) same,
+    )
 
 pub returns-clause-some : goal.returns-clause-some
 returns-clause-some g c =
@@ -112,6 +176,17 @@ returns-clause-some g c =
     let sub : IsSubset view set = subst (λ v. IsSubset v set) (sym same) c.requires.within in
     let first : IsFirstMore view set r = subst (λ v. IsFirstMore v set r) (sym same) c.requires.first in
     let us : List Update = map (λ u. u.now) c.as_slice-run.result.now in
-    let run : us ≡ take 1000 (drop (count view r) (updates_of set r)) = ap (map (λ u. u.now)) c.as_slice-run.ensures.value ∙ c.in-Ok-run.ensures ∙ ap (λ n. take 1000 (drop n (updates_of set r))) c.count_of-from.ensures.count in
-    let few : c.absorb_all-many.result ≤ length us = omega (arith, c.absorb_all-many.ensures.few, length-map c.as_slice-run.result.now (λ u. u.now)) in
-    omega (arith, few, first.more, c.if-many-run.false, length-map c.as_slice-run.result.now (λ u. u.now), run-length view set sub r first c.counts-limited.ensures.limit us run)
+    let run : us ≡ take 1000 (drop (count view r) (updates_of set r)) =
+    ap (map (λ u. u.now)) c.as_slice-run.ensures.value ∙ c.in-Ok-run.ensures
+    ∙ ap (λ n. take 1000 (drop n (updates_of set r))) c.count_of-from.ensures.count in
+    let few : c.absorb_all-many.result ≤ length us =
+    omega (arith, c.absorb_all-many.ensures.few, length-map c.as_slice-run.result.now (λ u. u.now)) in
+    omega (
+      arith,
+      few,
+      first.more,
+      c.if-many-run.false,
+      length-map c.as_slice-run.result.now (λ u. u.now),
+      run-length view
+          set sub r first c.counts-limited.ensures.limit us run,
+    )

@@ -9,6 +9,8 @@ use Rattle.la_object.proofs.shelf.Shelf.new.Goals as goal
 
 pub invariant_of-result : goal.invariant_of-result
 invariant_of-result g c = record {
-  agree = subst (λ es. All (IsObject c.new-2.result) (rows g.B.Replicated.state es)) (sym (nil_from_length c.new.result.entries c.new.ensures.len)) (All-nil (IsObject c.new-2.result));
+  agree =
+      subst (λ es. All (IsObject c.new-2.result) (rows g.B.Replicated.state es))
+      (sym (nil_from_length c.new.result.entries c.new.ensures.len)) (All-nil (IsObject c.new-2.result));
   small = subst (All IsSmall) (sym (ap updates c.new-2.ensures ∙ updates-empty)) (All-nil IsSmall);
 }

@@ -11,4 +11,5 @@ returns-clause-answer c =
     let sorted = c.sort_unstable.new.self.items in
     let whole : c.loop-element.elements.items ≡ keys_of es = search rules in
     let moved = subst (λ xs. IsPermutation xs sorted) whole c.sort_unstable.ensures.permutation in
-    c.from.ensures ∙ nat_sorted es sorted c.keys-element-items.ensures.unique moved c.sort_unstable.ensures.sorted ∙ ap map.keys c.self.view_is
+    c.from.ensures ∙ nat_sorted es sorted c.keys-element-items.ensures.unique moved c.sort_unstable.ensures.sorted
+    ∙ ap map.keys c.self.view_is

@@ -15,7 +15,10 @@ returns-in_default c =
     let es = c.self.inside.by_element.entries in let x = c.args.element in
     let none = nat_found es x ∙ sym c.in_default.ensures.value in
     let same = ap (λ m. map.from_entries {R = nat_cmp} m.entries) (sym c.get_mut.follows.holds-at-none) in
-    subst (λ m. HasTags m x (map.remove (tags_at m x) c.args.id) (map.from_entries (c.get_mut.follows.lender-at-none).entries)) c.self.view_is
+    subst
+    (λ m.
+    HasTags m x (map.remove (tags_at m x) c.args.id) (map.from_entries (c.get_mut.follows.lender-at-none).entries))
+    c.self.view_is
     (subst (λ n. HasTags (map.from_entries es) x (map.remove (tags_at (map.from_entries es) x) c.args.id) n) same
     (has_tags (map.from_entries es) (map.from_entries es) x None (λ y. sym (put_again (map.from_entries es) x None none y)) _
     (taken-empty c.args.id ∙ ap (λ g. map.remove (tags_or g) c.args.id) (sym none))))
@@ -24,16 +27,19 @@ pub invariant_of-self-then-not-has_any : goal.invariant_of-self-then-not-has_any
 invariant_of-self-then-not-has_any c =
     let es = c.self.inside.by_element.entries in let x = c.args.element in let w = c.remove-there.new.self in
     let mid = (c.get_mut.follows.lender w).entries in let new = c.trim.new.by_element.entries in
-    let first = nat_changed es mid x (Some w) ((c.get_mut.follows.holds w).3 (subst IsSome c.in-Some.ensures.value refl)).0 in
+    let first =
+    nat_changed es mid x (Some w) ((c.get_mut.follows.holds w).3 (subst IsSome c.in-Some.ensures.value refl)).0 in
     let second = nat_changed_same mid c.remove.new.self.entries new x None c.remove.ensures.updates.0 c.trim.ensures in
     still_whole (map.from_entries es) (map.from_entries new) x None
-    (λ y. second y ∙ ap (cond (is_at (nat_cmp x) y) None) (first y) ∙ twice (is_at (nat_cmp x) y) None (Some w) _) c.self.invariant whole-none
+    (λ y. second y ∙ ap (cond (is_at (nat_cmp x) y) None) (first y) ∙ twice (is_at (nat_cmp x) y) None (Some w) _)
+    c.self.invariant whole-none
 
 pub returns-then-not-has_any : goal.returns-then-not-has_any
 returns-then-not-has_any c =
     let es = c.self.inside.by_element.entries in let x = c.args.element in let w = c.remove-there.new.self in
     let mid = (c.get_mut.follows.lender w).entries in let new = c.trim.new.by_element.entries in
-    let first = nat_changed es mid x (Some w) ((c.get_mut.follows.holds w).3 (subst IsSome c.in-Some.ensures.value refl)).0 in
+    let first =
+    nat_changed es mid x (Some w) ((c.get_mut.follows.holds w).3 (subst IsSome c.in-Some.ensures.value refl)).0 in
     let second = nat_changed_same mid c.remove.new.self.entries new x None c.remove.ensures.updates.0 c.trim.ensures in
     let there = nat_found es x ∙ sym c.in-Some.ensures.value in
     let nothing = nothing_in id_cmp_total id_cmp-IsAntisymmetric w (sym c.has_any.ensures ∙ c.if-not-has_any.true) in
@@ -46,7 +52,8 @@ pub invariant_of-self-else-not-has_any : goal.invariant_of-self-else-not-has_any
 invariant_of-self-else-not-has_any c =
     let es = c.self.inside.by_element.entries in let x = c.args.element in let w = c.remove-there.new.self in
     let new = (c.get_mut.follows.lender w).entries in
-    let changed = nat_changed es new x (Some w) ((c.get_mut.follows.holds w).3 (subst IsSome c.in-Some.ensures.value refl)).0 in
+    let changed =
+    nat_changed es new x (Some w) ((c.get_mut.follows.holds w).3 (subst IsSome c.in-Some.ensures.value refl)).0 in
     still_whole (map.from_entries es) (map.from_entries new) x (Some w) changed c.self.invariant
     (sym c.if-not-has_any.false ∙ c.has_any.ensures)
 
@@ -54,7 +61,8 @@ pub returns-else-not-has_any : goal.returns-else-not-has_any
 returns-else-not-has_any c =
     let es = c.self.inside.by_element.entries in let x = c.args.element in let w = c.remove-there.new.self in
     let new = (c.get_mut.follows.lender w).entries in
-    let changed = nat_changed es new x (Some w) ((c.get_mut.follows.holds w).3 (subst IsSome c.in-Some.ensures.value refl)).0 in
+    let changed =
+    nat_changed es new x (Some w) ((c.get_mut.follows.holds w).3 (subst IsSome c.in-Some.ensures.value refl)).0 in
     let there = nat_found es x ∙ sym c.in-Some.ensures.value in
     subst (λ m. HasTags m x (map.remove (tags_at m x) c.args.id) (map.from_entries new)) c.self.view_is
     (has_tags (map.from_entries es) (map.from_entries new) x (Some w) changed _

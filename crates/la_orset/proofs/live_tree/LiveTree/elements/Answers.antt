@@ -12,5 +12,8 @@ pub returns-clause-answer : goal.returns-clause-answer
 returns-clause-answer c =
     let es = c.self.inside.by_element.entries in
     let whole : map.keys c.args.self.now ≡ keys_of es =
-    ap map.keys (sym c.self.view_is) ∙ ap (list_map (λ (e : ℕ × TagMap). e.0)) (entries-from_entries nat_cmp_total nat_cmp-IsAntisymmetric es (sorted-keys nat_cmp es c.keys-element-items.ensures.ordered)) in
+    ap map.keys (sym c.self.view_is)
+    ∙ ap (list_map (λ (e : ℕ × TagMap). e.0))
+    (entries-from_entries nat_cmp_total nat_cmp-IsAntisymmetric es
+    (sorted-keys nat_cmp es c.keys-element-items.ensures.ordered)) in
     search (rules, whole)

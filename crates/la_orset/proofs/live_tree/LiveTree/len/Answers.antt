@@ -10,5 +10,7 @@ pub returns-clause-answer : goal.returns-clause-answer
 returns-clause-answer c =
     let es = c.self.inside.by_element.entries in
     c.len.ensures.len
-    ∙ ap length (sym (entries-from_entries nat_cmp_total nat_cmp-IsAntisymmetric es (sorted-keys nat_cmp es c.len.ensures.ordered)))
+    ∙ ap length
+    (sym
+    (entries-from_entries nat_cmp_total nat_cmp-IsAntisymmetric es (sorted-keys nat_cmp es c.len.ensures.ordered)))
     ∙ sym (map.len-entries (map.from_entries es)) ∙ ap map.len c.self.view_is

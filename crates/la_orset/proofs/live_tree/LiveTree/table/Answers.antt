@@ -9,12 +9,14 @@ pub of-requires : goal.of-requires
 of-requires c =
     let es = c.self.inside.by_element.entries in
     let whole = all_put-whole es c.iter-element-items.ensures.ordered in
-    let same : map.from_entries {R = nat_cmp} c.loop-element.by_element.entries ≡ map.from_entries es = search (rules, whole) in
+    let same : map.from_entries {R = nat_cmp} c.loop-element.by_element.entries ≡ map.from_entries es =
+    search (rules, whole) in
     subst IsWhole (sym same) c.self.invariant
 
 pub returns : goal.returns
 returns c =
     let es = c.self.inside.by_element.entries in
     let whole = all_put-whole es c.iter-element-items.ensures.ordered in
-    let same : map.from_entries {R = nat_cmp} c.loop-element.by_element.entries ≡ map.from_entries es = search (rules, whole) in
+    let same : map.from_entries {R = nat_cmp} c.loop-element.by_element.entries ≡ map.from_entries es =
+    search (rules, whole) in
     c.of.ensures ∙ same ∙ c.self.view_is

@@ -7,15 +7,20 @@ use Rattle.la_orset.proofs.Absorbed.{there_adds, adds_none, put_adds, put_gone_s
 use Rattle.la_orset.proofs.or_set.OrSet.put.Goals as goal
 
 pub returns-then-has-clause-puts : goal.returns-then-has-clause-puts
-returns-then-has-clause-puts c = there_adds c.args.self.now.puts c.args.id c.args.element (sym c.has.ensures ∙ c.if-has.true)
+returns-then-has-clause-puts c =
+    there_adds c.args.self.now.puts c.args.id c.args.element (sym c.has.ensures ∙ c.if-has.true)
 
 pub invariant_of-self : goal.invariant_of-self
 invariant_of-self c =
     let s = c.args.self.now in let id = c.args.id in let k = known (record { number = id.number; gone = true; element = c.args.element }) in
     let new = sym c.has.ensures ∙ c.if-has.false in
     record {
-      indexed = either_way c.insert.result _ _ (IsIndex (adds_of c.insert.new.self) (gone_of s.early c.insert.new.self) s.live) c.insert.ensures.ok c.insert.ensures.err
-          (λ is. subst (λ p. IsIndex (adds_of p) (gone_of s.early p) s.live) (sym is) (index_early s.puts id k new s.early s.live s.indexed (sym c.has-2.ensures ∙ c.if-has-2.true)))
+      indexed =
+          either_way c.insert.result _ _ (IsIndex (adds_of c.insert.new.self) (gone_of s.early c.insert.new.self) s.live)
+          c.insert.ensures.ok c.insert.ensures.err
+          (λ is.
+          subst (λ p. IsIndex (adds_of p) (gone_of s.early p) s.live) (sym is)
+          (index_early s.puts id k new s.early s.live s.indexed (sym c.has-2.ensures ∙ c.if-has-2.true)))
           (λ is. subst (λ p. IsIndex (adds_of p) (gone_of s.early p) s.live) (sym is) s.indexed);
     }
 
@@ -27,7 +32,8 @@ returns-then-has-2-clause-puts c =
 pub returns-then-has-2-clause-gone : goal.returns-then-has-2-clause-gone
 returns-then-has-2-clause-gone c =
     let s = c.args.self.now in let id = c.args.id in let k = known (record { number = id.number; gone = true; element = c.args.element }) in
-    ap (gone_of s.early) c.in_ok-insert.ensures.ok ∙ put_gone_early s.puts id k (sym c.has.ensures ∙ c.if-has.false) s.early (sym c.has-2.ensures ∙ c.if-has-2.true)
+    ap (gone_of s.early) c.in_ok-insert.ensures.ok
+    ∙ put_gone_early s.puts id k (sym c.has.ensures ∙ c.if-has.false) s.early (sym c.has-2.ensures ∙ c.if-has-2.true)
 
 pub insert-requires-2 : goal.insert-requires-2
 insert-requires-2 c =
@@ -40,7 +46,8 @@ invariant_of-self-in-Err c =
     let none = adds_none s.puts id (record { element = c.args.element; gone = false }) (sym c.has.ensures ∙ c.if-has.false) in
     record {
       indexed = subst (λ p. IsIndex (adds_of p) (gone_of s.early p) c.remove.new.self) (sym c.in-Err.ensures.err)
-          (index_back (adds_of s.puts) (gone_of s.early s.puts) id c.args.element s.live c.insert-2.new.self c.remove.new.self s.indexed none c.in_ok-place.ensures.ok c.remove.ensures);
+          (index_back (adds_of s.puts) (gone_of s.early s.puts) id c.args.element s.live c.insert-2.new.self
+          c.remove.new.self s.indexed none c.in_ok-place.ensures.ok c.remove.ensures);
     }
 
 pub invariant_of-self-in_default : goal.invariant_of-self-in_default
@@ -49,7 +56,8 @@ invariant_of-self-in_default c =
     let new = sym c.has.ensures ∙ c.if-has.false in
     record {
       indexed = subst (λ p. IsIndex (adds_of p) (gone_of s.early p) c.insert-2.new.self) (sym c.in_default.ensures.ok)
-          (index_live s.puts id k new s.early s.live s.indexed (sym c.has-2.ensures ∙ c.if-has-2.false) c.insert-2.new.self refl c.in_ok-place.ensures.ok);
+          (index_live s.puts id k new s.early s.live s.indexed (sym c.has-2.ensures ∙ c.if-has-2.false)
+          c.insert-2.new.self refl c.in_ok-place.ensures.ok);
     }
 
 pub returns-clause-puts : goal.returns-clause-puts
@@ -60,4 +68,5 @@ returns-clause-puts c =
 pub returns-clause-gone : goal.returns-clause-gone
 returns-clause-gone c =
     let s = c.args.self.now in let id = c.args.id in let k = known (record { number = id.number; gone = false; element = c.args.element }) in
-    ap (gone_of s.early) c.in_default.ensures.ok ∙ put_gone_same s.puts id k (sym c.has.ensures ∙ c.if-has.false) s.early refl
+    ap (gone_of s.early) c.in_default.ensures.ok
+    ∙ put_gone_same s.puts id k (sym c.has.ensures ∙ c.if-has.false) s.early refl

@@ -8,8 +8,13 @@ use Rattle.la_orset.proofs.or_set.OrSetReplicated.absorb.Goals as goal
 
 pub returns-in-Put-clause-ok : goal.returns-in-Put-clause-ok
 returns-in-Put-clause-ok c =
-    let s = c.args.self.now in let u = c.args.update.now in let adds = adds_of s.puts in let gone = gone_of s.early s.puts in
-    on_ok c.put.result _ _ (λ p. (λ i. Set (p i) ((c.put.ensures.gone ∙ sym (with_ids-nil gone)) i)) ∙ ap (λ op. Set (with_element adds u.id (element op)) (with_ids gone (named op))) (sym c.in-Put.is)) c.put.ensures.puts
+    let s =
+    c.args.self.now in let u = c.args.update.now in let adds = adds_of s.puts in let gone = gone_of s.early s.puts in
+    on_ok c.put.result _ _
+    (λ p.
+    (λ i. Set (p i) ((c.put.ensures.gone ∙ sym (with_ids-nil gone)) i))
+    ∙ ap (λ op. Set (with_element adds u.id (element op)) (with_ids gone (named op))) (sym c.in-Put.is))
+    c.put.ensures.puts
 
 pub returns-in_default : goal.returns-in_default
 returns-in_default c = search (rules, with_ids-nil (gone_of c.args.self.now.early c.args.self.now.puts))

@@ -19,4 +19,5 @@ returns-clause-ok c =
     ]
 
 pub returns-in_err-elements-in-Items-clause-room : goal.returns-in_err-elements-in-Items-clause-room
-returns-in_err-elements-in-Items-clause-room c none = absurd (true≢false (subst (λ q. answers_a_list OrSet q ≡ false) c.in-Items.is none))
+returns-in_err-elements-in-Items-clause-room c none =
+    absurd (true≢false (subst (λ q. answers_a_list OrSet q ≡ false) c.in-Items.is none))

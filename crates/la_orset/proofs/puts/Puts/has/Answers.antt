@@ -12,6 +12,10 @@ returns-then-replica-len c =
 pub returns : goal.returns
 returns c =
     let columns = c.self.inside.by_replica.items in let id = c.args.id in
-    let lt : id.replica < length columns = omega (arith, c.if-replica-len.false, c.len.ensures, c.self.inside.by_replica.ok) in
+    let lt : id.replica < length columns =
+    omega (arith, c.if-replica-len.false, c.len.ensures, c.self.inside.by_replica.ok) in
     c.has.ensures
-    ∙ ap is_some (sym (ap (λ m. map.get m id) (sym c.self.view_is) ∙ get-column columns id ∙ column-read columns id.replica id.number c.index.result.now c.index.ensures lt))
+    ∙ ap is_some
+    (sym
+    (ap (λ m. map.get m id) (sym c.self.view_is) ∙ get-column columns id
+    ∙ column-read columns id.replica id.number c.index.result.now c.index.ensures lt))

@@ -18,5 +18,6 @@ returns-clause-ok c =
     let here = c.index_mut.ensures.value ∙ get_or_default columns id.replica c.index_mut.result.now [] lt in
     let put : IsPut c.index_mut.result.now id.number (Some k) c.insert.new.self =
     rw (ap not c.is_none.ensures ∙ not_not c.is_none.result) c.in_ok-insert.ensures.ok in
-    put_columns columns id c.insert.new.self k lt (subst (λ rows. IsPut rows id.number (Some k) c.insert.new.self) here put)
+    put_columns columns id c.insert.new.self k lt
+    (subst (λ rows. IsPut rows id.number (Some k) c.insert.new.self) here put)
     ∙ ap (λ m. map.insert m id k) (ap (map.from_entries {R = id_cmp}) c.widen.ensures.same ∙ c.self.view_is)

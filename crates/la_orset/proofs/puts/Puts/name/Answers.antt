@@ -21,14 +21,20 @@ returns-then-replica-len-clause-named c =
 pub returns-clause-answer : goal.returns-clause-answer
 returns-clause-answer c =
     let columns = c.self.inside.by_replica.items in let id = c.args.id in
-    let lt : id.replica < length columns = omega (arith, c.if-replica-len.false, c.len.ensures, c.self.inside.by_replica.ok) in
+    let lt : id.replica < length columns =
+    omega (arith, c.if-replica-len.false, c.len.ensures, c.self.inside.by_replica.ok) in
     c.name.ensures.answer
-    ∙ ap live_element (sym (ap (λ m. map.get m id) (sym c.self.view_is) ∙ get-column columns id ∙ column-read columns id.replica id.number c.index_mut.result.now c.index_mut.ensures.value lt))
+    ∙ ap live_element
+    (sym
+    (ap (λ m. map.get m id) (sym c.self.view_is) ∙ get-column columns id
+    ∙ column-read columns id.replica id.number c.index_mut.result.now c.index_mut.ensures.value lt))
 
 pub returns-clause-named : goal.returns-clause-named
 returns-clause-named c =
     let columns = c.self.inside.by_replica.items in let id = c.args.id in
-    let lt : id.replica < length columns = omega (arith, c.if-replica-len.false, c.len.ensures, c.self.inside.by_replica.ok) in
+    let lt : id.replica < length columns =
+    omega (arith, c.if-replica-len.false, c.len.ensures, c.self.inside.by_replica.ok) in
     let here = c.index_mut.ensures.value ∙ get_or_default columns id.replica c.index_mut.result.now [] lt in
-    named_columns columns id c.name.new.self lt (subst (λ rows. IsPut rows id.number (named (at_number rows id.number)) c.name.new.self) here c.name.ensures.named)
+    named_columns columns id c.name.new.self lt
+    (subst (λ rows. IsPut rows id.number (named (at_number rows id.number)) c.name.new.self) here c.name.ensures.named)
     ∙ ap (λ m. with_named m id) c.self.view_is

@@ -8,13 +8,15 @@ pub returns-clause-found : goal.returns-clause-found
 returns-clause-found c =
     let facts = c.binary_search_by_key.ensures in
     let by_key = facts.position (λ row. row.number) (answers_always _ _ _ (λ f a r g called. search rules)) in
-    rw (← c.self.view_is, ← c.deref.ensures.value) (searched _ (rw c.deref.ensures.value c.self.invariant) c.args.number _ facts.bound by_key).found
+    rw (← c.self.view_is, ← c.deref.ensures.value)
+    (searched _ (rw c.deref.ensures.value c.self.invariant) c.args.number _ facts.bound by_key).found
 
 pub returns-clause-absent : goal.returns-clause-absent
 returns-clause-absent c =
     let facts = c.binary_search_by_key.ensures in
     let by_key = facts.position (λ row. row.number) (answers_always _ _ _ (λ f a r g called. search rules)) in
-    rw (← c.self.view_is, ← c.deref.ensures.value) (searched _ (rw c.deref.ensures.value c.self.invariant) c.args.number _ facts.bound by_key).absent
+    rw (← c.self.view_is, ← c.deref.ensures.value)
+    (searched _ (rw c.deref.ensures.value c.self.invariant) c.args.number _ facts.bound by_key).absent
 
 pub returns-clause-ascending : goal.returns-clause-ascending
 returns-clause-ascending c = subst IsAscending c.self.view_is c.self.invariant
@@ -22,7 +24,9 @@ returns-clause-ascending c = subst IsAscending c.self.view_is c.self.invariant
 pub returns-then-all_below-clause-absent : goal.returns-then-all_below-clause-absent
 returns-then-all_below-clause-absent c =
     let items = c.self.inside.rows.items in
-    let gap = rw c.as_slice.ensures.value at (c.all_below.ensures c.if-all_below.true (rw c.as_slice.ensures.value c.self.invariant)) in
+    let gap =
+    rw c.as_slice.ensures.value at
+    (c.all_below.ensures c.if-all_below.true (rw c.as_slice.ensures.value c.self.invariant)) in
     subst (λ rows. IsGapFor rows c.args.number c.len.result) c.self.view_is
     (subst (IsGapFor items c.args.number) (sym (c.len.ensures ∙ c.self.inside.rows.ok.0)) gap)
 

@@ -6,4 +6,5 @@ use Rattle.la_orset.proofs.LiveTags.{whole-put}
 use Rattle.la_orset.proofs.tag_set.TagSet.has_any.Goals as goal
 
 pub returns-in-One : goal.returns-in-One
-returns-in-One c = whole-put map.empty c.in-One.field-0 ∙ ap (λ t. has_any (map.keys t)) (sym (ap tags_of c.in-One.is) ∙ c.self.view_is)
+returns-in-One c =
+    whole-put map.empty c.in-One.field-0 ∙ ap (λ t. has_any (map.keys t)) (sym (ap tags_of c.in-One.is) ∙ c.self.view_is)

@@ -6,9 +6,11 @@ use Rattle.la_proposer.proofs.proposer.Proposer.counting.Goals as goal
 pub returns-clause-ok : goal.returns-clause-ok
 returns-clause-ok c =
     let is = subst (λ p. IsRepresented p c.self.inside.submissions) c.self.view_is c.self.invariant in
-    (counts_leads c.args.self.now c.self.inside.submissions is c.args.from c.args.reply c.requires.asking c.requires.in_group c.requires.new c.requires.fits).to
+    (counts_leads c.args.self.now c.self.inside.submissions is c.args.from c.args.reply c.requires.asking
+    c.requires.in_group c.requires.new c.requires.fits).to
 
 pub returns-clause-from : goal.returns-clause-from
 returns-clause-from c =
     let is = subst (λ p. IsRepresented p c.self.inside.submissions) c.self.view_is c.self.invariant in
-    (counts_leads c.args.self.now c.self.inside.submissions is c.args.from c.args.reply c.requires.asking c.requires.in_group c.requires.new c.requires.fits).from
+    (counts_leads c.args.self.now c.self.inside.submissions is c.args.from c.args.reply c.requires.asking
+    c.requires.in_group c.requires.new c.requires.fits).from

@@ -14,17 +14,23 @@ join_refusal-requires c =
     let q = c.args.self.now in
     let is = subst (λ p. IsRepresented p c.self.inside.submissions) c.self.view_is c.self.invariant in
     let joined_is : c.join_refusals.new.set ≡ joined_with_refusals q.updates q.tally =
-    c.in_ok-join_refusals.ensures ∙ (λ i. joined_with_refusals (c.in_ok-updates.ensures i) (c.as_slice.ensures i)) ∙ ap (λ (p : ProposerState). joined_with_refusals p.updates p.tally) c.self.view_is in
-    agrees_last q c.self.inside.submissions is c.args.from c.args.reply c.requires.asking c.requires.in_group c.requires.new c.requires.fits c.join_refusals.new.set joined_is
+    c.in_ok-join_refusals.ensures ∙ (λ i. joined_with_refusals (c.in_ok-updates.ensures i) (c.as_slice.ensures i))
+    ∙ ap (λ (p : ProposerState). joined_with_refusals p.updates p.tally) c.self.view_is in
+    agrees_last q c.self.inside.submissions is c.args.from c.args.reply c.requires.asking c.requires.in_group
+    c.requires.new c.requires.fits c.join_refusals.new.set joined_is
 
 pub returns-clause-heard : goal.returns-clause-heard
 returns-clause-heard c =
     let q = c.args.self.now in
     let is = subst (λ p. IsRepresented p c.self.inside.submissions) c.self.view_is c.self.invariant in
     let joined_is : c.join_refusals.new.set ≡ joined_with_refusals q.updates q.tally =
-    c.in_ok-join_refusals.ensures ∙ (λ i. joined_with_refusals (c.in_ok-updates.ensures i) (c.as_slice.ensures i)) ∙ ap (λ (p : ProposerState). joined_with_refusals p.updates p.tally) c.self.view_is in
+    c.in_ok-join_refusals.ensures ∙ (λ i. joined_with_refusals (c.in_ok-updates.ensures i) (c.as_slice.ensures i))
+    ∙ ap (λ (p : ProposerState). joined_with_refusals p.updates p.tally) c.self.view_is in
     let number_is = ap (λ (p : ProposerState). record { number = p.number + 1; updates = c.join_refusal.new.set }) c.self.view_is in
-    let both = refines_leads q c.self.inside.submissions is c.args.from c.args.reply c.requires.asking c.requires.in_group c.requires.new c.requires.fits _ c.join_refusals.new.set c.join_refusal.new.set joined_is c.in_ok-join_refusal.ensures number_is c.requires.left in
+    let both =
+    refines_leads q c.self.inside.submissions is c.args.from c.args.reply c.requires.asking c.requires.in_group
+    c.requires.new c.requires.fits _ c.join_refusals.new.set c.join_refusal.new.set joined_is
+    c.in_ok-join_refusal.ensures number_is c.requires.left in
     ap Refined (c.in_ok-opened.ensures ∙ both.1)
 
 pub returns-clause-ok : goal.returns-clause-ok
@@ -32,9 +38,13 @@ returns-clause-ok c =
     let q = c.args.self.now in
     let is = subst (λ p. IsRepresented p c.self.inside.submissions) c.self.view_is c.self.invariant in
     let joined_is : c.join_refusals.new.set ≡ joined_with_refusals q.updates q.tally =
-    c.in_ok-join_refusals.ensures ∙ (λ i. joined_with_refusals (c.in_ok-updates.ensures i) (c.as_slice.ensures i)) ∙ ap (λ (p : ProposerState). joined_with_refusals p.updates p.tally) c.self.view_is in
+    c.in_ok-join_refusals.ensures ∙ (λ i. joined_with_refusals (c.in_ok-updates.ensures i) (c.as_slice.ensures i))
+    ∙ ap (λ (p : ProposerState). joined_with_refusals p.updates p.tally) c.self.view_is in
     let number_is = ap (λ (p : ProposerState). record { number = p.number + 1; updates = c.join_refusal.new.set }) c.self.view_is in
-    let both = refines_leads q c.self.inside.submissions is c.args.from c.args.reply c.requires.asking c.requires.in_group c.requires.new c.requires.fits _ c.join_refusals.new.set c.join_refusal.new.set joined_is c.in_ok-join_refusal.ensures number_is c.requires.left in
+    let both =
+    refines_leads q c.self.inside.submissions is c.args.from c.args.reply c.requires.asking c.requires.in_group
+    c.requires.new c.requires.fits _ c.join_refusals.new.set c.join_refusal.new.set joined_is
+    c.in_ok-join_refusal.ensures number_is c.requires.left in
     let b : Ballot = record { number = c.self.inside.last.number + 1; updates = c.join_refusal.new.set } in
     (subst (λ (z : Told). Leads q (Opens b z) (after_refinement (with_reply q c.args.from c.args.reply))) (sym (c.by-told.ensures ∙ (λ i. record { from = c.args.from; counts = told_by (c.self.view_is i).updates c.args.reply }))) both.0).to
 
@@ -43,8 +53,12 @@ returns-clause-from c =
     let q = c.args.self.now in
     let is = subst (λ p. IsRepresented p c.self.inside.submissions) c.self.view_is c.self.invariant in
     let joined_is : c.join_refusals.new.set ≡ joined_with_refusals q.updates q.tally =
-    c.in_ok-join_refusals.ensures ∙ (λ i. joined_with_refusals (c.in_ok-updates.ensures i) (c.as_slice.ensures i)) ∙ ap (λ (p : ProposerState). joined_with_refusals p.updates p.tally) c.self.view_is in
+    c.in_ok-join_refusals.ensures ∙ (λ i. joined_with_refusals (c.in_ok-updates.ensures i) (c.as_slice.ensures i))
+    ∙ ap (λ (p : ProposerState). joined_with_refusals p.updates p.tally) c.self.view_is in
     let number_is = ap (λ (p : ProposerState). record { number = p.number + 1; updates = c.join_refusal.new.set }) c.self.view_is in
-    let both = refines_leads q c.self.inside.submissions is c.args.from c.args.reply c.requires.asking c.requires.in_group c.requires.new c.requires.fits _ c.join_refusals.new.set c.join_refusal.new.set joined_is c.in_ok-join_refusal.ensures number_is c.requires.left in
+    let both =
+    refines_leads q c.self.inside.submissions is c.args.from c.args.reply c.requires.asking c.requires.in_group
+    c.requires.new c.requires.fits _ c.join_refusals.new.set c.join_refusal.new.set joined_is
+    c.in_ok-join_refusal.ensures number_is c.requires.left in
     let b : Ballot = record { number = c.self.inside.last.number + 1; updates = c.join_refusal.new.set } in
     (subst (λ (z : Told). Leads q (Opens b z) (after_refinement (with_reply q c.args.from c.args.reply))) (sym (c.by-told.ensures ∙ (λ i. record { from = c.args.from; counts = told_by (c.self.view_is i).updates c.args.reply }))) both.0).from

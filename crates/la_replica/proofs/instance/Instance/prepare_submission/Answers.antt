@@ -4,4 +4,5 @@ use Rattle.la_replica.proofs.instance.Instance.prepare_submission.Goals as goal
 
 pub returns-clause-told : goal.returns-clause-told
 returns-clause-told c = λ offered.
-    told_all (after_commit c.args.self.now.proposer c.in_ok-opened.change) c.args.sender.now.instance offered c.new-mail.result c.offer_next.new.mail c.new-mail.ensures (c.in_ok-offer_next.ensures.told offered)
+    told_all (after_commit c.args.self.now.proposer c.in_ok-opened.change) c.args.sender.now.instance offered
+    c.new-mail.result c.offer_next.new.mail c.new-mail.ensures (c.in_ok-offer_next.ensures.told offered)

@@ -12,7 +12,8 @@ admit_message-requires-clause-known c =
     let r = c.args.self.now in let m = c.args.message.now in
     let same : received_in r m ≡ lent_message c.of-whole.result = search rules in
     subst (λ (w : Message). InInstance r w.instance (λ x. IsKnownWithin x c.base.result w.body)) same
-    (subst (λ b. InInstance r m.instance (λ x. IsKnownWithin x b (received_in r m).body)) (sym c.base.ensures) (known_in r m (search rules)))
+    (subst (λ b. InInstance r m.instance (λ x. IsKnownWithin x b (received_in r m).body)) (sym c.base.ensures)
+    (known_in r m (search rules)))
 
 pub returns-clause-step : goal.returns-clause-step
 returns-clause-step c =

@@ -12,7 +12,9 @@ returns-in-Some-clause-leads c =
     let m : ReplicaState = record { votes = votes_of c.self.inside.votes; own = c.self.inside.own; instances = c.self.inside.instances.items; view = c.self.inside.view } in
     let r = c.args.self.now in let i = c.args.instance in let x = c.in-Some.at.now in
     let there : slice_get r.instances i ≡ Some x = there_now m r c.self.view_is i x (search rules) (search rules) in
-    submission_leads r i x (op_on c.args.object c.args.op) (subst IsReplicaState c.self.view_is c.self.invariant.0) there c.prepare_submission.result (search rules) c.prepare_submission.ensures.from c.prepare_submission.ensures.agreed (search rules)
+    submission_leads r i x (op_on c.args.object c.args.op) (subst IsReplicaState c.self.view_is c.self.invariant.0)
+    there c.prepare_submission.result (search rules) c.prepare_submission.ensures.from
+    c.prepare_submission.ensures.agreed (search rules)
 
 pub returns-in-Some-clause-told : goal.returns-in-Some-clause-told
 returns-in-Some-clause-told c =
@@ -26,14 +28,16 @@ returns-in-Some-clause-room c =
     let m : ReplicaState = record { votes = votes_of c.self.inside.votes; own = c.self.inside.own; instances = c.self.inside.instances.items; view = c.self.inside.view } in
     let r = c.args.self.now in let i = c.args.instance in let x = c.in-Some.at.now in
     let there : slice_get r.instances i ≡ Some x = there_now m r c.self.view_is i x (search rules) (search rules) in
-    ok_there r i x there (λ y. submitted y.proposer < y.proposer.cap) c.prepare_submission.result c.prepare_submission.ensures.room
+    ok_there r i x there (λ y. submitted y.proposer < y.proposer.cap) c.prepare_submission.result
+    c.prepare_submission.ensures.room
 
 pub returns-in-Some-clause-spares : goal.returns-in-Some-clause-spares
 returns-in-Some-clause-spares c =
     let m : ReplicaState = record { votes = votes_of c.self.inside.votes; own = c.self.inside.own; instances = c.self.inside.instances.items; view = c.self.inside.view } in
     let r = c.args.self.now in let i = c.args.instance in let x = c.in-Some.at.now in
     let there : slice_get r.instances i ≡ Some x = there_now m r c.self.view_is i x (search rules) (search rules) in
-    ok_there r i x there (λ y. ¬ SubmissionSpends y.proposer) c.prepare_submission.result c.prepare_submission.ensures.spares
+    ok_there r i x there (λ y. ¬ SubmissionSpends y.proposer) c.prepare_submission.result
+    c.prepare_submission.ensures.spares
 
 pub returns-in-Some-clause-error : goal.returns-in-Some-clause-error
 returns-in-Some-clause-error c =

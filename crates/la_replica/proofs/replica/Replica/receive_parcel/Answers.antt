@@ -9,11 +9,16 @@ use Rattle.la_replica.proofs.replica.Replica.receive_parcel.Goals as goal
 
 pub returns-clause-grows : goal.returns-clause-grows
 returns-clause-grows c =
-    receives_grows c.args.self.now (received_in c.args.self.now (unwrapped_in c.args.self.now c.args.parcel)) (whole_out c.in_ok-out.out) c.commit.new.self
-    (c.in_ok-out.ensures.step ∙ ap (option_map (λ (after : ReplicaState). (whole_out c.in_ok-out.out, after))) c.commit.ensures.done)
+    receives_grows c.args.self.now (received_in c.args.self.now (unwrapped_in c.args.self.now c.args.parcel))
+    (whole_out c.in_ok-out.out) c.commit.new.self
+    (c.in_ok-out.ensures.step
+    ∙ ap (option_map (λ (after : ReplicaState). (whole_out c.in_ok-out.out, after))) c.commit.ensures.done)
 
 pub returns-clause-told : goal.returns-clause-told
 returns-clause-told c =
     let after = c.commit.new.self in
-    subst (λ i. AreToldFrom after i (offered_by (received_in c.args.self.now (unwrapped_in c.args.self.now c.args.parcel))) c.in_ok-out.out.mail) c.in_ok-out.ensures.instance
+    subst
+    (λ i.
+    AreToldFrom after i (offered_by (received_in c.args.self.now (unwrapped_in c.args.self.now c.args.parcel)))
+    c.in_ok-out.out.mail) c.in_ok-out.ensures.instance
     (c.in_ok-out.ensures.told after c.commit.ensures.done)

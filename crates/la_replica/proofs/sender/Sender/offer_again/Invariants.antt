@@ -10,5 +10,7 @@ use Rattle.la_replica.proofs.sender.Sender.offer_again.Given as goal
 
 abbrev pub invariant-loop-to : goal.invariant-loop-to
 invariant-loop-to l =
-    (whole_mail l.mail ≡ whole_mail l.fn.mail ++ filter (is_unanswered l.proposer) (map (offer_to l.self (last_ballot l.proposer)) (range_with_len 0 l.to)))
+    (whole_mail l.mail
+    ≡ whole_mail l.fn.mail
+    ++ filter (is_unanswered l.proposer) (map (offer_to l.self (last_ballot l.proposer)) (range_with_len 0 l.to)))
     × ((offered : Counts) → AddsTold l.proposer l.self.instance offered l.fn.mail l.mail)

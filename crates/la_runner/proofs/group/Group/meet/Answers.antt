@@ -11,12 +11,17 @@ pub meet_all-requires-clause-sound : goal.meet_all-requires-clause-sound
 meet_all-requires-clause-sound c i x at = (c.member.invariant.each i x at).0.sound
 
 pub meet_all-requires-clause-acceptors : goal.meet_all-requires-clause-acceptors
-meet_all-requires-clause-acceptors c = (names_given c.member.inside c.args.member.now c.args.self.now c.self.inside.rows.items c.member.view_is c.requires.of (ap (λ (g : GroupState). g.acceptors) c.self.view_is) ∙ ap (map (λ (r : Row). r.acceptors.items)) (sym c.deref.ensures.value))
+meet_all-requires-clause-acceptors c =
+    (names_given c.member.inside c.args.member.now c.args.self.now c.self.inside.rows.items c.member.view_is c.requires.of
+    (ap (λ (g : GroupState). g.acceptors) c.self.view_is)
+    ∙ ap (map (λ (r : Row). r.acceptors.items)) (sym c.deref.ensures.value))
 
 pub meet_all-requires-clause-told : goal.meet_all-requires-clause-told
 meet_all-requires-clause-told c =
-    sym (map_map (λ (n : InstanceNote). n.notes.items) told_names c.note.inside.told.items) ∙ ap (λ (z : NoteState). map told_names z.told) c.note.view_is ∙ c.requires.note.acceptors
-    ∙ sym (ap (λ (g : GroupState). g.acceptors) c.self.view_is) ∙ ap (map (λ (r : Row). r.acceptors.items)) (sym c.deref.ensures.value)
+    sym (map_map (λ (n : InstanceNote). n.notes.items) told_names c.note.inside.told.items)
+    ∙ ap (λ (z : NoteState). map told_names z.told) c.note.view_is ∙ c.requires.note.acceptors
+    ∙ sym (ap (λ (g : GroupState). g.acceptors) c.self.view_is)
+    ∙ ap (map (λ (r : Row). r.acceptors.items)) (sym c.deref.ensures.value)
 
 pub take_larger-requires : goal.take_larger-requires
 take_larger-requires c = comparable_here c.member.inside c.args.member.now c.member.view_is c.member.invariant c.note.inside c.args.note c.note.view_is c.note.invariant c.args.self.now c.requires.of c.requires.note c.meet_all.new.instances.items (record { sizes = c.meet_all.ensures.sizes; each = c.meet_all.ensures.each }) c.index_mut.result.now c.index_mut.ensures.value

@@ -9,5 +9,7 @@ pub returns-clause-group : goal.returns-clause-group
 returns-clause-group c = record {
   votes = refl;
   instances = names_long (λ (r : Row). r.acceptors.items) c.in_ok-rows.rows.items ∙ c.in_ok-rows.ensures.count;
-  acceptors = All-map (λ (row : List AcceptorName). length row ≡ c.args.replicas) (λ (r : Row). r.acceptors.items) c.in_ok-rows.rows.items c.in_ok-rows.ensures.sizes;
+  acceptors =
+      All-map (λ (row : List AcceptorName). length row ≡ c.args.replicas) (λ (r : Row). r.acceptors.items)
+      c.in_ok-rows.rows.items c.in_ok-rows.ensures.sizes;
 }

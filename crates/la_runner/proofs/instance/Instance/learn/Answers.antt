@@ -11,62 +11,95 @@ use Rattle.la_runner.proofs.instance.Instance.learn.Goals as goal
 use Rattle.la_runner.proofs.instance.Instance.learn.Goals.{in-Some+else-count_of-mine, in_default}
 
 pub returns-in_err-learned-clause-steps : goal.returns-in_err-learned-clause-steps
-returns-in_err-learned-clause-steps g c = steps_trans (state_of c.args.self.now) (state_of c.loop-round.self) (state_of c.round_and_view.new.self) c.loop-round.invariant.0 c.round_and_view.ensures.steps
+returns-in_err-learned-clause-steps g c =
+    steps_trans (state_of c.args.self.now) (state_of c.loop-round.self) (state_of c.round_and_view.new.self)
+    c.loop-round.invariant.0 c.round_and_view.ensures.steps
 
 pub returns-then-count_of-mine-clause-steps : goal.returns-then-count_of-mine-clause-steps
-returns-then-count_of-mine-clause-steps g c = steps_trans (state_of c.args.self.now) (state_of c.loop-round.self) (state_of c.round_and_view.new.self) c.loop-round.invariant.0 c.round_and_view.ensures.steps
+returns-then-count_of-mine-clause-steps g c =
+    steps_trans (state_of c.args.self.now) (state_of c.loop-round.self) (state_of c.round_and_view.new.self)
+    c.loop-round.invariant.0 c.round_and_view.ensures.steps
 
 pub returns-then-count_of-mine-clause-learnt : goal.returns-then-count_of-mine-clause-learnt
 returns-then-count_of-mine-clause-learnt g c =
-    rounds_learnt _ _ _ _ _ _ _ _ (goes_of_steps (state_of c.args.self.now) (state_of c.loop-round.self) c.loop-round.invariant.0 c.loop-round.invariant.1)
-    (goes_of_steps (state_of c.loop-round.self) (state_of c.round_and_view.new.self) c.round_and_view.ensures.steps c.round_and_view.ensures.nothing)
+    rounds_learnt _ _ _ _ _ _ _ _
+    (goes_of_steps (state_of c.args.self.now) (state_of c.loop-round.self) c.loop-round.invariant.0
+    c.loop-round.invariant.1)
+    (goes_of_steps (state_of c.loop-round.self) (state_of c.round_and_view.new.self) c.round_and_view.ensures.steps
+    c.round_and_view.ensures.nothing)
     (if_some _ _ _ c.in-Some.is c.in_ok-learned.ensures.learnt)
 
 pub returns-then-count_of-mine-clause-complete : goal.returns-then-count_of-mine-clause-complete
 returns-then-count_of-mine-clause-complete g c =
-    complete (state_of c.args.self.now) (state_of c.round_and_view.new.self) _ _ c.requires.is (c.round_and_view.ensures.nothing ∙ c.loop-round.invariant.1)
+    complete (state_of c.args.self.now) (state_of c.round_and_view.new.self) _ _ c.requires.is
+    (c.round_and_view.ensures.nothing ∙ c.loop-round.invariant.1)
     (returns-then-count_of-mine-clause-learnt g c)
-    (enough_of c.args.self.now.proposer c.in-Some.learned.updates c.args.own c.submitted-mine.result c.requires.own c.submitted-mine.ensures (search rules))
+    (enough_of c.args.self.now.proposer c.in-Some.learned.updates c.args.own c.submitted-mine.result c.requires.own
+    c.submitted-mine.ensures (search rules))
 
 pub returns-then-count_of-mine-clause-larger : goal.returns-then-count_of-mine-clause-larger
 returns-then-count_of-mine-clause-larger g c =
     let learnt = if_some _ _ _ c.in-Some.is c.in_ok-learned.ensures.learnt in
-    larger_later c.args.self.now.view c.loop-round.self.view c.round_and_view.new.self.view c.in-Some.learned.updates c.loop-round.self.proposer.updates c.loop-round.invariant.3 learnt.grown c.loop-round.invariant.0.grows (larger_then _ _ _ _ c.in-Some.is c.in_ok-learned.ensures.after)
+    larger_later c.args.self.now.view c.loop-round.self.view c.round_and_view.new.self.view c.in-Some.learned.updates
+    c.loop-round.self.proposer.updates c.loop-round.invariant.3 learnt.grown c.loop-round.invariant.0.grows
+    (larger_then _ _ _ _ c.in-Some.is c.in_ok-learned.ensures.after)
 
 pub returns-in_err-learned-clause-error : goal.returns-in_err-learned-clause-error
 returns-in_err-learned-clause-error g c =
-    let h : IsInstanceRefusal c.args.rounds (state_of c.args.self.now) (state_of c.round_and_view.new.self) c.in_err-learned.field-0.0 =
-    cut_off (state_of c.args.self.now) (state_of c.round_and_view.new.self) c.args.rounds c.in_err-learned.field-0.0 (omega (arith, c.loop-round-test.true)) c.in_err-learned.ensures.error
-    (steps_trans (state_of c.args.self.now) (state_of c.loop-round.self) (state_of c.round_and_view.new.self) c.loop-round.invariant.0 c.round_and_view.ensures.steps)
-    (misses_then c.args.self.now.proposer c.loop-round.self.proposer c.round_and_view.new.self.proposer c.args.self.now.passes.items c.loop-round.self.passes.items c.round_and_view.new.self.passes.items c.loop-round.invariant.2 c.in_err-learned.ensures.missed)
+    let h : IsInstanceRefusal c.args.rounds (state_of c.args.self.now) (state_of c.round_and_view.new.self)
+    c.in_err-learned.field-0.0 =
+    cut_off (state_of c.args.self.now) (state_of c.round_and_view.new.self) c.args.rounds c.in_err-learned.field-0.0
+    (omega (arith, c.loop-round-test.true)) c.in_err-learned.ensures.error
+    (steps_trans (state_of c.args.self.now) (state_of c.loop-round.self) (state_of c.round_and_view.new.self)
+    c.loop-round.invariant.0 c.round_and_view.ensures.steps)
+    (misses_then c.args.self.now.proposer c.loop-round.self.proposer c.round_and_view.new.self.proposer
+    c.args.self.now.passes.items c.loop-round.self.passes.items c.round_and_view.new.self.passes.items
+    c.loop-round.invariant.2 c.in_err-learned.ensures.missed)
     (c.in_err-learned.ensures.open c.loop-round.invariant.4) in
     search rules
 
 pub returns-then-is_unended-clause-error : goal.returns-then-is_unended-clause-error
 returns-then-is_unended-clause-error g c =
-    unended (state_of c.args.self.now) (state_of c.loop-round.self) c.args.rounds _ c.loop-round.invariant.0 c.loop-round.invariant.2 refl c.loop-round.invariant.4 (search rules)
+    unended (state_of c.args.self.now) (state_of c.loop-round.self) c.args.rounds _ c.loop-round.invariant.0
+    c.loop-round.invariant.2 refl c.loop-round.invariant.4 (search rules)
 
 pub returns-else-is_unended-clause-error : goal.returns-else-is_unended-clause-error
 returns-else-is_unended-clause-error g c =
-    unended (state_of c.args.self.now) (state_of c.loop-round.self) c.args.rounds _ c.loop-round.invariant.0 c.loop-round.invariant.2 refl c.loop-round.invariant.4 (search rules)
+    unended (state_of c.args.self.now) (state_of c.loop-round.self) c.args.rounds _ c.loop-round.invariant.0
+    c.loop-round.invariant.2 refl c.loop-round.invariant.4 (search rules)
 
 pub loop-round-preserved : goal.loop-round-preserved
 loop-round-preserved g c =
     let asks : c.round_and_view.new.self.proposer.is_asking ≡ true = elim c.match-branch-2.branch [
       | in-Some+else-count_of-mine w ↦
           let few : w.count_of.result < c.submitted-mine.result = search rules in
-          open_still c.args.self.now.proposer c.round_and_view.new.self.proposer c.in_ok-learned.field-0 w.in-Some.learned c.args.own c.submitted-mine.result w.count_of.result w.in-Some.is (c.in_ok-learned.ensures.open c.loop-round.invariant.4) (c.requires.own ∙ sym (c.round_and_view.ensures.steps.follows.own ∙ c.loop-round.invariant.0.follows.own)) c.submitted-mine.ensures (c.round_and_view.ensures.nothing ∙ c.loop-round.invariant.1) w.count_of.ensures.count few
+          open_still c.args.self.now.proposer c.round_and_view.new.self.proposer c.in_ok-learned.field-0
+          w.in-Some.learned c.args.own c.submitted-mine.result w.count_of.result w.in-Some.is
+          (c.in_ok-learned.ensures.open c.loop-round.invariant.4)
+          (c.requires.own ∙ sym (c.round_and_view.ensures.steps.follows.own ∙ c.loop-round.invariant.0.follows.own))
+          c.submitted-mine.ensures (c.round_and_view.ensures.nothing ∙ c.loop-round.invariant.1)
+          w.count_of.ensures.count few
       | in_default w ↦
           let none : c.in_ok-learned.field-0 ≡ None = search rules in
-          subst (λ o. IsOpenAnswer (Ok o) c.round_and_view.new.self.proposer) none (c.in_ok-learned.ensures.open c.loop-round.invariant.4)
+          subst (λ o. IsOpenAnswer (Ok o) c.round_and_view.new.self.proposer) none
+          (c.in_ok-learned.ensures.open c.loop-round.invariant.4)
     ] in (
-      steps_trans (state_of c.args.self.now) (state_of c.loop-round.self) (state_of c.round_and_view.new.self) c.loop-round.invariant.0 c.round_and_view.ensures.steps,
+      steps_trans (state_of c.args.self.now) (state_of c.loop-round.self) (state_of c.round_and_view.new.self)
+          c.loop-round.invariant.0 c.round_and_view.ensures.steps,
       c.round_and_view.ensures.nothing ∙ c.loop-round.invariant.1,
-      hears_then c.args.self.now.proposer c.loop-round.self.proposer c.round_and_view.new.self.proposer c.args.self.now.passes.items c.loop-round.self.passes.items c.round_and_view.new.self.passes.items [] c.loop-round.invariant.2 c.in_ok-learned.ensures.heard,
-      view_rounds c.args.self.now.view c.loop-round.self.view c.round_and_view.new.self.view c.loop-round.self.proposer c.round_and_view.new.self.proposer c.round_and_view.ensures.steps.follows.grows c.loop-round.invariant.3 c.round_and_view.ensures.step,
+      hears_then c.args.self.now.proposer c.loop-round.self.proposer c.round_and_view.new.self.proposer
+          c.args.self.now.passes.items c.loop-round.self.passes.items c.round_and_view.new.self.passes.items []
+          c.loop-round.invariant.2 c.in_ok-learned.ensures.heard,
+      view_rounds c.args.self.now.view c.loop-round.self.view c.round_and_view.new.self.view c.loop-round.self.proposer
+          c.round_and_view.new.self.proposer c.round_and_view.ensures.steps.follows.grows c.loop-round.invariant.3
+          c.round_and_view.ensures.step,
       asks,
       λ _. omega (arith, c.loop-round-test.true),
       λ ended.
           let other : c.status.result ≢ c.status-asked.result = search rules in
-          inr (number_grows c.args.self.now.proposer.number c.loop-round.self.proposer c.round_and_view.new.self.proposer c.status-asked.result c.status.result c.loop-round.invariant.4 asks c.status-asked.ensures.status c.status.ensures.status other c.loop-round.invariant.0.follows.number c.round_and_view.ensures.steps.follows.number),
+          inr
+          (number_grows c.args.self.now.proposer.number c.loop-round.self.proposer c.round_and_view.new.self.proposer
+          c.status-asked.result c.status.result c.loop-round.invariant.4 asks c.status-asked.ensures.status
+          c.status.ensures.status other c.loop-round.invariant.0.follows.number
+          c.round_and_view.ensures.steps.follows.number),
     )

@@ -4,7 +4,8 @@ use Rattle.la_runner.proofs.instance.Instance.meet.Given as goal
 
 abbrev pub invariant-loop-note : goal.invariant-loop-note
 invariant-loop-note l =
-    Meeting l.initial.self.proposer.updates l.initial.notes.items l.initial.self.passes.items l.notes.items l.self.passes.items
+    Meeting l.initial.self.proposer.updates l.initial.notes.items l.initial.self.passes.items l.notes.items
+    l.self.passes.items
     × (l.self.proposer ≡ l.initial.self.proposer)
     × (l.self.learnt ≡ l.initial.self.learnt)
     × (l.self.view ≡ l.initial.self.view)

@@ -9,7 +9,8 @@ invariant-loop-at l = record {
   own_proposer : l.self.proposer ≡ l.initial.self.proposer;
   own_learnt : l.self.learnt ≡ l.initial.self.learnt;
   own_view : l.self.view ≡ l.initial.self.view;
-  shown : Showing l.initial.to.proposer.updates (map told_by l.initial.self.passes.items) l.initial.to.passes.items l.at l.to.passes.items;
+  shown : Showing l.initial.to.proposer.updates (map told_by l.initial.self.passes.items) l.initial.to.passes.items l.at
+      l.to.passes.items;
   their_proposer : l.to.proposer ≡ l.initial.to.proposer;
   their_learnt : l.to.learnt ≡ l.initial.to.learnt;
   their_view : l.to.view ≡ l.initial.to.view;

@@ -9,4 +9,6 @@ returns-then-count-eq0 c = front_none c.args.behind c.args.self.now.0 c.args.cou
 
 pub returns-else-behind : goal.returns-else-behind
 returns-else-behind c =
-    take_rest c.first-ids.result.now 1 ∙ ap (drop 1) c.first-ids.ensures.ids ∙ front_first c.args.self.now.0 c.args.count ∙ ap (λ b. front b c.args.self.now.0 c.args.count) (sym c.if-behind.false)
+    take_rest c.first-ids.result.now 1 ∙ ap (drop 1) c.first-ids.ensures.ids
+    ∙ front_first c.args.self.now.0 c.args.count
+    ∙ ap (λ b. front b c.args.self.now.0 c.args.count) (sym c.if-behind.false)

@@ -11,11 +11,14 @@ ascii letter lt = IsUtf8-from_ascii (letter ∷ []) (IsAscii-cons letter [] lt I
 
 pub invariant_of-self-2 : goal.invariant_of-self-2
 invariant_of-self-2 c =
-    subst (λ ws. IsLaid c.self.inside.marks.items ws c.self.inside.numbers.items c.self.inside.marked c.self.inside.ids) (sym c.in_ok-push.ensures.items)
-    (laid_words c.self.inside.marks.items c.self.inside.words.items (c.args.letter ∷ []) c.self.inside.numbers.items c.self.inside.marked c.self.inside.ids c.self.invariant (ascii c.args.letter c.requires))
+    subst (λ ws. IsLaid c.self.inside.marks.items ws c.self.inside.numbers.items c.self.inside.marked c.self.inside.ids)
+    (sym c.in_ok-push.ensures.items)
+    (laid_words c.self.inside.marks.items c.self.inside.words.items (c.args.letter ∷ []) c.self.inside.numbers.items
+    c.self.inside.marked c.self.inside.ids c.self.invariant (ascii c.args.letter c.requires))
 
 pub returns : goal.returns
 returns c =
     ap (λ ws. laid_text c.self.inside.marks.items ws c.self.inside.numbers.items) c.in_ok-push.ensures.items
-    ∙ text_words c.self.inside.marks.items c.self.inside.words.items (c.args.letter ∷ []) c.self.inside.numbers.items c.self.inside.marked c.self.inside.ids c.self.invariant
+    ∙ text_words c.self.inside.marks.items c.self.inside.words.items (c.args.letter ∷ []) c.self.inside.numbers.items
+    c.self.inside.marked c.self.inside.ids c.self.invariant
     ∙ ap (λ t. t ++ c.args.letter ∷ []) c.self.view_is

@@ -7,6 +7,13 @@ use Rattle.la_script.proofs.walk.Walk.next.Goals as goal
 
 pub returns-clause-bytes : goal.returns-clause-bytes
 returns-clause-bytes c =
-    let each = subst (λ ms. AreReady c.self.inside.ids.now ms c.self.inside.words.now c.self.inside.numbers.now) c.in-Some.ensures.cases.0 c.self.invariant.each in
-    let is : length (bytes_of c.take_piece-piece.result.piece) ≡ length (mark_text c.in-Some.mark.now c.self.inside.words.now c.self.inside.numbers.now) = ap length c.take_piece-piece.ensures.piece in
-    omega (arith, mark_some c.self.inside.ids.now c.in-Some.mark.now c.self.inside.words.now c.self.inside.numbers.now each.0)
+    let each =
+    subst (λ ms. AreReady c.self.inside.ids.now ms c.self.inside.words.now c.self.inside.numbers.now)
+    c.in-Some.ensures.cases.0 c.self.invariant.each in
+    let is : length (bytes_of c.take_piece-piece.result.piece) ≡ length (mark_text c.in-Some.mark.now c.self.inside.words.now c.self.inside.numbers.now) =
+    ap length c.take_piece-piece.ensures.piece in
+    omega (
+      arith,
+      mark_some c.self.inside.ids.now c.in-Some.mark.now c.self.inside.words.now c.self.inside.numbers.now
+          each.0,
+    )

@@ -7,7 +7,10 @@ use Rattle.la_set.proofs.kept.Kept.counts.Goals as goal
 pub returns-in-Few : goal.returns-in-Few
 returns-in-Few c =
     let low = c.in-Few.of.value in
-    four-counts c.of_fours.result low [] (c.of_fours.ensures ∙ ap (λ ns. ns ++ map length (four_of [])) (c.lens.ensures ∙ ap (λ lists. map length (four_of lists)) c.deref.ensures))
+    four-counts c.of_fours.result low []
+    (c.of_fours.ensures
+    ∙ ap (λ ns. ns ++ map length (four_of []))
+    (c.lens.ensures ∙ ap (λ lists. map length (four_of lists)) c.deref.ensures))
     ∙ sym (ap (λ kept. lengths_of (lists_of kept)) c.in-Few.is)
 
 pub returns-in-Many : goal.returns-in-Many

@@ -4,7 +4,8 @@ use Rattle.la_set.proofs.Fours.{four-low, four-high, none-eight}
 use Rattle.la_set.proofs.kept.Kept.four.Goals as goal
 
 pub returns-in-Empty : goal.returns-in-Empty
-returns-in-Empty c = ap (λ kept. get_or (lists_of kept) c.args.replica []) c.in-Empty.is ∙ none-eight c.args.replica c.requires
+returns-in-Empty c =
+    ap (λ kept. get_or (lists_of kept) c.args.replica []) c.in-Empty.is ∙ none-eight c.args.replica c.requires
 
 pub returns-in-Few : goal.returns-in-Few
 returns-in-Few c =

@@ -15,7 +15,9 @@ loop-replica-init c q lt = absurd (omega arith)
 pub first_difference_from-requires : goal.first_difference_from-requires
 first_difference_from-requires c =
     let a = c.args.self.now in let b = c.args.other.now in let r = c.loop-replica.replica in
-    subst (AgreeBelow (items_of (option_copied c.history_of-mine.result)) (items_of (option_copied c.history_of-theirs.result))) (sym c.of-known.ensures)
+    subst
+    (AgreeBelow (items_of (option_copied c.history_of-mine.result))
+    (items_of (option_copied c.history_of-theirs.result))) (sym c.of-known.ensures)
     (subst (λ vs. AgreeBelow (items_of (option_copied c.history_of-mine.result)) vs (count_in c.args.base r)) (sym c.history_of-theirs.ensures.updates)
     (subst (λ us. AgreeBelow us (numbered r 1 (history b r)) (count_in c.args.base r)) (sym c.history_of-mine.ensures.updates) (within-agree a b c.args.base c.requires r)))
 
@@ -29,7 +31,9 @@ returns-in-Some c =
 pub loop-replica-preserved : goal.loop-replica-preserved
 loop-replica-preserved c q lt = elim (cases_eq q c.loop-replica.replica) [
   | inl e ↦ subst (AgreeAt c.args.self.now c.args.other.now) (sym e) (λ n.
-      subst (λ us. AgreeBelow us (numbered c.loop-replica.replica 1 (history c.args.other.now c.loop-replica.replica)) n) c.history_of-mine.ensures.updates
+      subst
+      (λ us. AgreeBelow us (numbered c.loop-replica.replica 1 (history c.args.other.now c.loop-replica.replica)) n)
+      c.history_of-mine.ensures.updates
       (subst (λ vs. AgreeBelow (items_of (option_copied c.history_of-mine.result)) vs n) c.history_of-theirs.ensures.updates (c.in_default.ensures n)))
   | inr ne ↦ c.loop-replica.invariant q (omega arith)
 ]

@@ -6,7 +6,15 @@ use Rattle.la_set.proofs.lemmas.Counting.{history-within}
 use Rattle.la_set.proofs.set.UpdateSet.front.Goals as goal
 
 pub front_of-requires : goal.front_of-requires
-front_of-requires c = omega (arith, c.requires.there c.args.replica, c.of.ensures, ap length c.history_of.ensures.updates, length-numbered c.args.replica 1 (history c.args.self.now c.args.replica))
+front_of-requires c =
+    omega (
+      arith,
+      c.requires.there c.args.replica,
+      c.of.ensures,
+      ap length c.history_of.ensures.updates,
+      length-numbered
+          c.args.replica 1 (history c.args.self.now c.args.replica),
+    )
 
 pub returns : goal.returns
 returns c =

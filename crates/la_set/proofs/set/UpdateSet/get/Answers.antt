@@ -12,4 +12,6 @@ returns-then-id-eq0 c = elim c.then-id-eq0.branch [
 ]
 
 pub returns : goal.returns
-returns c = c.item_at.ensures ∙ ap (λ us. slice_get us (c.args.id.number - 1)) c.history_of.ensures.updates ∙ numbered-get c.args.self.now c.args.id (omega arith)
+returns c =
+    c.item_at.ensures ∙ ap (λ us. slice_get us (c.args.id.number - 1)) c.history_of.ensures.updates
+    ∙ numbered-get c.args.self.now c.args.id (omega arith)

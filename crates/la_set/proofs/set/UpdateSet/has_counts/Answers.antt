@@ -17,8 +17,18 @@ loop-replica-preserved c r lt = elim (cases_eq r c.loop-replica.replica) [
 pub returns-then-of : goal.returns-then-of
 returns-then-of c = (
   (λ yes. absurd (false≢true yes)),
-  λ all. absurd (omega (arith, all c.loop-replica.replica, c.if-of.true, c.of.ensures, count-at c.args.self.now c.counts-mine.result c.loop-replica.replica _ c.counts-mine.ensures.counts c.of-in-loop-replica.ensures)),
+  λ all.
+      absurd
+      (omega (
+        arith,
+        all c.loop-replica.replica,
+        c.if-of.true,
+        c.of.ensures,
+        count-at c.args.self.now c.counts-mine.result
+            c.loop-replica.replica _ c.counts-mine.ensures.counts c.of-in-loop-replica.ensures,
+      )),
 )
 
 pub returns : goal.returns
-returns c = ((λ _. HasCounts-known c.args.self.now c.args.counts (λ r lt. c.loop-replica.invariant r (omega arith))), λ _. refl)
+returns c =
+    ((λ _. HasCounts-known c.args.self.now c.args.counts (λ r lt. c.loop-replica.invariant r (omega arith))), λ _. refl)

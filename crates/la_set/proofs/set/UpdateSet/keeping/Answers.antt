@@ -7,4 +7,5 @@ pub invariant_of-result : goal.invariant_of-result
 invariant_of-result c = subst IsRepresentation (sym c.in_ok-keeping.ensures.lists) c.requires
 
 pub returns : goal.returns
-returns c = stored-uncut c.in_ok-keeping.field-0 c.in_ok-keeping.ensures.uncut ∙ ap represented c.in_ok-keeping.ensures.lists
+returns c =
+    stored-uncut c.in_ok-keeping.field-0 c.in_ok-keeping.ensures.uncut ∙ ap represented c.in_ok-keeping.ensures.lists

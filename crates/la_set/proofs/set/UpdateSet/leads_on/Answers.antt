@@ -15,7 +15,10 @@ loop-place-init c =
     let s = c.args.self.now in let base = c.args.delta.now.base in
     record {
       eight = c.numbers-counts.ensures.eight;
-      counts = λ r lt. c.numbers-counts.ensures.each r lt ∙ ap (λ b. count_in b r) c.base.ensures ∙ sym (count-within s base c.requires r);
+      counts =
+          λ r lt.
+          c.numbers-counts.ensures.each r lt ∙ ap (λ b. count_in b r) c.base.ensures
+          ∙ sym (count-within s base c.requires r);
       next = tt;
     }
 
@@ -23,7 +26,9 @@ pub returns-then-replica-ge-REPLICAS : goal.returns-then-replica-ge-REPLICAS
 returns-then-replica-ge-REPLICAS c = (
   (λ yes. absurd (false≢true yes)),
   λ all.
-      let next = next_at c.args.delta.now.more (within c.args.self.now c.args.delta.now.base) c.loop-place.place c.item.result.now c.item.ensures all in
+      let next =
+      next_at c.args.delta.now.more (within c.args.self.now c.args.delta.now.base) c.loop-place.place
+      c.item.result.now c.item.ensures all in
       elim c.then-replica-ge-REPLICAS.branch [
         | then-replica-ge-REPLICAS-via-then-replica-ge-REPLICAS w ↦ absurd (omega (arith, w.if-replica-ge-REPLICAS.true, next.known))
         | then-replica-ge-REPLICAS-via-else-replica-ge-REPLICAS+then-number-gt-MAX_NUMBER w ↦ absurd (omega (arith, w.if-number-gt-MAX_NUMBER.true, next.within))
@@ -44,13 +49,19 @@ pub returns-then-number-counts : goal.returns-then-number-counts
 returns-then-number-counts c = (
   (λ yes. absurd (false≢true yes)),
   λ all.
-      let next = next_at c.args.delta.now.more (within c.args.self.now c.args.delta.now.base) c.loop-place.place c.item.result.now c.item.ensures all in
-      absurd (c.if-number-counts.true (omega (arith, next.next, c.loop-place.invariant.counts c.item.result.now.id.replica next.known))),
+      let next =
+      next_at c.args.delta.now.more (within c.args.self.now c.args.delta.now.base) c.loop-place.place
+      c.item.result.now c.item.ensures all in
+      absurd
+      (c.if-number-counts.true
+      (omega (arith, next.next, c.loop-place.invariant.counts c.item.result.now.id.replica next.known))),
 )
 
 pub loop-place-preserved : goal.loop-place-preserved
 loop-place-preserved c =
-    let us = c.args.delta.now.more in let w = within c.args.self.now c.args.delta.now.base in let k = c.loop-place.place in let u = c.item.result.now in
+    let us =
+    c.args.delta.now.more in let w = within c.args.self.now c.args.delta.now.base in let k = c.loop-place.place in let
+    u = c.item.result.now in
     record {
       eight = length-set c.loop-place.counts u.id.replica u.id.number ∙ c.loop-place.invariant.eight;
       counts = λ r lt.

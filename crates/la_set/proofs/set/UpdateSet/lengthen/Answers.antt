@@ -9,5 +9,6 @@ returns-then-has_at-clause-ok c =
     let n = c.len_of-len.result in let u = c.args.update.now in
     c.in_ok-list.ensures
     ∙ ap (take (n + 1)) c.history_of-mine.ensures.updates
-    ∙ next-front c.args.list.now (updates_of c.args.self.now u.id.replica) n u (c.len_of-len.ensures ∙ ap length c.link.ensures) (c.requires.own c.if-own.true)
+    ∙ next-front c.args.list.now (updates_of c.args.self.now u.id.replica) n u
+    (c.len_of-len.ensures ∙ ap length c.link.ensures) (c.requires.own c.if-own.true)
     (ap (λ us. slice_get us n) (sym c.history_of-mine.ensures.updates) ∙ c.has_at.ensures.0 c.if-has_at.true)

@@ -11,11 +11,16 @@ loop-replica-preserved c =
     let f = part c.args.self.now c.args.base in let r = c.loop-replica.replica in
     c.in_ok-append_reversed.ensures.ok
     ∙ ap (λ us. us ++ reverse c.in_ok-rest.rest.items) c.loop-replica.invariant
-    ∙ ap (λ us. parts f 0 r ++ us) (ap reverse c.in_ok-rest.ensures.ok ∙ reverse-reverse _ ∙ part-list c.args.self.now c.args.base r _ _ c.history_of.ensures.updates c.of.ensures)
+    ∙ ap (λ us. parts f 0 r ++ us)
+    (ap reverse c.in_ok-rest.ensures.ok ∙ reverse-reverse _
+    ∙ part-list c.args.self.now c.args.base r _ _ c.history_of.ensures.updates c.of.ensures)
     ∙ sym (parts-more f r)
 
 pub returns-clause-ok : goal.returns-clause-ok
-returns-clause-ok c = c.loop-replica.invariant ∙ ap (parts (part c.args.self.now c.args.base) 0) {x = c.loop-replica.replica} {y = 8} (omega arith) ∙ sym (over-parts c.args.self.now c.args.base)
+returns-clause-ok c =
+    c.loop-replica.invariant
+    ∙ ap (parts (part c.args.self.now c.args.base) 0) {x = c.loop-replica.replica} {y = 8} (omega arith)
+    ∙ sym (over-parts c.args.self.now c.args.base)
 
 pub rest_of-requires : goal.rest_of-requires
 rest_of-requires c =

@@ -5,7 +5,8 @@ use Rattle.la_set.proofs.set.UpdateSet.longer_history.Goals as goal
 pub returns-then-count_of : goal.returns-then-count_of
 returns-then-count_of c =
     subst (λ us. IfOk c.of.result (λ list. list ≡ us))
-    (c.history_of.ensures.updates ∙ longer-second c.args.self.now c.args.other.now c.requires.compatible c.args.replica (omega arith))
+    (c.history_of.ensures.updates
+    ∙ longer-second c.args.self.now c.args.other.now c.requires.compatible c.args.replica (omega arith))
     c.of.ensures
 
 pub returns : goal.returns

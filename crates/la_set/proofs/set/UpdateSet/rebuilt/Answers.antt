@@ -16,12 +16,16 @@ loop-place-init c =
 pub add-requires-clause-next : goal.add-requires-clause-next
 add-requires-clause-next c =
     let u = c.item.result.now in
-    subst (λ s. IsNext s u.id) (sym c.loop-place.invariant.so_far) (next_at c.args.delta.now.more (within c.args.self.now c.args.delta.now.base) c.loop-place.place u c.item.ensures c.requires.next)
+    subst (λ s. IsNext s u.id) (sym c.loop-place.invariant.so_far)
+    (next_at c.args.delta.now.more (within c.args.self.now c.args.delta.now.base) c.loop-place.place u c.item.ensures
+    c.requires.next)
 
 pub loop-place-preserved : goal.loop-place-preserved
 loop-place-preserved c =
     let w = within c.args.self.now c.args.delta.now.base in let u = c.item.result.now in
     record {
-      so_far = c.in_ok-add.ensures.ok ∙ ap (λ s. push s u) c.loop-place.invariant.so_far ∙ pushed_more c.args.delta.now.more w c.loop-place.place u c.item.ensures;
+      so_far =
+          c.in_ok-add.ensures.ok ∙ ap (λ s. push s u) c.loop-place.invariant.so_far
+          ∙ pushed_more c.args.delta.now.more w c.loop-place.place u c.item.ensures;
       grows = c.in_ok-add.ensures.grows;
     }

@@ -17,12 +17,15 @@ put_back-requires-clause-turn g c = search rules
 
 pub offer_beyond-requires : goal.offer_beyond-requires
 offer_beyond-requires g c =
-    let agrees = subst (λ (k : Known). AgreesWith c.args.base k.seen c.args.set.now) (sym c.pass.view_is) c.requires.agrees in
+    let agrees =
+    subst (λ (k : Known). AgreesWith c.args.base k.seen c.args.set.now) (sym c.pass.view_is) c.requires.agrees in
     (agree_since c.args.base c.pass.inside.seat.me.0.seen c.args.set.now _ agrees c.take-acceptor.ensures.since).same
 
 pub invariant_of-pass : goal.invariant_of-pass
 invariant_of-pass g c =
     let e = c.record.ensures.entry in
     let is = ap (λ m. m.0.mine) c.put_back.ensures.1 ∙ e.1.4 in
-    let has = subst (λ xs. HasEntry xs c.args.set.now c.in-Ok.reply) (sym is) (entry_stands _ e.0 c.args.set.now c.in-Ok.reply) in
+    let has =
+    subst (λ xs. HasEntry xs c.args.set.now c.in-Ok.reply) (sym is) (entry_stands _ e.0 c.args.set.now c.in-Ok.reply)
+    in
     (search rules, inr (c.args.set.now, c.in-Ok.reply, has, c.counts-pass-inside.ensures.counts))

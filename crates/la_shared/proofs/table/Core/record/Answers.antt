@@ -10,6 +10,7 @@ pub fetch_add-requires : goal.fetch_add-requires
 fetch_add-requires g c = let t = c.requires.turn in let said = c.requires.said in (
   search rules,
   search rules,
-  records _ _ _ t.0 t.1 c.requires.seat.1.0 _ _ t.2 c.requires.seat.1.1 (subst (λ (z : Histories). IsCompatible t.1 z) said.0 t.3)
+  records _ _ _ t.0 t.1 c.requires.seat.1.0 _ _ t.2 c.requires.seat.1.1
+      (subst (λ (z : Histories). IsCompatible t.1 z) said.0 t.3)
       (subst (λ (z : Histories × Reply). IsAnswer t.1 z.0 z.1) (λ i. (said.0 i, said.1 i)) t.4),
 )

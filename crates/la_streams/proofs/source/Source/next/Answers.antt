@@ -12,19 +12,29 @@ apart false e is = absurd cc
 pub returns-then-not-branch-clause-next : goal.returns-then-not-branch-clause-next
 returns-then-not-branch-clause-next g c =
     let over : c.ready.new.self.over ≡ true = search rules in
-    at_end _ _ _ c.loop.is_long c.loop.self.line.items c.ready.new.self.line.items c.loop.invariant.so_far c.in_ok-ready.ensures.read (ap (λ v. v.items) c.in_ok-ready.ensures.line) _ (c.in_ok-ready.ensures.over over) c.last.ensures
+    at_end _ _ _ c.loop.is_long c.loop.self.line.items c.ready.new.self.line.items c.loop.invariant.so_far
+    c.in_ok-ready.ensures.read (ap (λ v. v.items) c.in_ok-ready.ensures.line) _ (c.in_ok-ready.ensures.over over)
+    c.last.ensures
 
 pub returns-then-taken-clause-next : goal.returns-then-taken-clause-next
 returns-then-taken-clause-next g c =
-    at_line _ _ _ c.loop.is_long c.loop.self.line.items c.ready.new.self.line.items c.loop.invariant.so_far c.in_ok-ready.ensures.read (ap (λ v. v.items) c.in_ok-ready.ensures.line)
-    (g.R.Read.remaining c.ready.new.reader) (pending c.ready.new.self) (pending c.take.new.self) _ refl _ c.in-Ok.ensures.part _ c.if-taken.true c.of_line.ensures
+    at_line _ _ _ c.loop.is_long c.loop.self.line.items c.ready.new.self.line.items c.loop.invariant.so_far
+    c.in_ok-ready.ensures.read (ap (λ v. v.items) c.in_ok-ready.ensures.line)
+    (g.R.Read.remaining c.ready.new.reader) (pending c.ready.new.self) (pending c.take.new.self) _ refl _
+    c.in-Ok.ensures.part _ c.if-taken.true c.of_line.ensures
 
 pub loop-preserved : goal.loop-preserved
 loop-preserved g c =
     let some : c.ready.new.self.over ≡ false = search rules in
     record {
-      so_far = goes_on _ _ _ c.loop.is_long c.loop.self.line.items c.ready.new.self.line.items c.loop.invariant.so_far c.in_ok-ready.ensures.read (ap (λ v. v.items) c.in_ok-ready.ensures.line)
-          (g.R.Read.remaining c.ready.new.reader) (pending c.ready.new.self) (pending c.take.new.self) _ refl _ c.in-Ok.ensures.part c.if-taken.false;
+      so_far =
+          goes_on _ _ _ c.loop.is_long c.loop.self.line.items c.ready.new.self.line.items c.loop.invariant.so_far
+          c.in_ok-ready.ensures.read (ap (λ v. v.items) c.in_ok-ready.ensures.line)
+          (g.R.Read.remaining c.ready.new.reader) (pending c.ready.new.self) (pending c.take.new.self) _ refl _
+          c.in-Ok.ensures.part c.if-taken.false;
       over = λ e. absurd (false≢true (sym (c.in-Ok.ensures.over ∙ some) ∙ e));
-      end = λ e. absurd (apart c.in_ok-ready.field-0 (c.in_ok-ready.ensures.still (c.loop.invariant.end e).1) c.if-not-branch.false);
+      end =
+          λ e.
+          absurd
+          (apart c.in_ok-ready.field-0 (c.in_ok-ready.ensures.still (c.loop.invariant.end e).1) c.if-not-branch.false);
     }

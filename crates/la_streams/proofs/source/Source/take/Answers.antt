@@ -5,5 +5,9 @@ use Rattle.la_streams.proofs.source.Source.take.Goals as goal
 pub returns-clause-part : goal.returns-clause-part
 returns-clause-part c got so =
     let start = c.args.self.now.start in
-    let end = c.args.self.now.end in
-    (_, part_taken c.args.self.now.chunk _ start end _ _ _ c.args.self.now.order (ap (λ xs. take (end - start) (drop start xs)) c.as_slice-chunk.ensures) c.first_end-count.ensures.part, c.in_ok-long.ensures.kept got so)
+    let end = c.args.self.now.end in (
+      _,
+      part_taken c.args.self.now.chunk _ start end _ _ _ c.args.self.now.order
+          (ap (λ xs. take (end - start) (drop start xs)) c.as_slice-chunk.ensures) c.first_end-count.ensures.part,
+      c.in_ok-long.ensures.kept got so,
+    )

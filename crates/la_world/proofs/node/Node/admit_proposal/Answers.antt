@@ -13,4 +13,5 @@ returns-then-commit-ge-MAX_COMMITS-clause-error g c =
 pub returns-in-None-clause-error : goal.returns-in-None-clause-error
 returns-in-None-clause-error g c =
     subst (λ (q : NodeState). length q.replica.instances ≤ first_instance c.args.commit) c.self.view_is
-    (none_proposed c.self.inside.replica c.first_instance-first.result c.args.commit c.first_instance-first.ensures (sym c.submitted.ensures ∙ c.in-None.is))
+    (none_proposed c.self.inside.replica c.first_instance-first.result c.args.commit c.first_instance-first.ensures
+    (sym c.submitted.ensures ∙ c.in-None.is))

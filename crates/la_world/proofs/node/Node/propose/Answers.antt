@@ -13,7 +13,9 @@ use Rattle.la_world.proofs.node.Node.propose.Goals.{in-Ok, in-Err}
 pub invariant_of-self : goal.invariant_of-self
 invariant_of-self g c =
     let n : NodeState = record { replica = c.self.inside.replica; shelf = c.self.inside.shelf } in
-    let first = subst (λ (q : NodeState). submitted_in q.replica (first_instance c.args.commit) ≡ Some 0) (sym c.self.view_is) c.in_ok-first.ensures.first in
+    let first =
+    subst (λ (q : NodeState). submitted_in q.replica (first_instance c.args.commit) ≡ Some 0) (sym c.self.view_is)
+    c.in_ok-first.ensures.first in
     elim c.match-submit.branch [
       | in-Ok w ↦ proposal_keeps n c.args.commit c.in_ok-first.first (op_on c.args.commit c.from.result) (whole_out w.in-Ok.out) c.submit.new.self c.self.invariant c.in_ok-first.ensures.instance first w.in-Ok.ensures.step
       | in-Err w ↦ subst (λ (r : ReplicaState). IsNode (with_replica n r)) (sym w.in-Err.ensures.err) c.self.invariant

@@ -7,7 +7,8 @@ returns-in_err-admit_proposal-clause-error g c events stands =
     search rules
 
 pub take_proposal-requires-clause-allowed : goal.take_proposal-requires-clause-allowed
-take_proposal-requires-clause-allowed g c κs live events stands = c.in_ok-admit_proposal.ensures.allowed events stands c.args.value
+take_proposal-requires-clause-allowed g c κs live events stands =
+    c.in_ok-admit_proposal.ensures.allowed events stands c.args.value
 
 pub returns-in_err-take_proposal-clause-error : goal.returns-in_err-take_proposal-clause-error
 returns-in_err-take_proposal-clause-error g c events stands =

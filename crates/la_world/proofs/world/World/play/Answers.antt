@@ -12,45 +12,73 @@ if_ok (Ok x) P Q f h = f x h
 if_ok (Err e) P Q f h = tt
 
 -- whatever is answered
-in_both : {T E : Type 0} (r : Result T E) (P : T → Type 0) (K Q : Type 0) → ((x : T) → P x → Q) → (K → Q) → IfOk r P → OnErr r K → Q
+in_both : {T E : Type 0} (r : Result T E) (P : T → Type 0) (K Q : Type 0) → ((x : T) → P x → Q) → (K → Q) → IfOk r P
+    → OnErr r K → Q
 in_both (Ok x) P K Q f k h e = f x h
 in_both (Err d) P K Q f k h e = k e
 
 pub returns-clause-comparable : goal.returns-clause-comparable
-returns-clause-comparable g c events stands = on_ok c.take_event.result _ _ (λ step p. (play_keeps _ events _ step _ p).comparable) (c.take_event.ensures.step events stands)
+returns-clause-comparable g c events stands =
+    on_ok c.take_event.result _ _ (λ step p. (play_keeps _ events _ step _ p).comparable)
+    (c.take_event.ensures.step events stands)
 
 pub returns-clause-grows : goal.returns-clause-grows
-returns-clause-grows g c events stands = on_ok c.take_event.result _ _ (λ step p. (play_keeps _ events _ step _ p).grows) (c.take_event.ensures.step events stands)
+returns-clause-grows g c events stands =
+    on_ok c.take_event.result _ _ (λ step p. (play_keeps _ events _ step _ p).grows)
+    (c.take_event.ensures.step events stands)
 
 pub returns-clause-valid : goal.returns-clause-valid
-returns-clause-valid g c events stands = on_ok c.take_event.result _ _ (λ step p. (play_keeps _ events _ step _ p).valid) (c.take_event.ensures.step events stands)
+returns-clause-valid g c events stands =
+    on_ok c.take_event.result _ _ (λ step p. (play_keeps _ events _ step _ p).valid)
+    (c.take_event.ensures.step events stands)
 
 pub returns-clause-largest : goal.returns-clause-largest
-returns-clause-largest g c events stands = on_ok c.take_event.result _ _ (λ step p. (play_keeps _ events _ step _ p).largest) (c.take_event.ensures.step events stands)
+returns-clause-largest g c events stands =
+    on_ok c.take_event.result _ _ (λ step p. (play_keeps _ events _ step _ p).largest)
+    (c.take_event.ensures.step events stands)
 
 pub returns-clause-one_history : goal.returns-clause-one_history
-returns-clause-one_history g c events stands = on_ok c.take_event.result _ _ (λ step p. (play_keeps _ events _ step _ p).one_history) (c.take_event.ensures.step events stands)
+returns-clause-one_history g c events stands =
+    on_ok c.take_event.result _ _ (λ step p. (play_keeps _ events _ step _ p).one_history)
+    (c.take_event.ensures.step events stands)
 
 pub returns-clause-order : goal.returns-clause-order
-returns-clause-order g c events stands = on_ok c.take_event.result _ _ (λ step p. (play_keeps _ events _ step _ p).order) (c.take_event.ensures.step events stands)
+returns-clause-order g c events stands =
+    on_ok c.take_event.result _ _ (λ step p. (play_keeps _ events _ step _ p).order)
+    (c.take_event.ensures.step events stands)
 
 pub returns-clause-removed : goal.returns-clause-removed
-returns-clause-removed g c events stands = on_ok c.take_event.result _ _ (λ step p. (play_keeps _ events _ step _ p).removed) (c.take_event.ensures.step events stands)
+returns-clause-removed g c events stands =
+    on_ok c.take_event.result _ _ (λ step p. (play_keeps _ events _ step _ p).removed)
+    (c.take_event.ensures.step events stands)
 
 pub returns-clause-views : goal.returns-clause-views
-returns-clause-views g c events stands = on_ok c.take_event.result _ _ (λ step p. no_view_shrinks _ events _ step _ stands p) (c.take_event.ensures.step events stands)
+returns-clause-views g c events stands =
+    on_ok c.take_event.result _ _ (λ step p. no_view_shrinks _ events _ step _ stands p)
+    (c.take_event.ensures.step events stands)
 
 pub returns-clause-outcome : goal.returns-clause-outcome
-returns-clause-outcome g c events stands = if_ok c.take_event.result _ _ (λ step p. play_shows _ events _ step _ stands p) (c.take_event.ensures.step events stands)
+returns-clause-outcome g c events stands =
+    if_ok c.take_event.result _ _ (λ step p. play_shows _ events _ step _ stands p)
+    (c.take_event.ensures.step events stands)
 
 pub returns-clause-vote : goal.returns-clause-vote
-returns-clause-vote g c events stands = if_ok c.take_event.result _ _ (λ step p. play_votes _ events _ step _ stands p) (c.take_event.ensures.step events stands)
+returns-clause-vote g c events stands =
+    if_ok c.take_event.result _ _ (λ step p. play_votes _ events _ step _ stands p)
+    (c.take_event.ensures.step events stands)
 
 pub returns-clause-stays : goal.returns-clause-stays
-returns-clause-stays g c events stands = in_both c.take_event.result _ _ _ (λ step p. play_stays _ events _ step _ stands p) (λ kept. kept_stays _ events _ stands kept) (c.take_event.ensures.step events stands) c.take_event.ensures.keeps
+returns-clause-stays g c events stands =
+    in_both c.take_event.result _ _ _ (λ step p. play_stays _ events _ step _ stands p)
+    (λ kept. kept_stays _ events _ stands kept) (c.take_event.ensures.step events stands) c.take_event.ensures.keeps
 
 pub returns-clause-safe : goal.returns-clause-safe
-returns-clause-safe g c events stands = on_ok c.take_event.result _ _ (λ step p. play_safe _ events _ step _ stands p) (c.take_event.ensures.step events stands)
+returns-clause-safe g c events stands =
+    on_ok c.take_event.result _ _ (λ step p. play_safe _ events _ step _ stands p)
+    (c.take_event.ensures.step events stands)
 
 pub returns-clause-listed : goal.returns-clause-listed
-returns-clause-listed g c events stands = in_both c.take_event.result _ _ _ (λ step p. answers_listed _ _ p.stands) (λ kept. answers_listed _ events (kept.stands events stands)) (c.take_event.ensures.step events stands) c.take_event.ensures.keeps
+returns-clause-listed g c events stands =
+    in_both c.take_event.result _ _ _ (λ step p. answers_listed _ _ p.stands)
+    (λ kept. answers_listed _ events (kept.stands events stands)) (c.take_event.ensures.step events stands)
+    c.take_event.ensures.keeps

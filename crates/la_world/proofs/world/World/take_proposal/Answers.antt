@@ -15,19 +15,29 @@ use Rattle.la_world.proofs.Noted.{holds_reserved, submission_noted, noted_holds,
 use Rattle.la_world.proofs.world.World.take_proposal.Goals as goal
 
 pub invariant_of-self : goal.invariant_of-self
-invariant_of-self g c = holds_reserved c.self.invariant c.reserve.new.self c.reserve.ensures.messages c.reserve.ensures.learnt c.reserve.ensures.count
+invariant_of-self g c =
+    holds_reserved c.self.invariant c.reserve.new.self c.reserve.ensures.messages c.reserve.ensures.learnt
+    c.reserve.ensures.count
 
 pub index_mut-requires : goal.index_mut-requires
 index_mut-requires g c =
-    let known : c.args.replica < length c.self.inside.nodes.items = node_known c.self.inside.nodes.items c.args.replica (subst (λ v. c.args.replica < length v.replica_states) (sym c.self.view_is) c.requires.known) in
+    let known : c.args.replica < length c.self.inside.nodes.items =
+    node_known c.self.inside.nodes.items c.args.replica
+    (subst (λ v. c.args.replica < length v.replica_states) (sym c.self.view_is) c.requires.known) in
     search rules
 
 pub invariant_of-self-in_default : goal.invariant_of-self-in_default
 invariant_of-self-in_default g c =
     let r = c.args.replica in
-    let found = read_node c.self.inside.nodes.items r (subst (λ v. r < length v.replica_states) (sym c.self.view_is) c.requires.known) c.index_mut.ensures.value in
-    subst HoldsInvariant (sym (unchanged c.self.inside.nodes.items r c.index_mut.result.now found c.self.inside.config c.propose.new.self c.reserve.new.self c.in_default.ensures.err))
-    (holds_reserved c.self.invariant c.reserve.new.self c.reserve.ensures.messages c.reserve.ensures.learnt c.reserve.ensures.count)
+    let found =
+    read_node c.self.inside.nodes.items r
+    (subst (λ v. r < length v.replica_states) (sym c.self.view_is) c.requires.known) c.index_mut.ensures.value in
+    subst HoldsInvariant
+    (sym
+    (unchanged c.self.inside.nodes.items r c.index_mut.result.now found c.self.inside.config c.propose.new.self
+    c.reserve.new.self c.in_default.ensures.err))
+    (holds_reserved c.self.invariant c.reserve.new.self c.reserve.ensures.messages c.reserve.ensures.learnt
+    c.reserve.ensures.count)
 
 pub note_submission-requires-clause-known : goal.note_submission-requires-clause-known
 note_submission-requires-clause-known g c =
@@ -37,9 +47,18 @@ note_submission-requires-clause-known g c =
     let known = subst (λ v. r < length v.replica_states) (sym c.self.view_is) c.requires.known in
     let found = read_node c.self.inside.nodes.items r known c.index_mut.ensures.value in
     let event : IsSubmission e c.first_instance.result r (first_vote c.args.commit c.args.value) = λ did. ap (λ i. Some (record { instance = i; replica = r; object_op = first_vote c.args.commit c.args.value })) (sym c.first_instance.ensures) in
-    let s = submitter_at c.self.inside.config c.self.inside.nodes.items c.self.inside.journal c.self.invariant c.self.view_is e c.first_instance.result r (first_vote c.args.commit c.args.value) event c.requires.allowed found in
-    let is = subst (λ i. submits c.index_mut.result.now.replica i (first_vote c.args.commit c.args.value) ≡ Some (whole_out c.in-Ok.out, made.replica)) (sym c.first_instance.ensures) c.in-Ok.ensures.step in
-    let told : (offered : Counts) → AreToldFrom made.replica c.first_instance.result offered c.in-Ok.out.mail = λ offered. subst (λ j. AreToldFrom made.replica j offered c.in-Ok.out.mail) (sym c.first_instance.ensures) (c.in-Ok.ensures.told offered) in
+    let s =
+    submitter_at c.self.inside.config c.self.inside.nodes.items c.self.inside.journal c.self.invariant c.self.view_is
+    e c.first_instance.result r (first_vote c.args.commit c.args.value) event c.requires.allowed found in
+    let is =
+    subst
+    (λ i.
+    submits c.index_mut.result.now.replica i (first_vote c.args.commit c.args.value)
+    ≡ Some (whole_out c.in-Ok.out, made.replica)) (sym c.first_instance.ensures) c.in-Ok.ensures.step in
+    let told : (offered : Counts) → AreToldFrom made.replica c.first_instance.result offered c.in-Ok.out.mail =
+    λ offered.
+    subst (λ j. AreToldFrom made.replica j offered c.in-Ok.out.mail) (sym c.first_instance.ensures)
+    (c.in-Ok.ensures.told offered) in
     submission_known s c.in-Ok.out made.replica is told
 
 pub note_submission-requires-clause-few : goal.note_submission-requires-clause-few
@@ -50,14 +69,24 @@ note_submission-requires-clause-few g c =
     let known = subst (λ v. r < length v.replica_states) (sym c.self.view_is) c.requires.known in
     let found = read_node c.self.inside.nodes.items r known c.index_mut.ensures.value in
     let event : IsSubmission e c.first_instance.result r (first_vote c.args.commit c.args.value) = λ did. ap (λ i. Some (record { instance = i; replica = r; object_op = first_vote c.args.commit c.args.value })) (sym c.first_instance.ensures) in
-    let s = submitter_at c.self.inside.config c.self.inside.nodes.items c.self.inside.journal c.self.invariant c.self.view_is e c.first_instance.result r (first_vote c.args.commit c.args.value) event c.requires.allowed found in
-    let is = subst (λ i. submits c.index_mut.result.now.replica i (first_vote c.args.commit c.args.value) ≡ Some (whole_out c.in-Ok.out, made.replica)) (sym c.first_instance.ensures) c.in-Ok.ensures.step in
-    let told : (offered : Counts) → AreToldFrom made.replica c.first_instance.result offered c.in-Ok.out.mail = λ offered. subst (λ j. AreToldFrom made.replica j offered c.in-Ok.out.mail) (sym c.first_instance.ensures) (c.in-Ok.ensures.told offered) in
+    let s =
+    submitter_at c.self.inside.config c.self.inside.nodes.items c.self.inside.journal c.self.invariant c.self.view_is
+    e c.first_instance.result r (first_vote c.args.commit c.args.value) event c.requires.allowed found in
+    let is =
+    subst
+    (λ i.
+    submits c.index_mut.result.now.replica i (first_vote c.args.commit c.args.value)
+    ≡ Some (whole_out c.in-Ok.out, made.replica)) (sym c.first_instance.ensures) c.in-Ok.ensures.step in
+    let told : (offered : Counts) → AreToldFrom made.replica c.first_instance.result offered c.in-Ok.out.mail =
+    λ offered.
+    subst (λ j. AreToldFrom made.replica j offered c.in-Ok.out.mail) (sym c.first_instance.ensures)
+    (c.in-Ok.ensures.told offered) in
     submission_few s c.in-Ok.out made.replica is told
 
 pub note_submission-requires-clause-made : goal.note_submission-requires-clause-made
 note_submission-requires-clause-made g c =
-    told_made c.propose.new.self.replica zero_counts c.in-Ok.out.mail (told_of c.propose.new.self.replica _ zero_counts c.in-Ok.out.mail (c.in-Ok.ensures.told zero_counts))
+    told_made c.propose.new.self.replica zero_counts c.in-Ok.out.mail
+    (told_of c.propose.new.self.replica _ zero_counts c.in-Ok.out.mail (c.in-Ok.ensures.told zero_counts))
 
 pub invariant_of-self-2 : goal.invariant_of-self-2
 invariant_of-self-2 g c =
@@ -67,12 +96,29 @@ invariant_of-self-2 g c =
     let known = subst (λ v. r < length v.replica_states) (sym c.self.view_is) c.requires.known in
     let found = read_node c.self.inside.nodes.items r known c.index_mut.ensures.value in
     let event : IsSubmission e c.first_instance.result r (first_vote c.args.commit c.args.value) = λ did. ap (λ i. Some (record { instance = i; replica = r; object_op = first_vote c.args.commit c.args.value })) (sym c.first_instance.ensures) in
-    let s = submitter_at c.self.inside.config c.self.inside.nodes.items c.self.inside.journal c.self.invariant c.self.view_is e c.first_instance.result r (first_vote c.args.commit c.args.value) event c.requires.allowed found in
-    let is = subst (λ i. submits c.index_mut.result.now.replica i (first_vote c.args.commit c.args.value) ≡ Some (whole_out c.in-Ok.out, made.replica)) (sym c.first_instance.ensures) c.in-Ok.ensures.step in
-    let told : (offered : Counts) → AreToldFrom made.replica c.first_instance.result offered c.in-Ok.out.mail = λ offered. subst (λ j. AreToldFrom made.replica j offered c.in-Ok.out.mail) (sym c.first_instance.ensures) (c.in-Ok.ensures.told offered) in
-    let n = submission_noted c.first_instance.result r c.reserve.new.self c.note_submission.new.journal (done_by s c.in-Ok.out made.replica is told) c.self.invariant
-    c.reserve.ensures.messages c.reserve.ensures.learnt c.reserve.ensures.count c.note_submission.ensures.step c.note_submission.ensures.messages c.note_submission.ensures.learnt c.note_submission.ensures.count c.note_submission.ensures.numbers in
-    subst HoldsInvariant (sym (stepped c.self.inside.nodes.items r c.index_mut.result.now found c.self.inside.config made c.note_submission.new.journal c.in-Ok.ensures.shelf)) (noted_holds n r made.replica (submission_invariant s c.in-Ok.out made.replica is told))
+    let s =
+    submitter_at c.self.inside.config c.self.inside.nodes.items c.self.inside.journal c.self.invariant c.self.view_is
+    e c.first_instance.result r (first_vote c.args.commit c.args.value) event c.requires.allowed found in
+    let is =
+    subst
+    (λ i.
+    submits c.index_mut.result.now.replica i (first_vote c.args.commit c.args.value)
+    ≡ Some (whole_out c.in-Ok.out, made.replica)) (sym c.first_instance.ensures) c.in-Ok.ensures.step in
+    let told : (offered : Counts) → AreToldFrom made.replica c.first_instance.result offered c.in-Ok.out.mail =
+    λ offered.
+    subst (λ j. AreToldFrom made.replica j offered c.in-Ok.out.mail) (sym c.first_instance.ensures)
+    (c.in-Ok.ensures.told offered) in
+    let n =
+    submission_noted c.first_instance.result r c.reserve.new.self c.note_submission.new.journal
+    (done_by s c.in-Ok.out made.replica is told) c.self.invariant
+    c.reserve.ensures.messages c.reserve.ensures.learnt c.reserve.ensures.count c.note_submission.ensures.step
+    c.note_submission.ensures.messages c.note_submission.ensures.learnt c.note_submission.ensures.count
+    c.note_submission.ensures.numbers in
+    subst HoldsInvariant
+    (sym
+    (stepped c.self.inside.nodes.items r c.index_mut.result.now found c.self.inside.config made
+    c.note_submission.new.journal c.in-Ok.ensures.shelf))
+    (noted_holds n r made.replica (submission_invariant s c.in-Ok.out made.replica is told))
 
 pub returns-clause-step : goal.returns-clause-step
 returns-clause-step g c events stands =
@@ -82,12 +128,28 @@ returns-clause-step g c events stands =
     let known = subst (λ v. r < length v.replica_states) (sym c.self.view_is) c.requires.known in
     let found = read_node c.self.inside.nodes.items r known c.index_mut.ensures.value in
     let event : IsSubmission e c.first_instance.result r (first_vote c.args.commit c.args.value) = λ did. ap (λ i. Some (record { instance = i; replica = r; object_op = first_vote c.args.commit c.args.value })) (sym c.first_instance.ensures) in
-    let s = submitter_at c.self.inside.config c.self.inside.nodes.items c.self.inside.journal c.self.invariant c.self.view_is e c.first_instance.result r (first_vote c.args.commit c.args.value) event c.requires.allowed found in
-    let is = subst (λ i. submits c.index_mut.result.now.replica i (first_vote c.args.commit c.args.value) ≡ Some (whole_out c.in-Ok.out, made.replica)) (sym c.first_instance.ensures) c.in-Ok.ensures.step in
-    let told : (offered : Counts) → AreToldFrom made.replica c.first_instance.result offered c.in-Ok.out.mail = λ offered. subst (λ j. AreToldFrom made.replica j offered c.in-Ok.out.mail) (sym c.first_instance.ensures) (c.in-Ok.ensures.told offered) in
-    let n = submission_noted c.first_instance.result r c.reserve.new.self c.note_submission.new.journal (done_by s c.in-Ok.out made.replica is told) c.self.invariant
-    c.reserve.ensures.messages c.reserve.ensures.learnt c.reserve.ensures.count c.note_submission.ensures.step c.note_submission.ensures.messages c.note_submission.ensures.learnt c.note_submission.ensures.count c.note_submission.ensures.numbers in
-    subst (Plays c.args.self.now events e c.note_submission.result) (sym (stepped c.self.inside.nodes.items r c.index_mut.result.now found c.self.inside.config made c.note_submission.new.journal c.in-Ok.ensures.shelf))
+    let s =
+    submitter_at c.self.inside.config c.self.inside.nodes.items c.self.inside.journal c.self.invariant c.self.view_is
+    e c.first_instance.result r (first_vote c.args.commit c.args.value) event c.requires.allowed found in
+    let is =
+    subst
+    (λ i.
+    submits c.index_mut.result.now.replica i (first_vote c.args.commit c.args.value)
+    ≡ Some (whole_out c.in-Ok.out, made.replica)) (sym c.first_instance.ensures) c.in-Ok.ensures.step in
+    let told : (offered : Counts) → AreToldFrom made.replica c.first_instance.result offered c.in-Ok.out.mail =
+    λ offered.
+    subst (λ j. AreToldFrom made.replica j offered c.in-Ok.out.mail) (sym c.first_instance.ensures)
+    (c.in-Ok.ensures.told offered) in
+    let n =
+    submission_noted c.first_instance.result r c.reserve.new.self c.note_submission.new.journal
+    (done_by s c.in-Ok.out made.replica is told) c.self.invariant
+    c.reserve.ensures.messages c.reserve.ensures.learnt c.reserve.ensures.count c.note_submission.ensures.step
+    c.note_submission.ensures.messages c.note_submission.ensures.learnt c.note_submission.ensures.count
+    c.note_submission.ensures.numbers in
+    subst (Plays c.args.self.now events e c.note_submission.result)
+    (sym
+    (stepped c.self.inside.nodes.items r c.index_mut.result.now found c.self.inside.config made
+    c.note_submission.new.journal c.in-Ok.ensures.shelf))
     (noted_plays n r made.replica c.self.view_is events e
     (submission_played s c.in-Ok.out made.replica is told e event events (subst (λ v. refused_in v events e ≡ None) (sym c.self.view_is) (c.requires.allowed events stands)) (subst (λ v. StandsFor v events) (sym c.self.view_is) stands)))
 
@@ -99,9 +161,22 @@ returns-clause-printable g c =
     let known = subst (λ v. r < length v.replica_states) (sym c.self.view_is) c.requires.known in
     let found = read_node c.self.inside.nodes.items r known c.index_mut.ensures.value in
     let event : IsSubmission e c.first_instance.result r (first_vote c.args.commit c.args.value) = λ did. ap (λ i. Some (record { instance = i; replica = r; object_op = first_vote c.args.commit c.args.value })) (sym c.first_instance.ensures) in
-    let s = submitter_at c.self.inside.config c.self.inside.nodes.items c.self.inside.journal c.self.invariant c.self.view_is e c.first_instance.result r (first_vote c.args.commit c.args.value) event c.requires.allowed found in
-    let is = subst (λ i. submits c.index_mut.result.now.replica i (first_vote c.args.commit c.args.value) ≡ Some (whole_out c.in-Ok.out, made.replica)) (sym c.first_instance.ensures) c.in-Ok.ensures.step in
-    let told : (offered : Counts) → AreToldFrom made.replica c.first_instance.result offered c.in-Ok.out.mail = λ offered. subst (λ j. AreToldFrom made.replica j offered c.in-Ok.out.mail) (sym c.first_instance.ensures) (c.in-Ok.ensures.told offered) in
-    let n = submission_noted c.first_instance.result r c.reserve.new.self c.note_submission.new.journal (done_by s c.in-Ok.out made.replica is told) c.self.invariant
-    c.reserve.ensures.messages c.reserve.ensures.learnt c.reserve.ensures.count c.note_submission.ensures.step c.note_submission.ensures.messages c.note_submission.ensures.learnt c.note_submission.ensures.count c.note_submission.ensures.numbers in
+    let s =
+    submitter_at c.self.inside.config c.self.inside.nodes.items c.self.inside.journal c.self.invariant c.self.view_is
+    e c.first_instance.result r (first_vote c.args.commit c.args.value) event c.requires.allowed found in
+    let is =
+    subst
+    (λ i.
+    submits c.index_mut.result.now.replica i (first_vote c.args.commit c.args.value)
+    ≡ Some (whole_out c.in-Ok.out, made.replica)) (sym c.first_instance.ensures) c.in-Ok.ensures.step in
+    let told : (offered : Counts) → AreToldFrom made.replica c.first_instance.result offered c.in-Ok.out.mail =
+    λ offered.
+    subst (λ j. AreToldFrom made.replica j offered c.in-Ok.out.mail) (sym c.first_instance.ensures)
+    (c.in-Ok.ensures.told offered) in
+    let n =
+    submission_noted c.first_instance.result r c.reserve.new.self c.note_submission.new.journal
+    (done_by s c.in-Ok.out made.replica is told) c.self.invariant
+    c.reserve.ensures.messages c.reserve.ensures.learnt c.reserve.ensures.count c.note_submission.ensures.step
+    c.note_submission.ensures.messages c.note_submission.ensures.learnt c.note_submission.ensures.count
+    c.note_submission.ensures.numbers in
     noted_prints n (submission_is_named s c.in-Ok.out made.replica is told)

@@ -11,19 +11,29 @@ use Rattle.la_world.proofs.Noted.{holds_reserved, submission_noted, noted_holds,
 use Rattle.la_world.proofs.world.World.take_update.Goals as goal
 
 pub invariant_of-self : goal.invariant_of-self
-invariant_of-self g c = holds_reserved c.self.invariant c.reserve.new.self c.reserve.ensures.messages c.reserve.ensures.learnt c.reserve.ensures.count
+invariant_of-self g c =
+    holds_reserved c.self.invariant c.reserve.new.self c.reserve.ensures.messages c.reserve.ensures.learnt
+    c.reserve.ensures.count
 
 pub index_mut-requires : goal.index_mut-requires
 index_mut-requires g c =
-    let known : c.args.replica < length c.self.inside.nodes.items = node_known c.self.inside.nodes.items c.args.replica (subst (λ v. c.args.replica < length v.replica_states) (sym c.self.view_is) c.requires.known) in
+    let known : c.args.replica < length c.self.inside.nodes.items =
+    node_known c.self.inside.nodes.items c.args.replica
+    (subst (λ v. c.args.replica < length v.replica_states) (sym c.self.view_is) c.requires.known) in
     search rules
 
 pub invariant_of-self-in_default : goal.invariant_of-self-in_default
 invariant_of-self-in_default g c =
     let r = c.args.replica in
-    let found = read_node c.self.inside.nodes.items r (subst (λ v. r < length v.replica_states) (sym c.self.view_is) c.requires.known) c.index_mut.ensures.value in
-    subst HoldsInvariant (sym (unchanged c.self.inside.nodes.items r c.index_mut.result.now found c.self.inside.config c.submit.new.self c.reserve.new.self c.in_default.ensures.err))
-    (holds_reserved c.self.invariant c.reserve.new.self c.reserve.ensures.messages c.reserve.ensures.learnt c.reserve.ensures.count)
+    let found =
+    read_node c.self.inside.nodes.items r
+    (subst (λ v. r < length v.replica_states) (sym c.self.view_is) c.requires.known) c.index_mut.ensures.value in
+    subst HoldsInvariant
+    (sym
+    (unchanged c.self.inside.nodes.items r c.index_mut.result.now found c.self.inside.config c.submit.new.self
+    c.reserve.new.self c.in_default.ensures.err))
+    (holds_reserved c.self.invariant c.reserve.new.self c.reserve.ensures.messages c.reserve.ensures.learnt
+    c.reserve.ensures.count)
 
 pub note_submission-requires-clause-known : goal.note_submission-requires-clause-known
 note_submission-requires-clause-known g c =
@@ -33,7 +43,9 @@ note_submission-requires-clause-known g c =
     let known = subst (λ v. r < length v.replica_states) (sym c.self.view_is) c.requires.known in
     let found = read_node c.self.inside.nodes.items r known c.index_mut.ensures.value in
     let event : IsSubmission e 0 r (op_on c.args.object c.args.op) = λ did. refl in
-    let s = submitter_at c.self.inside.config c.self.inside.nodes.items c.self.inside.journal c.self.invariant c.self.view_is e 0 r (op_on c.args.object c.args.op) event c.requires.allowed found in
+    let s =
+    submitter_at c.self.inside.config c.self.inside.nodes.items c.self.inside.journal c.self.invariant c.self.view_is
+    e 0 r (op_on c.args.object c.args.op) event c.requires.allowed found in
     let is = c.in-Ok.ensures.step in
     submission_known s c.in-Ok.out made.replica is c.in-Ok.ensures.told
 
@@ -45,13 +57,16 @@ note_submission-requires-clause-few g c =
     let known = subst (λ v. r < length v.replica_states) (sym c.self.view_is) c.requires.known in
     let found = read_node c.self.inside.nodes.items r known c.index_mut.ensures.value in
     let event : IsSubmission e 0 r (op_on c.args.object c.args.op) = λ did. refl in
-    let s = submitter_at c.self.inside.config c.self.inside.nodes.items c.self.inside.journal c.self.invariant c.self.view_is e 0 r (op_on c.args.object c.args.op) event c.requires.allowed found in
+    let s =
+    submitter_at c.self.inside.config c.self.inside.nodes.items c.self.inside.journal c.self.invariant c.self.view_is
+    e 0 r (op_on c.args.object c.args.op) event c.requires.allowed found in
     let is = c.in-Ok.ensures.step in
     submission_few s c.in-Ok.out made.replica is c.in-Ok.ensures.told
 
 pub note_submission-requires-clause-made : goal.note_submission-requires-clause-made
 note_submission-requires-clause-made g c =
-    told_made c.submit.new.self.replica zero_counts c.in-Ok.out.mail (told_of c.submit.new.self.replica 0 zero_counts c.in-Ok.out.mail (c.in-Ok.ensures.told zero_counts))
+    told_made c.submit.new.self.replica zero_counts c.in-Ok.out.mail
+    (told_of c.submit.new.self.replica 0 zero_counts c.in-Ok.out.mail (c.in-Ok.ensures.told zero_counts))
 
 pub invariant_of-self-2 : goal.invariant_of-self-2
 invariant_of-self-2 g c =
@@ -61,11 +76,21 @@ invariant_of-self-2 g c =
     let known = subst (λ v. r < length v.replica_states) (sym c.self.view_is) c.requires.known in
     let found = read_node c.self.inside.nodes.items r known c.index_mut.ensures.value in
     let event : IsSubmission e 0 r (op_on c.args.object c.args.op) = λ did. refl in
-    let s = submitter_at c.self.inside.config c.self.inside.nodes.items c.self.inside.journal c.self.invariant c.self.view_is e 0 r (op_on c.args.object c.args.op) event c.requires.allowed found in
+    let s =
+    submitter_at c.self.inside.config c.self.inside.nodes.items c.self.inside.journal c.self.invariant c.self.view_is
+    e 0 r (op_on c.args.object c.args.op) event c.requires.allowed found in
     let is = c.in-Ok.ensures.step in
-    let n = submission_noted 0 r c.reserve.new.self c.note_submission.new.journal (done_by s c.in-Ok.out made.replica is c.in-Ok.ensures.told) c.self.invariant
-    c.reserve.ensures.messages c.reserve.ensures.learnt c.reserve.ensures.count c.note_submission.ensures.step c.note_submission.ensures.messages c.note_submission.ensures.learnt c.note_submission.ensures.count c.note_submission.ensures.numbers in
-    subst HoldsInvariant (sym (stepped c.self.inside.nodes.items r c.index_mut.result.now found c.self.inside.config made c.note_submission.new.journal c.in-Ok.ensures.shelf)) (noted_holds n r made.replica (submission_invariant s c.in-Ok.out made.replica is c.in-Ok.ensures.told))
+    let n =
+    submission_noted 0 r c.reserve.new.self c.note_submission.new.journal
+    (done_by s c.in-Ok.out made.replica is c.in-Ok.ensures.told) c.self.invariant
+    c.reserve.ensures.messages c.reserve.ensures.learnt c.reserve.ensures.count c.note_submission.ensures.step
+    c.note_submission.ensures.messages c.note_submission.ensures.learnt c.note_submission.ensures.count
+    c.note_submission.ensures.numbers in
+    subst HoldsInvariant
+    (sym
+    (stepped c.self.inside.nodes.items r c.index_mut.result.now found c.self.inside.config made
+    c.note_submission.new.journal c.in-Ok.ensures.shelf))
+    (noted_holds n r made.replica (submission_invariant s c.in-Ok.out made.replica is c.in-Ok.ensures.told))
 
 pub returns-clause-step : goal.returns-clause-step
 returns-clause-step g c events stands =
@@ -75,11 +100,20 @@ returns-clause-step g c events stands =
     let known = subst (λ v. r < length v.replica_states) (sym c.self.view_is) c.requires.known in
     let found = read_node c.self.inside.nodes.items r known c.index_mut.ensures.value in
     let event : IsSubmission e 0 r (op_on c.args.object c.args.op) = λ did. refl in
-    let s = submitter_at c.self.inside.config c.self.inside.nodes.items c.self.inside.journal c.self.invariant c.self.view_is e 0 r (op_on c.args.object c.args.op) event c.requires.allowed found in
+    let s =
+    submitter_at c.self.inside.config c.self.inside.nodes.items c.self.inside.journal c.self.invariant c.self.view_is
+    e 0 r (op_on c.args.object c.args.op) event c.requires.allowed found in
     let is = c.in-Ok.ensures.step in
-    let n = submission_noted 0 r c.reserve.new.self c.note_submission.new.journal (done_by s c.in-Ok.out made.replica is c.in-Ok.ensures.told) c.self.invariant
-    c.reserve.ensures.messages c.reserve.ensures.learnt c.reserve.ensures.count c.note_submission.ensures.step c.note_submission.ensures.messages c.note_submission.ensures.learnt c.note_submission.ensures.count c.note_submission.ensures.numbers in
-    subst (Plays c.args.self.now events e c.note_submission.result) (sym (stepped c.self.inside.nodes.items r c.index_mut.result.now found c.self.inside.config made c.note_submission.new.journal c.in-Ok.ensures.shelf))
+    let n =
+    submission_noted 0 r c.reserve.new.self c.note_submission.new.journal
+    (done_by s c.in-Ok.out made.replica is c.in-Ok.ensures.told) c.self.invariant
+    c.reserve.ensures.messages c.reserve.ensures.learnt c.reserve.ensures.count c.note_submission.ensures.step
+    c.note_submission.ensures.messages c.note_submission.ensures.learnt c.note_submission.ensures.count
+    c.note_submission.ensures.numbers in
+    subst (Plays c.args.self.now events e c.note_submission.result)
+    (sym
+    (stepped c.self.inside.nodes.items r c.index_mut.result.now found c.self.inside.config made
+    c.note_submission.new.journal c.in-Ok.ensures.shelf))
     (noted_plays n r made.replica c.self.view_is events e
     (submission_played s c.in-Ok.out made.replica is c.in-Ok.ensures.told e event events (subst (λ v. refused_in v events e ≡ None) (sym c.self.view_is) (c.requires.allowed events stands)) (subst (λ v. StandsFor v events) (sym c.self.view_is) stands)))
 
@@ -91,8 +125,14 @@ returns-clause-printable g c =
     let known = subst (λ v. r < length v.replica_states) (sym c.self.view_is) c.requires.known in
     let found = read_node c.self.inside.nodes.items r known c.index_mut.ensures.value in
     let event : IsSubmission e 0 r (op_on c.args.object c.args.op) = λ did. refl in
-    let s = submitter_at c.self.inside.config c.self.inside.nodes.items c.self.inside.journal c.self.invariant c.self.view_is e 0 r (op_on c.args.object c.args.op) event c.requires.allowed found in
+    let s =
+    submitter_at c.self.inside.config c.self.inside.nodes.items c.self.inside.journal c.self.invariant c.self.view_is
+    e 0 r (op_on c.args.object c.args.op) event c.requires.allowed found in
     let is = c.in-Ok.ensures.step in
-    let n = submission_noted 0 r c.reserve.new.self c.note_submission.new.journal (done_by s c.in-Ok.out made.replica is c.in-Ok.ensures.told) c.self.invariant
-    c.reserve.ensures.messages c.reserve.ensures.learnt c.reserve.ensures.count c.note_submission.ensures.step c.note_submission.ensures.messages c.note_submission.ensures.learnt c.note_submission.ensures.count c.note_submission.ensures.numbers in
+    let n =
+    submission_noted 0 r c.reserve.new.self c.note_submission.new.journal
+    (done_by s c.in-Ok.out made.replica is c.in-Ok.ensures.told) c.self.invariant
+    c.reserve.ensures.messages c.reserve.ensures.learnt c.reserve.ensures.count c.note_submission.ensures.step
+    c.note_submission.ensures.messages c.note_submission.ensures.learnt c.note_submission.ensures.count
+    c.note_submission.ensures.numbers in
     noted_prints n (submission_is_named s c.in-Ok.out made.replica is c.in-Ok.ensures.told)

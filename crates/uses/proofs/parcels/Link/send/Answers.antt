@@ -8,17 +8,26 @@ returns-in_err-hand_to c network = still_among c.args.self.now.parcels.items net
 
 pub loop-message-init : goal.loop-message-init
 loop-message-init c = record {
-  left = λ m has. subst (λ ms. Contains ms m) (c.in_ok-hand_to.ensures.ok ∙ ap (λ ms. ms ++ c.args.mail) c.new-messages.ensures.items) has;
+  left =
+      λ m has.
+      subst (λ ms. Contains ms m)
+      (c.in_ok-hand_to.ensures.ok ∙ ap (λ ms. ms ++ c.args.mail) c.new-messages.ensures.items) has;
   along = λ network. still_among c.args.self.now.parcels.items network c.args.mail;
 }
 
 pub loop-message-preserved : goal.loop-message-preserved
 loop-message-preserved c = record {
-  left = λ m has. c.loop-message.invariant.left m (subst (λ ms. Contains ms m) (sym c.in-Some.ensures.items) (Contains-append_right (c.in-Some.message ∷ []) c.pop_front.new.self.items m has));
+  left =
+      λ m has.
+      c.loop-message.invariant.left m
+      (subst (λ ms. Contains ms m) (sym c.in-Some.ensures.items)
+      (Contains-append_right (c.in-Some.message ∷ []) c.pop_front.new.self.items m has));
   along = λ network among.
       let m = c.in-Some.message in
       c.send_one.ensures (network ++ c.args.mail)
-      (Contains-append_right network c.args.mail m (c.loop-message.invariant.left m (subst (λ ms. Contains ms m) (sym c.in-Some.ensures.items) (0, omega arith, refl))))
+      (Contains-append_right network c.args.mail m
+      (c.loop-message.invariant.left m
+      (subst (λ ms. Contains ms m) (sym c.in-Some.ensures.items) (0, omega arith, refl))))
       (c.loop-message.invariant.along network among);
 }
 
@@ -26,5 +35,7 @@ pub returns-in_err-send_one : goal.returns-in_err-send_one
 returns-in_err-send_one c network among =
     let m = c.in-Some.message in
     c.send_one.ensures (network ++ c.args.mail)
-    (Contains-append_right network c.args.mail m (c.loop-message.invariant.left m (subst (λ ms. Contains ms m) (sym c.in-Some.ensures.items) (0, omega arith, refl))))
+    (Contains-append_right network c.args.mail m
+    (c.loop-message.invariant.left m
+    (subst (λ ms. Contains ms m) (sym c.in-Some.ensures.items) (0, omega arith, refl))))
     (c.loop-message.invariant.along network among)

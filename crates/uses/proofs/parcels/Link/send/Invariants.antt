@@ -7,7 +7,8 @@ use Rattle.uses.proofs.parcels.Link.send.Given as goal
 abbrev pub invariant-loop-message : goal.invariant-loop-message
 invariant-loop-message l = record {
   left : (m : Message) → Contains l.messages.items m → Contains l.fn.mail m;
-  along : (network : List Message) → AreParcelsAmong l.fn.self.parcels.items network → AreParcelsAmong l.self.parcels.items (network ++ l.fn.mail);
+  along : (network : List Message) → AreParcelsAmong l.fn.self.parcels.items network
+      → AreParcelsAmong l.self.parcels.items (network ++ l.fn.mail);
 }
 
 abbrev pub decreases-loop-message : goal.decreases-loop-message

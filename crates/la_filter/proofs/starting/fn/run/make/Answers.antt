@@ -9,5 +9,6 @@ use Rattle.la_filter.proofs.starting.fn.run.make.Goals as goal
 pub three-requires-clause-counter : goal.three-requires-clause-counter
 unfolding dyn-1
 three-requires-clause-counter g c κs =
-    read_made g.dyn-1.0 _ _ ((has-1-1 g.dyn-1.0 g.dyn-1-has).same tt) State (λ j d. j.1.state d) _ _ c.in_ok-new.field-0.value c.into_dyn_box.ensures.1
+    read_made g.dyn-1.0 _ _ ((has-1-1 g.dyn-1.0 g.dyn-1-has).same tt) State (λ j d. j.1.state d) _ _
+    c.in_ok-new.field-0.value c.into_dyn_box.ensures.1
     ∙ ap (λ s. Counter s.up s.down) c.in_ok-new.ensures.ok ∙ c.new.ensures

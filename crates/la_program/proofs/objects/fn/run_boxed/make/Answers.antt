@@ -10,5 +10,6 @@ use Rattle.la_program.proofs.objects.fn.run_boxed.make.Goals as goal
 pub numbered-requires-clause-set : goal.numbered-requires-clause-set
 unfolding dyn-1
 numbered-requires-clause-set g c κs =
-    read_made g.dyn-1.0 _ _ ((has-1-1 g.dyn-1.0 g.dyn-1-has).same tt) State (λ j d. j.1.state d) _ _ c.in_ok-new.field-0.value c.into_dyn_box.ensures.1
+    read_made g.dyn-1.0 _ _ ((has-1-1 g.dyn-1.0 g.dyn-1-has).same tt) State (λ j d. j.1.state d) _ _
+    c.in_ok-new.field-0.value c.into_dyn_box.ensures.1
     ∙ ap (λ s. Set (adds_of s.puts) (gone_of s.early s.puts)) c.in_ok-new.ensures.ok ∙ c.new.ensures
