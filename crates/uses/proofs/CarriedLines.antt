@@ -2,14 +2,14 @@
 use Rattle.std.proofs.Common.{◌≡◌, ℕ, List, Option, Some, None, Result, Ok, Err, IfOk, IfSome, sym, ap, ◌∙◌}
 use Rattle.la_replica.specs.declared.message.Message.{Message}
 use Rattle.la_replica.specs.Alike.{AreAlike}
-use Rattle.la_lines.specs.declared.letter.Letter.{Letter}
-use Rattle.la_lines.specs.declared.error.LineError.{LineError}
-use Rattle.la_lines.specs.Messages as lines
-use Rattle.la_lines.specs.Messages.{said_by}
-use Rattle.la_lines.specs.MessageLines.{message_text}
-use Rattle.la_lines.specs.Calls.{Call, Receive}
-use Rattle.la_lines.specs.CallLines.{call_of, said, text, named}
-use Rattle.la_lines.specs.Writable.{IsCall, IsMessage}
+use Rattle.la_wire.specs.declared.letter.Letter.{Letter}
+use Rattle.la_wire.specs.declared.error.LineError.{LineError}
+use Rattle.la_wire.specs.Messages as lines
+use Rattle.la_wire.specs.Messages.{said_by}
+use Rattle.la_wire.specs.MessageLines.{message_text}
+use Rattle.la_wire.specs.Calls.{Call, Receive}
+use Rattle.la_wire.specs.CallLines.{call_of, said, text, named}
+use Rattle.la_wire.specs.Writable.{IsCall, IsMessage}
 
 module _ (back : (c : Call) → IsCall c → named (text c) ≡ Some c)
     (alike : (a b : Letter) → said_by a ≡ said_by b → AreAlike a.message b.message) where

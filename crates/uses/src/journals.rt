@@ -114,10 +114,10 @@ ghost use Rattle.la_journal.specs.Served.{alone, answered, LeadsToAtLeast};
 ghost use Rattle.la_journal.specs.Starts.{IsStart};
 ghost use Rattle.la_journal.specs.declared.durable.Refused.TheVariants.{Machine as ByMachine};
 
+use la_disk::{FileDisk, FolderLock};
 use la_journal::{
     Disk, Durable, MemoryDisk, Outlet, Refused, Unplayed, laws, recover, serve_all, start_again,
 };
-use la_journal_file::{FileDisk, FolderLock};
 use std::io;
 
 /// A machine as its journal says, ready to be asked: all that was answered before is played, and is on

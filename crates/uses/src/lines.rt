@@ -1,14 +1,14 @@
 // Messages of a group that go as lines of text.
 ghost use Rattle.std.specs.Prelude.{◌≡◌, Ok, IfOk, IfSome};
 ghost use Rattle.la_replica.specs.Alike.{AreAlike};
-ghost use Rattle.la_lines.specs.Messages.{said_by};
-ghost use Rattle.la_lines.specs.MessageLines.{message_text};
-ghost use Rattle.la_lines.specs.Calls.{Receive};
-ghost use Rattle.la_lines.specs.CallLines.{call_of};
-ghost use Rattle.la_lines.specs.Writable.{IsMessage};
+ghost use Rattle.la_wire.specs.Messages.{said_by};
+ghost use Rattle.la_wire.specs.MessageLines.{message_text};
+ghost use Rattle.la_wire.specs.Calls.{Receive};
+ghost use Rattle.la_wire.specs.CallLines.{call_of};
+ghost use Rattle.la_wire.specs.Writable.{IsMessage};
 
-use la_lines::{Call, LineError, laws, put_message, read_bounded};
 use la_replica::Message;
+use la_wire::{Call, LineError, laws, put_message, read_bounded};
 use std::alloc::{AllocError, Global};
 
 /// The line on which a message goes, in a group of so many replicas.

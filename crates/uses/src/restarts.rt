@@ -7,13 +7,13 @@ ghost use Rattle.la_journal.specs.Durable.{IsSettled};
 ghost use Rattle.la_replica.specs.declared.message.Message.{Message};
 ghost use Rattle.la_world.specs.Nodes.{NodeState};
 ghost use Rattle.la_world.specs.LiveGroups.{AreLive};
-ghost use Rattle.la_node.specs.CallLines.{CallLine};
-ghost use Rattle.la_node.specs.Nodes.{step};
-ghost use Rattle.la_node.specs.Restarts.{IsHanded, kept_state, leads_from};
+ghost use Rattle.la_durable.specs.CallLines.{CallLine};
+ghost use Rattle.la_durable.specs.Nodes.{step};
+ghost use Rattle.la_durable.specs.Restarts.{IsHanded, kept_state, leads_from};
 
+use la_durable::{Input, NodeError, NodeMachine, laws};
 use la_journal::{Disk, Durable, Refused, Unplayed, recover};
-use la_lines::LineError;
-use la_node::{Input, NodeError, NodeMachine, laws};
+use la_wire::LineError;
 use la_world::Received;
 use std::alloc::Global;
 

@@ -1,6 +1,6 @@
 use Rattle.std.proofs.Common.{refl}
-use Rattle.la_node.specs.Nodes.{KeptState}
-use Rattle.la_node.specs.Restarts.{kept_state}
+use Rattle.la_durable.specs.Nodes.{KeptState}
+use Rattle.la_durable.specs.Restarts.{kept_state}
 use Rattle.uses.proofs.restarts.restart.Goals as goal
 
 pub returns-in-Ok-clause-live : goal.returns-in-Ok-clause-live

@@ -1,5 +1,0 @@
-use Rattle.checks_contracts.proofs.SetAnswers.{one_order}
-use Rattle.checks_contracts.proofs.set.exactness.order_is_exact.Goals as goal
-
-pub returns : goal.returns
-returns c = one_order c.args.set.now c.args.other.now c.order.result c.order-2.result c.order.ensures c.order-2.ensures

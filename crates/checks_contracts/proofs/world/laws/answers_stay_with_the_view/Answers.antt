@@ -1,5 +1,0 @@
-use Rattle.checks_contracts.proofs.WorldLaws.{answers_stay}
-use Rattle.checks_contracts.proofs.world.laws.answers_stay_with_the_view.Goals as goal
-
-pub returns : goal.returns
-returns c = answers_stay c.answers_are_values.ensures

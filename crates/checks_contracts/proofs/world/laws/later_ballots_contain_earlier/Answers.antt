@@ -1,5 +1,0 @@
-use Rattle.checks_contracts.proofs.WorldLaws.{ballots_contain}
-use Rattle.checks_contracts.proofs.world.laws.later_ballots_contain_earlier.Goals as goal
-
-pub returns : goal.returns
-returns c = ballots_contain c.ballots_grow.ensures

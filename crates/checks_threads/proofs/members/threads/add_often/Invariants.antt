@@ -1,5 +1,0 @@
-use Rattle.la_runner.specs.Members.{IsOf}
-use Rattle.checks_threads.proofs.members.threads.add_often.Given as goal
-
-abbrev pub invariant-loop : goal.invariant-loop
-invariant-loop g l = IsOf l.group l.member

@@ -1,8 +1,0 @@
-// What scenes come to.
-use checks_memory::Came;
-use std::process::Abort;
-
-/// Stops a test whose scenes did not end well.
-pub fn holds(rt: &impl Abort, came: Came) {
-    assert!(rt; came != Some(false), "a scene");
-}

@@ -1,0 +1,16 @@
+use Rattle.std.proofs.Common.{ap}
+use Rattle.la_set.specs.Counts.{zero_counts}
+use Rattle.la_set.specs.ObjectOps.{ObjectOp}
+use Rattle.la_set.specs.declared.update.Op.TheVariants.{Inc}
+use Rattle.la_replica.specs.ReplicaState.{submits}
+use Rattle.exactness.proofs.Carried.{told_in, outs_agree}
+use Rattle.exactness.proofs.replica.exactness.submit_is_exact.Goals as goal
+
+pub returns-clause-answers : goal.returns-clause-answers
+returns-clause-answers c =
+    let d : ObjectOp = record { object = 1; op = Inc c.args.by } in
+    let one = c.submit.new.self in let other = c.submit-2.new.self in
+    outs_agree zero_counts _ _ c.submit.result c.submit-2.result one other
+    (ap (λ r. submits r c.args.instance d) c.requires) c.submit.ensures.step c.submit-2.ensures.step
+    (told_in one c.args.instance zero_counts c.submit.result (c.submit.ensures.told zero_counts))
+    (told_in other c.args.instance zero_counts c.submit-2.result (c.submit-2.ensures.told zero_counts))

@@ -1,0 +1,45 @@
+use Rattle.std.proofs.Common.{codes, arith}
+use Rattle.std.specs.Str.Parse.{ParsesUnsigned, ExplainsUnsignedError, HasUnsignedDigitsIfOk}
+use Rattle.clap.specs.Words.{found_of}
+use Rattle.la_cli.proofs.lemmas.GivenNumbers.{some_number, taken_is_given}
+use Rattle.la_cli.proofs.call.drawn.Goals as goal
+
+pub unwrap-requires : goal.unwrap-requires
+unwrap-requires c =
+    some_number 32 (λ bs r. ParsesUnsigned 32 10 bs r × ExplainsUnsignedError 10 bs r × HasUnsignedDigitsIfOk bs r)
+    (found_of c.args.given.now) (codes "seed") 0 4294967295 c.get_one.result c.requires.seed (omega arith)
+    c.get_one.ensures.value (λ u x g. g.0)
+
+pub unwrap-requires-2 : goal.unwrap-requires-2
+unwrap-requires-2 c =
+    some_number 8 (λ bs r. ParsesUnsigned 8 10 bs r × ExplainsUnsignedError 10 bs r × HasUnsignedDigitsIfOk bs r)
+    (found_of c.args.given.now) (codes "replicas") 1 8 c.get_one-2.result c.requires.replicas (omega arith)
+    c.get_one-2.ensures.value (λ u x g. g.0)
+
+pub unwrap-requires-3 : goal.unwrap-requires-3
+unwrap-requires-3 c =
+    some_number 32 (λ bs r. ParsesUnsigned 32 10 bs r × ExplainsUnsignedError 10 bs r × HasUnsignedDigitsIfOk bs r)
+    (found_of c.args.given.now) (codes "events") 1 10000 c.get_one-3.result c.requires.events (omega arith)
+    c.get_one-3.ensures.value (λ u x g. g.0)
+
+pub returns : goal.returns
+returns c =
+    let found = found_of c.args.given.now in
+    let seed =
+    taken_is_given 32 (λ bs r. ParsesUnsigned 32 10 bs r × ExplainsUnsignedError 10 bs r × HasUnsignedDigitsIfOk bs r)
+    found (codes "seed") 0 4294967295 c.get_one.result c.unwrap.result c.requires.seed (omega arith)
+    c.unwrap.ensures c.get_one.ensures.none c.get_one.ensures.value (λ u x g. g.0) in
+    let replicas =
+    taken_is_given 8 (λ bs r. ParsesUnsigned 8 10 bs r × ExplainsUnsignedError 10 bs r × HasUnsignedDigitsIfOk bs r)
+    found (codes "replicas") 1 8 c.get_one-2.result c.unwrap-2.result c.requires.replicas (omega arith)
+    c.unwrap-2.ensures c.get_one-2.ensures.none c.get_one-2.ensures.value (λ u x g. g.0) in
+    let events =
+    taken_is_given 32 (λ bs r. ParsesUnsigned 32 10 bs r × ExplainsUnsignedError 10 bs r × HasUnsignedDigitsIfOk bs r)
+    found (codes "events") 1 10000 c.get_one-3.result c.unwrap-3.result c.requires.events (omega arith)
+    c.unwrap-3.ensures c.get_one-3.ensures.none c.get_one-3.ensures.value (λ u x g. g.0) in
+    record {
+      seed_given = seed.0;
+      replicas_given = replicas.0;
+      events_given = events.0;
+      in_range = record { some_replicas = replicas.1; few_replicas = replicas.2; some_events = events.1; few_events = events.2 };
+    }

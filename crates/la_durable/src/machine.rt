@@ -1,0 +1,218 @@
+ghost use Rattle.std.specs.Prelude.{◌≡◌, ◌⊎◌, Some, None, IfOk, IfErr, OnOk, OnErr};
+ghost use Rattle.la_wire.specs.Calls.{called, Submit, Decide, Receive};
+ghost use Rattle.la_wire.specs.Messages.{said_by};
+ghost use Rattle.la_world.specs.Groups.{IsConfig};
+ghost use Rattle.la_world.specs.Nodes.{node_at_start, IsStartRefusal};
+ghost use Rattle.la_durable.specs.Given.{given_of};
+ghost use Rattle.la_durable.specs.Nodes.{KeptState, no_objects, acts};
+ghost use Rattle.la_durable.specs.Errors.{IsForMemory, IsActRefusal};
+ghost use Rattle.la_durable.specs.Errors.{RefusesSubmission, RefusesProposal, RefusesLetter};
+
+use crate::{Input, NodeError};
+use la_journal::Machine;
+use la_object::{Counter, Shelf};
+use la_replica::Out;
+use la_set::Op;
+use la_wire::{Call, Letter};
+use la_world::{Config, Done, Node, Received, WorldError};
+use std::alloc::{AllocError, Global};
+
+/// A node without objects as a machine. Questions are for a shelf of the caller's, of whatever objects,
+/// which absorbs the node's view: what it has absorbed is not kept, and is had anew.
+#[derive(Drop)]
+pub struct NodeMachine {
+    pub node: Node<Counter>,
+    /// How many replicas its group has.
+    pub replicas: u8,
+}
+
+impl NodeMachine {
+    /// Replica `own` of a group, in which nothing has happened, with the errors of [`Node::new`].
+    pub fn new(alloc: Global, config: Config, own: u8) -> Result<NodeMachine, WorldError>
+        ensures start { IfOk result (λ machine. machine
+            ≡ record { node = node_at_start config own no_objects; replicas = config.replicas }) }
+        ensures group { OnOk result (IsConfig config) }
+        ensures error { IfErr result (IsStartRefusal config own no_objects) }
+    {
+        Ok(NodeMachine {
+            node: Node::new(alloc, config, own, Shelf::new(alloc))?,
+            replicas: config.replicas,
+        })
+    }
+
+    /// Takes a call, without any journal: a submission, a proposal or a message, at the cost of the node's.
+    ///
+    /// In this order: `Unkept`; `Elsewhere`; what the node refuses, `Memory` where nothing else fits; but a
+    /// submission's operation is copied first, so that `Memory` may come before the cap is looked at.
+    pub fn act(&mut self, call: &Call) -> Result<Received, NodeError>
+        ensures ok { IfOk result (λ given.
+            acts (record { replicas = self.old.replicas; replica = self.old.node.replica }) (called call.now)
+            ≡ Some (given_of given, record { replicas = self.new.replicas; replica = self.new.node.replica })) }
+        ensures error { IfErr result (λ e. IsForMemory e
+            ⊎ (acts (record { replicas = self.old.replicas; replica = self.old.node.replica }) (called call.now)
+            ≡ None)) }
+        ensures refusal { IfErr result (IsActRefusal
+            (record { replicas = self.old.replicas; replica = self.old.node.replica }) call.now) }
+        ensures err { OnErr result (self.new ≡ self.old) }
+    {
+        match call {
+            Call::Submit {
+                replica,
+                object,
+                op,
+            } => self.submit(*replica, *object, op),
+            Call::Decide {
+                replica,
+                commit,
+                value,
+            } => self.propose(*replica, *commit, *value),
+            Call::Receive(letter) => self.receive(letter),
+            Call::Ask {
+                replica: _,
+                object: _,
+                query: _,
+            } => Err(NodeError::Unkept),
+            Call::Tick => Err(NodeError::Unkept),
+        }
+    }
+
+    #[tactic(auto, using(crate::proofs::Acting::submitted_acts, crate::proofs::Acting::submission_elsewhere, crate::proofs::Acting::refusal_of_submission, crate::proofs::Naming::named_of_copied))]
+    fn submit(&mut self, replica: u8, object: u16, op: &Op) -> Result<Received, NodeError>
+        ensures ok { IfOk result (λ given.
+            acts (record { replicas = self.old.replicas; replica = self.old.node.replica }) (Submit replica object op.now)
+            ≡ Some (given_of given, record { replicas = self.new.replicas; replica = self.new.node.replica })) }
+        ensures error { IfErr result (λ e. IsForMemory e
+            ⊎ (acts (record { replicas = self.old.replicas; replica = self.old.node.replica }) (Submit replica object op.now)
+            ≡ None)) }
+        ensures refusal { IfErr result (RefusesSubmission self.old.node.replica replica) }
+        ensures err { OnErr result (self.new ≡ self.old) }
+    {
+        if replica != self.node.own() {
+            return Err(NodeError::Elsewhere);
+        }
+        match self.node.submit(object, op.copy()?) {
+            Ok(out) => Ok(answered(out)),
+            Err(refused) => Err(NodeError::from(refused)),
+        }
+    }
+
+    #[tactic(auto, using(crate::proofs::Acting::proposed_acts, crate::proofs::Acting::proposal_elsewhere, crate::proofs::Acting::refusal_of_proposal, crate::proofs::Naming::named_by_proposal))]
+    fn propose(&mut self, replica: u8, commit: u8, value: u64) -> Result<Received, NodeError>
+        ensures ok { IfOk result (λ given.
+            acts (record { replicas = self.old.replicas; replica = self.old.node.replica }) (Decide replica commit value)
+            ≡ Some (given_of given, record { replicas = self.new.replicas; replica = self.new.node.replica })) }
+        ensures error { IfErr result (λ e. IsForMemory e
+            ⊎ (acts (record { replicas = self.old.replicas; replica = self.old.node.replica }) (Decide replica commit value)
+            ≡ None)) }
+        ensures refusal { IfErr result (RefusesProposal self.old.node.replica replica commit) }
+        ensures err { OnErr result (self.new ≡ self.old) }
+    {
+        if replica != self.node.own() {
+            return Err(NodeError::Elsewhere);
+        }
+        match self.node.propose(commit, value) {
+            Ok(out) => Ok(answered(out)),
+            Err(refused) => Err(NodeError::from(refused)),
+        }
+    }
+
+    #[tactic(auto, using(crate::proofs::Acting::received_acts, crate::proofs::Acting::message_elsewhere, crate::proofs::Acting::refusal_of_message, crate::proofs::Naming::named_by_replica))]
+    fn receive(&mut self, letter: &Letter) -> Result<Received, NodeError>
+        ensures ok { IfOk result (λ given.
+            acts (record { replicas = self.old.replicas; replica = self.old.node.replica }) (Receive (said_by letter.now))
+            ≡ Some (given_of given, record { replicas = self.new.replicas; replica = self.new.node.replica })) }
+        ensures error { IfErr result (λ e. IsForMemory e
+            ⊎ (acts (record { replicas = self.old.replicas; replica = self.old.node.replica }) (Receive (said_by letter.now))
+            ≡ None)) }
+        ensures refusal { IfErr result (RefusesLetter self.old.node.replica self.old.replicas letter.now) }
+        ensures err { OnErr result (self.new ≡ self.old) }
+    {
+        if letter.replicas != self.replicas {
+            return Err(NodeError::Elsewhere);
+        }
+        match self.node.receive(&letter.message) {
+            Ok(received) => Ok(received),
+            Err(refused) => Err(NodeError::from(refused)),
+        }
+    }
+}
+
+// What is given out for a submission or a proposal.
+fn answered(out: Out) -> Received
+    ensures { result ≡ record {
+      done = record { said = out.said; voted = None; mail = out.mail };
+      outcome = None;
+    } }
+{
+    Received {
+        done: Done {
+            said: out.said,
+            voted: None,
+            mail: out.mail,
+        },
+        outcome: None,
+    }
+}
+
+impl Machine for NodeMachine {
+    ghost use Rattle.std.specs.Prelude.{Option};
+    ghost use Rattle.la_durable.specs.CallLines.{CallLine, call_line, or_tick, round_trip, clean};
+    ghost use Rattle.la_durable.specs.Given.{Given};
+    ghost use Rattle.la_durable.specs.Nodes.{step, answers};
+
+    type Input = Input;
+
+    type Output = Received;
+
+    type Refusal = NodeError;
+
+    ghost State = { KeptState };
+
+    ghost state = { λ m. record { replicas = m.replicas; replica = m.node.replica } };
+
+    ghost Call = { CallLine };
+
+    ghost call = { λ i. or_tick (call_line i.line) };
+
+    ghost step = { step };
+
+    ghost Answer = { Option Given };
+
+    ghost answer = { λ given. Some (given_of given) };
+
+    ghost answers = { answers };
+
+    ghost text = { λ c. c.line };
+
+    ghost named = { call_line };
+
+    ghost named_state = { λ _. None };
+
+    ghost lacks_memory = { IsForMemory };
+
+    ghost round_trip = { round_trip };
+
+    ghost clean = { clean };
+
+    fn apply(&mut self, input: &Input) -> Result<Received, NodeError> {
+        self.act(input.call())
+    }
+
+    fn write(alloc: Global, input: &Input) -> Result<Vec<u8>, AllocError> {
+        // with room for the line's end
+        let mut line = Vec::with_capacity(alloc, input.line().len().saturating_add(1))?;
+        line.extend_from_slice(input.line())?;
+        Ok(line)
+    }
+
+    fn read(alloc: Global, line: &[u8]) -> Result<Option<Input>, AllocError> {
+        match la_wire::named(alloc, line)? {
+            Some(call) => Input::of(alloc, line, call),
+            None => Ok(None),
+        }
+    }
+
+    fn read_state(&mut self, _alloc: Global, _bytes: &[u8]) -> Result<bool, AllocError> {
+        Ok(false)
+    }
+}

@@ -1,0 +1,73 @@
+-- Lines that a node writes: messages, and notes, which begin with `#`. Each ends with LF.
+use Rattle.std.specs.Prelude.{ℕ, List, [], ◌∷◌, ◌++◌, codes}
+use Rattle.std.specs.List.{flat_map}
+use Rattle.std.specs.Fmt.{decimal}
+use Rattle.la_set.specs.declared.counts.Counts.{Counts}
+use Rattle.la_commit.specs.declared.outcome.Outcome.{Outcome}
+use Rattle.la_commit.specs.declared.outcome.Outcome.TheVariants.{Commit, Adopt}
+use Rattle.la_commit.specs.Outcomes.{value_of}
+use Rattle.la_object.specs.declared.query.Answer.{Answer}
+use Rattle.la_replica.specs.declared.message.Message.{Message}
+use Rattle.la_script.specs.Text.{id_text, answer_text}
+use Rattle.la_wire.specs.declared.error.LineFault.{LineFault}
+use Rattle.la_wire.specs.declared.error.LineFault.TheVariants as line
+use Rattle.la_wire.specs.Joined.{spaced}
+use Rattle.la_wire.specs.Messages.{said_by}
+use Rattle.la_wire.specs.MessageLines.{count_words, message_text}
+
+-- ## Notes
+
+-- what a replica notes, word by word
+abbrev pub note : (own : ℕ) → List (List ℕ) → List ℕ
+note own words = codes "# r" ++ decimal own ++ spaced 32 words ++ 10 ∷ []
+
+-- its update with this number was submitted
+abbrev pub submitted_note : (own number : ℕ) → List ℕ
+submitted_note own number = note own (codes "submitted" ∷ id_text (record { replica = own; number = number }) ∷ [])
+
+-- its value was proposed to an adopt-commit object
+abbrev pub proposed_note : (own commit : ℕ) → List ℕ
+proposed_note own commit = note own (codes "proposed" ∷ decimal commit ∷ [])
+
+-- in an instance the set of a ballot was learnt, which has so many updates of each replica
+abbrev pub learnt_note : (own instance ballot : ℕ) → Counts → List ℕ
+learnt_note own instance ballot counts =
+    note own (codes "learnt" ∷ decimal instance ∷ decimal ballot ∷ count_words counts)
+
+-- its view has so many updates of each replica now
+abbrev pub view_note : (own : ℕ) → Counts → List ℕ
+view_note own counts = note own (codes "view" ∷ count_words counts)
+
+abbrev pub outcome_word : Outcome → List ℕ
+outcome_word (Commit value) = codes "commit"
+outcome_word (Adopt value) = codes "adopt"
+
+-- it returns this from an adopt-commit object
+abbrev pub outcome_note : (own commit : ℕ) → Outcome → List ℕ
+outcome_note own commit o = note own (codes "outcome" ∷ decimal commit ∷ outcome_word o ∷ decimal (value_of o) ∷ [])
+
+-- an object on its shelf answered this
+abbrev pub answered_note : (own object : ℕ) → Answer → List ℕ
+answered_note own object answer = note own (codes "answered" ∷ decimal object ∷ answer_text answer ∷ [])
+
+-- the line with this number, from 1, was refused
+abbrev pub refused_note : (own number : ℕ) → (name : List ℕ) → List ℕ
+refused_note own number name = note own (codes "refused" ∷ decimal number ∷ name ∷ [])
+
+abbrev pub fault_name : LineFault → List ℕ
+fault_name line.TooLong = codes "TooLong"
+fault_name line.BadLine = codes "BadLine"
+fault_name line.BadNumber = codes "BadNumber"
+fault_name line.BadSet = codes "BadSet"
+
+-- what is told on standard error of a line that has a fault
+abbrev pub fault_line : (number : ℕ) → LineFault → List ℕ
+fault_line number fault = codes "line " ++ decimal number ++ codes ": " ++ fault_name fault ++ 10 ∷ []
+
+-- ## Messages
+
+abbrev pub message_line : (replicas : ℕ) → Message → List ℕ
+message_line replicas m = message_text (said_by (record { replicas = replicas; message = m })) ++ 10 ∷ []
+
+abbrev pub mail_text : (replicas : ℕ) → List Message → List ℕ
+mail_text replicas mail = flat_map (message_line replicas) mail

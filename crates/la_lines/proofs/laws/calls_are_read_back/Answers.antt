@@ -1,7 +1,0 @@
-use Rattle.std.proofs.Common.{ap}
-use Rattle.la_lines.specs.CallLines.{said}
-use Rattle.la_lines.proofs.CallsBack.{call-back}
-use Rattle.la_lines.proofs.laws.calls_are_read_back.Goals as goal
-
-pub returns : goal.returns
-returns c = λ call is. ap said (call-back call is)

@@ -1,5 +1,0 @@
-use Rattle.la_node.proofs.Restarts.{views_grow as grow}
-use Rattle.la_node.proofs.laws.views_grow.Goals as goal
-
-pub returns : goal.returns
-returns c = grow

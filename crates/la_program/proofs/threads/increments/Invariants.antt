@@ -1,6 +1,0 @@
-use Rattle.std.proofs.Common.{◌≡◌}
-use Rattle.la_program.specs.Threads.{increments}
-use Rattle.la_program.proofs.threads.increments.Given as goal
-
-abbrev pub invariant-loop : goal.invariant-loop
-invariant-loop l = l.jobs.items ≡ increments l.counter

@@ -1,0 +1,112 @@
+-- What the journal says of lines that were taken.
+use Rattle.std.proofs.Common.{◌≡◌, ◌⊎◌, inl, inr, ℕ, ◌+◌, ◌||◌, Bool, true, false, List, [], ◌∷◌, ◌++◌, length, map, refl, sym, ap, subst, ◌∙◌, Option, Some, None, option_map, nat_lt}
+use Rattle.la_object.specs.declared.kind.Kind.{Kind}
+use Rattle.la_object.specs.declared.query.Answer.{Answer}
+use Rattle.la_object.specs.Shelves.{answer_at}
+use Rattle.la_journal.specs.Machine.{steps, steps_from}
+use Rattle.la_wire.specs.declared.calls.TheConstants.{MAX_LINE}
+use Rattle.la_wire.specs.declared.error.LineFault.TheVariants.{TooLong}
+use Rattle.la_wire.specs.Calls.{Call, Submit, Decide, Ask, Tick, Receive}
+use Rattle.la_wire.specs.CallLines.{named}
+use Rattle.la_durable.specs.declared.error.NodeError.TheVariants.{Memory}
+use Rattle.la_durable.specs.Given.{Given}
+use Rattle.la_durable.specs.Nodes.{KeptState, acts_by, step}
+use Rattle.la_durable.specs.CallLines.{CallLine, is_line}
+use Rattle.la_serve.specs.Turns.{Turn, only, refused, faulty, answered, question, is_note, is_elsewhere, is_stale, OneOf, IsTaken, IsStarved, IsKeptTurn, IsTurnHere, Says, IsShortTurn, IsTurn}
+use Rattle.la_serve.specs.Serving.{AreTurns, kept}
+
+-- a turn by which the journal gains nothing, and nothing changes
+abbrev IsStill : KeptState → Turn → Type 0
+IsStill n t = (t.kept ≡ []) × (t.after ≡ n)
+
+-- a turn by which it gains a line, and the state is the next
+abbrev IsStep : KeptState → Turn → Type 0
+IsStep n t = (c : CallLine) × (t.kept ≡ c.line ∷ []) × (step n c ≡ Some t.after)
+
+abbrev Goes : KeptState → Turn → Type 0
+Goes n t = IsStill n t ⊎ IsStep n t
+
+one_of : {A B : Type 0} (b : Bool) → OneOf b A B → A ⊎ B
+one_of true a = inl a
+one_of false b = inr b
+
+still : (n : KeptState) (t u : Turn) → t ≡ u → IsStill n u → IsStill n t
+still n t u is s = subst (IsStill n) (sym is) s
+
+answered_still : (n : KeptState) (k object : ℕ) (line : List ℕ) (o : Option Answer)
+    → IsStill n (answered n k object line o)
+answered_still n k object line None = (refl, refl)
+answered_still n k object line (Some answer) = (refl, refl)
+
+module _ (objects : List (ℕ × Kind)) (n : KeptState) (k : ℕ) (t : Turn) where
+  starved_goes : IsStarved n k t → Goes n t
+  starved_goes is = inl (still n t (refused n k t.line Memory) is (refl, refl))
+
+  module _ (call : Call) (stands : is_line t.line ≡ true) (says : named t.line ≡ Some call) where
+    taken_goes : IsTaken n call t → IsStep n t
+    taken_goes taken = (
+      record { line = t.line; says = stands },
+      taken.journal,
+      ap (λ o. option_map (λ (made : Given × KeptState). made.1) (acts_by n o)) says
+          ∙ ap (option_map (λ (made : Given × KeptState). made.1)) taken.acted,
+    )
+
+    kept_goes : IsKeptTurn n k call t → Goes n t
+    kept_goes (inl taken) = inr (taken_goes taken)
+    kept_goes (inr not) = inl (still n t (refused n k t.line not.why) not.turn (refl, refl))
+
+  here_goes : (call : Call) → is_line t.line ≡ true → named t.line ≡ Some call → IsTurnHere objects n k call t
+      → Goes n t
+  here_goes (Submit replica object op) stands says is = kept_goes (Submit replica object op) stands says is
+  here_goes (Decide replica commit value) stands says is = kept_goes (Decide replica commit value) stands says is
+  here_goes (Ask replica object query) stands says (inl is) =
+      inl (still n t (question objects n k object query t.line) is (answered_still n k object t.line (answer_at (record { view = n.replica.view; objects = objects }) object query)))
+  here_goes (Ask replica object query) stands says (inr is) = starved_goes is
+  here_goes Tick stands says (inl again) = inl (still n t _ again.turn (refl, refl))
+  here_goes Tick stands says (inr is) = starved_goes is
+  here_goes (Receive m) stands says is = kept_goes (Receive m) stands says is
+
+  says_goes : Says objects n k t → Goes n t
+  says_goes s = elim (one_of (is_elsewhere n s.call || is_stale n s.call) s.turn) [
+    | inl passed ↦ inl (still n t (only n t.line []) passed (refl, refl))
+    | inr here ↦ here_goes s.call s.stands s.says here
+  ]
+
+  short_goes : IsShortTurn objects n k t → Goes n t
+  short_goes is = elim (one_of (is_note t.line) is) [
+    | inl note ↦ inl (still n t (only n t.line []) note (refl, refl))
+    | inr (inl says) ↦ says_goes says
+    | inr (inr (inl has)) ↦ inl (still n t (faulty n k t.line has.fault) has.turn (refl, refl))
+    | inr (inr (inr starved)) ↦ starved_goes starved
+  ]
+
+  turn_goes : IsTurn objects n k t → Goes n t
+  unfolding IsTurn
+  turn_goes is = elim (one_of (nat_lt MAX_LINE (length t.line)) is) [
+    | inl long ↦ inl (still n t (faulty n k t.line TooLong) long (refl, refl))
+    | inr short ↦ short_goes short
+  ]
+
+-- the calls of the lines that the journal gains by these turns, and where they lead
+pub record Led (n after : KeptState) (turns : List Turn) : Type 0 where
+  pub calls : List CallLine
+  pub lines : kept turns ≡ map (λ (c : CallLine). c.line) calls
+  pub led : steps step calls n ≡ Some after
+
+pub turns_lead : (objects : List (ℕ × Kind)) (n : KeptState) (k : ℕ) (turns : List Turn) (after : KeptState)
+    → AreTurns objects n k turns after → Led n after turns
+turns_lead objects n k [] after are = record { calls = []; lines = refl; led = ap Some (sym are) }
+turns_lead objects n k (t ∷ turns) after are =
+    let rest = turns_lead objects t.after (k + 1) turns after are.1 in
+    elim (turn_goes objects n k t are.0) [
+      | inl same ↦ record {
+        calls = rest.calls;
+        lines = ap (λ (ls : List (List ℕ)). ls ++ kept turns) same.0 ∙ rest.lines;
+        led = ap (steps step rest.calls) (sym same.1) ∙ rest.led;
+      }
+      | inr next ↦ record {
+        calls = next.0 ∷ rest.calls;
+        lines = (λ i. next.1 i ++ rest.lines i);
+        led = ap (steps_from step rest.calls) next.2 ∙ rest.led;
+      }
+    ]

@@ -1,0 +1,131 @@
+-- What the words of `lattice node` say, the program's name first, by what `clap` makes of them.
+use Rattle.std.specs.Prelude.{◌≡◌, ℕ, ◌≤◌, ⊤, List, [], ◌∷◌, Option, Some, None, true, codes, pos, replicate, string_bytes}
+use Rattle.std.specs.Str.Parse.{IsNumeral, without_leading_plus, digits_value}
+use Rattle.clap.specs.Words.{App, Row, Rule, Text, new_app, new_rule, with_rule, with_subcommand}
+use Rattle.clap.specs.Words.{fault_of, first_of, many_of, one_of, subcommand_of}
+use Rattle.clap.specs.declared.builder.value_parser.ValueParser.TheVariants.{Signed}
+use Rattle.la_cli.specs.Calls.{IsGiven, IsTaken, lattice_alone, option}
+use Rattle.la_proposer.specs.Majority.{IsGroup, votes_of}
+use Rattle.la_proposer.specs.declared.votes.Votes.{Votes}
+use Rattle.la_serve.specs.declared.options.Options.{Options}
+
+-- ## The command line
+
+-- an option `--NAME N`, with a number from `least` to `most`
+abbrev pub number : (name : Text) → (least most : ℕ) → Rule
+number name least most = record (new_rule name) {
+  long = Some name;
+  value_names = 1;
+  parser = Some (Signed (pos least) (pos most));
+}
+
+-- which replica it is, which must be said
+abbrev pub own : Rule
+own = record (number (codes "own") 0 7) { required = true }
+
+-- 1 to 8 numbers in one use
+abbrev pub votes : Rule
+votes = record (number (codes "votes") 1 1000) {
+  range = Some (record { start_inclusive = 1; end_inclusive = 8 });
+}
+
+-- the folder, which must be said
+abbrev pub journal : Rule
+journal = record (new_rule (codes "journal")) {
+  long = Some (codes "journal");
+  value_names = 1;
+  required = true;
+}
+
+abbrev pub node_named : App
+node_named =
+    let top = (new_app (codes "node")).top in
+    record {
+      top = record top { has_version = true };
+      subs = [];
+    }
+
+abbrev pub node : App
+node = with_rule
+    (with_rule
+    (with_rule
+    (with_rule
+    (with_rule
+    (with_rule node_named (option (codes "replicas") 1 8 (codes "3")))
+    own)
+    (option (codes "commits") 0 16 (codes "0")))
+    (option (codes "cap") 1 1000000 (codes "1000000")))
+    votes)
+    journal
+
+-- the program `lattice`, of whose subcommands this is the one that is read here
+abbrev pub lattice_node : App
+lattice_node = with_subcommand lattice_alone node.top
+
+-- ## What it says
+
+-- a text in its range stands for each number, and there is one for the folder
+pub record AreTaken (rows : List Row) : Type 0 where
+  pub replicas : IsTaken rows (codes "replicas") 1 8
+  pub own : IsTaken rows (codes "own") 0 7
+  pub commits : IsTaken rows (codes "commits") 0 16
+  pub cap : IsTaken rows (codes "cap") 1 1000000
+  pub journal : (folder : Text) × (one_of (codes "journal") rows ≡ Some folder)
+
+-- the text is this number
+pub record IsNumber (text : Text) (n : ℕ) : Type 0 where
+  pub numeral : IsNumeral 10 (without_leading_plus text)
+  pub value : n ≡ digits_value 10 (without_leading_plus text)
+
+-- the texts are these numbers, one by one
+abbrev pub AreNumbers : List Text → List ℕ → Type 0
+AreNumbers [] [] = ⊤
+AreNumbers [] (n ∷ ns) = ⊥
+AreNumbers (t ∷ ts) [] = ⊥
+AreNumbers (t ∷ ts) (n ∷ ns) = IsNumber t n × AreNumbers ts ns
+
+-- the votes that were given, which are those of a group; one for each replica, where none were
+abbrev pub AreVotes : (given : Option (List Text)) → (replicas : ℕ) → List ℕ → Type 0
+AreVotes None replicas votes = votes ≡ replicate replicas 1
+AreVotes (Some texts) replicas votes = AreNumbers texts votes × IsGroup votes
+
+-- votes were given that are those of no group
+abbrev pub AreNoVotes : (given : Option (List Text)) → Type 0
+AreNoVotes None = ⊥
+AreNoVotes (Some texts) = (votes : List ℕ) → AreNumbers texts votes → IsGroup votes → ⊥
+
+-- these are those votes, or there are none, and those that were given are those of no group
+abbrev pub IsVotes : (given : Option (List Text)) → (replicas : ℕ) → Option Votes → Type 0
+IsVotes given replicas None = AreNoVotes given
+IsVotes given replicas (Some votes) = AreVotes given replicas (votes_of votes)
+
+-- the numbers are in their ranges
+pub record AreInRange (replicas own commits cap : ℕ) : Type 0 where
+  pub some_replicas : 1 ≤ replicas
+  pub few_replicas : replicas ≤ 8
+  pub few_own : own ≤ 7
+  pub few_commits : commits ≤ 16
+  pub some_cap : 1 ≤ cap
+  pub most_cap : cap ≤ 1000000
+
+-- the options are those that were given, or their defaults, each in its range
+pub record AreOptions (rows : List Row) (options : Options) : Type 0 where
+  pub replicas_given : IsGiven rows (codes "replicas") options.config.replicas
+  pub own_given : IsGiven rows (codes "own") options.own
+  pub commits_given : IsGiven rows (codes "commits") options.config.commits
+  pub cap_given : IsGiven rows (codes "cap") options.config.cap
+  pub in_range : AreInRange options.config.replicas options.own options.config.commits options.config.cap
+  pub votes_given : AreVotes (many_of (codes "votes") rows) options.config.replicas (votes_of options.config.votes)
+  pub folder_given : first_of (codes "journal") rows ≡ Some (string_bytes options.folder)
+
+-- the same, or there are none, and the votes are those of no group
+abbrev pub Says : (rows : List Row) → Option Options → Type 0
+Says rows None = AreNoVotes (many_of (codes "votes") rows)
+Says rows (Some options) = AreOptions rows options
+
+-- nothing is wrong with the words, and they name a node, of which they say this
+pub record IsSaid (words : List Text) (said : Option Options) : Type 0 where
+  pub faultless : fault_of lattice_node words ≡ []
+  pub rows : List Row
+  pub named : subcommand_of lattice_node words ≡ Some (codes "node", rows)
+  pub says : Says rows said

@@ -1,0 +1,40 @@
+-- What is written of a line that the journal does not gain.
+use Rattle.std.specs.Prelude.{◌≡◌, ⊤, ℕ, List, codes, Option, Some, None}
+use Rattle.la_set.specs.declared.counts.Counts.{Counts}
+use Rattle.la_object.specs.declared.kind.Kind.{Kind}
+use Rattle.la_object.specs.declared.query.Query.{Query}
+use Rattle.la_object.specs.declared.query.Answer.{Answer}
+use Rattle.la_object.specs.Shelves.{answer_at}
+use Rattle.la_replica.specs.declared.message.Message as code
+use Rattle.la_replica.specs.Whole.{whole_mail}
+use Rattle.la_replica.specs.Again.{again}
+use Rattle.la_replica.specs.Bases.{AreToldIn}
+use Rattle.la_durable.specs.Nodes.{KeptState}
+use Rattle.la_io.specs.Notes.{answered_note, refused_note, mail_text}
+use Rattle.la_serve.specs.declared.said.Said.{Said}
+use Rattle.la_serve.specs.declared.said.Said.TheVariants as said
+
+-- what is written, of line k
+abbrev pub said_text : (own k : ℕ) → Said → List ℕ
+said_text own k (said.Lines text) = text.items
+said_text own k said.NoSuchObject = refused_note own k (codes "NoSuchObject")
+said_text own k said.Memory = refused_note own k (codes "Memory")
+
+-- an object's answer, or that there is no such object; or there was no memory
+abbrev pub IsSaidAnswer : (own object : ℕ) → Option Answer → Said → Type 0
+IsSaidAnswer own object o (said.Lines text) =
+    (answer : Answer) × (o ≡ Some answer) × (text.items ≡ answered_note own object answer)
+IsSaidAnswer own object o said.NoSuchObject = o ≡ None
+IsSaidAnswer own object o said.Memory = ⊤
+
+-- what a shelf of such objects answers by a node's view
+abbrev pub answer_by : List (ℕ × Kind) → KeptState → (object : ℕ) → Query → Option Answer
+answer_by objects n object query = answer_at (record { view = n.replica.view; objects = objects }) object query
+
+-- what waits for an answer, once more; or there was no memory
+abbrev pub IsSaidAgain : KeptState → Said → Type 0
+IsSaidAgain n (said.Lines text) =
+    (mail : List code.Message) × (whole_mail mail ≡ again n.replica)
+    × ((offered : Counts) → AreToldIn n.replica offered mail) × (text.items ≡ mail_text n.replicas mail)
+IsSaidAgain n said.NoSuchObject = ⊥
+IsSaidAgain n said.Memory = ⊤

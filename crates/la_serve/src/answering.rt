@@ -1,0 +1,353 @@
+// What a node does with one line.
+ghost use Rattle.std.specs.Prelude.{List, ℕ, ◌≡◌, ◌⊎◌, ◌≢◌, ◌+◌, ◌<◌, ◌≤◌, ◌++◌, ◌∷◌, [], length, false, true, Some, IfOk, IfErr, OnOk, OnErr};
+ghost use Rattle.std.specs.Io.KnownBytes.{Keeps};
+ghost use Rattle.la_cli.specs.Streams.{Writes, WritesPrefix};
+ghost use Rattle.la_journal.specs.Lines.{lines};
+ghost use Rattle.la_wire.specs.declared.calls.TheConstants.{MAX_LINE};
+ghost use Rattle.la_wire.specs.Calls.{called};
+ghost use Rattle.la_wire.specs.Messages.{said_body};
+ghost use Rattle.la_wire.specs.CallLines.{named};
+ghost use Rattle.la_serve.specs.declared.error.NodeFault.TheVariants.{WriteFault};
+ghost use Rattle.la_io.specs.Notes.{refused_note, fault_line};
+ghost use Rattle.la_io.specs.Streams.{Tells, TellsAll};
+ghost use Rattle.la_durable.specs.Restarts.{kept_state};
+ghost use Rattle.la_set.specs.Inclusion.{IsSubset};
+ghost use Rattle.la_serve.specs.Turns.{Turn, is_note, is_elsewhere, IsKeptTurn, IsAnswered, IsTicked, IsCallTurn, IsTurnHere, IsTurn, is_stale, is_known};
+ghost use Rattle.la_object.specs.Shelves.{answer_at};
+ghost use Rattle.la_serve.specs.Said.{said_text, IsSaidAnswer, answer_by, IsSaidAgain};
+ghost use Rattle.la_serve.specs.Serving.{Of, Takes, TakesCut, Breaks, TellsNothing};
+
+use crate::keeping::{Kept, keep};
+use crate::names::refusal_name;
+use crate::said::Said;
+use crate::texts::{answer_text, mail_text, text_of};
+use crate::{Filter, NodeFault};
+use la_cli::{Listener, WriteFailed};
+use la_durable::{Input, NodeMachine};
+use la_io::{refuse, tell_fault, write_lines};
+use la_journal::{Disk, Staged};
+use la_object::{Query, Replicated, Shelf, ShelfError};
+use la_replica::Body;
+use la_set::UpdateSet;
+use la_wire::{Call, LineError, LineFault};
+use std::alloc::Global;
+use std::io::Write;
+
+// Whether a line is passed over: it is empty, or a note.
+fn is_note(line: &[u8]) -> bool
+    ensures { result ≡ is_note line.now }
+{
+    match line.first() {
+        Some(first) => *first == b'#',
+        None => true,
+    }
+}
+
+// Whether a call is for another node.
+fn is_elsewhere(machine: &NodeMachine, call: &Call) -> bool
+    ensures { result ≡ is_elsewhere (kept_state machine.now.replicas machine.now.node) (called call.now) }
+{
+    let own = machine.node.own();
+    match call {
+        Call::Submit { replica, .. } | Call::Decide { replica, .. } | Call::Ask { replica, .. } => {
+            *replica != own
+        }
+        Call::Receive(letter) => letter.replicas != machine.replicas || letter.message.to != own,
+        Call::Tick => false,
+    }
+}
+
+// Whether a message brings no news.
+fn is_stale(machine: &NodeMachine, call: &Call) -> bool
+    ensures { result ≡ is_stale (kept_state machine.now.replicas machine.now.node) (called call.now) }
+{
+    match call {
+        Call::Receive(letter) => {
+            letter.message.instance == 0 && is_known(machine.node.view(), &letter.message.body)
+        }
+        Call::Submit { .. } | Call::Decide { .. } | Call::Ask { .. } | Call::Tick => false,
+    }
+}
+
+// Whether a view has all of a set that is told.
+fn is_known(view: &UpdateSet, body: &Body) -> bool
+    ensures { result ≡ is_known view.now (said_body body.now) }
+{
+    match body {
+        Body::Tell(told) => view.contains_all(told),
+        Body::Offer(_) | Body::Yes | Body::No(_) => false,
+    }
+}
+
+// A call that is kept: its line is staged.
+fn take<W: Write, D: Disk>(
+    alloc: Global,
+    node: &mut Staged<NodeMachine, D>,
+    number: u64,
+    input: &Input,
+    output: &mut W,
+) -> Result<(), NodeFault>
+    requires unclosed { node.old.durable.closed ≡ false }
+    ensures ok { OnOk result (Takes (Of input.now.line (IsKeptTurn (kept_state node.old.durable.machine.replicas node.old.durable.machine.node) number (called input.now.call))) TellsNothing (W.contents output.old) (W.contents output.new)
+        (lines node.old.text.items) (lines node.new.text.items) (kept_state node.new.durable.machine.replicas node.new.durable.machine.node)) }
+    ensures err { IfErr result (Breaks (Of input.now.line (IsKeptTurn (kept_state node.old.durable.machine.replicas node.old.durable.machine.node) number (called input.now.call))) TellsNothing (W.contents output.old) (W.contents output.new)
+        (lines node.old.text.items) (lines node.new.text.items) (kept_state node.new.durable.machine.replicas node.new.durable.machine.node)) }
+    ensures disk { node.new.durable.disk ≡ node.old.durable.disk }
+    ensures unclosed { node.new.durable.closed ≡ false }
+    ensures grows { IsSubset node.old.durable.machine.node.replica.view node.new.durable.machine.node.replica.view }
+{
+    let own = node.durable.machine.node.own();
+    let before = node.durable.machine.node.view().len();
+    match keep(alloc, node, input) {
+        Kept::Taken(given) => match text_of(
+            alloc,
+            &node.durable.machine,
+            before,
+            input.call(),
+            &given,
+        ) {
+            Ok(text) => {
+                write_lines(output, &text)?;
+                Ok(())
+            }
+            Err(_) => Err(NodeFault::Memory),
+        },
+        Kept::Refused(refusal) => {
+            refuse(output, own, number, refusal_name(refusal))?;
+            Ok(())
+        }
+    }
+}
+
+// Lets a shelf absorb the view. Answers whether there was memory.
+fn follow<B: Replicated>(shelf: &mut Shelf<B>, view: &UpdateSet) -> bool
+    requires { IsSubset shelf.old.view view.now }
+    ensures ok { result ≡ true → shelf.new.view ≡ view.now }
+    ensures objects { shelf.new.objects ≡ shelf.old.objects }
+    ensures within { IsSubset shelf.new.view view.now }
+{
+    shelf.absorb_compatible(view).is_ok()
+}
+
+// What an object on a shelf answers.
+fn said_of<B: Replicated>(
+    alloc: Global,
+    own: u8,
+    shelf: &Shelf<B>,
+    object: u16,
+    query: &Query,
+) -> Said
+    ensures { IsSaidAnswer own object (answer_at shelf.now object query.now) result }
+{
+    match shelf.ask(object, query) {
+        Ok(answer) => match answer_text(alloc, own, object, &answer) {
+            Ok(text) => Said::Lines(text),
+            Err(_) => Said::Memory,
+        },
+        Err(ShelfError::NoSuchObject) => Said::NoSuchObject,
+        Err(_) => Said::Memory,
+    }
+}
+
+// What it answers by a node's view, which the shelf absorbs first.
+fn said_by_view<B: Replicated>(
+    alloc: Global,
+    machine: &NodeMachine,
+    shelf: &mut Shelf<B>,
+    object: u16,
+    query: &Query,
+) -> Said
+    requires { IsSubset shelf.old.view machine.now.node.replica.view }
+    ensures said { IsSaidAnswer machine.now.node.replica.own object
+        (answer_by shelf.old.objects (kept_state machine.now.replicas machine.now.node) object query.now) result }
+    ensures objects { shelf.new.objects ≡ shelf.old.objects }
+    ensures within { IsSubset shelf.new.view machine.now.node.replica.view }
+{
+    if !follow(shelf, machine.node.view()) {
+        return Said::Memory;
+    }
+    said_of(alloc, machine.node.own(), shelf, object, query)
+}
+
+// What waits for an answer, once more.
+fn said_again(alloc: Global, machine: &NodeMachine) -> Said
+    ensures { IsSaidAgain (kept_state machine.now.replicas machine.now.node) result }
+{
+    let Ok(mail) = machine.node.again() else {
+        return Said::Memory;
+    };
+    match mail_text(alloc, machine.replicas, &mail) {
+        Ok(text) => Said::Lines(text),
+        Err(_) => Said::Memory,
+    }
+}
+
+// Writes it.
+fn put<W: Write>(output: &mut W, own: u8, number: u64, said: &Said) -> Result<(), WriteFailed>
+    ensures ok { OnOk result (Writes W.contents output.old output.new (said_text own number said.now)) }
+    ensures err { OnErr result (WritesPrefix W.contents output.old output.new (said_text own number said.now)) }
+{
+    match said {
+        Said::Lines(text) => write_lines(output, text),
+        Said::NoSuchObject => refuse(output, own, number, "NoSuchObject"),
+        Said::Memory => refuse(output, own, number, "Memory"),
+    }
+}
+
+// A question: the shelf absorbs the view first.
+fn ask<W: Write, B: Replicated>(
+    alloc: Global,
+    machine: &NodeMachine,
+    shelf: &mut Shelf<B>,
+    number: u64,
+    object: u16,
+    query: &Query,
+    output: &mut W,
+) -> Result<(), NodeFault>
+    requires { IsSubset shelf.old.view machine.now.node.replica.view }
+    ensures ok { (line : List ℕ) (journal : List (List ℕ)) → OnOk result
+        (Takes (Of line (IsAnswered shelf.old.objects (kept_state machine.now.replicas machine.now.node) number object query.now))
+        TellsNothing (W.contents output.old) (W.contents output.new) journal journal
+        (kept_state machine.now.replicas machine.now.node)) }
+    ensures err { (line : List ℕ) (journal : List (List ℕ)) → IfErr result
+        (Breaks (Of line (IsAnswered shelf.old.objects (kept_state machine.now.replicas machine.now.node) number object query.now))
+        TellsNothing (W.contents output.old) (W.contents output.new) journal journal
+        (kept_state machine.now.replicas machine.now.node)) }
+    ensures objects { shelf.new.objects ≡ shelf.old.objects }
+    ensures within { IsSubset shelf.new.view machine.now.node.replica.view }
+{
+    let said = said_by_view(alloc, machine, shelf, object, query);
+    put(output, machine.node.own(), number, &said)?;
+    Ok(())
+}
+
+// The timer.
+fn tick<W: Write>(
+    alloc: Global,
+    machine: &NodeMachine,
+    number: u64,
+    output: &mut W,
+) -> Result<(), NodeFault>
+    ensures ok { (line : List ℕ) (journal : List (List ℕ)) → OnOk result
+        (Takes (Of line (IsTicked (kept_state machine.now.replicas machine.now.node) number))
+        TellsNothing (W.contents output.old) (W.contents output.new) journal journal
+        (kept_state machine.now.replicas machine.now.node)) }
+    ensures err { (line : List ℕ) (journal : List (List ℕ)) → IfErr result
+        (Breaks (Of line (IsTicked (kept_state machine.now.replicas machine.now.node) number))
+        TellsNothing (W.contents output.old) (W.contents output.new) journal journal
+        (kept_state machine.now.replicas machine.now.node)) }
+{
+    let said = said_again(alloc, machine);
+    put(output, machine.node.own(), number, &said)?;
+    Ok(())
+}
+
+// A call that is not passed over.
+fn call_here<W: Write, D: Disk, B: Replicated>(
+    alloc: Global,
+    filter: &mut Filter<D, B>,
+    number: u64,
+    input: &Input,
+    output: &mut W,
+) -> Result<(), NodeFault>
+    requires unclosed { filter.old.node.durable.closed ≡ false }
+    requires within { IsSubset filter.old.shelf.view filter.old.node.durable.machine.node.replica.view }
+    ensures ok { OnOk result (Takes (Of input.now.line (IsTurnHere filter.old.shelf.objects (kept_state filter.old.node.durable.machine.replicas filter.old.node.durable.machine.node) number (called input.now.call))) TellsNothing (W.contents output.old) (W.contents output.new)
+        (lines filter.old.node.text.items) (lines filter.new.node.text.items) (kept_state filter.new.node.durable.machine.replicas filter.new.node.durable.machine.node)) }
+    ensures err { IfErr result (Breaks (Of input.now.line (IsTurnHere filter.old.shelf.objects (kept_state filter.old.node.durable.machine.replicas filter.old.node.durable.machine.node) number (called input.now.call))) TellsNothing (W.contents output.old) (W.contents output.new)
+        (lines filter.old.node.text.items) (lines filter.new.node.text.items) (kept_state filter.new.node.durable.machine.replicas filter.new.node.durable.machine.node)) }
+    ensures disk { filter.new.node.durable.disk ≡ filter.old.node.durable.disk }
+    ensures unclosed { filter.new.node.durable.closed ≡ false }
+    ensures objects { filter.new.shelf.objects ≡ filter.old.shelf.objects }
+    ensures within { IsSubset filter.new.shelf.view filter.new.node.durable.machine.node.replica.view }
+{
+    match input.call() {
+        Call::Ask { object, query, .. } => {
+            let Filter { node, shelf } = filter;
+            let machine = &node.durable.machine;
+            ask(alloc, machine, shelf, number, *object, query, output)
+        }
+        Call::Tick => tick(alloc, &filter.node.durable.machine, number, output),
+        Call::Submit { .. } | Call::Decide { .. } | Call::Receive(_) => {
+            take(alloc, &mut filter.node, number, input, output)
+        }
+    }
+}
+
+// A line that says a call.
+fn call<W: Write, D: Disk, B: Replicated>(
+    alloc: Global,
+    filter: &mut Filter<D, B>,
+    number: u64,
+    input: &Input,
+    output: &mut W,
+) -> Result<(), NodeFault>
+    requires unclosed { filter.old.node.durable.closed ≡ false }
+    requires within { IsSubset filter.old.shelf.view filter.old.node.durable.machine.node.replica.view }
+    ensures ok { OnOk result (Takes (Of input.now.line (IsCallTurn filter.old.shelf.objects (kept_state filter.old.node.durable.machine.replicas filter.old.node.durable.machine.node) number (called input.now.call))) TellsNothing (W.contents output.old) (W.contents output.new)
+        (lines filter.old.node.text.items) (lines filter.new.node.text.items) (kept_state filter.new.node.durable.machine.replicas filter.new.node.durable.machine.node)) }
+    ensures err { IfErr result (Breaks (Of input.now.line (IsCallTurn filter.old.shelf.objects (kept_state filter.old.node.durable.machine.replicas filter.old.node.durable.machine.node) number (called input.now.call))) TellsNothing (W.contents output.old) (W.contents output.new)
+        (lines filter.old.node.text.items) (lines filter.new.node.text.items) (kept_state filter.new.node.durable.machine.replicas filter.new.node.durable.machine.node)) }
+    ensures disk { filter.new.node.durable.disk ≡ filter.old.node.durable.disk }
+    ensures unclosed { filter.new.node.durable.closed ≡ false }
+    ensures objects { filter.new.shelf.objects ≡ filter.old.shelf.objects }
+    ensures within { IsSubset filter.new.shelf.view filter.new.node.durable.machine.node.replica.view }
+{
+    let call = input.call();
+    if is_elsewhere(&filter.node.durable.machine, call)
+        || is_stale(&filter.node.durable.machine, call)
+    {
+        return Ok(());
+    }
+    call_here(alloc, filter, number, input, output)
+}
+
+/// Takes line `number` of an input, which has at most [`la_wire::MAX_LINE`] bytes, without its end. Where it is
+/// kept it is staged: what is written of it may go out only once that is committed.
+///
+/// `WriteFault` comes where a write fails, and `Memory` where the lines find no room: then a front of
+/// them is written, and the call is staged.
+pub fn answer<W: Write, E: Listener, D: Disk, B: Replicated>(
+    alloc: Global,
+    filter: &mut Filter<D, B>,
+    number: u64,
+    line: &[u8],
+    output: &mut W,
+    errors: &mut E,
+) -> Result<(), NodeFault>
+    requires short { length line.now ≤ MAX_LINE }
+    requires unclosed { filter.old.node.durable.closed ≡ false }
+    requires within { IsSubset filter.old.shelf.view filter.old.node.durable.machine.node.replica.view }
+    ensures ok { OnOk result (Takes (Of line.now (IsTurn filter.old.shelf.objects (kept_state filter.old.node.durable.machine.replicas filter.old.node.durable.machine.node) number)) (TellsAll E.contents E.refuses errors.old errors.new) (W.contents output.old) (W.contents output.new)
+        (lines filter.old.node.text.items) (lines filter.new.node.text.items) (kept_state filter.new.node.durable.machine.replicas filter.new.node.durable.machine.node)) }
+    ensures err { IfErr result (Breaks (Of line.now (IsTurn filter.old.shelf.objects (kept_state filter.old.node.durable.machine.replicas filter.old.node.durable.machine.node) number)) (TellsAll E.contents E.refuses errors.old errors.new) (W.contents output.old) (W.contents output.new)
+        (lines filter.old.node.text.items) (lines filter.new.node.text.items) (kept_state filter.new.node.durable.machine.replicas filter.new.node.durable.machine.node)) }
+    ensures disk { filter.new.node.durable.disk ≡ filter.old.node.durable.disk }
+    ensures unclosed { filter.new.node.durable.closed ≡ false }
+    ensures objects { filter.new.shelf.objects ≡ filter.old.shelf.objects }
+    ensures within { IsSubset filter.new.shelf.view filter.new.node.durable.machine.node.replica.view }
+{
+    if is_note(line) {
+        return Ok(());
+    }
+    match Input::read(alloc, line) {
+        Ok(input) => {
+            // a hint to the prover: what the input says
+            let _call = input.call();
+            call(alloc, filter, number, &input, output)
+        }
+        Err(LineError::Fault(fault)) => {
+            tell_fault(errors, number, fault);
+            Ok(())
+        }
+        Err(LineError::Memory) => {
+            refuse(
+                output,
+                filter.node.durable.machine.node.own(),
+                number,
+                "Memory",
+            )?;
+            Ok(())
+        }
+    }
+}

@@ -1,0 +1,58 @@
+ghost use Rattle.std.specs.Prelude.{◌≡◌};
+ghost use Rattle.la_serve.specs.declared.error.NodeFault.TheVariants.{WriteFault};
+ghost use Rattle.la_serve.specs.Faults.{of_source};
+
+use la_cli::WriteFailed;
+use la_io::SourceFault;
+use thiserror::Error;
+
+/// Why a node ended before its input did. It is shown as the program tells it.
+#[derive(Clone, Copy, Debug, PartialEq, Eq, Error)]
+pub enum NodeFault {
+    /// A read failed, or was interrupted.
+    #[error("ReadFault")]
+    ReadFault,
+
+    /// A write failed, or took no byte.
+    #[error("WriteFault")]
+    WriteFault,
+
+    /// A growth was refused.
+    #[error("Memory")]
+    Memory,
+
+    /// The options are not those of a node: its number or its votes do not fit the group.
+    #[error("BadConfig")]
+    BadConfig,
+
+    /// The journal's folder is none, or another process has it.
+    #[error("NoJournal")]
+    NoJournal,
+
+    /// The journal holds what can't be played.
+    #[error("BadJournal")]
+    BadJournal,
+
+    /// The disk failed.
+    #[error("DiskFault")]
+    DiskFault,
+}
+
+impl From<SourceFault> for NodeFault {
+    ghost from_gives = { λ fault e. e ≡ of_source fault };
+
+    fn from(fault: SourceFault) -> NodeFault {
+        match fault {
+            SourceFault::ReadFault => NodeFault::ReadFault,
+            SourceFault::Memory => NodeFault::Memory,
+        }
+    }
+}
+
+impl From<WriteFailed> for NodeFault {
+    ghost from_gives = { λ _ e. e ≡ WriteFault };
+
+    fn from(_failed: WriteFailed) -> NodeFault {
+        NodeFault::WriteFault
+    }
+}

@@ -1,0 +1,42 @@
+// A call, kept in the journal.
+ghost use Rattle.std.specs.Prelude.{◌≡◌, false};
+ghost use Rattle.la_set.specs.Inclusion.{IsSubset};
+ghost use Rattle.la_journal.specs.Lines.{lines};
+ghost use Rattle.la_wire.specs.Calls.{called};
+ghost use Rattle.la_durable.specs.Restarts.{kept_state};
+ghost use Rattle.la_serve.specs.Turns.{IsOutcome};
+
+use la_durable::{Input, NodeError, NodeMachine, laws};
+use la_journal::{Disk, Staged, Unstaged};
+use la_world::Received;
+use std::alloc::Global;
+
+/// What became of a call that is to be kept.
+#[derive(Drop)]
+pub enum Kept {
+    /// It was taken, and its line is staged.
+    Taken(Received),
+    /// It was refused, and nothing has changed.
+    Refused(NodeError),
+}
+
+/// Takes a call and stages its line.
+pub fn keep<D: Disk>(alloc: Global, node: &mut Staged<NodeMachine, D>, input: &Input) -> Kept
+    requires unclosed { node.old.durable.closed ≡ false }
+    ensures outcome { IsOutcome (kept_state node.old.durable.machine.replicas node.old.durable.machine.node)
+        (kept_state node.new.durable.machine.replicas node.new.durable.machine.node) (called input.now.call) input.now.line
+        (lines node.old.text.items) (lines node.new.text.items) result }
+    ensures unclosed { node.new.durable.closed ≡ false }
+    ensures disk { node.new.durable.disk ≡ node.old.durable.disk }
+    ensures grows { IsSubset node.old.durable.machine.node.replica.view node.new.durable.machine.node.replica.view }
+{
+    // hints to the prover: what the input says, and that views grow
+    let _call = input.call();
+    laws::views_grow();
+    match node.stage(alloc, input) {
+        Ok(given) => Kept::Taken(given),
+        Err(Unstaged::Machine(refusal)) => Kept::Refused(refusal),
+        Err(Unstaged::Memory) => Kept::Refused(NodeError::Memory),
+        Err(Unstaged::Closed) => unreachable!(),
+    }
+}

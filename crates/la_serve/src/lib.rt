@@ -1,0 +1,24 @@
+//! The command `lattice node`, over any streams, any journal and any words: all of it but `main`.
+//!
+//! A node reads lines as they come, and for each call that it accepts it writes lines: but only once the
+//! call's line is on the disk. What it sends are lines of `la_wire`; all others that it writes begin with
+//! `#`, so that nodes that read them pass them over.
+#![tactic(auto)]
+
+mod answering;
+mod error;
+mod filter;
+mod keeping;
+mod names;
+mod options;
+mod said;
+mod serving;
+mod shelf;
+mod starting;
+mod texts;
+
+pub use error::NodeFault;
+pub use filter::Filter;
+pub use options::{Options, command};
+pub use serving::serve;
+pub use starting::{end_with, run};

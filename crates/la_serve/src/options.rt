@@ -1,0 +1,198 @@
+// What the words of `lattice node` say.
+ghost use Rattle.std.specs.Prelude.{◌≡◌, false, map, codes, string_bytes, IfOk, IfErr, pos, ◌≤◌};
+ghost use Rattle.clap.specs.Words.{app_of, found_of, rows_of, rule_of, HasKind, fault_of, with_rule};
+ghost use Rattle.clap.specs.Words.{many_of, with_subcommand};
+ghost use Rattle.clap.specs.declared.builder.command.Command.TheViews.{out-Command as fields_of};
+ghost use Rattle.clap.specs.declared.builder.value_parser.ValueParser.TheVariants.{Signed};
+ghost use Rattle.la_cli.specs.Calls.{option, lattice_alone};
+ghost use Rattle.la_serve.specs.Options.{number as number_rule, own as own_rule, votes as votes_rule};
+ghost use Rattle.la_serve.specs.Options.{journal as journal_rule, node, node_named, lattice_node};
+ghost use Rattle.la_serve.specs.Options.{AreTaken, IsSaid, IsVotes, Says};
+
+use arrayvec::ArrayVec;
+use clap::builder::ValueParser;
+use clap::{Arg, ArgMatches, Command, Error, value_parser};
+use la_cli::{ABOUT_NODE, VERSION};
+use la_proposer::Votes;
+use la_world::Config;
+use std::alloc::{AllocError, Global};
+
+/// What a node is called with.
+#[derive(Drop)]
+pub struct Options {
+    /// Its group.
+    pub config: Config,
+    /// Which replica it is, from 0 on.
+    pub own: u8,
+    /// The folder of its journal.
+    pub folder: String,
+}
+
+// An option with a number.
+fn number<'a>(alloc: Global, name: &'a str, parser: ValueParser<'a>, help: &'a str) -> Arg<'a>
+    ensures rule { (least most : _) → parser.entry ≡ Signed (pos least) (pos most)
+        → rule_of result ≡ number_rule name.entry.now least most }
+    ensures local { result.global ≡ false }
+{
+    Arg::new(alloc, name)
+        .long(name)
+        .value_name("N")
+        .value_parser(parser)
+        .help(help)
+}
+
+// The command with one more option with a number, which may be left out.
+fn with_number<'a>(
+    alloc: Global,
+    command: Command<'a>,
+    name: &'a str,
+    parser: ValueParser<'a>,
+    otherwise: &'a str,
+    help: &'a str,
+) -> Result<Command<'a>, AllocError>
+    ensures app { (least most : _) → parser.entry ≡ Signed (pos least) (pos most)
+        → IfOk result (λ made. app_of made ≡ with_rule (app_of command.entry)
+        (option name.entry.now least most otherwise.entry.now)) }
+    ensures local { (fields_of command.entry).has_globals ≡ false
+        → IfOk result (λ made. (fields_of made).has_globals ≡ false) }
+{
+    command.arg(number(alloc, name, parser, help).default_value(otherwise))
+}
+
+fn with_own<'a>(alloc: Global, command: Command<'a>) -> Result<Command<'a>, AllocError>
+    ensures app { IfOk result (λ made. app_of made ≡ with_rule (app_of command.entry) own_rule) }
+    ensures local { (fields_of command.entry).has_globals ≡ false
+        → IfOk result (λ made. (fields_of made).has_globals ≡ false) }
+{
+    let places = value_parser!(u8).range(0..=7);
+    let own = number(alloc, "own", places, "Which of them this is, from 0");
+    command.arg(own.required(true))
+}
+
+fn with_votes<'a>(alloc: Global, command: Command<'a>) -> Result<Command<'a>, AllocError>
+    ensures app { IfOk result (λ made. app_of made ≡ with_rule (app_of command.entry) votes_rule) }
+    ensures local { (fields_of command.entry).has_globals ≡ false
+        → IfOk result (λ made. (fields_of made).has_globals ≡ false) }
+{
+    let weights = value_parser!(u16).range(1..=1000);
+    let help = "The votes of each replica, 1 to 1000";
+    let votes = number(alloc, "votes", weights, help);
+    command.arg(votes.num_args(1..=8))
+}
+
+fn with_journal<'a>(alloc: Global, command: Command<'a>) -> Result<Command<'a>, AllocError>
+    ensures app { IfOk result (λ made. app_of made ≡ with_rule (app_of command.entry) journal_rule) }
+    ensures local { (fields_of command.entry).has_globals ≡ false
+        → IfOk result (λ made. (fields_of made).has_globals ≡ false) }
+{
+    let journal = Arg::new(alloc, "journal")
+        .long("journal")
+        .value_name("FOLDER")
+        .help("The folder of the journal");
+    command.arg(journal.required(true))
+}
+
+// Each step owns one command: one that owns several takes a minute to prove.
+fn node_command<'a>(alloc: Global) -> Result<Command<'a>, AllocError>
+    ensures app { IfOk result (λ made. app_of made ≡ node) }
+    ensures local { IfOk result (λ made. (fields_of made).has_globals ≡ false) }
+{
+    let start = Command::new(alloc, "node")
+        .version(VERSION)
+        .about(ABOUT_NODE);
+    let sizes = value_parser!(u8).range(1..=8);
+    let help = "How many replicas, 1 to 8";
+    let sized = with_number(alloc, start, "replicas", sizes, "3", help)?;
+    let placed = with_own(alloc, sized)?;
+    let objects = value_parser!(u8).range(0..=16);
+    let help = "How many adopt-commit objects, 0 to 16";
+    let shared = with_number(alloc, placed, "commits", objects, "0", help)?;
+    let caps = value_parser!(u32).range(1..=1_000_000);
+    let help = "How many updates it may submit, 1 to 1000000";
+    let capped = with_number(alloc, shared, "cap", caps, "1000000", help)?;
+    let voted = with_votes(alloc, capped)?;
+    with_journal(alloc, voted)
+}
+
+// The program's command before it has a subcommand.
+fn alone<'a>(alloc: Global) -> Command<'a>
+    ensures { app_of result ≡ lattice_alone }
+{
+    Command::new(alloc, "lattice")
+        .version(VERSION)
+        .subcommand_required(true)
+}
+
+fn program<'a>(alloc: Global) -> Result<Command<'a>, AllocError>
+    ensures { IfOk result (λ made. app_of made ≡ lattice_node) }
+{
+    let node = node_command(alloc)?;
+    alone(alloc).subcommand(node)
+}
+
+// The votes that were given, where they are those of a group; one for each replica, where none were.
+fn votes_in(given: &ArgMatches<'_>, replicas: u8) -> Option<Votes>
+    requires some { 1 ≤ replicas }
+    requires few { replicas ≤ 8 }
+    ensures { IsVotes (many_of (codes "votes") (rows_of (found_of given.now))) replicas result }
+{
+    let Some(values) = given.get_many::<u16>("votes") else {
+        return Some(Votes::one_each(replicas));
+    };
+    let mut votes = ArrayVec::<u16, 8>::new();
+    for value in values {
+        let Ok(count) = value else {
+            return None;
+        };
+        if votes.try_push(count).is_err() {
+            return None;
+        }
+    }
+    Votes::new(votes.as_slice()).ok()
+}
+
+// The options, each number of which is there and in its range.
+fn options_in(alloc: Global, given: &ArgMatches<'_>) -> Result<Option<Options>, AllocError>
+    requires { AreTaken (rows_of (found_of given.now)) }
+    ensures { IfOk result (Says (rows_of (found_of given.now))) }
+{
+    let replicas = given.get_one::<u8>("replicas").unwrap();
+    let own = given.get_one::<u8>("own").unwrap();
+    let commits = given.get_one::<u8>("commits").unwrap();
+    let cap = given.get_one::<u32>("cap").unwrap();
+    let folder = given.get_str("journal").unwrap();
+    let Some(votes) = votes_in(given, replicas) else {
+        return Ok(None);
+    };
+    let folder = String::from_str(alloc, folder)?;
+    let config = Config {
+        replicas,
+        commits,
+        cap,
+        votes,
+    };
+    Ok(Some(Options {
+        config,
+        own,
+        folder,
+    }))
+}
+
+/// What the words of a command line of `lattice node` say, the program's name first. `None` where the votes
+/// are none of a group.
+///
+/// The options are those that were given, or their defaults, each in its range. An error has a kind that
+/// `clap` finds in the words: they ask for help or for the version, also as `help node`, or they are
+/// mistaken, as all words are that name another subcommand. Or its kind is `OutOfMemory`, which comes of
+/// memory alone.
+pub fn command(alloc: Global, words: &[String]) -> Result<Option<Options>, Error>
+    ensures ok { IfOk result (IsSaid (map string_bytes words.now)) }
+    ensures error { IfErr result (HasKind (fault_of lattice_node (map string_bytes words.now))) }
+{
+    let matches = program(alloc)?.try_get_matches_from(words)?;
+    match matches.subcommand() {
+        Some((_, given)) => Ok(options_in(alloc, given)?),
+        // `crate::proofs::OptionLines::faultless_node`: a subcommand is required.
+        None => unreachable!(),
+    }
+}

@@ -1,0 +1,184 @@
+ghost use Rattle.std.specs.Prelude.{◌≡◌, IfOk, IfErr, OnOk};
+ghost use Rattle.la_set.specs.Histories.{empty};
+ghost use Rattle.la_object.specs.declared.kind.Kind.TheVariants.{Counter as CounterKind};
+ghost use Rattle.la_object.specs.declared.kind.Kind.TheVariants.{MaxRegister as RegisterKind};
+ghost use Rattle.la_object.specs.declared.kind.Kind.TheVariants.{OrSet as SetKind};
+ghost use Rattle.la_object.specs.Objects.{start};
+ghost use Rattle.la_io.specs.Streams.{Tells, TellsAll};
+ghost use Rattle.la_serve.specs.Faults.{of_journal};
+ghost use Rattle.la_serve.specs.Ending.{status_of, end_line, AreAtStart, Ends};
+ghost use Rattle.la_serve.specs.Crashes.{LeftBy};
+ghost use Rattle.la_serve.specs.Starting.{Runs, IsRunRefusal};
+
+use crate::names::end_name;
+use crate::serving::serve;
+use crate::shelf::shelf_of;
+use crate::{Filter, NodeFault, Options};
+use arrayvec::ArrayString;
+use la_cli::{Listener, tell_all};
+use la_durable::{NodeError, NodeMachine};
+use la_journal::{Disk, Staged, Unplayed, recover};
+use la_object::{Counter, MaxRegister, Replicated, Shelf};
+use la_orset::OrSet;
+use la_world::WorldError;
+use std::alloc::{AllocError, Global};
+use std::io::{Read, Write};
+
+type Line = ArrayString<16>;
+
+// The exit status after a fault.
+fn status_of(fault: NodeFault) -> u8
+    ensures { result ≡ status_of fault }
+{
+    match fault {
+        NodeFault::Memory => 3,
+        NodeFault::ReadFault | NodeFault::WriteFault | NodeFault::BadConfig => 4,
+        NodeFault::NoJournal | NodeFault::BadJournal | NodeFault::DiskFault => 5,
+    }
+}
+
+/// The exit status after a fault, which is told.
+pub fn end_with<E: Listener>(fault: NodeFault, errors: &mut E) -> u8
+    ensures status { result ≡ status_of fault }
+    ensures told { Tells E.contents E.refuses errors.old errors.new (end_line fault) }
+{
+    let mut line = Line::new();
+    line.push_str(end_name(fault));
+    line.push_str("\n");
+    let _ = tell_all(errors, line.as_str().as_bytes());
+    status_of(fault)
+}
+
+// Why a node does not begin whose journal was not played. A line that finds no room says nothing against the journal.
+fn fault_of(why: Unplayed<NodeError>) -> NodeFault
+    ensures { result ≡ of_journal why }
+{
+    match why {
+        Unplayed::Memory | Unplayed::Refused(_, NodeError::Memory) => NodeFault::Memory,
+        Unplayed::Disk => NodeFault::DiskFault,
+        Unplayed::NoState
+        | Unplayed::NoCall(_)
+        | Unplayed::Misplaced(_)
+        | Unplayed::Refused(_, _)
+        | Unplayed::Damaged(_) => NodeFault::BadJournal,
+    }
+}
+
+// The node, until its input ends.
+fn start<R: Read, W: Write, E: Listener, D: Disk, B: Replicated>(
+    alloc: Global,
+    options: &Options,
+    shelf: Shelf<B>,
+    disk: D,
+    input: &mut R,
+    output: &mut W,
+    errors: &mut E,
+) -> Result<(), NodeFault>
+    requires { shelf.view ≡ empty }
+    ensures ok { OnOk result (Runs shelf.objects options.now.config options.now.own (D.seen disk)
+        (TellsAll E.contents E.refuses errors.old errors.new)
+        (LeftBy D.seen D.may_leave D.moment D.left_since options.now disk)
+        (R.remaining input.old) (R.remaining input.new) (W.contents output.old) (W.contents output.new)) }
+    ensures err { IfErr result (IsRunRefusal shelf.objects options.now.config options.now.own (D.seen disk)
+        (TellsAll E.contents E.refuses errors.old errors.new)
+        (LeftBy D.seen D.may_leave D.moment D.left_since options.now disk)
+        (R.remaining input.old) (R.remaining input.new) (W.contents output.old) (W.contents output.new)) }
+{
+    let machine = match NodeMachine::new(alloc, options.config, options.own) {
+        Ok(machine) => machine,
+        Err(WorldError::Memory) => return Err(NodeFault::Memory),
+        Err(_) => return Err(NodeFault::BadConfig),
+    };
+    match recover(alloc, machine, disk) {
+        Ok(durable) => {
+            let mut filter = Filter {
+                node: Staged::new(alloc, durable),
+                shelf,
+            };
+            serve(alloc, &mut filter, input, output, errors)
+        }
+        Err((why, _disk)) => Err(fault_of(why)),
+    }
+}
+
+// Objects in the start states of the kinds that a node's shelf has.
+fn three<B: Replicated>(counter: B, register: B, set: B) -> (B, B, B)
+    requires counter { B.state counter ≡ start CounterKind }
+    requires register { B.state register ≡ start RegisterKind }
+    requires set { B.state set ≡ start SetKind }
+    ensures { AreAtStart B.state result.0 result.1 result.2 }
+{
+    (counter, register, set)
+}
+
+// The node with objects that are made for it, until its input ends: its exit status.
+fn run_with<
+    R: Read,
+    W: Write,
+    E: Listener,
+    D: Disk,
+    B: Replicated,
+    F: Fn() -> Result<(B, B, B), AllocError>,
+>(
+    alloc: Global,
+    options: &Options,
+    disk: D,
+    input: &mut R,
+    output: &mut W,
+    errors: &mut E,
+    make: F,
+) -> u8
+    requires callable { F.pre make }
+    requires made { (made : _) → F.post make made
+        → IfOk made (λ o. AreAtStart B.state o.0 o.1 o.2) }
+    ensures { Ends E.contents E.refuses
+        (LeftBy D.seen D.may_leave D.moment D.left_since options.now disk)
+        options.now.config options.now.own (D.seen disk)
+        (R.remaining input.old) (R.remaining input.new) (W.contents output.old) (W.contents output.new)
+        errors.old errors.new result }
+{
+    let Ok((counter, register, set)) = make() else {
+        return end_with(NodeFault::Memory, errors);
+    };
+    let Ok(shelf) = shelf_of(alloc, counter, register, set) else {
+        return end_with(NodeFault::Memory, errors);
+    };
+    match start(alloc, options, shelf, disk, input, output, errors) {
+        Ok(()) => 0,
+        Err(fault) => end_with(fault, errors),
+    }
+}
+
+/// The command over any streams and any journal: its exit status. Its shelf has a counter under 1, a max register under 2
+/// and an observed-remove set under 3.
+pub fn run<R: Read, W: Write, E: Listener, D: Disk>(
+    alloc: Global,
+    options: &Options,
+    disk: D,
+    input: &mut R,
+    output: &mut W,
+    errors: &mut E,
+) -> u8
+    ensures { Ends E.contents E.refuses
+        (LeftBy D.seen D.may_leave D.moment D.left_since options.now disk)
+        options.now.config options.now.own (D.seen disk)
+        (R.remaining input.old) (R.remaining input.new) (W.contents output.old) (W.contents output.new)
+        errors.old errors.new result }
+{
+    let make = || -> Result<
+        (
+            Box<dyn Replicated + Send>,
+            Box<dyn Replicated + Send>,
+            Box<dyn Replicated + Send>,
+        ),
+        AllocError,
+    >
+        ensures { IfOk result (λ o. (state o.0 ≡ start CounterKind) × (state o.1 ≡ start RegisterKind) × (state o.2 ≡ start SetKind)) }
+    {
+        let counter: Box<dyn Replicated + Send> = Box::new(alloc, Counter::new(alloc))?;
+        let register: Box<dyn Replicated + Send> = Box::new(alloc, MaxRegister::new(alloc))?;
+        let set: Box<dyn Replicated + Send> = Box::new(alloc, OrSet::new(alloc))?;
+        Ok(three(counter, register, set))
+    };
+    run_with(alloc, options, disk, input, output, errors, make)
+}

@@ -1,0 +1,107 @@
+-- Lines of calls have no byte 0 and no line's end, and begin as no state's line does.
+use Rattle.std.proofs.Common.{◌≡◌, ℕ, true, leb, List, [], ◌∷◌, ◌++◌, map, All, None, refl, arith}
+use Rattle.std.specs.Fmt.{decimal}
+use Rattle.std.proofs.lemmas.Bool.{leb-true}
+use Rattle.std.proofs.lemmas.Bool.Decides.{nat_tests}
+use Rattle.std.proofs.lemmas.List.Elements.{All-nil, All-cons, All-head, All-tail, All-append, All-map, All-weaker}
+use Rattle.std.proofs.lemmas.List.Sums.{AllPass-from_list_all}
+use Rattle.la_journal.specs.Lines.{IsClean}
+use Rattle.la_journal.specs.Journal.{state_in, IsCallLine}
+use Rattle.la_set.specs.declared.update.Update.{Update}
+use Rattle.la_script.specs.declared.forms.Keyword.TheVariants as keyword
+use Rattle.la_script.specs.Forms.{spelling}
+use Rattle.la_wire.specs.declared.messages.Kind.{Kind}
+use Rattle.la_wire.specs.declared.messages.Kind.TheVariants as kind
+use Rattle.la_wire.specs.Joined.{spaced, joined}
+use Rattle.la_wire.specs.Updates.{update_words, update_text, op_words}
+use Rattle.la_wire.specs.Messages.{Message}
+use Rattle.la_wire.specs.MessageLines.{spelling as kind_word, kind_in, base_words, carried, head_words, message_text}
+use Rattle.la_wire.specs.Calls.{Call, Submit, Decide, Ask, Tick, Receive}
+use Rattle.la_wire.specs.CallLines.{query_words, tick_word, text}
+use Rattle.la_wire.specs.Writable.{IsUpdate, IsCall, IsMessage}
+use Rattle.la_wire.proofs.Decimals.{is_plain, IsPlain}
+use Rattle.la_wire.proofs.UpdatesBack.{update-plain, op-plain}
+use Rattle.la_wire.proofs.MessagesBack.{head-plain, carried-updates}
+use Rattle.la_wire.proofs.CallsBack.{front-plain, decide-plain, query-plain}
+
+-- each byte is a space or above it
+abbrev IsPrinted : List ℕ → Type 0
+IsPrinted w = All (λ b. leb 32 b ≡ true) w
+
+plain-printed : (w : List ℕ) → IsPlain w → IsPrinted w
+plain-printed w plain =
+    All-weaker (λ b. is_plain b ≡ true) (λ b. leb 32 b ≡ true) (λ b p. grind (arith, nat_tests)) w plain
+
+spaced-printed : (byte : ℕ) (parts : List (List ℕ)) → leb 32 byte ≡ true → All IsPrinted parts
+    → IsPrinted (spaced byte parts)
+spaced-printed byte [] own all = All-nil (λ b. leb 32 b ≡ true)
+spaced-printed byte (part ∷ parts) own all =
+    All-cons (λ b. leb 32 b ≡ true) byte (part ++ spaced byte parts) own
+    (All-append (λ b. leb 32 b ≡ true) part (spaced byte parts) (All-head IsPrinted part parts all)
+    (spaced-printed byte parts own (All-tail IsPrinted part parts all)))
+
+joined-printed : (byte : ℕ) (parts : List (List ℕ)) → leb 32 byte ≡ true → All IsPrinted parts
+    → IsPrinted (joined byte parts)
+joined-printed byte [] own all = All-nil (λ b. leb 32 b ≡ true)
+joined-printed byte (part ∷ parts) own all =
+    All-append (λ b. leb 32 b ≡ true) part (spaced byte parts) (All-head IsPrinted part parts all)
+    (spaced-printed byte parts own (All-tail IsPrinted part parts all))
+
+words-printed : (words : List (List ℕ)) → All IsPlain words → IsPrinted (joined 32 words)
+words-printed words all = joined-printed 32 words refl (All-weaker IsPlain IsPrinted plain-printed words all)
+
+clean : (w : List ℕ) → IsPrinted w → IsClean w
+clean [] printed = tt
+clean (b ∷ w) printed =
+    let high = leb-true 32 b (All-head (λ c. leb 32 c ≡ true) b w printed) in
+    ((λ e. omega (arith, e, high)), (λ e. omega (arith, e, high)), clean w (All-tail (λ c. leb 32 c ≡ true) b w printed))
+
+update-printed : (u : Update) → IsUpdate u → IsPrinted (update_text u)
+update-printed u is = words-printed (update_words u) (update-plain u is)
+
+message-printed : (m : Message) → IsMessage m → IsPrinted (message_text m)
+message-printed m is =
+    let us = carried m.body in
+    joined-printed 59 (joined 32 (head_words m) ∷ map update_text us) refl
+    (All-cons IsPrinted (joined 32 (head_words m)) (map update_text us) (words-printed (head_words m) (head-plain m is))
+    (All-map IsPrinted update_text us (All-weaker IsUpdate (λ u. IsPrinted (update_text u)) update-printed us (carried-updates m.body is.body))))
+
+keyword-words : (word : List ℕ) (words : List (List ℕ)) → IsPlain word → All IsPlain words
+    → IsPrinted (joined 32 (word ∷ words))
+keyword-words word words first rest = words-printed (word ∷ words) (All-cons IsPlain word words first rest)
+
+text-printed : (c : Call) → IsCall c → IsPrinted (text c)
+text-printed (Submit r o does) is =
+    keyword-words (spelling keyword.Submit) (decimal r ∷ decimal o ∷ op_words does)
+    (AllPass-from_list_all is_plain (spelling keyword.Submit) refl)
+    (front-plain r o is.0 is.1 (op_words does) (op-plain does is.2))
+text-printed (Decide r c v) is =
+    keyword-words (spelling keyword.Decide) (decimal r ∷ decimal c ∷ decimal v ∷ [])
+    (AllPass-from_list_all is_plain (spelling keyword.Decide) refl) (decide-plain r c v is)
+text-printed (Ask r o q) is =
+    keyword-words (spelling keyword.Ask) (decimal r ∷ decimal o ∷ query_words q)
+    (AllPass-from_list_all is_plain (spelling keyword.Ask) refl)
+    (front-plain r o is.0 is.1 (query_words q) (query-plain q is.2))
+text-printed Tick is = plain-printed tick_word (AllPass-from_list_all is_plain tick_word refl)
+text-printed (Receive m) is = message-printed m is
+
+kind-first : (k : Kind) (a b : List ℕ) → state_in ((kind_word k ++ a) ++ b) ≡ None
+kind-first kind.Offer a b = refl
+kind-first kind.Yes a b = refl
+kind-first kind.No a b = refl
+kind-first kind.Tell a b = refl
+
+no-state : (c : Call) → state_in (text c) ≡ None
+no-state (Submit r o does) = refl
+no-state (Decide r c v) = refl
+no-state (Ask r o q) = refl
+no-state Tick = refl
+no-state (Receive m) =
+    kind-first (kind_in m.body)
+    (spaced 32
+    (decimal m.replicas ∷ decimal m.from ∷ decimal m.to ∷ decimal m.instance ∷ decimal m.ballot ∷ base_words m.body))
+    (spaced 59 (map update_text (carried m.body)))
+
+-- the line of a call that can be had is one of a journal's calls
+pub call-line : (c : Call) → IsCall c → IsCallLine (text c)
+call-line c is = (clean (text c) (text-printed c is), no-state c)

@@ -1,0 +1,98 @@
+-- Updates are read back from their parts.
+use Rattle.std.proofs.Common.{◌≡◌, ℕ, ◌≤◌, true, false, List, [], ◌∷◌, length, map, All, Some, Ok, refl, ap, ◌∙◌, arith}
+use Rattle.std.specs.Fmt.{decimal}
+use Rattle.std.proofs.lemmas.Bool.{le-leb}
+use Rattle.std.proofs.lemmas.List.{length-map}
+use Rattle.std.proofs.lemmas.List.Elements.{All-nil, All-cons, All-head, All-tail, All-map, All-weaker}
+use Rattle.std.proofs.lemmas.List.Sums.{AllPass-from_list_all}
+use Rattle.la_set.specs.declared.update.UpdateId.{UpdateId}
+use Rattle.la_set.specs.declared.update.Update.{Update}
+use Rattle.la_set.specs.declared.update.Op.{Op}
+use Rattle.la_set.specs.declared.update.Op.TheVariants.{Inc, Dec, Raise, Put, Remove, Mark, Vote}
+use Rattle.la_script.specs.Numbers.{u16_max, u32_max, u64_max, number}
+use Rattle.la_script.specs.Tags.{tag_of, tags_of}
+use Rattle.la_script.specs.Text.{id_text}
+use Rattle.la_wire.specs.declared.updates.Verb.{Verb}
+use Rattle.la_wire.specs.declared.updates.Verb.TheVariants as verb
+use Rattle.la_wire.specs.Joined.{parted}
+use Rattle.la_wire.specs.Updates.{update_words, spelling, vote_verb, op_words, update_text, tags_at, op_at, op_in, update_in, updates_in}
+use Rattle.la_wire.specs.Writable.{IsId, IsOp, IsUpdate}
+use Rattle.la_wire.proofs.Decimals.{number-decimal, decimal-plain, is_plain, IsPlain}
+use Rattle.la_wire.proofs.Joins.{Lacks, words-back, words-part}
+use Rattle.la_wire.proofs.Ids.{id-plain, id-back, tags-back}
+
+tags_at-back : (tags : List UpdateId) → length tags ≤ 64 → tags_of (map id_text tags) ≡ Some tags
+    → tags_at (map id_text tags) ≡ Ok tags
+tags_at-back tags few back =
+    rw (le-leb (length (map id_text tags)) 64 (omega (arith, length-map tags id_text)), back) refl
+
+pub op-back : (op : Op) → IsOp op → op_in (op_words op) ≡ Ok op
+unfolding op_at
+op-back (Inc x) is = rw (number-decimal 0 u32_max x (omega arith) is (omega arith)) refl
+op-back (Dec x) is = rw (number-decimal 0 u32_max x (omega arith) is (omega arith)) refl
+op-back (Raise x) is = rw (number-decimal 0 u64_max x (omega arith) is (omega arith)) refl
+op-back (Put x) is = rw (number-decimal 0 u64_max x (omega arith) is (omega arith)) refl
+op-back (Remove tags) is = rw (tags_at-back tags is.0.within (tags-back tags is.0.ascending is.1)) refl
+op-back Mark is = refl
+op-back (Vote x true) is = rw (number-decimal 0 u64_max x (omega arith) is (omega arith)) refl
+op-back (Vote x false) is = rw (number-decimal 0 u64_max x (omega arith) is (omega arith)) refl
+
+update-parts : (name object : List ℕ) (words : List (List ℕ)) (u : Update) → tag_of name ≡ Some u.id
+    → number 0 u16_max object ≡ Some u.object → op_in words ≡ Ok u.op → update_in (name ∷ object ∷ words) ≡ Ok u
+unfolding update_in
+update-parts name object words u a b c = rw (a, b, c) refl
+
+-- ## Words without a byte that parts
+
+one-number : (w : List ℕ) (x : ℕ) → IsPlain w → x ≤ u64_max → All IsPlain (w ∷ decimal x ∷ [])
+one-number w x plain few =
+    All-cons IsPlain w (decimal x ∷ []) plain
+    (All-cons IsPlain (decimal x) [] (decimal-plain x (omega arith)) (All-nil IsPlain))
+
+verb-plain : (v : Verb) → IsPlain (spelling v)
+verb-plain verb.Inc = AllPass-from_list_all is_plain (spelling verb.Inc) refl
+verb-plain verb.Dec = AllPass-from_list_all is_plain (spelling verb.Dec) refl
+verb-plain verb.Raise = AllPass-from_list_all is_plain (spelling verb.Raise) refl
+verb-plain verb.Put = AllPass-from_list_all is_plain (spelling verb.Put) refl
+verb-plain verb.Remove = AllPass-from_list_all is_plain (spelling verb.Remove) refl
+verb-plain verb.Mark = AllPass-from_list_all is_plain (spelling verb.Mark) refl
+verb-plain verb.Vote = AllPass-from_list_all is_plain (spelling verb.Vote) refl
+verb-plain verb.Sole = AllPass-from_list_all is_plain (spelling verb.Sole) refl
+
+pub op-plain : (op : Op) → IsOp op → All IsPlain (op_words op)
+op-plain (Inc x) is = one-number (spelling verb.Inc) x (verb-plain verb.Inc) (omega arith)
+op-plain (Dec x) is = one-number (spelling verb.Dec) x (verb-plain verb.Dec) (omega arith)
+op-plain (Raise x) is = one-number (spelling verb.Raise) x (verb-plain verb.Raise) is
+op-plain (Put x) is = one-number (spelling verb.Put) x (verb-plain verb.Put) is
+op-plain (Remove tags) is =
+    All-cons IsPlain (spelling verb.Remove) (map id_text tags) (verb-plain verb.Remove)
+    (All-map IsPlain id_text tags (All-weaker IsId (λ id. IsPlain (id_text id)) id-plain tags is.1))
+op-plain Mark is = All-cons IsPlain (spelling verb.Mark) [] (verb-plain verb.Mark) (All-nil IsPlain)
+op-plain (Vote x sole) is = one-number (spelling (vote_verb sole)) x (verb-plain (vote_verb sole)) is
+
+rest-plain : (u : Update) → IsUpdate u → All IsPlain (decimal u.object ∷ op_words u.op)
+rest-plain u is =
+    All-cons IsPlain (decimal u.object) (op_words u.op) (decimal-plain u.object (omega (arith, is.object)))
+    (op-plain u.op is.op)
+
+pub update-plain : (u : Update) → IsUpdate u → All IsPlain (update_words u)
+update-plain u is =
+    All-cons IsPlain (id_text u.id) (decimal u.object ∷ op_words u.op) (id-plain u.id is.id) (rest-plain u is)
+
+pub update-part : (u : Update) → IsUpdate u → Lacks 59 (update_text u)
+update-part u is = words-part (id_text u.id) (decimal u.object ∷ op_words u.op) (id-plain u.id is.id) (rest-plain u is)
+
+pub update-back : (u : Update) → IsUpdate u → update_in (parted 32 (update_text u)) ≡ Ok u
+update-back u is =
+    ap update_in (words-back (id_text u.id) (decimal u.object ∷ op_words u.op) (id-plain u.id is.id) (rest-plain u is))
+    ∙ update-parts (id_text u.id) (decimal u.object) (op_words u.op) u (id-back u.id is.id)
+    (number-decimal 0 u16_max u.object (omega arith) is.object (omega arith)) (op-back u.op is.op)
+
+pub updates-back : (us : List Update) → All IsUpdate us → updates_in (map update_text us) ≡ Ok us
+updates-back [] all = refl
+updates-back (u ∷ us) all =
+    rw (update-back u (All-head IsUpdate u us all), updates-back us (All-tail IsUpdate u us all)) refl
+
+pub updates-parts : (us : List Update) → All IsUpdate us → All (Lacks 59) (map update_text us)
+updates-parts us all =
+    All-map (Lacks 59) update_text us (All-weaker IsUpdate (λ u. Lacks 59 (update_text u)) update-part us all)

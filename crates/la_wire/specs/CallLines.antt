@@ -1,0 +1,87 @@
+-- A call as a line: a message, `tick`, or an event of a script of version 2 that is no delivery.
+use Rattle.std.specs.Prelude.{ℕ, nat_lt, List, [], ◌∷◌, codes, length, Option, Some, None, Result, Ok, Err, ◌==◌, if◌then◌else◌}
+use Rattle.std.specs.List.{before_first}
+use Rattle.std.specs.Fmt.{decimal}
+use Rattle.std.specs.Str.{bytes_eq}
+use Rattle.la_object.specs.declared.query.Query.{Query}
+use Rattle.la_object.specs.declared.query.Query.TheVariants as query
+use Rattle.la_world.specs.declared.event.Event.{Event}
+use Rattle.la_world.specs.declared.event.Event.TheVariants as event
+use Rattle.la_script.specs.declared.error.FaultName.{FaultName}
+use Rattle.la_script.specs.declared.error.FaultName.TheVariants as script
+use Rattle.la_script.specs.declared.forms.Keyword.TheVariants as keyword
+use Rattle.la_script.specs.declared.script.Version.TheVariants.{Two}
+use Rattle.la_script.specs.Forms.{spelling}
+use Rattle.la_script.specs.Lines.{event_of}
+use Rattle.la_wire.specs.declared.error.LineFault.{LineFault}
+use Rattle.la_wire.specs.declared.error.LineFault.TheVariants.{TooLong, BadLine, BadNumber}
+use Rattle.la_wire.specs.declared.messages.Kind.{Kind}
+use Rattle.la_wire.specs.declared.calls.TheConstants.{MAX_LINE}
+use Rattle.la_wire.specs.Joined.{joined}
+use Rattle.la_wire.specs.Updates.{made, op_words}
+use Rattle.la_wire.specs.MessageLines.{kind_of, message_text, message_of}
+use Rattle.la_wire.specs.Calls.{Call, Submit, Decide, Ask, Tick, Receive}
+
+-- ## As it is written
+
+abbrev pub query_words : Query → List (List ℕ)
+query_words query.Total = spelling keyword.Total ∷ []
+query_words (query.AtLeast x) = spelling keyword.AtLeast ∷ decimal x ∷ []
+query_words query.Largest = spelling keyword.Largest ∷ []
+query_words (query.Has x) = spelling keyword.Has ∷ decimal x ∷ []
+query_words query.Size = spelling keyword.Size ∷ []
+query_words query.Items = spelling keyword.Items ∷ []
+
+abbrev pub tick_word : List ℕ
+tick_word = codes "tick"
+
+-- the line of a call
+abbrev pub text : Call → List ℕ
+text (Submit replica object op) = joined 32 (spelling keyword.Submit ∷ decimal replica ∷ decimal object ∷ op_words op)
+text (Decide replica commit value) =
+    joined 32 (spelling keyword.Decide ∷ decimal replica ∷ decimal commit ∷ decimal value ∷ [])
+text (Ask replica object query) =
+    joined 32 (spelling keyword.Ask ∷ decimal replica ∷ decimal object ∷ query_words query)
+text Tick = tick_word
+text (Receive message) = message_text message
+
+-- ## As it is read
+
+-- the call that an event is
+abbrev pub event_call : Event → Result Call LineFault
+event_call (event.Submit replica object op) = Ok (Submit replica object op)
+event_call (event.Deliver message) = Err BadLine
+event_call (event.Decide replica commit value) = Ok (Decide replica commit value)
+event_call (event.Ask replica object query) = Ok (Ask replica object query)
+
+abbrev pub fault_of : FaultName → LineFault
+fault_of script.BadNumber = BadNumber
+fault_of _ = BadLine
+
+abbrev pub script_call : Result Event FaultName → Result Call LineFault
+script_call (Ok event) = event_call event
+script_call (Err name) = Err (fault_of name)
+
+-- the kind of message that a line's first word is
+abbrev pub first_kind : List ℕ → Option Kind
+first_kind line = kind_of (before_first (λ b. b == 32) line)
+
+abbrev pub call_by : Option Kind → List ℕ → Result Call LineFault
+call_by (Some kind) line = made Receive (message_of line)
+call_by None line = script_call (event_of Two line)
+
+-- the call that a line says, or its first fault
+unfoldable pub call_of : List ℕ → Result Call LineFault
+call_of line = if bytes_eq line tick_word then Ok Tick else call_by (first_kind line) line
+
+-- the same, of a line that is not too long
+abbrev pub bounded_call_of : List ℕ → Result Call LineFault
+bounded_call_of line = if nat_lt MAX_LINE (length line) then Err TooLong else call_of line
+
+abbrev pub said : {A : Type 0} → Result A LineFault → Option A
+said (Ok x) = Some x
+said (Err fault) = None
+
+-- the call that a line names, if it names one
+abbrev pub named : List ℕ → Option Call
+named line = said (call_of line)

@@ -1,0 +1,27 @@
+-- What a node is called for.
+use Rattle.std.specs.Prelude.{ℕ}
+use Rattle.la_set.specs.declared.update.Op.{Op}
+use Rattle.la_object.specs.declared.query.Query.{Query}
+use Rattle.la_wire.specs.declared.calls.Call as code
+use Rattle.la_wire.specs.declared.calls.Call.TheVariants as call
+use Rattle.la_wire.specs.Messages.{Message, said_by}
+
+pub data Call : Type 0 where
+  -- a replica submits an operation on an object
+  Submit : (replica object : ℕ) → Op → Call
+  -- it proposes a value to an adopt-commit object
+  Decide : (replica commit value : ℕ) → Call
+  -- an object on its shelf is asked
+  Ask : (replica object : ℕ) → Query → Call
+  -- the timer has run out
+  Tick : Call
+  -- a message has come
+  Receive : Message → Call
+
+-- what a call of the code says
+abbrev pub called : code.Call → Call
+called (call.Submit replica object op) = Submit replica object op
+called (call.Decide replica commit value) = Decide replica commit value
+called (call.Ask replica object query) = Ask replica object query
+called call.Tick = Tick
+called (call.Receive letter) = Receive (said_by letter)

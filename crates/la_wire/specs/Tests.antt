@@ -1,0 +1,74 @@
+-- What can be had, as a test.
+use Rattle.std.specs.Prelude.{nat_le, Bool, true, false, List, [], ◌∷◌, length, ◌==◌, ◌&&◌}
+use Rattle.std.specs.List.{list_all}
+use Rattle.la_set.specs.declared.set.TheConstants.{MAX_NUMBER}
+use Rattle.la_set.specs.declared.tags.TheConstants.{MAX_TAGS}
+use Rattle.la_set.specs.declared.update.Op.{Op}
+use Rattle.la_set.specs.declared.update.Op.TheVariants.{Inc, Dec, Raise, Put, Remove, Mark, Vote}
+use Rattle.la_set.specs.declared.update.UpdateId.{UpdateId}
+use Rattle.la_set.specs.declared.update.Update.{Update}
+use Rattle.la_set.specs.declared.counts.Counts.{Counts}
+use Rattle.la_set.specs.Ids.{id_below}
+use Rattle.la_set.specs.Histories.{Histories, listed, updates}
+use Rattle.la_object.specs.declared.query.Query.{Query}
+use Rattle.la_object.specs.declared.query.Query.TheVariants as query
+use Rattle.la_script.specs.Numbers.{u8_max, u16_max, u32_max, u64_max}
+use Rattle.la_wire.specs.Messages.{Message, Body, Offer, Yes, No, Tell}
+use Rattle.la_wire.specs.Calls.{Call, Submit, Decide, Ask, Tick, Receive}
+
+abbrev pub is_id : UpdateId → Bool
+is_id id = nat_le id.replica u8_max && (nat_le 1 id.number && nat_le id.number u32_max)
+
+abbrev pub are_ascending : List UpdateId → Bool
+are_ascending [] = true
+are_ascending (id ∷ ids) = list_all (λ other. id_below id other) ids && are_ascending ids
+
+abbrev pub are_tags : List UpdateId → Bool
+are_tags ids = are_ascending ids && nat_le (length ids) MAX_TAGS
+
+abbrev pub is_op : Op → Bool
+is_op (Inc x) = nat_le x u32_max
+is_op (Dec x) = nat_le x u32_max
+is_op (Raise x) = nat_le x u64_max
+is_op (Put x) = nat_le x u64_max
+is_op (Remove tags) = are_tags tags && list_all is_id tags
+is_op Mark = true
+is_op (Vote x sole) = nat_le x u64_max
+
+abbrev pub is_update : Update → Bool
+is_update u = is_id u.id && (nat_le u.object u16_max && is_op u.op)
+
+abbrev pub are_counts : Counts → Bool
+are_counts c = (length c.of == 8) && list_all (λ n. nat_le n u32_max) c.of
+
+abbrev pub is_within_limit : Histories → Bool
+is_within_limit s = list_all (λ history. nat_le (length history) MAX_NUMBER) (listed s)
+
+abbrev pub is_body : Body → Bool
+is_body (Offer base more) = are_counts base && list_all is_update more
+is_body Yes = true
+is_body (No base more) = are_counts base && list_all is_update more
+is_body (Tell told) = is_within_limit told && list_all is_update (updates told)
+
+abbrev pub is_message : Message → Bool
+is_message m =
+    (nat_le 1 m.replicas && nat_le m.replicas 8)
+    && ((nat_le m.from u8_max && nat_le m.to u8_max)
+    && ((nat_le m.instance u8_max && nat_le m.ballot u32_max)
+    && is_body m.body))
+
+abbrev pub is_voteless : Op → Bool
+is_voteless (Vote x sole) = false
+is_voteless _ = true
+
+abbrev pub is_query : Query → Bool
+is_query (query.AtLeast x) = nat_le x u64_max
+is_query (query.Has x) = nat_le x u64_max
+is_query _ = true
+
+abbrev pub is_call : Call → Bool
+is_call (Submit replica object op) = (nat_le replica u8_max && nat_le object u16_max) && (is_op op && is_voteless op)
+is_call (Decide replica commit value) = nat_le replica u8_max && (nat_le commit u8_max && nat_le value u64_max)
+is_call (Ask replica object query) = nat_le replica u8_max && (nat_le object u16_max && is_query query)
+is_call Tick = true
+is_call (Receive message) = is_message message

@@ -1,0 +1,136 @@
+-- An update as a part of a line: `P.N O` and what it does, in the words of a script.
+use Rattle.std.specs.Prelude.{ℕ, ◌+◌, Bool, true, false, nat_lt, nat_le, ◌&&◌, List, [], ◌∷◌, map, length, codes, Option, Some, None, Result, Ok, Err, ◌==◌, if◌then◌else◌}
+use Rattle.std.specs.Fmt.{decimal}
+use Rattle.std.specs.Str.{bytes_eq}
+use Rattle.la_set.specs.declared.update.Op.{Op}
+use Rattle.la_set.specs.declared.update.Op.TheVariants as op
+use Rattle.la_set.specs.declared.update.UpdateId.{UpdateId}
+use Rattle.la_set.specs.declared.update.Update.{Update}
+use Rattle.la_set.specs.declared.set.TheConstants.{REPLICAS, MAX_NUMBER}
+use Rattle.la_set.specs.declared.tags.TheConstants.{MAX_TAGS}
+use Rattle.la_set.specs.Histories.{Histories, empty, count, push}
+use Rattle.la_set.specs.Deltas.{pushed}
+use Rattle.la_script.specs.Text.{id_text}
+use Rattle.la_script.specs.Tags.{tags_of}
+use Rattle.la_script.specs.Numbers.{u16_max, u32_max, u64_max}
+use Rattle.la_wire.specs.declared.error.LineFault.{LineFault}
+use Rattle.la_wire.specs.declared.error.LineFault.TheVariants.{BadLine, BadNumber, BadSet}
+use Rattle.la_wire.specs.declared.updates.Verb.{Verb}
+use Rattle.la_wire.specs.declared.updates.Verb.TheVariants as verb
+use Rattle.la_wire.specs.declared.error.LineError.{LineError}
+use Rattle.la_wire.specs.declared.error.LineError.TheVariants as error
+use Rattle.la_set.specs.declared.error.SetError.{SetError}
+use Rattle.la_set.specs.declared.error.SetError.TheVariants.{Memory}
+use Rattle.la_wire.specs.Joined.{joined, parted}
+use Rattle.la_wire.specs.Readings.{◌>>=◌, or_fault, number_at, first_number, first_id, at_end}
+
+-- ## As it is written
+
+abbrev pub spelling : Verb → List ℕ
+spelling verb.Inc = codes "inc"
+spelling verb.Dec = codes "dec"
+spelling verb.Raise = codes "raise"
+spelling verb.Put = codes "put"
+spelling verb.Remove = codes "remove"
+spelling verb.Mark = codes "mark"
+spelling verb.Vote = codes "vote"
+spelling verb.Sole = codes "sole"
+
+abbrev pub vote_verb : (sole : Bool) → Verb
+vote_verb true = verb.Sole
+vote_verb false = verb.Vote
+
+-- a vote for a value that its voter saw alone is `sole`
+abbrev pub op_words : Op → List (List ℕ)
+op_words (op.Inc x) = spelling verb.Inc ∷ decimal x ∷ []
+op_words (op.Dec x) = spelling verb.Dec ∷ decimal x ∷ []
+op_words (op.Raise x) = spelling verb.Raise ∷ decimal x ∷ []
+op_words (op.Put x) = spelling verb.Put ∷ decimal x ∷ []
+op_words (op.Remove tags) = spelling verb.Remove ∷ map id_text tags
+op_words op.Mark = spelling verb.Mark ∷ []
+op_words (op.Vote x sole) = spelling (vote_verb sole) ∷ decimal x ∷ []
+
+abbrev pub update_words : Update → List (List ℕ)
+update_words u = id_text u.id ∷ decimal u.object ∷ op_words u.op
+
+abbrev pub update_text : Update → List ℕ
+update_text u = joined 32 (update_words u)
+
+-- ## As it is read
+
+-- the verb that a word is
+abbrev pub verb_of : List ℕ → Option Verb
+verb_of word =
+    if bytes_eq word (spelling verb.Inc) then Some verb.Inc else
+    if bytes_eq word (spelling verb.Dec) then Some verb.Dec else
+    if bytes_eq word (spelling verb.Raise) then Some verb.Raise else
+    if bytes_eq word (spelling verb.Put) then Some verb.Put else
+    if bytes_eq word (spelling verb.Remove) then Some verb.Remove else
+    if bytes_eq word (spelling verb.Mark) then Some verb.Mark else
+    if bytes_eq word (spelling verb.Vote) then Some verb.Vote else
+    if bytes_eq word (spelling verb.Sole) then Some verb.Sole else None
+
+-- one number up to the highest, and nothing behind it
+abbrev pub only_number : (high : ℕ) → List (List ℕ) → Result ℕ LineFault
+only_number high (word ∷ []) = number_at 0 high word
+only_number high _ = Err BadLine
+
+-- the tags of a remove are the rest of the words
+abbrev pub tags_at : List (List ℕ) → Result (List UpdateId) LineFault
+tags_at words = if nat_le (length words) MAX_TAGS then or_fault BadNumber (tags_of words) else Err BadLine
+
+abbrev pub made : {A B : Type 0} → (A → B) → Result A LineFault → Result B LineFault
+made make (Ok x) = Ok (make x)
+made make (Err fault) = Err fault
+
+-- what the words behind a verb say
+unfoldable pub op_at : Verb → List (List ℕ) → Result Op LineFault
+op_at verb.Inc words = made op.Inc (only_number u32_max words)
+op_at verb.Dec words = made op.Dec (only_number u32_max words)
+op_at verb.Raise words = made op.Raise (only_number u64_max words)
+op_at verb.Put words = made op.Put (only_number u64_max words)
+op_at verb.Remove words = made op.Remove (tags_at words)
+op_at verb.Mark words = made (λ end. op.Mark) (at_end words)
+op_at verb.Vote words = made (λ value. op.Vote value false) (only_number u64_max words)
+op_at verb.Sole words = made (λ value. op.Vote value true) (only_number u64_max words)
+
+-- what words say is done
+abbrev pub op_in : List (List ℕ) → Result Op LineFault
+op_in [] = Err BadLine
+op_in (word ∷ words) = or_fault BadLine (verb_of word) >>= (λ is. op_at is words)
+
+-- the update that words say
+unfoldable pub update_in : List (List ℕ) → Result Update LineFault
+update_in words = do
+  id ← first_id words
+  object ← first_number 0 u16_max id.1
+  does ← op_in object.1
+  Ok (record { id = id.0; object = object.0; op = does })
+
+-- the updates that parts of a line say
+abbrev pub updates_in : List (List ℕ) → Result (List Update) LineFault
+updates_in [] = Ok []
+updates_in (part ∷ parts) = do
+  u ← update_in (parted 32 part)
+  us ← updates_in parts
+  Ok (u ∷ us)
+
+-- ## A set that is told
+
+-- an id comes next, as a test
+abbrev pub comes_next : Histories → UpdateId → Bool
+comes_next s id = nat_lt id.replica REPLICAS && ((id.number == count s id.replica + 1) && nat_le id.number MAX_NUMBER)
+
+-- each of the updates comes next, where they are pushed one after another
+abbrev pub come_next : Histories → List Update → Bool
+come_next s [] = true
+come_next s (u ∷ us) = comes_next s u.id && come_next (push s u) us
+
+-- why the updates make no set
+abbrev pub refused_by : SetError → LineError
+refused_by Memory = error.Memory
+refused_by _ = error.Fault BadSet
+
+-- the set of these updates
+unfoldable pub set_of : List Update → Result Histories LineFault
+set_of us = if come_next empty us then Ok (pushed empty us) else Err BadSet

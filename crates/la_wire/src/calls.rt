@@ -1,0 +1,167 @@
+// What a node is called for, read from lines.
+ghost use Rattle.std.specs.Prelude.{◌≡◌, ◌==◌, Ok, Some, IfOk};
+ghost use Rattle.la_journal.specs.Machine.{IsNamed};
+ghost use Rattle.std.specs.List.{before_first};
+ghost use Rattle.la_script.specs.declared.script.Version.TheVariants.{Two};
+ghost use Rattle.la_script.specs.Lines.{event_of};
+ghost use Rattle.la_wire.specs.Readings.{Gives};
+ghost use Rattle.la_wire.specs.Calls.{called};
+ghost use Rattle.la_wire.specs.CallLines.{event_call, fault_of, script_call, first_kind};
+ghost use Rattle.la_wire.specs.CallLines.{call_of, bounded_call_of, named};
+
+use crate::messages::{Kind, read_message};
+use crate::{Letter, LineError, LineFault};
+use la_object::Query;
+use la_script::{FaultName, ReadError, Version, event_at, split_once};
+use la_set::Op;
+use la_world::Event;
+use std::alloc::{AllocError, Global};
+
+/// How many bytes a line may have that comes from outside.
+pub const MAX_LINE: usize = 16_777_216;
+
+/// What a node is called for.
+#[derive(Drop)]
+pub enum Call {
+    /// A replica submits an operation on an object, in instance 0.
+    Submit {
+        /// The number of the replica, from 0.
+        replica: u8,
+        /// The number of the object.
+        object: u16,
+        /// What is done to it: no vote.
+        op: Op,
+    },
+    /// A replica proposes a value to an adopt-commit object.
+    Decide {
+        /// The number of the replica, from 0.
+        replica: u8,
+        /// The number of the object, from 0.
+        commit: u8,
+        /// The value that it proposes.
+        value: u64,
+    },
+    /// An object on a replica's shelf is asked.
+    Ask {
+        /// The number of the replica, from 0.
+        replica: u8,
+        /// The number of the object.
+        object: u16,
+        /// What it is asked.
+        query: Query,
+    },
+    /// A timer has run out: what waits for an answer is sent once more.
+    Tick,
+    /// A message has come.
+    Receive(Letter),
+}
+
+// The call that an event is: a delivery is none.
+fn event_call(event: Event) -> Result<Call, LineError>
+    ensures { Gives called (event_call event) result }
+{
+    match event {
+        Event::Submit {
+            replica,
+            object,
+            op,
+        } => Ok(Call::Submit {
+            replica,
+            object,
+            op,
+        }),
+        Event::Deliver(_) => Err(LineError::Fault(LineFault::BadLine)),
+        Event::Decide {
+            replica,
+            commit,
+            value,
+        } => Ok(Call::Decide {
+            replica,
+            commit,
+            value,
+        }),
+        Event::Ask {
+            replica,
+            object,
+            query,
+        } => Ok(Call::Ask {
+            replica,
+            object,
+            query,
+        }),
+    }
+}
+
+fn fault_of(name: FaultName) -> LineFault
+    ensures { result ≡ fault_of name }
+{
+    match name {
+        FaultName::BadNumber => LineFault::BadNumber,
+        _ => LineFault::BadLine,
+    }
+}
+
+// The call that an event of a script is.
+fn script_call(alloc: Global, line: &[u8]) -> Result<Call, LineError>
+    ensures { Gives called (script_call (event_of Two line.now)) result }
+{
+    match event_at(alloc, Version::Two, 0, line) {
+        Ok(event) => event_call(event),
+        Err(ReadError::Fault(fault)) => Err(LineError::Fault(fault_of(fault.name))),
+        Err(ReadError::Memory) => Err(LineError::Memory),
+    }
+}
+
+// The kind of message that a line's first word is.
+fn first_kind(line: &[u8]) -> Option<Kind>
+    ensures { result ≡ first_kind line.now }
+{
+    let (first, _) = split_once(line, b' ');
+    Kind::of(first)
+}
+
+/// The call that a line says, whatever its length, at a cost linear in it: for lines that are one's own, as
+/// those of a journal.
+///
+/// `Fault` comes exactly where the line is no call, and names the first fault. Of a message it is, from left
+/// to right and part by part: `BadLine` where a word is to be one of the known and is none, or where there is
+/// a word or a part too few or too many; `BadNumber` where a number is not canonical or is out of its range,
+/// or an id or a tag is none; and then `BadSet` where the updates of a tell do not each come next. Of any
+/// other line it is the fault of a script's event, and `BadLine` for `deliver`. `Memory` may come at any line.
+/// Nothing stands after a refusal.
+pub fn read(alloc: Global, line: &[u8]) -> Result<Call, LineError>
+    ensures { Gives called (call_of line.now) result }
+{
+    if line == b"tick".as_slice() {
+        return Ok(Call::Tick);
+    }
+    match first_kind(line) {
+        Some(_) => Ok(Call::Receive(read_message(alloc, line)?)),
+        None => script_call(alloc, line),
+    }
+}
+
+/// The call that a line from outside is, as [`read`] says: `TooLong` comes first, where it has more than
+/// [`MAX_LINE`] bytes, and then it is not looked at. So no line takes more memory than some such lines
+/// have bytes.
+pub fn read_bounded(alloc: Global, line: &[u8]) -> Result<Call, LineError>
+    ensures exact { Gives called (bounded_call_of line.now) result }
+    ensures ok { IfOk result (λ call. call_of line.now ≡ Ok (called call)) }
+{
+    if line.len() > MAX_LINE {
+        return Err(LineError::Fault(LineFault::TooLong));
+    }
+    read(alloc, line)
+}
+
+/// The call that a line names, as [`read`] reads it; `None` where it has a fault. It is what a `Machine` of
+/// `la_journal` reads.
+pub fn named(alloc: Global, line: &[u8]) -> Result<Option<Call>, AllocError>
+    ensures { IfOk result (λ call. IsNamed called (named line.now) call) }
+{
+    match read(alloc, line) {
+        Ok(call) => Ok(Some(call)),
+        Err(LineError::Fault(_)) => Ok(None),
+        Err(LineError::Memory) => Err(AllocError),
+    }
+}

@@ -1,0 +1,184 @@
+// Updates, each read from a part of a line.
+ghost use Rattle.std.specs.Prelude.{◌≡◌, ◌≤◌, IfOk};
+ghost use Rattle.la_script.specs.Words.{bytes_of};
+ghost use Rattle.la_wire.specs.Readings.{Gives};
+ghost use Rattle.la_wire.specs.Updates.{spelling, vote_verb, verb_of, only_number, tags_at};
+ghost use Rattle.la_wire.specs.Updates.{op_at, op_in, update_in, updates_in, set_of, refused_by};
+
+use crate::words::{at_end, first_id, first_number, number_at};
+use crate::{LineError, LineFault};
+use la_script::{tags_of, words_of};
+use la_set::{Counts, Delta, MAX_TAGS, Op, SetError, Tags, Update, UpdateSet, Updates};
+use std::alloc::Global;
+
+/// What an update does, as a word.
+#[derive(Clone, Copy)]
+pub enum Verb {
+    Inc,
+    Dec,
+    Raise,
+    Put,
+    Remove,
+    Mark,
+    Vote,
+    Sole,
+}
+
+impl Verb {
+    /// The word, as bytes.
+    pub fn spelling(self) -> &'static [u8]
+        ensures { result.now ≡ spelling self }
+    {
+        match self {
+            Verb::Inc => b"inc",
+            Verb::Dec => b"dec",
+            Verb::Raise => b"raise",
+            Verb::Put => b"put",
+            Verb::Remove => b"remove",
+            Verb::Mark => b"mark",
+            Verb::Vote => b"vote",
+            Verb::Sole => b"sole",
+        }
+    }
+
+    /// The verb of a vote.
+    pub fn of_vote(sole: bool) -> Verb
+        ensures { result ≡ vote_verb sole }
+    {
+        if sole { Verb::Sole } else { Verb::Vote }
+    }
+
+    // The verb that a word is.
+    fn of(word: &[u8]) -> Option<Verb>
+        ensures { result ≡ verb_of word.now }
+    {
+        if word == Verb::Inc.spelling() {
+            Some(Verb::Inc)
+        } else if word == Verb::Dec.spelling() {
+            Some(Verb::Dec)
+        } else if word == Verb::Raise.spelling() {
+            Some(Verb::Raise)
+        } else if word == Verb::Put.spelling() {
+            Some(Verb::Put)
+        } else if word == Verb::Remove.spelling() {
+            Some(Verb::Remove)
+        } else if word == Verb::Mark.spelling() {
+            Some(Verb::Mark)
+        } else if word == Verb::Vote.spelling() {
+            Some(Verb::Vote)
+        } else if word == Verb::Sole.spelling() {
+            Some(Verb::Sole)
+        } else {
+            None
+        }
+    }
+}
+
+// One number up to the highest, and nothing behind it.
+fn only_number(high: u64, words: &[&[u8]]) -> Result<u64, LineFault>
+    ensures exact { result ≡ only_number high (bytes_of words.now) }
+    ensures high { IfOk result (λ n. n ≤ high) }
+{
+    match words {
+        [word] => number_at(0, high, word),
+        _ => Err(LineFault::BadLine),
+    }
+}
+
+fn tags_at(alloc: Global, words: &[&[u8]]) -> Result<Tags, LineError>
+    ensures { Gives (λ tags. tags) (tags_at (bytes_of words.now)) result }
+{
+    if words.len() > MAX_TAGS {
+        return Err(LineError::Fault(LineFault::BadLine));
+    }
+    match tags_of(alloc, words)? {
+        Some(tags) => Ok(tags),
+        None => Err(LineError::Fault(LineFault::BadNumber)),
+    }
+}
+
+// What the words behind a verb say.
+fn op_at(alloc: Global, verb: Verb, words: &[&[u8]]) -> Result<Op, LineError>
+    ensures { Gives (λ op. op) (op_at verb (bytes_of words.now)) result }
+{
+    let small = u64::from(u32::MAX);
+    match verb {
+        Verb::Inc => Ok(Op::Inc(only_number(small, words)? as u32)),
+        Verb::Dec => Ok(Op::Dec(only_number(small, words)? as u32)),
+        Verb::Raise => Ok(Op::Raise(only_number(u64::MAX, words)?)),
+        Verb::Put => Ok(Op::Put(only_number(u64::MAX, words)?)),
+        Verb::Remove => Ok(Op::Remove(tags_at(alloc, words)?)),
+        Verb::Mark => {
+            at_end(words)?;
+            Ok(Op::Mark)
+        }
+        Verb::Vote => Ok(Op::Vote {
+            value: only_number(u64::MAX, words)?,
+            sole: false,
+        }),
+        Verb::Sole => Ok(Op::Vote {
+            value: only_number(u64::MAX, words)?,
+            sole: true,
+        }),
+    }
+}
+
+fn op_in(alloc: Global, words: &[&[u8]]) -> Result<Op, LineError>
+    ensures { Gives (λ op. op) (op_in (bytes_of words.now)) result }
+{
+    let [word, rest @ ..] = words else {
+        return Err(LineError::Fault(LineFault::BadLine));
+    };
+    match Verb::of(word) {
+        Some(verb) => op_at(alloc, verb, rest),
+        None => Err(LineError::Fault(LineFault::BadLine)),
+    }
+}
+
+// The update that words say.
+fn update_in(alloc: Global, words: &[&[u8]]) -> Result<Update, LineError>
+    ensures { Gives (λ update. update) (update_in (bytes_of words.now)) result }
+{
+    let (id, words) = first_id(words)?;
+    let (object, words) = first_number(0, u64::from(u16::MAX), words)?;
+    let op = op_in(alloc, words)?;
+    Ok(Update {
+        id,
+        object: object as u16,
+        op,
+    })
+}
+
+/// The updates that parts of a line say, at a cost linear in their bytes.
+#[tactic(auto, using(crate::proofs::UpdateLists::goes_on))]
+pub fn updates_in(alloc: Global, parts: &[&[u8]]) -> Result<Updates, LineError>
+    ensures { Gives (λ updates. updates) (updates_in (bytes_of parts.now)) result }
+{
+    let mut updates = Updates::new(alloc);
+    for part in parts {
+        let words = words_of(alloc, part)?;
+        updates.push(update_in(alloc, &words)?)?;
+    }
+    Ok(updates)
+}
+
+/// The set of these updates, or `BadSet` where one of them does not come next.
+pub fn set_of(alloc: Global, updates: Updates) -> Result<UpdateSet, LineError>
+    ensures { Gives (λ set. set) (set_of updates) result }
+{
+    let delta = Delta::new(Counts::zero(), updates);
+    match UpdateSet::new(alloc).with(&delta) {
+        Ok(set) => Ok(set),
+        Err(refused) => Err(refused_by(refused)),
+    }
+}
+
+// Why updates make no set.
+fn refused_by(refused: SetError) -> LineError
+    ensures { result ≡ refused_by refused }
+{
+    match refused {
+        SetError::Memory => LineError::Memory,
+        _ => LineError::Fault(LineFault::BadSet),
+    }
+}

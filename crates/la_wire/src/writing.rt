@@ -1,0 +1,279 @@
+// Messages, written as lines.
+ghost use Rattle.std.specs.Prelude.{◌≡◌, ◌++◌, ◌∷◌, [], map, IfOk, OnOk};
+ghost use Rattle.std.specs.Fmt.{decimal};
+ghost use Rattle.la_set.specs.Histories.{updates};
+ghost use Rattle.la_script.specs.Text.{id_text};
+ghost use Rattle.la_wire.specs.Joined.{spaced, joined};
+ghost use Rattle.la_wire.specs.Updates.{op_words, update_text};
+ghost use Rattle.la_wire.specs.Messages.{said_by, said_body};
+ghost use Rattle.la_wire.specs.MessageLines.{count_words, base_words, base_word, carried};
+ghost use Rattle.la_wire.specs.MessageLines.{kind_in, head_words, message_text};
+ghost use Rattle.la_wire.specs.MessageLines.{spelling as kind_spelling};
+ghost use Rattle.la_wire.specs.Updates.{spelling};
+ghost use Rattle.la_wire.specs.Calls.{called};
+ghost use Rattle.la_wire.specs.CallLines.{query_words, text};
+
+use crate::messages::Kind;
+use crate::updates::Verb;
+use crate::{Call, Letter};
+use itoa::Buffer;
+use la_object::Query;
+use la_replica::{Body, Message};
+use la_set::{Counts, Delta, Op, REPLICAS, Tags, Update, UpdateId, UpdateSet};
+use std::alloc::{AllocError, Global};
+
+fn put_decimal(out: &mut Vec<u8>, number: u64) -> Result<(), AllocError>
+    ensures { OnOk result (out.new.items ≡ out.old.items ++ decimal number) }
+{
+    out.extend_from_slice(Buffer::new().format(number).as_bytes())
+}
+
+// Writes a word behind others.
+fn put_word(out: &mut Vec<u8>, word: &[u8]) -> Result<(), AllocError>
+    ensures { OnOk result (out.new.items ≡ out.old.items ++ 32 ∷ word.now) }
+{
+    out.push(b' ')?;
+    out.extend_from_slice(word)
+}
+
+// Writes a number behind other words.
+fn put_number(out: &mut Vec<u8>, number: u64) -> Result<(), AllocError>
+    ensures { OnOk result (out.new.items ≡ out.old.items ++ 32 ∷ decimal number) }
+{
+    out.push(b' ')?;
+    put_decimal(out, number)
+}
+
+fn put_id(out: &mut Vec<u8>, id: UpdateId) -> Result<(), AllocError>
+    ensures { OnOk result (out.new.items ≡ out.old.items ++ id_text id) }
+{
+    put_decimal(out, u64::from(id.replica))?;
+    out.push(b'.')?;
+    put_decimal(out, u64::from(id.number))
+}
+
+// Writes an id behind other words.
+fn put_tag(out: &mut Vec<u8>, tag: UpdateId) -> Result<(), AllocError>
+    ensures { OnOk result (out.new.items ≡ out.old.items ++ 32 ∷ id_text tag) }
+{
+    out.push(b' ')?;
+    put_id(out, tag)
+}
+
+fn put_tags(out: &mut Vec<u8>, tags: &Tags) -> Result<(), AllocError>
+    ensures { OnOk result (out.new.items ≡ out.old.items ++ spaced 32 (map id_text tags.now)) }
+{
+    for place in 0..tags.len() {
+        let Some(tag) = tags.at(place) else {
+            unreachable!()
+        };
+        put_tag(out, *tag)?;
+    }
+    Ok(())
+}
+
+// Writes a verb and its number.
+fn put_verb(out: &mut Vec<u8>, verb: Verb, number: u64) -> Result<(), AllocError>
+    ensures { OnOk result
+        (out.new.items ≡ out.old.items ++ spaced 32 (spelling verb ∷ decimal number ∷ [])) }
+{
+    put_word(out, verb.spelling())?;
+    put_number(out, number)
+}
+
+fn put_op(out: &mut Vec<u8>, op: &Op) -> Result<(), AllocError>
+    ensures { OnOk result (out.new.items ≡ out.old.items ++ spaced 32 (op_words op.now)) }
+{
+    match op {
+        Op::Inc(by) => put_verb(out, Verb::Inc, u64::from(*by)),
+        Op::Dec(by) => put_verb(out, Verb::Dec, u64::from(*by)),
+        Op::Raise(to) => put_verb(out, Verb::Raise, *to),
+        Op::Put(element) => put_verb(out, Verb::Put, *element),
+        Op::Remove(tags) => {
+            put_word(out, Verb::Remove.spelling())?;
+            put_tags(out, tags)
+        }
+        Op::Mark => put_word(out, Verb::Mark.spelling()),
+        Op::Vote { value, sole } => put_verb(out, Verb::of_vote(*sole), *value),
+    }
+}
+
+// Writes an update as a part behind others.
+fn put_update(out: &mut Vec<u8>, update: &Update) -> Result<(), AllocError>
+    ensures { OnOk result (out.new.items ≡ out.old.items ++ 59 ∷ update_text update.now) }
+{
+    out.push(b';')?;
+    put_id(out, update.id)?;
+    put_number(out, u64::from(update.object))?;
+    put_op(out, &update.op)
+}
+
+fn put_delta(out: &mut Vec<u8>, delta: &Delta) -> Result<(), AllocError>
+    ensures { OnOk result
+        (out.new.items ≡ out.old.items ++ spaced 59 (map update_text delta.now.more)) }
+{
+    for place in 0..delta.len() {
+        let Some(update) = delta.at(place) else {
+            unreachable!()
+        };
+        put_update(out, update)?;
+    }
+    Ok(())
+}
+
+fn put_set(out: &mut Vec<u8>, set: &UpdateSet) -> Result<(), AllocError>
+    ensures { OnOk result
+        (out.new.items ≡ out.old.items ++ spaced 59 (map update_text (updates set.now))) }
+{
+    for place in 0..set.len() {
+        let Some(update) = set.at(place) else {
+            unreachable!()
+        };
+        put_update(out, update)?;
+    }
+    Ok(())
+}
+
+#[tactic(auto, using(crate::proofs::UpdateLists::next_count))]
+fn put_counts(out: &mut Vec<u8>, counts: Counts) -> Result<(), AllocError>
+    ensures { OnOk result (out.new.items ≡ out.old.items ++ spaced 32 (count_words counts)) }
+{
+    for replica in 0..REPLICAS {
+        put_number(out, u64::from(counts.of(replica)))?;
+    }
+    Ok(())
+}
+
+fn put_base(out: &mut Vec<u8>, delta: &Delta) -> Result<(), AllocError>
+    ensures { OnOk result
+        (out.new.items ≡ out.old.items ++ spaced 32 (base_word ∷ count_words delta.now.base)) }
+{
+    put_word(out, b"base")?;
+    put_counts(out, delta.base())
+}
+
+// Writes the base, where the body has one, and then the updates.
+fn put_body(out: &mut Vec<u8>, body: &Body) -> Result<(), AllocError>
+    ensures { OnOk result (out.new.items ≡ out.old.items
+        ++ spaced 32 (base_words (said_body body.now))
+        ++ spaced 59 (map update_text (carried (said_body body.now)))) }
+{
+    match body {
+        Body::Offer(delta) | Body::No(delta) => {
+            put_base(out, delta)?;
+            put_delta(out, delta)
+        }
+        Body::Yes => Ok(()),
+        Body::Tell(told) => put_set(out, told),
+    }
+}
+
+fn kind_of(body: &Body) -> Kind
+    ensures { result ≡ kind_in (said_body body.now) }
+{
+    match body {
+        Body::Offer(_) => Kind::Offer,
+        Body::Yes => Kind::Yes,
+        Body::No(_) => Kind::No,
+        Body::Tell(_) => Kind::Tell,
+    }
+}
+
+// Writes the kind and the numbers behind it.
+fn put_header(out: &mut Vec<u8>, replicas: u8, message: &Message) -> Result<(), AllocError>
+    ensures { OnOk result (out.new.items ≡ out.old.items
+        ++ kind_spelling (kind_in (said_body message.now.body))
+        ++ spaced 32 (decimal replicas ∷ decimal message.now.from ∷ decimal message.now.to
+        ∷ decimal message.now.instance ∷ decimal message.now.ballot ∷ [])) }
+{
+    out.extend_from_slice(kind_of(&message.body).spelling())?;
+    put_number(out, u64::from(replicas))?;
+    put_number(out, u64::from(message.from))?;
+    put_number(out, u64::from(message.to))?;
+    put_number(out, u64::from(message.instance))?;
+    put_number(out, u64::from(message.ballot))
+}
+
+/// Puts the line of a message behind what is there, without the line's end, at a cost linear in it but for
+/// finding each update. After a refusal a part of it may stand there.
+pub fn put_message(out: &mut Vec<u8>, replicas: u8, message: &Message) -> Result<(), AllocError>
+    ensures { OnOk result (out.new.items ≡ out.old.items
+        ++ message_text (said_by (record { replicas = replicas; message = message.now }))) }
+{
+    put_header(out, replicas, message)?;
+    put_body(out, &message.body)
+}
+
+// Writes a question's words.
+fn put_query(out: &mut Vec<u8>, query: Query) -> Result<(), AllocError>
+    ensures { OnOk result (out.new.items ≡ out.old.items ++ spaced 32 (query_words query)) }
+{
+    match query {
+        Query::Total => put_word(out, b"total"),
+        Query::AtLeast(bound) => {
+            put_word(out, b"atleast")?;
+            put_number(out, bound)
+        }
+        Query::Largest => put_word(out, b"largest"),
+        Query::Has(element) => {
+            put_word(out, b"has")?;
+            put_number(out, element)
+        }
+        Query::Size => put_word(out, b"size"),
+        Query::Items => put_word(out, b"items"),
+    }
+}
+
+// Writes a call's first word, and the numbers of a replica and of an object.
+fn put_front(out: &mut Vec<u8>, word: &[u8], replica: u8, object: u16) -> Result<(), AllocError>
+    ensures { OnOk result (out.new.items
+        ≡ out.old.items ++ joined 32 (word.now ∷ decimal replica ∷ decimal object ∷ [])) }
+{
+    out.extend_from_slice(word)?;
+    put_number(out, u64::from(replica))?;
+    put_number(out, u64::from(object))
+}
+
+// Writes a call's line behind what is there.
+fn put_call(out: &mut Vec<u8>, call: &Call) -> Result<(), AllocError>
+    ensures { OnOk result (out.new.items ≡ out.old.items ++ text (called call.now)) }
+{
+    match call {
+        Call::Submit {
+            replica,
+            object,
+            op,
+        } => {
+            put_front(out, b"submit", *replica, *object)?;
+            put_op(out, op)
+        }
+        Call::Decide {
+            replica,
+            commit,
+            value,
+        } => {
+            put_front(out, b"decide", *replica, u16::from(*commit))?;
+            put_number(out, *value)
+        }
+        Call::Ask {
+            replica,
+            object,
+            query,
+        } => {
+            put_front(out, b"ask", *replica, *object)?;
+            put_query(out, *query)
+        }
+        Call::Tick => out.extend_from_slice(b"tick"),
+        Call::Receive(letter) => put_message(out, letter.replicas, &letter.message),
+    }
+}
+
+/// The line of a call, without the line's end, at the cost of [`put_message`]. A call that can be had, with a vote
+/// in no submission and with ids from 1, is read back from it ([`laws`](crate::laws)).
+pub fn write(alloc: Global, call: &Call) -> Result<Vec<u8>, AllocError>
+    ensures { IfOk result (λ line. line.items ≡ text (called call.now)) }
+{
+    let mut line = Vec::new(alloc);
+    put_call(&mut line, call)?;
+    Ok(line)
+}

@@ -1,0 +1,167 @@
+// A number that goes up and down, one line a move.
+ghost use Rattle.std.specs.Prelude.{◌≡◌, ◌++◌, ◌∷◌, [], ℕ, Option, Some, None, IfOk, IfSome, IfNone};
+ghost use Rattle.la_journal.specs.Disk.{Only};
+ghost use Rattle.la_journal.specs.Lines.{lines};
+ghost use Rattle.test_journal.specs.declared.tally.Move.TheVariants.{Up};
+ghost use Rattle.test_journal.specs.Tally.{text, number_in};
+
+use la_journal::{Disk, Machine, Snapshot, recover};
+use std::alloc::{AllocError, Global};
+use thiserror::Error;
+
+/// What a tally is given.
+#[derive(Clone, Copy, Debug, PartialEq, Eq)]
+pub enum Move {
+    Up,
+    Down,
+}
+
+/// Why a tally does not move.
+#[derive(Clone, Copy, Debug, PartialEq, Eq, Error)]
+pub enum MoveError {
+    /// It is as large as it may be.
+    #[error("the number is as large as it may be")]
+    Full,
+
+    /// It is 0.
+    #[error("the number is 0")]
+    Empty,
+}
+
+/// A number.
+#[derive(Drop)]
+pub struct Tally {
+    pub total: u64,
+}
+
+impl Machine for Tally {
+    ghost use Rattle.test_journal.specs.declared.tally.Move.{Move};
+    ghost use Rattle.test_journal.specs.Tally.{moved, text, named, number_in, round_trip, clean};
+
+    type Input = Move;
+
+    type Output = u64;
+
+    type Refusal = MoveError;
+
+    ghost State = { ℕ };
+
+    ghost state = { λ t. t.total };
+
+    ghost Call = { Move };
+
+    ghost call = { λ m. m };
+
+    ghost step = { moved };
+
+    ghost Answer = { Option ℕ };
+
+    ghost answer = { λ n. Some n };
+
+    ghost answers = { moved };
+
+    ghost text = { text };
+
+    ghost named = { named };
+
+    ghost named_state = { number_in };
+
+    ghost lacks_memory = { λ _. ⊥ };
+
+    ghost round_trip = { round_trip };
+
+    ghost clean = { clean };
+
+    fn apply(&mut self, input: &Move) -> Result<u64, MoveError> {
+        match input {
+            Move::Up => {
+                if self.total == u64::MAX {
+                    return Err(MoveError::Full);
+                }
+                self.total += 1;
+            }
+            Move::Down => {
+                if self.total == 0 {
+                    return Err(MoveError::Empty);
+                }
+                self.total -= 1;
+            }
+        }
+        Ok(self.total)
+    }
+
+    fn write(alloc: Global, input: &Move) -> Result<Vec<u8>, AllocError> {
+        let mut line = Vec::new(alloc);
+        line.push(match input {
+            Move::Up => b'u',
+            Move::Down => b'd',
+        })?;
+        Ok(line)
+    }
+
+    fn read(_alloc: Global, line: &[u8]) -> Result<Option<Move>, AllocError> {
+        Ok(match line {
+            [b'u'] => Some(Move::Up),
+            [b'd'] => Some(Move::Down),
+            _ => None,
+        })
+    }
+
+    fn read_state(&mut self, _alloc: Global, bytes: &[u8]) -> Result<bool, AllocError> {
+        if let Some(total) = ups_in(bytes) {
+            self.total = total;
+            return Ok(true);
+        }
+        Ok(false)
+    }
+}
+
+impl Snapshot for Tally {
+    fn write_state(&self, alloc: Global) -> Result<Vec<u8>, AllocError> {
+        let mut text = Vec::new(alloc);
+        for _up in 0..self.total {
+            text.push(b'u')?;
+        }
+        Ok(text)
+    }
+}
+
+// The number that is told by as many `u`.
+fn ups_in(bytes: &[u8]) -> Option<u64>
+    ensures some { IfSome result (λ total. number_in bytes.now ≡ Some total) }
+    ensures none { IfNone result (number_in bytes.now ≡ None) }
+{
+    let mut total = 0;
+    for byte in bytes {
+        if *byte != b'u' {
+            return None;
+        }
+        total += 1;
+    }
+    Some(total)
+}
+
+/// Why nothing was counted.
+#[derive(Clone, Copy, Debug, PartialEq, Eq)]
+pub enum Stopped {
+    /// The journal was not played.
+    Unplayed,
+
+    /// The move was not taken.
+    Refused,
+}
+
+/// Plays a journal that a crash may have left, and counts one more. What comes back has the lines of
+/// before and that one, and a crash leaves them.
+pub fn counted<D: Disk>(alloc: Global, disk: D) -> Result<(u64, D), Stopped>
+    ensures lines { IfOk result (λ it. lines (D.seen it.1) ≡ lines (D.seen disk) ++ text Up ∷ []) }
+    ensures stays { IfOk result (λ it. Only (D.seen it.1) (D.may_leave it.1)) }
+{
+    let Ok(mut tally) = recover(alloc, Tally { total: 0 }, disk) else {
+        return Err(Stopped::Unplayed);
+    };
+    match tally.handle(alloc, &Move::Up) {
+        Ok(total) => Ok((total, tally.disk)),
+        Err(_) => Err(Stopped::Refused),
+    }
+}

@@ -1,0 +1,73 @@
+// An outlet that keeps what it is given.
+ghost use Rattle.std.specs.Prelude.{◌≡◌, []};
+
+use la_journal::{MemoryDisk, Outlet, OutletFault};
+use std::alloc::Global;
+use std::process::Abort;
+
+/// What was given out, and the moment of a disk in memory then. It stops a test that has no memory for it.
+#[derive(Drop)]
+pub struct Told<A: Abort + Copy + Drop, T: Drop> {
+    rt: A,
+    pub given: Vec<(u64, T)>,
+}
+
+impl<A: Abort + Copy + Drop, T: Drop> Told<A, T> {
+    /// Nothing yet.
+    pub fn new(rt: &A, alloc: Global) -> Told<A, T> {
+        Told {
+            rt: *rt,
+            given: Vec::new(alloc),
+        }
+    }
+}
+
+impl<A: Abort + Copy + Drop, T: Drop> Outlet<MemoryDisk> for Told<A, T> {
+    ghost use Rattle.test_journal.specs.Told.{told};
+
+    type Item = T;
+
+    ghost said = { λ o. told o.given.items };
+
+    ghost faults = { λ _. 0 };
+
+    fn give(&mut self, disk: &MemoryDisk, item: T) -> Result<(), OutletFault> {
+        let Ok(()) = self.given.push((disk.moment(), item)) else {
+            panic!(self.rt; "out of memory");
+        };
+        Ok(())
+    }
+}
+
+/// One that fails at each answer behind so many. What it was given then counts as given out too.
+#[derive(Drop)]
+pub struct Failing<A: Abort + Copy + Drop> {
+    pub told: Told<A, u64>,
+    pub most: usize,
+    pub failures: u64,
+}
+
+impl<A: Abort + Copy + Drop> Outlet<MemoryDisk> for Failing<A> {
+    ghost use Rattle.test_journal.specs.Told.{told};
+
+    type Item = u64;
+
+    ghost said = { λ o. told o.told.given.items };
+
+    ghost faults = { λ o. o.failures };
+
+    fn give(&mut self, disk: &MemoryDisk, item: u64) -> Result<(), OutletFault> {
+        let is_full = self.told.given.len() >= self.most;
+        let Ok(()) = self.told.given.push((disk.moment(), item)) else {
+            panic!(self.told.rt; "out of memory");
+        };
+        if !is_full {
+            return Ok(());
+        }
+        let Some(failures) = self.failures.checked_add(1) else {
+            panic!(self.told.rt; "too many failures");
+        };
+        self.failures = failures;
+        Err(OutletFault)
+    }
+}

@@ -1,0 +1,402 @@
+// Calls and messages as lines, against values made by hand. Where memory is refused a row is looked at again.
+use crate::holds::holds;
+use la_object::Query;
+use la_replica::{Body, Message};
+use la_set::{Delta, Op, SetError, Tags, Update, UpdateId, UpdateSet, Updates};
+use la_wire::{Call, Letter, LineError, LineFault, read, read_bounded, write};
+use std::alloc::Global;
+use uses::lines::{came, carried, sent};
+
+// What an operation is to be; a tag by its replica and its number.
+#[derive(Clone, Copy)]
+enum Act {
+    Inc(u32),
+    Dec(u32),
+    Raise(u64),
+    Put(u64),
+    Remove(&'static [(u8, u32)]),
+    Mark,
+    Vote(u64, bool),
+}
+
+// An update: replica, number, object, operation.
+type Row = (u8, u32, u16, Act);
+
+// What a call is to be; a message by its group's size, sender, receiver, instance and ballot.
+#[derive(Clone, Copy)]
+enum Want {
+    Submit(u8, u16, Act),
+    Decide(u8, u8, u64),
+    Ask(u8, u16, Query),
+    Tick,
+    Offer([u8; 4], u32, [u32; 8], &'static [Row]),
+    Yes([u8; 4], u32),
+    No([u8; 4], u32, [u32; 8], &'static [Row]),
+    Tell([u8; 4], u32, &'static [Row]),
+}
+
+use self::Act::{Dec, Inc, Mark, Put, Raise, Remove, Vote};
+use self::Want::{Ask, Decide, No, Offer, Submit, Tell, Tick, Yes};
+
+const ONE: [u32; 8] = [1, 0, 0, 0, 0, 0, 0, 0];
+
+const EIGHT: [u32; 8] = [4294967295, 1, 20, 300, 4000, 50000, 600000, 1000000];
+
+const LINES: [(&str, Want); 23] = [
+    ("tick", Tick),
+    (
+        "submit 255 65535 inc 4294967295",
+        Submit(255, 65535, Inc(4294967295)),
+    ),
+    ("submit 0 0 dec 0", Submit(0, 0, Dec(0))),
+    (
+        "submit 2 1 raise 18446744073709551615",
+        Submit(2, 1, Raise(18446744073709551615)),
+    ),
+    ("submit 0 3 put 10", Submit(0, 3, Put(10))),
+    ("submit 0 3 remove", Submit(0, 3, Remove(&[]))),
+    (
+        "submit 0 3 remove 0.1 0.2 255.4294967295",
+        Submit(0, 3, Remove(&[(0, 1), (0, 2), (255, 4294967295)])),
+    ),
+    ("submit 1 0 mark", Submit(1, 0, Mark)),
+    (
+        "decide 255 255 18446744073709551615",
+        Decide(255, 255, 18446744073709551615),
+    ),
+    ("ask 0 1 total", Ask(0, 1, Query::Total)),
+    (
+        "ask 255 65535 atleast 18446744073709551615",
+        Ask(255, 65535, Query::AtLeast(18446744073709551615)),
+    ),
+    ("ask 0 2 largest", Ask(0, 2, Query::Largest)),
+    ("ask 0 3 has 0", Ask(0, 3, Query::Has(0))),
+    ("ask 0 3 size", Ask(0, 3, Query::Size)),
+    ("ask 0 3 items", Ask(0, 3, Query::Items)),
+    ("yes 3 1 0 0 5", Yes([3, 1, 0, 0], 5)),
+    (
+        "offer 3 0 1 0 5 base 1 0 0 0 0 0 0 0",
+        Offer([3, 0, 1, 0], 5, ONE, &[]),
+    ),
+    (
+        "offer 3 0 1 0 5 base 1 0 0 0 0 0 0 0;0.2 1 inc 5;0.3 3 remove 0.1 0.2;1.1 2 raise 7",
+        Offer(
+            [3, 0, 1, 0],
+            5,
+            ONE,
+            &[
+                (0, 2, 1, Inc(5)),
+                (0, 3, 3, Remove(&[(0, 1), (0, 2)])),
+                (1, 1, 2, Raise(7)),
+            ],
+        ),
+    ),
+    (
+        "no 8 255 254 253 4294967295 base 4294967295 1 20 300 4000 50000 600000 1000000;255.4294967295 65535 mark",
+        No(
+            [8, 255, 254, 253],
+            4294967295,
+            EIGHT,
+            &[(255, 4294967295, 65535, Mark)],
+        ),
+    ),
+    (
+        "no 1 0 0 1 1 base 1 0 0 0 0 0 0 0;1.1 0 vote 9;2.1 0 sole 8",
+        No(
+            [1, 0, 0, 1],
+            1,
+            ONE,
+            &[(1, 1, 0, Vote(9, false)), (2, 1, 0, Vote(8, true))],
+        ),
+    ),
+    ("tell 3 0 1 0 5", Tell([3, 0, 1, 0], 5, &[])),
+    (
+        "tell 3 0 1 0 5;0.1 3 put 4;0.2 3 remove 0.1",
+        Tell(
+            [3, 0, 1, 0],
+            5,
+            &[(0, 1, 3, Put(4)), (0, 2, 3, Remove(&[(0, 1)]))],
+        ),
+    ),
+    (
+        "tell 2 1 0 0 9;0.1 1 dec 1;7.1 0 mark;7.2 0 mark",
+        Tell(
+            [2, 1, 0, 0],
+            9,
+            &[(0, 1, 1, Dec(1)), (7, 1, 0, Mark), (7, 2, 0, Mark)],
+        ),
+    ),
+];
+
+const FAULTS: [(&str, LineFault); 35] = [
+    ("", LineFault::BadLine),
+    ("tock", LineFault::BadLine),
+    ("tick ", LineFault::BadLine),
+    ("deliver 3", LineFault::BadLine),
+    ("submit 0 1 vote 3", LineFault::BadLine),
+    ("submit 0 1 inc 4294967296", LineFault::BadNumber),
+    ("submit 0 1 inc 5;0.1 1 inc 5", LineFault::BadLine),
+    ("yes", LineFault::BadLine),
+    ("yes 3 1 0 0", LineFault::BadLine),
+    ("yes 3 1 0 0 5 6", LineFault::BadLine),
+    ("yes  3 1 0 0 5", LineFault::BadNumber),
+    ("yes 3 1 0 0 5 ", LineFault::BadLine),
+    ("yes 3 1 0 0 5;", LineFault::BadLine),
+    ("yes 0 1 0 0 5", LineFault::BadNumber),
+    ("yes 9 1 0 0 5", LineFault::BadNumber),
+    ("yes 3 256 0 0 5", LineFault::BadNumber),
+    ("yes 3 1 256 0 5", LineFault::BadNumber),
+    ("yes 3 1 0 256 5", LineFault::BadNumber),
+    ("yes 3 1 0 0 4294967296", LineFault::BadNumber),
+    ("yes 3 1 0 0 05", LineFault::BadNumber),
+    ("offer 3 0 1 0 5", LineFault::BadLine),
+    ("offer 3 0 1 0 5 more 1 0 0 0 0 0 0 0", LineFault::BadLine),
+    ("offer 3 0 1 0 5 base 1 0 0 0 0 0 0", LineFault::BadLine),
+    ("offer 3 0 1 0 5 base 1 0 0 0 0 0 0 0 0", LineFault::BadLine),
+    (
+        "offer 3 0 1 0 5 base 4294967296 0 0 0 0 0 0 0",
+        LineFault::BadNumber,
+    ),
+    (
+        "no 3 0 1 0 5 base 1 0 0 0 0 0 0 0;0.0 1 inc 5",
+        LineFault::BadNumber,
+    ),
+    (
+        "no 3 0 1 0 5 base 1 0 0 0 0 0 0 0;0.2 65536 inc 5",
+        LineFault::BadNumber,
+    ),
+    (
+        "no 3 0 1 0 5 base 1 0 0 0 0 0 0 0;0.2 1 add 5",
+        LineFault::BadLine,
+    ),
+    (
+        "no 3 0 1 0 5 base 1 0 0 0 0 0 0 0;0.2 1 inc 5 6",
+        LineFault::BadLine,
+    ),
+    (
+        "no 3 0 1 0 5 base 1 0 0 0 0 0 0 0;0.2 1 remove 0.1 x",
+        LineFault::BadNumber,
+    ),
+    ("tell 3 0 1 0 5 base 1 0 0 0 0 0 0 0", LineFault::BadLine),
+    ("tell 3 0 1 0 5;0.2 1 inc 5", LineFault::BadSet),
+    ("tell 3 0 1 0 5;0.1 1 inc 5;0.1 1 inc 5", LineFault::BadSet),
+    ("tell 3 0 1 0 5;8.1 1 inc 5", LineFault::BadSet),
+    ("tell 3 0 1 0 5;0.2 1 inc 5;0.3 1 add 5", LineFault::BadLine),
+];
+
+fn tags_of(alloc: Global, rows: &[(u8, u32)]) -> Result<Tags, SetError> {
+    let mut tags = Tags::new(alloc);
+    for (replica, number) in rows {
+        let _new = tags.push(UpdateId {
+            replica: *replica,
+            number: *number,
+        })?;
+    }
+    Ok(tags)
+}
+
+fn op_of(alloc: Global, act: Act) -> Result<Op, SetError> {
+    Ok(match act {
+        Inc(by) => Op::Inc(by),
+        Dec(by) => Op::Dec(by),
+        Raise(to) => Op::Raise(to),
+        Put(element) => Op::Put(element),
+        Remove(tags) => Op::Remove(tags_of(alloc, tags)?),
+        Mark => Op::Mark,
+        Vote(value, sole) => Op::Vote { value, sole },
+    })
+}
+
+fn update_of(alloc: Global, row: &Row) -> Result<Update, SetError> {
+    let (replica, number, object, act) = *row;
+    Ok(Update {
+        id: UpdateId { replica, number },
+        object,
+        op: op_of(alloc, act)?,
+    })
+}
+
+fn updates_of(alloc: Global, rows: &[Row]) -> Result<Updates, SetError> {
+    let mut updates = Updates::new(alloc);
+    for row in rows {
+        updates.push(update_of(alloc, row)?)?;
+    }
+    Ok(updates)
+}
+
+fn set_of(alloc: Global, rows: &[Row]) -> Result<UpdateSet, SetError> {
+    let mut set = UpdateSet::new(alloc);
+    for row in rows {
+        set.push(update_of(alloc, row)?)?;
+    }
+    Ok(set)
+}
+
+fn message_of(head: [u8; 4], ballot: u32, body: Body) -> Call {
+    let [replicas, from, to, instance] = head;
+    let message = Message {
+        instance,
+        from,
+        to,
+        ballot,
+        body,
+    };
+    Call::Receive(Letter { replicas, message })
+}
+
+fn delta_of(alloc: Global, base: [u32; 8], rows: &[Row]) -> Result<Delta, SetError> {
+    Ok(Delta::new(base.into(), updates_of(alloc, rows)?))
+}
+
+fn call_of(alloc: Global, want: Want) -> Result<Call, SetError> {
+    Ok(match want {
+        Submit(replica, object, act) => Call::Submit {
+            replica,
+            object,
+            op: op_of(alloc, act)?,
+        },
+        Decide(replica, commit, value) => Call::Decide {
+            replica,
+            commit,
+            value,
+        },
+        Ask(replica, object, query) => Call::Ask {
+            replica,
+            object,
+            query,
+        },
+        Tick => Call::Tick,
+        Offer(head, ballot, base, rows) => {
+            message_of(head, ballot, Body::Offer(delta_of(alloc, base, rows)?))
+        }
+        Yes(head, ballot) => message_of(head, ballot, Body::Yes),
+        No(head, ballot, base, rows) => {
+            message_of(head, ballot, Body::No(delta_of(alloc, base, rows)?))
+        }
+        Tell(head, ballot, rows) => message_of(head, ballot, Body::Tell(set_of(alloc, rows)?)),
+    })
+}
+
+fn are_same(mine: &Call, theirs: &Call) -> bool {
+    match (mine, theirs) {
+        (
+            Call::Submit {
+                replica,
+                object,
+                op,
+            },
+            Call::Submit {
+                replica: other_replica,
+                object: other_object,
+                op: other_op,
+            },
+        ) => replica == other_replica && object == other_object && op.same(other_op),
+        (
+            Call::Decide {
+                replica,
+                commit,
+                value,
+            },
+            Call::Decide {
+                replica: other_replica,
+                commit: other_commit,
+                value: other_value,
+            },
+        ) => replica == other_replica && commit == other_commit && value == other_value,
+        (
+            Call::Ask {
+                replica,
+                object,
+                query,
+            },
+            Call::Ask {
+                replica: other_replica,
+                object: other_object,
+                query: other_query,
+            },
+        ) => replica == other_replica && object == other_object && query == other_query,
+        (Call::Tick, Call::Tick) => true,
+        (Call::Receive(mine), Call::Receive(theirs)) => {
+            mine.replicas == theirs.replicas && mine.message.same(&theirs.message)
+        }
+        _ => false,
+    }
+}
+
+// Whether a call is written as this line, and the line read as the call.
+fn is_line(alloc: Global, line: &str, want: Want) -> Option<bool> {
+    let call = call_of(alloc, want).ok()?;
+    let written = write(alloc, &call).ok()?;
+    let read = read(alloc, line.as_bytes()).ok()?;
+    Some(written.as_slice() == line.as_bytes() && are_same(&read, &call))
+}
+
+fn are_lines(alloc: Global) -> bool {
+    for (line, want) in &LINES {
+        let came = is_line(alloc, line, *want);
+        if came != Some(true) && is_line(alloc, line, *want) != Some(true) {
+            return false;
+        }
+    }
+    true
+}
+
+fn has_fault(alloc: Global, line: &str, want: LineFault) -> bool {
+    match read_bounded(alloc, line.as_bytes()) {
+        Err(LineError::Fault(fault)) => fault == want,
+        _ => false,
+    }
+}
+
+fn are_faults(alloc: Global) -> bool {
+    for (line, want) in &FAULTS {
+        if !has_fault(alloc, line, *want) && !has_fault(alloc, line, *want) {
+            return false;
+        }
+    }
+    true
+}
+
+// ## The callers
+
+fn tell(alloc: Global) -> Option<Message> {
+    let told = set_of(alloc, &[(0, 1, 3, Put(4)), (0, 2, 1, Inc(6))]).ok()?;
+    Some(Message {
+        instance: 0,
+        from: 0,
+        to: 1,
+        ballot: 5,
+        body: Body::Tell(told),
+    })
+}
+
+// A message comes as it was sent, in its group alone.
+fn comes(alloc: Global) -> Option<bool> {
+    let message = tell(alloc)?;
+    let line = sent(alloc, 3, &message).ok()?;
+    let here = came(alloc, 3, &line).ok()??;
+    let there = came(alloc, 4, &line).ok()?;
+    Some(here.same(&message) && there.is_none())
+}
+
+fn is_carried(alloc: Global) -> Option<bool> {
+    let message = Message {
+        instance: 0,
+        from: 1,
+        to: 0,
+        ballot: 5,
+        body: Body::Yes,
+    };
+    let came = carried(alloc, 3, &message).ok()??;
+    Some(came.same(&message))
+}
+
+#[test]
+fn calls_are_lines(rt: HostRuntime) {
+    holds(&rt, "calls", are_lines(rt.alloc()));
+    holds(&rt, "faults", are_faults(rt.alloc()));
+    let alloc = rt.alloc();
+    holds(&rt, "a tell", comes(alloc).or(comes(alloc)) == Some(true));
+    let yes = is_carried(alloc).or(is_carried(alloc));
+    holds(&rt, "an acknowledgement", yes == Some(true));
+}

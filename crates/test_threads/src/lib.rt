@@ -1,0 +1,10 @@
+//! Tests of what threads share, of members of groups over it and of whole runs, and nothing else.
+//! They stand in a crate of their own, so that the tests of pure layers in `test_core` need no handle.
+#![tactic(auto)]
+
+#[cfg(test)]
+mod members;
+#[cfg(test)]
+mod runs;
+#[cfg(test)]
+mod shared;

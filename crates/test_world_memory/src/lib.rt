@@ -1,0 +1,24 @@
+//! Tests of what stands after memory was refused, of worlds and what stands on them, as `test_memory` has
+//! them of the layers below.
+#![tactic(auto)]
+
+#[cfg(test)]
+mod filters;
+#[cfg(test)]
+mod holds;
+#[cfg(test)]
+mod lines;
+#[cfg(test)]
+mod machines;
+#[cfg(test)]
+mod nodes;
+#[cfg(test)]
+mod programs;
+#[cfg(test)]
+mod scripts;
+#[cfg(test)]
+mod streams;
+#[cfg(test)]
+mod texts;
+#[cfg(test)]
+mod worlds;

@@ -1,0 +1,81 @@
+// la_wire: calls as lines.
+use crate::holds::holds;
+use la_wire::{Call, LineError, named, put_message, read, read_bounded, write};
+use std::alloc::Global;
+use test_memory::{Came, again, refused};
+
+// With more tags than lie in an operation, and one with a set.
+const LINES: [&str; 2] = [
+    "submit 0 3 remove 0.1 0.2 0.3",
+    "tell 3 0 1 0 5;0.1 3 put 4;0.2 3 remove 0.1 0.2 0.3",
+];
+
+fn writes(alloc: Global, call: &Call, text: &str) -> Came {
+    match write(alloc, call) {
+        Ok(line) => Some(line.as_slice() == text.as_bytes()),
+        Err(_) => None,
+    }
+}
+
+fn reads(alloc: Global, text: &str) -> Came {
+    match read(alloc, text.as_bytes()) {
+        Ok(call) => again!(alloc, writes(alloc, &call, text)),
+        Err(it) => refused(it == LineError::Memory),
+    }
+}
+
+fn reads_bounded(alloc: Global, text: &str) -> Came {
+    match read_bounded(alloc, text.as_bytes()) {
+        Ok(call) => again!(alloc, writes(alloc, &call, text)),
+        Err(it) => refused(it == LineError::Memory),
+    }
+}
+
+fn names(alloc: Global, text: &str) -> Came {
+    match named(alloc, text.as_bytes()) {
+        Ok(Some(call)) => again!(alloc, writes(alloc, &call, text)),
+        Ok(None) => Some(false),
+        Err(_) => None,
+    }
+}
+
+// A message behind a byte, which stands where memory was refused too.
+fn puts(alloc: Global, call: &Call, text: &str) -> Came {
+    let Call::Receive(letter) = call else {
+        return Some(true);
+    };
+    let mut out = b"=".to_vec(alloc).ok()?;
+    let put = put_message(&mut out, letter.replicas, &letter.message);
+    let [first, line @ ..] = out.as_slice() else {
+        return Some(false);
+    };
+    match put {
+        Ok(()) => Some(*first == b'=' && line == text.as_bytes()),
+        Err(_) => refused(*first == b'='),
+    }
+}
+
+fn puts_again(alloc: Global, text: &str) -> Came {
+    let call = read(alloc, text.as_bytes()).ok()?;
+    again!(alloc, puts(alloc, &call, text))
+}
+
+fn scenes_of(alloc: Global, text: &str) -> Came {
+    Some(
+        again!(alloc, reads(alloc, text))?
+            && again!(alloc, reads_bounded(alloc, text))?
+            && again!(alloc, names(alloc, text))?
+            && again!(alloc, puts_again(alloc, text))?,
+    )
+}
+
+fn scenes(alloc: Global) -> Came {
+    let [first, second] = LINES;
+    Some(scenes_of(alloc, first)? && scenes_of(alloc, second)?)
+}
+
+#[test]
+fn all_of_lines(rt: HostRuntime) {
+    let alloc = rt.alloc();
+    holds(&rt, again!(alloc, scenes(alloc)));
+}

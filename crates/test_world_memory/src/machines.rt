@@ -1,0 +1,111 @@
+// la_durable: a node of a group of one, as a machine.
+use crate::holds::holds;
+use la_durable::{Input, NodeError, NodeMachine};
+use la_journal::Machine;
+use la_proposer::Votes;
+use la_wire::LineError;
+use la_world::{Config, WorldError};
+use std::alloc::Global;
+use test_memory::{Came, again, refused};
+
+// A round, each line with how many messages it leads to, and how many updates are in the view then.
+const ROUND: [(&str, usize, usize); 3] = [
+    ("submit 0 3 remove 0.1 0.2 0.3", 1, 0),
+    (
+        "offer 1 0 0 0 1 base 0 0 0 0 0 0 0 0;0.1 3 remove 0.1 0.2 0.3",
+        1,
+        0,
+    ),
+    ("yes 1 0 0 0 1", 0, 1),
+];
+
+fn machine(alloc: Global) -> Result<NodeMachine, WorldError> {
+    let config = Config {
+        replicas: 1,
+        commits: 0,
+        cap: 10,
+        votes: Votes::one_each(1),
+    };
+    NodeMachine::new(alloc, config, 0)
+}
+
+fn makes(alloc: Global) -> Came {
+    match machine(alloc) {
+        Ok(made) => Some(made.replicas == 1),
+        Err(it) => refused(it == WorldError::Memory),
+    }
+}
+
+fn reads(alloc: Global, text: &str) -> Came {
+    match Input::read(alloc, text.as_bytes()) {
+        Ok(input) => Some(input.line() == text.as_bytes()),
+        Err(it) => refused(it == LineError::Memory),
+    }
+}
+
+fn reads_kept(alloc: Global, text: &str) -> Came {
+    match NodeMachine::read(alloc, text.as_bytes()) {
+        Ok(Some(input)) => Some(input.line() == text.as_bytes()),
+        Ok(None) => Some(false),
+        Err(_) => None,
+    }
+}
+
+fn writes(alloc: Global, input: &Input) -> Came {
+    match NodeMachine::write(alloc, input) {
+        Ok(line) => Some(line.as_slice() == input.line()),
+        Err(_) => None,
+    }
+}
+
+fn acts(machine: &mut NodeMachine, input: &Input, sent: usize, view: usize) -> Came {
+    let before = machine.node.view().len();
+    match machine.act(input.call()) {
+        Ok(given) => { Some(given.done.mail.len() == sent && machine.node.view().len() == view) }
+        Err(it) => refused(it == NodeError::Memory && machine.node.view().len() == before),
+    }
+}
+
+fn applies(machine: &mut NodeMachine, input: &Input, sent: usize, view: usize) -> Came {
+    let before = machine.node.view().len();
+    match machine.apply(input) {
+        Ok(given) => { Some(given.done.mail.len() == sent && machine.node.view().len() == view) }
+        Err(it) => refused(it == NodeError::Memory && machine.node.view().len() == before),
+    }
+}
+
+fn step(
+    alloc: Global,
+    first: &mut NodeMachine,
+    other: &mut NodeMachine,
+    row: &(&str, usize, usize),
+) -> Came {
+    let input = Input::read(alloc, row.0.as_bytes()).ok()?;
+    Some(
+        again!(alloc, writes(alloc, &input))?
+            && again!(alloc, acts(first, &input, row.1, row.2))?
+            && again!(alloc, applies(other, &input, row.1, row.2))?,
+    )
+}
+
+fn scenes(alloc: Global) -> Came {
+    let mut first = machine(alloc).ok()?;
+    let mut other = machine(alloc).ok()?;
+    for row in &ROUND {
+        let came = Some(
+            again!(alloc, reads(alloc, row.0))?
+                && again!(alloc, reads_kept(alloc, row.0))?
+                && step(alloc, &mut first, &mut other, row)?,
+        );
+        if came != Some(true) {
+            return came;
+        }
+    }
+    again!(alloc, makes(alloc))
+}
+
+#[test]
+fn all_of_machines(rt: HostRuntime) {
+    let alloc = rt.alloc();
+    holds(&rt, again!(alloc, scenes(alloc)));
+}

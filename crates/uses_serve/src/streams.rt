@@ -1,0 +1,31 @@
+// Lines of a reader, as a program takes them.
+ghost use Rattle.std.specs.Prelude.{◌≡◌, ◌++◌, ◌∷◌, [], true, Ok};
+ghost use Rattle.std.specs.Io.KnownBytes.{Consumes, IsAtEnd};
+ghost use Rattle.la_io.specs.Streams.{IsOneLine, ahead};
+
+use la_cli::Listener;
+use la_io::{Next, Source, SourceFault, tell_fault};
+use la_wire::LineFault;
+use std::io::Read;
+
+/// Whether the next line, of this number, can be taken: it is in `source.line` then, and it and its end were
+/// read, nothing else. One that is too long is told.
+pub fn take_next<R: Read, E: Listener>(
+    source: &mut Source,
+    reader: &mut R,
+    number: u64,
+    errors: &mut E,
+) -> Result<bool, SourceFault>
+    requires { source.old.over ≡ true → IsAtEnd (ahead source.old (R.remaining reader.old)) }
+    ensures line { result ≡ Ok true → IsOneLine source.new.line.items
+        × Consumes (ahead source.old (R.remaining reader.old)) (ahead source.new (R.remaining reader.new))
+        (source.new.line.items ++ 10 ∷ []) }
+    ensures over { source.new.over ≡ true → IsAtEnd (ahead source.new (R.remaining reader.new)) }
+{
+    match source.next(reader)? {
+        Next::Line => return Ok(true),
+        Next::Long => tell_fault(errors, number, LineFault::TooLong),
+        Next::Cut | Next::End => (),
+    }
+    Ok(false)
+}
