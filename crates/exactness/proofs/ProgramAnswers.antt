@@ -7,12 +7,12 @@ use Rattle.clap.specs.declared.error.Error.{Error}
 use Rattle.clap.specs.declared.error.kind.ErrorKind.TheVariants.{OutOfMemory}
 use Rattle.la_object.specs.Shelves.{ShelfState}
 use Rattle.la_cli.specs.Calls.{Calls, lattice}
-use Rattle.la_cli.specs.Play.{Answers}
-use Rattle.la_cli.specs.Streams.{Refuses}
+use Rattle.la_cli.specs.Play.{AnswersScript}
+use Rattle.la_cli.specs.Streams.{RefusesBytes}
 use Rattle.la_cli.specs.declared.call.Task.{Task}
 
 -- what two calls answer is the same
-pub one_answer : (shelves : List ShelfState) (input t u : List ℕ) → Answers shelves input t → Answers shelves input u
+pub one_answer : (shelves : List ShelfState) (input t u : List ℕ) → AnswersScript shelves input t → AnswersScript shelves input u
     → t ≡ u
 one_answer shelves input t u a b = a.only b.script b.says ∙ sym b.is_text
 
@@ -26,7 +26,7 @@ faultless_errors words task error calls has =
 -- whatever telling answers, where nothing is refused all was told
 pub told_whole : {W T F : Type 0} (contents : W → Option (List ℕ)) (refuses : W → List ℕ → W → Type 0) (old new : W)
     (line : List ℕ) (r : Result T F) → ((a : W) (bytes : List ℕ) (b : W) → ¬ refuses a bytes b)
-    → OnOk r (Appends (contents old) (contents new) line) → OnErr r (Refuses contents refuses old new line)
+    → OnOk r (Appends (contents old) (contents new) line) → OnErr r (RefusesBytes contents refuses old new line)
     → Appends (contents old) (contents new) line
 told_whole contents refuses old new line (Ok x) none ok err = ok
 told_whole contents refuses old new line (Err x) none ok err = absurd (none err.between _ new err.refused)

@@ -22,14 +22,14 @@ use Rattle.la_world.specs.Groups.{Group, group_of, replicas, kinds_on}
 use Rattle.la_world.specs.Events.{Event, Past, Submit, Deliver, Decide, Ask}
 use Rattle.la_world.specs.Trace.{Trace}
 use Rattle.la_world.specs.Playing.{trace, shelf_of}
-use Rattle.la_world.specs.Views.{view}
+use Rattle.la_world.specs.Views.{trace_view}
 use Rattle.la_world.specs.Learnings.{learnt}
 use Rattle.la_world.specs.Report.{refused, line_of, Run, and_event}
 use Rattle.la_world.specs.ReplicaStates.{replica_states}
 use Rattle.la_world.specs.StandsFor.{World, kinds_of, group_in, StandsFor}
-use Rattle.la_world.specs.Told.{told}
-use Rattle.la_world.specs.Calls.{IsMakingRefusal, IsPlayRefusal, Plays, GoesOn, Keeps, may_absorb, IsSameUnless, tags_of, IsTagsRefusal}
-use Rattle.exactness.specs.Alike.{AreAlike, AreOfOneGroup}
+use Rattle.la_world.specs.Told.{told_messages}
+use Rattle.la_world.specs.Calls.{IsMakingRefusal, IsEventRefusal, PlaysEvent, RunGoesOn, Keeps, may_absorb, IsSameUnless, world_tags, IsWorldTagsRefusal}
+use Rattle.exactness.specs.Alike.{AreAlikeWorlds, AreOfOneGroup}
 
 -- ## Worlds
 
@@ -60,9 +60,9 @@ of_one_group f w v one = ap₂ (λ c ks. f (group_of c ks)) one.config one.kinds
 
 same_messages : (w v : World) (events : Past) → StandsFor w events → StandsFor v events → AreOfOneGroup w v
     → w.messages ≡ v.messages
-same_messages w v events h k one = h.told ∙ of_one_group (λ g. told (replicas g) (trace g events)) w v one ∙ sym k.told
+same_messages w v events h k one = h.told ∙ of_one_group (λ g. told_messages (replicas g) (trace g events)) w v one ∙ sym k.told
 
-alike : (w v : World) (events : Past) → StandsFor w events → StandsFor v events → AreOfOneGroup w v → AreAlike w v
+alike : (w v : World) (events : Past) → StandsFor w events → StandsFor v events → AreOfOneGroup w v → AreAlikeWorlds w v
 alike w v events h k one = record {
   known = world_is w events h
       ∙ ap₂ (λ c ks. standing c ks w.messages events) one.config one.kinds
@@ -128,7 +128,7 @@ error_of (Some named.NoSuchCommit) = NoSuchCommit
 error_of (Some named.AlreadyProposed) = AlreadyProposed
 error_of (Some named.NoSuchObject) = NoSuchObject
 
-refusal_is : (g : Group) (t : Trace) (v : Event) (e : WorldError) → IsPlayRefusal g t v e → e ≡ error_of (refused g t v)
+refusal_is : (g : Group) (t : Trace) (v : Event) (e : WorldError) → IsEventRefusal g t v e → e ≡ error_of (refused g t v)
 refusal_is g t v NoSuchReplica h = sym (ap error_of h)
 refusal_is g t v Full h = sym (ap error_of h)
 refusal_is g t v NoSuchMessage h = sym (ap error_of h)
@@ -142,14 +142,14 @@ refusal_is g t v TooManyTags h = absurd h
 -- ## Playing
 
 abbrev pub HasPlayed : World → Event → Result Step WorldError → World → Type 0
-HasPlayed w e r after = (events : Past) → StandsFor w events → IfOk r (λ s. Plays w events e s after)
+HasPlayed w e r after = (events : Past) → StandsFor w events → IfOk r (λ s. PlaysEvent w events e s after)
 
 abbrev pub HasRefused : World → Event → Result Step WorldError → Type 0
 HasRefused w e r =
-    (events : Past) → StandsFor w events → IfErr r (IsPlayRefusal (group_in w) (trace (group_in w) events) e)
+    (events : Past) → StandsFor w events → IfErr r (IsEventRefusal (group_in w) (trace (group_in w) events) e)
 
 same_step : (w v : World) → AreOfOneGroup w v → (e : Event) (events : Past) (s u : Step) (x y : World)
-    → Plays w events e s x → Plays v events e u y → s ≡ u
+    → PlaysEvent w events e s x → PlaysEvent v events e u y → s ≡ u
 same_step w v one e events s u x y h k =
     let same : Done s ≡ Done u = h.line ∙ of_one_group (λ g. line_of g (trace g events) e) w v one ∙ sym k.line in cc
 
@@ -158,7 +158,7 @@ pub steps_agree : (w v : World) → AreOfOneGroup w v → (e : Event) (a b : Res
     → IfOk a (λ s. IfOk b (λ u. s ≡ u))
 steps_agree w v one e a b x y h k events stands also = go a b (h events stands) (k events also)
   where
-    go : (a b : Result Step WorldError) → IfOk a (λ s. Plays w events e s x) → IfOk b (λ s. Plays v events e s y)
+    go : (a b : Result Step WorldError) → IfOk a (λ s. PlaysEvent w events e s x) → IfOk b (λ s. PlaysEvent v events e s y)
         → IfOk a (λ s. IfOk b (λ u. s ≡ u))
     go (Ok s) (Ok u) p q = same_step w v one e events s u x y p q
     go (Ok s) (Err d) p q = tt
@@ -166,11 +166,11 @@ steps_agree w v one e a b x y h k events stands also = go a b (h events stands) 
 
 pub worlds_agree : (w v : World) → AreOfOneGroup w v → (e : Event) (a b : Result Step WorldError) (x y : World)
     → HasPlayed w e a x → HasPlayed v e b y → (events : Past) → StandsFor w events → StandsFor v events
-    → IfOk a (λ _. IfOk b (λ _. AreAlike x y))
+    → IfOk a (λ _. IfOk b (λ _. AreAlikeWorlds x y))
 worlds_agree w v one e a b x y h k events stands also = go a b (h events stands) (k events also)
   where
-    go : (a b : Result Step WorldError) → IfOk a (λ s. Plays w events e s x) → IfOk b (λ s. Plays v events e s y)
-        → IfOk a (λ _. IfOk b (λ _. AreAlike x y))
+    go : (a b : Result Step WorldError) → IfOk a (λ s. PlaysEvent w events e s x) → IfOk b (λ s. PlaysEvent v events e s y)
+        → IfOk a (λ _. IfOk b (λ _. AreAlikeWorlds x y))
     go (Ok s) (Ok u) p q = alike x y (e ∷ events) p.stands q.stands (record { config = p.config ∙ one.config ∙ sym q.config; kinds = p.kinds ∙ one.kinds ∙ sym q.kinds })
     go (Ok s) (Err d) p q = tt
     go (Err d) b p q = tt
@@ -179,8 +179,8 @@ pub refusals_agree : (w v : World) → AreOfOneGroup w v → (e : Event) (a b : 
     → HasRefused v e b → (events : Past) → StandsFor w events → StandsFor v events → IfErr a (λ d. IfErr b (λ f. d ≡ f))
 refusals_agree w v one e a b h k events stands also = go a b (h events stands) (k events also)
   where
-    go : (a b : Result Step WorldError) → IfErr a (IsPlayRefusal (group_in w) (trace (group_in w) events) e)
-        → IfErr b (IsPlayRefusal (group_in v) (trace (group_in v) events) e) → IfErr a (λ d. IfErr b (λ f. d ≡ f))
+    go : (a b : Result Step WorldError) → IfErr a (IsEventRefusal (group_in w) (trace (group_in w) events) e)
+        → IfErr b (IsEventRefusal (group_in v) (trace (group_in v) events) e) → IfErr a (λ d. IfErr b (λ f. d ≡ f))
     go (Ok s) b p q = tt
     go (Err d) (Ok u) p q = tt
     go (Err d) (Err f) p q =
@@ -190,13 +190,13 @@ refusals_agree w v one e a b h k events stands also = go a b (h events stands) (
 
 -- two that are kept are alike
 pub kept_agree : (w v : World) → AreOfOneGroup w v → (x y : World) → Keeps w x → Keeps v y → (events : Past)
-    → StandsFor w events → StandsFor v events → AreAlike x y
+    → StandsFor w events → StandsFor v events → AreAlikeWorlds x y
 kept_agree w v one x y h k events stands also =
     alike x y events (h.stands events stands) (k.stands events also) (record { config = h.config ∙ one.config ∙ sym k.config; kinds = h.kinds ∙ one.kinds ∙ sym k.kinds })
 
 pub unchanged_agree : {A E : Type 0} (w v : World) → AreOfOneGroup w v → (a b : Result A E) (x y : World)
     → OnErr a (Keeps w x) → OnErr b (Keeps v y) → (events : Past) → StandsFor w events → StandsFor v events
-    → IfErr a (λ _. IfErr b (λ _. AreAlike x y))
+    → IfErr a (λ _. IfErr b (λ _. AreAlikeWorlds x y))
 unchanged_agree w v one (Ok s) b x y h k events stands also = tt
 unchanged_agree w v one (Err d) (Ok u) x y h k events stands also = tt
 unchanged_agree w v one (Err d) (Err f) x y h k events stands also = kept_agree w v one x y h k events stands also
@@ -204,10 +204,10 @@ unchanged_agree w v one (Err d) (Err f) x y h k events stands also = kept_agree 
 -- ## Lines
 
 abbrev pub HasLine : {E : Type 0} → World → Event → Result Line E → World → Type 0
-HasLine w e r after = (ran : Run) → StandsFor w ran.accepted → IfOk r (λ line. GoesOn w ran e line after)
+HasLine w e r after = (ran : Run) → StandsFor w ran.accepted → IfOk r (λ line. RunGoesOn w ran e line after)
 
-same_line : (w v : World) → AreOfOneGroup w v → (e : Event) (ran : Run) (a b : Line) (x y : World) → GoesOn w ran e a x
-    → GoesOn v ran e b y → a ≡ b
+same_line : (w v : World) → AreOfOneGroup w v → (e : Event) (ran : Run) (a b : Line) (x y : World) → RunGoesOn w ran e a x
+    → RunGoesOn v ran e b y → a ≡ b
 same_line w v one e ran a b x y h k =
     let same : a ∷ ran.lines ≡ b ∷ ran.lines =
     sym h.lines ∙ of_one_group (λ g. (and_event g ran e).lines) w v one ∙ k.lines in
@@ -218,7 +218,7 @@ pub lines_agree : {E : Type 0} (w v : World) → AreOfOneGroup w v → (e : Even
     → IfOk a (λ s. IfOk b (λ u. s ≡ u))
 lines_agree {E = E} w v one e a b x y h k ran stands also = go a b (h ran stands) (k ran also)
   where
-    go : (a b : Result Line E) → IfOk a (λ s. GoesOn w ran e s x) → IfOk b (λ s. GoesOn v ran e s y)
+    go : (a b : Result Line E) → IfOk a (λ s. RunGoesOn w ran e s x) → IfOk b (λ s. RunGoesOn v ran e s y)
         → IfOk a (λ s. IfOk b (λ u. s ≡ u))
     go (Ok s) (Ok u) p q = same_line w v one e ran s u x y p q
     go (Ok s) (Err d) p q = tt
@@ -226,11 +226,11 @@ lines_agree {E = E} w v one e a b x y h k ran stands also = go a b (h ran stands
 
 pub line_worlds_agree : {E : Type 0} (w v : World) → AreOfOneGroup w v → (e : Event) (a b : Result Line E) (x y : World)
     → HasLine w e a x → HasLine v e b y → (ran : Run) → StandsFor w ran.accepted → StandsFor v ran.accepted
-    → IfOk a (λ _. IfOk b (λ _. AreAlike x y))
+    → IfOk a (λ _. IfOk b (λ _. AreAlikeWorlds x y))
 line_worlds_agree {E = E} w v one e a b x y h k ran stands also = go a b (h ran stands) (k ran also)
   where
-    go : (a b : Result Line E) → IfOk a (λ s. GoesOn w ran e s x) → IfOk b (λ s. GoesOn v ran e s y)
-        → IfOk a (λ _. IfOk b (λ _. AreAlike x y))
+    go : (a b : Result Line E) → IfOk a (λ s. RunGoesOn w ran e s x) → IfOk b (λ s. RunGoesOn v ran e s y)
+        → IfOk a (λ _. IfOk b (λ _. AreAlikeWorlds x y))
     go (Ok s) (Ok u) p q =
         alike x y _ p.stands (subst (StandsFor y) (sym (of_one_group (λ g. (and_event g ran e).accepted) w v one)) q.stands) (record { config = p.config ∙ one.config ∙ sym q.config; kinds = p.kinds ∙ one.kinds ∙ sym q.kinds })
     go (Ok s) (Err d) p q = tt
@@ -263,12 +263,12 @@ changes_nothing w x v (Err d) h = named_changes_nothing w x v d h
 abbrev pub HasObserved : World → (r object element : ℕ) → Result (List UpdateId) WorldError → Type 0
 HasObserved w r object element a =
     (events : Past) → StandsFor w events
-    → IfOk a (λ tags. tags_of (group_in w) (trace (group_in w) events) r object element ≡ Some tags)
+    → IfOk a (λ tags. world_tags (group_in w) (trace (group_in w) events) r object element ≡ Some tags)
 
 abbrev pub HasNotObserved : World → (r object element : ℕ) → Result (List UpdateId) WorldError → Type 0
 HasNotObserved w r object element a =
     (events : Past) → StandsFor w events
-    → IfErr a (IsTagsRefusal (group_in w) (trace (group_in w) events) r object element)
+    → IfErr a (IsWorldTagsRefusal (group_in w) (trace (group_in w) events) r object element)
 
 pub tags_agree : (w v : World) → AreOfOneGroup w v → (r object element : ℕ) (a b : Result (List UpdateId) WorldError)
     → HasObserved w r object element a → HasObserved v r object element b → (events : Past) → StandsFor w events
@@ -276,11 +276,11 @@ pub tags_agree : (w v : World) → AreOfOneGroup w v → (r object element : ℕ
 tags_agree w v one r object element a b h k events stands also = go a b (h events stands) (k events also)
   where
     go : (a b : Result (List UpdateId) WorldError)
-        → IfOk a (λ tags. tags_of (group_in w) (trace (group_in w) events) r object element ≡ Some tags)
-        → IfOk b (λ tags. tags_of (group_in v) (trace (group_in v) events) r object element ≡ Some tags)
+        → IfOk a (λ tags. world_tags (group_in w) (trace (group_in w) events) r object element ≡ Some tags)
+        → IfOk b (λ tags. world_tags (group_in v) (trace (group_in v) events) r object element ≡ Some tags)
         → IfOk a (λ s. IfOk b (λ u. s ≡ u))
     go (Ok s) (Ok u) p q =
-        same_Some s u (sym p ∙ of_one_group (λ g. tags_of g (trace g events) r object element) w v one ∙ q)
+        same_Some s u (sym p ∙ of_one_group (λ g. world_tags g (trace g events) r object element) w v one ∙ q)
     go (Ok s) (Err d) p q = tt
     go (Err d) b p q = tt
 
@@ -293,14 +293,14 @@ no_tags false = refl
 
 -- where there is no such object, there are no tags of it
 no_tags_of : (g : Group) (t : Trace) (r object element : ℕ) → kind_at (kinds_on g r) object ≡ None
-    → tags_of g t r object element ≡ untold
+    → world_tags g t r object element ≡ untold
 no_tags_of g t r object element none =
     ap
     (λ k.
-    cond (nat_lt r (replicas g)) (option_map (λ kind. tags_by kind (updates_at (view t r) object) element) k)
+    cond (nat_lt r (replicas g)) (option_map (λ kind. tags_by kind (updates_at (trace_view t r) object) element) k)
     untold) none ∙ no_tags (nat_lt r (replicas g))
 
-no_replica : (g : Group) (t : Trace) (r object element : ℕ) → replicas g ≤ r → tags_of g t r object element ≡ untold
+no_replica : (g : Group) (t : Trace) (r object element : ℕ) → replicas g ≤ r → world_tags g t r object element ≡ untold
 no_replica g t r object element above =
     ap (λ b. cond b (tags_at (shelf_of g t r) object element) untold) (le-ltb r (replicas g) above)
 
@@ -308,7 +308,7 @@ abbrev many : Option (List UpdateId) → Type 0
 many o = IsSomeAnd o (λ tags. MAX_TAGS < length tags)
 
 tags_refusal_is : (g : Group) (t : Trace) (r object element : ℕ) (d e : WorldError)
-    → IsTagsRefusal g t r object element d → IsTagsRefusal g t r object element e → d ≢ Memory → e ≢ Memory → d ≡ e
+    → IsWorldTagsRefusal g t r object element d → IsWorldTagsRefusal g t r object element e → d ≢ Memory → e ≢ Memory → d ≡ e
 tags_refusal_is g t r object element Memory e p q not also = absurd (not refl)
 tags_refusal_is g t r object element NoSuchReplica NoSuchReplica p q not also = refl
 tags_refusal_is g t r object element NoSuchReplica NoSuchObject p q not also = let lt = q.0 in absurd (omega arith)
@@ -354,16 +354,16 @@ pub tags_refusals_agree : (w v : World) → AreOfOneGroup w v
 tags_refusals_agree w v one r object element a b h k events stands also = go a b (h events stands) (k events also)
   where
     go : (a b : Result (List UpdateId) WorldError)
-        → IfErr a (IsTagsRefusal (group_in w) (trace (group_in w) events) r object element)
-        → IfErr b (IsTagsRefusal (group_in v) (trace (group_in v) events) r object element)
+        → IfErr a (IsWorldTagsRefusal (group_in w) (trace (group_in w) events) r object element)
+        → IfErr b (IsWorldTagsRefusal (group_in v) (trace (group_in v) events) r object element)
         → IfErr a (λ d. IfErr b (λ e. d ≢ Memory → e ≢ Memory → d ≡ e))
     go (Ok s) b p q = tt
     go (Err d) (Ok u) p q = tt
     go (Err d) (Err e) p q =
         tags_refusal_is (group_in v) (trace (group_in v) events) r object element d e (rewritten d p) q
       where
-        rewritten : (d : WorldError) → IsTagsRefusal (group_in w) (trace (group_in w) events) r object element d
-            → IsTagsRefusal (group_in v) (trace (group_in v) events) r object element d
+        rewritten : (d : WorldError) → IsWorldTagsRefusal (group_in w) (trace (group_in w) events) r object element d
+            → IsWorldTagsRefusal (group_in v) (trace (group_in v) events) r object element d
         rewritten d =
-            subst₂ (λ c ks. IsTagsRefusal (group_of c ks) (trace (group_of c ks) events) r object element d) one.config
+            subst₂ (λ c ks. IsWorldTagsRefusal (group_of c ks) (trace (group_of c ks) events) r object element d) one.config
             one.kinds

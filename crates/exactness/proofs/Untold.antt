@@ -5,7 +5,7 @@ use Rattle.la_set.specs.declared.update.UpdateId.{UpdateId}
 use Rattle.la_object.specs.declared.error.ShelfError.{ShelfError}
 use Rattle.la_object.specs.declared.error.ShelfError.TheVariants.{Taken, NotFresh, NoSuchObject, TooManyTags, Memory}
 use Rattle.la_object.specs.Shelves.{tags_at}
-use Rattle.la_world.specs.Nodes.{NodeState, followed, IsObservedRefusal, LeftUntold}
+use Rattle.la_world.specs.Nodes.{NodeState, followed, IsObservedRefusal, LeftUntoldNode}
 use Rattle.la_world.specs.declared.error.WorldError as world
 use Rattle.la_world.specs.declared.error.WorldError.TheVariants as named
 use Rattle.la_world.specs.StandsFor.{World}
@@ -18,7 +18,7 @@ some_none : {A : Type 0} (o : Option A) (P : A → Type 0) → o ≡ None → Is
 some_none o P e some = subst (λ z. IsSomeAnd z P) e some
 
 left_one : (n x y : NodeState) (tags : Option (List UpdateId)) (d e : ShelfError) → IsObservedRefusal tags d
-    → IsObservedRefusal tags e → LeftUntold d n x → LeftUntold e n y → d ≢ Memory → e ≢ Memory → x ≡ y
+    → IsObservedRefusal tags e → LeftUntoldNode d n x → LeftUntoldNode e n y → d ≢ Memory → e ≢ Memory → x ≡ y
 left_one n x y tags Memory e p q h k not_d not_e = absurd (not_d refl)
 left_one n x y tags Taken e p q h k not_d not_e = absurd p
 left_one n x y tags NotFresh e p q h k not_d not_e = absurd p
@@ -35,26 +35,26 @@ left_one n x y tags TooManyTags NotFresh p q h k not_d not_e = absurd q
 
 pub nodes_left_one : (n m x y : NodeState) → n ≡ m → (object element : ℕ) (a b : Result (List UpdateId) ShelfError)
     → IfErr a (IsObservedRefusal (tags_at (followed n) object element))
-    → IfErr b (IsObservedRefusal (tags_at (followed m) object element)) → IfErr a (λ d. LeftUntold d n x)
-    → IfErr b (λ e. LeftUntold e m y) → IfErr a (λ d. IfErr b (λ e. d ≢ Memory → e ≢ Memory → x ≡ y))
+    → IfErr b (IsObservedRefusal (tags_at (followed m) object element)) → IfErr a (λ d. LeftUntoldNode d n x)
+    → IfErr b (λ e. LeftUntoldNode e m y) → IfErr a (λ d. IfErr b (λ e. d ≢ Memory → e ≢ Memory → x ≡ y))
 nodes_left_one n m x y same object element (Ok s) b p q h k = tt
 nodes_left_one n m x y same object element (Err d) (Ok s) p q h k = tt
 nodes_left_one n m x y same object element (Err d) (Err e) p q h k =
     left_one n x y (tags_at (followed n) object element) d e p
     (subst (λ z. IsObservedRefusal (tags_at (followed z) object element) e) (sym same) q) h
-    (subst (λ z. LeftUntold e z y) (sym same) k)
+    (subst (λ z. LeftUntoldNode e z y) (sym same) k)
 
 -- ## A world
 
-module _ (w x : World) (r : ℕ) (e : world.WorldError) (left : calls.LeftUntold e r w x) where
+module _ (w x : World) (r : ℕ) (e : world.WorldError) (left : calls.LeftUntoldWorld e r w x) where
   pub no_replica : e ≡ named.NoSuchReplica → x ≡ w
-  no_replica is = subst (λ d. calls.LeftUntold d r w x) is left
+  no_replica is = subst (λ d. calls.LeftUntoldWorld d r w x) is left
 
   pub no_object : e ≡ named.NoSuchObject → x ≡ w
-  no_object is = subst (λ d. calls.LeftUntold d r w x) is left
+  no_object is = subst (λ d. calls.LeftUntoldWorld d r w x) is left
 
   pub too_many : e ≡ named.TooManyTags → IsFollowing x r
-  too_many is = subst (λ d. calls.LeftUntold d r w x) is left
+  too_many is = subst (λ d. calls.LeftUntoldWorld d r w x) is left
 
 pub in_err : {A : Type 0} (a : Result A world.WorldError) (P Q : world.WorldError → Type 0)
     → ((e : world.WorldError) → P e → Q e) → IfErr a P → IfErr a Q

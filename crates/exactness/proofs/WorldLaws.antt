@@ -18,13 +18,13 @@ use Rattle.la_world.specs.declared.step.Learnt.{Learnt}
 use Rattle.la_world.specs.Groups.{Group, group_of, replicas, kinds_on, IsConfig}
 use Rattle.la_world.specs.Events.{Event, Decide}
 use Rattle.la_world.specs.Sent.{sent}
-use Rattle.la_world.specs.Acceptors.{accepted}
+use Rattle.la_world.specs.Acceptors.{accepted_there}
 use Rattle.la_world.specs.Ballots.{ballots}
-use Rattle.la_world.specs.Submissions.{submitted, taken}
+use Rattle.la_world.specs.Submissions.{submitted_ops, taken}
 use Rattle.la_world.specs.Playing.{trace}
-use Rattle.la_world.specs.Report.{report, refused, runs, lines, trace_of}
+use Rattle.la_world.specs.Report.{report, refused, runs, report_lines, trace_of}
 use Rattle.la_world.specs.Promises.{IsLearntAt, PlacesCountAccepted}
-use Rattle.la_world.specs.Laws.{LearntAreComparable, AcknowledgementsHavePlaces, LearntHoldWhatWasTaken, NumbersNameBallots, BallotsGrow, LearntGrow, SecondProposalsAreRefused, ProposalsAreTestedInOrder, LimitsAre, ReportedAnswersAreValues, IsAnswered, view_at_place}
+use Rattle.la_world.specs.Laws.{LearntAreComparable, AcknowledgementsHavePlaces, LearntHoldWhatWasTaken, NumbersNameBallots, BallotsGrow, LearntGrow, SecondProposalsAreRefused, ProposalsAreTestedInOrder, LimitsAre, ReportedAnswersAreValues, IsAnsweredLine, view_at_place}
 
 -- ## Of a run
 
@@ -72,7 +72,7 @@ run_grows law c kinds events (Err d) e = tt
 pub acknowledged : AcknowledgementsHavePlaces → NumbersNameBallots
     → (g : Group) (events : List Event) (m : Message) (b : Opening) → Contains (sent (replicas g) (trace g events)) m
     → m.body ≡ Yes → Contains (ballots (trace g events) m.instance m.to) b → b.ballot ≡ m.ballot
-    → (later : ℕ) × (accepted (trace g (drop later events)) m.instance m.from ≡ b.updates)
+    → (later : ℕ) × (accepted_there (trace g (drop later events)) m.instance m.from ≡ b.updates)
 acknowledged places one g events m b i acknowledges j n =
     let p = places g events m i acknowledges in (
       p.later,
@@ -82,8 +82,8 @@ acknowledged places one g events m b i acknowledges j n =
 
 -- ## Proposals
 
-none_yet : (g : Group) (i r : ℕ) → length (submitted (trace g []) i r) < 1
-unfolding trace submitted
+none_yet : (g : Group) (i r : ℕ) → length (submitted_ops (trace g []) i r) < 1
+unfolding trace submitted_ops
 none_yet g i r = omega arith
 
 pub for_good : ProposalsAreTestedInOrder → SecondProposalsAreRefused → (g : Group) (more : List Event) → 1 ≤ replicas g
@@ -115,7 +115,7 @@ ballots_contain law g events i r b c p q le = (law g events i r b c p q (omega a
 
 pub answers_stay : ReportedAnswersAreValues
     → (g : Group) (events : List Event) (j k r object : ℕ) (query : Query) (a b : Answer)
-    → IsAnswered events (lines g events) j r object query a → IsAnswered events (lines g events) k r object query b
+    → IsAnsweredLine events (report_lines g events) j r object query a → IsAnsweredLine events (report_lines g events) k r object query b
     → view_at_place g events j r ≡ view_at_place g events k r → a ≡ b
 answers_stay law g events j k r object query a b x y views =
     same_Some a b (sym (law g events j r object query a x) ∙ ap (λ v. answer_at (record { view = v; objects = kinds_on g r }) object query) views ∙ law g events k r object query b y)
@@ -123,5 +123,5 @@ answers_stay law g events j k r object query a b x y views =
 -- ## Places
 
 pub one_place : PlacesCountAccepted → (g : Group) (events : List Event) (place : ℕ) (x y : Learnt)
-    → IsLearntAt (lines g events) place x → IsLearntAt (lines g events) place y → x.place ≡ y.place
+    → IsLearntAt (report_lines g events) place x → IsLearntAt (report_lines g events) place y → x.place ≡ y.place
 one_place law g events place x y p q = law g events place x p ∙ sym (law g events place y q)

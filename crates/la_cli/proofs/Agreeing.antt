@@ -3,13 +3,13 @@ use Rattle.std.proofs.Common.{◌≡◌, ◌∙◌, inl, inr, ℕ, zero, suc, �
 use Rattle.std.specs.List.{slice_get, slice_index_or}
 use Rattle.std.proofs.lemmas.Bool.{cases_lt}
 use Rattle.std.proofs.lemmas.Option.{slice_get_within, get_or_from_slice_get, slice_get-get_or}
-use Rattle.la_runner.specs.Members.{view}
+use Rattle.la_runner.specs.Members.{member_view}
 use Rattle.la_runner.specs.Runs.{Back}
-use Rattle.la_cli.specs.Threads.{Agree}
+use Rattle.la_cli.specs.Threads.{LogsAgree}
 
 -- the first was not stopped, and both have one view
 abbrev pub AgreesWith : Back → Back → Type 0
-AgreesWith b c = (b.stopped ≡ None) × (view b.member ≡ view c.member)
+AgreesWith b c = (b.stopped ≡ None) × (member_view b.member ≡ member_view c.member)
 
 -- those before a place agree with the first
 abbrev pub AgreeTo : List Back → ℕ → Type 0
@@ -40,7 +40,7 @@ one_agrees logs n x y at first agrees so_far k b c lt here zeroth = elim (cases_
       subst (λ z. AgreesWith b z) c_is (subst (λ z. AgreesWith z y) b_is agrees)
 ]
 
-pub all_agree : (logs : List Back) (n : ℕ) → length logs ≤ n → AgreeTo logs n → Agree logs
+pub all_agree : (logs : List Back) (n : ℕ) → length logs ≤ n → AgreeTo logs n → LogsAgree logs
 all_agree logs n long agrees = record {
   none_stopped = λ i d lt. (with_first i d lt).0;
   one_view = λ i d lt j e more. (with_first i d lt).1 ∙ first_same d e lt ∙ sym (with_first j e more).1;
@@ -52,13 +52,13 @@ all_agree logs n long agrees = record {
         (slice_get-get_or logs 0 d (omega (arith, lt)))
 
     first_same : {i : ℕ} (d e : Back) → i < length logs
-        → view (slice_index_or logs 0 d).member ≡ view (slice_index_or logs 0 e).member
+        → member_view (slice_index_or logs 0 d).member ≡ member_view (slice_index_or logs 0 e).member
     first_same d e lt =
-        ap (λ (z : Back). view z.member)
+        ap (λ (z : Back). member_view z.member)
         (get_or_from_slice_get logs 0 (slice_index_or logs 0 e) d (slice_get-get_or logs 0 e (omega (arith, lt))))
 
 pub agrees_by_all : (logs : List Back) (i : ℕ) (x y : Back) → slice_get logs i ≡ Some x → slice_get logs 0 ≡ Some y
-    → Agree logs → AgreesWith x y
+    → LogsAgree logs → AgreesWith x y
 agrees_by_all logs i x y at first all =
     let lt = slice_get_within logs i x at in
     let there = slice_get_within logs 0 y first in
@@ -66,6 +66,6 @@ agrees_by_all logs i x y at first all =
     let y_is = get_or_from_slice_get logs 0 y y first in (
       subst (λ (b : Back). b.stopped ≡ None) x_is (all.none_stopped i x lt),
       subst
-          (λ (b : Back). view x.member ≡ view b.member) y_is
-          (subst (λ (b : Back). view b.member ≡ view (slice_index_or logs 0 y).member) x_is (all.one_view i x lt 0 y there)),
+          (λ (b : Back). member_view x.member ≡ member_view b.member) y_is
+          (subst (λ (b : Back). member_view b.member ≡ member_view (slice_index_or logs 0 y).member) x_is (all.one_view i x lt 0 y there)),
     )

@@ -17,7 +17,7 @@ use Rattle.clap.specs.Faults.{entered_fault, level_fault}
 use Rattle.la_cli.proofs.lemmas.GivenNumbers.{some_is, some≢none}
 use Rattle.la_cli.proofs.lemmas.Entered.{IsNoHelp, enters_well, help_never, level_never}
 use Rattle.la_cli.proofs.lemmas.Faultless.{AllOne, defaults_there, level_reads}
-use Rattle.la_cli.specs.Calls.{AreGiven, AreSizesGiven, Calls, IsGiven, IsDraw, IsRun, AreTaken, AreSizesTaken, IsNamed, Names, lattice, option}
+use Rattle.la_cli.specs.Calls.{AreGiven, AreSizesGiven, Calls, IsGiven, IsDraw, IsRunTask, AreDrawOptions, AreSizesTaken, IsNamedTask, NamesCommand, lattice, option}
 use Rattle.la_cli.specs.declared.call.Task.{Task}
 use Rattle.la_cli.specs.declared.call.Task.TheVariants.{Play, Random, Threads}
 
@@ -57,17 +57,17 @@ paired (Some b) name rows e f = ap₂ (λ (n : Text) (r : List Row). Some (n, r)
 -- what a parse of the words that names a subcommand says of them
 pub names_of_parse : (words : List Text) (m : ArgMatches) (name : Text) (rows : List Row)
     → subcommand_name_of m ≡ Some name → option_map (λ p. p.1) (subcommand_rows_of m) ≡ Some rows
-    → subcommand_rows_of m ≡ subcommand_of lattice words → Names words name rows
+    → subcommand_rows_of m ≡ subcommand_of lattice words → NamesCommand words name rows
 names_of_parse words m name rows e f is = sym is ∙ paired (out-ArgMatches m).subcommand name rows e f
 
-pub draw_is_named : (words : List Text) (rows : List Row) (task : Task) → Names words (codes "random") rows
-    → IsDraw rows task → IsNamed words task
+pub draw_is_named : (words : List Text) (rows : List Row) (task : Task) → NamesCommand words (codes "random") rows
+    → IsDraw rows task → IsNamedTask words task
 draw_is_named words rows Play named draw = absurd draw
 draw_is_named words rows (Random seed replicas events) named draw = (rows, named, draw)
 draw_is_named words rows (Threads replicas each) named draw = absurd draw
 
-pub run_is_named : (words : List Text) (rows : List Row) (task : Task) → Names words (codes "threads") rows
-    → IsRun rows task → IsNamed words task
+pub run_is_named : (words : List Text) (rows : List Row) (task : Task) → NamesCommand words (codes "threads") rows
+    → IsRunTask rows task → IsNamedTask words task
 run_is_named words rows Play named run = absurd run
 run_is_named words rows (Random seed replicas events) named run = absurd run
 run_is_named words rows (Threads replicas each) named run = (rows, named, run)
@@ -125,7 +125,7 @@ module _ (words : List Text) (faultless : level_fault (shape_at 1) [] nothing_he
   settled_at_end : List Row
   settled_at_end = (settled (shape_at 1).rules (walk (shape_at 1).rules [] nothing_held words).held).rows
 
-  all_taken : AreTaken (rows_after (shape_at 1).rules [] words)
+  all_taken : AreDrawOptions (rows_after (shape_at 1).rules [] words)
   unfolding clap_on_literals settled_at_end
   all_taken =
       let seed = level_reads seed_rule (shape_at 1) [] words false [] seed_alone
@@ -163,7 +163,7 @@ module _ (words : List Text) (faultless : level_fault (shape_at 2) [] nothing_he
 -- what is named is one of the three, a draw or a run with each of its numbers
 abbrev pub NamesTask : Option (Text × List Row) → Type 0
 NamesTask o = ((rows : List Row) × (o ≡ Some (codes "play", rows)))
-    ⊎ (((rows : List Row) × (o ≡ Some (codes "random", rows)) × AreTaken rows)
+    ⊎ (((rows : List Row) × (o ≡ Some (codes "random", rows)) × AreDrawOptions rows)
     ⊎ ((rows : List Row) × (o ≡ Some (codes "threads", rows)) × AreSizesTaken rows))
 
 named_at : (stop : Option (Text × List Text)) → entered_fault whole stop ≡ [] → is_some (entered whole stop) ≡ true
@@ -201,13 +201,13 @@ faultless_names words e =
     enters.no_help
 
 never_that : (words : List Text) (name that : Text) (rows others : List Row) → bytes_eq that that ≡ true
-    → bytes_eq name that ≡ false → Names words name rows → Names words that others → ⊥
+    → bytes_eq name that ≡ false → NamesCommand words name rows → NamesCommand words that others → ⊥
 never_that words name that rows others self other named is =
     let same : name ≡ that = ap (λ o. unwrap_or (option_map (λ p. p.0) o) []) (sym named ∙ is) in
     true≢false (sym self ∙ subst (λ (n : Text). bytes_eq n that ≡ false) same other)
 
 -- so no name but these three is entered
-pub no_other : (words : List Text) (name : Text) (rows : List Row) → fault_of lattice words ≡ [] → Names words name rows
+pub no_other : (words : List Text) (name : Text) (rows : List Row) → fault_of lattice words ≡ [] → NamesCommand words name rows
     → bytes_eq name (codes "play") ≡ false → bytes_eq name (codes "random") ≡ false
     → bytes_eq name (codes "threads") ≡ false → ⊥
 unfolding clap_on_literals
@@ -240,21 +240,21 @@ given_once : (rows : List Row) (name : Text) (n m : ℕ) → IsGiven rows name n
 given_once rows name n m g h =
     g.value ∙ ap (λ t. digits_value 10 (without_leading_plus t)) (some_is _ _ (sym g.given ∙ h.given)) ∙ sym h.value
 
-play_is_no_draw : (words : List Text) (a b : List Row) → Names words (codes "play") a → Names words (codes "random") b
+play_is_no_draw : (words : List Text) (a b : List Row) → NamesCommand words (codes "play") a → NamesCommand words (codes "random") b
     → ⊥
 play_is_no_draw words a b plays draws =
     let names : codes "play" ≡ codes "random" = ap (λ o. unwrap_or (option_map (λ p. p.0) o) []) (sym plays ∙ draws) in
     let lengths : length (codes "play") ≡ length (codes "random") = ap length names in
     absurd (omega arith)
 
-play_is_no_run : (words : List Text) (a b : List Row) → Names words (codes "play") a → Names words (codes "threads") b
+play_is_no_run : (words : List Text) (a b : List Row) → NamesCommand words (codes "play") a → NamesCommand words (codes "threads") b
     → ⊥
 play_is_no_run words a b plays runs =
     let names : codes "play" ≡ codes "threads" = ap (λ o. unwrap_or (option_map (λ p. p.0) o) []) (sym plays ∙ runs) in
     let lengths : length (codes "play") ≡ length (codes "threads") = ap length names in
     absurd (omega arith)
 
-draw_is_no_run : (words : List Text) (a b : List Row) → Names words (codes "random") a → Names words (codes "threads") b
+draw_is_no_run : (words : List Text) (a b : List Row) → NamesCommand words (codes "random") a → NamesCommand words (codes "threads") b
     → ⊥
 draw_is_no_run words a b draws runs =
     let names : codes "random" ≡ codes "threads" =
@@ -262,23 +262,23 @@ draw_is_no_run words a b draws runs =
     let lengths : length (codes "random") ≡ length (codes "threads") = ap length names in
     absurd (omega arith)
 
-same_rows : (words : List Text) (name : Text) (a b : List Row) → Names words name a → Names words name b → a ≡ b
+same_rows : (words : List Text) (name : Text) (a b : List Row) → NamesCommand words name a → NamesCommand words name b → a ≡ b
 same_rows words name a b x y = ap (λ o. unwrap_or (option_map (λ p. p.1) o) []) (sym x ∙ y)
 
 -- what a faultless draw was given has each of its numbers
 pub draw_is_taken : (words : List Text) (rows : List Row) → fault_of lattice words ≡ []
-    → Names words (codes "random") rows → AreTaken rows
+    → NamesCommand words (codes "random") rows → AreDrawOptions rows
 draw_is_taken words rows faultless named = elim (faultless_names words faultless) [
   | inl plays ↦ absurd (play_is_no_draw words plays.0 rows plays.1 named)
   | inr other ↦ elim other [
-    | inl draws ↦ subst AreTaken (same_rows words (codes "random") draws.0 rows draws.1 named) draws.2
+    | inl draws ↦ subst AreDrawOptions (same_rows words (codes "random") draws.0 rows draws.1 named) draws.2
     | inr runs ↦ absurd (draw_is_no_run words rows runs.0 named runs.1)
   ]
 ]
 
 -- the same of a run
 pub run_is_taken : (words : List Text) (rows : List Row) → fault_of lattice words ≡ []
-    → Names words (codes "threads") rows → AreSizesTaken rows
+    → NamesCommand words (codes "threads") rows → AreSizesTaken rows
 run_is_taken words rows faultless named = elim (faultless_names words faultless) [
   | inl plays ↦ absurd (play_is_no_run words plays.0 rows plays.1 named)
   | inr other ↦ elim other [
@@ -320,7 +320,7 @@ one_task words (Threads r e) (Threads q f) x y =
     (same_rows words (codes "threads") x.named.0 y.named.0 x.named.1 y.named.1) x.named.2) y.named.2
 
 -- words that name a node call for none
-pub node_is_no_task : (words : List Text) (rows : List Row) (task : Task) → Names words (codes "node") rows
+pub node_is_no_task : (words : List Text) (rows : List Row) (task : Task) → NamesCommand words (codes "node") rows
     → Calls words task → ⊥
 unfolding clap_on_literals
 node_is_no_task words rows Play named calls =

@@ -7,15 +7,15 @@ use Rattle.clap.specs.declared.error.kind.ErrorKind.{ErrorKind}
 use Rattle.clap.specs.declared.error.kind.ErrorKind.TheVariants.{OutOfMemory, DisplayHelp, DisplayVersion}
 use Rattle.la_object.specs.Shelves.{ShelfState}
 use Rattle.la_cli.specs.Calls.{lattice, IsText, IsMistaken, AsksForText}
-use Rattle.la_cli.specs.Faults.{status_of}
-use Rattle.la_cli.specs.Program.{Standard, Heard, Tells, TellsFault, EndsWithoutTask, EndsWell, ComesTo, IsDone, IsDiffering}
+use Rattle.la_cli.specs.Faults.{play_status}
+use Rattle.la_cli.specs.Program.{Standard, Heard, TellsAndEnds, TellsFault, EndsWithoutTask, ProgramEndsWell, ComesTo, IsDone, IsDiffering}
 use Rattle.la_cli.specs.declared.call.Task.{Task}
 use Rattle.la_cli.specs.declared.error.PlayFault.{PlayFault}
 use Rattle.la_cli.specs.declared.error.PlayFault.TheVariants.{Script, ReadFault, TooLong, BadConfig, WriteFault, NoThread, Memory}
 use Rattle.la_cli.specs.declared.program.Ended.{Ended}
 
 -- no fault has the status 0
-pub faults_have_a_status : (f : PlayFault) → status_of f ≢ 0
+pub faults_have_a_status : (f : PlayFault) → play_status f ≢ 0
 faults_have_a_status (Script f) e = cc
 faults_have_a_status TooLong e = cc
 faults_have_a_status Memory e = cc
@@ -41,7 +41,7 @@ is_differing false task shelves left left_after written written_after e done = d
 is_differing true task shelves left left_after written written_after e done = absurd (false≢true (sym e))
 
 -- where something is told with a status that is not 0, the status is not 0
-told_status : (heard : Heard) (line : List ℕ) (n : ℕ) (ended : Ended) → Tells heard line n ended → n ≢ 0
+told_status : (heard : Heard) (line : List ℕ) (n : ℕ) (ended : Ended) → TellsAndEnds heard line n ended → n ≢ 0
     → ended.status ≢ 0
 told_status heard line n ended tells some zero = some (sym tells.status ∙ zero)
 
@@ -52,7 +52,7 @@ a_told_fault_is_no_good_end heard f ended tells = told_status heard _ _ ended te
 -- without a task, the status 0 is that of a text that was asked for and written
 pub without_task_well : (words : List (List ℕ)) (shelves : List ShelfState) (old new : Standard) (heard : Heard)
     (ended : Ended) → EndsWithoutTask (fault_of lattice words) old new heard ended → ended.status ≡ 0
-    → EndsWell words shelves old new heard ended
+    → ProgramEndsWell words shelves old new heard ended
 without_task_well words shelves old new heard ended (inl shown) zero = inr shown
 without_task_well words shelves old new heard ended (inr (inl it)) zero =
     absurd (a_told_fault_is_no_good_end heard WriteFault ended it.tells zero)

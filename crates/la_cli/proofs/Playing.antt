@@ -7,8 +7,8 @@ use Rattle.la_world.specs.declared.event.Event.{Event}
 use Rattle.la_script.specs.declared.script.Version.TheVariants.{One}
 use Rattle.la_script.specs.RandomEvents.{random_events}
 use Rattle.la_cli.specs.Faults.{of_input}
-use Rattle.la_cli.specs.Play.{FitAnyGroup, text_by, IsRandomGroup, AnswersDraw, ReadsInput, IsAnswerRefusal, IsPlayRefusal}
-use Rattle.la_cli.specs.Streams.{Takes, TakesAtMost}
+use Rattle.la_cli.specs.Play.{FitAnyGroup, text_by, IsRandomGroup, AnswersDraw, ReadsInput, IsScriptRefusal, IsPlayedRefusal}
+use Rattle.la_cli.specs.Streams.{TakesBytes, TakesAtMost}
 use Rattle.la_cli.specs.declared.error.PlayFault.{PlayFault}
 use Rattle.la_cli.specs.declared.error.PlayFault.TheVariants as fault
 use Rattle.la_cli.specs.declared.streams.InputFault.{InputFault}
@@ -27,8 +27,8 @@ draw_is_answered shelves seed replicas count c events text group drawn is =
 -- not all was read
 pub input_is_refused : (shelves : List ShelfState) → FitAnyGroup shelves
     → (left left_after written : Option (List ℕ)) (f : InputFault)
-    → (f ≡ input.TooLong → Takes (LIMIT + 1) left left_after) → (f ≡ input.ReadFault → TakesAtMost LIMIT left left_after)
-    → TakesAtMost (LIMIT + 1) left left_after → IsPlayRefusal shelves left left_after written written (of_input f)
+    → (f ≡ input.TooLong → TakesBytes (LIMIT + 1) left left_after) → (f ≡ input.ReadFault → TakesAtMost LIMIT left left_after)
+    → TakesAtMost (LIMIT + 1) left left_after → IsPlayedRefusal shelves left left_after written written (of_input f)
 input_is_refused shelves fit left left_after written input.ReadFault long failed taken =
     (fit, failed refl, Keeps-refl written)
 input_is_refused shelves fit left left_after written input.TooLong long failed taken =
@@ -38,7 +38,7 @@ input_is_refused shelves fit left left_after written input.Memory long failed ta
 -- there is no text for what was read
 pub answer_is_refused : (shelves : List ShelfState) → FitAnyGroup shelves
     → (left left_after written : Option (List ℕ)) (bytes : List ℕ) (f : PlayFault) → ReadsInput left left_after bytes
-    → IsAnswerRefusal bytes f → IsPlayRefusal shelves left left_after written written f
+    → IsScriptRefusal bytes f → IsPlayedRefusal shelves left left_after written written f
 answer_is_refused shelves fit left left_after written bytes (fault.Script f) read is = (fit, record { input = bytes; read = read; fault = is }, Keeps-refl written)
 answer_is_refused shelves fit left left_after written bytes fault.Memory read is =
     (fit, (bytes, read.all.0, omega (arith, read.short)), Keeps-refl written)

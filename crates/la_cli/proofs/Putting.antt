@@ -10,11 +10,11 @@ use Rattle.la_world.specs.Events.{event_of}
 use Rattle.la_world.specs.Report.{report}
 use Rattle.la_world.specs.Printable.{IsPrintableLine}
 use Rattle.la_world.specs.StandsFor.{World, kinds_of, StandsFor}
-use Rattle.la_world.specs.Calls.{GoesOn, report_after}
+use Rattle.la_world.specs.Calls.{RunGoesOn, report_after}
 use Rattle.la_world.proofs.lemmas.Playback.{ran, HasPlayed, played_none, played_more, played_all}
 use Rattle.la_script.specs.declared.script.Version.{Version}
 use Rattle.la_script.specs.Text.{numbered_text, lines_text, header_text, ending_text, text_of}
-use Rattle.la_cli.specs.Play.{shelves_of, text_by}
+use Rattle.la_cli.specs.Play.{group_shelves, text_by}
 
 -- after so many events the world is this, and the text
 pub record HasPut (version : Version) (c : Config) (shelves : List ShelfState) (es : List Event) (i : ℕ) (w : World)
@@ -49,7 +49,7 @@ module _ (version : Version) (c : Config) (shelves : List ShelfState) (es : List
     (text : List ℕ) (h : HasPut version c shelves es i w text) where
   -- one event more
   pub put_more : (d : Event) (line : Line) (after : World) (more : List ℕ) → i < length es
-      → GoesOn w (ran (group_of c (kinds_of shelves)) es i) (event_of (get_or es i d)) line after → IsPrintableLine line
+      → RunGoesOn w (ran (group_of c (kinds_of shelves)) es i) (event_of (get_or es i d)) line after → IsPrintableLine line
       → more ≡ text ++ numbered_text (i + 1) line → HasPut version c shelves es (i + 1) after more
   put_more d line after more lt on printable is = record {
     lines = h.lines ++ line ∷ [];
@@ -67,7 +67,7 @@ module _ (version : Version) (c : Config) (shelves : List ShelfState) (es : List
   }
 
   -- all of them, and what is behind their lines
-  pub put_all : (all : List ShelfState) (made : Report) (whole : List ℕ) → shelves ≡ shelves_of c all → length es ≤ i
+  pub put_all : (all : List ShelfState) (made : Report) (whole : List ℕ) → shelves ≡ group_shelves c all → length es ≤ i
       → made ≡ report_after w (ran (group_of c (kinds_of shelves)) es i).accepted [] → whole ≡ text ++ ending_text made
       → whole ≡ text_by version c es all
   put_all all made whole used le is adds =

@@ -16,7 +16,7 @@ use Rattle.la_object.specs.Objects.{kind_of, IsFresh}
 use Rattle.la_object.specs.Shelves.{ShelfState, kinds, kind_at}
 use Rattle.la_object.specs.Refusals.{IsAddRefusal}
 use Rattle.la_object.proofs.lemmas.Rows.{rows-push, kinds-push}
-use Rattle.la_cli.specs.Shelves.{states_of, all_states_of, shelf_of, CanStand, IsUnfit, HasUnfit, IsFillRefusal, standard_objects}
+use Rattle.la_cli.specs.Shelves.{states_of, all_states_of, new_shelf, CanStand, IsUnfit, HasUnfit, IsFillRefusal, standard_objects}
 
 -- no number is this one, where none of the objects stands under it
 none_is : (number : ℕ) (os : List (ℕ × State)) → kind_at (kinds os) number ≡ None
@@ -47,7 +47,7 @@ stand-push os o can none fresh = record {
 -- a shelf on which the first of all objects were put, and those that are still to come
 pub record Filling {B : Type 0} (state : B → State) (all done left : List (ℕ × B)) (shelf : ShelfState) : Type 0 where
   pub parts : all ≡ done ++ left
-  pub is : shelf ≡ shelf_of (states_of state done)
+  pub is : shelf ≡ new_shelf (states_of state done)
   pub stand : CanStand (states_of state done)
 
 pub nothing_put : {B : Type 0} (state : B → State) (all left : List (ℕ × B)) (shelf : ShelfState) → left ≡ all → shelf ≡ record { view = empty; objects = [] } → Filling state all [] left shelf
@@ -68,7 +68,7 @@ one_put state all done left rest o shelf shelf_after f is none fresh put =
       is = put
           ∙ ap (λ (s : ShelfState). record s { objects = s.objects ++ (o.0, kind_of (state o.1)) ∷ [] }) f.is
           ∙ ap (λ os. record { view = empty; objects = os }) (sym (kinds-push before o.0 (state o.1)))
-          ∙ ap shelf_of (sym next);
+          ∙ ap new_shelf (sym next);
       stand =
           subst CanStand (sym next)
           (stand-push before (o.0, state o.1) f.stand (ap (λ (s : ShelfState). kind_at s.objects o.0) (sym f.is) ∙ none)
@@ -101,7 +101,7 @@ is_unfit state all done left rest o shelf e f is refused = record {
 pub record Shelved {B : Type 0} (state : B → State) (all done left : List (Vec (ℕ × B))) (shelves : List ShelfState) :
     Type 0 where
   pub parts : all ≡ done ++ left
-  pub are : shelves ≡ map shelf_of (all_states_of state done)
+  pub are : shelves ≡ map new_shelf (all_states_of state done)
   pub stand : All CanStand (all_states_of state done)
 
 pub none_shelved : {B : Type 0} (state : B → State) (all left : List (Vec (ℕ × B))) (shelves : List ShelfState)
@@ -115,7 +115,7 @@ all_states-push state done v = map-append (λ (objects : Vec (ℕ × _)). states
 -- where the next replica has its shelf
 pub one_shelved : {B : Type 0} (state : B → State) (all done left rest : List (Vec (ℕ × B))) (v : Vec (ℕ × B))
     (shelves shelves_after : List ShelfState) (shelf : ShelfState) →
-    Shelved state all done left shelves → left ≡ v ∷ rest → shelf ≡ shelf_of (states_of state v.items)
+    Shelved state all done left shelves → left ≡ v ∷ rest → shelf ≡ new_shelf (states_of state v.items)
     → CanStand (states_of state v.items) →
     shelves_after ≡ shelves ++ shelf ∷ [] → Shelved state all (done ++ v ∷ []) rest shelves_after
 one_shelved state all done left rest v shelves shelves_after shelf f is made can pushed =
@@ -123,9 +123,9 @@ one_shelved state all done left rest v shelves shelves_after shelf f is made can
     record {
       parts = f.parts ∙ ap (λ os. done ++ os) is ∙ sym (append_assoc done (v ∷ []) rest);
       are =
-          pushed ∙ ap (λ ss. ss ++ shelf ∷ []) f.are ∙ ap (λ s. map shelf_of (all_states_of state done) ++ s ∷ []) made
-          ∙ sym (map-append shelf_of (all_states_of state done) (states_of state v.items ∷ []))
-          ∙ ap (map shelf_of) (sym next);
+          pushed ∙ ap (λ ss. ss ++ shelf ∷ []) f.are ∙ ap (λ s. map new_shelf (all_states_of state done) ++ s ∷ []) made
+          ∙ sym (map-append new_shelf (all_states_of state done) (states_of state v.items ∷ []))
+          ∙ ap (map new_shelf) (sym next);
       stand =
           subst (All CanStand) (sym next)
           (All-push CanStand (all_states_of state done) (states_of state v.items) f.stand can);

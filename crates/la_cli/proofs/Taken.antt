@@ -3,7 +3,7 @@ use Rattle.std.proofs.Common.{◌≡◌, ℕ, ◌+◌, ◌≤◌, List, ◌++◌
 use Rattle.std.specs.Io.KnownBytes.{Consumes, Keeps}
 use Rattle.std.proofs.KnownBytes.{Consumes-trans, Consumes-kept}
 use Rattle.std.proofs.lemmas.List.{length-append}
-use Rattle.la_cli.specs.Streams.{Takes, TakesAtMost}
+use Rattle.la_cli.specs.Streams.{TakesBytes, TakesAtMost}
 
 -- what was read so far, and then a part
 pub reads_on : (a b c : Option (List ℕ)) (xs ys : List ℕ) → Consumes a b xs → Consumes b c ys → Consumes a c (xs ++ ys)
@@ -19,7 +19,7 @@ takes_more n a b c xs ys p q le = (xs ++ ys, Consumes-trans a b c xs ys p q, ome
 
 -- a part more, just what is allowed
 pub takes_so_many : (n : ℕ) (a b c : Option (List ℕ)) (xs ys : List ℕ) → Consumes a b xs → Consumes b c ys
-    → length xs + length ys ≡ n → Takes n a c
+    → length xs + length ys ≡ n → TakesBytes n a c
 takes_so_many n a b c xs ys p q e = (xs ++ ys, Consumes-trans a b c xs ys p q, omega (arith, length-append xs ys))
 
 -- nothing more, since the read failed

@@ -3,7 +3,7 @@ use Rattle.std.proofs.Common.{ℕ, ◌-◌, ◌≤◌, List, [], length, take, d
 use Rattle.std.specs.Io.KnownBytes.{Appends, Keeps}
 use Rattle.std.proofs.KnownBytes.{Appends-kept}
 use Rattle.std.proofs.lemmas.List.{take_rest, take_all, drop_all}
-use Rattle.la_cli.specs.Streams.{Refuses}
+use Rattle.la_cli.specs.Streams.{RefusesBytes}
 
 module _ {W : Type 0} (contents : W → Option (List ℕ)) (refuses : W → List ℕ → W → Type 0) (old between new : W)
     (bytes : List ℕ) (n : ℕ)
@@ -11,12 +11,12 @@ module _ {W : Type 0} (contents : W → Option (List ℕ)) (refuses : W → List
   where
     -- the rest was refused
     pub rest_is_refused : refuses between (take (length bytes - n) (drop n bytes)) new
-        → Refuses contents refuses old new bytes
+        → RefusesBytes contents refuses old new bytes
     rest_is_refused refused =
         record { count = n; between = between; took = took; kept = kept; refused = subst (λ rest. refuses between rest new) (take_rest bytes n) refused }
 
     -- all was taken, and the flush was refused
-    pub flush_is_refused : length bytes ≤ n → refuses between [] new → Refuses contents refuses old new bytes
+    pub flush_is_refused : length bytes ≤ n → refuses between [] new → RefusesBytes contents refuses old new bytes
     flush_is_refused all refused =
         record { count = n; between = between; took = took; kept = kept; refused = subst (λ rest. refuses between rest new) (sym (drop_all n bytes all)) refused }
 

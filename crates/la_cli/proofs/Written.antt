@@ -7,7 +7,7 @@ use Rattle.std.proofs.KnownBytes.{Appends-trans, Appends-kept}
 use Rattle.la_object.specs.Shelves.{ShelfState}
 use Rattle.la_cli.specs.Streams.{AppendsPrefix, AppendsAllBut}
 use Rattle.la_cli.proofs.lemmas.Fronts.{prefix_more, prefix_behind}
-use Rattle.la_cli.specs.Play.{FitAnyGroup, ReadsInput, Answers, Plays, PlaysPrefix}
+use Rattle.la_cli.specs.Play.{FitAnyGroup, ReadsInput, AnswersScript, PlaysBytes, PlaysPrefix}
 
 -- what is written after the first d bytes
 pub written_more : (a b c : Option (List ℕ)) (bytes : List ℕ) (d n : ℕ) → Appends a b (take d bytes)
@@ -19,7 +19,7 @@ written_more a b c bytes d n p q =
 -- a text that was made of what was read, and then written
 pub plays : (shelves : List ShelfState) → FitAnyGroup shelves
     → (a b old new : Option (List ℕ)) (input given text : List ℕ) → ReadsInput a b input → given ≡ input
-    → Answers shelves given text → Appends old new text → Plays shelves a b old new
+    → AnswersScript shelves given text → Appends old new text → PlaysBytes shelves a b old new
 plays shelves fit a b old new input given text r is made w = record {
   fit = fit;
   input = given;
@@ -32,7 +32,7 @@ plays shelves fit a b old new input given text r is made w = record {
 -- the same, where the writer failed
 pub plays_prefix : (shelves : List ShelfState) → FitAnyGroup shelves
     → (a b old new : Option (List ℕ)) (input given text : List ℕ) → ReadsInput a b input → given ≡ input
-    → Answers shelves given text → AppendsPrefix old new text → PlaysPrefix shelves a b old new
+    → AnswersScript shelves given text → AppendsPrefix old new text → PlaysPrefix shelves a b old new
 plays_prefix shelves fit a b old new input given text r is made w = record {
   fit = fit;
   input = given;

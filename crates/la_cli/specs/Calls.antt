@@ -36,8 +36,8 @@ threads = with_rule
     (option (codes "each") 1 1000 (codes "10"))
 
 -- a replica that keeps its state is listed, but never a task: whoever hands in its words is shown its help
-abbrev pub node : App
-node =
+abbrev pub node_app : App
+node_app =
     let top = (new_app (codes "node")).top in
     record {
       top = record top {
@@ -65,7 +65,7 @@ lattice =
     with_subcommand
     (with_subcommand
     (with_subcommand (with_subcommand lattice_alone play.top) random.top) threads.top)
-    node.top
+    node_app.top
 
 -- ## What they call for
 
@@ -77,24 +77,24 @@ pub record IsGiven (rows : List Row) (name : Text) (n : ℕ) : Type 0 where
   pub value : n ≡ digits_value 10 (without_leading_plus text)
 
 -- a text stands for this number, and its number is from `least` to `most`
-pub record IsTaken (rows : List Row) (name : Text) (least most : ℕ) : Type 0 where
+pub record IsNumberTaken (rows : List Row) (name : Text) (least most : ℕ) : Type 0 where
   pub text : Text
   pub given : one_of name rows ≡ Some (without_minus text)
   pub passed : IsSignedIn (pos least) (pos most) text
 
 -- a text in its range stands for each number of a draw
-pub record AreTaken (rows : List Row) : Type 0 where
-  pub seed : IsTaken rows (codes "seed") 0 4294967295
-  pub replicas : IsTaken rows (codes "replicas") 1 8
-  pub events : IsTaken rows (codes "events") 1 10000
+pub record AreDrawOptions (rows : List Row) : Type 0 where
+  pub seed : IsNumberTaken rows (codes "seed") 0 4294967295
+  pub replicas : IsNumberTaken rows (codes "replicas") 1 8
+  pub events : IsNumberTaken rows (codes "events") 1 10000
 
 -- the same for each number of a run
 pub record AreSizesTaken (rows : List Row) : Type 0 where
-  pub replicas : IsTaken rows (codes "replicas") 1 8
-  pub each : IsTaken rows (codes "each") 1 1000
+  pub replicas : IsNumberTaken rows (codes "replicas") 1 8
+  pub each : IsNumberTaken rows (codes "each") 1 1000
 
 -- the numbers of a draw are in their ranges
-pub record AreInRange (replicas events : ℕ) : Type 0 where
+pub record AreDrawNumbers (replicas events : ℕ) : Type 0 where
   pub some_replicas : 1 ≤ replicas
   pub few_replicas : replicas ≤ 8
   pub some_events : 1 ≤ events
@@ -105,7 +105,7 @@ pub record AreGiven (rows : List Row) (seed replicas events : ℕ) : Type 0 wher
   pub seed_given : IsGiven rows (codes "seed") seed
   pub replicas_given : IsGiven rows (codes "replicas") replicas
   pub events_given : IsGiven rows (codes "events") events
-  pub in_range : AreInRange replicas events
+  pub in_range : AreDrawNumbers replicas events
 
 -- the numbers of a run are in their ranges
 pub record AreSizes (replicas each : ℕ) : Type 0 where
@@ -122,7 +122,7 @@ pub record AreSizesGiven (rows : List Row) (replicas each : ℕ) : Type 0 where
 
 abbrev pub IsInRange : Task → Type 0
 IsInRange Play = Unit {0}
-IsInRange (Random seed replicas events) = AreInRange replicas events
+IsInRange (Random seed replicas events) = AreDrawNumbers replicas events
 IsInRange (Threads replicas each) = AreSizes replicas each
 
 -- the task is a draw with the numbers that were given
@@ -132,31 +132,31 @@ IsDraw rows (Random seed replicas events) = AreGiven rows seed replicas events
 IsDraw rows (Threads replicas each) = ⊥
 
 -- the task is a run with the numbers that were given
-abbrev pub IsRun : (rows : List Row) → Task → Type 0
-IsRun rows Play = ⊥
-IsRun rows (Random seed replicas events) = ⊥
-IsRun rows (Threads replicas each) = AreSizesGiven rows replicas each
+abbrev pub IsRunTask : (rows : List Row) → Task → Type 0
+IsRunTask rows Play = ⊥
+IsRunTask rows (Random seed replicas events) = ⊥
+IsRunTask rows (Threads replicas each) = AreSizesGiven rows replicas each
 
 -- the words name this subcommand, with these options
-abbrev pub Names : (words : List Text) → (name : Text) → List Row → Type 0
-Names words name rows = subcommand_of lattice words ≡ Some (name, rows)
+abbrev pub NamesCommand : (words : List Text) → (name : Text) → List Row → Type 0
+NamesCommand words name rows = subcommand_of lattice words ≡ Some (name, rows)
 
 -- the words name the task's subcommand
-abbrev pub IsNamed : (words : List Text) → Task → Type 0
-IsNamed words Play = (rows : List Row) × Names words (codes "play") rows
-IsNamed words (Random seed replicas events) =
+abbrev pub IsNamedTask : (words : List Text) → Task → Type 0
+IsNamedTask words Play = (rows : List Row) × NamesCommand words (codes "play") rows
+IsNamedTask words (Random seed replicas events) =
     (rows : List Row)
-    × Names words (codes "random") rows
+    × NamesCommand words (codes "random") rows
     × IsDraw rows (Random seed replicas events)
-IsNamed words (Threads replicas each) =
+IsNamedTask words (Threads replicas each) =
     (rows : List Row)
-    × Names words (codes "threads") rows
-    × IsRun rows (Threads replicas each)
+    × NamesCommand words (codes "threads") rows
+    × IsRunTask rows (Threads replicas each)
 
 -- the words call for a task: nothing is wrong with them, and they name it
 pub record Calls (words : List Text) (task : Task) : Type 0 where
   pub faultless : fault_of lattice words ≡ []
-  pub named : IsNamed words task
+  pub named : IsNamedTask words task
 
 -- ## What they call for else
 

@@ -17,15 +17,15 @@ of_script (read.Fault f) = Script f
 of_script read.Memory = Memory
 
 -- the exit status of the program
-abbrev pub status_of : PlayFault → ℕ
-status_of (Script f) = 1
-status_of TooLong = 1
-status_of Memory = 3
-status_of ReadFault = 4
-status_of BadConfig = 4
-status_of WriteFault = 4
-status_of NoThread = 4
+abbrev pub play_status : PlayFault → ℕ
+play_status (Script f) = 1
+play_status TooLong = 1
+play_status Memory = 3
+play_status ReadFault = 4
+play_status BadConfig = 4
+play_status WriteFault = 4
+play_status NoThread = 4
 
 -- the exit status of a play: it was done, or there was a fault
 abbrev pub IsStatus : ℕ → Type 0
-IsStatus n = (n ≡ 0) ⊎ ((f : PlayFault) × (n ≡ status_of f))
+IsStatus n = (n ≡ 0) ⊎ ((f : PlayFault) × (n ≡ play_status f))

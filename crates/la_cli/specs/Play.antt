@@ -22,7 +22,7 @@ use Rattle.la_script.specs.Text.{text_of}
 use Rattle.la_cli.specs.declared.error.PlayFault.{PlayFault}
 use Rattle.la_cli.specs.declared.error.PlayFault.TheVariants as fault
 use Rattle.la_cli.specs.declared.streams.TheConstants.{LIMIT}
-use Rattle.la_cli.specs.Streams.{ReadsAll, Takes, TakesAtMost, AppendsPrefix}
+use Rattle.la_cli.specs.Streams.{ReadsAll, TakesBytes, TakesAtMost, AppendsPrefix}
 
 -- ## Shelves
 
@@ -32,57 +32,57 @@ pub record FitAnyGroup (shelves : List ShelfState) : Type 0 where
   pub unused : All (λ (s : ShelfState). s.view ≡ empty) shelves
 
 -- those of a group: as many of the first as it has replicas
-abbrev pub shelves_of : Config → List ShelfState → List ShelfState
-shelves_of c shelves = take c.replicas shelves
+abbrev pub group_shelves : Config → List ShelfState → List ShelfState
+group_shelves c shelves = take c.replicas shelves
 
 -- the text that the report of events in a group with these shelves has in a version
 abbrev pub text_by : Version → Config → List Event → List ShelfState → List ℕ
 text_by version c events shelves =
-    text_of version (report c (kinds_of (shelves_of c shelves)) (map event_of events))
+    text_of version (report c (kinds_of (group_shelves c shelves)) (map event_of events))
 
 -- ## A script
 
 -- the text of the report of a script, in its version
-abbrev pub answer : Script → List ShelfState → List ℕ
-answer s shelves = text_by s.version s.config s.events shelves
+abbrev pub report_text : Script → List ShelfState → List ℕ
+report_text s shelves = text_by s.version s.config s.events shelves
 
 -- the bytes are a script, which is this
-pub record Says (input : List ℕ) (s : Script) : Type 0 where
+pub record SaysScript (input : List ℕ) (s : Script) : Type 0 where
   pub said : script_of input ≡ Ok (said_by s)
   pub config : IsConfig s.config
 
 -- the bytes are a script, and the text is its report's: there is one text for the bytes
-pub record Answers (shelves : List ShelfState) (input text : List ℕ) : Type 0 where
+pub record AnswersScript (shelves : List ShelfState) (input text : List ℕ) : Type 0 where
   pub script : Script
-  pub says : Says input script
-  pub is_text : text ≡ answer script shelves
-  pub only : (other : Script) → Says input other → text ≡ answer other shelves
+  pub says : SaysScript input script
+  pub is_text : text ≡ report_text script shelves
+  pub only : (other : Script) → SaysScript input other → text ≡ report_text other shelves
 
 -- the bytes are a script, and the text is that of a report of its events, in its version, which keeps
 -- all that is promised of reports
 pub record IsTextOfKept (shelves : List ShelfState) (input text : List ℕ) : Type 0 where
   pub script : Script
-  pub says : Says input script
+  pub says : SaysScript input script
   pub made : Report
   pub is_text : text ≡ text_of script.version made
   pub keeps :
-      ReportKeeps (group_of script.config (kinds_of (shelves_of script.config shelves)))
+      ReportKeeps (group_of script.config (kinds_of (group_shelves script.config shelves)))
       (map event_of script.events) made
 
 -- of every text that bytes are answered with
 abbrev pub TextsKeepPromises : Type 0
 TextsKeepPromises = (shelves : List ShelfState) (input text : List ℕ) →
-    Answers shelves input text → IsTextOfKept shelves input text
+    AnswersScript shelves input text → IsTextOfKept shelves input text
 
 -- why there is no text for the bytes: their fault, or else memory may run out
-abbrev pub IsAnswerRefusal : List ℕ → PlayFault → Type 0
-IsAnswerRefusal input (fault.Script f) = script_of input ≡ Err f
-IsAnswerRefusal input fault.Memory = Unit {0}
-IsAnswerRefusal input fault.BadConfig = ⊥
-IsAnswerRefusal input fault.ReadFault = ⊥
-IsAnswerRefusal input fault.TooLong = ⊥
-IsAnswerRefusal input fault.WriteFault = ⊥
-IsAnswerRefusal input fault.NoThread = ⊥
+abbrev pub IsScriptRefusal : List ℕ → PlayFault → Type 0
+IsScriptRefusal input (fault.Script f) = script_of input ≡ Err f
+IsScriptRefusal input fault.Memory = Unit {0}
+IsScriptRefusal input fault.BadConfig = ⊥
+IsScriptRefusal input fault.ReadFault = ⊥
+IsScriptRefusal input fault.TooLong = ⊥
+IsScriptRefusal input fault.WriteFault = ⊥
+IsScriptRefusal input fault.NoThread = ⊥
 
 -- ## A draw
 
@@ -108,14 +108,14 @@ pub record ReadsInput (left left_after : Option (List ℕ)) (input : List ℕ) :
   pub short : length input ≤ LIMIT
 
 -- all was read, and it is a script; the text of its report was written
-pub record Plays
+pub record PlaysBytes
     (shelves : List ShelfState) (left left_after written written_after : Option (List ℕ))
     : Type 0 where
   pub fit : FitAnyGroup shelves
   pub input : List ℕ
   pub text : List ℕ
   pub read : ReadsInput left left_after input
-  pub answers : Answers shelves input text
+  pub answers : AnswersScript shelves input text
   pub wrote : Appends written written_after text
 
 -- the same, where only the first bytes of the text were written, some, all or none
@@ -126,7 +126,7 @@ pub record PlaysPrefix
   pub input : List ℕ
   pub text : List ℕ
   pub read : ReadsInput left left_after input
-  pub answers : Answers shelves input text
+  pub answers : AnswersScript shelves input text
   pub wrote : AppendsPrefix written written_after text
 
 -- all was read, and it is no script
@@ -137,22 +137,22 @@ pub record IsFaulty (left left_after : Option (List ℕ)) (f : ScriptFault) : Ty
 
 -- what stands after a refusal: shelves that do not fit any group come first, and nothing else is
 -- refused where they do not; but for a writer that failed, nothing was written
-abbrev pub IsPlayRefusal :
+abbrev pub IsPlayedRefusal :
     (shelves : List ShelfState) → (left left_after written written_after : Option (List ℕ)) →
     PlayFault → Type 0
-IsPlayRefusal shelves left left_after written written_after (fault.Script f) =
+IsPlayedRefusal shelves left left_after written written_after (fault.Script f) =
     FitAnyGroup shelves × IsFaulty left left_after f × Keeps written written_after
-IsPlayRefusal shelves left left_after written written_after fault.TooLong =
-    FitAnyGroup shelves × Takes (LIMIT + 1) left left_after × Keeps written written_after
-IsPlayRefusal shelves left left_after written written_after fault.ReadFault =
+IsPlayedRefusal shelves left left_after written written_after fault.TooLong =
+    FitAnyGroup shelves × TakesBytes (LIMIT + 1) left left_after × Keeps written written_after
+IsPlayedRefusal shelves left left_after written written_after fault.ReadFault =
     FitAnyGroup shelves × TakesAtMost LIMIT left left_after × Keeps written written_after
-IsPlayRefusal shelves left left_after written written_after fault.Memory =
+IsPlayedRefusal shelves left left_after written written_after fault.Memory =
     FitAnyGroup shelves × TakesAtMost (LIMIT + 1) left left_after × Keeps written written_after
-IsPlayRefusal shelves left left_after written written_after fault.BadConfig =
+IsPlayedRefusal shelves left left_after written written_after fault.BadConfig =
     (¬ FitAnyGroup shelves) × Keeps left left_after × Keeps written written_after
-IsPlayRefusal shelves left left_after written written_after fault.WriteFault =
+IsPlayedRefusal shelves left left_after written written_after fault.WriteFault =
     PlaysPrefix shelves left left_after written written_after
-IsPlayRefusal shelves left left_after written written_after fault.NoThread = ⊥
+IsPlayedRefusal shelves left left_after written written_after fault.NoThread = ⊥
 
 -- ## From a seed to a writer
 

@@ -10,9 +10,9 @@ use Rattle.la_cli.specs.declared.error.PlayFault.TheVariants.{Memory, WriteFault
 use Rattle.la_cli.specs.declared.call.Task.{Task}
 use Rattle.la_cli.specs.declared.call.Task.TheVariants as task
 use Rattle.la_cli.specs.declared.program.Ended.{Ended}
-use Rattle.la_cli.specs.Streams.{AppendsPrefix, Refuses}
-use Rattle.la_cli.specs.Faults.{status_of}
-use Rattle.la_cli.specs.Play.{Plays, IsPlayRefusal, PlaysDraw, IsDrawRefusal}
+use Rattle.la_cli.specs.Streams.{AppendsPrefix, RefusesBytes}
+use Rattle.la_cli.specs.Faults.{play_status}
+use Rattle.la_cli.specs.Play.{PlaysBytes, IsPlayedRefusal, PlaysDraw, IsDrawRefusal}
 use Rattle.la_cli.specs.Threads.{RunsThreads, IsThreadsRefusal}
 use Rattle.la_cli.specs.Calls.{lattice, Calls, AsksForText, IsMistaken}
 use Rattle.la_cli.specs.Texts.{fault_line, no_text_line}
@@ -31,23 +31,23 @@ abbrev pub heard :
 heard contents refuses old new = record {
   before = contents old;
   after = contents new;
-  refused = Refuses contents refuses old new;
+  refused = RefusesBytes contents refuses old new;
 }
 
 -- the program ends with this status, and this line was told; where it says that telling failed, a
 -- front of it was taken and the rest was refused
-pub record Tells (heard : Heard) (line : List ℕ) (n : ℕ) (ended : Ended) : Type 0 where
+pub record TellsAndEnds (heard : Heard) (line : List ℕ) (n : ℕ) (ended : Ended) : Type 0 where
   pub status : ended.status ≡ n
   pub wrote :
       MatchResult ended.told (λ _. Appends heard.before heard.after line) (λ _. heard.refused line)
 
 -- a fault is told, and the status is its
 abbrev pub TellsFault : Heard → PlayFault → Ended → Type 0
-TellsFault heard f ended = Tells heard (fault_line f) (status_of f) ended
+TellsFault heard f ended = TellsAndEnds heard (fault_line f) (play_status f) ended
 
 -- it is told that a word is no text, and the status is 2
 abbrev pub TellsNoText : Heard → Ended → Type 0
-TellsNoText heard ended = Tells heard no_text_line 2 ended
+TellsNoText heard ended = TellsAndEnds heard no_text_line 2 ended
 
 -- the bytes that standard input has left, and that standard output was given
 pub record Standard : Type 0 where
@@ -64,7 +64,7 @@ abbrev pub IsDone :
     Task → (shelves : List ShelfState) → (left left_after written written_after : Option (List ℕ)) →
     Type 0
 IsDone task.Play shelves left left_after written written_after =
-    Plays shelves left left_after written written_after
+    PlaysBytes shelves left left_after written written_after
 IsDone (task.Random seed replicas events) shelves left left_after written written_after =
     (left_after ≡ left) × PlaysDraw shelves seed replicas events written written_after
 IsDone (task.Threads replicas each) shelves left left_after written written_after =
@@ -93,7 +93,7 @@ abbrev pub IsTaskRefusal :
     Task → (shelves : List ShelfState) → (left left_after written written_after : Option (List ℕ)) →
     PlayFault → Type 0
 IsTaskRefusal task.Play shelves left left_after written written_after f =
-    IsPlayRefusal shelves left left_after written written_after f
+    IsPlayedRefusal shelves left left_after written written_after f
 IsTaskRefusal (task.Random seed replicas events) shelves left left_after written written_after f =
     (left_after ≡ left) × IsDrawRefusal shelves seed replicas events written written_after f
 IsTaskRefusal (task.Threads replicas each) shelves left left_after written written_after f =
@@ -160,7 +160,7 @@ pub record EndsMistaken
   pub unwritten : new.written ≡ old.written
   pub text : List ℕ
   pub some : 0 < length text
-  pub tells : Tells heard text 2 ended
+  pub tells : TellsAndEnds heard text 2 ended
 
 -- memory was refused before a task was begun: nothing was read or written
 pub record EndsStarved (old new : Standard) (heard : Heard) (ended : Ended) : Type 0 where
@@ -177,17 +177,17 @@ EndsWithoutTask found old new heard ended =
     (EndsMistaken found old new heard ended ⊎ EndsStarved old new heard ended))
 
 -- what came of the program
-abbrev pub Ends :
+abbrev pub ProgramEnds :
     (words : List (List ℕ)) → (shelves : List ShelfState) → (old new : Standard) → Heard → Ended →
     Type 0
-Ends words shelves old new heard ended =
+ProgramEnds words shelves old new heard ended =
     EndsDone words shelves old new heard ended ⊎
     (EndsDiffering words shelves old new heard ended ⊎
     (EndsRefused words shelves old new heard ended ⊎ EndsWithoutTask (fault_of lattice words) old new heard ended))
 
 -- what a status of 0 says: a task was done, replicas agreeing where they were run, or a text that was asked for was written whole
-abbrev pub EndsWell :
+abbrev pub ProgramEndsWell :
     (words : List (List ℕ)) → (shelves : List ShelfState) → (old new : Standard) → Heard → Ended →
     Type 0
-EndsWell words shelves old new heard ended =
+ProgramEndsWell words shelves old new heard ended =
     EndsDone words shelves old new heard ended ⊎ EndsShown (fault_of lattice words) old new heard ended

@@ -22,8 +22,8 @@ abbrev pub all_states_of : {B : Type 0} → (B → State) → List (Vec (ℕ × 
 all_states_of state all = map (λ objects. states_of state objects.items) all
 
 -- the shelf of these objects, which has absorbed nothing
-abbrev pub shelf_of : List (ℕ × State) → ShelfState
-shelf_of objects = record { view = empty; objects = kinds objects }
+abbrev pub new_shelf : List (ℕ × State) → ShelfState
+new_shelf objects = record { view = empty; objects = kinds objects }
 
 -- they can stand on one shelf: no two under one number, and each in its kind's start state
 pub record CanStand (objects : List (ℕ × State)) : Type 0 where
@@ -66,4 +66,4 @@ standard_objects = (1, start Counter) ∷ (2, start MaxRegister) ∷ (3, start O
 
 -- eight shelves of such objects, one for each replica that a group may have
 abbrev pub standard_shelves : List ShelfState
-standard_shelves = replicate 8 (shelf_of standard_objects)
+standard_shelves = replicate 8 (new_shelf standard_objects)

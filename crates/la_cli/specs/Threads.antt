@@ -12,9 +12,9 @@ use Rattle.la_runner.specs.declared.jobs.Job.{Job}
 use Rattle.la_runner.specs.declared.jobs.Job.TheVariants.{Update}
 use Rattle.la_runner.specs.declared.jobs.Stopped.{Stopped}
 use Rattle.la_runner.specs.declared.jobs.Stopped.TheVariants.{Full, NoSuchObject, NoSuchCommit, AlreadyProposed, Clash, BallotsSpent, NoMajority, TryAgain, Memory}
-use Rattle.la_runner.specs.Members.{MemberState, GroupState, view}
+use Rattle.la_runner.specs.Members.{MemberState, GroupState, member_view}
 use Rattle.la_runner.specs.Runs.{Back, IsBackOf, places}
-use Rattle.la_runner.specs.Starting.{AreMembersFrom, IsGroup}
+use Rattle.la_runner.specs.Starting.{AreMembersFrom, IsAcceptorGroup}
 use Rattle.la_runner.specs.Together.{AllComparable}
 use Rattle.la_script.specs.Text.{answer_text}
 use Rattle.la_cli.specs.declared.error.PlayFault.{PlayFault}
@@ -34,7 +34,7 @@ pub record AreLogs
     (shelves : List ShelfState) (replicas each : ℕ) (logs : List Back) : Type 0 where
   pub group : GroupState
   pub members : List MemberState
-  pub is_group : IsGroup replicas 0 (replicate replicas 1) group
+  pub is_group : IsAcceptorGroup replicas 0 (replicate replicas 1) group
   pub count : length members ≡ replicas
   pub new : AreMembersFrom group each 0 members
   pub answers :
@@ -43,10 +43,10 @@ pub record AreLogs
   pub comparable : AllComparable logs
 
 -- no log was stopped, and all final views are the same
-pub record Agree (logs : List Back) : Type 0 where
+pub record LogsAgree (logs : List Back) : Type 0 where
   pub none_stopped : All (λ (b : Back). b.stopped ≡ None) logs
   pub one_view :
-      All (λ (b : Back). All (λ (c : Back). view b.member ≡ view c.member) logs) logs
+      All (λ (b : Back). All (λ (c : Back). member_view b.member ≡ member_view c.member) logs) logs
 
 -- ## The text
 
@@ -77,7 +77,7 @@ end_text None final shelf =
 
 abbrev pub log_text : ℕ → Back → List ℕ
 log_text r b =
-    codes "replica " ++ decimal r ++ end_text b.stopped (view b.member) b.shelf ++ codes "\n"
+    codes "replica " ++ decimal r ++ end_text b.stopped (member_view b.member) b.shelf ++ codes "\n"
 
 -- a line for each log, the first of which is that of replica r
 abbrev pub logs_text : ℕ → List Back → List ℕ
@@ -105,7 +105,7 @@ pub record RunsThreads
   pub fit : FitAnyGroup shelves
   pub logs : List Back
   pub are : AreLogs shelves replicas each logs
-  pub verdict : IsTrue agreed ↔ Agree logs
+  pub verdict : IsTrue agreed ↔ LogsAgree logs
   pub wrote : Appends written written_after (threads_text replicas each logs agreed)
 
 -- the same, where only the first bytes of the text were written, some, all or none
@@ -116,7 +116,7 @@ pub record RunsThreadsPrefix
   pub logs : List Back
   pub agreed : Bool
   pub are : AreLogs shelves replicas each logs
-  pub verdict : IsTrue agreed ↔ Agree logs
+  pub verdict : IsTrue agreed ↔ LogsAgree logs
   pub wrote : AppendsPrefix written written_after (threads_text replicas each logs agreed)
 
 -- what stands after a refusal: shelves that do not fit any group come first, and nothing else is

@@ -4,9 +4,9 @@ ghost use Rattle.clap.specs.Words.{app_of, found_of, rows_of, rule_of, HasKind, 
 ghost use Rattle.clap.specs.Words.{with_rule, with_subcommand};
 ghost use Rattle.clap.specs.declared.builder.command.Command.TheViews.{out-Command as fields_of};
 ghost use Rattle.clap.specs.declared.builder.value_parser.ValueParser.TheVariants.{Signed};
-ghost use Rattle.la_cli.specs.Calls.{option, play, random, threads, node, lattice};
+ghost use Rattle.la_cli.specs.Calls.{option, play, random, threads, node_app, lattice};
 ghost use Rattle.la_cli.specs.Calls.{lattice_alone};
-ghost use Rattle.la_cli.specs.Calls.{AreTaken, AreSizesTaken, Calls, IsDraw, IsRun, IsInRange};
+ghost use Rattle.la_cli.specs.Calls.{AreDrawOptions, AreSizesTaken, Calls, IsDraw, IsRunTask, IsInRange};
 
 use clap::builder::ValueParser;
 use clap::{Arg, ArgMatches, Command, Error, value_parser};
@@ -130,7 +130,7 @@ fn threads_command<'a>(alloc: Global) -> Result<Command<'a>, AllocError>
 
 // A node is listed, and run by the program's `main`: here each of its words is a mistake, or asks for help.
 fn node_command<'a>(alloc: Global) -> Command<'a>
-    ensures app { app_of result ≡ node }
+    ensures app { app_of result ≡ node_app }
     ensures local { (fields_of result).has_globals ≡ false }
 {
     Command::new(alloc, "node")
@@ -184,7 +184,7 @@ fn program<'a>(alloc: Global) -> Result<Command<'a>, AllocError>
 
 // The numbers of a draw, each of which is there and in its range.
 fn drawn(given: &ArgMatches<'_>) -> Task
-    requires { AreTaken (rows_of (found_of given.now)) }
+    requires { AreDrawOptions (rows_of (found_of given.now)) }
     ensures { IsDraw (rows_of (found_of given.now)) result }
 {
     Task::Random {
@@ -197,7 +197,7 @@ fn drawn(given: &ArgMatches<'_>) -> Task
 // The numbers of a run, each of which is there and in its range.
 fn run_of(given: &ArgMatches<'_>) -> Task
     requires { AreSizesTaken (rows_of (found_of given.now)) }
-    ensures { IsRun (rows_of (found_of given.now)) result }
+    ensures { IsRunTask (rows_of (found_of given.now)) result }
 {
     Task::Threads {
         replicas: given.get_one::<u8>("replicas").unwrap(),

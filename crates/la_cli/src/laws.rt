@@ -2,7 +2,7 @@
 //! called by, and of what it prints.
 ghost use Rattle.std.specs.Prelude.{◌≡◌, List, codes};
 ghost use Rattle.clap.specs.Words.{Row, Text};
-ghost use Rattle.la_cli.specs.Calls.{Calls, Names};
+ghost use Rattle.la_cli.specs.Calls.{Calls, NamesCommand};
 ghost use Rattle.la_cli.specs.Play.{FitAnyGroup, TextsKeepPromises};
 ghost use Rattle.la_cli.specs.Shelves.{standard_shelves};
 ghost use Rattle.la_cli.specs.declared.call.Task.{Task};
@@ -26,7 +26,7 @@ pub fn words_call_for_one_task()
 /// [`command`]: crate::command
 #[tactic(auto, using(crate::proofs::CommandLines::node_is_no_task))]
 pub fn a_node_is_no_task()
-    ensures { (words : List Text) (rows : List Row) (task : Task) → Names words (codes "node") rows
+    ensures { (words : List Text) (rows : List Row) (task : Task) → NamesCommand words (codes "node") rows
         → Calls words task → ⊥ }
 {}
 

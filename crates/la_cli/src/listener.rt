@@ -1,7 +1,7 @@
 // What faults are told to.
 ghost use Rattle.std.specs.Prelude.{◌≡◌, ℕ, ◌<◌, ◌≤◌, List, [], length, IfOk, OnOk, OnErr};
 ghost use Rattle.std.specs.Io.KnownBytes.{Keeps, WriteAppends};
-ghost use Rattle.la_cli.specs.Streams.{Writes, Refuses};
+ghost use Rattle.la_cli.specs.Streams.{Writes, RefusesBytes};
 
 use crate::streams::{WriteFailed, flush, write_some};
 use std::io::{Sink, Stderr, Write};
@@ -65,7 +65,7 @@ impl Listener for Sink {
 /// front of the bytes was taken, and the rest was refused.
 pub fn tell_all<E: Listener>(errors: &mut E, bytes: &[u8]) -> Result<(), WriteFailed>
     ensures ok { OnOk result (Writes E.contents errors.old errors.new bytes.now) }
-    ensures err { OnErr result (Refuses E.contents E.refuses errors.old errors.new bytes.now) }
+    ensures err { OnErr result (RefusesBytes E.contents E.refuses errors.old errors.new bytes.now) }
 {
     let mut done = 0;
     while done < bytes.len() {

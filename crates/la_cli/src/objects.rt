@@ -5,7 +5,7 @@ ghost use Rattle.la_object.specs.declared.kind.Kind.TheVariants.{Counter as Coun
 ghost use Rattle.la_object.specs.declared.kind.Kind.TheVariants.{MaxRegister as RegisterKind};
 ghost use Rattle.la_object.specs.declared.kind.Kind.TheVariants.{OrSet as SetKind};
 ghost use Rattle.la_object.specs.Objects.{start};
-ghost use Rattle.la_cli.specs.Program.{Ends, EndsWell, heard, standard};
+ghost use Rattle.la_cli.specs.Program.{ProgramEnds, ProgramEndsWell, heard, standard};
 ghost use Rattle.la_cli.specs.Shelves.{states_of, standard_objects, standard_shelves};
 
 use crate::listener::Listener;
@@ -77,12 +77,12 @@ fn run_with<
     requires callable { F.pre make }
     requires made { (objects : _) → F.post make objects
         → IfOk objects (λ v. states_of B.state v.items ≡ standard_objects) }
-    ensures ends { (told : _) × Ends (map string_bytes words.now) standard_shelves
+    ensures ends { (told : _) × ProgramEnds (map string_bytes words.now) standard_shelves
         (standard (R.remaining input.old) (W.contents output.old))
         (standard (R.remaining input.new) (W.contents output.new))
         (heard E.contents E.refuses errors.old errors.new)
         (record { status = result; told = told }) }
-    ensures done { result ≡ 0 → (told : _) × EndsWell (map string_bytes words.now) standard_shelves
+    ensures done { result ≡ 0 → (told : _) × ProgramEndsWell (map string_bytes words.now) standard_shelves
         (standard (R.remaining input.old) (W.contents output.old))
         (standard (R.remaining input.new) (W.contents output.new))
         (heard E.contents E.refuses errors.old errors.new)
@@ -108,12 +108,12 @@ pub fn run_boxed<P: Threads + Wait + Sync, R: Read, W: Write, E: Listener>(
     output: &mut W,
     errors: &mut E,
 ) -> u8
-    ensures ends { (told : _) × Ends (map string_bytes words.now) standard_shelves
+    ensures ends { (told : _) × ProgramEnds (map string_bytes words.now) standard_shelves
         (standard (R.remaining input.old) (W.contents output.old))
         (standard (R.remaining input.new) (W.contents output.new))
         (heard E.contents E.refuses errors.old errors.new)
         (record { status = result; told = told }) }
-    ensures done { result ≡ 0 → (told : _) × EndsWell (map string_bytes words.now) standard_shelves
+    ensures done { result ≡ 0 → (told : _) × ProgramEndsWell (map string_bytes words.now) standard_shelves
         (standard (R.remaining input.old) (W.contents output.old))
         (standard (R.remaining input.new) (W.contents output.new))
         (heard E.contents E.refuses errors.old errors.new)

@@ -4,8 +4,8 @@ ghost use Rattle.la_world.specs.Groups.{IsConfig};
 ghost use Rattle.la_world.specs.StandsFor.{StandsFor};
 ghost use Rattle.la_cli.specs.declared.error.PlayFault.TheVariants.{WriteFault};
 ghost use Rattle.la_cli.specs.Streams.{TakesAtMost, Writes, WritesPrefix};
-ghost use Rattle.la_cli.specs.Play.{FitAnyGroup, shelves_of, text_by, IsRandomGroup};
-ghost use Rattle.la_cli.specs.Play.{Answers, IsAnswerRefusal, Plays, IsPlayRefusal};
+ghost use Rattle.la_cli.specs.Play.{FitAnyGroup, group_shelves, text_by, IsRandomGroup};
+ghost use Rattle.la_cli.specs.Play.{AnswersScript, IsScriptRefusal, PlaysBytes, IsPlayedRefusal};
 ghost use Rattle.la_cli.specs.Play.{PlaysDraw, IsDrawRefusal};
 
 use crate::PlayFault;
@@ -38,7 +38,7 @@ fn world_of<B: Replicated>(
     requires config { IsConfig config }
     requires shelves { FitAnyGroup shelves.items }
     ensures config { IfOk result (λ world. world.config ≡ config) }
-    ensures shelves { IfOk result (λ world. world.shelves ≡ shelves_of config shelves.items) }
+    ensures shelves { IfOk result (λ world. world.shelves ≡ group_shelves config shelves.items) }
     ensures stands { IfOk result (λ world. StandsFor world []) }
 {
     let mut used = shelves;
@@ -110,8 +110,8 @@ pub fn answer_to<B: Replicated>(
 ) -> Result<Pieces, PlayFault>
     requires short { length input.now < 2 ^ 32 }
     requires shelves { FitAnyGroup shelves.items }
-    ensures ok { IfOk result (λ pieces. Answers shelves.items input.now pieces) }
-    ensures error { IfErr result (IsAnswerRefusal input.now) }
+    ensures ok { IfOk result (λ pieces. AnswersScript shelves.items input.now pieces) }
+    ensures error { IfErr result (IsScriptRefusal input.now) }
 {
     let script = read(alloc, input)?;
     let pieces = text_of(alloc, script.version, script.config, script.events, shelves)?;
@@ -126,8 +126,8 @@ fn answer_once<B: Replicated>(
 ) -> Result<Pieces, PlayFault>
     requires short { length input.items < 2 ^ 32 }
     requires shelves { FitAnyGroup shelves.items }
-    ensures ok { IfOk result (λ pieces. Answers shelves.items input.items pieces) }
-    ensures error { IfErr result (IsAnswerRefusal input.items) }
+    ensures ok { IfOk result (λ pieces. AnswersScript shelves.items input.items pieces) }
+    ensures error { IfErr result (IsScriptRefusal input.items) }
 {
     let script = read(alloc, &input)?;
     drop(input);
@@ -164,9 +164,9 @@ pub fn play_stream<R: Read, W: Write, B: Replicated>(
     writer: &mut W,
     shelves: Vec<Shelf<B>>,
 ) -> Result<(), PlayFault>
-    ensures ok { OnOk result (Plays shelves.items (R.remaining reader.old) (R.remaining reader.new)
+    ensures ok { OnOk result (PlaysBytes shelves.items (R.remaining reader.old) (R.remaining reader.new)
         (W.contents writer.old) (W.contents writer.new)) }
-    ensures error { IfErr result (IsPlayRefusal shelves.items
+    ensures error { IfErr result (IsPlayedRefusal shelves.items
         (R.remaining reader.old) (R.remaining reader.new)
         (W.contents writer.old) (W.contents writer.new)) }
     ensures taken { TakesAtMost (LIMIT + 1) (R.remaining reader.old) (R.remaining reader.new) }

@@ -3,8 +3,8 @@ ghost use Rattle.std.specs.Prelude.{◌≡◌, ◌≢◌, ◌<◌, length, map, 
 ghost use Rattle.clap.specs.Words.{HasKind, fault_of};
 ghost use Rattle.la_cli.specs.declared.error.PlayFault.TheVariants.{Memory};
 ghost use Rattle.la_cli.specs.Calls.{lattice, IsInRange};
-ghost use Rattle.la_cli.specs.Faults.{status_of};
-ghost use Rattle.la_cli.specs.Program.{Ends, EndsWell, EndsWithoutTask, ComesTo, IsTaskRefusal};
+ghost use Rattle.la_cli.specs.Faults.{play_status};
+ghost use Rattle.la_cli.specs.Program.{ProgramEnds, ProgramEndsWell, EndsWithoutTask, ComesTo, IsTaskRefusal};
 ghost use Rattle.la_cli.specs.Program.{TellsFault, TellsNoText, heard, standard};
 
 use crate::call::{Task, command};
@@ -34,7 +34,7 @@ pub struct Ended {
 
 /// The exit status of the program after a fault.
 pub fn status_of(fault: PlayFault) -> u8
-    ensures { result ≡ status_of fault }
+    ensures { result ≡ play_status fault }
 {
     match fault {
         PlayFault::Script(_) | PlayFault::TooLong => 1,
@@ -154,11 +154,11 @@ pub fn carry_out<P: Threads + Wait + Sync, R: Read, W: Write, E: Listener, B: Re
     errors: &mut E,
     shelves: Vec<Shelf<B>>,
 ) -> Ended
-    ensures ends { Ends (map string_bytes words.now) shelves.items
+    ensures ends { ProgramEnds (map string_bytes words.now) shelves.items
         (standard (R.remaining input.old) (W.contents output.old))
         (standard (R.remaining input.new) (W.contents output.new))
         (heard E.contents E.refuses errors.old errors.new) result }
-    ensures done { result.status ≡ 0 → EndsWell (map string_bytes words.now) shelves.items
+    ensures done { result.status ≡ 0 → ProgramEndsWell (map string_bytes words.now) shelves.items
         (standard (R.remaining input.old) (W.contents output.old))
         (standard (R.remaining input.new) (W.contents output.new))
         (heard E.contents E.refuses errors.old errors.new) result }
@@ -187,12 +187,12 @@ pub fn run_words<P: Threads + Wait + Sync, R: Read, W: Write, E: Listener, B: Re
     errors: &mut E,
     shelves: Vec<Shelf<B>>,
 ) -> u8
-    ensures ends { (told : _) × Ends (map string_bytes words.now) shelves.items
+    ensures ends { (told : _) × ProgramEnds (map string_bytes words.now) shelves.items
         (standard (R.remaining input.old) (W.contents output.old))
         (standard (R.remaining input.new) (W.contents output.new))
         (heard E.contents E.refuses errors.old errors.new)
         (record { status = result; told = told }) }
-    ensures done { result ≡ 0 → (told : _) × EndsWell (map string_bytes words.now) shelves.items
+    ensures done { result ≡ 0 → (told : _) × ProgramEndsWell (map string_bytes words.now) shelves.items
         (standard (R.remaining input.old) (W.contents output.old))
         (standard (R.remaining input.new) (W.contents output.new))
         (heard E.contents E.refuses errors.old errors.new)

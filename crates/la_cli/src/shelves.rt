@@ -1,7 +1,7 @@
 // The shelves of a program that is handed objects.
 ghost use Rattle.std.specs.Prelude.{◌≡◌, ◌⊎◌, map, All, IfOk, IfErr, OnOk};
 ghost use Rattle.la_object.specs.declared.error.ShelfError.TheVariants.{Memory};
-ghost use Rattle.la_cli.specs.Shelves.{states_of, all_states_of, shelf_of};
+ghost use Rattle.la_cli.specs.Shelves.{states_of, all_states_of, new_shelf};
 ghost use Rattle.la_cli.specs.Shelves.{CanStand, IsUnfit, IsFillRefusal};
 
 use la_object::{Replicated, Shelf, ShelfError};
@@ -12,7 +12,7 @@ pub type Numbered<B> = Vec<(u16, B)>;
 
 // The shelf of one replica's objects.
 fn shelf_with<B: Replicated>(alloc: Global, objects: Numbered<B>) -> Result<Shelf<B>, ShelfError>
-    ensures ok { IfOk result (λ shelf. shelf ≡ shelf_of (states_of B.state objects.items)) }
+    ensures ok { IfOk result (λ shelf. shelf ≡ new_shelf (states_of B.state objects.items)) }
     ensures stand { OnOk result (CanStand (states_of B.state objects.items)) }
     ensures error { IfErr result (λ e. (e ≡ Memory)
         ⊎ IsUnfit (states_of B.state objects.items) e) }
@@ -34,7 +34,7 @@ pub fn fill<B: Replicated>(
     all: Vec<Numbered<B>>,
 ) -> Result<Vec<Shelf<B>>, ShelfError>
     ensures ok { IfOk result (λ shelves.
-        shelves.items ≡ map shelf_of (all_states_of B.state all.items)) }
+        shelves.items ≡ map new_shelf (all_states_of B.state all.items)) }
     ensures stand { OnOk result (All CanStand (all_states_of B.state all.items)) }
     ensures error { IfErr result (IsFillRefusal (all_states_of B.state all.items)) }
 {

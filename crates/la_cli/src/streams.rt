@@ -16,14 +16,7 @@ ghost use Rattle.std.specs.Prelude.{
 };
 ghost use Rattle.std.specs.Io.KnownBytes.{Consumes, IsAtEnd, Keeps, WriteAppends};
 ghost use Rattle.la_cli.specs.declared.streams.InputFault.TheVariants.{Memory};
-ghost use Rattle.la_cli.specs.Streams.{
-  ReadsAll,
-  Takes,
-  TakesAtMost,
-  Writes,
-  WritesPrefix,
-  WritesAllBut,
-};
+ghost use Rattle.la_cli.specs.Streams.{ReadsAll, TakesBytes, TakesAtMost, Writes, WritesPrefix, WritesAllBut};
 
 use crate::held::Held;
 use la_script::Pieces;
@@ -103,7 +96,7 @@ pub fn read_all<R: Read>(alloc: Global, reader: &mut R) -> Result<Vec<u8>, Input
         (λ input. ReadsAll (R.remaining reader.old) (R.remaining reader.new) input.items) }
     ensures short { IfOk result (λ input. length input.items ≤ LIMIT) }
     ensures long { IsErrOf result InputFault.TooLong
-        → Takes (LIMIT + 1) (R.remaining reader.old) (R.remaining reader.new) }
+        → TakesBytes (LIMIT + 1) (R.remaining reader.old) (R.remaining reader.new) }
     ensures failed { IsErrOf result InputFault.ReadFault
         → TakesAtMost LIMIT (R.remaining reader.old) (R.remaining reader.new) }
     ensures taken { TakesAtMost (LIMIT + 1) (R.remaining reader.old) (R.remaining reader.new) }

@@ -1,6 +1,6 @@
 // What is told on standard error. Telling takes no memory.
 ghost use Rattle.std.specs.Prelude.{◌≡◌, ◌≤◌, OnOk, OnErr, length};
-ghost use Rattle.la_cli.specs.Streams.{Writes, Refuses};
+ghost use Rattle.la_cli.specs.Streams.{Writes, RefusesBytes};
 ghost use Rattle.la_cli.specs.Texts.{name_of, fault_text, fault_line, no_text_line};
 
 use crate::PlayFault;
@@ -54,7 +54,7 @@ pub(crate) fn text_of(fault: PlayFault) -> FaultLine
 pub fn tell<E: Listener>(errors: &mut E, fault: PlayFault) -> Result<(), WriteFailed>
     ensures ok { OnOk result (Writes E.contents errors.old errors.new (fault_line fault)) }
     ensures err { OnErr result
-        (Refuses E.contents E.refuses errors.old errors.new (fault_line fault)) }
+        (RefusesBytes E.contents E.refuses errors.old errors.new (fault_line fault)) }
 {
     let mut line = text_of(fault);
     line.push_str("\n");
@@ -64,7 +64,7 @@ pub fn tell<E: Listener>(errors: &mut E, fault: PlayFault) -> Result<(), WriteFa
 /// Tells that a word of the command line is no text. The refusal is that of [`tell_all`].
 pub fn tell_no_text<E: Listener>(errors: &mut E) -> Result<(), WriteFailed>
     ensures ok { OnOk result (Writes E.contents errors.old errors.new no_text_line) }
-    ensures err { OnErr result (Refuses E.contents E.refuses errors.old errors.new no_text_line) }
+    ensures err { OnErr result (RefusesBytes E.contents E.refuses errors.old errors.new no_text_line) }
 {
     tell_all(errors, NO_TEXT.as_bytes())
 }

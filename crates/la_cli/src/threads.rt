@@ -1,12 +1,12 @@
 // A whole run of a group in threads, and the text of what comes back.
 ghost use Rattle.std.specs.Prelude.{◌≡◌, ◌⊎◌, ◌↔◌, ◌≤◌, map, replicate, None, IsTrue, IfOk, IfErr, OnOk, length};
-ghost use Rattle.la_runner.specs.Members.{view};
+ghost use Rattle.la_runner.specs.Members.{member_view};
 ghost use Rattle.la_runner.specs.Runs.{back_of};
-ghost use Rattle.la_runner.specs.Starting.{AreMembersFrom, IsGroup};
-ghost use Rattle.la_script.specs.Pieces.{Adds};
+ghost use Rattle.la_runner.specs.Starting.{AreMembersFrom, IsAcceptorGroup};
+ghost use Rattle.la_script.specs.Pieces.{AddsText};
 ghost use Rattle.la_cli.specs.declared.error.PlayFault.TheVariants.{Memory, NoThread};
 ghost use Rattle.la_cli.specs.Play.{FitAnyGroup};
-ghost use Rattle.la_cli.specs.Threads.{AreLogs, Agree, RunsThreads, IsThreadsRefusal, increments};
+ghost use Rattle.la_cli.specs.Threads.{AreLogs, LogsAgree, RunsThreads, IsThreadsRefusal, increments};
 ghost use Rattle.la_cli.specs.Threads.{stop_name, total_text, log_text, logs_text, head_text, verdict_text, threads_text};
 
 use crate::PlayFault;
@@ -67,7 +67,7 @@ fn group_of(alloc: Global, replicas: u8, each: u32) -> Result<(Group, Vec<Member
     requires few { replicas ≤ 8 }
     requires some_each { 1 ≤ each }
     requires few_each { each ≤ 1000 }
-    ensures group { IfOk result (λ made. IsGroup replicas 0 (replicate replicas 1) made.0) }
+    ensures group { IfOk result (λ made. IsAcceptorGroup replicas 0 (replicate replicas 1) made.0) }
     ensures count { IfOk result (λ made. length made.1.items ≡ replicas) }
     ensures members { IfOk result (λ made. AreMembersFrom made.0 each 0 made.1.items) }
 {
@@ -112,14 +112,14 @@ fn logs_of<P: Threads + Wait + Sync, B: Replicated>(
 // Whether a log was not stopped, and its final view is the other's.
 fn agrees_with<B: Replicated>(log: &Log<B>, other: &Log<B>) -> bool
     ensures { IsTrue result ↔ ((log.now.stopped ≡ None)
-        × (view log.now.member ≡ view other.now.member)) }
+        × (member_view log.now.member ≡ member_view other.now.member)) }
 {
     log.stopped.is_none() && log.member.view().same(other.member.view())
 }
 
 // Whether no log was stopped and all final views are the same.
 fn all_agree<B: Replicated>(logs: &[Log<B>]) -> bool
-    ensures { IsTrue result ↔ Agree
+    ensures { IsTrue result ↔ LogsAgree
         (map (λ l. back_of l.replica l.member l.shelf l.entries l.stopped) logs.now) }
 {
     for at in 0..logs.len() {
@@ -132,7 +132,7 @@ fn all_agree<B: Replicated>(logs: &[Log<B>]) -> bool
 
 /// Whether no log was stopped and all final views are the same. It takes no memory.
 pub fn agree<B: Replicated>(logs: &Logs<B>) -> bool
-    ensures { IsTrue result ↔ Agree
+    ensures { IsTrue result ↔ LogsAgree
         (map (λ l. back_of l.replica l.member l.shelf l.entries l.stopped) logs.now) }
 {
     all_agree(logs.all())
@@ -156,7 +156,7 @@ fn stop_name(why: Stopped) -> &'static str
 
 // Adds what a shelf answers to a question for the total of object 1.
 fn put_total<B: Replicated>(out: &mut Pieces, shelf: &Shelf<B>) -> Result<(), AllocError>
-    ensures { OnOk result (Adds out.old out.new (total_text shelf.now)) }
+    ensures { OnOk result (AddsText out.old out.new (total_text shelf.now)) }
 {
     match shelf.ask(1, &Query::Total) {
         Ok(answer) => put_answer(out, &answer),
@@ -166,7 +166,7 @@ fn put_total<B: Replicated>(out: &mut Pieces, shelf: &Shelf<B>) -> Result<(), Al
 }
 
 fn put_log<B: Replicated>(out: &mut Pieces, replica: usize, log: &Log<B>) -> Result<(), AllocError>
-    ensures { OnOk result (Adds out.old out.new (log_text replica
+    ensures { OnOk result (AddsText out.old out.new (log_text replica
         (back_of log.now.replica log.now.member log.now.shelf log.now.entries log.now.stopped))) }
 {
     out.push_str("replica ")?;
@@ -187,7 +187,7 @@ fn put_log<B: Replicated>(out: &mut Pieces, replica: usize, log: &Log<B>) -> Res
 }
 
 fn put_logs<B: Replicated>(out: &mut Pieces, logs: &[Log<B>]) -> Result<(), AllocError>
-    ensures { OnOk result (Adds out.old out.new (logs_text 0
+    ensures { OnOk result (AddsText out.old out.new (logs_text 0
         (map (λ l. back_of l.replica l.member l.shelf l.entries l.stopped) logs.now))) }
 {
     for (replica, log) in logs.iter().enumerate() {
@@ -197,7 +197,7 @@ fn put_logs<B: Replicated>(out: &mut Pieces, logs: &[Log<B>]) -> Result<(), Allo
 }
 
 fn put_head(out: &mut Pieces, replicas: u8, each: u32) -> Result<(), AllocError>
-    ensures { OnOk result (Adds out.old out.new (head_text replicas each)) }
+    ensures { OnOk result (AddsText out.old out.new (head_text replicas each)) }
 {
     out.push_str("threads ")?;
     out.push_number(u64::from(replicas))?;
@@ -207,7 +207,7 @@ fn put_head(out: &mut Pieces, replicas: u8, each: u32) -> Result<(), AllocError>
 }
 
 fn put_verdict(out: &mut Pieces, agreed: bool) -> Result<(), AllocError>
-    ensures { OnOk result (Adds out.old out.new (verdict_text agreed)) }
+    ensures { OnOk result (AddsText out.old out.new (verdict_text agreed)) }
 {
     out.push_str(if agreed { "agree\n" } else { "differ\n" })
 }

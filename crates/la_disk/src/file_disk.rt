@@ -1,6 +1,6 @@
 // A real file as a disk.
 ghost use Rattle.std.specs.Prelude.{◌≡◌};
-ghost use Rattle.la_journal.specs.Held.{bytes_of, room_of, faults_of, moment_of, may_leave_of, left_since_of, only_now_of, counts_now_of};
+ghost use Rattle.la_journal.specs.Held.{held_bytes, room_of, faults_of, moment_of, may_leave_of, left_since_of, only_now_of, counts_now_of};
 
 use crate::FolderLock;
 use crate::folder_lock::path_of;
@@ -72,7 +72,7 @@ impl<R: Files + Drop> FileDisk<R> {
 }
 
 impl<R: Files + Drop> Disk for FileDisk<R> {
-    ghost seen = { λ d. bytes_of d.contents };
+    ghost seen = { λ d. held_bytes d.contents };
 
     ghost may_leave = { λ d c. may_leave_of d.contents c };
 

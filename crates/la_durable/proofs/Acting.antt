@@ -34,12 +34,12 @@ use Rattle.la_world.specs.Following.{Taken, takes, whole_done}
 use Rattle.la_world.specs.Nodes.{IsProposeRefusal, outcome_due}
 use Rattle.la_world.specs.Kept.{KeptCall, Submitted, Proposed, Received}
 use Rattle.la_wire.specs.declared.letter.Letter.{Letter}
-use Rattle.la_wire.specs.Messages.{said_by, said_body}
-use Rattle.la_wire.specs.Calls.{Call, Submit, Decide, Ask, Tick, Receive}
-use Rattle.la_durable.specs.Accepting.{accepts, is_for, is_over, takes_body, takes_message}
+use Rattle.la_wire.specs.Messages.{letter_message, said_body}
+use Rattle.la_wire.specs.Calls.{WireCall, Submit, Decide, Ask, Tick, Receive}
+use Rattle.la_durable.specs.Accepting.{accepts, is_for, is_over_base, takes_body, takes_message}
 use Rattle.la_durable.specs.Errors.{by_replica, by_proposal, IsForMemory}
-use Rattle.la_durable.specs.Given.{Given, given_of, given, of_submission, of_receipt, does, makes}
-use Rattle.la_durable.specs.Nodes.{KeptState, body_of, message_of, kept, beside, acts}
+use Rattle.la_durable.specs.Given.{Given, given_of, given, of_submission, of_receipt, step_given, makes}
+use Rattle.la_durable.specs.Nodes.{KeptState, replica_body, replica_message, kept_call_of, beside, acts}
 use Rattle.la_durable.proofs.Deciding.{TakesMessage, Accepts, decides-accepts}
 use Rattle.la_durable.proofs.Refusing.{refused_submission, refused_message}
 use Rattle.la_durable.proofs.Telling.{told_all}
@@ -47,16 +47,16 @@ use Rattle.la_durable.proofs.Telling.{told_all}
 -- ## Calls that are kept, and what they make
 
 abbrev makes_where : ReplicaState → KeptCall → Bool → Option (Given × ReplicaState)
-makes_where r call b = cond b (does r call) None
+makes_where r call b = cond b (step_given r call) None
 
-made : (r : ReplicaState) (call : KeptCall) → Accepts r call → makes r call ≡ does r call
+made : (r : ReplicaState) (call : KeptCall) → Accepts r call → makes r call ≡ step_given r call
 made r call ok = ap (makes_where r call) ((decides-accepts r call).1 ok)
 
 refused : (r : ReplicaState) (call : KeptCall) → ¬ Accepts r call → makes r call ≡ None
 refused r call none =
     ap (makes_where r call) (false_from_ne_true (accepts r call) (λ is. none ((decides-accepts r call).0 is)))
 
-acts_on : (n : KeptState) (call : Call) (o : Option KeptCall) → kept n call ≡ o
+acts_on : (n : KeptState) (call : WireCall) (o : Option KeptCall) → kept_call_of n call ≡ o
     → acts n call ≡ option_map (beside n.replicas) (option_and_then (makes n.replica) o)
 unfolding acts
 acts_on n call o is = ap (λ k. option_map (beside n.replicas) (option_and_then (makes n.replica) k)) is
@@ -89,7 +89,7 @@ out_given r i d out after step told =
     (sym (told_all after zero_counts out.mail (told_from after i zero_counts out.mail told)))
 
 pub submitted_acts : (n : KeptState) (replica object : ℕ) (op : Op) (out : code_out.Out) (after : ReplicaState) → replica ≡ n.replica.own → HasRoom n.replica 0 → SubmittingSpares n.replica 0 → submits n.replica 0 (op_on object op) ≡ Some (whole_out out, after) → AreToldFrom after 0 zero_counts out.mail → acts n (Submit replica object op) ≡ Some (given_of (answer_of out), record { replicas = n.replicas; replica = after })
-unfolding does
+unfolding step_given
 submitted_acts n replica object op out after own room spares step told =
     let call = Submitted (op_on object op) in
     acts_on n (Submit replica object op) (Some call) (where_own replica n.replica.own call own)
@@ -109,7 +109,7 @@ submission_refused n replica object op own none =
     ∙ ap (option_map (beside n.replicas)) (refused n.replica call none)
 
 pub proposed_acts : (n : KeptState) (replica commit value : ℕ) (out : code_out.Out) (after : ReplicaState) → replica ≡ n.replica.own → submitted_in n.replica (first_instance commit) ≡ Some 0 → submits n.replica (first_instance commit) (first_vote commit value) ≡ Some (whole_out out, after) → AreToldFrom after (first_instance commit) zero_counts out.mail → acts n (Decide replica commit value) ≡ Some (given_of (answer_of out), record { replicas = n.replicas; replica = after })
-unfolding does
+unfolding step_given
 proposed_acts n replica commit value out after own first step told =
     let call = Proposed commit value in
     acts_on n (Decide replica commit value) (Some call) (where_own replica n.replica.own call own)
@@ -131,7 +131,7 @@ proposal_refused n replica commit value own none =
 
 -- ## A message
 
-said_again : (b : code_body.Body) → AreAlikeBodies b (body_of (said_body b))
+said_again : (b : code_body.Body) → AreAlikeBodies b (replica_body (said_body b))
 said_again (body.Offer d) = (refl, refl)
 said_again body.Yes = tt
 said_again (body.No d) = (refl, refl)
@@ -139,7 +139,7 @@ said_again (body.Tell told) = refl
 
 -- what the line of a letter says
 abbrev again : Letter → code.Message
-again l = message_of (said_by l)
+again l = replica_message (letter_message l)
 
 alike : (l : Letter) → AreAlike l.message (again l)
 alike l = record { instance = refl; from = refl; to = refl; ballot = refl; body = said_again l.message.body }
@@ -148,7 +148,7 @@ abbrev listed : DeltaState → DeltaState
 listed d = record { base = d.base; more = d.more; made_of = None }
 
 same_over : (b : Bool) (s : Histories) (d : DeltaState)
-    → is_over (refusal_over b s d) ≡ is_over (refusal_over b s (listed d))
+    → is_over_base (refusal_over b s d) ≡ is_over_base (refusal_over b s (listed d))
 same_over true s d = refl
 same_over false s d = refl
 
@@ -162,7 +162,7 @@ message_where instance from to ballot b = record { instance = instance; from = f
 
 same_takes : (x : Instance) (instance from to ballot : ℕ) (b : code_body.Body)
     → takes_message (Some x) (message_where instance from to ballot b)
-    ≡ takes_message (Some x) (message_where instance from to ballot (body_of (said_body b)))
+    ≡ takes_message (Some x) (message_where instance from to ballot (replica_body (said_body b)))
 same_takes x instance from to ballot (body.Offer d) = refl
 same_takes x instance from to ballot body.Yes = refl
 same_takes x instance from to ballot (body.No d) =
@@ -189,8 +189,8 @@ receipt r i w =
     (λ (made : Taken × ReplicaState). (given made.1 (offered_by w) made.0 (outcome_due i r.own made.0.said), made.1))
     (takes r w)
 
-same_does : (r : ReplicaState) (l : Letter) → does r (Received l.message) ≡ does r (Received (again l))
-unfolding does
+same_does : (r : ReplicaState) (l : Letter) → step_given r (Received l.message) ≡ step_given r (Received (again l))
+unfolding step_given
 same_does r l = ap (receipt r l.message.instance) (alike_received r l.message (again l) (alike l))
 
 same_makes : (r : ReplicaState) (l : Letter) → makes r (Received l.message) ≡ makes r (Received (again l))
@@ -201,31 +201,31 @@ receipt_given : (r : ReplicaState) (m : code.Message) (received : code_received.
     → takes r (received_in r m) ≡ Some (whole_done received.done, after)
     → received.outcome ≡ outcome_due m.instance r.own received.done.said
     → AreToldIn after (offered_by (received_in r m)) received.done.mail
-    → does r (Received m) ≡ Some (given_of received, after)
-unfolding does
+    → step_given r (Received m) ≡ Some (given_of received, after)
+unfolding step_given
 receipt_given r m received after step outcome told =
     ap (option_map (of_receipt r m)) step
     ∙ ap₂ (λ (mail : List code.Message) (o : Option Outcome). pair (record { said = received.done.said; voted = received.done.voted; mail = mail; outcome = o }) after)
     (sym (told_all after (offered_by (received_in r m)) received.done.mail told)) (sym outcome)
 
-pub received_acts : (n : KeptState) (l : Letter) (received : code_received.Received) (after : ReplicaState) → l.replicas ≡ n.replicas → StandsIn n.replica l.message → IsReceivable n.replica (received_in n.replica l.message) → ReceivingSpares n.replica (received_in n.replica l.message) → takes n.replica (received_in n.replica l.message) ≡ Some (whole_done received.done, after) → received.outcome ≡ outcome_due l.message.instance n.replica.own received.done.said → AreToldIn after (offered_by (received_in n.replica l.message)) received.done.mail → acts n (Receive (said_by l)) ≡ Some (given_of received, record { replicas = n.replicas; replica = after })
+pub received_acts : (n : KeptState) (l : Letter) (received : code_received.Received) (after : ReplicaState) → l.replicas ≡ n.replicas → StandsIn n.replica l.message → IsReceivable n.replica (received_in n.replica l.message) → ReceivingSpares n.replica (received_in n.replica l.message) → takes n.replica (received_in n.replica l.message) ≡ Some (whole_done received.done, after) → received.outcome ≡ outcome_due l.message.instance n.replica.own received.done.said → AreToldIn after (offered_by (received_in n.replica l.message)) received.done.mail → acts n (Receive (letter_message l)) ≡ Some (given_of received, record { replicas = n.replicas; replica = after })
 received_acts n l received after group stands fits spares step outcome told =
     let call = Received (again l) in
     let ok : Accepts n.replica (Received l.message) = record { stands = stands; receivable = fits; spares = spares } in
-    acts_on n (Receive (said_by l)) (Some call) (where_own l.replicas n.replicas call group)
+    acts_on n (Receive (letter_message l)) (Some call) (where_own l.replicas n.replicas call group)
     ∙ ap (option_map (beside n.replicas))
     (sym (same_makes n.replica l) ∙ made n.replica (Received l.message) ok
     ∙ receipt_given n.replica l.message received after step outcome told)
 
-pub message_elsewhere : (n : KeptState) (l : Letter) → l.replicas ≢ n.replicas → acts n (Receive (said_by l)) ≡ None
+pub message_elsewhere : (n : KeptState) (l : Letter) → l.replicas ≢ n.replicas → acts n (Receive (letter_message l)) ≡ None
 message_elsewhere n l other =
-    acts_on n (Receive (said_by l)) None (where_other l.replicas n.replicas (Received (again l)) other)
+    acts_on n (Receive (letter_message l)) None (where_other l.replicas n.replicas (Received (again l)) other)
 
 message_refused : (n : KeptState) (l : Letter) → l.replicas ≡ n.replicas → ¬ TakesMessage n.replica l.message
-    → acts n (Receive (said_by l)) ≡ None
+    → acts n (Receive (letter_message l)) ≡ None
 message_refused n l group none =
     let call = Received (again l) in
-    acts_on n (Receive (said_by l)) (Some call) (where_own l.replicas n.replicas call group)
+    acts_on n (Receive (letter_message l)) (Some call) (where_own l.replicas n.replicas call group)
     ∙ ap (option_map (beside n.replicas)) (sym (same_makes n.replica l) ∙ refused n.replica (Received l.message) none)
 
 -- ## Refusals
@@ -247,9 +247,9 @@ refusal_of_submission n replica object op e own h =
     (λ other. submission_refused n replica object op own (refused_submission n.replica e h other))
 
 pub refusal_of_message : (n : KeptState) (l : Letter) (e : ReplicaError) → l.replicas ≡ n.replicas
-    → IsReceiptRefusal n.replica l.message e → IsForMemory (by_replica e) ⊎ (acts n (Receive (said_by l)) ≡ None)
+    → IsReceiptRefusal n.replica l.message e → IsForMemory (by_replica e) ⊎ (acts n (Receive (letter_message l)) ≡ None)
 refusal_of_message n l e group h =
-    replica_cases e (acts n (Receive (said_by l)) ≡ None)
+    replica_cases e (acts n (Receive (letter_message l)) ≡ None)
     (λ other. message_refused n l group (refused_message n.replica l.message e h other))
 
 first_past : (xs : List Instance) (i : ℕ) → length xs ≤ i

@@ -37,8 +37,8 @@ use Rattle.la_replica.specs.ReplicaState.{ReplicaState, submitted_in}
 use Rattle.la_replica.specs.Refusals.{HasRoom, SubmittingSpares, FitsBody, SparesBody, FitsMessage, SparesMessage, IsFor, IsReceivable, ReceivingSpares}
 use Rattle.la_world.specs.Kept.{KeptCall, Submitted, Proposed, Received}
 use Rattle.la_commit.specs.Instances.{first_instance}
-use Rattle.la_durable.specs.Accepting.{submission_spends, takes_submission, is_first, has_counts, is_next, are_next, is_over}
-use Rattle.la_durable.specs.Accepting.{is_none_but, is_compatible, fits_reply, fits_tally, is_known, fits_refusal, fits, spares, hears, takes_body, takes_message, is_for, accepts}
+use Rattle.la_durable.specs.Accepting.{submission_spends, takes_submission, is_first, has_counts, is_next, are_next, is_over_base}
+use Rattle.la_durable.specs.Accepting.{is_none_but, is_compatible, fits_reply, fits_tally, is_own_known, fits_refusal, is_fitting_reply, spares, hears_reply, takes_body, takes_message, is_for, accepts}
 
 -- ## Tests of all kinds
 
@@ -120,10 +120,10 @@ decides-are_next s [] = (λ e. tt, λ h. refl)
 decides-are_next s (u ∷ us) =
     Decides-and (is_next s u.id) (are_next (push s u) us) (decides-next s u.id) (decides-are_next (push s u) us)
 
-decides-over : (o : Option Told) → Decides (is_over o) (IfSome o (λ t. IsOver t.over t.delta))
+decides-over : (o : Option Told) → Decides (is_over_base o) (IfSome o (λ t. IsOver t.over t.delta))
 decides-over None = (λ e. tt, λ h. refl)
 decides-over (Some t) =
-    Decides-like (is_over (Some t)) (λ p. record { base = p.0; next = p.1 }) (λ is. (is.base, is.next))
+    Decides-like (is_over_base (Some t)) (λ p. record { base = p.0; next = p.1 }) (λ is. (is.base, is.next))
     (Decides-and (has_counts t.over t.delta.base) (are_next (within t.over t.delta.base) t.delta.more)
     (decides-has_counts t.over t.delta.base) (decides-are_next (within t.over t.delta.base) t.delta.more))
 
@@ -202,10 +202,10 @@ some_cases None some = absurd (false≢true some)
 some_cases (Some x) some = (x, refl)
 
 decides-known : (p : ProposerState) (refused : Histories)
-    → Decides (list_all (is_known p) (updates refused)) ((id : UpdateId) → ¬ IsUnknownOwn p refused id)
+    → Decides (list_all (is_own_known p) (updates refused)) ((id : UpdateId) → ¬ IsUnknownOwn p refused id)
 decides-known p refused =
     let P = λ (u : Update). ¬ ((u.id.replica ≡ p.own) × (get p.updates u.id ≡ None)) in
-    Decides-like (list_all (is_known p) (updates refused))
+    Decides-like (list_all (is_own_known p) (updates refused))
     (λ all id unknown.
     let found = some_cases (get refused id) unknown.1 in
     let same = get_id refused id found.0 found.1 in
@@ -215,20 +215,20 @@ decides-known p refused =
     (λ none.
     all-from_contained P (updates refused)
     (λ u listed h. none u.id (h.0, is_some_at refused u (listed-contains refused u listed), h.1)))
-    (decides-all (is_known p) P
+    (decides-all (is_own_known p) P
     (λ u.
     known_where (eqb u.id.replica p.own) (u.id.replica ≡ p.own) (Decides-eqb u.id.replica p.own)
     (get p.updates u.id)) (updates refused))
 
-decides-fits : (p : ProposerState) (reply : Reply) → Decides (fits p reply) (Fits p reply)
+decides-fits : (p : ProposerState) (reply : Reply) → Decides (is_fitting_reply p reply) (Fits p reply)
 decides-fits p replied.Yes = (λ e id clash. clash, λ h. refl)
 decides-fits p (replied.No refused) =
     Decides-like (fits_refusal p refused)
     (λ q id clash. ⊎_elim (λ first. ⊎_elim (q.0 id) (q.1.0 id) first) (q.1.1 id) clash)
     (λ none.
     (λ id clash. none id (inl (inl clash)), (λ id clash. none id (inl (inr clash)), λ id clash. none id (inr clash))))
-    (Decides-and (is_compatible p.updates refused) (list_all (is_known p) (updates refused) && fits_tally p.tally refused) (decides-no_clash p.updates refused)
-    (Decides-and (list_all (is_known p) (updates refused)) (fits_tally p.tally refused) (decides-known p refused) (decides-fits_tally p.tally refused)))
+    (Decides-and (is_compatible p.updates refused) (list_all (is_own_known p) (updates refused) && fits_tally p.tally refused) (decides-no_clash p.updates refused)
+    (Decides-and (list_all (is_own_known p) (updates refused)) (fits_tally p.tally refused) (decides-known p refused) (decides-fits_tally p.tally refused)))
 
 decides-spares : (p : ProposerState) → Decides (spares p) (¬ ReplySpends p)
 decides-spares p =
@@ -241,20 +241,20 @@ where_it_counts : (b x : Bool) (P Q : Type 0) → Decides x (P × Q)
 where_it_counts true x P Q d = Decides-like x (λ h. (λ is. h.0, λ is. h.1)) (λ h. (h.0 refl, h.1 refl)) d
 where_it_counts false x P Q d = (λ e. (λ is. absurd (false≢true is), λ is. absurd (false≢true is)), λ h. refl)
 
-decides-hears : (p : ProposerState) (from ballot : ℕ) (reply : Reply) → Decides (hears p from ballot reply)
+decides-hears : (p : ProposerState) (from ballot : ℕ) (reply : Reply) → Decides (hears_reply p from ballot reply)
     ((counts p from ballot ≡ true → Fits p reply)
     × (counts p from ballot ≡ true → ¬ ReplySpends (with_reply p from reply)))
 decides-hears p from ballot reply =
-    where_it_counts (counts p from ballot) (fits p reply && spares (with_reply p from reply)) (Fits p reply)
+    where_it_counts (counts p from ballot) (is_fitting_reply p reply && spares (with_reply p from reply)) (Fits p reply)
     (¬ ReplySpends (with_reply p from reply))
-    (Decides-and (fits p reply) (spares (with_reply p from reply)) (decides-fits p reply)
+    (Decides-and (is_fitting_reply p reply) (spares (with_reply p from reply)) (decides-fits p reply)
     (decides-spares (with_reply p from reply)))
 
 decides-body : (x : Instance) (m : Message) (b : Body) → Decides (takes_body x m b) (FitsBody x m b × SparesBody x m b)
 decides-body x m (Offer offered) =
     Decides-like (is_compatible x.acceptor offered) (λ h. (h, tt)) (λ h. h.0) (decides-compatible x.acceptor offered)
 decides-body x m Yes =
-    Decides-like (hears x.proposer m.from m.ballot replied.Yes) (λ h. (tt, h.1)) (λ h. (λ is id clash. clash, h.1))
+    Decides-like (hears_reply x.proposer m.from m.ballot replied.Yes) (λ h. (tt, h.1)) (λ h. (λ is id clash. clash, h.1))
     (decides-hears x.proposer m.from m.ballot replied.Yes)
 decides-body x m (No accepted) = decides-hears x.proposer m.from m.ballot (replied.No accepted)
 decides-body x m (Tell told) = (λ e. (tt, tt), λ h. refl)
@@ -271,7 +271,7 @@ decides-message : (o : Option Instance) (m : code.Message) → Decides (takes_me
     × IsSomeAnd o (λ x. SparesMessage x (received_where o m))))
 decides-message None m = (λ e. absurd (false≢true e), λ h. absurd h.0)
 decides-message (Some x) m =
-    Decides-and (is_over (told_at x m)) (takes_body x (received_at x m) (received_at x m).body)
+    Decides-and (is_over_base (told_at x m)) (takes_body x (received_at x m) (received_at x m).body)
     (decides-over (told_at x m)) (decides-body x (received_at x m) (received_at x m).body)
 
 pub decides-for : (r : ReplicaState) (m : code.Message) → Decides (is_for r m) (IsFor r (received_in r m))

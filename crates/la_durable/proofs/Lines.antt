@@ -3,22 +3,22 @@ use Rattle.std.proofs.Common.{◌≡◌, ◌⊎◌, ℕ, Bool, true, false, ◌&
 use Rattle.std.specs.Option.{is_some}
 use Rattle.std.proofs.lemmas.Bool.{false≢true}
 use Rattle.la_journal.specs.Machine.{IsNamed}
-use Rattle.la_wire.specs.Calls.{Call}
-use Rattle.la_wire.specs.CallLines.{named}
+use Rattle.la_wire.specs.Calls.{WireCall}
+use Rattle.la_wire.specs.CallLines.{named_call}
 use Rattle.la_world.specs.declared.node.Received as code_received
 use Rattle.la_durable.specs.declared.error.NodeError.{NodeError}
-use Rattle.la_durable.specs.CallLines.{CallLine, is_line, may_stand, call_line, call_line_where, or_tick, round_trip}
+use Rattle.la_durable.specs.CallLines.{CallLine, is_line, may_stand, call_line, call_line_where, or_tick, call_round_trip}
 use Rattle.la_durable.specs.Errors.{IsForMemory}
 use Rattle.la_durable.specs.Given.{Given, given_of}
 use Rattle.la_durable.specs.Inputs.{InputState}
 use Rattle.la_durable.proofs.lemmas.OwnLines.{own_line}
-use Rattle.la_durable.specs.Nodes.{KeptState, acts, acts_by, step, answers}
+use Rattle.la_durable.specs.Nodes.{KeptState, acts, acts_by, step, given_by}
 
-module _ (n : KeptState) (line : List ℕ) (call : Call) (is : is_line line ≡ true) (says : named line ≡ Some call) where
-  names : named (or_tick (call_line line)).line ≡ Some call
-  names = ap named (own_line line is) ∙ says
+module _ (n : KeptState) (line : List ℕ) (call : WireCall) (is : is_line line ≡ true) (says : named_call line ≡ Some call) where
+  names : named_call (or_tick (call_line line)).line ≡ Some call
+  names = ap named_call (own_line line is) ∙ says
 
-  comes_to : acts_by n (named (or_tick (call_line line)).line) ≡ acts n call
+  comes_to : acts_by n (named_call (or_tick (call_line line)).line) ≡ acts n call
   comes_to = ap (acts_by n) names
 
   pub step_taken : (r : Result code_received.Received NodeError) (after : KeptState)
@@ -29,7 +29,7 @@ module _ (n : KeptState) (line : List ℕ) (call : Call) (is : is_line line ≡ 
 
   pub answer_given : (r : Result code_received.Received NodeError) (after : KeptState)
       → IfOk r (λ given. acts n call ≡ Some (given_of given, after))
-      → IfOk r (λ given. Some (given_of given) ≡ answers n (or_tick (call_line line)))
+      → IfOk r (λ given. Some (given_of given) ≡ given_by n (or_tick (call_line line)))
   answer_given (Ok given) after h = sym (ap (option_map (λ (made : Given × KeptState). made.0)) (comes_to ∙ h))
   answer_given (Err e) after h = tt
 
@@ -50,7 +50,7 @@ none_where line true is e = absurd (false≢true (sym e))
 none_where line false is e = refl
 
 no_line : (line : List ℕ) → may_stand line ≡ false → call_line line ≡ None
-no_line line e = none_where line (is_line line) refl (ap (λ b. b && is_some (named line)) e)
+no_line line e = none_where line (is_line line) refl (ap (λ b. b && is_some (named_call line)) e)
 
 pub is_named : {E : Type 0} (line : List ℕ) (r : Result (Option InputState) E)
     → IfOk r (λ o. IfSome o (λ input. (input.line ≡ line) × (is_line line ≡ true)))
@@ -58,6 +58,6 @@ pub is_named : {E : Type 0} (line : List ℕ) (r : Result (Option InputState) E)
     → IfOk r (λ read. IsNamed (λ (i : InputState). or_tick (call_line i.line)) (call_line line) read)
 is_named line (Ok (Some input)) some none =
     let c : CallLine = record { line = line; says = some.1 } in
-    round_trip c ∙ ap Some (sym (ap or_tick (ap call_line some.0 ∙ round_trip c)))
+    call_round_trip c ∙ ap Some (sym (ap or_tick (ap call_line some.0 ∙ call_round_trip c)))
 is_named line (Ok None) some none = no_line line (none refl)
 is_named line (Err e) some none = tt

@@ -19,12 +19,12 @@ use Rattle.la_world.specs.Nodes.{NodeState}
 use Rattle.la_world.specs.Kept.{KeptCall, Submitted, Proposed, Received, after_call}
 use Rattle.la_world.specs.LiveGroups.{AreLive, IsAmong, LooksKeepLive}
 use Rattle.la_world.specs.Unheard.{MayKeep, UnheardCallsKeepLive}
-use Rattle.la_wire.specs.Calls.{Call, Submit, Decide, Ask, Tick, Receive}
-use Rattle.la_wire.specs.CallLines.{named}
+use Rattle.la_wire.specs.Calls.{WireCall, Submit, Decide, Ask, Tick, Receive}
+use Rattle.la_wire.specs.CallLines.{named_call}
 use Rattle.la_durable.specs.Accepting.{accepts}
-use Rattle.la_durable.specs.Given.{Given, does, makes}
+use Rattle.la_durable.specs.Given.{Given, step_given, makes}
 use Rattle.la_durable.specs.CallLines.{CallLine}
-use Rattle.la_durable.specs.Nodes.{KeptState, message_of, kept, beside, acts, acts_by, step, ViewsGrow}
+use Rattle.la_durable.specs.Nodes.{KeptState, replica_message, kept_call_of, beside, acts, acts_by, step, StepViewsGrow}
 use Rattle.la_durable.specs.Restarts.{kept_state, IsHanded, RestartsKeepLive}
 use Rattle.la_durable.proofs.Deciding.{decides-accepts}
 
@@ -56,9 +56,9 @@ where_true true o y e = (refl, e)
 where_true false o y e = absurd (none-some y e)
 
 -- what a call does to its replica
-does_after : (r : ReplicaState) (call : KeptCall) (made : Given × ReplicaState) → does r call ≡ Some made
+does_after : (r : ReplicaState) (call : KeptCall) (made : Given × ReplicaState) → step_given r call ≡ Some made
     → after_call r call ≡ Some made.1
-unfolding does
+unfolding step_given
 does_after r (Submitted d) made e =
     let x = some_of _ _ made e in ap (option_map (λ p. p.1)) x.1 ∙ ap (λ (p : Given × ReplicaState). Some p.1) x.2
 does_after r (Proposed k value) made e =
@@ -67,8 +67,8 @@ does_after r (Received m) made e =
     let x = some_of _ _ made e in ap (option_map (λ p. p.1)) x.1 ∙ ap (λ (p : Given × ReplicaState). Some p.1) x.2
 
 -- a call of a line that may be handed, as it is kept
-may_keep : (network : List code.Message) (r : ℕ) (n : KeptState) (call : Call) (k : KeptCall) → kept n call ≡ Some k
-    → accepts n.replica k ≡ true → ((m : _) → call ≡ Receive m → IsAmong (message_of m) network × (m.to ≡ r))
+may_keep : (network : List code.Message) (r : ℕ) (n : KeptState) (call : WireCall) (k : KeptCall) → kept_call_of n call ≡ Some k
+    → accepts n.replica k ≡ true → ((m : _) → call ≡ Receive m → IsAmong (replica_message m) network × (m.to ≡ r))
     → MayKeep network r n.replica k
 may_keep network r n (Submit replica object op) k is ok handed =
     let same = same_Some _ k (where_true (eqb replica n.replica.own) _ k is).1 in
@@ -83,32 +83,32 @@ may_keep network r n Tick k is ok handed = absurd (none-some k is)
 may_keep network r n (Receive m) k is ok handed =
     let same = same_Some _ k (where_true (eqb m.replicas n.replicas) _ k is).1 in
     let accepted =
-    (decides-accepts n.replica (Received (message_of m))).0 (subst (λ c. accepts n.replica c ≡ true) (sym same) ok) in
+    (decides-accepts n.replica (Received (replica_message m))).0 (subst (λ c. accepts n.replica c ≡ true) (sym same) ok) in
     subst (MayKeep network r n.replica) same ((handed m refl).0, (handed m refl).1, accepted.stands)
 
 -- what a step of the machine was
 pub record IsTaken (n : KeptState) (c : CallLine) (next : KeptState) : Type 0 where
-  pub call : Call
-  pub names : named c.line ≡ Some call
+  pub call : WireCall
+  pub names : named_call c.line ≡ Some call
   pub action : KeptCall
-  pub keeps : kept n call ≡ Some action
+  pub keeps : kept_call_of n call ≡ Some action
   pub accepted : accepts n.replica action ≡ true
   pub leads : after_call n.replica action ≡ Some next.replica
   pub group : next.replicas ≡ n.replicas
 
-by_call : (n : KeptState) (o : Option Call) (made : Given × KeptState) → acts_by n o ≡ Some made
-    → (call : Call) × (o ≡ Some call) × (acts n call ≡ Some made)
+by_call : (n : KeptState) (o : Option WireCall) (made : Given × KeptState) → acts_by n o ≡ Some made
+    → (call : WireCall) × (o ≡ Some call) × (acts n call ≡ Some made)
 by_call n None made e = absurd (none-some made e)
 by_call n (Some call) made e = (call, refl, e)
 
 taken : (n : KeptState) (c : CallLine) (next : KeptState) → step n c ≡ Some next → IsTaken n c next
 unfolding acts
 taken n c next e =
-    let first = some_of (λ (made : Given × KeptState). made.1) (acts_by n (named c.line)) next e in
-    let call = by_call n (named c.line) first.0 first.1 in
-    let second = some_of (beside n.replicas) (option_and_then (makes n.replica) (kept n call.0)) first.0 call.2 in
-    let third = some_then (makes n.replica) (kept n call.0) second.0 second.1 in
-    let fourth = where_true (accepts n.replica third.0) (does n.replica third.0) second.0 third.2 in
+    let first = some_of (λ (made : Given × KeptState). made.1) (acts_by n (named_call c.line)) next e in
+    let call = by_call n (named_call c.line) first.0 first.1 in
+    let second = some_of (beside n.replicas) (option_and_then (makes n.replica) (kept_call_of n call.0)) first.0 call.2 in
+    let third = some_then (makes n.replica) (kept_call_of n call.0) second.0 second.1 in
+    let fourth = where_true (accepts n.replica third.0) (step_given n.replica third.0) second.0 third.2 in
     let same : record { replicas = n.replicas; replica = second.0.1 } ≡ next = ap (λ (p : Given × KeptState). p.1) second.2 ∙ first.2 in
     record {
       call = call.0;
@@ -150,7 +150,7 @@ after_grows r (Received m) after e =
     (subset-trans r.view first.0.1.view made.0.1.view (receives_grows r w first.0.0 first.0.1 first.1)
     (vote_grows first.0 (vote_due w.instance r.own first.0.0.said) made.0 first.2))
 
-pub views_grow : ViewsGrow
+pub views_grow : StepViewsGrow
 views_grow before after c e =
     let is = taken before c after e in after_grows before.replica is.action after.replica is.leads
 

@@ -60,9 +60,9 @@ are_next s [] = true
 are_next s (u ∷ us) = is_next s u.id && are_next (push s u) us
 
 -- a delta stands for something over a set; without one there is nothing to stand for
-abbrev pub is_over : Option Told → Bool
-is_over None = true
-is_over (Some t) = has_counts t.over t.delta.base && are_next (within t.over t.delta.base) t.delta.more
+abbrev pub is_over_base : Option Told → Bool
+is_over_base None = true
+is_over_base (Some t) = has_counts t.over t.delta.base && are_next (within t.over t.delta.base) t.delta.more
 
 -- ## What fits
 
@@ -80,8 +80,8 @@ fits_reply replied.Yes refused = true
 fits_reply (replied.No other) refused = is_compatible other refused
 
 -- where an update is the proposer's own, the ballot's set has one under its id
-abbrev pub is_known : ProposerState → Update → Bool
-is_known p u = not (u.id.replica == p.own) || is_some (get p.updates u.id)
+abbrev pub is_own_known : ProposerState → Update → Bool
+is_own_known p u = not (u.id.replica == p.own) || is_some (get p.updates u.id)
 
 abbrev pub fits_tally : List Counted → Histories → Bool
 fits_tally [] refused = true
@@ -91,26 +91,26 @@ fits_tally (c ∷ cs) refused = fits_reply c.reply refused && fits_tally cs refu
 abbrev pub fits_refusal : ProposerState → Histories → Bool
 fits_refusal p refused =
     is_compatible p.updates refused
-    && (list_all (is_known p) (updates refused)
+    && (list_all (is_own_known p) (updates refused)
     && fits_tally p.tally refused)
 
-abbrev pub fits : ProposerState → Reply → Bool
-fits p replied.Yes = true
-fits p (replied.No refused) = fits_refusal p refused
+abbrev pub is_fitting_reply : ProposerState → Reply → Bool
+is_fitting_reply p replied.Yes = true
+is_fitting_reply p (replied.No refused) = fits_refusal p refused
 
 -- what the replies come to leaves a number for the ballot that opens, if one does
 abbrev pub spares : ProposerState → Bool
 spares p = not (opens_by p (verdict_of p) && nat_le MAX_BALLOTS p.number)
 
 -- a reply that counts fits, and leaves such a number; of one that does not nothing is looked at
-abbrev pub hears : ProposerState → (from ballot : ℕ) → Reply → Bool
-hears p from ballot reply =
-    not (counts p from ballot) || (fits p reply && spares (with_reply p from reply))
+abbrev pub hears_reply : ProposerState → (from ballot : ℕ) → Reply → Bool
+hears_reply p from ballot reply =
+    not (counts p from ballot) || (is_fitting_reply p reply && spares (with_reply p from reply))
 
 abbrev pub takes_body : Instance → Message → Body → Bool
 takes_body x m (Offer offered) = is_compatible x.acceptor offered
-takes_body x m Yes = hears x.proposer m.from m.ballot replied.Yes
-takes_body x m (No accepted) = hears x.proposer m.from m.ballot (replied.No accepted)
+takes_body x m Yes = hears_reply x.proposer m.from m.ballot replied.Yes
+takes_body x m (No accepted) = hears_reply x.proposer m.from m.ballot (replied.No accepted)
 takes_body x m (Tell told) = true
 
 -- ## A call
@@ -119,7 +119,7 @@ takes_body x m (Tell told) = true
 abbrev pub takes_message : Option Instance → code.Message → Bool
 takes_message None m = false
 takes_message (Some x) m =
-    is_over (told_at x m) && takes_body x (received_at x m) (received_at x m).body
+    is_over_base (told_at x m) && takes_body x (received_at x m) (received_at x m).body
 
 -- it is from a replica of the group, to this one
 abbrev pub is_for : ReplicaState → code.Message → Bool

@@ -7,7 +7,7 @@ use Rattle.std.proofs.Math.Bool.{Bool-set}
 use Rattle.std.proofs.lemmas.Bool.{false≢true, and_parts, not-true, eqb-false}
 use Rattle.la_journal.specs.Lines.{IsClean}
 use Rattle.la_journal.specs.Journal.{IsCallLine, state_in}
-use Rattle.la_wire.specs.CallLines.{call_of, named, tick_word}
+use Rattle.la_wire.specs.CallLines.{call_of, named_call, tick_word}
 
 -- no byte is 0 or a line's end
 abbrev pub is_clean_byte : ℕ → Bool
@@ -22,7 +22,7 @@ abbrev pub may_stand : List ℕ → Bool
 may_stand line = list_all is_clean_byte line && is_no_state line
 
 abbrev pub is_line : List ℕ → Bool
-is_line line = may_stand line && is_some (named line)
+is_line line = may_stand line && is_some (named_call line)
 
 -- a line that says a call
 pub record CallLine : Type 0 where
@@ -56,8 +56,8 @@ round_trip_where line true is says = ap (λ e. Some (record { line = line; says 
 round_trip_where line false is says = absurd (false≢true (sym is ∙ says))
 
 -- it is read back
-pub round_trip : (c : CallLine) → call_line c.line ≡ Some c
-round_trip c = round_trip_where c.line (is_line c.line) refl c.says
+pub call_round_trip : (c : CallLine) → call_line c.line ≡ Some c
+call_round_trip c = round_trip_where c.line (is_line c.line) refl c.says
 
 differs : (a b : ℕ) → not (a == b) ≡ true → a ≢ b
 differs a b e = eqb-false a b (not-true (a == b) e)
@@ -74,8 +74,8 @@ no_state [] e = refl
 no_state (b ∷ bytes) e = ap (λ is. if is then Some bytes else None) (not-true (b == 61) e)
 
 -- and it is a call's
-pub clean : (c : CallLine) → IsCallLine c.line
-clean c =
-    let parts = and_parts (may_stand c.line) (is_some (named c.line)) c.says in
+pub line_is_clean : (c : CallLine) → IsCallLine c.line
+line_is_clean c =
+    let parts = and_parts (may_stand c.line) (is_some (named_call c.line)) c.says in
     let stands = and_parts (list_all is_clean_byte c.line) (is_no_state c.line) parts.0 in
     (clean_bytes c.line stands.0, no_state c.line stands.1)

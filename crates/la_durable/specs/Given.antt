@@ -15,7 +15,7 @@ use Rattle.la_replica.specs.Bases.{offered_by}
 use Rattle.la_replica.specs.ReplicaState.{ReplicaState, submits}
 use Rattle.la_world.specs.declared.done.Voted.{Voted}
 use Rattle.la_world.specs.declared.node.Received.{Received as Given_by_code}
-use Rattle.la_world.specs.Told.{told_over, base_in}
+use Rattle.la_world.specs.Told.{told_over, base_told}
 use Rattle.la_world.specs.Following.{Taken, takes}
 use Rattle.la_world.specs.Nodes.{outcome_due}
 use Rattle.la_world.specs.Kept.{KeptCall, Submitted, Proposed, Received}
@@ -47,16 +47,16 @@ reported_in None to = zero_counts
 reported_in (Some x) to = reported x.proposer to
 
 -- a message of a replica, told over what its receiver is known to have
-abbrev pub told_by : ReplicaState → (offered : Counts) → Message → code.Message
-told_by r offered m =
-    told_over (base_in (reported_in (slice_get r.instances m.instance) m.to) offered m.body) m
+abbrev pub message_told : ReplicaState → (offered : Counts) → Message → code.Message
+message_told r offered m =
+    told_over (base_told (reported_in (slice_get r.instances m.instance) m.to) offered m.body) m
 
 -- what a step gives out: the replica after it tells its mail
 abbrev pub given : ReplicaState → (offered : Counts) → Taken → Option Outcome → Given
 given after offered taken outcome = record {
   said = taken.said;
   voted = taken.voted;
-  mail = map (told_by after offered) taken.mail;
+  mail = map (message_told after offered) taken.mail;
   outcome = outcome;
 }
 
@@ -71,11 +71,11 @@ of_receipt r m made =
     (given made.1 (offered_by (received_in r m)) made.0 (outcome_due m.instance r.own made.0.said), made.1)
 
 -- what an accepted call comes to
-unfoldable pub does : ReplicaState → KeptCall → Option (Given × ReplicaState)
-does r (Submitted d) = option_map of_submission (submits r 0 d)
-does r (Proposed k value) = option_map of_submission (submits r (first_instance k) (first_vote k value))
-does r (Received m) = option_map (of_receipt r m) (takes r (received_in r m))
+unfoldable pub step_given : ReplicaState → KeptCall → Option (Given × ReplicaState)
+step_given r (Submitted d) = option_map of_submission (submits r 0 d)
+step_given r (Proposed k value) = option_map of_submission (submits r (first_instance k) (first_vote k value))
+step_given r (Received m) = option_map (of_receipt r m) (takes r (received_in r m))
 
 -- and any call: nothing, where it is refused
 abbrev pub makes : ReplicaState → KeptCall → Option (Given × ReplicaState)
-makes r call = if accepts r call then does r call else None
+makes r call = if accepts r call then step_given r call else None

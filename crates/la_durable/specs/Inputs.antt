@@ -5,7 +5,7 @@ use Rattle.la_wire.specs.declared.error.LineError.{LineError}
 use Rattle.la_wire.specs.declared.error.LineError.TheVariants.{Fault, Memory}
 use Rattle.la_wire.specs.declared.error.LineFault.TheVariants.{BadLine}
 use Rattle.la_wire.specs.Calls.{called}
-use Rattle.la_wire.specs.CallLines.{named, bounded_call_of}
+use Rattle.la_wire.specs.CallLines.{named_call, bounded_call_of}
 use Rattle.la_durable.specs.CallLines.{is_line, may_stand}
 
 pub record InputState : Type 0 where
@@ -14,7 +14,7 @@ pub record InputState : Type 0 where
 
 pub record IsInput (i : InputState) : Type 0 where
   pub is : is_line i.line ≡ true
-  pub says : named i.line ≡ Some (called i.call)
+  pub says : named_call i.line ≡ Some (called i.call)
 
 -- a line from outside is not taken: it has a fault, or may not stand in a journal; or memory ran out
 abbrev pub IsInputRefusal : List ℕ → LineError → Type 0

@@ -1,6 +1,6 @@
 ghost use Rattle.std.specs.Prelude.{◌≡◌, true, false, IfOk, IfErr, IfSome, Some, None};
 ghost use Rattle.la_wire.specs.Calls.{called};
-ghost use Rattle.la_wire.specs.CallLines.{named};
+ghost use Rattle.la_wire.specs.CallLines.{named_call};
 ghost use Rattle.la_durable.specs.CallLines.{is_line, may_stand, is_clean_byte, is_no_state};
 ghost use Rattle.std.specs.List.{list_all};
 ghost use Rattle.la_durable.specs.Inputs.{IsInputRefusal};
@@ -45,7 +45,7 @@ impl Input {
 
     // The input of a line that says this call; none, where no journal may have it.
     pub(crate) fn of(alloc: Global, line: &[u8], call: Call) -> Result<Option<Input>, AllocError>
-        requires { named line.now ≡ Some (called call) }
+        requires { named_call line.now ≡ Some (called call) }
         ensures some { IfOk result (λ o. IfSome o (λ input.
             (input.line ≡ line.now) × (is_line line.now ≡ true))) }
         ensures none { IfOk result (λ o. o ≡ None → may_stand line.now ≡ false) }
@@ -70,7 +70,7 @@ impl Input {
     /// The call that it says.
     pub fn call(&self) -> &Call
         ensures is { result.now ≡ self.now.call }
-        ensures says { named self.now.line ≡ Some (called self.now.call) }
+        ensures says { named_call self.now.line ≡ Some (called self.now.call) }
         ensures line { is_line self.now.line ≡ true }
     {
         &self.call

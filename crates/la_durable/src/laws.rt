@@ -1,6 +1,6 @@
 // What holds of groups whose nodes crash and are started again: laws that no code runs.
 ghost use Rattle.la_durable.specs.Restarts.{RestartsKeepLive};
-ghost use Rattle.la_durable.specs.Nodes.{ViewsGrow};
+ghost use Rattle.la_durable.specs.Nodes.{StepViewsGrow};
 
 use la_world::live;
 
@@ -17,5 +17,5 @@ pub fn restarts_keep_live()
 
 /// No step makes the view smaller: so a shelf whose view lies in the node's may absorb that after any step.
 pub fn views_grow()
-    ensures { ViewsGrow }
+    ensures { StepViewsGrow }
 {}

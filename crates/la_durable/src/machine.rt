@@ -1,10 +1,10 @@
 ghost use Rattle.std.specs.Prelude.{◌≡◌, ◌⊎◌, Some, None, IfOk, IfErr, OnOk, OnErr};
 ghost use Rattle.la_wire.specs.Calls.{called, Submit, Decide, Receive};
-ghost use Rattle.la_wire.specs.Messages.{said_by};
+ghost use Rattle.la_wire.specs.Messages.{letter_message};
 ghost use Rattle.la_world.specs.Groups.{IsConfig};
 ghost use Rattle.la_world.specs.Nodes.{node_at_start, IsStartRefusal};
 ghost use Rattle.la_durable.specs.Given.{given_of};
-ghost use Rattle.la_durable.specs.Nodes.{KeptState, no_objects, acts};
+ghost use Rattle.la_durable.specs.Nodes.{KeptState, empty_shelf, acts};
 ghost use Rattle.la_durable.specs.Errors.{IsForMemory, IsActRefusal};
 ghost use Rattle.la_durable.specs.Errors.{RefusesSubmission, RefusesProposal, RefusesLetter};
 
@@ -30,9 +30,9 @@ impl NodeMachine {
     /// Replica `own` of a group, in which nothing has happened, with the errors of [`Node::new`].
     pub fn new(alloc: Global, config: Config, own: u8) -> Result<NodeMachine, WorldError>
         ensures start { IfOk result (λ machine. machine
-            ≡ record { node = node_at_start config own no_objects; replicas = config.replicas }) }
+            ≡ record { node = node_at_start config own empty_shelf; replicas = config.replicas }) }
         ensures group { OnOk result (IsConfig config) }
-        ensures error { IfErr result (IsStartRefusal config own no_objects) }
+        ensures error { IfErr result (IsStartRefusal config own empty_shelf) }
     {
         Ok(NodeMachine {
             node: Node::new(alloc, config, own, Shelf::new(alloc))?,
@@ -119,10 +119,10 @@ impl NodeMachine {
     #[tactic(auto, using(crate::proofs::Acting::received_acts, crate::proofs::Acting::message_elsewhere, crate::proofs::Acting::refusal_of_message, crate::proofs::Naming::named_by_replica))]
     fn receive(&mut self, letter: &Letter) -> Result<Received, NodeError>
         ensures ok { IfOk result (λ given.
-            acts (record { replicas = self.old.replicas; replica = self.old.node.replica }) (Receive (said_by letter.now))
+            acts (record { replicas = self.old.replicas; replica = self.old.node.replica }) (Receive (letter_message letter.now))
             ≡ Some (given_of given, record { replicas = self.new.replicas; replica = self.new.node.replica })) }
         ensures error { IfErr result (λ e. IsForMemory e
-            ⊎ (acts (record { replicas = self.old.replicas; replica = self.old.node.replica }) (Receive (said_by letter.now))
+            ⊎ (acts (record { replicas = self.old.replicas; replica = self.old.node.replica }) (Receive (letter_message letter.now))
             ≡ None)) }
         ensures refusal { IfErr result (RefusesLetter self.old.node.replica self.old.replicas letter.now) }
         ensures err { OnErr result (self.new ≡ self.old) }
@@ -156,9 +156,9 @@ fn answered(out: Out) -> Received
 
 impl Machine for NodeMachine {
     ghost use Rattle.std.specs.Prelude.{Option};
-    ghost use Rattle.la_durable.specs.CallLines.{CallLine, call_line, or_tick, round_trip, clean};
+    ghost use Rattle.la_durable.specs.CallLines.{CallLine, call_line, or_tick, call_round_trip, line_is_clean};
     ghost use Rattle.la_durable.specs.Given.{Given};
-    ghost use Rattle.la_durable.specs.Nodes.{step, answers};
+    ghost use Rattle.la_durable.specs.Nodes.{step, given_by};
 
     type Input = Input;
 
@@ -180,7 +180,7 @@ impl Machine for NodeMachine {
 
     ghost answer = { λ given. Some (given_of given) };
 
-    ghost answers = { answers };
+    ghost answers = { given_by };
 
     ghost text = { λ c. c.line };
 
@@ -190,9 +190,9 @@ impl Machine for NodeMachine {
 
     ghost lacks_memory = { IsForMemory };
 
-    ghost round_trip = { round_trip };
+    ghost round_trip = { call_round_trip };
 
-    ghost clean = { clean };
+    ghost clean = { line_is_clean };
 
     fn apply(&mut self, input: &Input) -> Result<Received, NodeError> {
         self.act(input.call())

@@ -4,7 +4,7 @@ use Rattle.std.specs.Io.KnownBytes.{Consumes, IsAtEnd, prepend_known}
 use Rattle.std.proofs.KnownBytes.{Consumes-trans}
 use Rattle.std.proofs.lemmas.List.Elements.{All-append}
 use Rattle.la_io.specs.declared.source.Next.{Next}
-use Rattle.la_io.specs.Streams.{IsOneLine, IsKept, IsPart, IsNext, of_line, last_kind}
+use Rattle.la_io.specs.Streams.{IsOneLine, IsHeld, IsPart, IsNextLine, of_line, last_kind}
 
 -- bytes in front of what is ahead are taken
 pub takes_front : (p q : List ℕ) (left : Option (List ℕ)) (bytes : List ℕ) → p ≡ bytes ++ q
@@ -20,7 +20,7 @@ pub record Gathers (before after : Option (List ℕ)) (is_long : Bool) (line : L
   pub got : List ℕ
   pub one : IsOneLine got
   pub read : Consumes before after got
-  pub kept : IsKept is_long got line
+  pub kept : IsHeld is_long got line
 
 -- more was read
 pub gathers_read : (a b c : Option (List ℕ)) (is_long : Bool) (line : List ℕ) → Gathers a b is_long line
@@ -35,8 +35,8 @@ gathers_read a b c is_long line so more = record {
 -- what taking a part of a line does
 abbrev pub Takes : (is_long : Bool) → (before after : List ℕ) → (line line_after : List ℕ) → (Bool × Bool) → Type 0
 Takes is_long before after line line_after r =
-    (got : List ℕ) → IsKept is_long got line
-    → (part : List ℕ) × IsPart before after r.0 part × IsKept r.1 (got ++ part) line_after
+    (got : List ℕ) → IsHeld is_long got line
+    → (part : List ℕ) × IsPart before after r.0 part × IsHeld r.1 (got ++ part) line_after
 
 -- a part more, in which the line does not end
 pub gathers_part : (a left : Option (List ℕ)) (p q : List ℕ) (is_long long : Bool) (line line_after : List ℕ)
@@ -56,7 +56,7 @@ gathers_part a left p q is_long long line line_after so takes =
 -- and one in which it ends
 pub line_ends : (a left : Option (List ℕ)) (p q : List ℕ) (is_long long : Bool) (line line_after : List ℕ)
     → Gathers a (prepend_known p left) is_long line → Takes is_long p q line line_after (true, long)
-    → IsNext a (prepend_known q left) line_after (of_line long)
+    → IsNextLine a (prepend_known q left) line_after (of_line long)
 line_ends a left p q is_long long line line_after so takes =
     let t = takes so.got so.kept in
     let one = one_line_on so.got t.0 so.one t.1.one in
@@ -67,15 +67,15 @@ line_ends a left p q is_long long line line_after so takes =
     (takes_front p q left (t.0 ++ 10 ∷ []) front)) in
     ended long line_after (so.got ++ t.0) t.2 one read
   where
-    ended : (long : Bool) (line_after got : List ℕ) → IsKept long got line_after → IsOneLine got
-        → Consumes a (prepend_known q left) (got ++ 10 ∷ []) → IsNext a (prepend_known q left) line_after (of_line long)
+    ended : (long : Bool) (line_after got : List ℕ) → IsHeld long got line_after → IsOneLine got
+        → Consumes a (prepend_known q left) (got ++ 10 ∷ []) → IsNextLine a (prepend_known q left) line_after (of_line long)
     ended true line_after got kept one read = (got, one, kept, read)
     ended false line_after got kept one read =
         (subst IsOneLine (sym kept) one, subst (λ l. Consumes a (prepend_known q left) (l ++ 10 ∷ [])) (sym kept) read)
 
 -- the end of the input
 pub input_ends : (a b : Option (List ℕ)) (is_long : Bool) (line : List ℕ) → Gathers a b is_long line → IsAtEnd b
-    → IsNext a b line (last_kind is_long line)
+    → IsNextLine a b line (last_kind is_long line)
 input_ends a b true line so end = (so.got, omega (arith, so.kept), so.one, so.read, end)
 input_ends a b false [] so end = (subst (Consumes a b) (sym so.kept) so.read, end)
 input_ends a b false (x ∷ line) so end = (so.got, subst (λ g. 0 < length g) so.kept (omega arith), so.one, so.read, end)
@@ -87,17 +87,17 @@ module _ (a b c : Option (List ℕ)) (is_long : Bool) (line line1 : List ℕ) (s
   so_ready : Gathers a c is_long line1
   so_ready = subst (Gathers a c is_long) (sym same) (gathers_read a b c is_long line so more)
 
-  pub at_end : (kind : Next) → IsAtEnd c → kind ≡ last_kind is_long line1 → IsNext a c line1 kind
-  at_end kind end made = subst (λ k. IsNext a c line1 k) (sym made) (input_ends a c is_long line1 so_ready end)
+  pub at_end : (kind : Next) → IsAtEnd c → kind ≡ last_kind is_long line1 → IsNextLine a c line1 kind
+  at_end kind end made = subst (λ k. IsNextLine a c line1 k) (sym made) (input_ends a c is_long line1 so_ready end)
 
   module _ (left : Option (List ℕ)) (p q line2 : List ℕ) (c_is : c ≡ prepend_known p left) (taken : Bool × Bool)
       (takes : Takes is_long p q line1 line2 taken) where
     so_here : Gathers a (prepend_known p left) is_long line1
     so_here = subst (λ x. Gathers a x is_long line1) c_is so_ready
 
-    pub at_line : (kind : Next) → taken.0 ≡ true → kind ≡ of_line taken.1 → IsNext a (prepend_known q left) line2 kind
+    pub at_line : (kind : Next) → taken.0 ≡ true → kind ≡ of_line taken.1 → IsNextLine a (prepend_known q left) line2 kind
     at_line kind ended made =
-        subst (λ k. IsNext a (prepend_known q left) line2 k) (sym made)
+        subst (λ k. IsNextLine a (prepend_known q left) line2 k) (sym made)
         (line_ends a left p q is_long taken.1 line1 line2 so_here
         (subst (λ e. Takes is_long p q line1 line2 (e, taken.1)) ended takes))
 

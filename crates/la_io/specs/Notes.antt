@@ -12,7 +12,7 @@ use Rattle.la_script.specs.Text.{id_text, answer_text}
 use Rattle.la_wire.specs.declared.error.LineFault.{LineFault}
 use Rattle.la_wire.specs.declared.error.LineFault.TheVariants as line
 use Rattle.la_wire.specs.Joined.{spaced}
-use Rattle.la_wire.specs.Messages.{said_by}
+use Rattle.la_wire.specs.Messages.{letter_message}
 use Rattle.la_wire.specs.MessageLines.{count_words, message_text}
 
 -- ## Notes
@@ -61,13 +61,13 @@ fault_name line.BadNumber = codes "BadNumber"
 fault_name line.BadSet = codes "BadSet"
 
 -- what is told on standard error of a line that has a fault
-abbrev pub fault_line : (number : ℕ) → LineFault → List ℕ
-fault_line number fault = codes "line " ++ decimal number ++ codes ": " ++ fault_name fault ++ 10 ∷ []
+abbrev pub line_fault_line : (number : ℕ) → LineFault → List ℕ
+line_fault_line number fault = codes "line " ++ decimal number ++ codes ": " ++ fault_name fault ++ 10 ∷ []
 
 -- ## Messages
 
 abbrev pub message_line : (replicas : ℕ) → Message → List ℕ
-message_line replicas m = message_text (said_by (record { replicas = replicas; message = m })) ++ 10 ∷ []
+message_line replicas m = message_text (letter_message (record { replicas = replicas; message = m })) ++ 10 ∷ []
 
-abbrev pub mail_text : (replicas : ℕ) → List Message → List ℕ
-mail_text replicas mail = flat_map (message_line replicas) mail
+abbrev pub letters_text : (replicas : ℕ) → List Message → List ℕ
+letters_text replicas mail = flat_map (message_line replicas) mail

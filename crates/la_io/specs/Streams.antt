@@ -4,7 +4,7 @@ use Rattle.std.specs.List.{list_any}
 use Rattle.std.specs.Io.KnownBytes.{Consumes, IsAtEnd, prepend_known}
 use Rattle.la_wire.specs.declared.calls.TheConstants.{MAX_LINE}
 use Rattle.la_journal.specs.Lines.{file_of}
-use Rattle.la_cli.specs.Streams.{Writes, Refuses}
+use Rattle.la_cli.specs.Streams.{Writes, RefusesBytes}
 use Rattle.la_io.specs.declared.source.Next.{Next}
 use Rattle.la_io.specs.declared.source.Next.TheVariants as next
 use Rattle.la_io.specs.declared.source.Source.{Source}
@@ -39,9 +39,9 @@ end_of true = 10 ∷ []
 end_of false = []
 
 -- the line is kept while it is short
-abbrev pub IsKept : (is_long : Bool) → (got line : List ℕ) → Type 0
-IsKept true got line = MAX_LINE < length got
-IsKept false got line = line ≡ got
+abbrev pub IsHeld : (is_long : Bool) → (got line : List ℕ) → Type 0
+IsHeld true got line = MAX_LINE < length got
+IsHeld false got line = line ≡ got
 
 -- a part of a line was taken
 pub record IsPart (before after : List ℕ) (ended : Bool) (part : List ℕ) : Type 0 where
@@ -61,13 +61,13 @@ last_kind false [] = next.End
 last_kind false (b ∷ line) = next.Cut
 
 -- what stands next
-abbrev pub IsNext : (before after : Option (List ℕ)) → (line : List ℕ) → Next → Type 0
-IsNext before after line next.Line = IsOneLine line × Consumes before after (line ++ 10 ∷ [])
-IsNext before after line next.Long =
+abbrev pub IsNextLine : (before after : Option (List ℕ)) → (line : List ℕ) → Next → Type 0
+IsNextLine before after line next.Line = IsOneLine line × Consumes before after (line ++ 10 ∷ [])
+IsNextLine before after line next.Long =
     (long : List ℕ) × IsOneLine long × (MAX_LINE < length long) × Consumes before after (long ++ 10 ∷ [])
-IsNext before after line next.Cut =
+IsNextLine before after line next.Cut =
     (rest : List ℕ) × (0 < length rest) × IsOneLine rest × Consumes before after rest × IsAtEnd after
-IsNext before after line next.End = Consumes before after [] × IsAtEnd after
+IsNextLine before after line next.End = Consumes before after [] × IsAtEnd after
 
 -- so far these lines were read, each with its end
 abbrev pub ReadSo : (before after : Option (List ℕ)) → (lines : List (List ℕ)) → Type 0
@@ -80,7 +80,7 @@ pub record ReadsFront (left_before left_after : Option (List ℕ)) (lines : List
   pub consumed : Consumes left_before left_after (file_of lines ++ rest)
 
 -- all that there was to read, which is these lines, each with its end, and bytes behind them that no end follows
-pub record ReadsAll (left_before left_after : Option (List ℕ)) (lines : List (List ℕ)) (rest : List ℕ) : Type 0 where
+pub record ReadsLines (left_before left_after : Option (List ℕ)) (lines : List (List ℕ)) (rest : List ℕ) : Type 0 where
   pub each : All IsOneLine lines
   pub no_line : IsOneLine rest
   pub consumed : Consumes left_before left_after (file_of lines ++ rest)
@@ -89,13 +89,13 @@ pub record ReadsAll (left_before left_after : Option (List ℕ)) (lines : List (
 -- ## What is told
 
 -- a line was told, or a front of it and the rest was refused
-abbrev pub Tells : {E : Type 0} (contents : E → Option (List ℕ)) (refuses : E → List ℕ → E → Type 0) → (old new : E)
+abbrev pub TellsLine : {E : Type 0} (contents : E → Option (List ℕ)) (refuses : E → List ℕ → E → Type 0) → (old new : E)
     → List ℕ → Type 0
-Tells contents refuses old new line = Writes contents old new line ⊎ Refuses contents refuses old new line
+TellsLine contents refuses old new line = Writes contents old new line ⊎ RefusesBytes contents refuses old new line
 
 -- lines were told one after another
 abbrev pub TellsAll : {E : Type 0} (contents : E → Option (List ℕ)) (refuses : E → List ℕ → E → Type 0) → (old new : E)
     → List (List ℕ) → Type 0
 TellsAll contents refuses old new [] = new ≡ old
 TellsAll {E} contents refuses old new (line ∷ lines) =
-    (between : E) × Tells contents refuses old between line × TellsAll contents refuses between new lines
+    (between : E) × TellsLine contents refuses old between line × TellsAll contents refuses between new lines

@@ -3,7 +3,7 @@ ghost use Rattle.std.specs.Prelude.{◌≡◌, ◌++◌, ◌∷◌, [], codes, I
 ghost use Rattle.std.specs.Fmt.{decimal};
 ghost use Rattle.la_wire.specs.Joined.{spaced};
 ghost use Rattle.la_wire.specs.MessageLines.{count_words};
-ghost use Rattle.la_io.specs.Notes.{outcome_word, mail_text};
+ghost use Rattle.la_io.specs.Notes.{outcome_word, letters_text};
 ghost use Rattle.la_io.specs.Notes.{submitted_note, proposed_note, learnt_note, view_note};
 ghost use Rattle.la_io.specs.Notes.{outcome_note, answered_note};
 
@@ -175,7 +175,7 @@ pub fn put_answered(
 
 /// Writes messages, each as a line. After a refusal a part of them may stand there.
 pub fn put_mail(out: &mut Vec<u8>, replicas: u8, mail: &[Message]) -> Result<(), AllocError>
-    ensures { OnOk result (out.new.items ≡ out.old.items ++ mail_text replicas mail.now) }
+    ensures { OnOk result (out.new.items ≡ out.old.items ++ letters_text replicas mail.now) }
 {
     for message in mail {
         la_wire::put_message(out, replicas, message)?;

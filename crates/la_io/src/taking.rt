@@ -2,7 +2,7 @@
 ghost use Rattle.std.specs.Prelude.{◌≡◌, ◌+◌, ◌≤◌, ◌<◌, ◌++◌, ◌∷◌, List, ℕ, true, false, [], length, take, drop};
 ghost use Rattle.std.specs.Prelude.{Ok, IfOk, OnOk, OnErr};
 ghost use Rattle.std.specs.Io.KnownBytes.{Consumes, IsAtEnd};
-ghost use Rattle.la_io.specs.Streams.{IsOneLine, IsKept, IsPart, IsNext, TakesSome, pending, ahead, has_line, of_line, last_kind};
+ghost use Rattle.la_io.specs.Streams.{IsOneLine, IsHeld, IsPart, IsNextLine, TakesSome, pending, ahead, has_line, of_line, last_kind};
 
 use crate::{Next, Source, SourceFault};
 use la_wire::MAX_LINE;
@@ -29,8 +29,8 @@ fn first_end(bytes: &[u8]) -> (usize, usize, bool)
 // Puts bytes behind a line while it is not too long. Answers whether it is.
 fn add(line: &mut Vec<u8>, is_long: bool, part: &[u8]) -> Result<bool, AllocError>
     requires { length line.old.items ≤ MAX_LINE }
-    ensures kept { (got : List ℕ) → IsKept is_long got line.old.items
-        → IfOk result (λ long. IsKept long (got ++ part.now) line.new.items) }
+    ensures kept { (got : List ℕ) → IsHeld is_long got line.old.items
+        → IfOk result (λ long. IsHeld long (got ++ part.now) line.new.items) }
     ensures short { length line.new.items ≤ MAX_LINE }
 {
     if is_long || part.len() > MAX_LINE - line.len() {
@@ -106,8 +106,8 @@ impl Source {
     // Takes bytes up to a line's end, or all that was read. Answers whether the line has ended, and
     // whether it is too long.
     fn take(&mut self, is_long: bool) -> Result<(bool, bool), AllocError>
-        ensures part { (got : List ℕ) → IsKept is_long got self.old.line.items → IfOk result (λ r. (part : List ℕ)
-            × IsPart (pending self.old) (pending self.new) r.0 part × IsKept r.1 (got ++ part) self.new.line.items) }
+        ensures part { (got : List ℕ) → IsHeld is_long got self.old.line.items → IfOk result (λ r. (part : List ℕ)
+            × IsPart (pending self.old) (pending self.new) r.0 part × IsHeld r.1 (got ++ part) self.new.line.items) }
         ensures over { self.new.over ≡ self.old.over }
         ensures err { OnErr result (pending self.new ≡ pending self.old) }
     {
@@ -143,7 +143,7 @@ impl Source {
     /// was taken of the line until then is lost. After the end there is no read any more.
     pub fn next<R: Read>(&mut self, reader: &mut R) -> Result<Next, SourceFault>
         requires { self.old.over ≡ true → IsAtEnd (ahead self.old (R.remaining reader.old)) }
-        ensures next { IfOk result (λ next. IsNext (ahead self.old (R.remaining reader.old))
+        ensures next { IfOk result (λ next. IsNextLine (ahead self.old (R.remaining reader.old))
             (ahead self.new (R.remaining reader.new)) self.new.line.items next) }
         ensures over { self.new.over ≡ true → IsAtEnd (ahead self.new (R.remaining reader.new)) }
         ensures end { self.old.over ≡ true → result ≡ Ok Next.End }

@@ -1,8 +1,8 @@
 // Lines that are written and told.
 ghost use Rattle.std.specs.Prelude.{◌≡◌, ◌<◌, ◌≤◌, length, OnOk, OnErr};
 ghost use Rattle.la_cli.specs.Streams.{Writes, WritesPrefix};
-ghost use Rattle.la_io.specs.Notes.{refused_note, fault_name, fault_line};
-ghost use Rattle.la_io.specs.Streams.{Tells};
+ghost use Rattle.la_io.specs.Notes.{refused_note, fault_name, line_fault_line};
+ghost use Rattle.la_io.specs.Streams.{TellsLine};
 
 use arrayvec::ArrayString;
 use itoa::Buffer;
@@ -72,7 +72,7 @@ pub fn refuse<W: Write>(
 
 // A line's fault, as it is told.
 fn line_of_fault(number: u64, fault: LineFault) -> Line
-    ensures { result.bytes ≡ fault_line number fault }
+    ensures { result.bytes ≡ line_fault_line number fault }
 {
     let mut line = Line::new();
     line.push_str("line ");
@@ -85,7 +85,7 @@ fn line_of_fault(number: u64, fault: LineFault) -> Line
 
 /// Tells a line's fault. It takes no memory.
 pub fn tell_fault<E: Listener>(errors: &mut E, number: u64, fault: LineFault)
-    ensures { Tells E.contents E.refuses errors.old errors.new (fault_line number fault) }
+    ensures { TellsLine E.contents E.refuses errors.old errors.new (line_fault_line number fault) }
 {
     let line = line_of_fault(number, fault);
     let _told = tell_all(errors, line.as_str().as_bytes());

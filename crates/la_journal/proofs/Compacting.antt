@@ -4,7 +4,7 @@ use Rattle.la_journal.specs.Lines.{lines, file_of}
 use Rattle.la_journal.specs.Journal.{journal, state_line}
 use Rattle.la_journal.specs.Disk.{Elapses, LeavesOnly}
 use Rattle.la_journal.specs.Durable.{IsSettled}
-use Rattle.la_journal.specs.Machine.{plays, begins, after, steps_from, LeadsToSome, SaysState}
+use Rattle.la_journal.specs.Machine.{plays_line, begins_with, state_after, steps_from, LeadsToSome, SaysState}
 use Rattle.la_journal.specs.Snapshots.{IsSnapshot}
 use Rattle.la_journal.proofs.Moments.{started, goes_on}
 use Rattle.la_journal.proofs.Whole.{first_line}
@@ -22,11 +22,11 @@ module _ {S : Type 0} (named_state : List ℕ → Option S) (state : S) (file by
   says_state = record { text = snapshot.text; names = snapshot.names; alone = ap journal alone }
 
   pub leads_there : {C : Type 0} (named : List ℕ → Option C) (step : S → C → Option S) (start : S)
-      → after named_state named step start file ≡ Some state
+      → state_after named_state named step start file ≡ Some state
   leads_there named step start =
       ap
       (λ (ls : List (List ℕ)).
-      steps_from (plays named step) (journal ls).calls (begins named_state (journal ls).state start)) alone
+      steps_from (plays_line named step) (journal ls).calls (begins_with named_state (journal ls).state start)) alone
       ∙ snapshot.names
 
 -- a crash at any moment while it is put in the place of a settled file leaves what leads to the state
@@ -37,10 +37,10 @@ module _ {D S C : Type 0} (seen : D → List ℕ) (may_leave : D → List ℕ �
       → ((c : List ℕ) → left_since old (moment old) c → may_leave old c)
       → Elapses (moment old) (moment new) (left_since old) (left_since new) (may_leave new)
       → ((c : List ℕ) → may_leave new c → may_leave old c ⊎ (c ≡ bytes)) → bytes ≡ line
-      → IsSnapshot named_state state line → after named_state named step start (seen old) ≡ Some state
-      → LeavesOnly moment left_since old new (LeadsToSome (after named_state named step start) step [] state)
+      → IsSnapshot named_state state line → state_after named_state named step start (seen old) ≡ Some state
+      → LeavesOnly moment left_since old new (LeadsToSome (state_after named_state named step start) step [] state)
   led_throughout old new start state line bytes settled only_now time crash same snapshot was =
-      let leads = after named_state named step start in
+      let leads = state_after named_state named step start in
       let P = LeadsToSome leads step [] state in
       let before : (c : List ℕ) → may_leave old c → P c =
       λ c left. (0, omega arith, ap leads (settled.durable c left) ∙ was) in

@@ -3,7 +3,7 @@ use Rattle.std.proofs.Common.{◌≡◌, ℕ, zero, suc, ◌-◌, ◌≤◌, ◌
 use Rattle.std.proofs.lemmas.List.{append-nil, take_at, take_all, length-append, length-drop}
 use Rattle.la_journal.specs.Disk.{MayBeTorn, Only, IsTorn}
 use Rattle.la_journal.specs.Lines.{lines, file_of, IsClean}
-use Rattle.la_journal.specs.Machine.{texts}
+use Rattle.la_journal.specs.Machine.{call_texts}
 use Rattle.la_journal.specs.Durable.{IsSettled}
 use Rattle.la_journal.proofs.Whole.{AreClean, lines_clean, lines_file_of, IsSomeOf}
 use Rattle.la_journal.proofs.TornLines.{torn_lines}
@@ -12,7 +12,7 @@ pub lines_of : (ls : List (List ℕ)) → AreClean ls → lines (file_of ls) ≡
 lines_of ls clean = ap lines (sym (append-nil (file_of ls))) ∙ lines_file_of ls [] clean ∙ append-nil ls
 
 pub clean_texts : {I C : Type 0} (call : I → C) (text : C → List ℕ) → ((c : C) → IsClean (text c)) → (inputs : List I)
-    → AreClean (texts call text inputs)
+    → AreClean (call_texts call text inputs)
 clean_texts call text clean [] = tt
 clean_texts call text clean (input ∷ inputs) = (clean (call input), clean_texts call text clean inputs)
 

@@ -5,8 +5,8 @@ use Rattle.std.proofs.Math.Seq.{take-append-add}
 use Rattle.std.proofs.lemmas.List.{take-append-le, take_all, length-append, length-map}
 use Rattle.la_journal.specs.Disk.{LeavesOnly}
 use Rattle.la_journal.specs.Machine.{steps, steps_from, replies_from, replies, LeadsToSome}
-use Rattle.la_journal.specs.Served.{Said, together, unless_none, given_since, answers_of, answered, Answers, LeadsToAtLeast, KeepsAll, IsUnserved}
-use Rattle.la_journal.specs.Durable.{IsRefusal, IsStop}
+use Rattle.la_journal.specs.Served.{SaidAt, together, unless_none, given_since, answers_of, answers_since, Answers, LeadsToAtLeast, KeepsAnswers, IsUnserved}
+use Rattle.la_journal.specs.Durable.{IsDurableRefusal, IsStop}
 use Rattle.la_journal.specs.declared.durable.Refused.{Refused as RefusedOf}
 use Rattle.la_journal.specs.declared.durable.Refused.TheVariants.{Machine, Memory, Disk, Closed}
 use Rattle.la_journal.specs.declared.outlet.Unserved.{Unserved}
@@ -18,16 +18,16 @@ use Rattle.la_journal.proofs.Takes.{weaker}
 
 -- so far, with as many answers as there were calls
 pub record SoFar {S C O A : Type 0} (step : S → C → Option S) (answers_in : O → List A) (answers : S → C → A)
-    (done : List C) (first : S) (old mid : List (Said O)) : Type 0 where
+    (done : List C) (first : S) (old mid : List (SaidAt O)) : Type 0 where
   pub behind : mid ≡ given_since old mid ++ old
-  pub many : answered answers_in old mid ≡ length done
+  pub many : answers_since answers_in old mid ≡ length done
   pub are : answers_of answers_in (given_since old mid) ≡ replies step answers done first
 
 -- at the start
 pub none_so_far : {S C O A : Type 0} (step : S → C → Option S) (answers_in : O → List A) (answers : S → C → A)
-    (first : S) (old : List (Said O)) → SoFar step answers_in answers [] first old old
+    (first : S) (old : List (SaidAt O)) → SoFar step answers_in answers [] first old old
 none_so_far step answers_in answers first old = record {
-  behind = ap (λ (g : List (Said _)). g ++ old) (sym (none_since old));
+  behind = ap (λ (g : List (SaidAt _)). g ++ old) (sym (none_since old));
   many = answered_none answers_in old;
   are = ap (answers_of answers_in) (none_since old);
 }
@@ -94,9 +94,9 @@ module _ {S C : Type 0} (step : S → C → Option S) (calls done group rest : L
       module _ {O A : Type 0} (answers_in : O → List A) where
         -- what was given out before is kept
         keeps_on : (mid new : D) → LeavesOnly moment left_since mid new (LeadsToSome leads step group between)
-            → (before : List (Said O)) → length (answers_of answers_in before) ≤ length done
-            → KeepsAll answers_in (moment mid) (left_since mid) leads step calls first before
-            → KeepsAll answers_in (moment new) (left_since new) leads step calls first before
+            → (before : List (SaidAt O)) → length (answers_of answers_in before) ≤ length done
+            → KeepsAnswers answers_in (moment mid) (left_since mid) leads step calls first before
+            → KeepsAnswers answers_in (moment new) (left_since new) leads step calls first before
         keeps_on mid new leaves [] le keeps = tt
         keeps_on mid new leaves (s ∷ before) le keeps = (
           omega (arith, keeps.0, leaves.later),
@@ -109,10 +109,10 @@ module _ {S C : Type 0} (step : S → C → Option S) (calls done group rest : L
         )
 
         -- and so is what is given out of the group
-        keeps_both : (new : D) (before more : List (Said O)) → length (answers_of answers_in before) ≡ length done
-            → KeepsAll answers_in (moment new) (left_since new) leads step calls first before
-            → KeepsAll answers_in (moment new) (left_since new) leads step group between more
-            → KeepsAll answers_in (moment new) (left_since new) leads step calls first (more ++ before)
+        keeps_both : (new : D) (before more : List (SaidAt O)) → length (answers_of answers_in before) ≡ length done
+            → KeepsAnswers answers_in (moment new) (left_since new) leads step calls first before
+            → KeepsAnswers answers_in (moment new) (left_since new) leads step group between more
+            → KeepsAnswers answers_in (moment new) (left_since new) leads step calls first (more ++ before)
         keeps_both new before [] many was now = was
         keeps_both new before (s ∷ more) many was now = (
           now.0,
@@ -122,17 +122,17 @@ module _ {S C : Type 0} (step : S → C → Option S) (calls done group rest : L
           keeps_both new before more many was now.2,
         )
 
-        pub keeps_more : (mid new : D) (before more : List (Said O))
+        pub keeps_more : (mid new : D) (before more : List (SaidAt O))
             → length (answers_of answers_in before) ≡ length done
             → LeavesOnly moment left_since mid new (LeadsToSome leads step group between)
-            → KeepsAll answers_in (moment mid) (left_since mid) leads step calls first before
-            → KeepsAll answers_in (moment new) (left_since new) leads step group between more
-            → KeepsAll answers_in (moment new) (left_since new) leads step calls first (more ++ before)
+            → KeepsAnswers answers_in (moment mid) (left_since mid) leads step calls first before
+            → KeepsAnswers answers_in (moment new) (left_since new) leads step group between more
+            → KeepsAnswers answers_in (moment new) (left_since new) leads step calls first (more ++ before)
         keeps_more mid new before more many leaves was now =
             keeps_both new before more many (keeps_on mid new leaves before (omega (arith, many)) was) now
 
   module _ {O A : Type 0} (answers_in : O → List A) (answers : S → C → A) where
-    pub replies_more : (before more : List (Said O)) (n : ℕ) → n ≤ length group
+    pub replies_more : (before more : List (SaidAt O)) (n : ℕ) → n ≤ length group
         → answers_of answers_in before ≡ replies step answers done first
         → answers_of answers_in more ≡ replies step answers (take n group) between
         → answers_of answers_in (more ++ before) ≡ replies step answers (take (length done + n) calls) first
@@ -143,9 +143,9 @@ module _ {S C : Type 0} (step : S → C → Option S) (calls done group rest : L
         ∙ sym (replies_append step answers done (take n group) (Some first))
         ∙ ap (λ (l : List C). replies step answers l first) (sym (front n le))
 
-    module _ (old mid new more : List (Said O)) (so : SoFar step answers_in answers done first old mid)
+    module _ (old mid new more : List (SaidAt O)) (so : SoFar step answers_in answers done first old mid)
         (is : new ≡ more ++ mid) (n : ℕ) (le : n ≤ length group) (many : length (answers_of answers_in more) ≡ n) where
-      pub answered_is : answered answers_in old new ≡ length done + n
+      pub answered_is : answers_since answers_in old new ≡ length done + n
       answered_is = answered_more answers_in more old mid new so.behind is ∙ (λ i. so.many i + many i)
 
       pub answers_go : answers_of answers_in more ≡ replies step answers (take n group) between
@@ -186,7 +186,7 @@ cause_more lacks_memory closed f f' f'' o o' o'' many more taken more_taken step
 
 -- one call alone is refused
 pub refused_alone : {S R : Type 0} (lacks_memory : R → Type 0) (before closed : Bool) (f f' o o' : ℕ)
-    (stepped : Option S) (why : RefusedOf R) → before ≡ false → IsRefusal lacks_memory before closed f f' stepped why
+    (stepped : Option S) (why : RefusedOf R) → before ≡ false → IsDurableRefusal lacks_memory before closed f f' stepped why
     → IsUnserved lacks_memory closed f f' o o' 1 0 (λ _. stepped) (Refused why)
 refused_alone lacks_memory before closed f f' o o' stepped (Machine refusal) was is = (omega arith, (refl, is.1, is.2))
 refused_alone lacks_memory before closed f f' o o' stepped Memory was is = (refl, is.1)
@@ -215,7 +215,7 @@ pub keeps_given : {S C X A : Type 0} (answer : X → A) (now : ℕ) (left_since 
     (leads : List ℕ → Option S) (step : S → C → Option S) (group : List C) (between : S)
     (m : ℕ) (v : Vec X) (items : List X) → items ≡ v.items → length v.items ≤ length group → m ≤ now
     → (0 < length v.items → (c : List ℕ) → left_since m c → leads c ≡ steps step (take (length v.items) group) between)
-    → KeepsAll (together answer) now left_since leads step group between (unless_none items (record { moment = m; item = v }))
+    → KeepsAnswers (together answer) now left_since leads step group between (unless_none items (record { moment = m; item = v }))
 keeps_given answer now left_since leads step group between m v [] is le late durable = tt
 keeps_given answer now left_since leads step group between m v (x ∷ items) is le late durable = (
   late,

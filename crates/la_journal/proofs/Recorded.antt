@@ -3,7 +3,7 @@ use Rattle.std.proofs.Common.{◌≡◌, inl, inr, arith, ℕ, Bool, true, false
 use Rattle.std.specs.Prelude.{if◌then◌else◌, ◌==◌, ◌&&◌}
 use Rattle.std.proofs.lemmas.List.{append-nil}
 use Rattle.std.proofs.lemmas.Bool.Decides.{nat_tests}
-use Rattle.la_journal.specs.Commits.{same_bytes, is_record, Records, groups_from, groups, with_records, last_record, HasNoEnd, IsGroup, AreGroups, AreRecords, ReadingGivesGroups}
+use Rattle.la_journal.specs.Commits.{same_bytes, is_record, Records, groups_from, groups, with_records, last_record, HasNoEnd, AreWhole, AreGroups, AreRecords, ReadingGivesGroups}
 
 same_self : (xs : List ℕ) → same_bytes xs xs ≡ true
 same_self [] = refl
@@ -66,7 +66,7 @@ module _ (record_of : Records) (are : AreRecords record_of) where
   ten b is = grind (arith, nat_tests)
 
   -- through the lines of a group
-  through_group : (before got line g rest : List ℕ) → IsGroup line g
+  through_group : (before got line g rest : List ℕ) → AreWhole line g
       → groups_from record_of before got line (g ++ rest) ≡ groups_from record_of before (got ++ (line ++ g)) [] rest
   through_group before got line [] rest is =
       ap (λ (l : List ℕ). groups_from record_of before got l rest) is
@@ -84,7 +84,7 @@ module _ (record_of : Records) (are : AreRecords record_of) where
       ∙ through_group before got (line ++ b ∷ []) g rest go.1
       ∙ ap (λ (l : List ℕ). groups_from record_of before (got ++ l) [] rest) (append_assoc line (b ∷ []) g)
 
-  one_group : (before g rest : List ℕ) → IsGroup [] g
+  one_group : (before g rest : List ℕ) → AreWhole [] g
       → groups record_of before (g ++ (record_of before g ++ 10 ∷ rest)) ≡ g ∷ groups record_of (record_of before g) rest
   one_group before g rest is =
       through_group before [] [] g (record_of before g ++ 10 ∷ rest) is

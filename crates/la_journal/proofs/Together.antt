@@ -6,7 +6,7 @@ use Rattle.std.proofs.lemmas.List.{append-nil, take_all, length-map}
 use Rattle.la_journal.specs.Disk.{LeavesOnly, MayBeTorn, Only}
 use Rattle.la_journal.specs.Lines.{lines, file_of, IsClean}
 use Rattle.la_journal.specs.Journal.{IsCallLine}
-use Rattle.la_journal.specs.Machine.{after, steps, steps_from, LeadsToSome}
+use Rattle.la_journal.specs.Machine.{state_after, steps, steps_from, LeadsToSome}
 use Rattle.la_journal.specs.Durable.{IsSettled}
 use Rattle.la_journal.proofs.Whole.{AreClean, lines_clean, lines_file_of, file_of_push}
 use Rattle.la_journal.proofs.Groups.{group_lines, group_settled, group_torn}
@@ -66,10 +66,10 @@ module _ {D : Type 0} (seen : D → List ℕ) (may_leave : D → List ℕ → Ty
   module _ {S C : Type 0} (named_state : List ℕ → Option S) (named : List ℕ → Option C) (step : S → C → Option S)
       (write : C → List ℕ)
       (round_trip : (c : C) → named (write c) ≡ Some c) (clean_calls : (c : C) → IsCallLine (write c))
-      (start before : S) (calls : List C) (was : after named_state named step start (seen old) ≡ Some before)
+      (start before : S) (calls : List C) (was : state_after named_state named step start (seen old) ≡ Some before)
       (are : lines text ≡ map write calls) where
     pub commit_leads : (new : D) → seen new ≡ seen old ++ bytes
-        → after named_state named step start (seen new) ≡ steps step calls before
+        → state_after named_state named step start (seen new) ≡ steps step calls before
     commit_leads new written =
         leads_on named_state named step write round_trip clean_calls start (seen old) (seen new) calls
         (commit_lines new written ∙ ap (λ (l : List (List ℕ)). lines (seen old) ++ l) are)
@@ -77,16 +77,16 @@ module _ {D : Type 0} (seen : D → List ℕ) (may_leave : D → List ℕ → Ty
 
     pub commit_leaves : (moment : D → ℕ) (left_since : D → ℕ → List ℕ → Type 0) (new : D)
         → LeavesOnly moment left_since old new (MayBeTorn bytes (may_leave old))
-        → LeavesOnly moment left_since old new (LeadsToSome (after named_state named step start) step calls before)
+        → LeavesOnly moment left_since old new (LeadsToSome (state_after named_state named step start) step calls before)
     commit_leaves moment left_since new leaves =
         weaker moment left_since old new (MayBeTorn bytes (may_leave old))
-        (LeadsToSome (after named_state named step start) step calls before) some leaves
+        (LeadsToSome (state_after named_state named step start) step calls before) some leaves
       where
         all_of : take (length (lines text)) (lines text) ≡ lines text
         all_of = take_all (length (lines text)) (lines text) (omega arith)
 
         some : (c : List ℕ) → MayBeTorn bytes (may_leave old) c
-            → LeadsToSome (after named_state named step start) step calls before c
+            → LeadsToSome (state_after named_state named step start) step calls before c
         some c left =
             let found =
             group_torn seen may_leave old settled (seen old) refl (length (lines text)) (lines text) clean bytes
@@ -96,7 +96,7 @@ module _ {D : Type 0} (seen : D → List ℕ) (may_leave : D → List ℕ → Ty
           where
             leads_some : (c : List ℕ) (n : ℕ) → n ≤ length (map write calls)
                 → lines c ≡ lines (seen old) ++ take n (map write calls)
-                → LeadsToSome (after named_state named step start) step calls before c
+                → LeadsToSome (state_after named_state named step start) step calls before c
             leads_some c n le is = (
               n,
               subst (λ m. n ≤ m) (length-map calls write) le,

@@ -5,7 +5,7 @@ use Rattle.std.proofs.lemmas.List.{append-nil, length-append}
 use Rattle.std.proofs.lemmas.Bool.{false≢true}
 use Rattle.std.proofs.lemmas.Bool.Decides.{nat_tests}
 use Rattle.la_journal.specs.Disk.{IsTorn}
-use Rattle.la_journal.specs.Commits.{same_bytes, is_record, Records, groups_from, HasNoEnd, HasNoZero, IsGroup, AreRecords, IsSpoilt, NoneCollides, TornGroupsAreNotRead}
+use Rattle.la_journal.specs.Commits.{same_bytes, is_record, Records, groups_from, HasNoEnd, HasNoZero, AreWhole, AreRecords, IsSpoilt, NoneCollides, TornGroupsAreNotRead}
 use Rattle.la_journal.proofs.Recorded.{step_end, step_byte}
 
 spoilt_append : (xs ys xt yt : List ℕ) → IsSpoilt xs xt → IsSpoilt ys yt → IsSpoilt (xs ++ ys) (xt ++ yt)
@@ -57,21 +57,21 @@ spoilt_first (b ∷ line) (t ∷ torn) is no_ = elim is.0 [
 ]
 
 -- in a group a line that has begun is no record's
-group_line : (x : ℕ) (line g : List ℕ) → IsGroup (x ∷ line) g → is_record (x ∷ line) ≡ false
+group_line : (x : ℕ) (line g : List ℕ) → AreWhole (x ∷ line) g → is_record (x ∷ line) ≡ false
 group_line x line [] is = absurd (omega (arith, ap length is))
 group_line x line (b ∷ g) (inl end) = end.1
 group_line x line (b ∷ g) (inr go) = group_line x (line ++ b ∷ []) g go.1
 
-first_byte : (b t : ℕ) (g : List ℕ) → (t ≡ b) ⊎ (t ≡ 0) → (t == 10) ≡ false → IsGroup [] (b ∷ g)
+first_byte : (b t : ℕ) (g : List ℕ) → (t ≡ b) ⊎ (t ≡ 0) → (t == 10) ≡ false → AreWhole [] (b ∷ g)
     → is_record (t ∷ []) ≡ false
 first_byte b t g (inr zero) go is = ap (λ (x : ℕ). x == 126) zero
 first_byte b t g (inl same) go (inl end) = absurd (false≢true (sym go ∙ ap (λ (x : ℕ). x == 10) same ∙ end.0))
 first_byte b t g (inl same) go (inr on) = ap (λ (x : ℕ). x == 126) same ∙ group_line b [] g on.1
 
 still : (line : List ℕ) (b t : ℕ) (line_o g : List ℕ) → is_record line ≡ false → (line ≡ [] → line_o ≡ [])
-    → (t ≡ b) ⊎ (t ≡ 0) → (t == 10) ≡ false → IsGroup line_o (b ∷ g) → is_record (line ++ t ∷ []) ≡ false
+    → (t ≡ b) ⊎ (t ≡ 0) → (t == 10) ≡ false → AreWhole line_o (b ∷ g) → is_record (line ++ t ∷ []) ≡ false
 still [] b t line_o g not begun is go group =
-    first_byte b t g is go (subst (λ (l : List ℕ). IsGroup l (b ∷ g)) (begun refl) group)
+    first_byte b t g is go (subst (λ (l : List ℕ). AreWhole l (b ∷ g)) (begun refl) group)
 still (x ∷ line) b t line_o g not begun is go group = not
 
 not_empty : (line : List ℕ) (t : ℕ) → line ++ t ∷ [] ≡ [] → ⊥
@@ -152,7 +152,7 @@ module _ (record_of : Records) (are : AreRecords record_of) (before next : List 
             | inr all ↦ inr (sym (append_assoc (got ++ line) (t ∷ []) torn) ∙ ap (λ (l : List ℕ). l ++ torn) (append_assoc got line (t ∷ [])) ∙ all)
           ]
 
-      scan_group : (got line p g line_o torn : List ℕ) → IsSpoilt p (got ++ line) → p ++ g ≡ next → IsGroup line_o g
+      scan_group : (got line p g line_o torn : List ℕ) → IsSpoilt p (got ++ line) → p ++ g ≡ next → AreWhole line_o g
           → is_record line ≡ false → (line ≡ [] → line_o ≡ []) → IsTorn (g ++ (record_of before next ++ 10 ∷ [])) torn
           → Res got line torn
       scan_group got [] p [] line_o torn so whole group not begun is =
@@ -193,13 +193,13 @@ module _ (record_of : Records) (are : AreRecords record_of) (before next : List 
           ten_or t end (inl same) = (inl (sym (ten_is t end) ∙ same), tt)
           ten_or t end (inr zero) = (inr (sym (ten_is t end) ∙ zero), tt)
 
-          after_end : (t : ℕ) → (t == 10) ≡ true → (t ≡ b) ⊎ (t ≡ 0) → IsGroup line_o (b ∷ g) → IsGroup [] g
+          after_end : (t : ℕ) → (t == 10) ≡ true → (t ≡ b) ⊎ (t ≡ 0) → AreWhole line_o (b ∷ g) → AreWhole [] g
           after_end t end w (inl e) = e.2
           after_end t end (inl same) (inr e) = absurd (false≢true (sym e.0 ∙ ap (λ (x : ℕ). x == 10) (sym same) ∙ end))
           after_end t end (inr zero) (inr e) = absurd (false≢true (ap (λ (x : ℕ). x == 10) (sym zero) ∙ end))
 
-          goes : (t : ℕ) → (t == 10) ≡ false → (t ≡ b) ⊎ (t ≡ 0) → IsGroup line_o (b ∷ g)
-              → IsGroup [] g ⊎ IsGroup (line_o ++ b ∷ []) g
+          goes : (t : ℕ) → (t == 10) ≡ false → (t ≡ b) ⊎ (t ≡ 0) → AreWhole line_o (b ∷ g)
+              → AreWhole [] g ⊎ AreWhole (line_o ++ b ∷ []) g
           goes t go w (inl e) = inl e.2
           goes t go w (inr e) = inr e.1
 

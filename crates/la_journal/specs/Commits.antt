@@ -55,16 +55,16 @@ HasNoEnd [] = ⊤
 HasNoEnd (b ∷ line) = ((b == 10) ≡ false) × HasNoEnd line
 
 -- whole lines, none a record's
-abbrev pub IsGroup : (line : List ℕ) → List ℕ → Type 0
-IsGroup line [] = line ≡ []
-IsGroup line (b ∷ bytes) =
-    (((b == 10) ≡ true) × (is_record line ≡ false) × IsGroup [] bytes)
-    ⊎ (((b == 10) ≡ false) × IsGroup (line ++ b ∷ []) bytes)
+abbrev pub AreWhole : (line : List ℕ) → List ℕ → Type 0
+AreWhole line [] = line ≡ []
+AreWhole line (b ∷ bytes) =
+    (((b == 10) ≡ true) × (is_record line ≡ false) × AreWhole [] bytes)
+    ⊎ (((b == 10) ≡ false) × AreWhole (line ++ b ∷ []) bytes)
 
 -- each is a group
 abbrev pub AreGroups : List (List ℕ) → Type 0
 AreGroups [] = ⊤
-AreGroups (g ∷ gs) = IsGroup [] g × AreGroups gs
+AreGroups (g ∷ gs) = AreWhole [] g × AreGroups gs
 
 -- a record's line, whatever it is of
 abbrev pub AreRecords : Records → Type 0
@@ -85,7 +85,7 @@ IsTheseOrOneMore these next read = (read ≡ these) ⊎ (read ≡ these ++ next 
 abbrev pub ReadingGivesGroups : Type 0
 ReadingGivesGroups =
     (record_of : Records) (first : List ℕ) (these : List (List ℕ)) (next torn : List ℕ) →
-    AreRecords record_of → AreGroups these → IsGroup [] next →
+    AreRecords record_of → AreGroups these → AreWhole [] next →
     let last = last_record record_of first these in
     NoneMatches record_of last (with_record record_of last next) torn →
     IsTheseOrOneMore these next (groups record_of first (with_records record_of first these ++ torn))
@@ -112,6 +112,6 @@ abbrev pub TornGroupsAreNotRead : Type 0
 TornGroupsAreNotRead =
     (record_of : Records) (before next torn : List ℕ) →
     AreRecords record_of → ((group : List ℕ) → HasNoZero (record_of before group)) →
-    IsGroup [] next → NoneCollides record_of before next →
+    AreWhole [] next → NoneCollides record_of before next →
     IsTorn (with_record record_of before next) torn →
     NoneMatches record_of before (with_record record_of before next) torn

@@ -21,27 +21,27 @@ IsSameOr before whole c = before c ⊎ (lines c ≡ whole)
 
 -- An input is refused for a cause: by the machine where it has no step or no memory; for the disk where
 -- this failed; as closed where that was so before. It is closed from a failure of the disk on.
-abbrev pub IsRefusal : {S R : Type 0} (lacks_memory : R → Type 0) → (before now : Bool) → (faults_before faults : ℕ)
+abbrev pub IsDurableRefusal : {S R : Type 0} (lacks_memory : R → Type 0) → (before now : Bool) → (faults_before faults : ℕ)
     → Option S → RefusedOf R → Type 0
-IsRefusal lacks_memory before now faults_before faults stepped (Machine refusal) =
+IsDurableRefusal lacks_memory before now faults_before faults stepped (Machine refusal) =
     (before ≡ false) × (now ≡ false) × (lacks_memory refusal ⊎ (stepped ≡ None))
-IsRefusal lacks_memory before now faults_before faults stepped NoMemory = (before ≡ false) × (now ≡ false)
-IsRefusal lacks_memory before now faults_before faults stepped NotKept =
+IsDurableRefusal lacks_memory before now faults_before faults stepped NoMemory = (before ≡ false) × (now ≡ false)
+IsDurableRefusal lacks_memory before now faults_before faults stepped NotKept =
     (before ≡ false) × (now ≡ true) × (faults_before < faults)
-IsRefusal lacks_memory before now faults_before faults stepped Closed = (before ≡ true) × (now ≡ true)
+IsDurableRefusal lacks_memory before now faults_before faults stepped Closed = (before ≡ true) × (now ≡ true)
 
 -- Of inputs the first some were taken: the machine refuses the one behind these, and else none was taken.
 -- `stepped` is what so many calls come to.
 abbrev pub IsStop : {S R : Type 0} (lacks_memory : R → Type 0) → (before now : Bool) → (faults_before faults : ℕ)
     → (many taken : ℕ) → (stepped : ℕ → Option S) → RefusedOf R → Type 0
 IsStop lacks_memory before now faults_before faults many taken stepped (Machine refusal) =
-    (taken < many) × IsRefusal lacks_memory before now faults_before faults (stepped (taken + 1)) (Machine refusal)
+    (taken < many) × IsDurableRefusal lacks_memory before now faults_before faults (stepped (taken + 1)) (Machine refusal)
 IsStop lacks_memory before now faults_before faults many taken stepped NoMemory =
-    (taken ≡ 0) × IsRefusal lacks_memory before now faults_before faults (stepped 0) NoMemory
+    (taken ≡ 0) × IsDurableRefusal lacks_memory before now faults_before faults (stepped 0) NoMemory
 IsStop lacks_memory before now faults_before faults many taken stepped NotKept =
-    (taken ≡ 0) × IsRefusal lacks_memory before now faults_before faults (stepped 0) NotKept
+    (taken ≡ 0) × IsDurableRefusal lacks_memory before now faults_before faults (stepped 0) NotKept
 IsStop lacks_memory before now faults_before faults many taken stepped Closed =
-    (taken ≡ 0) × IsRefusal lacks_memory before now faults_before faults (stepped 0) Closed
+    (taken ≡ 0) × IsDurableRefusal lacks_memory before now faults_before faults (stepped 0) Closed
 
 -- A journal is not compacted for a cause, and is closed where the disk failed or it was closed before.
 abbrev pub IsNotCompacted : (before now : Bool) → (faults_before faults : ℕ) → Uncompacted → Type 0

@@ -6,12 +6,12 @@ use Rattle.la_journal.specs.Disk.{Elapses}
 use Rattle.la_journal.specs.Note.{now_of}
 use Rattle.la_journal.specs.Outcomes.{LeftAt, LeftSince, only_left, left_now}
 
-abbrev pub bytes_of : Contents → List ℕ
-bytes_of contents = contents.bytes.items
+abbrev pub held_bytes : Contents → List ℕ
+held_bytes contents = contents.bytes.items
 
 -- so many of the bytes are on the disk
-abbrev pub kept_of : Contents → ℕ
-kept_of contents = contents.kept
+abbrev pub synced_count : Contents → ℕ
+synced_count contents = contents.kept
 
 -- so many bytes more take no memory
 abbrev pub room_of : Contents → ℕ

@@ -9,8 +9,8 @@ IsNamed call named (Some input) = named ≡ Some (call input)
 IsNamed call named None = named ≡ None
 
 -- the lines of these inputs
-abbrev pub texts : {I C : Type 0} (call : I → C) (text : C → List ℕ) → List I → List (List ℕ)
-texts call text inputs = map (λ input. text (call input)) inputs
+abbrev pub call_texts : {I C : Type 0} (call : I → C) (text : C → List ℕ) → List I → List (List ℕ)
+call_texts call text inputs = map (λ input. text (call input)) inputs
 
 -- the calls of these inputs
 abbrev pub calls : {I C : Type 0} (call : I → C) → List I → List C
@@ -49,29 +49,29 @@ abbrev pub call_unless : {C : Type 0} → Option (List ℕ) → Option C → Opt
 call_unless (Some state) call = None
 call_unless None call = call
 
-abbrev pub step_by : {S C : Type 0} (step : S → C → Option S) → S → Option C → Option S
-step_by step state (Some call) = step state call
-step_by step state None = None
+abbrev pub step_named : {S C : Type 0} (step : S → C → Option S) → S → Option C → Option S
+step_named step state (Some call) = step state call
+step_named step state None = None
 
 -- one line played: none where it says no call, or one that the machine refuses
-abbrev pub plays : {S C : Type 0} (named : List ℕ → Option C) (step : S → C → Option S) → S → List ℕ → Option S
-plays named step state line = step_by step state (call_unless (state_in line) (named line))
+abbrev pub plays_line : {S C : Type 0} (named : List ℕ → Option C) (step : S → C → Option S) → S → List ℕ → Option S
+plays_line named step state line = step_named step state (call_unless (state_in line) (named line))
 
 -- the state that a journal begins with, and else the one of a start
-abbrev pub begins : {S : Type 0} (named_state : List ℕ → Option S) → Option (List ℕ) → S → Option S
-begins named_state None start = Some start
-begins named_state (Some text) start = named_state text
+abbrev pub begins_with : {S : Type 0} (named_state : List ℕ → Option S) → Option (List ℕ) → S → Option S
+begins_with named_state None start = Some start
+begins_with named_state (Some text) start = named_state text
 
 -- where a file leads a machine: from the state that it begins with, by its calls
-abbrev pub after : {S C : Type 0} (named_state : List ℕ → Option S) (named : List ℕ → Option C)
+abbrev pub state_after : {S C : Type 0} (named_state : List ℕ → Option S) (named : List ℕ → Option C)
     (step : S → C → Option S) → S → List ℕ → Option S
-after named_state named step start file =
-    steps_from (plays named step) (says file).calls (begins named_state (says file).state start)
+state_after named_state named step start file =
+    steps_from (plays_line named step) (says file).calls (begins_with named_state (says file).state start)
 
 -- the state is the one that a text says, where one was taken from it
-abbrev pub IsTaken : {S : Type 0} → Option S → S → Bool → Type 0
-IsTaken named state true = named ≡ Some state
-IsTaken named state false = named ≡ None
+abbrev pub IsStateTaken : {S : Type 0} → Option S → S → Bool → Type 0
+IsStateTaken named state true = named ≡ Some state
+IsStateTaken named state false = named ≡ None
 
 -- The file leads to where the first some of these calls lead from a state: each is there whole, and none is
 -- skipped.

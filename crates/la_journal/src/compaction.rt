@@ -1,7 +1,7 @@
 // A journal that grew, with a state in its place.
 ghost use Rattle.std.specs.Prelude.{◌≡◌, [], false, true, Some, IfOk, IfErr, OnOk, OnErr};
 ghost use Rattle.la_journal.specs.Disk.{LeavesOnly};
-ghost use Rattle.la_journal.specs.Machine.{after, LeadsToSome, SaysState};
+ghost use Rattle.la_journal.specs.Machine.{state_after, LeadsToSome, SaysState};
 ghost use Rattle.la_journal.specs.Durable.{IsSettled, IsNotCompacted};
 ghost use Rattle.la_journal.specs.Snapshots.{IsSnapshot};
 
@@ -36,14 +36,14 @@ impl<M: Snapshot, D: Disk> Durable<M, D> {
             × SaysState M.named_state (M.state self.old.machine) (D.seen self.new.disk)) }
         ensures machine { self.new.machine ≡ self.old.machine }
         ensures leads { self.new.closed ≡ false → (start : M.State)
-            → after M.named_state M.named M.step start (D.seen self.old.disk) ≡ Some (M.state self.old.machine)
-            → after M.named_state M.named M.step start (D.seen self.new.disk) ≡ Some (M.state self.new.machine) }
+            → state_after M.named_state M.named M.step start (D.seen self.old.disk) ≡ Some (M.state self.old.machine)
+            → state_after M.named_state M.named M.step start (D.seen self.new.disk) ≡ Some (M.state self.new.machine) }
 
         // A crash at any moment leaves a file that leads to the same state.
         ensures any_moment { self.old.closed ≡ false → (start : M.State)
-            → after M.named_state M.named M.step start (D.seen self.old.disk) ≡ Some (M.state self.old.machine)
+            → state_after M.named_state M.named M.step start (D.seen self.old.disk) ≡ Some (M.state self.old.machine)
             → LeavesOnly D.moment D.left_since self.old.disk self.new.disk
-            (LeadsToSome (after M.named_state M.named M.step start) M.step [] (M.state self.old.machine)) }
+            (LeadsToSome (state_after M.named_state M.named M.step start) M.step [] (M.state self.old.machine)) }
 
         ensures open { self.new.closed ≡ false → IsSettled D.seen D.may_leave self.new.disk }
         ensures same { OnErr result (self.new.closed ≡ false → D.seen self.new.disk ≡ D.seen self.old.disk) }

@@ -1,7 +1,7 @@
 // A file as the journal sees it: what a read returns, and what a crash may leave.
 ghost use Rattle.std.specs.Prelude.{◌≡◌, ◌⊎◌, ◌++◌, ◌≤◌, ◌<◌, List, ℕ, length, IfOk, OnOk, OnErr, IsErrOf};
 ghost use Rattle.la_journal.specs.declared.disk.DiskError.TheVariants.{Memory, Failed};
-ghost use Rattle.la_journal.specs.Disk.{Only, Follows, Torn, Elapses};
+ghost use Rattle.la_journal.specs.Disk.{Only, CrashesFollow, Torn, Elapses};
 
 use std::alloc::{AllocError, AllocFailed, Global};
 use thiserror::Error;
@@ -82,7 +82,7 @@ pub trait Disk: Drop {
     fn append(&mut self, bytes: &[u8]) -> Result<(), DiskFault>
         requires { length bytes.now ≤ room self.old }
         ensures written { OnOk result (seen self.new ≡ seen self.old ++ bytes.now) }
-        ensures crash { Follows (Torn bytes.now) (may_leave self.old) (may_leave self.new) }
+        ensures crash { CrashesFollow (Torn bytes.now) (may_leave self.old) (may_leave self.new) }
         ensures time { Elapses (moment self.old) (moment self.new) (left_since self.old) (left_since self.new) (may_leave self.new) }
         ensures later { faults self.old ≤ faults self.new }
         ensures failed { OnErr result (faults self.old < faults self.new) };

@@ -2,8 +2,8 @@
 ghost use Rattle.std.specs.Prelude.{◌≡◌, ◌++◌, ◌∷◌, [], ◌<◌, ◌≤◌, length, true, false, Some, IfOk, IfErr, OnOk, OnErr};
 ghost use Rattle.la_journal.specs.Disk.{LeavesOnly, Only, MayBeTorn};
 ghost use Rattle.la_journal.specs.Lines.{lines};
-ghost use Rattle.la_journal.specs.Machine.{after, LeadsToSome};
-ghost use Rattle.la_journal.specs.Durable.{IsSettled, IsRefusal};
+ghost use Rattle.la_journal.specs.Machine.{state_after, LeadsToSome};
+ghost use Rattle.la_journal.specs.Durable.{IsSettled, IsDurableRefusal};
 
 use crate::{Disk, DiskFault, Machine};
 use std::alloc::{AllocError, Global};
@@ -53,20 +53,20 @@ impl<M: Machine, D: Disk> Durable<M, D> {
 
         // Where the journal led to the machine's state it does so again.
         ensures leads { self.new.closed ≡ false → (start : M.State)
-            → after M.named_state M.named M.step start (D.seen self.old.disk) ≡ Some (M.state self.old.machine)
-            → after M.named_state M.named M.step start (D.seen self.new.disk) ≡ Some (M.state self.new.machine) }
+            → state_after M.named_state M.named M.step start (D.seen self.old.disk) ≡ Some (M.state self.old.machine)
+            → state_after M.named_state M.named M.step start (D.seen self.new.disk) ≡ Some (M.state self.new.machine) }
 
         // And a crash at any moment of the call leaves a file that leads to the state from before it, or to
         // that after this one call.
         ensures any_moment { self.old.closed ≡ false → (start : M.State)
-            → after M.named_state M.named M.step start (D.seen self.old.disk) ≡ Some (M.state self.old.machine)
+            → state_after M.named_state M.named M.step start (D.seen self.old.disk) ≡ Some (M.state self.old.machine)
             → LeavesOnly D.moment D.left_since self.old.disk self.new.disk
-            (LeadsToSome (after M.named_state M.named M.step start) M.step (M.call input.now ∷ []) (M.state self.old.machine)) }
+            (LeadsToSome (state_after M.named_state M.named M.step start) M.step (M.call input.now ∷ []) (M.state self.old.machine)) }
 
         ensures open { self.new.closed ≡ false → IsSettled D.seen D.may_leave self.new.disk }
         ensures same { OnErr result (self.new.closed ≡ false → (D.seen self.new.disk ≡ D.seen self.old.disk)
             × (M.state self.new.machine ≡ M.state self.old.machine)) }
-        ensures cause { IfErr result (IsRefusal M.lacks_memory self.old.closed self.new.closed
+        ensures cause { IfErr result (IsDurableRefusal M.lacks_memory self.old.closed self.new.closed
             (D.faults self.old.disk) (D.faults self.new.disk)
             (M.step (M.state self.old.machine) (M.call input.now))) }
         ensures later { D.faults self.old.disk ≤ D.faults self.new.disk }

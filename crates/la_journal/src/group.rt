@@ -2,7 +2,7 @@
 ghost use Rattle.std.specs.Prelude.{◌≡◌, ◌⊎◌, ◌++◌, ◌∷◌, [], ◌+◌, ◌-◌, ◌<◌, ◌≤◌, true, false, length, take, drop, map, vec_len, vec_capacity, Some, None, IsOk, IfOk, IfErr, OnOk, OnErr};
 ghost use Rattle.la_journal.specs.Disk.{LeavesOnly};
 ghost use Rattle.la_journal.specs.Lines.{lines, file_of};
-ghost use Rattle.la_journal.specs.Machine.{calls, texts, steps, replies, after, LeadsToSome};
+ghost use Rattle.la_journal.specs.Machine.{calls, call_texts, steps, replies, state_after, LeadsToSome};
 ghost use Rattle.la_journal.specs.Durable.{IsSettled, IsStop};
 
 use crate::durable::{encode, keep};
@@ -31,7 +31,7 @@ impl<M: Machine, D: Disk> Durable<M, D> {
             (take (length answers.new.items - length answers.old.items) (calls M.call inputs.now))
             (M.state self.old.machine) }
         ensures lines { self.new.closed ≡ false → lines (D.seen self.new.disk) ≡ lines (D.seen self.old.disk)
-            ++ take (length answers.new.items - length answers.old.items) (texts M.call M.text inputs.now) }
+            ++ take (length answers.new.items - length answers.old.items) (call_texts M.call M.text inputs.now) }
         ensures state { self.new.closed ≡ false
             → steps M.step
             (take (length answers.new.items - length answers.old.items) (calls M.call inputs.now))
@@ -48,15 +48,15 @@ impl<M: Machine, D: Disk> Durable<M, D> {
 
         // Where the journal led to the machine's state it does so again.
         ensures leads { self.new.closed ≡ false → (start : M.State)
-            → after M.named_state M.named M.step start (D.seen self.old.disk) ≡ Some (M.state self.old.machine)
-            → after M.named_state M.named M.step start (D.seen self.new.disk) ≡ Some (M.state self.new.machine) }
+            → state_after M.named_state M.named M.step start (D.seen self.old.disk) ≡ Some (M.state self.old.machine)
+            → state_after M.named_state M.named M.step start (D.seen self.new.disk) ≡ Some (M.state self.new.machine) }
 
         // And a crash at any moment leaves a file that leads to where some of the inputs lead from the state
         // of before, the first ones, none skipped and none in part.
         ensures any_moment { self.old.closed ≡ false → (start : M.State)
-            → after M.named_state M.named M.step start (D.seen self.old.disk) ≡ Some (M.state self.old.machine)
+            → state_after M.named_state M.named M.step start (D.seen self.old.disk) ≡ Some (M.state self.old.machine)
             → LeavesOnly D.moment D.left_since self.old.disk self.new.disk
-            (LeadsToSome (after M.named_state M.named M.step start) M.step (calls M.call inputs.now) (M.state self.old.machine)) }
+            (LeadsToSome (state_after M.named_state M.named M.step start) M.step (calls M.call inputs.now) (M.state self.old.machine)) }
         ensures later { D.faults self.old.disk ≤ D.faults self.new.disk }
         ensures still { self.old.closed ≡ true → self.new ≡ self.old }
     {
@@ -88,7 +88,7 @@ impl<M: Machine, D: Disk> Durable<M, D> {
 
 /// The lines of these inputs, each with its end.
 fn encode_all<M: Machine>(alloc: Global, inputs: &[M::Input]) -> Result<Vec<u8>, AllocError>
-    ensures { IfOk result (λ text. text.items ≡ file_of (texts M.call M.text inputs.now)) }
+    ensures { IfOk result (λ text. text.items ≡ file_of (call_texts M.call M.text inputs.now)) }
 {
     let mut text = Vec::new(alloc);
     for input in inputs {

@@ -1,9 +1,9 @@
 // What becomes of the contents of a file.
 ghost use Rattle.std.specs.Prelude.{◌≡◌, ◌⊎◌, ◌++◌, ◌+◌, ◌≤◌, [], List, ℕ, length, vec_len, OnOk};
-ghost use Rattle.la_journal.specs.Disk.{Only, Follows, Torn, Elapses};
+ghost use Rattle.la_journal.specs.Disk.{Only, CrashesFollow, Torn, Elapses};
 ghost use Rattle.la_journal.specs.Note.{now_of};
 ghost use Rattle.la_journal.specs.Outcomes.{LeftOf, LeftAt, LeftSince};
-ghost use Rattle.la_journal.specs.Held.{bytes_of, kept_of, room_of, faults_of, moment_of, may_leave_of, left_since_of, TimeGoesOn};
+ghost use Rattle.la_journal.specs.Held.{held_bytes, synced_count, room_of, faults_of, moment_of, may_leave_of, left_since_of, TimeGoesOn};
 
 use crate::Contents;
 use crate::record::Record;
@@ -15,8 +15,8 @@ impl Contents {
     /// process may have left.
     pub fn found(bytes: Vec<u8>, kept: usize, left: Record) -> Contents
         requires { kept ≤ length bytes.items }
-        ensures bytes { bytes_of result ≡ bytes.items }
-        ensures kept { kept_of result ≡ kept }
+        ensures bytes { held_bytes result ≡ bytes.items }
+        ensures kept { synced_count result ≡ kept }
         ensures crash { (c : List ℕ) → may_leave_of result c → LeftOf kept bytes.items c ⊎ LeftAt (now_of left.events) c }
         ensures seen { may_leave_of result bytes.items }
         ensures moment { moment_of result ≡ length left.events + 1 }
@@ -35,8 +35,8 @@ impl Contents {
 
     /// A file that holds these bytes, all of them on the disk.
     pub fn stored(bytes: Vec<u8>) -> Contents
-        ensures bytes { bytes_of result ≡ bytes.items }
-        ensures kept { kept_of result ≡ length bytes.items }
+        ensures bytes { held_bytes result ≡ bytes.items }
+        ensures kept { synced_count result ≡ length bytes.items }
         ensures durable { Only bytes.items (may_leave_of result) }
         ensures seen { may_leave_of result bytes.items }
         ensures moment { moment_of result ≡ 1 }
@@ -62,15 +62,15 @@ impl Contents {
 
     /// The bytes that a read returns.
     pub fn bytes(&self) -> &[u8]
-        ensures { result.now ≡ bytes_of self.now }
+        ensures { result.now ≡ held_bytes self.now }
     {
         self.bytes.as_slice()
     }
 
     /// How many of the bytes are on the disk, the first ones.
     pub fn kept(&self) -> usize
-        ensures value { result ≡ kept_of self.now }
-        ensures within { result ≤ length (bytes_of self.now) }
+        ensures value { result ≡ synced_count self.now }
+        ensures within { result ≤ length (held_bytes self.now) }
     {
         self.kept
     }
@@ -78,7 +78,7 @@ impl Contents {
     /// Takes memory for so many bytes more.
     pub fn reserve(&mut self, more: usize) -> Result<(), AllocError>
         ensures ok { OnOk result (more ≤ room_of self.new) }
-        ensures bytes { bytes_of self.new ≡ bytes_of self.old }
+        ensures bytes { held_bytes self.new ≡ held_bytes self.old }
         ensures crash { (c : List ℕ) → may_leave_of self.new c → may_leave_of self.old c }
         ensures time { TimeGoesOn self.old self.new }
         ensures moment { moment_of self.new ≡ moment_of self.old }
@@ -90,9 +90,9 @@ impl Contents {
     /// Bytes were put behind the others, or some of them were: none of them is on the disk for sure.
     pub fn append(&mut self, bytes: &[u8])
         requires { length bytes.now ≤ room_of self.old }
-        ensures bytes { bytes_of self.new ≡ bytes_of self.old ++ bytes.now }
-        ensures kept { kept_of self.new ≡ kept_of self.old }
-        ensures crash { Follows (Torn bytes.now) (may_leave_of self.old) (may_leave_of self.new) }
+        ensures bytes { held_bytes self.new ≡ held_bytes self.old ++ bytes.now }
+        ensures kept { synced_count self.new ≡ synced_count self.old }
+        ensures crash { CrashesFollow (Torn bytes.now) (may_leave_of self.old) (may_leave_of self.new) }
         ensures time { TimeGoesOn self.old self.new }
         ensures moment { moment_of self.new ≡ moment_of self.old + 1 }
         ensures faults { faults_of self.new ≡ faults_of self.old }
@@ -103,9 +103,9 @@ impl Contents {
 
     /// All the bytes are on the disk.
     pub fn sync(&mut self)
-        ensures bytes { bytes_of self.new ≡ bytes_of self.old }
-        ensures kept { kept_of self.new ≡ length (bytes_of self.old) }
-        ensures durable { Only (bytes_of self.old) (may_leave_of self.new) }
+        ensures bytes { held_bytes self.new ≡ held_bytes self.old }
+        ensures kept { synced_count self.new ≡ length (held_bytes self.old) }
+        ensures durable { Only (held_bytes self.old) (may_leave_of self.new) }
         ensures crash { (c : List ℕ) → may_leave_of self.new c → may_leave_of self.old c }
         ensures time { TimeGoesOn self.old self.new }
         ensures moment { moment_of self.new ≡ moment_of self.old + 1 }
@@ -117,8 +117,8 @@ impl Contents {
 
     /// Other bytes stand in the place of these, all of them on the disk.
     pub fn replace(&mut self, bytes: Vec<u8>)
-        ensures bytes { bytes_of self.new ≡ bytes.items }
-        ensures kept { kept_of self.new ≡ length bytes.items }
+        ensures bytes { held_bytes self.new ≡ bytes.items }
+        ensures kept { synced_count self.new ≡ length bytes.items }
         ensures durable { Only bytes.items (may_leave_of self.new) }
         ensures time { TimeGoesOn self.old self.new }
         ensures moment { moment_of self.new ≡ moment_of self.old + 1 }
@@ -131,8 +131,8 @@ impl Contents {
 
     /// The disk failed once more.
     pub fn fail(&mut self)
-        ensures bytes { bytes_of self.new ≡ bytes_of self.old }
-        ensures kept { kept_of self.new ≡ kept_of self.old }
+        ensures bytes { held_bytes self.new ≡ held_bytes self.old }
+        ensures kept { synced_count self.new ≡ synced_count self.old }
         ensures crash { (c : List ℕ) → may_leave_of self.new c → may_leave_of self.old c }
         ensures still { (c : List ℕ) → may_leave_of self.old c → may_leave_of self.new c }
         ensures time { TimeGoesOn self.old self.new }

@@ -2,7 +2,7 @@
 ghost use Rattle.std.specs.Prelude.{◌≡◌, ◌⊎◌, List, ℕ, Option, Some, None, IfOk, IfErr, OnOk, OnErr};
 ghost use Rattle.la_journal.specs.Lines.{IsClean};
 ghost use Rattle.la_journal.specs.Journal.{IsCallLine};
-ghost use Rattle.la_journal.specs.Machine.{IsNamed, IsTaken};
+ghost use Rattle.la_journal.specs.Machine.{IsNamed, IsStateTaken};
 
 use std::alloc::{AllocError, Global};
 
@@ -62,7 +62,7 @@ pub trait Machine: Drop {
 
     /// Takes the state that a text says; `false` where it says none.
     fn read_state(&mut self, alloc: Global, bytes: &[u8]) -> Result<bool, AllocError>
-        ensures { IfOk result (λ taken. IsTaken (named_state bytes.now) (state self.new) taken) };
+        ensures { IfOk result (λ taken. IsStateTaken (named_state bytes.now) (state self.new) taken) };
 
     /// What was written is read back.
     ghost round_trip: { (c : Call) → named (text c) ≡ Some c };

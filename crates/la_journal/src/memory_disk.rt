@@ -2,7 +2,7 @@
 ghost use Rattle.std.specs.Prelude.{◌≡◌, ◌≤◌, ◌+◌, List, ℕ, length, IfOk, if◌then◌else◌};
 ghost use Rattle.la_journal.specs.Disk.{Only};
 ghost use Rattle.la_journal.specs.Outcomes.{spoilt_by, left_by};
-ghost use Rattle.la_journal.specs.Held.{bytes_of, kept_of, room_of, faults_of, moment_of};
+ghost use Rattle.la_journal.specs.Held.{held_bytes, synced_count, room_of, faults_of, moment_of};
 ghost use Rattle.la_journal.specs.Held.{may_leave_of, left_since_of, TimeGoesOn, only_now_of, counts_now_of};
 ghost use Rattle.la_journal.specs.Starts.{IsStart};
 
@@ -26,8 +26,8 @@ impl MemoryDisk {
     /// A disk whose file holds these bytes, all of them on the disk. It is not full and does not
     /// fail.
     pub fn new(alloc: Global, bytes: Vec<u8>) -> MemoryDisk
-        ensures bytes { bytes_of result.contents ≡ bytes.items }
-        ensures kept { kept_of result.contents ≡ length bytes.items }
+        ensures bytes { held_bytes result.contents ≡ bytes.items }
+        ensures kept { synced_count result.contents ≡ length bytes.items }
         ensures stored { Only bytes.items (may_leave_of result.contents) }
     {
         MemoryDisk {
@@ -56,7 +56,7 @@ impl MemoryDisk {
 
     /// The bytes that a read returns.
     pub fn bytes(&self) -> &[u8]
-        ensures { result.now ≡ bytes_of self.now.contents }
+        ensures { result.now ≡ held_bytes self.now.contents }
     {
         self.contents.bytes()
     }
@@ -71,11 +71,11 @@ impl MemoryDisk {
     /// What a crash leaves: what is on the disk, and of the rest as many bytes as there are marks for, the first ones,
     /// each as it was written, or as 0 where its mark in `spoilt` is true. All of that is on the disk that comes back.
     pub fn crash(&self, spoilt: &[bool]) -> Result<MemoryDisk, AllocError>
-        ensures bytes { IfOk result (λ left. bytes_of left.contents
-            ≡ left_by spoilt.now (kept_of self.now.contents) (bytes_of self.now.contents)) }
-        ensures kept { IfOk result (λ left. kept_of left.contents ≡ length (bytes_of left.contents)) }
-        ensures left { IfOk result (λ left. may_leave_of self.now.contents (bytes_of left.contents)) }
-        ensures stored { IfOk result (λ left. Only (bytes_of left.contents) (may_leave_of left.contents)) }
+        ensures bytes { IfOk result (λ left. held_bytes left.contents
+            ≡ left_by spoilt.now (synced_count self.now.contents) (held_bytes self.now.contents)) }
+        ensures kept { IfOk result (λ left. synced_count left.contents ≡ length (held_bytes left.contents)) }
+        ensures left { IfOk result (λ left. may_leave_of self.now.contents (held_bytes left.contents)) }
+        ensures stored { IfOk result (λ left. Only (held_bytes left.contents) (may_leave_of left.contents)) }
     {
         let left = self.left_by(spoilt)?;
         Ok(MemoryDisk::new(self.alloc, left))
@@ -86,11 +86,11 @@ impl MemoryDisk {
     /// crash leaves what this one may have left. It is not full and does not fail. Where memory is refused, or the clock
     /// has come to its end, this disk is dropped.
     pub fn restart(self, spoilt: &[bool]) -> Result<MemoryDisk, AllocError>
-        ensures bytes { IfOk result (λ found. bytes_of found.contents
-            ≡ left_by spoilt.now (kept_of self.contents) (bytes_of self.contents)) }
-        ensures kept { IfOk result (λ found. kept_of found.contents ≡ kept_of self.contents) }
+        ensures bytes { IfOk result (λ found. held_bytes found.contents
+            ≡ left_by spoilt.now (synced_count self.contents) (held_bytes self.contents)) }
+        ensures kept { IfOk result (λ found. synced_count found.contents ≡ synced_count self.contents) }
         ensures start { IfOk result (λ found. (t : ℕ) → t ≤ moment_of self.contents
-            → IsStart (λ d. bytes_of d.contents) (λ d c. may_leave_of d.contents c) (left_since_of self.contents t) found) }
+            → IsStart (λ d. held_bytes d.contents) (λ d c. may_leave_of d.contents c) (left_since_of self.contents t) found) }
         ensures crash { IfOk result (λ found. (c : List ℕ) → may_leave_of found.contents c → may_leave_of self.contents c) }
         ensures time { IfOk result (λ found. TimeGoesOn self.contents found.contents) }
     {
@@ -113,7 +113,7 @@ impl MemoryDisk {
     // The bytes that a crash leaves.
     fn left_by(&self, spoilt: &[bool]) -> Result<Vec<u8>, AllocError>
         ensures { IfOk result (λ left. left.items
-            ≡ left_by spoilt.now (kept_of self.now.contents) (bytes_of self.now.contents)) }
+            ≡ left_by spoilt.now (synced_count self.now.contents) (held_bytes self.now.contents)) }
     {
         let bytes = self.contents.bytes();
         let kept = self.contents.kept();
@@ -153,7 +153,7 @@ fn as_left(byte: u8, spoilt: bool) -> u8
 }
 
 impl Disk for MemoryDisk {
-    ghost seen = { λ d. bytes_of d.contents };
+    ghost seen = { λ d. held_bytes d.contents };
 
     ghost may_leave = { λ d c. may_leave_of d.contents c };
 

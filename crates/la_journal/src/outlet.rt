@@ -1,6 +1,6 @@
 // Where answers go.
 ghost use Rattle.std.specs.Prelude.{◌≡◌, ◌∷◌, ◌<◌, ◌≤◌, List, ℕ, OnErr};
-ghost use Rattle.la_journal.specs.Served.{Said};
+ghost use Rattle.la_journal.specs.Served.{SaidAt};
 
 use crate::{Disk, Refused};
 use thiserror::Error;
@@ -26,7 +26,7 @@ pub trait Outlet<D: Disk>: Drop {
     type Item: Drop;
 
     /// What was given out, the newest first, whole or in part.
-    ghost said: { Self → List (Said Self.Item) };
+    ghost said: { Self → List (SaidAt Self.Item) };
 
     /// How often it has failed.
     ghost faults: { Self → ℕ };

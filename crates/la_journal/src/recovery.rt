@@ -5,7 +5,7 @@ ghost use Rattle.la_journal.specs.declared.recovery.Unplayed.TheVariants.{Memory
 ghost use Rattle.la_journal.specs.Disk.{LeavesOnly};
 ghost use Rattle.la_journal.specs.Lines.{lines, file_of};
 ghost use Rattle.la_journal.specs.Journal.{says, state_in, IsDamage, IsDamaged};
-ghost use Rattle.la_journal.specs.Machine.{begins, after};
+ghost use Rattle.la_journal.specs.Machine.{begins_with, state_after};
 ghost use Rattle.la_journal.specs.Durable.{IsSettled, IsSameOr, IsCauseOf};
 
 use crate::{Disk, DiskError, Durable, Machine};
@@ -48,10 +48,10 @@ pub fn recover<M: Machine, D: Disk>(
     disk: D,
 ) -> Result<Durable<M, D>, (Unplayed<M::Refusal>, D)>
     ensures state { IfOk result (λ durable.
-        after M.named_state M.named M.step (M.state start) (D.seen disk)
+        state_after M.named_state M.named M.step (M.state start) (D.seen disk)
         ≡ Some (M.state durable.machine)) }
     ensures leads { IfOk result (λ durable.
-        after M.named_state M.named M.step (M.state start) (D.seen durable.disk)
+        state_after M.named_state M.named M.step (M.state start) (D.seen durable.disk)
         ≡ Some (M.state durable.machine)) }
     ensures settled { IfOk result (λ durable. (durable.closed ≡ false) × IsSettled D.seen D.may_leave durable.disk) }
     ensures same { IfOk result (λ durable. lines (D.seen durable.disk) ≡ lines (D.seen disk)) }
@@ -64,7 +64,7 @@ pub fn recover<M: Machine, D: Disk>(
         (IsSameOr (D.may_leave disk) (lines (D.seen disk)))) }
 
     ensures cause { IfErr result (λ e. IsCauseOf M.lacks_memory (D.faults disk) (D.faults e.1) (D.seen disk)
-        (after M.named_state M.named M.step (M.state start) (D.seen disk)) e.0) }
+        (state_after M.named_state M.named M.step (M.state start) (D.seen disk)) e.0) }
 {
     let mut machine = start;
     let mut disk = disk;
@@ -123,9 +123,9 @@ fn play<M: Machine>(
     machine: &mut M,
     bytes: &[u8],
 ) -> Result<usize, Unplayed<M::Refusal>>
-    ensures state { OnOk result (after M.named_state M.named M.step (M.state machine.old) bytes.now ≡ Some (M.state machine.new)) }
+    ensures state { OnOk result (state_after M.named_state M.named M.step (M.state machine.old) bytes.now ≡ Some (M.state machine.new)) }
     ensures end { IfOk result (λ end. (end ≤ length bytes.now) × (end ≡ length (file_of (lines bytes.now)))) }
-    ensures cause { IfErr result (IsCauseOf M.lacks_memory 0 0 [] (after M.named_state M.named M.step (M.state machine.old) bytes.now)) }
+    ensures cause { IfErr result (IsCauseOf M.lacks_memory 0 0 [] (state_after M.named_state M.named M.step (M.state machine.old) bytes.now)) }
 {
     let begun = match begin(alloc, machine, bytes) {
         Ok(begun) => begun,
@@ -159,8 +159,8 @@ fn begin<M: Machine>(
     ensures within { IfOk result (λ begun. begun ≤ length bytes.now) }
     ensures calls { IfOk result (λ begun. lines (drop begun bytes.now) ≡ (says bytes.now).calls) }
     ensures place { IfOk result (λ begun. length (file_of (lines bytes.now)) ≡ begun + length (file_of (lines (drop begun bytes.now)))) }
-    ensures state { OnOk result (begins M.named_state (says bytes.now).state (M.state machine.old) ≡ Some (M.state machine.new)) }
-    ensures cause { IfErr result (IsCauseOf M.lacks_memory 0 0 [] (begins M.named_state (says bytes.now).state (M.state machine.old))) }
+    ensures state { OnOk result (begins_with M.named_state (says bytes.now).state (M.state machine.old) ≡ Some (M.state machine.new)) }
+    ensures cause { IfErr result (IsCauseOf M.lacks_memory 0 0 [] (begins_with M.named_state (says bytes.now).state (M.state machine.old))) }
 {
     let Some(n) = first_end(bytes) else {
         return Ok(0);

@@ -2,9 +2,9 @@
 ghost use Rattle.std.specs.Prelude.{◌≡◌, ◌++◌, ◌<◌, ◌≤◌, [], false, true, length, map, take, Some, IfErr, OnOk, OnErr};
 ghost use Rattle.la_journal.specs.Disk.{LeavesOnly};
 ghost use Rattle.la_journal.specs.Lines.{lines};
-ghost use Rattle.la_journal.specs.Machine.{after, calls, group_calls, steps, replies, LeadsToSome};
+ghost use Rattle.la_journal.specs.Machine.{state_after, calls, group_calls, steps, replies, LeadsToSome};
 ghost use Rattle.la_journal.specs.Durable.{IsSettled, IsStop};
-ghost use Rattle.la_journal.specs.Served.{alone, together, unless_none, answered, given_since, Answers, KeepsAll, IsUnserved};
+ghost use Rattle.la_journal.specs.Served.{answer_alone, together, unless_none, answers_since, given_since, Answers, KeepsAnswers, IsUnserved};
 
 use crate::outlet::{Outlet, OutletFault, Unserved};
 use crate::{Disk, Durable, Machine, Refused};
@@ -25,36 +25,36 @@ pub fn serve_all<M: Machine, D: Disk, O: Outlet<D, Item = M::Output>>(
     requires settled { IsSettled D.seen D.may_leave durable.old.disk }
     requires unclosed { durable.old.closed ≡ false }
 
-    ensures answers { Answers (alone M.answer) M.step M.answers
+    ensures answers { Answers (answer_alone M.answer) M.step M.answers
         (calls M.call inputs.now) (M.state durable.old.machine) (O.said outlet.old) (O.said outlet.new) }
     ensures keeps { (start : M.State)
-        → after M.named_state M.named M.step start (D.seen durable.old.disk) ≡ Some (M.state durable.old.machine)
-        → KeepsAll (alone M.answer) (D.moment durable.new.disk) (D.left_since durable.new.disk)
-        (after M.named_state M.named M.step start) M.step
+        → state_after M.named_state M.named M.step start (D.seen durable.old.disk) ≡ Some (M.state durable.old.machine)
+        → KeepsAnswers (answer_alone M.answer) (D.moment durable.new.disk) (D.left_since durable.new.disk)
+        (state_after M.named_state M.named M.step start) M.step
         (calls M.call inputs.now) (M.state durable.old.machine) (given_since (O.said outlet.old) (O.said outlet.new)) }
     ensures any_moment { (start : M.State)
-        → after M.named_state M.named M.step start (D.seen durable.old.disk) ≡ Some (M.state durable.old.machine)
+        → state_after M.named_state M.named M.step start (D.seen durable.old.disk) ≡ Some (M.state durable.old.machine)
         → LeavesOnly D.moment D.left_since durable.old.disk durable.new.disk
-        (LeadsToSome (after M.named_state M.named M.step start) M.step
+        (LeadsToSome (state_after M.named_state M.named M.step start) M.step
         (calls M.call inputs.now) (M.state durable.old.machine)) }
 
     ensures all { OnOk result ((durable.new.closed ≡ false)
-        × (answered (alone M.answer) (O.said outlet.old) (O.said outlet.new) ≡ length inputs.now)) }
+        × (answers_since (answer_alone M.answer) (O.said outlet.old) (O.said outlet.new) ≡ length inputs.now)) }
     ensures state { durable.new.closed ≡ false
-        → let many = answered (alone M.answer) (O.said outlet.old) (O.said outlet.new) in
+        → let many = answers_since (answer_alone M.answer) (O.said outlet.old) (O.said outlet.new) in
         steps M.step (take many (calls M.call inputs.now)) (M.state durable.old.machine)
         ≡ Some (M.state durable.new.machine) }
     ensures lines { durable.new.closed ≡ false
-        → let many = answered (alone M.answer) (O.said outlet.old) (O.said outlet.new) in
+        → let many = answers_since (answer_alone M.answer) (O.said outlet.old) (O.said outlet.new) in
         lines (D.seen durable.new.disk)
         ≡ lines (D.seen durable.old.disk) ++ map M.text (take many (calls M.call inputs.now)) }
     ensures leads { durable.new.closed ≡ false → (start : M.State)
-        → after M.named_state M.named M.step start (D.seen durable.old.disk) ≡ Some (M.state durable.old.machine)
-        → after M.named_state M.named M.step start (D.seen durable.new.disk) ≡ Some (M.state durable.new.machine) }
+        → state_after M.named_state M.named M.step start (D.seen durable.old.disk) ≡ Some (M.state durable.old.machine)
+        → state_after M.named_state M.named M.step start (D.seen durable.new.disk) ≡ Some (M.state durable.new.machine) }
     ensures open { durable.new.closed ≡ false → IsSettled D.seen D.may_leave durable.new.disk }
     ensures cause { IfErr result (IsUnserved M.lacks_memory durable.new.closed
         (D.faults durable.old.disk) (D.faults durable.new.disk) (O.faults outlet.old) (O.faults outlet.new)
-        (length inputs.now) (answered (alone M.answer) (O.said outlet.old) (O.said outlet.new))
+        (length inputs.now) (answers_since (answer_alone M.answer) (O.said outlet.old) (O.said outlet.new))
         (λ many. steps M.step (take many (calls M.call inputs.now)) (M.state durable.old.machine))) }
 {
     for input in inputs {
@@ -88,33 +88,33 @@ pub fn serve_groups<M: Machine, D: Disk, O: Outlet<D, Item = Vec<M::Output>>>(
     ensures answers { Answers (together M.answer) M.step M.answers
         (group_calls M.call groups.now) (M.state durable.old.machine) (O.said outlet.old) (O.said outlet.new) }
     ensures keeps { (start : M.State)
-        → after M.named_state M.named M.step start (D.seen durable.old.disk) ≡ Some (M.state durable.old.machine)
-        → KeepsAll (together M.answer) (D.moment durable.new.disk) (D.left_since durable.new.disk)
-        (after M.named_state M.named M.step start) M.step
+        → state_after M.named_state M.named M.step start (D.seen durable.old.disk) ≡ Some (M.state durable.old.machine)
+        → KeepsAnswers (together M.answer) (D.moment durable.new.disk) (D.left_since durable.new.disk)
+        (state_after M.named_state M.named M.step start) M.step
         (group_calls M.call groups.now) (M.state durable.old.machine) (given_since (O.said outlet.old) (O.said outlet.new)) }
     ensures any_moment { (start : M.State)
-        → after M.named_state M.named M.step start (D.seen durable.old.disk) ≡ Some (M.state durable.old.machine)
+        → state_after M.named_state M.named M.step start (D.seen durable.old.disk) ≡ Some (M.state durable.old.machine)
         → LeavesOnly D.moment D.left_since durable.old.disk durable.new.disk
-        (LeadsToSome (after M.named_state M.named M.step start) M.step
+        (LeadsToSome (state_after M.named_state M.named M.step start) M.step
         (group_calls M.call groups.now) (M.state durable.old.machine)) }
 
     ensures all { OnOk result ((durable.new.closed ≡ false)
-        × (answered (together M.answer) (O.said outlet.old) (O.said outlet.new) ≡ length (group_calls M.call groups.now))) }
+        × (answers_since (together M.answer) (O.said outlet.old) (O.said outlet.new) ≡ length (group_calls M.call groups.now))) }
     ensures state { durable.new.closed ≡ false
-        → let many = answered (together M.answer) (O.said outlet.old) (O.said outlet.new) in
+        → let many = answers_since (together M.answer) (O.said outlet.old) (O.said outlet.new) in
         steps M.step (take many (group_calls M.call groups.now)) (M.state durable.old.machine)
         ≡ Some (M.state durable.new.machine) }
     ensures lines { durable.new.closed ≡ false
-        → let many = answered (together M.answer) (O.said outlet.old) (O.said outlet.new) in
+        → let many = answers_since (together M.answer) (O.said outlet.old) (O.said outlet.new) in
         lines (D.seen durable.new.disk)
         ≡ lines (D.seen durable.old.disk) ++ map M.text (take many (group_calls M.call groups.now)) }
     ensures leads { durable.new.closed ≡ false → (start : M.State)
-        → after M.named_state M.named M.step start (D.seen durable.old.disk) ≡ Some (M.state durable.old.machine)
-        → after M.named_state M.named M.step start (D.seen durable.new.disk) ≡ Some (M.state durable.new.machine) }
+        → state_after M.named_state M.named M.step start (D.seen durable.old.disk) ≡ Some (M.state durable.old.machine)
+        → state_after M.named_state M.named M.step start (D.seen durable.new.disk) ≡ Some (M.state durable.new.machine) }
     ensures open { durable.new.closed ≡ false → IsSettled D.seen D.may_leave durable.new.disk }
     ensures cause { IfErr result (IsUnserved M.lacks_memory durable.new.closed
         (D.faults durable.old.disk) (D.faults durable.new.disk) (O.faults outlet.old) (O.faults outlet.new)
-        (length (group_calls M.call groups.now)) (answered (together M.answer) (O.said outlet.old) (O.said outlet.new))
+        (length (group_calls M.call groups.now)) (answers_since (together M.answer) (O.said outlet.old) (O.said outlet.new))
         (λ many. steps M.step (take many (group_calls M.call groups.now)) (M.state durable.old.machine))) }
 {
     for group in groups {
@@ -145,9 +145,9 @@ fn take_group<M: Machine, D: Disk>(
     ensures answers { map M.answer answers.new.items ≡ replies M.step M.answers
         (take (length answers.new.items) (calls M.call inputs.now.items)) (M.state durable.old.machine) }
     ensures any_moment { (start : M.State)
-        → after M.named_state M.named M.step start (D.seen durable.old.disk) ≡ Some (M.state durable.old.machine)
+        → state_after M.named_state M.named M.step start (D.seen durable.old.disk) ≡ Some (M.state durable.old.machine)
         → LeavesOnly D.moment D.left_since durable.old.disk durable.new.disk
-        (LeadsToSome (after M.named_state M.named M.step start) M.step
+        (LeadsToSome (state_after M.named_state M.named M.step start) M.step
         (calls M.call inputs.now.items) (M.state durable.old.machine)) }
     ensures all { OnOk result ((durable.new.closed ≡ false) × (length answers.new.items ≡ length inputs.now.items)) }
     ensures closed { durable.new.closed ≡ true → length answers.new.items ≡ 0 }
@@ -157,8 +157,8 @@ fn take_group<M: Machine, D: Disk>(
     ensures lines { durable.new.closed ≡ false → lines (D.seen durable.new.disk) ≡ lines (D.seen durable.old.disk)
         ++ map M.text (take (length answers.new.items) (calls M.call inputs.now.items)) }
     ensures leads { durable.new.closed ≡ false → (start : M.State)
-        → after M.named_state M.named M.step start (D.seen durable.old.disk) ≡ Some (M.state durable.old.machine)
-        → after M.named_state M.named M.step start (D.seen durable.new.disk) ≡ Some (M.state durable.new.machine) }
+        → state_after M.named_state M.named M.step start (D.seen durable.old.disk) ≡ Some (M.state durable.old.machine)
+        → state_after M.named_state M.named M.step start (D.seen durable.new.disk) ≡ Some (M.state durable.new.machine) }
     ensures open { durable.new.closed ≡ false → IsSettled D.seen D.may_leave durable.new.disk }
     ensures later { D.faults durable.old.disk ≤ D.faults durable.new.disk }
     ensures cause { IfErr result (IsStop M.lacks_memory false durable.new.closed

@@ -2,7 +2,7 @@
 ghost use Rattle.std.specs.Prelude.{◌≡◌, ◌++◌, ◌∷◌, [], ◌<◌, ◌≤◌, ◌⊎◌, List, ℕ, length, map, true, false, Some, IfOk, IfErr, OnOk, OnErr};
 ghost use Rattle.la_journal.specs.Disk.{LeavesOnly, Elapses};
 ghost use Rattle.la_journal.specs.Lines.{lines, file_of};
-ghost use Rattle.la_journal.specs.Machine.{after, steps, LeadsToSome};
+ghost use Rattle.la_journal.specs.Machine.{state_after, steps, LeadsToSome};
 ghost use Rattle.la_journal.specs.Durable.{IsSettled};
 ghost use Rattle.la_journal.specs.Staging.{IsStageRefusal, IsNotCommitted};
 
@@ -114,16 +114,16 @@ impl<M: Machine, D: Disk> Staged<M, D> {
 
         // The journal leads on by the calls whose lines were staged.
         ensures leads { OnOk result ((start before : M.State) (calls : List M.Call)
-            → after M.named_state M.named M.step start (D.seen self.old.durable.disk) ≡ Some before
+            → state_after M.named_state M.named M.step start (D.seen self.old.durable.disk) ≡ Some before
             → lines self.old.text.items ≡ map M.text calls
-            → after M.named_state M.named M.step start (D.seen self.new.durable.disk) ≡ steps M.step calls before) }
+            → state_after M.named_state M.named M.step start (D.seen self.new.durable.disk) ≡ steps M.step calls before) }
 
         // And a crash at any moment leaves a file that leads on by the first some of them.
         ensures any_moment { self.old.durable.closed ≡ false → (start before : M.State) (calls : List M.Call)
-            → after M.named_state M.named M.step start (D.seen self.old.durable.disk) ≡ Some before
+            → state_after M.named_state M.named M.step start (D.seen self.old.durable.disk) ≡ Some before
             → lines self.old.text.items ≡ map M.text calls
             → LeavesOnly D.moment D.left_since self.old.durable.disk self.new.durable.disk
-            (LeadsToSome (after M.named_state M.named M.step start) M.step calls before) }
+            (LeadsToSome (state_after M.named_state M.named M.step start) M.step calls before) }
     {
         if self.durable.closed {
             return Err(Uncommitted::Closed);

@@ -1,9 +1,9 @@
 // A start on what a dead process left.
 ghost use Rattle.std.specs.Prelude.{◌≡◌, ◌≤◌, ℕ, List, false, Some, IfOk, IfErr};
-ghost use Rattle.la_journal.specs.Machine.{after};
+ghost use Rattle.la_journal.specs.Machine.{state_after};
 ghost use Rattle.la_journal.specs.Durable.{IsSettled, IsCauseOf};
 ghost use Rattle.la_journal.specs.Outcomes.{left_by};
-ghost use Rattle.la_journal.specs.Held.{bytes_of, kept_of, moment_of, may_leave_of, left_since_of};
+ghost use Rattle.la_journal.specs.Held.{held_bytes, synced_count, moment_of, may_leave_of, left_since_of};
 ghost use Rattle.la_journal.specs.Served.{LeadsToAtLeast};
 
 use crate::{Durable, Machine, MemoryDisk, Unplayed, recover};
@@ -20,24 +20,24 @@ pub fn start_again<M: Machine>(
     spoilt: &[bool],
     start: M,
 ) -> Result<Durable<M, MemoryDisk>, Unplayed<M::Refusal>>
-    ensures state { IfOk result (λ node. after M.named_state M.named M.step (M.state start)
-        (left_by spoilt.now (kept_of dead.contents) (bytes_of dead.contents)) ≡ Some (M.state node.machine)) }
-    ensures leads { IfOk result (λ node. after M.named_state M.named M.step (M.state start)
-        (bytes_of node.disk.contents) ≡ Some (M.state node.machine)) }
+    ensures state { IfOk result (λ node. state_after M.named_state M.named M.step (M.state start)
+        (left_by spoilt.now (synced_count dead.contents) (held_bytes dead.contents)) ≡ Some (M.state node.machine)) }
+    ensures leads { IfOk result (λ node. state_after M.named_state M.named M.step (M.state start)
+        (held_bytes node.disk.contents) ≡ Some (M.state node.machine)) }
     ensures ready { IfOk result (λ node. (node.closed ≡ false)
-        × IsSettled (λ d. bytes_of d.contents) (λ d c. may_leave_of d.contents c) node.disk) }
+        × IsSettled (λ d. held_bytes d.contents) (λ d c. may_leave_of d.contents c) node.disk) }
     ensures keeps { (t k : ℕ) (first : M.State) (calls : List M.Call) → t ≤ moment_of dead.contents
         → ((c : List ℕ) → left_since_of dead.contents t c
-        → LeadsToAtLeast (after M.named_state M.named M.step (M.state start)) M.step k calls first c)
+        → LeadsToAtLeast (state_after M.named_state M.named M.step (M.state start)) M.step k calls first c)
         → IfOk result (λ node.
-        LeadsToAtLeast (after M.named_state M.named M.step (M.state start)) M.step k calls first
-        (bytes_of node.disk.contents)
+        LeadsToAtLeast (state_after M.named_state M.named M.step (M.state start)) M.step k calls first
+        (held_bytes node.disk.contents)
         × ((c : List ℕ) → left_since_of node.disk.contents t c
-        → LeadsToAtLeast (after M.named_state M.named M.step (M.state start)) M.step k calls first c)) }
+        → LeadsToAtLeast (state_after M.named_state M.named M.step (M.state start)) M.step k calls first c)) }
     ensures cause { IfErr result (IsCauseOf M.lacks_memory 0 1
-        (left_by spoilt.now (kept_of dead.contents) (bytes_of dead.contents))
-        (after M.named_state M.named M.step (M.state start)
-        (left_by spoilt.now (kept_of dead.contents) (bytes_of dead.contents)))) }
+        (left_by spoilt.now (synced_count dead.contents) (held_bytes dead.contents))
+        (state_after M.named_state M.named M.step (M.state start)
+        (left_by spoilt.now (synced_count dead.contents) (held_bytes dead.contents)))) }
 {
     let Ok(found) = dead.restart(spoilt) else {
         return Err(Unplayed::Memory);

@@ -13,8 +13,8 @@ use Rattle.la_object.specs.IdOrder.{id_cmp, Elements, IdSet}
 use Rattle.la_object.specs.OrSet.{with_element, with_ids}
 use Rattle.la_object.proofs.lemmas.IdOrder.{id_cmp_total, id_cmp-IsAntisymmetric}
 use Rattle.la_object.proofs.lemmas.IdMaps.{same_ids, contains-with_ids, nothing_new}
-use Rattle.la_orset.specs.Index.{Index, tags_or, tags_at, is_tag, HasTags, IsIndex}
-use Rattle.la_orset.specs.Rows.{Known, named, live_element}
+use Rattle.la_orset.specs.Index.{Index, tags_or, index_tags, is_tag, HasTags, IsIndex}
+use Rattle.la_orset.specs.Rows.{KnownRow, named_known, live_element}
 use Rattle.la_orset.specs.Puts.{PutMap, adds_of, named_of, gone_of, with_named, is_one, KeepsEarly, NamesPut, AreGone}
 use Rattle.la_orset.proofs.Sets.{contains-put, contains-taken}
 use Rattle.la_orset.proofs.Held.{with_element-new, with_element-there, put_gone, put_live, named_none, named_some}
@@ -24,7 +24,7 @@ use Rattle.la_orset.proofs.ById.{element_of, is_gone, get-adds, contains-named, 
 same_id : (q id : UpdateId) → eq_by_cmp id_cmp q id ≡ true → q ≡ id
 same_id q id is = id_cmp-IsAntisymmetric q id ((Equal-is (id_cmp q id)).0 is)
 
-has-element : (o : Option Known) → is_some (element_of o) ≡ is_some o
+has-element : (o : Option KnownRow) → is_some (element_of o) ≡ is_some o
 has-element None = refl
 has-element (Some k) = refl
 
@@ -35,7 +35,7 @@ contains-gone early puts q =
 
 -- ## A Put
 
-module _ (puts : PutMap) (id : UpdateId) (k : Known) where
+module _ (puts : PutMap) (id : UpdateId) (k : KnownRow) where
   adds_insert : adds_of (map.insert puts id k) ≡ map.insert (adds_of puts) id k.element
   adds_insert = map.same_map id_cmp_total id_cmp-IsAntisymmetric _ _ (λ q.
       get-adds (map.insert puts id k) q ∙ ap element_of (map.get-insert id_cmp_total puts id k q)
@@ -103,7 +103,7 @@ module _ (puts : PutMap) (id : UpdateId) (k : Known) where
         stays_in = contains-gone early puts id ∙ (λ i. not_early i || is_gone (none_of (map.get puts id) new i))
 
         pub index_live : (mid : Index) → k.gone ≡ false
-            → HasTags old k.element (map.insert (tags_at old k.element) id tt) mid
+            → HasTags old k.element (map.insert (index_tags old k.element) id tt) mid
             → IsIndex (adds_of (map.insert puts id k)) (gone_of early (map.insert puts id k)) mid
         index_live mid stays has =
             subst (λ a. IsIndex a (gone_of early (map.insert puts id k)) mid) (sym adds_insert)
@@ -117,15 +117,15 @@ there_adds puts id x there =
 
 -- a tag that was put in is taken out again
 pub index_back : (adds : Elements) (gone : IdSet) (id : UpdateId) (x : ℕ) (old mid new : Index) → IsIndex adds gone old
-    → map.get adds id ≡ None → HasTags old x (map.insert (tags_at old x) id tt) mid
-    → HasTags mid x (map.remove (tags_at mid x) id) new → IsIndex adds gone new
+    → map.get adds id ≡ None → HasTags old x (map.insert (index_tags old x) id tt) mid
+    → HasTags mid x (map.remove (index_tags mid x) id) new → IsIndex adds gone new
 index_back adds gone id x old mid new indexed none put taken y q =
     ap (λ t. map.contains_key t q) (taken y) ∙ by (y == x) refl
   where
     was : is_tag gone x id (map.get adds id) ≡ false
     was = ap (is_tag gone x id) none
 
-    here : (b c : Bool) → eq_by_cmp id_cmp q id ≡ b → map.contains_key (tags_at old x) q ≡ c → (not b && (b || c)) ≡ c
+    here : (b c : Bool) → eq_by_cmp id_cmp q id ≡ b → map.contains_key (index_tags old x) q ≡ c → (not b && (b || c)) ≡ c
     here true c is has =
         sym (sym has ∙ indexed x q ∙ ap (λ p. is_tag gone x p (map.get adds p)) (same_id q id is) ∙ was)
     here false c is has = refl
@@ -134,17 +134,17 @@ index_back adds gone id x old mid new indexed none put taken y q =
     itself = eq-eqb x x refl
 
     by : (b : Bool) → y == x ≡ b
-        → map.contains_key (cond b (map.remove (tags_at mid x) id) (tags_at mid y)) q ≡ is_tag gone y q (map.get adds q)
+        → map.contains_key (cond b (map.remove (index_tags mid x) id) (index_tags mid y)) q ≡ is_tag gone y q (map.get adds q)
     by true is =
-        contains-taken id_cmp_total id_cmp-IsAntisymmetric (tags_at mid x) id q
+        contains-taken id_cmp_total id_cmp-IsAntisymmetric (index_tags mid x) id q
         ∙ ap (λ t. not (eq_by_cmp id_cmp q id) && map.contains_key t q)
-        (put x ∙ ap (λ b. cond b (map.insert (tags_at old x) id tt) (tags_at old x)) itself)
+        (put x ∙ ap (λ b. cond b (map.insert (index_tags old x) id tt) (index_tags old x)) itself)
         ∙ ap (λ b. not (eq_by_cmp id_cmp q id) && b)
-        (contains-put id_cmp_total id_cmp-IsAntisymmetric (tags_at old x) id q)
-        ∙ here (eq_by_cmp id_cmp q id) (map.contains_key (tags_at old x) q) refl refl
+        (contains-put id_cmp_total id_cmp-IsAntisymmetric (index_tags old x) id q)
+        ∙ here (eq_by_cmp id_cmp q id) (map.contains_key (index_tags old x) q) refl refl
         ∙ indexed x q ∙ ap (λ z. is_tag gone z q (map.get adds q)) (sym (eqb-true y x is))
     by false is =
-        ap (λ t. map.contains_key t q) (put y ∙ ap (λ b. cond b (map.insert (tags_at old x) id tt) (tags_at old y)) is)
+        ap (λ t. map.contains_key t q) (put y ∙ ap (λ b. cond b (map.insert (index_tags old x) id tt) (index_tags old y)) is)
         ∙ indexed y q
 
 -- ## A Remove
@@ -153,20 +153,20 @@ pub adds_named : (puts : PutMap) (id : UpdateId) → adds_of (with_named puts id
 adds_named puts id = map.same_map id_cmp_total id_cmp-IsAntisymmetric _ _ (λ q.
     get-adds (with_named puts id) q ∙ ap element_of (get-named puts id q) ∙ by q (eq_by_cmp id_cmp q id) refl ∙ sym (get-adds puts q))
   where
-    same : (o : Option Known) → element_of (named o) ≡ element_of o
+    same : (o : Option KnownRow) → element_of (named_known o) ≡ element_of o
     same None = refl
     same (Some k) = refl
 
     by : (q : UpdateId) (b : Bool) → eq_by_cmp id_cmp q id ≡ b
-        → element_of (cond b (named (map.get puts id)) (map.get puts q)) ≡ element_of (map.get puts q)
+        → element_of (cond b (named_known (map.get puts id)) (map.get puts q)) ≡ element_of (map.get puts q)
     by q true is = same (map.get puts id) ∙ ap (λ p. element_of (map.get puts p)) (sym (same_id q id is))
     by q false is = refl
 
-named-gone : (o : Option Known) → is_gone (named o) ≡ is_some o
+named-gone : (o : Option KnownRow) → is_gone (named_known o) ≡ is_some o
 named-gone None = refl
 named-gone (Some k) = refl
 
-named-there : (o : Option Known) → is_some (named o) ≡ is_some o
+named-there : (o : Option KnownRow) → is_some (named_known o) ≡ is_some o
 named-there None = refl
 named-there (Some k) = refl
 
@@ -175,7 +175,7 @@ contains-with_named : (puts : PutMap) (id q : UpdateId)
 contains-with_named puts id q = ap is_some (get-named puts id q) ∙ by (eq_by_cmp id_cmp q id) refl
   where
     by : (b : Bool) → eq_by_cmp id_cmp q id ≡ b
-        → is_some (cond b (named (map.get puts id)) (map.get puts q)) ≡ is_some (map.get puts q)
+        → is_some (cond b (named_known (map.get puts id)) (map.get puts q)) ≡ is_some (map.get puts q)
     by true is = named-there (map.get puts id) ∙ ap (λ p. is_some (map.get puts p)) (sym (same_id q id is))
     by false is = refl
 
@@ -186,7 +186,7 @@ gone-with_named puts id q =
     contains-named (with_named puts id) q ∙ ap is_gone (get-named puts id q) ∙ by (eq_by_cmp id_cmp q id) refl
     ∙ ap (λ b. b || (eq_by_cmp id_cmp q id && map.contains_key puts q)) (sym (contains-named puts q))
   where
-    gone-there : (o : Option Known) → is_some o ≡ (is_gone o || (true && is_some o))
+    gone-there : (o : Option KnownRow) → is_some o ≡ (is_gone o || (true && is_some o))
     gone-there None = refl
     gone-there (Some k) = elim k.gone as (λ b. true ≡ (b || (true && true))) [ true ↦ refl | false ↦ refl ]
 
@@ -195,7 +195,7 @@ gone-with_named puts id q =
     or_false false = refl
 
     by : (b : Bool) → eq_by_cmp id_cmp q id ≡ b
-        → is_gone (cond b (named (map.get puts id)) (map.get puts q))
+        → is_gone (cond b (named_known (map.get puts id)) (map.get puts q))
         ≡ (is_gone (map.get puts q) || (b && map.contains_key puts q))
     by true is =
         named-gone (map.get puts id) ∙ ap (λ p. is_some (map.get puts p)) (sym (same_id q id is))
@@ -290,7 +290,7 @@ pub index_none : (puts : PutMap) (gone : IdSet) (id : UpdateId) (index : Index) 
     → IsIndex (adds_of puts) (set.insert gone id) index
 index_none puts gone id index are none indexed = by (map.get puts id) refl none
   where
-    by : (o : Option Known) → map.get puts id ≡ o → live_element o ≡ None
+    by : (o : Option KnownRow) → map.get puts id ≡ o → live_element o ≡ None
         → IsIndex (adds_of puts) (set.insert gone id) index
     by None is h = named_none (adds_of puts) gone id index indexed (get-adds puts id ∙ ap element_of is)
     by (Some k) is h =
@@ -303,12 +303,12 @@ index_none puts gone id index are none indexed = by (map.get puts id) refl none
 
 -- the id of an element's tag
 pub index_some : (puts : PutMap) (gone : IdSet) (id : UpdateId) (x : ℕ) (old new : Index)
-    → live_element (map.get puts id) ≡ Some x → HasTags old x (map.remove (tags_at old x) id) new
+    → live_element (map.get puts id) ≡ Some x → HasTags old x (map.remove (index_tags old x) id) new
     → IsIndex (adds_of puts) gone old → IsIndex (adds_of puts) (set.insert gone id) new
 index_some puts gone id x old new is has indexed =
     named_some (adds_of puts) gone id old indexed x new (get-adds puts id ∙ put (map.get puts id) is) has
   where
-    put : (o : Option Known) → live_element o ≡ Some x → element_of o ≡ Some x
+    put : (o : Option KnownRow) → live_element o ≡ Some x → element_of o ≡ Some x
     put None h = absurd (none-some x h)
     put (Some k) h = by k.gone h
       where
@@ -319,9 +319,9 @@ index_some puts gone id x old new is has indexed =
 -- what is named now is gone then
 pub are_gone_more : (puts : PutMap) (id : UpdateId) (gone : IdSet) → AreGone (named_of puts) gone
     → AreGone (named_of (with_named puts id)) (set.insert gone id)
-are_gone_more puts id gone are q named =
+are_gone_more puts id gone are q named_known =
     set.contains-insert id_cmp_total gone id q
-    ∙ by (eq_by_cmp id_cmp q id) (set.contains (named_of puts) q) refl (sym (gone-with_named puts id q) ∙ named)
+    ∙ by (eq_by_cmp id_cmp q id) (set.contains (named_of puts) q) refl (sym (gone-with_named puts id q) ∙ named_known)
   where
     by : (e n : Bool) → set.contains (named_of puts) q ≡ n → (n || (e && map.contains_key puts q)) ≡ true
         → (e || set.contains gone q) ≡ true
@@ -330,8 +330,8 @@ are_gone_more puts id gone are q named =
     by false false is h = absurd (false≢true h)
 
 pub are_gone_first : (early : IdSet) (puts : PutMap) → AreGone (named_of puts) (gone_of early puts)
-are_gone_first early puts q named =
-    set.contains-union id_cmp_total early (named_of puts) q ∙ ap (λ b. set.contains early q || b) named
+are_gone_first early puts q named_known =
+    set.contains-union id_cmp_total early (named_of puts) q ∙ ap (λ b. set.contains early q || b) named_known
     ∙ or_true (set.contains early q)
   where
     or_true : (b : Bool) → (b || true) ≡ true
@@ -340,7 +340,7 @@ are_gone_first early puts q named =
 
 -- a new id is no live tag
 pub no_tag : (adds : Elements) (gone : IdSet) (id : UpdateId) (x : ℕ) (index : Index) → IsIndex adds gone index
-    → map.get adds id ≡ None → map.contains_key (tags_at index x) id ≡ false
+    → map.get adds id ≡ None → map.contains_key (index_tags index x) id ≡ false
 no_tag adds gone id x index indexed none = indexed x id ∙ ap (is_tag gone x id) none
 
 -- ## Nothing
@@ -357,7 +357,7 @@ gone_empty = same_ids _ _ (λ q.
 pub index_empty : (puts : PutMap) (gone : IdSet) (index : Index) → puts ≡ map.empty → index ≡ map.empty
     → IsIndex (adds_of puts) gone index
 index_empty puts gone index no_puts none x id =
-    ap (λ i. map.contains_key (tags_at i x) id) none
+    ap (λ i. map.contains_key (index_tags i x) id) none
     ∙ ap (λ g. map.contains_key (tags_or g) id) (map.get-empty nat_cmp x)
     ∙ ap is_some (map.get-empty id_cmp id)
     ∙ sym
@@ -368,7 +368,7 @@ pub no_adds : (puts : PutMap) → adds_of puts ≡ map.empty → puts ≡ map.em
 no_adds puts h = map.same_map id_cmp_total id_cmp-IsAntisymmetric _ _ (λ q.
     by (map.get puts q) (sym (get-adds puts q) ∙ ap (λ m. map.get m q) h ∙ map.get-empty id_cmp q) ∙ sym (map.get-empty id_cmp q))
   where
-    by : (o : Option Known) → element_of o ≡ None → o ≡ None
+    by : (o : Option KnownRow) → element_of o ≡ None → o ≡ None
     by None e = refl
     by (Some k) e = absurd (none-some k.element (sym e))
 

@@ -16,31 +16,31 @@ use Rattle.la_object.specs.IdOrder.{id_cmp}
 use Rattle.la_object.proofs.lemmas.IdOrder.{id_cmp_total, id_cmp-IsAntisymmetric}
 use Rattle.la_object.proofs.lemmas.Sorted.{passes, any-find, any-keys, get-lookup}
 use Rattle.la_orset.specs.declared.rows.Row.{Row}
-use Rattle.la_orset.specs.Index.{id_eq}
-use Rattle.la_orset.specs.Rows.{Known, known, at_number, named, IsPut}
+use Rattle.la_orset.specs.Index.{same_id}
+use Rattle.la_orset.specs.Rows.{KnownRow, known_row, at_number, named_known, IsPut}
 use Rattle.la_orset.specs.Puts.{PutMap, adds_of, named_of, named_at, with_named, row_entry, entries_from}
 use Rattle.la_orset.proofs.Hashed.{id_test, id_tests}
 
-abbrev pub element_of : Option Known → Option ℕ
+abbrev pub element_of : Option KnownRow → Option ℕ
 element_of o = option_map (λ k. k.element) o
 
-abbrev pub is_gone : Option Known → Bool
+abbrev pub is_gone : Option KnownRow → Bool
 is_gone None = false
 is_gone (Some k) = k.gone
 
 -- ## Elements and named ids, found by id
 
-get-mapped : (q : UpdateId) (es : List (UpdateId × Known))
-    → lookup (is_at (id_cmp q)) (list_map (λ (e : UpdateId × Known). (e.0, e.1.element)) es)
+get-mapped : (q : UpdateId) (es : List (UpdateId × KnownRow))
+    → lookup (is_at (id_cmp q)) (list_map (λ (e : UpdateId × KnownRow). (e.0, e.1.element)) es)
     ≡ element_of (find id_cmp q es)
 get-mapped q [] = refl
 get-mapped q (e ∷ es) = by (is_eq (id_cmp q e.0)) (get-mapped q es)
   where
     by : (b : Bool)
-        → lookup (is_at (id_cmp q)) (list_map (λ (e : UpdateId × Known). (e.0, e.1.element)) es)
+        → lookup (is_at (id_cmp q)) (list_map (λ (e : UpdateId × KnownRow). (e.0, e.1.element)) es)
         ≡ element_of (find id_cmp q es)
         → cond b (Some e.1.element)
-        (lookup (is_at (id_cmp q)) (list_map (λ (e : UpdateId × Known). (e.0, e.1.element)) es))
+        (lookup (is_at (id_cmp q)) (list_map (λ (e : UpdateId × KnownRow). (e.0, e.1.element)) es))
         ≡ element_of (cond b (Some e.1) (find id_cmp q es))
     by true rest = refl
     by false rest = rest
@@ -49,7 +49,7 @@ pub get-adds : (puts : PutMap) (q : UpdateId) → map.get (adds_of puts) q ≡ e
 get-adds puts q =
     get-lookup id_cmp_total _ q ∙ get-mapped q (map.entries puts) ∙ ap element_of (sym (map.get-entries puts q))
 
-passes-gone : (o : Option Known) → passes (λ k. k.gone) o ≡ is_gone o
+passes-gone : (o : Option KnownRow) → passes (λ k. k.gone) o ≡ is_gone o
 passes-gone None = refl
 passes-gone (Some k) = refl
 
@@ -62,7 +62,7 @@ contains-named puts q =
 
 -- ## Columns
 
-abbrev pub at_column : List (List Row) → ℕ → ℕ → Option Known
+abbrev pub at_column : List (List Row) → ℕ → ℕ → Option KnownRow
 at_column [] k n = None
 at_column (rows ∷ more) zero n = at_number rows n
 at_column (rows ∷ more) (suc k) n = at_column more k n
@@ -83,46 +83,46 @@ lookup-append t (e ∷ es) fs =
     (λ b. cond b (Some e.1) (lookup t (es ++ fs)) ≡ or_else (cond b (Some e.1) (lookup t es)) (lookup t fs))
     [ true ↦ refl | false ↦ lookup-append t es fs ]
 
-either_none : (b : Bool) → ◌≡◌ {A = Option Known} None (cond b None None)
+either_none : (b : Bool) → ◌≡◌ {A = Option KnownRow} None (cond b None None)
 either_none true = refl
 either_none false = refl
 
 pub lookup-rows : (r : ℕ) (rows : List Row) (q : UpdateId)
-    → lookup (id_eq q) (list_map (row_entry r) rows) ≡ cond (eqb q.replica r) (at_number rows q.number) None
+    → lookup (same_id q) (list_map (row_entry r) rows) ≡ cond (eqb q.replica r) (at_number rows q.number) None
 lookup-rows r [] q = either_none (eqb q.replica r)
 lookup-rows r (row ∷ rows) q = by (eqb q.replica r) (eqb q.number row.number) (lookup-rows r rows q)
   where
-    by : (b c : Bool) → lookup (id_eq q) (list_map (row_entry r) rows) ≡ cond b (at_number rows q.number) None
-        → cond (b && c) (Some (known row)) (lookup (id_eq q) (list_map (row_entry r) rows))
-        ≡ cond b (cond c (Some (known row)) (at_number rows q.number)) None
+    by : (b c : Bool) → lookup (same_id q) (list_map (row_entry r) rows) ≡ cond b (at_number rows q.number) None
+        → cond (b && c) (Some (known_row row)) (lookup (same_id q) (list_map (row_entry r) rows))
+        ≡ cond b (cond c (Some (known_row row)) (at_number rows q.number)) None
     by true true rest = refl
     by true false rest = rest
     by false c rest = rest
 
 module _ (q : UpdateId) where
-  beyond : (r : ℕ) (columns : List (List Row)) → q.replica < r → lookup (id_eq q) (entries_from r columns) ≡ None
+  beyond : (r : ℕ) (columns : List (List Row)) → q.replica < r → lookup (same_id q) (entries_from r columns) ≡ None
   beyond r [] lt = refl
   beyond r (rows ∷ more) lt =
       let apart : eqb q.replica r ≡ false = grind (arith, nat_tests) in
-      lookup-append (id_eq q) (list_map (row_entry r) rows) (entries_from (suc r) more)
-      ∙ ap (λ o. or_else o (lookup (id_eq q) (entries_from (suc r) more)))
+      lookup-append (same_id q) (list_map (row_entry r) rows) (entries_from (suc r) more)
+      ∙ ap (λ o. or_else o (lookup (same_id q) (entries_from (suc r) more)))
       (lookup-rows r rows q ∙ ap (λ b. cond b (at_number rows q.number) None) apart)
       ∙ beyond (suc r) more (omega (arith, lt))
 
   pub found_from : (r : ℕ) (columns : List (List Row)) (k : ℕ) → q.replica ≡ r + k
-      → lookup (id_eq q) (entries_from r columns) ≡ at_column columns k q.number
+      → lookup (same_id q) (entries_from r columns) ≡ at_column columns k q.number
   found_from r [] k is = refl
   found_from r (rows ∷ more) zero is =
       let here : eqb q.replica r ≡ true = grind (arith, nat_tests) in
-      lookup-append (id_eq q) (list_map (row_entry r) rows) (entries_from (suc r) more)
-      ∙ ap (λ o. or_else o (lookup (id_eq q) (entries_from (suc r) more)))
+      lookup-append (same_id q) (list_map (row_entry r) rows) (entries_from (suc r) more)
+      ∙ ap (λ o. or_else o (lookup (same_id q) (entries_from (suc r) more)))
       (lookup-rows r rows q ∙ ap (λ b. cond b (at_number rows q.number) None) here)
       ∙ ap (or_else (at_number rows q.number)) (beyond (suc r) more (omega (arith, is)))
       ∙ or_none (at_number rows q.number)
   found_from r (rows ∷ more) (suc k) is =
       let apart : eqb q.replica r ≡ false = grind (arith, nat_tests) in
-      lookup-append (id_eq q) (list_map (row_entry r) rows) (entries_from (suc r) more)
-      ∙ ap (λ o. or_else o (lookup (id_eq q) (entries_from (suc r) more)))
+      lookup-append (same_id q) (list_map (row_entry r) rows) (entries_from (suc r) more)
+      ∙ ap (λ o. or_else o (lookup (same_id q) (entries_from (suc r) more)))
       (lookup-rows r rows q ∙ ap (λ b. cond b (at_number rows q.number) None) apart)
       ∙ found_from (suc r) more k (omega (arith, is))
 
@@ -166,7 +166,7 @@ column-set (c ∷ more) (suc k) (suc j) n rows lt =
     column-set more k j n rows (omega (arith, lt)) ∙ ap (λ b. cond b (at_number rows n) (at_column more j n)) less
 
 -- one column differs, at one number
-pub get-changed : (columns : List (List Row)) (id : UpdateId) (rows : List Row) (given : Option Known)
+pub get-changed : (columns : List (List Row)) (id : UpdateId) (rows : List Row) (given : Option KnownRow)
     → id.replica < length columns → IsPut (get_or columns id.replica []) id.number given rows → (q : UpdateId)
     → map.get (put_map (list_set columns id.replica rows)) q
     ≡ cond (eq_by_cmp id_cmp q id) given (map.get (put_map columns) q)
@@ -191,25 +191,25 @@ get-changed columns id rows given lt put q =
 -- ## Changes, by id
 
 pub get-named : (puts : PutMap) (id q : UpdateId)
-    → map.get (with_named puts id) q ≡ cond (eq_by_cmp id_cmp q id) (named (map.get puts id)) (map.get puts q)
+    → map.get (with_named puts id) q ≡ cond (eq_by_cmp id_cmp q id) (named_known (map.get puts id)) (map.get puts q)
 get-named puts id q = by (map.get puts id) refl (eq_by_cmp id_cmp q id) refl
   where
-    by : (o : Option Known) → map.get puts id ≡ o → (b : Bool) → eq_by_cmp id_cmp q id ≡ b
-        → map.get (named_at puts id o) q ≡ cond b (named o) (map.get puts q)
+    by : (o : Option KnownRow) → map.get puts id ≡ o → (b : Bool) → eq_by_cmp id_cmp q id ≡ b
+        → map.get (named_at puts id o) q ≡ cond b (named_known o) (map.get puts q)
     by None is true here = ap (map.get puts) (id_cmp-IsAntisymmetric q id ((Equal-is (id_cmp q id)).0 here)) ∙ is
     by None is false here = refl
     by (Some k) is b here = map.get-insert id_cmp_total puts id (record { element = k.element; gone = true }) q ∙ ap (λ b. cond b (Some (record { element = k.element; gone = true })) (map.get puts q)) here
 
 pub named_columns : (columns : List (List Row)) (id : UpdateId) (rows : List Row) → id.replica < length columns
-    → IsPut (get_or columns id.replica []) id.number (named (at_number (get_or columns id.replica []) id.number)) rows
+    → IsPut (get_or columns id.replica []) id.number (named_known (at_number (get_or columns id.replica []) id.number)) rows
     → put_map (list_set columns id.replica rows) ≡ with_named (put_map columns) id
 named_columns columns id rows lt put = map.same_map id_cmp_total id_cmp-IsAntisymmetric _ _ (λ q.
     get-changed columns id rows _ lt put q
-    ∙ ap (λ o. cond (eq_by_cmp id_cmp q id) (named o) (map.get (put_map columns) q))
+    ∙ ap (λ o. cond (eq_by_cmp id_cmp q id) (named_known o) (map.get (put_map columns) q))
     (sym (get-column columns id ∙ column-or columns id.replica id.number))
     ∙ sym (get-named (put_map columns) id q))
 
-pub put_columns : (columns : List (List Row)) (id : UpdateId) (rows : List Row) (k : Known)
+pub put_columns : (columns : List (List Row)) (id : UpdateId) (rows : List Row) (k : KnownRow)
     → id.replica < length columns → IsPut (get_or columns id.replica []) id.number (Some k) rows
     → put_map (list_set columns id.replica rows) ≡ map.insert (put_map columns) id k
 put_columns columns id rows k lt put = map.same_map id_cmp_total id_cmp-IsAntisymmetric _ _ (λ q.

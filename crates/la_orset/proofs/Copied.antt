@@ -18,8 +18,8 @@ use Rattle.std.proofs.Math.Seq.{drop-cons}
 use Rattle.std.proofs.lemmas.List.{drop_all, get_or_default}
 use Rattle.la_object.proofs.lemmas.Sorted.{get-lookup}
 use Rattle.la_orset.specs.declared.rows.Row.{Row}
-use Rattle.la_orset.specs.Index.{id_eq}
-use Rattle.la_orset.specs.Rows.{Known, known, at_number, IsAscending}
+use Rattle.la_orset.specs.Index.{same_id}
+use Rattle.la_orset.specs.Rows.{KnownRow, known_row, at_number, IsAscending}
 use Rattle.la_orset.specs.Puts.{adds_of, gone_of, row_entry, entries_from, all_added, all_gone}
 use Rattle.la_orset.proofs.Hashed.{id_test, id_tests}
 use Rattle.la_orset.proofs.Numbers.{later_ascending, later_none}
@@ -27,7 +27,7 @@ use Rattle.la_orset.proofs.ById.{element_of, is_gone, get-adds, at_column, or_el
 use Rattle.la_orset.proofs.Absorbed.{contains-gone}
 
 abbrev Entry : Type 0
-Entry = UpdateId × Known
+Entry = UpdateId × KnownRow
 
 -- ## Rows that are gone through
 
@@ -75,28 +75,28 @@ all_added-append adds [] fs = refl
 all_added-append adds (e ∷ es) fs = all_added-append (with_element adds e.0 (Some e.1.element)) es fs
 
 get-all_added : (adds : Elements) (es : List Entry) (q : UpdateId)
-    → map.get (all_added adds es) q ≡ or_else (map.get adds q) (element_of (lookup (id_eq q) es))
+    → map.get (all_added adds es) q ≡ or_else (map.get adds q) (element_of (lookup (same_id q) es))
 get-all_added adds [] q = or_none (map.get adds q)
 get-all_added adds (e ∷ es) q =
     get-all_added (with_element adds e.0 (Some e.1.element)) es q
-    ∙ ap (λ o. or_else o (element_of (lookup (id_eq q) es)))
+    ∙ ap (λ o. or_else o (element_of (lookup (same_id q) es)))
     (get-with_element adds e.0 e.1.element q
     ∙ ap (λ b. or_else (map.get adds q) (cond b (Some e.1.element) None)) (sym (id_test q e.0)))
-    ∙ by (map.get adds q) (id_eq q e.0)
+    ∙ by (map.get adds q) (same_id q e.0)
   where
     by : (o : Option ℕ) (b : Bool)
-        → or_else (or_else o (cond b (Some e.1.element) None)) (element_of (lookup (id_eq q) es))
-        ≡ or_else o (element_of (cond b (Some e.1) (lookup (id_eq q) es)))
+        → or_else (or_else o (cond b (Some e.1.element) None)) (element_of (lookup (same_id q) es))
+        ≡ or_else o (element_of (cond b (Some e.1) (lookup (same_id q) es)))
     by (Some w) b = refl
     by None true = refl
     by None false = refl
 
-get-found : (es : List Entry) (q : UpdateId) → map.get (map.from_entries {R = id_cmp} es) q ≡ lookup (id_eq q) es
+get-found : (es : List Entry) (q : UpdateId) → map.get (map.from_entries {R = id_cmp} es) q ≡ lookup (same_id q) es
 get-found es q = get-lookup id_cmp_total es q ∙ sym (ap (λ t. lookup (t q) es) id_tests)
 
 pub adds_copied : (es : List Entry) → all_added map.empty es ≡ adds_of (map.from_entries es)
 adds_copied es = map.same_map id_cmp_total id_cmp-IsAntisymmetric _ _ (λ q.
-    get-all_added map.empty es q ∙ ap (λ o. or_else o (element_of (lookup (id_eq q) es))) (map.get-empty id_cmp q)
+    get-all_added map.empty es q ∙ ap (λ o. or_else o (element_of (lookup (same_id q) es))) (map.get-empty id_cmp q)
     ∙ ap element_of (sym (get-found es q)) ∙ sym (get-adds (map.from_entries es) q))
 
 -- ## Gone ids
@@ -106,7 +106,7 @@ all_gone-append ids [] fs = refl
 all_gone-append ids (e ∷ es) fs = all_gone-append (if e.1.gone then set.insert ids e.0 else ids) es fs
 
 abbrev is_gone_at : UpdateId → Entry → Bool
-is_gone_at q e = e.1.gone && id_eq q e.0
+is_gone_at q e = e.1.gone && same_id q e.0
 
 contains-all_gone : (ids : IdSet) (es : List Entry) (q : UpdateId)
     → set.contains (all_gone ids es) q ≡ (set.contains ids q || list_any (is_gone_at q) es)
@@ -123,10 +123,10 @@ contains-all_gone ids (e ∷ es) q =
     or_swap false false = refl
 
     one : (b : Bool)
-        → set.contains (if b then set.insert ids e.0 else ids) q ≡ (set.contains ids q || (b && id_eq q e.0))
+        → set.contains (if b then set.insert ids e.0 else ids) q ≡ (set.contains ids q || (b && same_id q e.0))
     one true =
         set.contains-insert id_cmp_total ids e.0 q ∙ ap (λ b. b || set.contains ids q) (sym (id_test q e.0))
-        ∙ or_swap (id_eq q e.0) (set.contains ids q)
+        ∙ or_swap (same_id q e.0) (set.contains ids q)
     one false = elim (set.contains ids q) as (λ b. b ≡ (b || false)) [ true ↦ refl | false ↦ refl ]
 
     move : (b c d : Bool) → ((b || c) || d) ≡ (b || (c || d))
@@ -156,16 +156,16 @@ module _ (q : UpdateId) where
 
       by : (b c : Bool) → eqb q.number row.number ≡ c
           → list_any (is_gone_at q) (list_map (row_entry r) rows) ≡ (b && is_gone (at_number rows q.number))
-          → (((known row).gone && (b && c)) || list_any (is_gone_at q) (list_map (row_entry r) rows))
-          ≡ (b && is_gone (cond c (Some (known row)) (at_number rows q.number)))
+          → (((known_row row).gone && (b && c)) || list_any (is_gone_at q) (list_map (row_entry r) rows))
+          ≡ (b && is_gone (cond c (Some (known_row row)) (at_number rows q.number)))
       by true true is rest =
           let none : at_number rows q.number ≡ None =
           ap (at_number rows) (eqb-true q.number row.number is) ∙ later_none row rows ascending in
-          ap (λ b. ((known row).gone && true) || b) (rest ∙ ap is_gone none) ∙ and_true ((known row).gone)
+          ap (λ b. ((known_row row).gone && true) || b) (rest ∙ ap is_gone none) ∙ and_true ((known_row row).gone)
       by true false is rest =
-          ap (λ b. b || list_any (is_gone_at q) (list_map (row_entry r) rows)) (and_false ((known row).gone)) ∙ rest
+          ap (λ b. b || list_any (is_gone_at q) (list_map (row_entry r) rows)) (and_false ((known_row row).gone)) ∙ rest
       by false c is rest =
-          ap (λ b. b || list_any (is_gone_at q) (list_map (row_entry r) rows)) (and_false ((known row).gone)) ∙ rest
+          ap (λ b. b || list_any (is_gone_at q) (list_map (row_entry r) rows)) (and_false ((known_row row).gone)) ∙ rest
 
   abbrev AllAscending : List (List Row) → Type 0
   AllAscending columns = (j : ℕ) → j < length columns → IsAscending (get_or columns j [])

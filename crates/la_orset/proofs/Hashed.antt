@@ -16,7 +16,7 @@ use Rattle.std.proofs.lemmas.List.Sorted.{list_any-IsPermutation, IsNonDecreasin
 use Rattle.la_set.specs.declared.update.UpdateId.{UpdateId}
 use Rattle.la_object.specs.IdOrder.{id_cmp}
 use Rattle.la_object.proofs.lemmas.Sorted.{get-lookup, one_put}
-use Rattle.la_orset.specs.Index.{id_eq, set_of, TagMap, Index}
+use Rattle.la_orset.specs.Index.{same_id, key_set, TagMap, Index}
 use Rattle.la_orset.proofs.Sets.{same_members, contains-set_of, keys-set_of, sorted-entries, sorted-units}
 use Rattle.la_orset.proofs.LiveTags.{changed_from}
 
@@ -25,13 +25,13 @@ then_tied Less s = refl
 then_tied Equal s = refl
 then_tied Greater s = refl
 
-pub id_test : (q k : UpdateId) → id_eq q k ≡ is_at (id_cmp q) k
+pub id_test : (q k : UpdateId) → same_id q k ≡ is_at (id_cmp q) k
 id_test q k =
     sym
     (then_tied (nat_cmp q.replica k.replica) (nat_cmp q.number k.number)
     ∙ (λ i. unsigned_tied q.replica k.replica i && unsigned_tied q.number k.number i))
 
-pub id_tests : ◌≡◌ {A = UpdateId → UpdateId → Bool} id_eq (λ q k. is_at (id_cmp q) k)
+pub id_tests : ◌≡◌ {A = UpdateId → UpdateId → Bool} same_id (λ q k. is_at (id_cmp q) k)
 id_tests = λ i q k. id_test q k i
 
 nat_tests : ◌≡◌ {A = ℕ → ℕ → Bool} eqb (λ q k. is_at (nat_cmp q) k)
@@ -47,7 +47,7 @@ by_order {K} {X} e f p es fs x o h =
 -- ## Ids
 
 any_by_order : (ks ls : List UpdateId) (id : UpdateId) (b : Bool)
-    → ((q : UpdateId) → list_any (id_eq q) ls ≡ cond (id_eq id q) b (list_any (id_eq q) ks)) → (q : UpdateId)
+    → ((q : UpdateId) → list_any (same_id q) ls ≡ cond (same_id id q) b (list_any (same_id q) ks)) → (q : UpdateId)
     → list_any (is_at (id_cmp q)) ls ≡ cond (is_at (id_cmp id) q) b (list_any (is_at (id_cmp q)) ks)
 any_by_order ks ls id b h =
     let P : (UpdateId → UpdateId → Bool) → Type 0 =
@@ -116,7 +116,7 @@ nat_sorted es ks distinct moved sorted =
     sym
     (keys-set_of nat_cmp_total nat_cmp-IsAntisymmetric ks
     (sorted-units nat_cmp_total nat_cmp-IsAntisymmetric ks strict))
-    ∙ ap map.keys (same_members nat_cmp_total nat_cmp-IsAntisymmetric (set_of ks) (set_of (map.keys m)) (λ q.
+    ∙ ap map.keys (same_members nat_cmp_total nat_cmp-IsAntisymmetric (key_set ks) (key_set (map.keys m)) (λ q.
     contains-set_of nat_cmp_total nat_cmp-IsAntisymmetric ks q
     ∙ sym (list_any-IsPermutation (eq_by_cmp nat_cmp q) (keys_of es) ks moved)
     ∙ any-lookup (is_at (nat_cmp q)) es ∙ ap is_some (sym (get-lookup nat_cmp_total es q))

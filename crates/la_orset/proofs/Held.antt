@@ -11,7 +11,7 @@ use Rattle.la_set.specs.declared.update.UpdateId.{UpdateId}
 use Rattle.la_object.specs.IdOrder.{id_cmp, Elements, IdSet}
 use Rattle.la_object.specs.OrSet.{stays, held, held_tags, with_element}
 use Rattle.la_object.proofs.lemmas.IdOrder.{id_cmp_total, id_cmp-IsAntisymmetric}
-use Rattle.la_orset.specs.Index.{set_of, Index, has_any, tags_at, is_tag, IsWhole, HasTags, IsIndex}
+use Rattle.la_orset.specs.Index.{key_set, Index, has_any, index_tags, is_tag, IsWhole, HasTags, IsIndex}
 use Rattle.la_object.proofs.lemmas.Sorted.{passes, any-find, any-keys, sorted-filter}
 use Rattle.la_orset.proofs.Sets.{same_members, contains-set_of, contains-put, contains-taken, keys-set_of, sorted-entries}
 use Rattle.la_orset.proofs.LiveTags.{tied}
@@ -26,7 +26,7 @@ module _ (adds : Elements) (gone : IdSet) where
   passes-is_tag x q (Some y) = refl
 
   held_tags-members : (x : ℕ) (q : UpdateId)
-      → map.contains_key (set_of {R = id_cmp} (held_tags adds gone x)) q ≡ is_tag gone x q (map.get adds q)
+      → map.contains_key (key_set {R = id_cmp} (held_tags adds gone x)) q ≡ is_tag gone x q (map.get adds q)
   held_tags-members x q =
       contains-set_of id_cmp_total id_cmp-IsAntisymmetric (held_tags adds gone x) q
       ∙ any-keys id_cmp (eq_by_cmp id_cmp q) (λ e. stays gone e && (e.1 == x)) (map.entries adds)
@@ -59,11 +59,11 @@ module _ (adds : Elements) (gone : IdSet) where
       by false c is rest = rest
 
   module _ (index : Index) (indexed : IsIndex adds gone index) where
-    tags-held : (x : ℕ) → tags_at index x ≡ set_of (held_tags adds gone x)
+    tags-held : (x : ℕ) → index_tags index x ≡ key_set (held_tags adds gone x)
     tags-held x = same_members id_cmp_total id_cmp-IsAntisymmetric _ _ (λ q. indexed x q ∙ sym (held_tags-members x q))
 
     -- an element's tags in ascending order
-    pub keys-held : (x : ℕ) → map.keys (tags_at index x) ≡ held_tags adds gone x
+    pub keys-held : (x : ℕ) → map.keys (index_tags index x) ≡ held_tags adds gone x
     keys-held x =
         ap map.keys (tags-held x)
         ∙ keys-set_of id_cmp_total id_cmp-IsAntisymmetric (held_tags adds gone x)
@@ -76,7 +76,7 @@ module _ (adds : Elements) (gone : IdSet) where
         (contains-set_of nat_cmp_total nat_cmp-IsAntisymmetric
         (list_map (λ (e : Entry). e.1) (filter (stays gone) (map.entries adds))) x)
 
-    same_elements : IsWhole index → held adds gone ≡ set_of (map.keys index)
+    same_elements : IsWhole index → held adds gone ≡ key_set (map.keys index)
     same_elements whole = same_members nat_cmp_total nat_cmp-IsAntisymmetric _ _ (λ x.
         sym (has-held whole x) ∙ map.contains_key-keys index x ∙ sym (contains-set_of nat_cmp_total nat_cmp-IsAntisymmetric (map.keys index) x))
 
@@ -130,7 +130,7 @@ module _ (adds : Elements) (gone : IdSet) (id : UpdateId) (x : ℕ) (old : Index
       by false is = refl
 
   -- a Put whose id is not gone
-  pub put_live : (new : Index) → set.contains gone id ≡ false → HasTags old x (map.insert (tags_at old x) id tt) new
+  pub put_live : (new : Index) → set.contains gone id ≡ false → HasTags old x (map.insert (index_tags old x) id tt) new
       → IsIndex (map.insert adds id x) gone new
   put_live new stays_in has y q =
       ap (λ t. map.contains_key t q) (has y) ∙ by (y == x) refl (eq_by_cmp id_cmp q id) refl
@@ -143,14 +143,14 @@ module _ (adds : Elements) (gone : IdSet) (id : UpdateId) (x : ℕ) (old : Index
       lives is = ap not (ap (set.contains gone) (id-same q id is) ∙ stays_in)
 
       by : (b : Bool) → y == x ≡ b → (c : Bool) → eq_by_cmp id_cmp q id ≡ c
-          → map.contains_key (cond b (map.insert (tags_at old x) id tt) (tags_at old y)) q
+          → map.contains_key (cond b (map.insert (index_tags old x) id tt) (index_tags old y)) q
           ≡ is_tag gone y q (cond c (Some x) (map.get adds q))
       by true here true is =
-          contains-put id_cmp_total id_cmp-IsAntisymmetric (tags_at old x) id q
-          ∙ ap (λ d. d || map.contains_key (tags_at old x) q) is ∙ sym (λ i. lives is i && flip true here i)
+          contains-put id_cmp_total id_cmp-IsAntisymmetric (index_tags old x) id q
+          ∙ ap (λ d. d || map.contains_key (index_tags old x) q) is ∙ sym (λ i. lives is i && flip true here i)
       by true here false is =
-          contains-put id_cmp_total id_cmp-IsAntisymmetric (tags_at old x) id q
-          ∙ ap (λ d. d || map.contains_key (tags_at old x) q) is ∙ indexed x q
+          contains-put id_cmp_total id_cmp-IsAntisymmetric (index_tags old x) id q
+          ∙ ap (λ d. d || map.contains_key (index_tags old x) q) is ∙ indexed x q
           ∙ ap (λ z. is_tag gone z q (map.get adds q)) (sym (eqb-true y x here))
       by false here true is = indexed y q ∙ was_none y q is ∙ sym (λ i. lives is i && flip false here i)
       by false here false is = indexed y q
@@ -176,7 +176,7 @@ module _ (adds : Elements) (gone : IdSet) (id : UpdateId) (old : Index) (indexed
       by false is = refl
 
   -- an id of an element's tag
-  pub named_some : (x : ℕ) (new : Index) → map.get adds id ≡ Some x → HasTags old x (map.remove (tags_at old x) id) new
+  pub named_some : (x : ℕ) (new : Index) → map.get adds id ≡ Some x → HasTags old x (map.remove (index_tags old x) id) new
       → IsIndex adds (set.insert gone id) new
   named_some x new put has y q =
       ap (λ t. map.contains_key t q) (has y) ∙ by (y == x) refl (eq_by_cmp id_cmp q id) refl
@@ -193,10 +193,10 @@ module _ (adds : Elements) (gone : IdSet) (id : UpdateId) (old : Index) (indexed
           and_false false = refl
 
       by : (b : Bool) → y == x ≡ b → (c : Bool) → eq_by_cmp id_cmp q id ≡ c
-          → map.contains_key (cond b (map.remove (tags_at old x) id) (tags_at old y)) q
+          → map.contains_key (cond b (map.remove (index_tags old x) id) (index_tags old y)) q
           ≡ (not c && is_tag gone y q (map.get adds q))
       by true here c is =
-          contains-taken id_cmp_total id_cmp-IsAntisymmetric (tags_at old x) id q ∙ (λ i. not (is i) && indexed x q i)
+          contains-taken id_cmp_total id_cmp-IsAntisymmetric (index_tags old x) id q ∙ (λ i. not (is i) && indexed x q i)
           ∙ ap (λ z. not c && is_tag gone z q (map.get adds q)) (sym (eqb-true y x here))
       by false here true is = indexed y q ∙ other is here
       by false here false is = indexed y q

@@ -19,27 +19,27 @@ use Rattle.la_set.proofs.lemmas.IdOrder.{below-cmp}
 use Rattle.la_set.proofs.lemmas.TagPlaces.{with_tag-members, members-with_tag}
 use Rattle.la_object.specs.IdOrder.{id_cmp}
 use Rattle.la_object.proofs.lemmas.IdOrder.{id_cmp_total, id_cmp-IsAntisymmetric}
-use Rattle.la_orset.specs.Index.{TagMap, id_eq, set_of, has_any}
+use Rattle.la_orset.specs.Index.{TagMap, same_id, key_set, has_any}
 use Rattle.la_orset.proofs.Sets.{same_members, contains-set_of, contains-put, contains-taken, keys-set_of, sorted-units}
 use Rattle.la_orset.proofs.Hashed.{id_test, id_tests}
 use Rattle.la_orset.proofs.LiveTags.{same-id}
 
-pub id_equiv : IsEquivalence id_eq
+pub id_equiv : IsEquivalence same_id
 id_equiv = subst IsEquivalence (sym id_tests) (eq_by_cmp_equiv id_cmp_total)
 
 -- what a set of ids has
 pub contains-list : (ks : List UpdateId) (q : UpdateId)
-    → map.contains_key (set_of {R = id_cmp} ks) q ≡ list_any (id_eq q) ks
+    → map.contains_key (key_set {R = id_cmp} ks) q ≡ list_any (same_id q) ks
 contains-list ks q =
     contains-set_of id_cmp_total id_cmp-IsAntisymmetric ks q ∙ sym (ap (λ t. list_any (t q) ks) id_tests)
 
 contains-more : (s : TagMap) (k q : UpdateId)
-    → map.contains_key (map.insert s k tt) q ≡ (id_eq q k || map.contains_key s q)
+    → map.contains_key (map.insert s k tt) q ≡ (same_id q k || map.contains_key s q)
 contains-more s k q =
     contains-put id_cmp_total id_cmp-IsAntisymmetric s k q ∙ ap (λ b. b || map.contains_key s q) (sym (id_test q k))
 
 contains-less : (s : TagMap) (k q : UpdateId)
-    → map.contains_key (map.remove s k) q ≡ (not (id_eq q k) && map.contains_key s q)
+    → map.contains_key (map.remove s k) q ≡ (not (same_id q k) && map.contains_key s q)
 contains-less s k q =
     contains-taken id_cmp_total id_cmp-IsAntisymmetric s k q ∙ ap (λ b. not b && map.contains_key s q) (sym (id_test q k))
 
@@ -48,18 +48,18 @@ same_tags s t h = same_members id_cmp_total id_cmp-IsAntisymmetric s t h
 
 -- one more id
 module _ (ks : List UpdateId) (i : ℕ) (id : UpdateId) where
-  pub list-put : set_of {R = id_cmp} (insert ks i id) ≡ map.insert (set_of ks) id tt
+  pub list-put : key_set {R = id_cmp} (insert ks i id) ≡ map.insert (key_set ks) id tt
   list-put = same_tags _ _ (λ q.
       contains-list (insert ks i id) q
-      ∙ sym (list_any-IsPermutation (id_eq q) (id ∷ ks) (insert ks i id) (IsPermutation-insert ks i id))
-      ∙ sym (contains-more (set_of ks) id q ∙ ap (λ b. id_eq q id || b) (contains-list ks q)))
+      ∙ sym (list_any-IsPermutation (same_id q) (id ∷ ks) (insert ks i id) (IsPermutation-insert ks i id))
+      ∙ sym (contains-more (key_set ks) id q ∙ ap (λ b. same_id q id || b) (contains-list ks q)))
 
-  pub list-put-distinct : IsDistinct id_eq ks → list_any (id_eq id) ks ≡ false → IsDistinct id_eq (insert ks i id)
+  pub list-put-distinct : IsDistinct same_id ks → list_any (same_id id) ks ≡ false → IsDistinct same_id (insert ks i id)
   list-put-distinct distinct new =
       let first =
-      IsDistinct-IsPermutation id_eq id_equiv.symm (ks ++ id ∷ []) (id ∷ ks) (IsPermutation-to_front ks id)
+      IsDistinct-IsPermutation same_id id_equiv.symm (ks ++ id ∷ []) (id ∷ ks) (IsPermutation-to_front ks id)
       (IsDistinct-push id_equiv ks id distinct new) in
-      IsDistinct-IsPermutation id_eq id_equiv.symm (id ∷ ks) (insert ks i id) (IsPermutation-insert ks i id) first
+      IsDistinct-IsPermutation same_id id_equiv.symm (id ∷ ks) (insert ks i id) (IsPermutation-insert ks i id) first
 
 none-any : (e : UpdateId → UpdateId → Bool) (k : UpdateId) (ks : List UpdateId) → AllByRecursion (λ y. e k y ≡ false) ks
     → list_any (e k) ks ≡ false
@@ -72,34 +72,34 @@ at_place [] i id d h = absurd (none-some id h)
 at_place (k ∷ ks) zero id d h = (omega arith, sym (same_Some _ _ h))
 at_place (k ∷ ks) (suc i) id d h = let rest = at_place ks i id d h in (omega (arith, rest.0), rest.1)
 
-any-at : (ks : List UpdateId) (i : ℕ) (id : UpdateId) → slice_get ks i ≡ Some id → list_any (id_eq id) ks ≡ true
+any-at : (ks : List UpdateId) (i : ℕ) (id : UpdateId) → slice_get ks i ≡ Some id → list_any (same_id id) ks ≡ true
 any-at [] i id h = absurd (none-some id h)
-any-at (k ∷ ks) zero id h = ap (λ b. b || list_any (id_eq id) ks) (ap (id_eq id) (same_Some _ _ h) ∙ id_equiv.refl id)
-any-at (k ∷ ks) (suc i) id h = ap (λ b. id_eq id k || b) (any-at ks i id h) ∙ or_true (id_eq id k)
+any-at (k ∷ ks) zero id h = ap (λ b. b || list_any (same_id id) ks) (ap (same_id id) (same_Some _ _ h) ∙ id_equiv.refl id)
+any-at (k ∷ ks) (suc i) id h = ap (λ b. same_id id k || b) (any-at ks i id h) ∙ or_true (same_id id k)
   where
     or_true : (b : Bool) → (b || true) ≡ true
     or_true true = refl
     or_true false = refl
 
 -- an id is taken out
-module _ (ks rest : List UpdateId) (id : UpdateId) (distinct : IsDistinct id_eq ks)
+module _ (ks rest : List UpdateId) (id : UpdateId) (distinct : IsDistinct same_id ks)
     (moved : IsPermutation ks (id ∷ rest)) where
-  still : IsDistinct id_eq (id ∷ rest)
-  still = IsDistinct-IsPermutation id_eq id_equiv.symm ks (id ∷ rest) moved distinct
+  still : IsDistinct same_id (id ∷ rest)
+  still = IsDistinct-IsPermutation same_id id_equiv.symm ks (id ∷ rest) moved distinct
 
-  pub list-taken-distinct : IsDistinct id_eq rest
-  list-taken-distinct = IsDistinct-tail id_eq id rest still
+  pub list-taken-distinct : IsDistinct same_id rest
+  list-taken-distinct = IsDistinct-tail same_id id rest still
 
-  pub list-taken : set_of {R = id_cmp} rest ≡ map.remove (set_of ks) id
+  pub list-taken : key_set {R = id_cmp} rest ≡ map.remove (key_set ks) id
   list-taken =
-      let gone = none-any id_eq id rest (IsDistinct-head id_eq id rest still) in
+      let gone = none-any same_id id rest (IsDistinct-head same_id id rest still) in
       same_tags _ _ (λ q.
-      contains-list rest q ∙ by gone q (id_eq q id) refl
-      ∙ sym (contains-less (set_of ks) id q ∙ ap (λ b. not (id_eq q id) && b) (contains-list ks q ∙ list_any-IsPermutation (id_eq q) ks (id ∷ rest) moved)))
+      contains-list rest q ∙ by gone q (same_id q id) refl
+      ∙ sym (contains-less (key_set ks) id q ∙ ap (λ b. not (same_id q id) && b) (contains-list ks q ∙ list_any-IsPermutation (same_id q) ks (id ∷ rest) moved)))
     where
-      by : list_any (id_eq id) rest ≡ false → (q : UpdateId) (b : Bool) → id_eq q id ≡ b
-          → list_any (id_eq q) rest ≡ (not b && (b || list_any (id_eq q) rest))
-      by gone q true is = ap (λ k. list_any (id_eq k) rest) (same-id q id is) ∙ gone
+      by : list_any (same_id id) rest ≡ false → (q : UpdateId) (b : Bool) → same_id q id ≡ b
+          → list_any (same_id q) rest ≡ (not b && (b || list_any (same_id q) rest))
+      by gone q true is = ap (λ k. list_any (same_id k) rest) (same-id q id is) ∙ gone
       by gone q false is = refl
 
 -- the places of an id
@@ -112,24 +112,24 @@ pub taken_out : (ks : List UpdateId) (i : ℕ) (id : UpdateId) → slice_get ks 
 taken_out ks i id at = IsPermutation-remove ks i id (at_place ks i id id at).0 (at_place ks i id id at).1
 
 -- an id that is not there
-pub list-absent : (ks : List UpdateId) (id : UpdateId) → list_any (id_eq id) ks ≡ false
-    → set_of {R = id_cmp} ks ≡ map.remove (set_of ks) id
+pub list-absent : (ks : List UpdateId) (id : UpdateId) → list_any (same_id id) ks ≡ false
+    → key_set {R = id_cmp} ks ≡ map.remove (key_set ks) id
 list-absent ks id none = same_tags _ _ (λ q.
-    contains-list ks q ∙ by q (id_eq q id) refl
-    ∙ sym (contains-less (set_of ks) id q ∙ ap (λ b. not (id_eq q id) && b) (contains-list ks q)))
+    contains-list ks q ∙ by q (same_id q id) refl
+    ∙ sym (contains-less (key_set ks) id q ∙ ap (λ b. not (same_id q id) && b) (contains-list ks q)))
   where
-    by : (q : UpdateId) (b : Bool) → id_eq q id ≡ b → list_any (id_eq q) ks ≡ (not b && list_any (id_eq q) ks)
-    by q true is = ap (λ k. list_any (id_eq k) ks) (same-id q id is) ∙ none
+    by : (q : UpdateId) (b : Bool) → same_id q id ≡ b → list_any (same_id q) ks ≡ (not b && list_any (same_id q) ks)
+    by q true is = ap (λ k. list_any (same_id k) ks) (same-id q id is) ∙ none
     by q false is = refl
 
 -- ## How many
 
-len-list : (ks : List UpdateId) → IsDistinct id_eq ks → map.len (set_of {R = id_cmp} ks) ≡ length ks
+len-list : (ks : List UpdateId) → IsDistinct same_id ks → map.len (key_set {R = id_cmp} ks) ≡ length ks
 len-list [] h = map.len-empty id_cmp (Unit {0})
 len-list (k ∷ ks) h =
-    let m = set_of {R = id_cmp} ks in
-    let none : map.contains_key m k ≡ false = contains-list ks k ∙ none-any id_eq k ks (IsDistinct-head id_eq k ks h) in
-    let rest = len-list ks (IsDistinct-tail id_eq k ks h) in
+    let m = key_set {R = id_cmp} ks in
+    let none : map.contains_key m k ≡ false = contains-list ks k ∙ none-any same_id k ks (IsDistinct-head same_id k ks h) in
+    let rest = len-list ks (IsDistinct-tail same_id k ks h) in
     let one : map.len m + 1 ≡ suc (length ks) = omega arith in
     map.len-insert id_cmp_total m k tt ∙ ap (λ b. cond b (map.len m) (map.len m + 1)) none ∙ one
 
@@ -137,17 +137,17 @@ length-keys : {K X : Type 0} (es : List (K × X)) → length (list_map (λ (e : 
 length-keys [] = refl
 length-keys (e ∷ es) = ap (λ n. suc n) (length-keys es)
 
-pub length-list : (ks : List UpdateId) → IsDistinct id_eq ks → length (map.keys (set_of {R = id_cmp} ks)) ≡ length ks
+pub length-list : (ks : List UpdateId) → IsDistinct same_id ks → length (map.keys (key_set {R = id_cmp} ks)) ≡ length ks
 length-list ks h =
-    length-keys (map.entries (set_of {R = id_cmp} ks)) ∙ sym (map.len-entries (set_of ks)) ∙ len-list ks h
+    length-keys (map.entries (key_set {R = id_cmp} ks)) ∙ sym (map.len-entries (key_set ks)) ∙ len-list ks h
 
 some_length : {X : Type 0} (xs : List X) → nat_lt 0 (length xs) ≡ has_any xs
 some_length [] = refl
 some_length (x ∷ xs) = lt-ltb 0 (suc (length xs)) (omega arith)
 
-pub any-list : (ks : List UpdateId) → IsDistinct id_eq ks
-    → nat_lt 0 (length ks) ≡ has_any (map.keys (set_of {R = id_cmp} ks))
-any-list ks h = ap (nat_lt 0) (sym (length-list ks h)) ∙ some_length (map.keys (set_of {R = id_cmp} ks))
+pub any-list : (ks : List UpdateId) → IsDistinct same_id ks
+    → nat_lt 0 (length ks) ≡ has_any (map.keys (key_set {R = id_cmp} ks))
+any-list ks h = ap (nat_lt 0) (sym (length-list ks h)) ∙ some_length (map.keys (key_set {R = id_cmp} ks))
 
 -- ## In ascending order
 
@@ -169,24 +169,24 @@ or_right false b h = h
 
 -- what is pushed is one more, where it is new
 pub pushed : (ts : List UpdateId) (id : UpdateId) (new : Bool) → (IsTrue new ↔ (Contains ts id → ⊥)) → (q : UpdateId)
-    → list_any (id_eq q) (if new then with_tag id ts else ts) ≡ (list_any (id_eq q) ts || id_eq q id)
+    → list_any (same_id q) (if new then with_tag id ts else ts) ≡ (list_any (same_id q) ts || same_id q id)
 pushed ts id true is q = both_ways _ _
     (λ h. elim (with_tag-members id q ts (Contains-from_any same-id q (with_tag id ts) h)) [
-      | inl e ↦ or_right (list_any (id_eq q) ts) (id_eq q id) (ap (id_eq q) (sym e) ∙ id_equiv.refl q)
-      | inr there ↦ or_left (list_any (id_eq q) ts) (id_eq q id) (list_any-from_Contains id_equiv q ts there)
+      | inl e ↦ or_right (list_any (same_id q) ts) (same_id q id) (ap (same_id q) (sym e) ∙ id_equiv.refl q)
+      | inr there ↦ or_left (list_any (same_id q) ts) (same_id q id) (list_any-from_Contains id_equiv q ts there)
     ])
-    (λ h. list_any-from_Contains id_equiv q (with_tag id ts) (members-with_tag id q ts (elim (or_cases (list_any (id_eq q) ts) (id_eq q id) h) [
+    (λ h. list_any-from_Contains id_equiv q (with_tag id ts) (members-with_tag id q ts (elim (or_cases (list_any (same_id q) ts) (same_id q id) h) [
       | inl there ↦ inr (Contains-from_any same-id q ts there)
       | inr e ↦ inl (same-id q id e)
     ])))
 pushed ts id false is q = both_ways _ _
-    (λ h. or_left (list_any (id_eq q) ts) (id_eq q id) h)
-    (λ h. elim (or_cases (list_any (id_eq q) ts) (id_eq q id) h) [
+    (λ h. or_left (list_any (same_id q) ts) (same_id q id) h)
+    (λ h. elim (or_cases (list_any (same_id q) ts) (same_id q id) h) [
       | inl there ↦ there
-      | inr e ↦ ap (λ k. list_any (id_eq k) ts) (same-id q id e) ∙ known (list_any (id_eq id) ts) refl
+      | inr e ↦ ap (λ k. list_any (same_id k) ts) (same-id q id e) ∙ known (list_any (same_id id) ts) refl
     ])
   where
-    known : (b : Bool) → list_any (id_eq id) ts ≡ b → b ≡ true
+    known : (b : Bool) → list_any (same_id id) ts ≡ b → b ≡ true
     known true h = refl
     known false h =
         absurd (false≢true (is.1 (λ there. false≢true (sym h ∙ list_any-from_Contains id_equiv id ts there))))
@@ -198,25 +198,25 @@ strict ts up = let d : UpdateId = record { replica = 0; number = 0 } in
 
 -- ascending ids with a set's members
 pub ascending-list : (ts ks : List UpdateId) → AllPairs IsBelow ts
-    → ((q : UpdateId) → list_any (id_eq q) ts ≡ list_any (id_eq q) ks) → ts ≡ map.keys (set_of {R = id_cmp} ks)
+    → ((q : UpdateId) → list_any (same_id q) ts ≡ list_any (same_id q) ks) → ts ≡ map.keys (key_set {R = id_cmp} ks)
 ascending-list ts ks up h =
     sym
     (keys-set_of id_cmp_total id_cmp-IsAntisymmetric ts
     (sorted-units id_cmp_total id_cmp-IsAntisymmetric ts (strict ts up)))
-    ∙ ap map.keys (same_tags (set_of ts) (set_of ks) (λ q. contains-list ts q ∙ h q ∙ sym (contains-list ks q)))
+    ∙ ap map.keys (same_tags (key_set ts) (key_set ks) (λ q. contains-list ts q ∙ h q ∙ sym (contains-list ks q)))
 
 -- ascending ids that are all among others are no more than these
 pub no_more : (ts ks : List UpdateId) → AllPairs IsBelow ts
-    → ((q : UpdateId) → list_any (id_eq q) ts ≡ list_any (id_eq q) ks) → length ts ≤ length ks
+    → ((q : UpdateId) → list_any (same_id q) ts ≡ list_any (same_id q) ks) → length ts ≤ length ks
 no_more ts ks up h =
     let distinct = subst (λ e. IsDistinct e ts) (sym id_tests) (IsDistinct-from_sorted id_cmp ts (strict ts up)) in
     length-le_from_is_member id_equiv ts ks distinct (λ q there. sym (h q) ∙ there)
 
 pub any-take_more : (ks : List UpdateId) (i : ℕ) (d q : UpdateId) → i < length ks
-    → list_any (id_eq q) (take (i + 1) ks) ≡ (list_any (id_eq q) (take i ks) || id_eq q (get_or ks i d))
+    → list_any (same_id q) (take (i + 1) ks) ≡ (list_any (same_id q) (take i ks) || same_id q (get_or ks i d))
 any-take_more ks i d q lt =
-    ap (list_any (id_eq q)) (take_more ks i d lt) ∙ list_any-append (id_eq q) (take i ks) (get_or ks i d ∷ [])
-    ∙ ap (λ b. list_any (id_eq q) (take i ks) || b) (or_false (id_eq q (get_or ks i d)))
+    ap (list_any (same_id q)) (take_more ks i d lt) ∙ list_any-append (same_id q) (take i ks) (get_or ks i d ∷ [])
+    ∙ ap (λ b. list_any (same_id q) (take i ks) || b) (or_false (same_id q (get_or ks i d)))
   where
     or_false : (b : Bool) → (b || false) ≡ b
     or_false true = refl
@@ -225,8 +225,8 @@ any-take_more ks i d q lt =
 -- one step further through a list, each id of which is pushed
 pub pushed_at : (ts new ks : List UpdateId) (i : ℕ) (d id : UpdateId) (is_new : Bool)
     → new ≡ (if is_new then with_tag id ts else ts) → (IsTrue is_new ↔ (Contains ts id → ⊥)) → id ≡ get_or ks i d
-    → i < length ks → ((q : UpdateId) → list_any (id_eq q) ts ≡ list_any (id_eq q) (take i ks)) → (q : UpdateId)
-    → list_any (id_eq q) new ≡ list_any (id_eq q) (take (i + 1) ks)
+    → i < length ks → ((q : UpdateId) → list_any (same_id q) ts ≡ list_any (same_id q) (take i ks)) → (q : UpdateId)
+    → list_any (same_id q) new ≡ list_any (same_id q) (take (i + 1) ks)
 pushed_at ts new ks i d id is_new ok is here lt before q =
-    ap (list_any (id_eq q)) ok ∙ pushed ts id is_new is q ∙ (λ j. before q j || id_eq q (here j))
+    ap (list_any (same_id q)) ok ∙ pushed ts id is_new is q ∙ (λ j. before q j || same_id q (here j))
     ∙ sym (any-take_more ks i d q lt)

@@ -10,7 +10,7 @@ use Rattle.std.specs.Map.{lookup}
 use Rattle.la_set.specs.declared.update.UpdateId.{UpdateId}
 use Rattle.la_object.specs.IdOrder.{id_cmp}
 use Rattle.la_object.proofs.lemmas.IdOrder.{id_cmp_total, id_cmp-IsAntisymmetric}
-use Rattle.la_orset.specs.Index.{TagMap, Index, has_any, tags_or, tags_at, IsWhole, HasTags}
+use Rattle.la_orset.specs.Index.{TagMap, Index, has_any, tags_or, index_tags, IsWhole, HasTags}
 use Rattle.la_orset.specs.Few.{only_tag}
 use Rattle.la_object.proofs.lemmas.Sorted.{get-lookup}
 use Rattle.la_orset.proofs.Sets.{same_members, contains-put, contains-taken, something_in, keys-empty}
@@ -22,9 +22,9 @@ module _ (old new : Index) (x : ℕ) (o : Option TagMap)
     (changed : (y : ℕ) → map.get new y ≡ cond (is_at (nat_cmp x) y) o (map.get old y)) where
   pub has_tags : (tags : TagMap) → tags_or o ≡ tags → HasTags old x tags new
   has_tags tags is y =
-      ap tags_or (changed y) ∙ by (is_at (nat_cmp x) y) ∙ ap (λ b. cond b tags (tags_at old y)) (tied x y)
+      ap tags_or (changed y) ∙ by (is_at (nat_cmp x) y) ∙ ap (λ b. cond b tags (index_tags old y)) (tied x y)
     where
-      by : (b : Bool) → tags_or (cond b o (map.get old y)) ≡ cond b tags (tags_at old y)
+      by : (b : Bool) → tags_or (cond b o (map.get old y)) ≡ cond b tags (index_tags old y)
       by true = is
       by false = refl
 

@@ -11,7 +11,7 @@ use Rattle.std.proofs.lemmas.Grind.{common_steps}
 use Rattle.std.proofs.lemmas.List.Sorted.{IsNonDecreasingBy-from_default}
 use Rattle.std.proofs.lemmas.List.Edits.{length-insert, get_or-insert_below, get_or-insert_at, get_or-insert_above}
 use Rattle.la_orset.specs.declared.rows.Row.{Row}
-use Rattle.la_orset.specs.Rows.{known, at_number, live_element, named, no_row, number_at, IsAscending, IsAt, IsGapFor, IsPut}
+use Rattle.la_orset.specs.Rows.{known_row, at_number, live_element, named_known, no_row, number_at, IsAscending, IsAt, IsGapFor, IsPut}
 
 -- no row before a place has the number
 abbrev IsNotBefore : List Row → ℕ → ℕ → Type 0
@@ -31,7 +31,7 @@ absent (row ∷ rows) n none =
 
 -- the first row that has it
 present : (rows : List Row) (n i : ℕ) → IsAt rows n i → IsNotBefore rows n i
-    → at_number rows n ≡ Some (known (get_or rows i no_row))
+    → at_number rows n ≡ Some (known_row (get_or rows i no_row))
 present [] n i at none = absurd (omega (arith, at.in_range))
 present (row ∷ rows) n zero at none = grind (arith, nat_tests, at.has_number)
 present (row ∷ rows) n (suc i) at none =
@@ -45,7 +45,7 @@ present (row ∷ rows) n (suc i) at none =
 
 -- a row in the place of the first that has its number
 put_set : (rows : List Row) (row : Row) (i : ℕ) → IsAt rows row.number i → IsNotBefore rows row.number i
-    → IsPut rows row.number (Some (known row)) (set rows i row)
+    → IsPut rows row.number (Some (known_row row)) (set rows i row)
 put_set [] row i at none q = absurd (omega (arith, at.in_range))
 put_set (x ∷ rows) row zero at none q = grind (arith, nat_tests, at.has_number)
 put_set (x ∷ rows) row (suc i) at none q =
@@ -59,7 +59,7 @@ put_set (x ∷ rows) row (suc i) at none q =
 
 -- a new row before any that has its number
 put_insert : (rows : List Row) (row : Row) (i : ℕ) → IsNotBefore rows row.number i
-    → IsPut rows row.number (Some (known row)) (insert rows i row)
+    → IsPut rows row.number (Some (known_row row)) (insert rows i row)
 put_insert rows row zero none q = grind (arith, nat_tests)
 put_insert [] row (suc i) none q = grind (arith, nat_tests)
 put_insert (x ∷ rows) row (suc i) none q =
@@ -88,12 +88,12 @@ module _ (rows : List Row) (ascending : IsAscending rows) (n i : ℕ) (at : IsAt
   none_before : IsNotBefore rows n i
   none_before j lt same = omega (arith, ascending j i lt at.in_range, at.has_number)
 
-  pub row_there : at_number rows n ≡ Some (known (get_or rows i no_row))
+  pub row_there : at_number rows n ≡ Some (known_row (get_or rows i no_row))
   row_there = present rows n i at none_before
 
-  pub put_there : (row : Row) → row.number ≡ n → IsPut rows n (Some (known row)) (set rows i row)
+  pub put_there : (row : Row) → row.number ≡ n → IsPut rows n (Some (known_row row)) (set rows i row)
   put_there row is =
-      subst (λ m. IsPut rows m (Some (known row)) (set rows i row)) is
+      subst (λ m. IsPut rows m (Some (known_row row)) (set rows i row)) is
       (put_set rows row i (subst (λ m. IsAt rows m i) (sym is) at)
       (subst (λ m. IsNotBefore rows m i) (sym is) none_before))
 
@@ -105,9 +105,9 @@ module _ (rows : List Row) (n i : ℕ) (gap : IsGapFor rows n i) where
   pub not_there : at_number rows n ≡ None
   not_there = absent rows n (λ j lt same. grind (arith, gap.lower_before j, gap.higher_after j))
 
-  pub put_between : (row : Row) → row.number ≡ n → IsPut rows n (Some (known row)) (insert rows i row)
+  pub put_between : (row : Row) → row.number ≡ n → IsPut rows n (Some (known_row row)) (insert rows i row)
   put_between row is =
-      subst (λ m. IsPut rows m (Some (known row)) (insert rows i row)) is
+      subst (λ m. IsPut rows m (Some (known_row row)) (insert rows i row)) is
       (put_insert rows row i (λ j lt same. omega (arith, is, same, gap.lower_before j lt)))
 
   pub insert_ascending : (row : Row) → row.number ≡ n → IsAscending rows → IsAscending (insert rows i row)
@@ -171,8 +171,8 @@ module _ (rows : List Row) (ascending : IsAscending rows) (n i : ℕ) (at : IsAt
   pub read_number : row.number ≡ n
   read_number = ap (λ (r : Row). r.number) read_is ∙ at.has_number
 
-  pub read_known : at_number rows n ≡ Some (known row)
-  read_known = row_there rows ascending n i at ∙ ap (λ r. Some (known r)) (sym read_is)
+  pub read_known : at_number rows n ≡ Some (known_row row)
+  read_known = row_there rows ascending n i at ∙ ap (λ r. Some (known_row r)) (sym read_is)
 
   pub answer_live : row.gone ≡ false → Some row.element ≡ live_element (at_number rows n)
   answer_live stays = sym (ap live_element read_known ∙ ap (λ b. if b then None else Some row.element) stays)
@@ -180,20 +180,20 @@ module _ (rows : List Row) (ascending : IsAscending rows) (n i : ℕ) (at : IsAt
   pub answer_gone : row.gone ≡ true → None ≡ live_element (at_number rows n)
   answer_gone gone = sym (ap live_element read_known ∙ ap (λ b. if b then None else Some row.element) gone)
 
-  pub named_put : IsPut rows n (named (at_number rows n)) (set rows i (record { number = row.number; gone = true; element = row.element }))
+  pub named_put : IsPut rows n (named_known (at_number rows n)) (set rows i (record { number = row.number; gone = true; element = row.element }))
   named_put = subst (λ o. IsPut rows n o (set rows i (record { number = row.number; gone = true; element = row.element })))
-      (sym (ap named read_known)) (put_there rows ascending n i at (record { number = row.number; gone = true; element = row.element }) read_number)
+      (sym (ap named_known read_known)) (put_there rows ascending n i at (record { number = row.number; gone = true; element = row.element }) read_number)
 
   pub named_ascending : IsAscending (set rows i (record { number = row.number; gone = true; element = row.element }))
   named_ascending = set_ascending rows ascending n i at (record { number = row.number; gone = true; element = row.element }) read_number
 
-  put_same : (q : ℕ) (b : Bool) → eqb n q ≡ b → at_number rows q ≡ (if b then Some (known row) else at_number rows q)
+  put_same : (q : ℕ) (b : Bool) → eqb n q ≡ b → at_number rows q ≡ (if b then Some (known_row row) else at_number rows q)
   put_same q true is = ap (at_number rows) (sym (eqb-true n q is)) ∙ read_known
   put_same q false is = refl
 
   -- one that was named is not changed
-  pub named_same : row.gone ≡ true → IsPut rows n (named (at_number rows n)) rows
-  named_same gone = subst (λ o. IsPut rows n o rows) (sym (ap named read_known ∙ ap (λ b. Some (record { element = row.element; gone = b })) (sym gone))) (λ q. put_same q (eqb n q) refl)
+  pub named_same : row.gone ≡ true → IsPut rows n (named_known (at_number rows n)) rows
+  named_same gone = subst (λ o. IsPut rows n o rows) (sym (ap named_known read_known ∙ ap (λ b. Some (record { element = row.element; gone = b })) (sym gone))) (λ q. put_same q (eqb n q) refl)
 
 -- ## Guesses
 

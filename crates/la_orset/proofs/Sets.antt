@@ -10,7 +10,7 @@ use Rattle.std.specs.FinMap as map
 use Rattle.std.specs.FinMap.{FinMap, IsAntisymmetric}
 use Rattle.std.specs.FinMap.Entries.{is_sorted, below_all}
 use Rattle.std.proofs.lemmas.List.{nil_from_length}
-use Rattle.la_orset.specs.Index.{set_of, has_any}
+use Rattle.la_orset.specs.Index.{key_set, has_any}
 use Rattle.la_object.proofs.lemmas.Sorted.{units, entries-from_entries, sorted-keys}
 
 abbrev marked : Bool → Option (Unit {0})
@@ -63,13 +63,13 @@ pub keys-empty : {K : Type 0} (R : K → K → Ordering) (X : Type 0) → map.ke
 keys-empty {K} R X = ap (list_map (λ (e : K × X). e.0)) (entries-empty R X)
 
 module _ {K : Type 0} {R : K → K → Ordering} (o : IsTotalOrder R) (same : IsAntisymmetric R) where
-  get-set_of : (ks : List K) (q : K) → map.get (set_of {R = R} ks) q ≡ marked (list_any (eq_by_cmp R q) ks)
+  get-set_of : (ks : List K) (q : K) → map.get (key_set {R = R} ks) q ≡ marked (list_any (eq_by_cmp R q) ks)
   get-set_of [] q = map.get-empty R q
   get-set_of (k ∷ ks) q =
-      map.get-insert o (set_of ks) k tt q ∙ ap (cond (eq_by_cmp R q k) (Some tt)) (get-set_of ks q)
+      map.get-insert o (key_set ks) k tt q ∙ ap (cond (eq_by_cmp R q k) (Some tt)) (get-set_of ks q)
       ∙ marked-or (eq_by_cmp R q k) (list_any (eq_by_cmp R q) ks)
 
-  pub contains-set_of : (ks : List K) (q : K) → map.contains_key (set_of {R = R} ks) q ≡ list_any (eq_by_cmp R q) ks
+  pub contains-set_of : (ks : List K) (q : K) → map.contains_key (key_set {R = R} ks) q ≡ list_any (eq_by_cmp R q) ks
   contains-set_of ks q = ap is_some (get-set_of ks q) ∙ is_some-marked _
 
   pub same_members : (s t : FinMap R (Unit {0})) → ((q : K) → map.contains_key s q ≡ map.contains_key t q) → s ≡ t
@@ -86,25 +86,25 @@ module _ {K : Type 0} {R : K → K → Ordering} (o : IsTotalOrder R) (same : Is
   pub sorted-units : (ks : List K) → IsStrictlySortedBy R ks → T (is_sorted R (units ks))
   sorted-units ks h = sorted-keys R (units ks) (subst (IsStrictlySortedBy R) (sym (keys-units ks)) h)
 
-  pub keys-set_of : (ks : List K) → T (is_sorted R (units ks)) → map.keys (set_of {R = R} ks) ≡ ks
+  pub keys-set_of : (ks : List K) → T (is_sorted R (units ks)) → map.keys (key_set {R = R} ks) ≡ ks
   keys-set_of ks h =
       ap (list_map (λ (e : K × Unit {0}). e.0)) (entries-from_entries o same (units ks) h) ∙ keys-units ks
 
   pub one_more : (ks ls : List K) (k : K)
       → ((q : K) → list_any (is_at (R q)) ls ≡ cond (is_at (R k) q) true (list_any (is_at (R q)) ks))
-      → set_of {R = R} ls ≡ map.insert (set_of ks) k tt
+      → key_set {R = R} ls ≡ map.insert (key_set ks) k tt
   one_more ks ls k h = same_members _ _ (λ q.
       contains-set_of ls q ∙ h q ∙ ap (λ b. cond b true (list_any (is_at (R q)) ks)) ((eq_by_cmp_equiv o).symm k q)
       ∙ cond-or (eq_by_cmp R q k) (list_any (eq_by_cmp R q) ks)
-      ∙ sym (contains-put (set_of ks) k q ∙ ap (λ b. eq_by_cmp R q k || b) (contains-set_of ks q)))
+      ∙ sym (contains-put (key_set ks) k q ∙ ap (λ b. eq_by_cmp R q k || b) (contains-set_of ks q)))
 
   pub one_less : (ks ls : List K) (k : K)
       → ((q : K) → list_any (is_at (R q)) ls ≡ cond (is_at (R k) q) false (list_any (is_at (R q)) ks))
-      → set_of {R = R} ls ≡ map.remove (set_of ks) k
+      → key_set {R = R} ls ≡ map.remove (key_set ks) k
   one_less ks ls k h = same_members _ _ (λ q.
       contains-set_of ls q ∙ h q ∙ ap (λ b. cond b false (list_any (is_at (R q)) ks)) ((eq_by_cmp_equiv o).symm k q)
       ∙ cond-and (eq_by_cmp R q k) (list_any (eq_by_cmp R q) ks)
-      ∙ sym (contains-taken (set_of ks) k q ∙ ap (λ b. not (eq_by_cmp R q k) && b) (contains-set_of ks q)))
+      ∙ sym (contains-taken (key_set ks) k q ∙ ap (λ b. not (eq_by_cmp R q k) && b) (contains-set_of ks q)))
 
   -- a set that nothing is in
   pub nothing_in : (s : FinMap R (Unit {0})) → has_any (map.keys s) ≡ false → s ≡ map.empty

@@ -9,6 +9,6 @@ use Rattle.la_orset.specs.Index.{TagMap}
 abbrev pub only_tag : UpdateId → TagMap
 only_tag id = map.insert map.empty id tt
 
-abbrev pub tags_of : Few → TagMap
-tags_of (One id) = only_tag id
-tags_of (List tags) = tags
+abbrev pub few_tags : Few → TagMap
+few_tags (One id) = only_tag id
+few_tags (List tags) = tags

@@ -9,12 +9,12 @@ use Rattle.la_set.specs.declared.update.UpdateId.{UpdateId}
 use Rattle.la_object.specs.IdOrder.{id_cmp, id_code, Elements, IdSet}
 
 -- the finite set of these keys, in the order R
-abbrev pub set_of : {K : Type 0} {R : K → K → Ordering} → List K → map.FinMap R (Unit {0})
-set_of ks = map.from_entries (list_map (λ k. (k, tt)) ks)
+abbrev pub key_set : {K : Type 0} {R : K → K → Ordering} → List K → map.FinMap R (Unit {0})
+key_set ks = map.from_entries (list_map (λ k. (k, tt)) ks)
 
 -- the test of ids
-abbrev pub id_eq : UpdateId → UpdateId → Bool
-id_eq a b = eqb a.replica b.replica && eqb a.number b.number
+abbrev pub same_id : UpdateId → UpdateId → Bool
+same_id a b = eqb a.replica b.replica && eqb a.number b.number
 
 -- a finite set of ids
 abbrev pub TagMap : Type 0
@@ -39,17 +39,17 @@ tags_or None = map.empty
 tags_or (Some tags) = tags
 
 -- an element's tags
-abbrev pub tags_at : Index → ℕ → TagMap
-tags_at index x = tags_or (map.get index x)
+abbrev pub index_tags : Index → ℕ → TagMap
+index_tags index x = tags_or (map.get index x)
 
 -- the elements are those that have a tag
 abbrev pub IsWhole : Index → Type 0
-IsWhole index = (x : ℕ) → map.contains_key index x ≡ has_any (map.keys (tags_at index x))
+IsWhole index = (x : ℕ) → map.contains_key index x ≡ has_any (map.keys (index_tags index x))
 
 -- the index with these tags in the place of an element's, and no others changed
 abbrev pub HasTags : Index → ℕ → TagMap → Index → Type 0
 HasTags old x tags new =
-    (y : ℕ) → tags_at new y ≡ (if y == x then tags else tags_at old y)
+    (y : ℕ) → index_tags new y ≡ (if y == x then tags else index_tags old y)
 
 -- whether an id under which something may have been put is a live tag of the element
 abbrev pub is_tag : IdSet → ℕ → UpdateId → Option ℕ → Bool
@@ -59,4 +59,4 @@ is_tag gone x id (Some y) = not (set.contains gone id) && (y == x)
 -- each element has its live tags
 abbrev pub IsIndex : Elements → IdSet → Index → Type 0
 IsIndex adds gone index = (x : ℕ) (id : UpdateId)
-    → map.contains_key (tags_at index x) id ≡ is_tag gone x id (map.get adds id)
+    → map.contains_key (index_tags index x) id ≡ is_tag gone x id (map.get adds id)

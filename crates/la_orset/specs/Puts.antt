@@ -9,16 +9,16 @@ use Rattle.la_set.specs.declared.update.UpdateId.{UpdateId}
 use Rattle.la_object.specs.IdOrder.{id_cmp, id_code, Elements, IdSet}
 use Rattle.la_object.specs.OrSet.{with_element}
 use Rattle.la_orset.specs.declared.rows.Row.{Row}
-use Rattle.la_orset.specs.Rows.{Known, known}
+use Rattle.la_orset.specs.Rows.{KnownRow, known_row}
 
-abbrev pub known_code : Coded Known
+abbrev pub known_code : Coded KnownRow
 known_code =
     code_by (ℕ × Bool) (coded× coded_ℕ coded_bool)
     (λ k. (k.element, k.gone)) (λ p. record { element = p.0; gone = p.1 }) (λ _. refl)
 
 -- what was put, by id
 abbrev pub PutMap : Type 0
-PutMap = map.FinMap id_cmp Known
+PutMap = map.FinMap id_cmp KnownRow
 
 abbrev pub put_map_code : Coded PutMap
 put_map_code = map.code id_code known_code
@@ -37,7 +37,7 @@ abbrev pub gone_of : IdSet → PutMap → IdSet
 gone_of early puts = set.union early (named_of puts)
 
 -- what was put, with the id named where something was put under it
-abbrev pub named_at : PutMap → UpdateId → Option Known → PutMap
+abbrev pub named_at : PutMap → UpdateId → Option KnownRow → PutMap
 named_at puts id None = puts
 named_at puts id (Some k) = map.insert puts id (record { element = k.element; gone = true })
 
@@ -58,20 +58,20 @@ NamesPut old ids new = (id : UpdateId)
     → set.contains (named_of new) id ≡ (set.contains (named_of old) id || (is_one ids id && map.contains_key old id))
 
 -- the rows of a replica by id, and those of all from a replica on
-abbrev pub row_entry : ℕ → Row → UpdateId × Known
-row_entry replica row = (record { replica = replica; number = row.number }, known row)
+abbrev pub row_entry : ℕ → Row → UpdateId × KnownRow
+row_entry replica row = (record { replica = replica; number = row.number }, known_row row)
 
-abbrev pub entries_from : ℕ → List (List Row) → List (UpdateId × Known)
+abbrev pub entries_from : ℕ → List (List Row) → List (UpdateId × KnownRow)
 entries_from replica [] = []
 entries_from replica (rows ∷ more) = list_map (row_entry replica) rows ++ entries_from (suc replica) more
 
 -- the elements of entries are added one after another, where there is none under the id
-abbrev pub all_added : Elements → List (UpdateId × Known) → Elements
+abbrev pub all_added : Elements → List (UpdateId × KnownRow) → Elements
 all_added adds [] = adds
 all_added adds (e ∷ es) = all_added (with_element adds e.0 (Some e.1.element)) es
 
 -- the ids of entries that are gone are added one after another
-abbrev pub all_gone : IdSet → List (UpdateId × Known) → IdSet
+abbrev pub all_gone : IdSet → List (UpdateId × KnownRow) → IdSet
 all_gone ids [] = ids
 all_gone ids (e ∷ es) = all_gone (if e.1.gone then set.insert ids e.0 else ids) es
 

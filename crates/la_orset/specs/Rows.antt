@@ -3,17 +3,17 @@ use Rattle.std.specs.Prelude.{◌≡◌, ℕ, ◌<◌, ◌≤◌, ◌==◌, Bool
 use Rattle.la_orset.specs.declared.rows.Row.{Row}
 
 -- what was put, and whether a Remove named the id of its Put
-pub record Known : Type 0 where
+pub record KnownRow : Type 0 where
   pub element : ℕ
   pub gone : Bool
 
-abbrev pub known : Row → Known
-known row = record { element = row.element; gone = row.gone }
+abbrev pub known_row : Row → KnownRow
+known_row row = record { element = row.element; gone = row.gone }
 
 -- what was put under a number
-abbrev pub at_number : List Row → ℕ → Option Known
+abbrev pub at_number : List Row → ℕ → Option KnownRow
 at_number [] n = None
-at_number (row ∷ rows) n = if n == row.number then Some (known row) else at_number rows n
+at_number (row ∷ rows) n = if n == row.number then Some (known_row row) else at_number rows n
 
 abbrev pub no_row : Row
 no_row = record { number = 0; gone = false; element = 0 }
@@ -37,15 +37,15 @@ pub record IsGapFor (rows : List Row) (n i : ℕ) : Type 0 where
   pub higher_after : (j : ℕ) → i ≤ j → j < length rows → n < number_at rows j
 
 -- under this number there is what is given, and under all others what was there
-abbrev pub IsPut : List Row → ℕ → Option Known → List Row → Type 0
+abbrev pub IsPut : List Row → ℕ → Option KnownRow → List Row → Type 0
 IsPut old n given new = (q : ℕ) → at_number new q ≡ (if n == q then given else at_number old q)
 
 -- the same, where a Remove names the id
-abbrev pub named : Option Known → Option Known
-named None = None
-named (Some k) = Some (record { element = k.element; gone = true })
+abbrev pub named_known : Option KnownRow → Option KnownRow
+named_known None = None
+named_known (Some k) = Some (record { element = k.element; gone = true })
 
 -- what was put, where no Remove named its id
-abbrev pub live_element : Option Known → Option ℕ
+abbrev pub live_element : Option KnownRow → Option ℕ
 live_element None = None
 live_element (Some k) = if k.gone then None else Some k.element

@@ -2,7 +2,7 @@ ghost use Rattle.std.specs.Prelude.{◌≡◌, false, IfOk, IfErr, OnOk, OnErr};
 ghost use Rattle.std.specs.Ordering.{nat_cmp};
 ghost use Rattle.std.specs.FinMap as map;
 ghost use Rattle.la_object.specs.Refusals.{IsObserveRefusal};
-ghost use Rattle.la_orset.specs.Index.{tags_at, IsWhole, HasTags};
+ghost use Rattle.la_orset.specs.Index.{index_tags, IsWhole, HasTags};
 
 use crate::tag_set::TagSet;
 use la_object::{Items, ObserveError};
@@ -81,8 +81,8 @@ impl LiveTable {
 
     /// The tags of an element, in ascending order.
     pub fn tags(&self, element: u64) -> Result<Tags, ObserveError>
-        ensures ok { IfOk result (λ tags. tags ≡ map.keys (tags_at self.now element)) }
-        ensures error { IfErr result (IsObserveRefusal (map.keys (tags_at self.now element))) }
+        ensures ok { IfOk result (λ tags. tags ≡ map.keys (index_tags self.now element)) }
+        ensures error { IfErr result (IsObserveRefusal (map.keys (index_tags self.now element))) }
     {
         match self.by_element.get(&element) {
             Some(tags) => tags.tags(self.alloc),
@@ -93,9 +93,9 @@ impl LiveTable {
     /// Puts a tag of an element in, which it has not, and answers where the tag stands among the
     /// element's. After a refusal nothing has changed.
     pub fn insert(&mut self, element: u64, id: UpdateId) -> Result<usize, AllocError>
-        requires { map.contains_key (tags_at self.old element) id ≡ false }
+        requires { map.contains_key (index_tags self.old element) id ≡ false }
         ensures ok { OnOk result
-            (HasTags self.old element (map.insert (tags_at self.old element) id tt) self.new) }
+            (HasTags self.old element (map.insert (index_tags self.old element) id tt) self.new) }
         ensures err { OnErr result (self.new ≡ self.old) }
     {
         if let Some(tags) = self.by_element.get_mut(&element) {
@@ -113,7 +113,7 @@ impl LiveTable {
     /// Takes a tag of an element out, needing no memory, and answers which of the element's many tags
     /// stands at the hint now.
     pub fn remove(&mut self, element: u64, id: UpdateId, hint: usize) -> Option<UpdateId>
-        ensures { HasTags self.old element (map.remove (tags_at self.old element) id) self.new }
+        ensures { HasTags self.old element (map.remove (index_tags self.old element) id) self.new }
     {
         let Some(tags) = self.by_element.get_mut(&element) else {
             return None;

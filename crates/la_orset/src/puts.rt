@@ -1,7 +1,7 @@
 ghost use Rattle.std.specs.Prelude.{◌≡◌, ◌↔◌, ◌≤◌, length, map as list_map, is_none, IsTrue, IfOk, OnOk, OnErr};
 ghost use Rattle.std.specs.Option.{option_map};
 ghost use Rattle.std.specs.FinMap as map;
-ghost use Rattle.la_orset.specs.Rows.{known, live_element};
+ghost use Rattle.la_orset.specs.Rows.{known_row, live_element};
 ghost use Rattle.la_orset.specs.Puts.{adds_of, gone_of, with_named, entries_from, row_entry, all_added, all_gone};
 
 use crate::packed_row::PackedRow;
@@ -76,7 +76,7 @@ impl Puts {
         place: Option<u32>,
     ) -> Result<(), AllocError>
         ensures ok { OnOk result (self.new ≡ map.insert self.old id
-            (known (record { number = id.number; gone = is_none place; element = element }))) }
+            (known_row (record { number = id.number; gone = is_none place; element = element }))) }
         ensures err { OnErr result (self.new ≡ self.old) }
     {
         let replica = id.replica as usize;

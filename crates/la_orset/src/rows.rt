@@ -1,6 +1,6 @@
 ghost use Rattle.std.specs.Prelude.{◌≡◌, ℕ, [], Some, length, IsTrue, IfSome, IfOk, IfErr, OnOk, OnErr, is_some};
 ghost use Rattle.std.specs.Option.{option_map};
-ghost use Rattle.la_orset.specs.Rows.{known, at_number, live_element, named, IsAscending, IsAt, IsGapFor, IsPut};
+ghost use Rattle.la_orset.specs.Rows.{known_row, at_number, live_element, named_known, IsAscending, IsAt, IsGapFor, IsPut};
 
 use crate::packed_row::PackedRow;
 use crate::vectors::{growth_of, insert_at};
@@ -74,7 +74,7 @@ impl Rows {
     /// Puts a row in the place of the one with its number, or before those above, and notes where its
     /// tag stands. After a refusal nothing has changed.
     pub fn insert(&mut self, row: Row, place: u32) -> Result<(), AllocError>
-        ensures ok { OnOk result (IsPut self.old row.number (Some (known row)) self.new) }
+        ensures ok { OnOk result (IsPut self.old row.number (Some (known_row row)) self.new) }
         ensures err { OnErr result (self.new ≡ self.old) }
     {
         match self.search(row.number) {
@@ -95,7 +95,7 @@ impl Rows {
     pub fn name(&mut self, number: u32) -> Option<Named>
         ensures answer { option_map (λ named. named.element) result
             ≡ live_element (at_number self.old number) }
-        ensures named { IsPut self.old number (named (at_number self.old number)) self.new }
+        ensures named { IsPut self.old number (named_known (at_number self.old number)) self.new }
     {
         match self.search(number) {
             Ok(at) => {

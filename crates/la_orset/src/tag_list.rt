@@ -2,7 +2,7 @@ ghost use Rattle.std.specs.Prelude.{◌≡◌, ◌≤◌, Some, false, length, s
 ghost use Rattle.std.specs.List.{list_any};
 ghost use Rattle.std.specs.FinMap as map;
 ghost use Rattle.la_object.specs.Refusals.{IsObserveRefusal};
-ghost use Rattle.la_orset.specs.Index.{has_any, set_of, id_eq};
+ghost use Rattle.la_orset.specs.Index.{has_any, key_set, same_id};
 
 use crate::vectors::{growth_of, insert_at};
 use la_object::ObserveError;
@@ -19,15 +19,15 @@ pub struct TagList {
 
 impl Model for TagList {
     ghost use Rattle.std.specs.List.{IsDistinct};
-    ghost use Rattle.la_orset.specs.Index.{TagMap, tag_map_code, set_of, id_eq};
+    ghost use Rattle.la_orset.specs.Index.{TagMap, tag_map_code, key_set, same_id};
 
     ghost Value = { TagMap };
 
     ghost coded = { tag_map_code };
 
-    ghost view = { λ s. set_of s.ids.items };
+    ghost view = { λ s. key_set s.ids.items };
 
-    ghost invariant = { λ s. IsDistinct id_eq s.ids.items };
+    ghost invariant = { λ s. IsDistinct same_id s.ids.items };
 }
 
 impl TagList {
@@ -147,7 +147,7 @@ fn place_for(ids: &[UpdateId], id: UpdateId) -> usize
 // A place of an id: that which is guessed, or the first, by going through all.
 fn place_of(ids: &[UpdateId], id: UpdateId, guess: usize) -> Option<usize>
     ensures found { IfSome result (λ place. slice_get ids.now place ≡ Some id) }
-    ensures none { IfNone result (list_any (id_eq id) ids.now ≡ false) }
+    ensures none { IfNone result (list_any (same_id id) ids.now ≡ false) }
 {
     if guess < ids.len() && ids[guess] == id {
         return Some(guess);

@@ -2,7 +2,7 @@ ghost use Rattle.std.specs.Prelude.{◌≡◌, false, IfOk, IfErr, OnOk, OnErr};
 ghost use Rattle.std.specs.FinMap as map;
 ghost use Rattle.la_object.specs.Refusals.{IsObserveRefusal};
 ghost use Rattle.la_orset.specs.Index.{has_any};
-ghost use Rattle.la_orset.specs.Few.{tags_of, only_tag};
+ghost use Rattle.la_orset.specs.Few.{few_tags, only_tag};
 
 use crate::tag_list::TagList;
 use la_object::ObserveError;
@@ -26,13 +26,13 @@ enum Few {
 
 impl Model for TagSet {
     ghost use Rattle.la_orset.specs.Index.{TagMap, tag_map_code};
-    ghost use Rattle.la_orset.specs.Few.{tags_of};
+    ghost use Rattle.la_orset.specs.Few.{few_tags};
 
     ghost Value = { TagMap };
 
     ghost coded = { tag_map_code };
 
-    ghost view = { λ s. tags_of s.tags };
+    ghost view = { λ s. few_tags s.tags };
 }
 
 impl TagSet {
@@ -119,9 +119,9 @@ impl TagSet {
 
 // The tags with one more, or as they were where memory is refused.
 fn with_tag(alloc: Global, tags: Few, id: UpdateId) -> (Few, Result<(), AllocError>)
-    requires { map.contains_key (tags_of tags) id ≡ false }
-    ensures ok { OnOk result.1 (tags_of result.0 ≡ map.insert (tags_of tags) id tt) }
-    ensures err { OnErr result.1 (tags_of result.0 ≡ tags_of tags) }
+    requires { map.contains_key (few_tags tags) id ≡ false }
+    ensures ok { OnOk result.1 (few_tags result.0 ≡ map.insert (few_tags tags) id tt) }
+    ensures err { OnErr result.1 (few_tags result.0 ≡ few_tags tags) }
 {
     match tags {
         Few::One(there) => match pair(alloc, there, id) {
@@ -151,7 +151,7 @@ fn pair(alloc: Global, one: UpdateId, other: UpdateId) -> Result<TagList, AllocE
 
 // The tags without one, and which of them stands at the hint then.
 fn without(alloc: Global, tags: Few, id: UpdateId, hint: usize) -> (Few, Option<UpdateId>)
-    ensures { tags_of result.0 ≡ map.remove (tags_of tags) id }
+    ensures { few_tags result.0 ≡ map.remove (few_tags tags) id }
 {
     match tags {
         Few::One(there) => {

@@ -20,10 +20,10 @@ use Rattle.la_commit.specs.Laws.{HasVoteFor}
 use Rattle.la_commit.proofs.lemmas.Agreeing.{sole_values-agree, outcomes-agree, unanimous-commit}
 use Rattle.la_commit.proofs.lemmas.Casting.{votes-cast, own_vote-cast, own_vote-votes}
 use Rattle.la_runner.specs.declared.jobs.Entry.TheVariants.{Decided}
-use Rattle.la_runner.specs.Entries.{next_number, IsDecided, Answers}
+use Rattle.la_runner.specs.Entries.{next_number, IsDecided, AnswersJob}
 use Rattle.la_runner.specs.Members.{MemberState, IsCertified}
 use Rattle.la_runner.specs.Runs.{Place, Back, IsBackOf}
-use Rattle.la_runner.specs.Together.{HasSeen, IsSeenBy, AreSeen, Decision, IsMade, IsMadeAt, DecisionsCompare, IsFirstOfDecided, WasSubmitted, WasProposed, HasTheRunsSoleVotes, HasTheirVotes, IsAgreed, DecisionsAgree, IsTheirs, DecisionsAreTheirs}
+use Rattle.la_runner.specs.Together.{HasSeen, IsSeenBy, AreSeen, Decision, IsDecisionMade, IsMadeAt, DecisionsCompare, IsFirstOfDecided, WasSubmitted, WasProposed, HasTheRunsSoleVotes, HasTheirVotes, IsAgreed, DecisionsAgree, IsTheirs, DecisionsAreTheirs}
 use Rattle.la_runner.proofs.Proposing.{some_same, none_some}
 use Rattle.la_runner.specs.Participants.{HasProposed}
 use Rattle.la_runner.proofs.Submitting.{id_of, proposed_there, led_to}
@@ -78,26 +78,26 @@ voted_by false (x ∷ xs) own = inr (0, x, omega arith, refl, refl)
 -- ## Decisions of a run
 
 module _ (ps : List Place) (bs : List Back) (h : AllZip IsBackOf ps bs) where
-  log_is : (d : Decision) (m : IsMade ps bs d) → IsBackOf m.place m.log
+  log_is : (d : Decision) (m : IsDecisionMade ps bs d) → IsBackOf m.place m.log
   log_is d m =
       let at = zip_at ps bs m.at m.log h m.is_log in
       subst (λ x. IsBackOf x m.log) (some_same (sym at.1 ∙ m.is_given)) at.2
 
-  decided : (d : Decision) (m : IsMade ps bs d) → IsDecided m.log.member d.commit d.value d.first d.second d.reached
+  decided : (d : Decision) (m : IsDecisionMade ps bs d) → IsDecided m.log.member d.commit d.value d.first d.second d.reached
   decided d m =
       let a = (log_is d m).done.answers m.nth (Decided d.first d.second d.reached) m.is_entry in
       subst
       (λ j.
-      Answers m.log.member (next_number m.place.member (take m.nth m.place.jobs)) m.place.shelf.objects j
+      AnswersJob m.log.member (next_number m.place.member (take m.nth m.place.jobs)) m.place.shelf.objects j
       (Decided d.first d.second d.reached)) (some_same (sym a.1 ∙ m.is_job)) a.2
 
-  named : (d : Decision) (m : IsMade ps bs d) → m.log.member.replica ≡ d.replica
+  named : (d : Decision) (m : IsDecisionMade ps bs d) → m.log.member.replica ≡ d.replica
   named d m = sym (m.is_of ∙ (log_is d m).named)
 
-  first_vote : (d : Decision) → IsMade ps bs d → HoldsVote d.first d.replica (first_vote_for d.value)
+  first_vote : (d : Decision) → IsDecisionMade ps bs d → HoldsVote d.first d.replica (first_vote_for d.value)
   first_vote d m = subst (λ r. HoldsVote d.first r (first_vote_for d.value)) (named d m) (decided d m).first_vote
 
-  second_vote : (d : Decision) → IsMade ps bs d → HoldsVote d.second d.replica (second_vote_for d.first d.value)
+  second_vote : (d : Decision) → IsDecisionMade ps bs d → HoldsVote d.second d.replica (second_vote_for d.first d.value)
   second_vote d m =
       subst (λ r. HoldsVote d.second r (second_vote_for d.first d.value)) (named d m) (decided d m).second_vote
 
@@ -123,7 +123,7 @@ module _ (ps : List Place) (bs : List Back) (h : AllZip IsBackOf ps bs) where
         (certified_second w.witness w.sees k e of_e),
   )
 
-  own_in : (d : Decision) → IsMade ps bs d → Contains (votes d.second) (second_vote_for d.first d.value)
+  own_in : (d : Decision) → IsDecisionMade ps bs d → Contains (votes d.second) (second_vote_for d.first d.value)
   own_in d m = own_vote-votes d.second d.replica (second_vote_for d.first d.value) (second_vote d m)
 
   -- its member proposed what it decided on

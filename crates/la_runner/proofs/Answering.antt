@@ -16,11 +16,11 @@ use Rattle.la_proposer.specs.ProposerState.{op_on}
 use Rattle.la_shared.proofs.lemmas.Theorems.{prefix_self}
 use Rattle.la_runner.specs.declared.learned.Learned.{Learned}
 use Rattle.la_runner.specs.declared.jobs.Entry.TheVariants as entry
-use Rattle.la_runner.specs.Certificates.{seen_at, mine_at}
+use Rattle.la_runner.specs.Certificates.{passes_seen_at, mine_at}
 use Rattle.la_runner.specs.Entries.{AnswersUpdate, IsDecided, IsKnownTo}
 use Rattle.la_runner.specs.Instances.{InstanceState}
 use Rattle.la_runner.specs.Invariant.{IsMember}
-use Rattle.la_runner.specs.Members.{MemberState, GoesOn, passes_in, submitted_of, submitted_in, learnt_of, last_learnt, view, IsUpdateOf}
+use Rattle.la_runner.specs.Members.{MemberState, MemberGoesOn, passes_in, submitted_of, member_submitted, instance_learnt, member_learnt, member_view, IsUpdateOf}
 use Rattle.la_runner.specs.Participants.{IsDecision, IsOnlyAt}
 use Rattle.la_runner.proofs.Standing.{view_is}
 use Rattle.la_runner.proofs.Proposing.{some_same, none_some}
@@ -43,11 +43,11 @@ holds_last s r before d e =
 
 -- an update that was learnt answers its job
 pub update_answers : (old new : MemberState) (object : ℕ) (op : Op) (l : Learned) → IsUpdateOf old new l.updates
-    → submitted_in new 0 ≡ submitted_in old 0 ++ op_on object op ∷ []
-    → AnswersUpdate new (length (submitted_in old 0) + 1) object op (entry.Learned l)
+    → member_submitted new 0 ≡ member_submitted old 0 ++ op_on object op ∷ []
+    → AnswersUpdate new (length (member_submitted old 0) + 1) object op (entry.Learned l)
 update_answers old new object op l up submitted = (
   up.learnt.own,
-  holds_last l.updates new.replica (submitted_in old 0) (op_on object op) (up.learnt.holds ∙ submitted),
+  holds_last l.updates new.replica (member_submitted old 0) (op_on object op) (up.learnt.holds ∙ submitted),
 )
 
 long_snoc : {A : Type 0} (zs : List A) (d : A) → length (zs ++ d ∷ []) ≡ length zs + 1
@@ -61,10 +61,10 @@ one_longer xs ys d e = ap length e ∙ long_snoc xs d
 pub learnt_there : (o : Option Histories) (s : Histories) → o ≡ Some s → IsSome o
 learnt_there o s e = ap is_some e
 
-instance_within : (m : MemberState) (i : ℕ) (s : Histories) → last_learnt m i ≡ Some s → i < length m.instances
+instance_within : (m : MemberState) (i : ℕ) (s : Histories) → member_learnt m i ≡ Some s → i < length m.instances
 instance_within m i s e = go (slice_get m.instances i) refl e
   where
-    go : (o : Option InstanceState) → slice_get m.instances i ≡ o → learnt_of o ≡ Some s → i < length m.instances
+    go : (o : Option InstanceState) → slice_get m.instances i ≡ o → instance_learnt o ≡ Some s → i < length m.instances
     go None same l = absurd (none_some l)
     go (Some x) same l = slice_get_within m.instances i x same
 
@@ -78,7 +78,7 @@ commit_within m k value reached is d =
 
 -- a decision by the sets that were learnt last
 pub decision_is : (m : MemberState) (k value : ℕ) (reached : Outcome) (s t : Histories) → IsDecision k value m reached
-    → last_learnt m (first_instance k) ≡ Some s → last_learnt m (second_instance k) ≡ Some t
+    → member_learnt m (first_instance k) ≡ Some s → member_learnt m (second_instance k) ≡ Some t
     → IsDecided m k value s t reached
 decision_is m k value reached s t d one two =
     subst (λ (z : Histories × Histories). IsDecided m k value z.0 z.1 reached) (λ i. (some_same (sym d.is_first.learnt ∙ one) i, some_same (sym d.is_second.learnt ∙ two) i)) (record {
@@ -90,22 +90,22 @@ decision_is m k value reached s t d one two =
     })
 
 -- what happens at an adopt-commit object submits no update for the others
-pub none_submitted : (k : ℕ) (old new : MemberState) → IsOnlyAt k old new → submitted_in new 0 ≡ submitted_in old 0
+pub none_submitted : (k : ℕ) (old new : MemberState) → IsOnlyAt k old new → member_submitted new 0 ≡ member_submitted old 0
 none_submitted k old new only = ap submitted_of (only 0 (λ e. omega (arith, e)) (λ e. omega (arith, e)))
 
-pub goes_on_self : (m : MemberState) → GoesOn m m
+pub goes_on_self : (m : MemberState) → MemberGoesOn m m
 goes_on_self m = record {
   votes = refl;
   replica = refl;
   acceptors = refl;
-  seen = λ i a. prefix_self (seen_at (passes_in m i) a);
+  seen = λ i a. prefix_self (passes_seen_at (passes_in m i) a);
   mine = λ i a. prefix_self (mine_at (passes_in m i) a);
-  submitted = λ i. prefix_self (submitted_in m i);
+  submitted = λ i. prefix_self (member_submitted m i);
   grows = λ u has. has;
 }
 
 -- the view is known
-pub known_view : (m : MemberState) → IsMember m → (s : Histories) → s ≡ view m → IsKnownTo m s
+pub known_view : (m : MemberState) → IsMember m → (s : Histories) → s ≡ member_view m → IsKnownTo m s
 known_view m is s e = subst (IsKnownTo m) (sym e) (view_is m is)
 
 -- a shelf that has absorbed a set answers by it

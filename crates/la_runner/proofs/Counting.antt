@@ -12,8 +12,8 @@ use Rattle.la_object.specs.Shelves.{ShelfState}
 use Rattle.la_runner.specs.declared.jobs.Job.{Job}
 use Rattle.la_proposer.specs.Majority.{how_many}
 use Rattle.la_runner.specs.Counted.{Taker, has_met, have_met, counts_peer}
-use Rattle.la_runner.specs.Members.{MemberState, GroupState, IsOf, view}
-use Rattle.la_runner.specs.Runs.{Place, Back, place_of, places, IsReady, ContainsAll}
+use Rattle.la_runner.specs.Members.{MemberState, GroupState, IsOfGroup, member_view}
+use Rattle.la_runner.specs.Runs.{Place, Back, place_of, places, IsReadyMember, ContainsAll}
 use Rattle.la_runner.proofs.Keeping.{item_at, long_map, get_map, map_set}
 use Rattle.la_runner.proofs.Passing.{get-set_same, get-set_other, map-set_other}
 use Rattle.la_runner.proofs.Proposing.{some_same}
@@ -61,15 +61,15 @@ all_begun f made ms ss jss all none so_far =
     sym (ended (map f made)) ∙ ap (λ l. map f made ++ places l ss jss) (sym none) ∙ so_far
 
 pub ready_all : (group : GroupState) (ms : List MemberState) (ss : List ShelfState) (jss : List (List Job))
-    → All (IsOf group) ms → All (λ (s : ShelfState). s.view ≡ empty) ss
-    → All (λ (p : Place). IsReady group p.member p.shelf) (places ms ss jss)
-ready_all group [] ss jss of unused = All-nil (λ (p : Place). IsReady group p.member p.shelf)
-ready_all group (m ∷ ms) [] jss of unused = All-nil (λ (p : Place). IsReady group p.member p.shelf)
-ready_all group (m ∷ ms) (s ∷ ss) [] of unused = All-nil (λ (p : Place). IsReady group p.member p.shelf)
+    → All (IsOfGroup group) ms → All (λ (s : ShelfState). s.view ≡ empty) ss
+    → All (λ (p : Place). IsReadyMember group p.member p.shelf) (places ms ss jss)
+ready_all group [] ss jss of unused = All-nil (λ (p : Place). IsReadyMember group p.member p.shelf)
+ready_all group (m ∷ ms) [] jss of unused = All-nil (λ (p : Place). IsReadyMember group p.member p.shelf)
+ready_all group (m ∷ ms) (s ∷ ss) [] of unused = All-nil (λ (p : Place). IsReadyMember group p.member p.shelf)
 ready_all group (m ∷ ms) (s ∷ ss) (js ∷ jss) of unused =
-    All-cons (λ (p : Place). IsReady group p.member p.shelf) (place_of m s js) (places ms ss jss)
-    (record { of = of 0 m (omega arith); behind = subst (λ v. IsSubset v (view m)) (sym (unused 0 s (omega arith))) (empty_within (view m)) })
-    (ready_all group ms ss jss (all_rest (IsOf group) m (m ∷ ms) ms refl of)
+    All-cons (λ (p : Place). IsReadyMember group p.member p.shelf) (place_of m s js) (places ms ss jss)
+    (record { of = of 0 m (omega arith); behind = subst (λ v. IsSubset v (member_view m)) (sym (unused 0 s (omega arith))) (empty_within (member_view m)) })
+    (ready_all group ms ss jss (all_rest (IsOfGroup group) m (m ∷ ms) ms refl of)
     (all_rest (λ (z : ShelfState). z.view ≡ empty) s (s ∷ ss) ss refl unused))
 
 pub all_of_map : {A B : Type 0} (P : B → Type 0) (f : A → B) (xs : List A) → All P (map f xs) → All (λ x. P (f x)) xs
@@ -103,9 +103,9 @@ value_at f xs i x d lt e = get_or_from_slice_get (map f xs) i (f x) d (get_map f
 
 module _ (views : List Histories) (at upto count : ℕ) (c : Counting views at upto count) where
   -- the place itself
-  pub own_passed : (view : Histories) → upto ≡ at → ((d : Histories) → slice_index_or views upto d ≡ view)
+  pub own_passed : (member_view : Histories) → upto ≡ at → ((d : Histories) → slice_index_or views upto d ≡ member_view)
       → Counting views at (upto + 1) count
-  own_passed view here is = record {
+  own_passed member_view here is = record {
     own = 1;
     after = λ lt. refl;
     before = λ le. absurd (omega (arith, le, here));

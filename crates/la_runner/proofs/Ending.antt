@@ -17,7 +17,7 @@ use Rattle.la_runner.specs.declared.jobs.Stopped.TheVariants as cause
 use Rattle.la_runner.specs.Entries.{HasDone, StopsAt}
 use Rattle.la_runner.specs.Instances.{InstanceState}
 use Rattle.la_runner.specs.Invariant.{IsMember}
-use Rattle.la_runner.specs.Members.{MemberState, GoesOn, submitted_of, submitted_in, learnt_of, last_learnt, view}
+use Rattle.la_runner.specs.Members.{MemberState, MemberGoesOn, submitted_of, member_submitted, instance_learnt, member_learnt, member_view}
 use Rattle.la_runner.specs.Notes.{doings}
 use Rattle.la_runner.specs.Participants.{HasCommit, HasOther}
 use Rattle.la_runner.specs.Runs.{IsWorked}
@@ -46,7 +46,7 @@ submitted_by_is [] i = refl
 submitted_by_is (x ∷ xs) zero = refl
 submitted_by_is (x ∷ xs) (suc i) = submitted_by_is xs i
 
-learnt_by_is : (xs : List InstanceState) (i : ℕ) → learnt_of (slice_get xs i) ≡ learnt_by (slice_get (map doing xs) i)
+learnt_by_is : (xs : List InstanceState) (i : ℕ) → instance_learnt (slice_get xs i) ≡ learnt_by (slice_get (map doing xs) i)
 learnt_by_is [] i = refl
 learnt_by_is (x ∷ xs) zero = refl
 learnt_by_is (x ∷ xs) (suc i) = learnt_by_is xs i
@@ -65,12 +65,12 @@ cap_by_is (x ∷ xs) (y ∷ ys) e h =
     first_is a b more others e = cc
 
 module _ (old new : MemberState) (same : doings new ≡ doings old) where
-  submitted_same : (i : ℕ) → submitted_in new i ≡ submitted_in old i
+  submitted_same : (i : ℕ) → member_submitted new i ≡ member_submitted old i
   submitted_same i =
       submitted_by_is new.instances i ∙ ap (λ l. submitted_by (slice_get l i)) same
       ∙ sym (submitted_by_is old.instances i)
 
-  learnt_same : (i : ℕ) → last_learnt new i ≡ last_learnt old i
+  learnt_same : (i : ℕ) → member_learnt new i ≡ member_learnt old i
   learnt_same i =
       learnt_by_is new.instances i ∙ ap (λ l. learnt_by (slice_get l i)) same ∙ sym (learnt_by_is old.instances i)
 
@@ -113,10 +113,10 @@ module _ (old new : MemberState) (same : doings new ≡ doings old) where
 -- a worker that has done its jobs, sent its notes and taken those of its peers
 pub worked : (first ended last : MemberState) (shelf between absorbed : ShelfState) (jobs : List Job)
     (entries : List Entry) (why stopped : Option Stopped) → HasDone first shelf.objects jobs entries ended
-    → GoesOn first ended → (n : ℕ) → n ≡ length entries → (m : ℕ) → m ≡ length jobs → IfNone why (n ≡ m)
-    → IfSome why (StopsAt shelf.objects ended jobs n) → GoesOn ended last → doings last ≡ doings ended → IsMember last
+    → MemberGoesOn first ended → (n : ℕ) → n ≡ length entries → (m : ℕ) → m ≡ length jobs → IfNone why (n ≡ m)
+    → IfSome why (StopsAt shelf.objects ended jobs n) → MemberGoesOn ended last → doings last ≡ doings ended → IsMember last
     → (replica : ℕ) → replica ≡ last.replica → between.objects ≡ shelf.objects → absorbed.objects ≡ between.objects
-    → (stopped ≡ None → (why ≡ None) × (absorbed.view ≡ view last))
+    → (stopped ≡ None → (why ≡ None) × (absorbed.view ≡ member_view last))
     → IfSome stopped (λ w. (w ≡ cause.Memory) ⊎ (why ≡ Some w))
     → IsWorked first shelf jobs replica last absorbed entries stopped
 worked first ended last shelf between absorbed jobs entries why stopped done goes n n_is m m_is all stop then same is replica named kept kept_too none some = record {

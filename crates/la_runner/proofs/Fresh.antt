@@ -22,8 +22,8 @@ use Rattle.la_runner.specs.Following.{acceptors_of}
 use Rattle.la_runner.specs.Instances.{InstanceState, IsInstance, IsLearntSet}
 use Rattle.la_runner.specs.Invariant.{IsIn, IsMember}
 use Rattle.la_runner.specs.Members.{MemberState, GroupState, submitted_of}
-use Rattle.la_runner.specs.Participants.{IsParticipant}
-use Rattle.la_runner.specs.Starting.{newcomer, IsNewInstance, cap_in, IsNewMember, AreMembersFrom}
+use Rattle.la_runner.specs.Participants.{IsMemberParticipant}
+use Rattle.la_runner.specs.Starting.{newcomer, IsNewInstance, member_cap, IsNewMember, AreMembersFrom}
 
 -- ## One instance
 
@@ -110,7 +110,7 @@ pub record AreNew (group : List (List AcceptorName)) (votes : List ℕ) (own cap
   pub count : length xs ≡ at
   pub of : map (λ x. acceptors_of x.passes) xs ≡ take at group
   pub each : (i : ℕ) (row : List AcceptorName) (x : InstanceState) → slice_get group i ≡ Some row
-      → slice_get xs i ≡ Some x → IsNewInstance votes own (cap_in cap i) row x
+      → slice_get xs i ≡ Some x → IsNewInstance votes own (member_cap cap i) row x
 
 pub take_more : {A : Type 0} (xs : List A) (i : ℕ) (x : A) → slice_get xs i ≡ Some x
     → take (suc i) xs ≡ take i xs ++ x ∷ []
@@ -123,7 +123,7 @@ one_more n = omega arith
 
 pub new_push : (group : List (List AcceptorName)) (votes : List ℕ) (own cap at : ℕ) (xs : List InstanceState)
     (row : List AcceptorName) (x : InstanceState) → AreNew group votes own cap at xs → slice_get group at ≡ Some row
-    → IsNewInstance votes own (cap_in cap at) row x → AreNew group votes own cap (at + 1) (xs ++ x ∷ [])
+    → IsNewInstance votes own (member_cap cap at) row x → AreNew group votes own cap (at + 1) (xs ++ x ∷ [])
 new_push group votes own cap at xs row x are there new = record {
   count = length-append xs (x ∷ []) ∙ ap (λ n. n + 1) are.count;
   of =
@@ -135,7 +135,7 @@ new_push group votes own cap at xs row x are there new = record {
     | inr last ↦
         let place : i ≡ at = last.0 ∙ are.count in
         let same : row ≡ r = some_same (sym there ∙ ap (slice_get group) (sym place) ∙ here) in
-        subst (λ (w : ℕ × List AcceptorName × InstanceState). IsNewInstance votes own (cap_in cap w.0) w.1 w.2)
+        subst (λ (w : ℕ × List AcceptorName × InstanceState). IsNewInstance votes own (member_cap cap w.0) w.1 w.2)
         (λ j. (sym place j, same j, last.1 j)) new
   ];
 }
@@ -171,14 +171,14 @@ module _ (group : List (List AcceptorName)) (votes : List ℕ) (own cap : ℕ) (
       row_at g i (omega arith) (All-tail (λ (row : List AcceptorName). length row ≡ length votes) r g all)
 
   new_in : (i : ℕ) (x : InstanceState) → slice_get m.instances i ≡ Some x
-      → (row : List AcceptorName) × (length row ≡ length votes) × IsNewInstance votes own (cap_in cap i) row x
+      → (row : List AcceptorName) × (length row ≡ length votes) × IsNewInstance votes own (member_cap cap i) row x
   new_in i x e =
       let there = row_at group i (subst (λ n. i < n) are.count (slice_get_within m.instances i x e)) sizes in
       (there.0, there.2, are.each i there.0 x there.1 e)
 
   each_in : (i : ℕ) (x : InstanceState) → slice_get m.instances i ≡ Some x → IsIn m x
   each_in i x e = let new = new_in i x e in (
-    fresh_instance votes own (cap_in cap i) new.0 known few (capped (i == 0)) new.1 (cap_some (i == 0)) x new.2,
+    fresh_instance votes own (member_cap cap i) new.0 known few (capped (i == 0)) new.1 (cap_some (i == 0)) x new.2,
     ap (λ (p : ProposerState). p.votes) new.2.proposer ∙ sym votes_is,
     ap (λ (p : ProposerState). p.own) new.2.proposer ∙ sym own_is,
   )
@@ -189,7 +189,7 @@ module _ (group : List (List AcceptorName)) (votes : List ℕ) (own cap : ℕ) (
   nothing_in i (Some x) e =
       let new = new_in i x e in ap all_submitted new.2.proposer ∙ ap (λ h. h ++ []) (history-empty own)
 
-  fresh_participant : (k : ℕ) → IsParticipant m k
+  fresh_participant : (k : ℕ) → IsMemberParticipant m k
   fresh_participant k = record {
     first = inl (nothing_in (first_instance k) (slice_get m.instances (first_instance k)) refl);
     second = inl (nothing_in (second_instance k) (slice_get m.instances (second_instance k)) refl);

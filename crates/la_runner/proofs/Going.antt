@@ -11,26 +11,26 @@ use Rattle.la_proposer.specs.Inputs.{all_submitted}
 use Rattle.la_shared.specs.History.{HasYes}
 use Rattle.la_shared.specs.Passes.{Known}
 use Rattle.la_shared.proofs.lemmas.Theorems.{has-prefix, has-left, has-right}
-use Rattle.la_runner.specs.Certificates.{seen_at, mine_at, OfMajority}
+use Rattle.la_runner.specs.Certificates.{passes_seen_at, mine_at, OfMajority}
 use Rattle.la_runner.specs.Sound.{IsSound, HasReply, WasTold, IsView}
-use Rattle.la_runner.specs.Following.{GoOn, Beyond, Follows, IsLearnt}
+use Rattle.la_runner.specs.Following.{GoOn, Beyond, FollowsProposer, IsLearnt}
 use Rattle.la_runner.proofs.Certified.{of_majority, certificate_stays}
 use Rattle.la_runner.proofs.Passing.{prefix_trans, on_trans, Grown}
 
 -- what comes after what was seen, in passes that go on at either end
-pub beyond_later : (ps qs rs : List Known) (a : ℕ) (s : Histories) → IsPrefix (seen_at qs a) (seen_at rs a)
+pub beyond_later : (ps qs rs : List Known) (a : ℕ) (s : Histories) → IsPrefix (passes_seen_at qs a) (passes_seen_at rs a)
     → Beyond ps qs a s → Beyond ps rs a s
 beyond_later ps qs rs a s p b = (
   b.0 ++ p.0,
-  sym p.1 ∙ ap (λ l. l ++ p.0) b.1 ∙ append_assoc (seen_at ps a) b.0 p.0,
+  sym p.1 ∙ ap (λ l. l ++ p.0) b.1 ∙ append_assoc (passes_seen_at ps a) b.0 p.0,
   has-left b.0 p.0 s Yes b.2,
 )
 
-pub beyond_earlier : (ps qs rs : List Known) (a : ℕ) (s : Histories) → IsPrefix (seen_at ps a) (seen_at qs a)
+pub beyond_earlier : (ps qs rs : List Known) (a : ℕ) (s : Histories) → IsPrefix (passes_seen_at ps a) (passes_seen_at qs a)
     → Beyond qs rs a s → Beyond ps rs a s
 beyond_earlier ps qs rs a s p b = (
   p.0 ++ b.0,
-  b.1 ∙ ap (λ l. l ++ b.0) (sym p.1) ∙ append_assoc (seen_at ps a) p.0 b.0,
+  b.1 ∙ ap (λ l. l ++ b.0) (sym p.1) ∙ append_assoc (passes_seen_at ps a) p.0 b.0,
   has-right p.0 b.0 s Yes b.2,
 )
 
@@ -44,7 +44,7 @@ pub view_stays : (votes : List ℕ) (ps qs : List Known) (v : Histories) → GoO
 view_stays votes ps qs v go (inl e) = inl e
 view_stays votes ps qs v go (inr c) = inr (certificate_stays votes ps qs v go.seen c)
 
-pub follows_refl : (p : ProposerState) (ps qs : List Known) → GoOn ps qs → Follows p p ps qs
+pub follows_refl : (p : ProposerState) (ps qs : List Known) → GoOn ps qs → FollowsProposer p p ps qs
 follows_refl p ps qs go = record {
   votes = refl;
   own = refl;
@@ -56,8 +56,8 @@ follows_refl p ps qs go = record {
   fresh = λ a r. inl (refl, r);
 }
 
-pub follows_trans : (p q r : ProposerState) (ps qs rs : List Known) → Follows p q ps qs → Follows q r qs rs
-    → Follows p r ps rs
+pub follows_trans : (p q r : ProposerState) (ps qs rs : List Known) → FollowsProposer p q ps qs → FollowsProposer q r qs rs
+    → FollowsProposer p r ps rs
 follows_trans p q r ps qs rs f g = record {
   votes = g.votes ∙ f.votes;
   own = g.own ∙ f.own;
@@ -79,7 +79,7 @@ follows_trans p q r ps qs rs f g = record {
 }
 
 -- a set learnt after some steps was learnt after the first of them
-pub learnt_later : (p q : ProposerState) (ps qs rs : List Known) (n : ℕ) (s : Histories) → Follows p q ps qs
+pub learnt_later : (p q : ProposerState) (ps qs rs : List Known) (n : ℕ) (s : Histories) → FollowsProposer p q ps qs
     → IsPrefix (all_submitted q) (all_submitted p) → GoOn qs rs → IsLearnt q qs rs n s → IsLearnt p ps rs n s
 learnt_later p q ps qs rs n s f sub go l = record {
   own = subst (λ vs. OfMajority vs (λ a. HasYes (mine_at rs a) s)) f.votes l.own;

@@ -10,18 +10,18 @@ use Rattle.la_acceptor.specs.declared.reply.Reply.TheVariants.{Yes}
 use Rattle.la_proposer.specs.ProposerState.{ProposerState}
 use Rattle.la_proposer.specs.Inputs.{all_submitted}
 use Rattle.la_shared.specs.History.{HasYes}
-use Rattle.la_shared.specs.Passes.{Known, Told}
+use Rattle.la_shared.specs.Passes.{Known, ToldPass}
 use Rattle.la_shared.proofs.lemmas.Theorems.{has-prefix, prefix_self}
 use Rattle.la_runner.specs.declared.instance.Instance.{Instance}
 use Rattle.la_runner.specs.declared.member.Member.TheInside.{Inside}
 use Rattle.la_runner.specs.declared.note.MemberNote.TheInside as notes
-use Rattle.la_runner.specs.Certificates.{seen_at, mine_at, OfMajority}
+use Rattle.la_runner.specs.Certificates.{passes_seen_at, mine_at, OfMajority}
 use Rattle.la_runner.specs.Fields.{stands_for, note_stands_for}
 use Rattle.la_runner.specs.Following.{acceptors_of}
-use Rattle.la_runner.specs.Instances.{InstanceState, state_of, IsLearntSet, IsInstance, Steps}
+use Rattle.la_runner.specs.Instances.{InstanceState, state_of, IsLearntSet, IsInstance, InstanceSteps}
 use Rattle.la_runner.specs.Invariant.{IsMember}
-use Rattle.la_runner.specs.Members.{MemberState, GroupState, passes_of, submitted_of, submitted_in, learnt_of, last_learnt, view_of, view, acceptors_in, IsOf, GoesOn}
-use Rattle.la_runner.specs.Notes.{told_names, told_at, told_of, Meets, AllMeet, NoteState, IsNote, IsNoteOf, doings, HasMet}
+use Rattle.la_runner.specs.Members.{MemberState, GroupState, passes_of, submitted_of, member_submitted, instance_learnt, member_learnt, instance_view, member_view, acceptors_in, IsOfGroup, MemberGoesOn}
+use Rattle.la_runner.specs.Notes.{told_names, notes_told_at, told_of, Meets, AllMeet, NoteState, IsNote, IsNoteOf, doings, HasMetNote}
 use Rattle.la_runner.specs.Rounds.{IsLarger}
 use Rattle.la_runner.specs.Sound.{IsView, IsPassAt}
 use Rattle.la_runner.proofs.Certified.{certificates_compare}
@@ -51,7 +51,7 @@ there_too (x ∷ xs) (z ∷ ys) (suc i) y e at = there_too xs ys i y (omega arit
 
 -- ## One instance
 
-pub meets_instance : (t : List Told) (x y : InstanceState) → IsInstance x → Meets t x y → IsInstance y
+pub meets_instance : (t : List ToldPass) (x y : InstanceState) → IsInstance x → Meets t x y → IsInstance y
 meets_instance t x y is m = record {
   sound = m.sound;
   view =
@@ -87,7 +87,7 @@ module _ (m : MemberState) (is : IsMember m) (n : NoteState) (note : IsNote n) (
 
   record MetAt (i : ℕ) (y : InstanceState) : Type 0 where
     x : InstanceState
-    t : List Told
+    t : List ToldPass
     was : slice_get m.instances i ≡ Some x
     told : slice_get n.told i ≡ Some t
     meets : Meets t x y
@@ -99,8 +99,8 @@ module _ (m : MemberState) (is : IsMember m) (n : NoteState) (note : IsNote n) (
       record { x = one.0; t = two.0; was = one.1; told = two.1; meets = all.each i two.0 one.0 y two.1 one.1 e }
 
   -- a fact of each instance, or of none
-  each_met : (R : Option InstanceState → Option InstanceState → Option (List Told) → Type 0)
-      → ((t : List Told) (x y : InstanceState) → Meets t x y → R (Some x) (Some y) (Some t)) → R None None None → (i : ℕ)
+  each_met : (R : Option InstanceState → Option InstanceState → Option (List ToldPass) → Type 0)
+      → ((t : List ToldPass) (x y : InstanceState) → Meets t x y → R (Some x) (Some y) (Some t)) → R None None None → (i : ℕ)
       → R (slice_get m.instances i) (slice_get ys i) (slice_get n.told i)
   each_met R here none i = go (slice_get ys i) refl
     where
@@ -111,7 +111,7 @@ module _ (m : MemberState) (is : IsMember m) (n : NoteState) (note : IsNote n) (
           none_some : {A : Type 0} {a : A} → None ≡ Some a → ⊥
           none_some e = cc
 
-      gone_told : slice_get m.instances i ≡ None → (o : Option (List Told)) → slice_get n.told i ≡ o → o ≡ None
+      gone_told : slice_get m.instances i ≡ None → (o : Option (List ToldPass)) → slice_get n.told i ≡ o → o ≡ None
       gone_told e None f = refl
       gone_told e (Some x) f =
           absurd (let w = there_too m.instances n.told i x (sym told_long) f in none_some (sym e ∙ w.1))
@@ -123,21 +123,21 @@ module _ (m : MemberState) (is : IsMember m) (n : NoteState) (note : IsNote n) (
           → R (slice_get m.instances i) (slice_get ys i) (slice_get n.told i)
       go None e =
           let was = gone e (slice_get m.instances i) refl in
-          subst (λ (z : Option InstanceState × Option InstanceState × Option (List Told)). R z.0 z.1 z.2)
+          subst (λ (z : Option InstanceState × Option InstanceState × Option (List ToldPass)). R z.0 z.1 z.2)
           (λ k. (sym was k, sym e k, sym (gone_told was (slice_get n.told i) refl) k)) none
       go (Some y) e =
           let at = met_at i y e in
-          subst (λ (z : Option InstanceState × Option InstanceState × Option (List Told)). R z.0 z.1 z.2)
+          subst (λ (z : Option InstanceState × Option InstanceState × Option (List ToldPass)). R z.0 z.1 z.2)
           (λ k. (sym at.was k, sym e k, sym at.told k)) (here at.t at.x y at.meets)
 
-  same_submitted : (i : ℕ) → submitted_in mid i ≡ submitted_in m i
+  same_submitted : (i : ℕ) → member_submitted mid i ≡ member_submitted m i
   same_submitted i = each_met (λ o q t. submitted_of q ≡ submitted_of o) (λ t x y m. ap all_submitted m.proposer) refl i
 
-  same_learnt : (i : ℕ) → last_learnt mid i ≡ last_learnt m i
-  same_learnt i = each_met (λ o q t. learnt_of q ≡ learnt_of o) (λ t x y m. m.learnt) refl i
+  same_learnt : (i : ℕ) → member_learnt mid i ≡ member_learnt m i
+  same_learnt i = each_met (λ o q t. instance_learnt q ≡ instance_learnt o) (λ t x y m. m.learnt) refl i
 
-  pub same_view : view mid ≡ view m
-  same_view = each_met (λ o q t. view_of q ≡ view_of o) (λ t x y m. m.view) refl 0
+  pub same_view : member_view mid ≡ member_view m
+  same_view = each_met (λ o q t. instance_view q ≡ instance_view o) (λ t x y m. m.view) refl 0
 
   pub mid_member : IsMember mid
   mid_member = record {
@@ -157,7 +157,7 @@ module _ (m : MemberState) (is : IsMember m) (n : NoteState) (note : IsNote n) (
   same_prefix : {A : Type 0} (l r : List A) → r ≡ l → IsPrefix l r
   same_prefix l r e = subst (IsPrefix l) (sym e) (prefix_self l)
 
-  pub mid_goes_on : GoesOn m mid
+  pub mid_goes_on : MemberGoesOn m mid
   mid_goes_on = record {
     votes = refl;
     replica = refl;
@@ -168,25 +168,25 @@ module _ (m : MemberState) (is : IsMember m) (n : NoteState) (note : IsNote n) (
         (there_too n.told m.instances i x told_long at).1 at now).goes.acceptors);
     seen =
         λ i a.
-        each_met (λ o q t. IsPrefix (seen_at (passes_of o) a) (seen_at (passes_of q) a)) (λ t x y m. m.goes.seen a)
-        (prefix_self (seen_at [] a)) i;
+        each_met (λ o q t. IsPrefix (passes_seen_at (passes_of o) a) (passes_seen_at (passes_of q) a)) (λ t x y m. m.goes.seen a)
+        (prefix_self (passes_seen_at [] a)) i;
     mine =
         λ i a.
         each_met (λ o q t. IsPrefix (mine_at (passes_of o) a) (mine_at (passes_of q) a)) (λ t x y m. m.goes.mine a)
         (prefix_self (mine_at [] a)) i;
-    submitted = λ i. same_prefix (submitted_in m i) (submitted_in mid i) (same_submitted i);
-    grows = subst (IsSubset (view m)) (sym same_view) (subset-refl (view m));
+    submitted = λ i. same_prefix (member_submitted m i) (member_submitted mid i) (same_submitted i);
+    grows = subst (IsSubset (member_view m)) (sym same_view) (subset-refl (member_view m));
   }
 
-  told_nothing : (a : ℕ) → told_at [] a ≡ []
-  unfolding told_at
+  told_nothing : (a : ℕ) → notes_told_at [] a ≡ []
+  unfolding notes_told_at
   told_nothing a = refl
 
   pub mid_told : (i a : ℕ)
-      → IsPrefix (told_at (told_of (slice_get n.told i)) a) (seen_at (passes_of (slice_get ys i)) a)
+      → IsPrefix (notes_told_at (told_of (slice_get n.told i)) a) (passes_seen_at (passes_of (slice_get ys i)) a)
   mid_told i a =
-      each_met (λ o q t. IsPrefix (told_at (told_of t) a) (seen_at (passes_of q) a)) (λ t x z m. m.told a)
-      (subst (λ l. IsPrefix l (seen_at [] a)) (sym (told_nothing a)) (seen_at [] a, refl)) i
+      each_met (λ o q t. IsPrefix (notes_told_at (told_of t) a) (passes_seen_at (passes_of q) a)) (λ t x z m. m.told a)
+      (subst (λ l. IsPrefix l (passes_seen_at [] a)) (sym (told_nothing a)) (passes_seen_at [] a, refl)) i
 
   pub mid_doings : doings mid ≡ doings m
   mid_doings =
@@ -208,8 +208,8 @@ module _ (m : MemberState) (is : IsMember m) (n : NoteState) (note : IsNote n) (
     told_view : IsView y.proposer.votes y.passes n.view
     told_view = elim note [
       | inl e ↦ inl e
-      | inr c ↦ inr (subst (λ vs. OfMajority vs (λ a. HasYes (seen_at y.passes a) n.view)) (votes ∙ sym votes_are)
-          (c.0, c.1, λ a q. has-prefix (told_at (told_of (slice_get n.told 0)) a) (seen_at y.passes a) n.view Yes (subst (λ o. IsPrefix (told_at (told_of o) a) (seen_at y.passes a)) (sym first.told) (first.meets.told a)) (c.2 a q)))
+      | inr c ↦ inr (subst (λ vs. OfMajority vs (λ a. HasYes (passes_seen_at y.passes a) n.view)) (votes ∙ sym votes_are)
+          (c.0, c.1, λ a q. has-prefix (notes_told_at (told_of (slice_get n.told 0)) a) (passes_seen_at y.passes a) n.view Yes (subst (λ o. IsPrefix (notes_told_at (told_of o) a) (passes_seen_at y.passes a)) (sym first.told) (first.meets.told a)) (c.2 a q)))
     ]
 
     pub comparable_views : AreComparable y.view n.view
@@ -227,7 +227,7 @@ module _ (m : MemberState) (is : IsMember m) (n : NoteState) (note : IsNote n) (
         | inr e ↦ subst (IsView y.proposer.votes y.passes) (sym e) told_view
       ]
 
-      steps : Steps y now
+      steps : InstanceSteps y now
       steps = let was = (mid_member.each 0 y at).0 in record {
         is = record { sound = was.sound; view = now_view; learnt = was.learnt; cap = was.cap; under_way = was.under_way };
         follows = follows_refl y.proposer y.passes y.passes (on_refl y.passes);
@@ -238,17 +238,17 @@ module _ (m : MemberState) (is : IsMember m) (n : NoteState) (note : IsNote n) (
       pub met_member : IsMember (with_instance mid 0 now)
       met_member = stays_member mid 0 y now at steps mid_member (participants_beside mid now mid_member.participant)
 
-      pub met_goes_on : GoesOn m (with_instance mid 0 now)
+      pub met_goes_on : MemberGoesOn m (with_instance mid 0 now)
       met_goes_on = goes_on_then m mid (with_instance mid 0 now) mid_goes_on (goes_on mid 0 y now at steps)
 
       passes_now : (i : ℕ) → passes_of (slice_get (slice_set ys 0 now) i) ≡ passes_of (slice_get ys i)
       passes_now i = each_instance mid 0 y now at (λ o q. passes_of q ≡ passes_of o) refl (λ o. refl) i
 
-      pub has_met : HasMet n m (with_instance mid 0 now)
+      pub has_met : HasMetNote n m (with_instance mid 0 now)
       has_met = record {
         told =
             λ i a.
-            subst (λ l. IsPrefix (told_at (told_of (slice_get n.told i)) a) (seen_at l a)) (sym (passes_now i))
+            subst (λ l. IsPrefix (notes_told_at (told_of (slice_get n.told i)) a) (passes_seen_at l a)) (sym (passes_now i))
             (mid_told i a);
         mine =
             λ i a.
@@ -257,14 +257,14 @@ module _ (m : MemberState) (is : IsMember m) (n : NoteState) (note : IsNote n) (
         same = map-set_other (λ (z : InstanceState). (z.proposer, z.learnt)) ys 0 y now at refl ∙ mid_doings;
         view =
             subst (λ (z : Histories × Histories). IsLarger n.view z.0 z.1)
-            (λ k. ((sym (ap view_of at) ∙ same_view) k, sym (ap view_of (there mid 0 y now at)) k)) larger;
+            (λ k. ((sym (ap instance_view at) ∙ same_view) k, sym (ap instance_view (there mid 0 y now at)) k)) larger;
       }
 
 -- ## By what the code knows
 
 module _ (m : Inside) (n : MemberState) (same : stands_for m ≡ n) (is : IsMember (stands_for m)) (note : notes.Inside)
     (told : NoteState) (told_is : note_stands_for note ≡ told) (holds : IsNote (note_stands_for note))
-    (group : GroupState) (of : IsOf group n) (note_of : IsNoteOf group told) (ys : List Instance)
+    (group : GroupState) (of : IsOfGroup group n) (note_of : IsNoteOf group told) (ys : List Instance)
     (all : AllMeet (map (λ n. n.notes.items) note.told.items) (map state_of m.instances.items) (map state_of ys)) where
   votes_same : (note_stands_for note).votes ≡ (stands_for m).votes
   votes_same =
@@ -310,18 +310,18 @@ module _ (m : Inside) (n : MemberState) (same : stands_for m ≡ n) (is : IsMemb
           (met_member (stands_for m) is (note_stands_for note) holds votes_same (map state_of ys) all as_long
           (state_of y) here w is_larger)
 
-      pub goes_on_met : GoesOn n (record (stands_for m) { instances = map state_of (slice_set ys 0 now) })
+      pub goes_on_met : MemberGoesOn n (record (stands_for m) { instances = map state_of (slice_set ys 0 now) })
       goes_on_met =
-          subst (λ (z : MemberState × MemberState). GoesOn z.0 z.1) (λ k. (same k, sym after_is k))
+          subst (λ (z : MemberState × MemberState). MemberGoesOn z.0 z.1) (λ k. (same k, sym after_is k))
           (met_goes_on (stands_for m) is (note_stands_for note) holds votes_same (map state_of ys) all as_long
           (state_of y) here w is_larger)
 
-      pub of_met : IsOf group (record (stands_for m) { instances = map state_of (slice_set ys 0 now) })
+      pub of_met : IsOfGroup group (record (stands_for m) { instances = map state_of (slice_set ys 0 now) })
       of_met = of_after group n (record (stands_for m) { instances = map state_of (slice_set ys 0 now) }) of goes_on_met
 
-      pub has_met_now : HasMet told n (record (stands_for m) { instances = map state_of (slice_set ys 0 now) })
+      pub has_met_now : HasMetNote told n (record (stands_for m) { instances = map state_of (slice_set ys 0 now) })
       has_met_now =
-          subst (λ (z : NoteState × MemberState × MemberState). HasMet z.0 z.1 z.2)
+          subst (λ (z : NoteState × MemberState × MemberState). HasMetNote z.0 z.1 z.2)
           (λ k. (told_is k, same k, sym after_is k))
           (has_met (stands_for m) is (note_stands_for note) holds votes_same (map state_of ys) all as_long (state_of y)
           here w is_larger)

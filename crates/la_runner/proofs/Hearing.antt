@@ -27,7 +27,7 @@ use Rattle.la_shared.specs.History.{HasEntry}
 use Rattle.la_shared.specs.Passes.{Known}
 use Rattle.la_runner.specs.Certificates.{mine_at}
 use Rattle.la_runner.specs.Sound.{IsSound, HasReply, WasTold}
-use Rattle.la_runner.specs.Following.{GoOn, Beyond, Follows, SubmitsNothing, Goes, IsLearnt, IfLearnt, StaysOpen, IsOpenOrWhole}
+use Rattle.la_runner.specs.Following.{GoOn, Beyond, FollowsProposer, SubmitsNothing, Goes, IsLearnt, IfLearnt, StaysOpen, IsOpenOrWhole}
 use Rattle.la_runner.proofs.Passing.{on_refl}
 
 -- ## Counted replies
@@ -172,7 +172,7 @@ module _ (p : ProposerState) (ps qs : List Known) (a : ℕ) (r : Reply) (is : Is
       })
       now
 
-  follows_by : (v : Verdict) → Follows p (after_verdict (with_reply p a r) v) ps qs
+  follows_by : (v : Verdict) → FollowsProposer p (after_verdict (with_reply p a r) v) ps qs
   follows_by Waits = record {
     votes = refl;
     own = refl;
@@ -195,7 +195,7 @@ module _ (p : ProposerState) (ps qs : List Known) (a : ℕ) (r : Reply) (is : Is
   }
   follows_by Learns =
       cond_both (is_nothing p.waiting) (closed (with_reply p a r)) (after_opening (with_reply p a r))
-      (λ q. Follows p q ps qs)
+      (λ q. FollowsProposer p q ps qs)
       (λ e. record {
         votes = refl;
         own = refl;
@@ -273,8 +273,8 @@ module _ (p : ProposerState) (ps qs : List Known) (a : ℕ) (r : Reply) (is : Is
         subst (λ z. IsSound z qs) after_is
         (sound_by (verdict_of (with_reply p a r)) (subst IsProposerState (sym after_is) state))
 
-    hears_follows : Follows p q ps qs
-    hears_follows = subst (λ z. Follows p z ps qs) after_is (follows_by (verdict_of (with_reply p a r)))
+    hears_follows : FollowsProposer p q ps qs
+    hears_follows = subst (λ z. FollowsProposer p z ps qs) after_is (follows_by (verdict_of (with_reply p a r)))
 
     hears_nothing : SubmitsNothing p q
     hears_nothing = subst (SubmitsNothing p) after_is (submits_by (verdict_of (with_reply p a r)))
@@ -340,9 +340,9 @@ module _ (p : ProposerState) (ps : List Known) (d : ObjectOp) (is : IsSound p ps
       })
       now
 
-  pub submission_follows : Follows p (after_submission p d) ps ps
+  pub submission_follows : FollowsProposer p (after_submission p d) ps ps
   submission_follows =
-      cond_both p.is_asking (with_waiting p d) (after_opening (with_waiting p d)) (λ q. Follows p q ps ps)
+      cond_both p.is_asking (with_waiting p d) (after_opening (with_waiting p d)) (λ q. FollowsProposer p q ps ps)
       (λ e. record {
         votes = refl;
         own = refl;

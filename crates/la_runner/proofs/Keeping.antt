@@ -19,15 +19,15 @@ use Rattle.la_shared.proofs.lemmas.Theorems.{prefix_self}
 use Rattle.la_runner.specs.declared.instance.Instance.{Instance}
 use Rattle.la_runner.specs.declared.learned.Learned.{Learned}
 use Rattle.la_runner.specs.declared.member.Member.TheInside.{Inside}
-use Rattle.la_runner.specs.Certificates.{seen_at, mine_at, HasCertificate, HasOwnCertificate}
+use Rattle.la_runner.specs.Certificates.{passes_seen_at, mine_at, HasCertificate, HasOwnCertificate}
 use Rattle.la_runner.specs.Fields.{stands_for}
 use Rattle.la_runner.specs.Following.{acceptors_of}
-use Rattle.la_runner.specs.Instances.{InstanceState, state_of, with_update, Steps, IsComplete, IsUpdated}
+use Rattle.la_runner.specs.Instances.{InstanceState, state_of, with_update, InstanceSteps, IsComplete, IsUpdated}
 use Rattle.la_runner.specs.Invariant.{IsIn, IsMember}
-use Rattle.la_runner.specs.Members.{MemberState, InInstance, passes_of, passes_in, submitted_of, submitted_in, is_asking_of, number_of, learnt_of, last_learnt, view_of, GoesOn, IsOnlyIn, IsLearntIn, IsUpdateOf}
-use Rattle.la_runner.specs.Participants.{IsParticipant}
+use Rattle.la_runner.specs.Members.{MemberState, InMemberInstance, passes_of, passes_in, submitted_of, member_submitted, is_asking_of, number_of, instance_learnt, member_learnt, instance_view, MemberGoesOn, IsOnlyIn, IsLearntIn, IsUpdateOf}
+use Rattle.la_runner.specs.Participants.{IsMemberParticipant}
 use Rattle.la_runner.specs.declared.error.RunnerError.{RunnerError}
-use Rattle.la_runner.specs.Refusals.{IsRoundsRefusal, KeepsCounted, IsInstanceRefusal, IsSubmissionRefusal, IsUpdateRefusal, IsRefusedRounds, IsRefusedUpdate, IsRefusedResume}
+use Rattle.la_runner.specs.Refusals.{IsRoundsRefusal, KeepsCounted, IsInstanceRefusal, IsMemberSubmissionRefusal, IsUpdateRefusal, IsRefusedRounds, IsRefusedUpdate, IsRefusedResume}
 use Rattle.la_runner.proofs.Passing.{get-set_same, get-set_other, map-set_other, prefix_trans}
 
 -- ## One item of a list goes on
@@ -74,8 +74,8 @@ with_instance m i y = record m { instances = slice_set m.instances i y }
 
 -- and already where what it has submitted and learnt there does
 pub participant_same : (m n : MemberState) (k : ℕ) → n.replica ≡ m.replica
-    → ((i : ℕ) → submitted_in n i ≡ submitted_in m i) → ((i : ℕ) → last_learnt n i ≡ last_learnt m i) → IsParticipant m k
-    → IsParticipant n k
+    → ((i : ℕ) → member_submitted n i ≡ member_submitted m i) → ((i : ℕ) → member_learnt n i ≡ member_learnt m i) → IsMemberParticipant m k
+    → IsMemberParticipant n k
 participant_same m n k own submits learns p = record {
   first =
       elim p.first [ inl e ↦ inl (submits (first_instance k) ∙ e) | inr v ↦ inr (v.0, submits (first_instance k) ∙ v.1) ];
@@ -93,8 +93,8 @@ participant_same m n k own submits learns p = record {
 
 pub participant_stays : (m n : MemberState) (k : ℕ) → n.replica ≡ m.replica
     → slice_get n.instances (first_instance k) ≡ slice_get m.instances (first_instance k)
-    → slice_get n.instances (second_instance k) ≡ slice_get m.instances (second_instance k) → IsParticipant m k
-    → IsParticipant n k
+    → slice_get n.instances (second_instance k) ≡ slice_get m.instances (second_instance k) → IsMemberParticipant m k
+    → IsMemberParticipant n k
 participant_stays m n k own one two p = record {
   first = elim p.first [ inl e ↦ inl (ap submitted_of one ∙ e) | inr v ↦ inr (v.0, ap submitted_of one ∙ v.1) ];
   second = elim p.second [
@@ -102,7 +102,7 @@ participant_stays m n k own one two p = record {
     | inr v ↦ inr (record {
       first = v.first;
       vote = v.vote;
-      learnt = ap learnt_of one ∙ v.learnt;
+      learnt = ap instance_learnt one ∙ v.learnt;
       leads = subst (λ r. second_vote v.first r ≡ Some v.vote) (sym own) v.leads;
       cast = ap submitted_of two ∙ v.cast;
     })
@@ -110,8 +110,8 @@ participant_stays m n k own one two p = record {
 }
 
 -- a step in instance 0 touches none
-pub participants_beside : (m : MemberState) (y : InstanceState) → ((k : ℕ) → IsParticipant m k) → (k : ℕ)
-    → IsParticipant (with_instance m 0 y) k
+pub participants_beside : (m : MemberState) (y : InstanceState) → ((k : ℕ) → IsMemberParticipant m k) → (k : ℕ)
+    → IsMemberParticipant (with_instance m 0 y) k
 participants_beside m y are k =
     participant_stays m (with_instance m 0 y) k refl
     (get-set_other m.instances 0 (first_instance k) y (λ e. omega (arith, e)))
@@ -136,8 +136,8 @@ module _ (m : MemberState) (i : ℕ) (x y : InstanceState) (at : slice_get m.ins
   pub only_in : IsOnlyIn i m (with_instance m i y)
   only_in j ne = get-set_other m.instances i j y ne
 
-  module _ (steps : Steps x y) where
-    pub stays_member : IsMember m → ((k : ℕ) → IsParticipant (with_instance m i y) k) → IsMember (with_instance m i y)
+  module _ (steps : InstanceSteps x y) where
+    pub stays_member : IsMember m → ((k : ℕ) → IsMemberParticipant (with_instance m i y) k) → IsMember (with_instance m i y)
     stays_member is participants = record {
       some = subst (λ n. 1 ≤ n) (sym (length-set m.instances i y)) is.some;
       most = subst (λ n. n ≤ 33) (sym (length-set m.instances i y)) is.most;
@@ -153,7 +153,7 @@ module _ (m : MemberState) (i : ℕ) (x y : InstanceState) (at : slice_get m.ins
       participant = participants;
     }
 
-    pub goes_on : GoesOn m (with_instance m i y)
+    pub goes_on : MemberGoesOn m (with_instance m i y)
     goes_on = record {
       votes = refl;
       replica = refl;
@@ -162,8 +162,8 @@ module _ (m : MemberState) (i : ℕ) (x y : InstanceState) (at : slice_get m.ins
           steps.follows.passes.acceptors;
       seen =
           λ j a.
-          each_instance (λ o q. IsPrefix (seen_at (passes_of o) a) (seen_at (passes_of q) a))
-          (steps.follows.passes.seen a) (λ o. prefix_self (seen_at (passes_of o) a)) j;
+          each_instance (λ o q. IsPrefix (passes_seen_at (passes_of o) a) (passes_seen_at (passes_of q) a))
+          (steps.follows.passes.seen a) (λ o. prefix_self (passes_seen_at (passes_of o) a)) j;
       mine =
           λ j a.
           each_instance (λ o q. IsPrefix (mine_at (passes_of o) a) (mine_at (passes_of q) a))
@@ -172,7 +172,7 @@ module _ (m : MemberState) (i : ℕ) (x y : InstanceState) (at : slice_get m.ins
           λ j.
           each_instance (λ o q. IsPrefix (submitted_of o) (submitted_of q)) steps.submitted
           (λ o. prefix_self (submitted_of o)) j;
-      grows = each_instance (λ o q. IsSubset (view_of o) (view_of q)) steps.grows (λ o. subset-refl (view_of o)) 0;
+      grows = each_instance (λ o q. IsSubset (instance_view o) (instance_view q)) steps.grows (λ o. subset-refl (instance_view o)) 0;
     }
 
   -- ## What was learnt
@@ -194,7 +194,7 @@ module _ (m : MemberState) (i : ℕ) (x y : InstanceState) (at : slice_get m.ins
           λ t h.
           c.contains_own t
           (subst (λ (z : List ℕ × List Known). HasOwnCertificate z.0 z.1 t) (λ k. (sym votes k, ap passes_of at k)) h);
-      last = ap learnt_of there ∙ last;
+      last = ap instance_learnt there ∙ last;
     }
 
   -- ## What was refused
@@ -210,7 +210,7 @@ module _ (m : MemberState) (i : ℕ) (x y : InstanceState) (at : slice_get m.ins
   -- by what the rounds began with
   pub refused_after : (start : InstanceState → InstanceState) (rounds : ℕ) (e : RunnerError)
       → IsInstanceRefusal rounds (start x) y e
-      → InInstance m i (λ w. IsRefusedRounds rounds (start w) i (with_instance m i y) e)
+      → InMemberInstance m i (λ w. IsRefusedRounds rounds (start w) i (with_instance m i y) e)
   refused_after start rounds e h =
       subst (λ o. IsSomeAnd o (λ (w : InstanceState). IsRefusedRounds rounds (start w) i (with_instance m i y) e))
       (sym at) (refused_rounds rounds (start x) e h)
@@ -224,7 +224,7 @@ module _ (m : MemberState) (x y : InstanceState) (at : slice_get m.instances 0 �
         λ t h.
         u.contains t
         (subst (λ (z : List ℕ × List Known). HasCertificate z.0 z.1 t) (λ k. (sym votes k, ap passes_of at k)) h);
-    view = ap view_of (get-set_same m.instances 0 y (slice_get_within m.instances 0 x at)) ∙ seen;
+    view = ap instance_view (get-set_same m.instances 0 y (slice_get_within m.instances 0 x at)) ∙ seen;
   }
 
 -- ## The same of a member's fields
@@ -242,15 +242,15 @@ module _ (m : Inside) (i : ℕ) (x y : Instance) (at : slice_get m.instances.ite
   pub is_in : IsMember (stands_for m) → IsIn (stands_for m) (state_of x)
   is_in is = is.each i (state_of x) state_at
 
-  module _ (steps : Steps (state_of x) (state_of y)) where
+  module _ (steps : InstanceSteps (state_of x) (state_of y)) where
     pub member_after : IsMember (stands_for m)
-        → ((k : ℕ) → IsParticipant (with_instance (stands_for m) i (state_of y)) k) → IsMember (with_state m i y)
+        → ((k : ℕ) → IsMemberParticipant (with_instance (stands_for m) i (state_of y)) k) → IsMember (with_state m i y)
     member_after is are =
         subst IsMember (sym with_state_is) (stays_member (stands_for m) i (state_of x) (state_of y) state_at steps is are)
 
-    pub goes_on_after : (n : MemberState) → stands_for m ≡ n → GoesOn n (with_state m i y)
+    pub goes_on_after : (n : MemberState) → stands_for m ≡ n → MemberGoesOn n (with_state m i y)
     goes_on_after n e =
-        subst (λ (z : MemberState × MemberState). GoesOn z.0 z.1) (λ k. (e k, sym with_state_is k))
+        subst (λ (z : MemberState × MemberState). MemberGoesOn z.0 z.1) (λ k. (e k, sym with_state_is k))
         (goes_on (stands_for m) i (state_of x) (state_of y) state_at steps)
 
   pub only_after : (n : MemberState) → stands_for m ≡ n → IsOnlyIn i n (with_state m i y)
@@ -259,7 +259,7 @@ module _ (m : Inside) (i : ℕ) (x y : Instance) (at : slice_get m.instances.ite
       (only_in (stands_for m) i (state_of x) (state_of y) state_at)
 
 module _ (m : Inside) (x y : Instance) (at : slice_get m.instances.items 0 ≡ Some x)
-    (steps : Steps (state_of x) (state_of y)) where
+    (steps : InstanceSteps (state_of x) (state_of y)) where
   pub member_after_first : IsMember (stands_for m) → IsMember (with_state m 0 y)
   member_after_first is =
       member_after m 0 x y at steps is (participants_beside (stands_for m) (state_of y) is.participant)
@@ -268,14 +268,14 @@ module _ (m : Inside) (x y : Instance) (at : slice_get m.instances.items 0 ≡ S
 pub if_ok : {T E : Type 0} (r : Result T E) (t : T) (P : T → Type 0) → r ≡ Ok t → IfOk r P → P t
 if_ok r t P e h = subst (λ z. IfOk z P) e h
 
-pub goes_on_then : (a b c : MemberState) → GoesOn a b → GoesOn b c → GoesOn a c
+pub goes_on_then : (a b c : MemberState) → MemberGoesOn a b → MemberGoesOn b c → MemberGoesOn a c
 goes_on_then a b c f g = record {
   votes = g.votes ∙ f.votes;
   replica = g.replica ∙ f.replica;
   acceptors = g.acceptors ∙ f.acceptors;
   seen =
       λ i n.
-      prefix_trans (seen_at (passes_in a i) n) (seen_at (passes_in b i) n) (seen_at (passes_in c i) n) (f.seen i n)
+      prefix_trans (passes_seen_at (passes_in a i) n) (passes_seen_at (passes_in b i) n) (passes_seen_at (passes_in c i) n) (f.seen i n)
       (g.seen i n);
   mine =
       λ i n.
@@ -286,8 +286,8 @@ goes_on_then a b c f g = record {
       prefix_trans (submitted_of (slice_get a.instances i)) (submitted_of (slice_get b.instances i))
       (submitted_of (slice_get c.instances i)) (f.submitted i) (g.submitted i);
   grows =
-      subset-trans (view_of (slice_get a.instances 0)) (view_of (slice_get b.instances 0))
-      (view_of (slice_get c.instances 0)) f.grows g.grows;
+      subset-trans (instance_view (slice_get a.instances 0)) (instance_view (slice_get b.instances 0))
+      (instance_view (slice_get c.instances 0)) f.grows g.grows;
 }
 
 pub if_err : {T E : Type 0} (r : Result T E) (e : E) (P : E → Type 0) → r ≡ Err e → IfErr r P → P e
@@ -311,24 +311,24 @@ module _ (m : Inside) (x y : Instance) (at : slice_get m.instances.items 0 ≡ S
 
   pub submitted_after : (d : ObjectOp) (n : MemberState) → stands_for m ≡ n
       → all_submitted y.proposer ≡ all_submitted x.proposer ++ d ∷ []
-      → submitted_in (with_state m 0 y) 0 ≡ submitted_in n 0 ++ d ∷ []
+      → member_submitted (with_state m 0 y) 0 ≡ member_submitted n 0 ++ d ∷ []
   submitted_after d n e h =
       ap submitted_of there_now ∙ h
-      ∙ ap (λ l. l ++ d ∷ []) (sym (ap submitted_of (state_at m 0 x y at)) ∙ ap (λ z. submitted_in z 0) e)
+      ∙ ap (λ l. l ++ d ∷ []) (sym (ap submitted_of (state_at m 0 x y at)) ∙ ap (λ z. member_submitted z 0) e)
 
   refused_first : (start : InstanceState → InstanceState) (rounds : ℕ) (n : MemberState) → stands_for m ≡ n
       → (e : RunnerError) → IsInstanceRefusal rounds (start (state_of x)) (state_of y) e
-      → InInstance n 0 (λ w. IsRefusedRounds rounds (start w) 0 (with_state m 0 y) e)
+      → InMemberInstance n 0 (λ w. IsRefusedRounds rounds (start w) 0 (with_state m 0 y) e)
   refused_first start rounds n same e h =
-      subst (λ (z : MemberState × MemberState). InInstance z.0 0 (λ w. IsRefusedRounds rounds (start w) 0 z.1 e))
+      subst (λ (z : MemberState × MemberState). InMemberInstance z.0 0 (λ w. IsRefusedRounds rounds (start w) 0 z.1 e))
       (λ k. (same k, sym (with_state_is m 0 x y at) k))
       (refused_after (stands_for m) 0 (state_of x) (state_of y) (state_at m 0 x y at) start rounds e h)
 
   pub refused_update : (rounds : ℕ) (d : ObjectOp) (n : MemberState) → stands_for m ≡ n → (e : RunnerError)
       → IsUpdateRefusal rounds d (state_of x) (state_of y) e → IsRefusedUpdate rounds d n (with_state m 0 y) e
   refused_update rounds d n same e (inl h) = inl (
-    subst (λ z. InInstance z 0 (λ w. IsSubmissionRefusal w.proposer e)) same
-        (subst (λ o. IsSomeAnd o (λ w. IsSubmissionRefusal w.proposer e)) (sym (state_at m 0 x y at)) h.0),
+    subst (λ z. InMemberInstance z 0 (λ w. IsMemberSubmissionRefusal w.proposer e)) same
+        (subst (λ o. IsSomeAnd o (λ w. IsMemberSubmissionRefusal w.proposer e)) (sym (state_at m 0 x y at)) h.0),
     with_state_is m 0 x y at ∙ same_state ∙ same,
   )
     where

@@ -6,14 +6,14 @@ use Rattle.std.specs.List.{slice_get, slice_set, slice_index_or}
 use mathlib.Core.List.{IsPrefix}
 use Rattle.la_set.specs.Histories.{Histories}
 use Rattle.la_shared.specs.History.{HasEntry}
-use Rattle.la_shared.specs.Passes.{Known, Told, AcceptorName, IsPass}
+use Rattle.la_shared.specs.Passes.{Known, ToldPass, AcceptorName, IsPass}
 use Rattle.la_shared.proofs.lemmas.Theorems.{prefix_self}
-use Rattle.la_runner.specs.Certificates.{seen_of, mine_of, seen_at, mine_at}
+use Rattle.la_runner.specs.Certificates.{seen_of, mine_of, passes_seen_at, mine_at}
 use Rattle.la_runner.specs.Sound.{IsPassAt}
 use Rattle.la_runner.specs.Following.{acceptors_of}
 use Rattle.la_runner.specs.declared.instance.Instance.{Instance}
 use Rattle.la_runner.specs.Instances.{state_of}
-use Rattle.la_runner.specs.Notes.{told_seen, told_at, told_names}
+use Rattle.la_runner.specs.Notes.{told_seen, notes_told_at, told_names}
 use Rattle.la_runner.proofs.Fresh.{item_there}
 use Rattle.la_runner.proofs.Passing.{prefix_trans, on_refl, on_trans, get-set_same, get-set_other, Grown, grown}
 
@@ -26,29 +26,29 @@ grown_trans s ps qs rs f g = record {
 }
 
 -- these notes are still to be met
-pub record Meeting (s : Histories) (told : List Told) (ps : List Known) (notes : List Told) (qs : List Known) : Type 0
+pub record Meeting (s : Histories) (told : List ToldPass) (ps : List Known) (notes : List ToldPass) (qs : List Known) : Type 0
   where
     pub on : Grown s ps qs
     pub mine : (a : ℕ) → mine_at qs a ≡ mine_at ps a
     pub front : IsPrefix notes told
-    pub done : (a : ℕ) → length notes ≤ a → IsPrefix (told_at told a) (seen_at qs a)
+    pub done : (a : ℕ) → length notes ≤ a → IsPrefix (notes_told_at told a) (passes_seen_at qs a)
 
-pub told_past : (told : List Told) (a : ℕ) → length told ≤ a → told_seen (slice_get told a) ≡ []
+pub told_past : (told : List ToldPass) (a : ℕ) → length told ≤ a → told_seen (slice_get told a) ≡ []
 told_past [] a past = refl
 told_past (t ∷ told) zero past = absurd (omega arith)
 told_past (t ∷ told) (suc a) past = told_past told a (omega arith)
 
-pub meeting_start : (s : Histories) (told : List Told) (ps : List Known) → ((a : ℕ) → IsPassAt (slice_get ps a))
+pub meeting_start : (s : Histories) (told : List ToldPass) (ps : List Known) → ((a : ℕ) → IsPassAt (slice_get ps a))
     → Meeting s told ps told ps
-unfolding told_at
+unfolding notes_told_at
 meeting_start s told ps are = record {
   on = record { sizes = refl; on = on_refl ps; are = are; offered = λ a t r e. inl e };
   mine = λ a. refl;
   front = prefix_self told;
-  done = λ a past. subst (λ l. IsPrefix l (seen_at ps a)) (sym (told_past told a past)) (seen_at ps a, refl);
+  done = λ a past. subst (λ l. IsPrefix l (passes_seen_at ps a)) (sym (told_past told a past)) (passes_seen_at ps a, refl);
 }
 
-told_last : (notes rest : List Told) (n : Told) → slice_get ((notes ++ n ∷ []) ++ rest) (length notes) ≡ Some n
+told_last : (notes rest : List ToldPass) (n : ToldPass) → slice_get ((notes ++ n ∷ []) ++ rest) (length notes) ≡ Some n
 told_last [] rest n = refl
 told_last (t ∷ notes) rest n = told_last notes rest n
 
@@ -71,11 +71,11 @@ module _ (s : Histories) (qs : List Known) (i : ℕ) (k w : Known) (at : slice_g
     | inr ne ↦ ap mine_of (get-set_other qs i a w ne)
   ]
 
-  pub pass_seen : seen_at (slice_set qs i w) i ≡ w.seen
-  unfolding seen_at
+  pub pass_seen : passes_seen_at (slice_set qs i w) i ≡ w.seen
+  unfolding passes_seen_at
   pass_seen = ap seen_of set_here
 
-module _ (s : Histories) (told : List Told) (ps : List Known) (notes : List Told) (n : Told) (qs : List Known)
+module _ (s : Histories) (told : List ToldPass) (ps : List Known) (notes : List ToldPass) (n : ToldPass) (qs : List Known)
     (k w : Known) (m : Meeting s told ps (notes ++ n ∷ []) qs) (at : slice_get qs (length notes) ≡ Some k) (is : IsPass w)
     (same_one : w.acceptor ≡ k.acceptor) (seen : IsPrefix k.seen w.seen) (mine : w.mine ≡ k.mine)
     (heard : IsPrefix n.seen w.seen) where
@@ -85,19 +85,19 @@ module _ (s : Histories) (told : List Told) (ps : List Known) (notes : List Told
   same_mine : (a : ℕ) → mine_at (slice_set qs (length notes) w) a ≡ mine_at qs a
   same_mine = pass_mine s qs (length notes) k w at is same_one seen mine m.on.are
 
-  told_here : told_at told (length notes) ≡ n.seen
-  unfolding told_at
+  told_here : notes_told_at told (length notes) ≡ n.seen
+  unfolding notes_told_at
   told_here = ap told_seen (ap (λ l. slice_get l (length notes)) (sym m.front.1) ∙ told_last notes m.front.0 n)
 
-  seen_here : seen_at (slice_set qs (length notes) w) (length notes) ≡ w.seen
+  seen_here : passes_seen_at (slice_set qs (length notes) w) (length notes) ≡ w.seen
   seen_here = pass_seen s qs (length notes) k w at is same_one seen mine m.on.are
 
-  done_now : (a : ℕ) → length notes ≤ a → IsPrefix (told_at told a) (seen_at (slice_set qs (length notes) w) a)
+  done_now : (a : ℕ) → length notes ≤ a → IsPrefix (notes_told_at told a) (passes_seen_at (slice_set qs (length notes) w) a)
   done_now a past = elim (cases_eq a (length notes)) [
-    | inl e ↦ subst (λ b. IsPrefix (told_at told b) (seen_at (slice_set qs (length notes) w) b)) (sym e)
-        (subst (λ l. IsPrefix l (seen_at (slice_set qs (length notes) w) (length notes))) (sym told_here)
+    | inl e ↦ subst (λ b. IsPrefix (notes_told_at told b) (passes_seen_at (slice_set qs (length notes) w) b)) (sym e)
+        (subst (λ l. IsPrefix l (passes_seen_at (slice_set qs (length notes) w) (length notes))) (sym told_here)
         (subst (IsPrefix n.seen) (sym seen_here) heard))
-    | inr ne ↦ prefix_trans (told_at told a) (seen_at qs a) (seen_at (slice_set qs (length notes) w) a) (m.done a (let long = length-append notes (n ∷ []) in omega arith)) (step.on.seen a)
+    | inr ne ↦ prefix_trans (notes_told_at told a) (passes_seen_at qs a) (passes_seen_at (slice_set qs (length notes) w) a) (m.done a (let long = length-append notes (n ∷ []) in omega arith)) (step.on.seen a)
   ]
 
   pub meeting_step : Meeting s told ps notes (slice_set qs (length notes) w)
@@ -119,7 +119,7 @@ acceptor_there (x ∷ qs) zero k d at e = let same : x ≡ k = cc in e ∙ ap (�
 acceptor_there (x ∷ qs) (suc i) k d at e = acceptor_there qs i k d at e
 
 -- the same, by what the code knows: the pass and the acceptor at the place of the last note
-pub meeting_next : (s : Histories) (told : List Told) (ps : List Known) (items notes : List Told) (n : Told)
+pub meeting_next : (s : Histories) (told : List ToldPass) (ps : List Known) (items notes : List ToldPass) (n : ToldPass)
     (qs : List Known) (k w : Known) (names : List AcceptorName) (i : ℕ) (a : AcceptorName) → Meeting s told ps items qs
     → items ≡ notes ++ n ∷ [] → i ≡ length notes → acceptors_of ps ≡ names → told_names told ≡ names
     → k ≡ slice_index_or qs i k → a ≡ slice_index_or names i a → IsPass w → w.acceptor ≡ a → IsPrefix k.seen w.seen
@@ -134,7 +134,7 @@ meeting_next s told ps items notes n qs k w names i a met items_are i_is ours th
     as_many : length qs ≡ length told
     as_many =
         m.on.sizes ∙ sym (long_names (λ (z : Known). z.acceptor) ps) ∙ ap length (ours ∙ sym theirs)
-        ∙ long_names (λ (z : Told). z.acceptor) told
+        ∙ long_names (λ (z : ToldPass). z.acceptor) told
 
     within : length notes < length qs
     within =

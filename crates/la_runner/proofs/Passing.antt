@@ -13,7 +13,7 @@ use Rattle.la_shared.specs.History.{HasEntry}
 use Rattle.la_shared.specs.Passes.{Known, IsPass, Extends}
 use Rattle.la_shared.proofs.lemmas.Theorems.{has-cases, entry_stands, has-right}
 use Rattle.la_shared.proofs.lemmas.Theorems.{prefix_self}
-use Rattle.la_runner.specs.Certificates.{seen_of, mine_of, seen_at, mine_at}
+use Rattle.la_runner.specs.Certificates.{seen_of, mine_of, passes_seen_at, mine_at}
 use Rattle.la_runner.specs.Asking.{IsSamePass}
 use Rattle.la_runner.specs.Sound.{IsPassAt}
 use Rattle.la_runner.specs.Following.{GoOn, Beyond}
@@ -41,12 +41,12 @@ map-set_other f (x ∷ xs) zero k w at e = let same : x ≡ k = cc in ap (λ y. 
 map-set_other f (x ∷ xs) (suc i) k w at e = ap (λ ys. f x ∷ ys) (map-set_other f xs i k w at e)
 
 pub on_refl : (ps : List Known) → GoOn ps ps
-on_refl ps = record { acceptors = refl; seen = λ a. prefix_self (seen_at ps a); mine = λ a. prefix_self (mine_at ps a) }
+on_refl ps = record { acceptors = refl; seen = λ a. prefix_self (passes_seen_at ps a); mine = λ a. prefix_self (mine_at ps a) }
 
 pub on_trans : (ps qs rs : List Known) → GoOn ps qs → GoOn qs rs → GoOn ps rs
 on_trans ps qs rs f g = record {
   acceptors = g.acceptors ∙ f.acceptors;
-  seen = λ a. prefix_trans (seen_at ps a) (seen_at qs a) (seen_at rs a) (f.seen a) (g.seen a);
+  seen = λ a. prefix_trans (passes_seen_at ps a) (passes_seen_at qs a) (passes_seen_at rs a) (f.seen a) (g.seen a);
   mine = λ a. prefix_trans (mine_at ps a) (mine_at qs a) (mine_at rs a) (f.mine a) (g.mine a);
 }
 
@@ -73,12 +73,12 @@ module _ (s : Histories) (ps : List Known) (a : ℕ) (k w : Known) (at : slice_g
   pub grown : ((b : ℕ) → IsPassAt (slice_get ps b)) → IsPrefix k.seen w.seen → IsPrefix k.mine w.mine
       → ((t : Histories) (r : Reply) → HasEntry w.mine t r → HasEntry k.mine t r ⊎ (s ≡ t))
       → Grown s ps (slice_set ps a w)
-  unfolding seen_at mine_at
+  unfolding passes_seen_at mine_at
   grown are seen mine offered = record {
     sizes = length-set ps a w;
     on = record {
       acceptors = map-set_other (λ (z : Known). z.acceptor) ps a k w at same_one;
-      seen = λ b. each_pass (λ o q. IsPrefix (seen_of o) (seen_of q)) seen b (prefix_self (seen_at ps b));
+      seen = λ b. each_pass (λ o q. IsPrefix (seen_of o) (seen_of q)) seen b (prefix_self (passes_seen_at ps b));
       mine = λ b. each_pass (λ o q. IsPrefix (mine_of o) (mine_of q)) mine b (prefix_self (mine_at ps b));
     };
     are = λ b. each_pass (λ o q. IsPassAt q) is b (are b);
@@ -109,12 +109,12 @@ module _ (s : Histories) (ps : List Known) (a : ℕ) (k w : Known) (at : slice_g
 
   -- the entry stands there, after what was seen
   pub has_new : (r : Reply) → Extends s r k w → HasEntry (mine_at (slice_set ps a w) a) s r
-  unfolding seen_at mine_at
+  unfolding passes_seen_at mine_at
   has_new r x = subst (λ o. HasEntry (mine_of o) s r) (sym (get-set_same ps a w (slice_get_within ps a k at)))
       (subst (λ l. HasEntry l s r) (sym x.1.4) (entry_stands k.mine x.0 s r))
 
   pub beyond_new : (r : Reply) → Extends s r k w → r ≡ Yes → Beyond ps (slice_set ps a w) a s
-  unfolding seen_at mine_at
+  unfolding passes_seen_at mine_at
   beyond_new r x agreed = (
     x.1.0 ++ entry x.0 s r ∷ [],
     ap seen_of (get-set_same ps a w (slice_get_within ps a k at)) ∙ x.1.3

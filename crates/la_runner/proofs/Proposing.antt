@@ -17,10 +17,10 @@ use Rattle.la_runner.specs.declared.member.Member.TheInside.{Inside}
 use Rattle.la_runner.specs.Certificates.{HasOwnCertificate}
 use Rattle.la_runner.specs.Fields.{stands_for}
 use Rattle.la_runner.specs.Following.{acceptors_of}
-use Rattle.la_runner.specs.Instances.{InstanceState, state_of, with_vote}
+use Rattle.la_runner.specs.Instances.{InstanceState, state_of, vote_submitted}
 use Rattle.la_runner.specs.Invariant.{IsMember}
-use Rattle.la_runner.specs.Members.{MemberState, GroupState, passes_of, submitted_of, learnt_of, last_learnt, acceptors_in, IsOf, GoesOn, IsOnlyIn}
-use Rattle.la_runner.specs.Participants.{HasCommit, HasProposed, HasOther, IsVotedSet, IsDecision, MayVote, outcome_in, IsOnlyAt}
+use Rattle.la_runner.specs.Members.{MemberState, GroupState, passes_of, submitted_of, instance_learnt, member_learnt, acceptors_in, IsOfGroup, MemberGoesOn, IsOnlyIn}
+use Rattle.la_runner.specs.Participants.{HasCommit, HasProposed, HasOther, IsVotedSet, IsDecision, MayVote, member_outcome, IsOnlyAt}
 use Rattle.la_runner.specs.Refusals.{IsVoteError, IsRefusedVote, IsRefusedRounds, IsRefusedInEither, IsRefusedDecision}
 use Rattle.la_runner.proofs.Keeping.{item_at, long_map, get_map}
 use Rattle.la_runner.proofs.Telling.{as_many_rows, acceptors_there}
@@ -38,10 +38,10 @@ get_past (x ∷ xs) zero le = absurd (omega arith)
 get_past (x ∷ xs) (suc i) le = get_past xs i (omega arith)
 
 pub no_outcome : (m : Inside) (n : MemberState) (k : ℕ) → stands_for m ≡ n → IsMember (stands_for m) → 16 ≤ k
-    → None ≡ outcome_in n k
+    → None ≡ member_outcome n k
 no_outcome m n k same is le =
     sym
-    (ap (λ o. option_and_then (λ s. outcome_of s n.replica) (learnt_of o))
+    (ap (λ o. option_and_then (λ s. outcome_of s n.replica) (instance_learnt o))
     (ap (λ (z : MemberState). slice_get z.instances (second_instance k)) (sym same)
     ∙ get_past (map state_of m.instances.items) (second_instance k)
     (let most = is.most in omega (arith, most, le))))
@@ -56,7 +56,7 @@ place_at m n i x same lt e =
     lt) e
 
 pub acceptors_at : (m : Inside) (n : MemberState) (group : GroupState) (rows : List Row) (i : ℕ) (x : Instance)
-    (r : Row) → stands_for m ≡ n → IsOf group n → map (λ r. r.acceptors.items) rows ≡ group.acceptors
+    (r : Row) → stands_for m ≡ n → IsOfGroup group n → map (λ r. r.acceptors.items) rows ≡ group.acceptors
     → slice_get m.instances.items i ≡ Some x → r ≡ slice_index_or rows i r → i < length n.instances
     → acceptors_of x.passes.items ≡ r.acceptors.items
 acceptors_at m n group rows i x r same of rows_are at r_is lt =
@@ -66,10 +66,10 @@ acceptors_at m n group rows i x r same of rows_are at r_is lt =
     acceptors_there (map state_of m.instances.items) rows names i (state_of x) r
     (get_map state_of m.instances.items i x at) (item_at rows i r (omega (arith, long, within, lt)) r_is)
 
-pub of_after : (group : GroupState) (old new : MemberState) → IsOf group old → GoesOn old new → IsOf group new
+pub of_after : (group : GroupState) (old new : MemberState) → IsOfGroup group old → MemberGoesOn old new → IsOfGroup group new
 of_after group old new of go = record { votes = go.votes ∙ of.votes; acceptors = go.acceptors ∙ of.acceptors }
 
-pub as_long : (old new : MemberState) → GoesOn old new → length new.instances ≡ length old.instances
+pub as_long : (old new : MemberState) → MemberGoesOn old new → length new.instances ≡ length old.instances
 as_long old new go =
     sym (long_map (λ (z : InstanceState). acceptors_of z.passes) new.instances) ∙ ap length go.acceptors
     ∙ long_map (λ (z : InstanceState). acceptors_of z.passes) old.instances
@@ -101,7 +101,7 @@ module _ (m : MemberState) (is : IsMember m) (k : ℕ) (x : InstanceState)
   ]
 
   pub no_other : (o : Option Vote) (value : ℕ) → o ≡ own_vote x.proposer.updates m.replica
-      → ((v : Vote) → o ≡ Some v → v.value ≡ value) → last_learnt m (second_instance k) ≡ None → HasOther m k value → ⊥
+      → ((v : Vote) → o ≡ Some v → v.value ≡ value) → member_learnt m (second_instance k) ≡ None → HasOther m k value → ⊥
   no_other o value o_is same none (inl finished) = true≢false (sym (subst IsSome none finished))
   no_other o value o_is same none (inr h) = h.2 (same (first_vote_for h.0) (o_is ∙ proposed_vote h.0 h.1))
 
@@ -127,7 +127,7 @@ pub no_other_there : (m : Inside) (n : MemberState) (k : ℕ) (x y : Instance) (
 no_other_there m n k x y o value same is at second o_is each none other =
     no_other (stands_for m) is k (state_of x) (get_map state_of m.instances.items (first_instance k) x at) o value o_is
     each
-    (ap learnt_of (get_map state_of m.instances.items (second_instance k) y second) ∙ none)
+    (ap instance_learnt (get_map state_of m.instances.items (second_instance k) y second) ∙ none)
     (subst (λ z. HasOther z k value) (sym same) other)
 
 -- ## The votes of a proposal
@@ -152,16 +152,16 @@ leads_to m k value s h = ap (λ o. option_map (second_vote_for s) (option_and_th
 
 pub vote_comes : (m : MemberState) (k value : ℕ) (s : Histories)
     → IsVotedSet m (first_instance k) (first_vote_for value) s
-    → option_and_then (λ s. second_vote s m.replica) (last_learnt m (first_instance k)) ≡ Some (second_vote_for s value)
+    → option_and_then (λ s. second_vote s m.replica) (member_learnt m (first_instance k)) ≡ Some (second_vote_for s value)
 vote_comes m k value s h = ap (λ o. option_and_then (λ s. second_vote s m.replica) o) h.learnt ∙ leads_to m k value s h
 
 -- ## From the first vote to the second
 
 -- a set that was voted for stays, where the instance does
-pub voted_stays : (m n : MemberState) (i : ℕ) (v : Vote) (s : Histories) → GoesOn m n
+pub voted_stays : (m n : MemberState) (i : ℕ) (v : Vote) (s : Histories) → MemberGoesOn m n
     → slice_get n.instances i ≡ slice_get m.instances i → IsVotedSet m i v s → IsVotedSet n i v s
 voted_stays m n i v s go same h = record {
-  learnt = ap learnt_of same ∙ h.learnt;
+  learnt = ap instance_learnt same ∙ h.learnt;
   own =
       subst (λ vs. HasOwnCertificate vs (passes_of (slice_get n.instances i)) s) (sym go.votes)
       (subst (λ o. HasOwnCertificate m.votes (passes_of o) s) (sym same) h.own);
@@ -169,13 +169,13 @@ voted_stays m n i v s go same h = record {
 }
 
 pub outcome_comes : (n : MemberState) (k value : ℕ) (s t : Histories) (v : Vote) → v ≡ second_vote_for s value
-    → IsVotedSet n (second_instance k) v t → outcome_in n k ≡ Some (outcome t value)
+    → IsVotedSet n (second_instance k) v t → member_outcome n k ≡ Some (outcome t value)
 outcome_comes n k value s t v v_is h =
     ap (λ o. option_and_then (λ s. outcome_of s n.replica) o) h.learnt
     ∙ ap (λ o. option_map (λ (w : Vote). outcome t w.value) o) h.holds
     ∙ ap (λ (w : Vote). Some (outcome t w.value)) v_is
 
-module _ (old mid new : MemberState) (k value : ℕ) (go : GoesOn old mid) (on : GoesOn mid new)
+module _ (old mid new : MemberState) (k value : ℕ) (go : MemberGoesOn old mid) (on : MemberGoesOn mid new)
     (first : IsOnlyIn (first_instance k) old mid) (then : IsOnlyIn (second_instance k) mid new) where
   apart : first_instance k ≢ second_instance k
   apart e = omega (arith, e)
@@ -191,7 +191,7 @@ module _ (old mid new : MemberState) (k value : ℕ) (go : GoesOn old mid) (on :
 
   pub decision : (s t : Histories) (v : Vote) (reached : Outcome)
       → IsVotedSet mid (first_instance k) (first_vote_for value) s → v ≡ second_vote_for s value
-      → IsVotedSet new (second_instance k) v t → outcome_in new k ≡ Some reached → IsDecision k value new reached
+      → IsVotedSet new (second_instance k) v t → member_outcome new k ≡ Some reached → IsDecision k value new reached
   decision s t v reached one v_is two e = record {
     first = s;
     second = t;
@@ -218,7 +218,7 @@ module _ (old mid new : MemberState) (k value : ℕ) (go : GoesOn old mid) (on :
           inr (
             h.0,
             subst
-                (λ o. IsSomeAnd o (λ (x : InstanceState). IsRefusedRounds left (with_vote k v x) (second_instance k) new e))
+                (λ o. IsSomeAnd o (λ (x : InstanceState). IsRefusedRounds left (vote_submitted k v x) (second_instance k) new e))
                 second_stays h.1,
           )
 

@@ -16,10 +16,10 @@ use Rattle.la_runner.specs.declared.jobs.Job.{Job}
 use Rattle.la_runner.specs.declared.jobs.Job.TheVariants.{Update, Decide, Ask}
 use Rattle.la_runner.specs.declared.jobs.Stopped.{Stopped}
 use Rattle.la_runner.specs.declared.jobs.Stopped.TheVariants as cause
-use Rattle.la_runner.specs.Certificates.{seen_at, HasCertificate}
-use Rattle.la_runner.specs.Entries.{set_of, next_number, IsKnownTo, Answers, StopsAt}
+use Rattle.la_runner.specs.Certificates.{passes_seen_at, HasCertificate}
+use Rattle.la_runner.specs.Entries.{entry_set, next_number, IsKnownTo, AnswersJob, StopsAt}
 use Rattle.la_runner.specs.Invariant.{IsMember}
-use Rattle.la_runner.specs.Members.{MemberState, GoesOn, passes_in, IsCertified, IsOwnCertified}
+use Rattle.la_runner.specs.Members.{MemberState, MemberGoesOn, passes_in, IsCertified, IsOwnCertified}
 use Rattle.la_runner.specs.Runs.{Place, Back, back_of, places, IsBackOf}
 use Rattle.la_runner.specs.Together.{HasSeen, SeesMore, IsSameLog, AreSeen, IsHonest, NamesSet, AllComparable}
 use Rattle.la_runner.proofs.Answering.{goes_on_self}
@@ -41,19 +41,19 @@ sees_self m is = record { is = is; goes = goes_on_self m; same = refl; kept = re
 pub sees_then : (a b c : MemberState) → SeesMore a b → SeesMore b c → SeesMore a c
 sees_then a b c f g = record { is = g.is; goes = goes_on_then a b c f.goes g.goes; same = g.same ∙ f.same; kept = g.kept ∙ f.kept }
 
-pub seen_then : (m a b : MemberState) → HasSeen m a → GoesOn a b → HasSeen m b
+pub seen_then : (m a b : MemberState) → HasSeen m a → MemberGoesOn a b → HasSeen m b
 seen_then m a b h g = record {
   votes = g.votes ∙ h.votes;
   sees =
       λ i n.
-      prefix_trans (seen_at (passes_in m i) n) (seen_at (passes_in a i) n) (seen_at (passes_in b i) n) (h.sees i n)
+      prefix_trans (passes_seen_at (passes_in m i) n) (passes_seen_at (passes_in a i) n) (passes_seen_at (passes_in b i) n) (h.sees i n)
       (g.seen i n);
 }
 
 -- ## All notes
 
 pub one_shown : {X : Type 0} (f : X → MemberState) (xs : List X) (at : ℕ) (x : X) (last next : MemberState)
-    → at < length xs → x ≡ get_or xs at x → AllWithin (λ y. HasSeen (f y) last) xs 0 at → GoesOn last next
+    → at < length xs → x ≡ get_or xs at x → AllWithin (λ y. HasSeen (f y) last) xs 0 at → MemberGoesOn last next
     → HasSeen (f x) next → AllWithin (λ y. HasSeen (f y) next) xs 0 (at + 1)
 one_shown f xs at x last next lt is so_far goes now k d le more = elim (cases_lt k at) [
   | inl before ↦ seen_then (f (get_or xs k d)) last next (so_far k d le before) goes
@@ -110,7 +110,7 @@ zip_at (p ∷ ps) (x ∷ bs) (suc i) b h e = zip_at ps bs i b h.1 e
 
 -- what an entry names is known to the member
 named_of : (m : MemberState) (is : IsMember m) (n : ℕ) (objects : List (ℕ × Kind)) (j : Job) (e : Entry) (s : Histories)
-    → Answers m n objects j e → set_of e ≡ Some s → IsKnownTo m s
+    → AnswersJob m n objects j e → entry_set e ≡ Some s → IsKnownTo m s
 named_of m is n objects (Update object op) (Learned l) s h e =
     inr (own_are m is 0 s (subst (λ z. IsOwnCertified m 0 z) (some_same e) h.0))
 named_of m is n objects (Update object op) (Decided x y o) s h e = absurd h
@@ -197,7 +197,7 @@ seen_all f (z ∷ init) y w are now =
     (seen_all f init y w (all_rest (λ z. HasSeen (f z).member w) z (z ∷ init) init refl are) now)
 
 pub seen_self : (m : MemberState) → HasSeen m m
-seen_self m = record { votes = refl; sees = λ i a. prefix_self (seen_at (passes_in m i) a) }
+seen_self m = record { votes = refl; sees = λ i a. prefix_self (passes_seen_at (passes_in m i) a) }
 
 pub zip_long : {A B : Type 0} (Q : A → B → Type 0) (xs : List A) (ys : List B) → AllZip Q xs ys → length xs ≡ length ys
 zip_long Q [] [] h = refl

@@ -14,8 +14,8 @@ use Rattle.la_runner.specs.Instances.{InstanceState, IsLearntSet}
 use Rattle.la_runner.specs.Invariant.{IsIn, IsMember}
 use Rattle.la_runner.specs.Laws.{CertifiedCompare, OwnAreCertified, CertificatesStay, ViewsAreCertified, ViewsCompare, LearntAreOwnCertified, NothingIsInvented}
 use Rattle.la_acceptor.specs.declared.reply.Reply.{Reply}
-use Rattle.la_runner.specs.Members.{MemberState, passes_of, passes_in, submitted_of, submitted_in, learnt_of, view_of, view}
-use Rattle.la_runner.specs.Sound.{IsPassAt, IsView, IsSubmission, WasTold}
+use Rattle.la_runner.specs.Members.{MemberState, passes_of, passes_in, submitted_of, member_submitted, instance_learnt, instance_view, member_view}
+use Rattle.la_runner.specs.Sound.{IsPassAt, IsView, IsMemberSubmission, WasTold}
 use Rattle.la_set.specs.Inclusion.{IsSubset}
 use Rattle.la_runner.proofs.Viewing.{empty_within}
 use Rattle.la_runner.proofs.Certified.{mine_at_is, own_certificate, certificate_stays, own_certificate_stays, certificates_compare}
@@ -47,20 +47,20 @@ stay old new g i s = (
 pub view_is : ViewsAreCertified
 view_is m is = go (slice_get m.instances 0) refl
   where
-    go : (o : Option InstanceState) → slice_get m.instances 0 ≡ o → IsView m.votes (passes_of o) (view_of o)
+    go : (o : Option InstanceState) → slice_get m.instances 0 ≡ o → IsView m.votes (passes_of o) (instance_view o)
     go None e = inl refl
     go (Some x) e = let in_m = is.each 0 x e in subst (λ vs. IsView vs x.passes x.view) in_m.1 in_m.0.view
 
 pub view_compares : ViewsCompare
 view_compares m is s c = elim (view_is m is) [
   | inl e ↦ inr (subst (λ z. IsSubset z s) (sym e) (empty_within s))
-  | inr d ↦ certified_compare m is 0 s (view m) c d
+  | inr d ↦ certified_compare m is 0 s (member_view m) c d
 ]
 
 pub learnt_is : LearntAreOwnCertified
 learnt_is m is i s = go (slice_get m.instances i) refl
   where
-    go : (o : Option InstanceState) → slice_get m.instances i ≡ o → learnt_of o ≡ Some s
+    go : (o : Option InstanceState) → slice_get m.instances i ≡ o → instance_learnt o ≡ Some s
         → HasOwnCertificate m.votes (passes_of o) s
     go None e l = absurd (cc)
     go (Some x) e l =
@@ -80,7 +80,7 @@ number_first xs ys (suc k) d e = get_first xs ys k d e
 
 -- an own update of the last ballot's set was submitted
 own_there : (m : MemberState) (x : InstanceState) → IsIn m x → (u : Update) → ContainsUpdate x.proposer.updates u
-    → u.id.replica ≡ x.proposer.own → IsSubmission m.replica (all_submitted x.proposer) u
+    → u.id.replica ≡ x.proposer.own → IsMemberSubmission m.replica (all_submitted x.proposer) u
 own_there m x in_m u here e = (
   e
       ∙ in_m.2,
@@ -92,11 +92,11 @@ own_there m x in_m u here e = (
 -- of an own offer's set the member's own updates are its submissions
 pub own_submitted : (m : MemberState) → IsMember m → (i a : ℕ) (s : Histories) (r : Reply)
     → HasEntry (mine_at (passes_in m i) a) s r → (u : Update) → ContainsUpdate s u → u.id.replica ≡ m.replica
-    → IsSubmission m.replica (submitted_in m i) u
+    → IsMemberSubmission m.replica (member_submitted m i) u
 own_submitted m is i a s r entry u has own = go (slice_get m.instances i) refl entry
   where
     go : (o : Option InstanceState) → slice_get m.instances i ≡ o → HasEntry (mine_at (passes_of o) a) s r
-        → IsSubmission m.replica (submitted_of o) u
+        → IsMemberSubmission m.replica (submitted_of o) u
     go None e h = absurd (subst (λ l. HasEntry l s r) (mine_at_is [] a) h)
     go (Some x) e h =
         let in_m = is.each i x e in own_there m x in_m u (in_m.0.sound.within a s r h u has) (own ∙ sym in_m.2)
@@ -105,13 +105,13 @@ pub told_or_own : NothingIsInvented
 told_or_own m is i a s r entry u has = go (slice_get m.instances i) refl entry
   where
     own_or_told : (x : InstanceState) → IsIn m x → ContainsUpdate x.proposer.updates u
-        → IsSubmission m.replica (all_submitted x.proposer) u ⊎ WasTold x.passes u
+        → IsMemberSubmission m.replica (all_submitted x.proposer) u ⊎ WasTold x.passes u
     own_or_told x in_m here = elim (cases_eq u.id.replica x.proposer.own) [
       | inl e ↦ inl (own_there m x in_m u here e)
       | inr ne ↦ inr (in_m.0.sound.told u here ne)
     ]
 
     go : (o : Option InstanceState) → slice_get m.instances i ≡ o → HasEntry (mine_at (passes_of o) a) s r
-        → IsSubmission m.replica (submitted_of o) u ⊎ WasTold (passes_of o) u
+        → IsMemberSubmission m.replica (submitted_of o) u ⊎ WasTold (passes_of o) u
     go None e h = absurd (subst (λ l. HasEntry l s r) (mine_at_is [] a) h)
     go (Some x) e h = let in_m = is.each i x e in own_or_told x in_m (in_m.0.sound.within a s r h u has)

@@ -16,10 +16,10 @@ use Rattle.la_shared.proofs.lemmas.Theorems.{prefix_self}
 use Rattle.la_runner.specs.Certificates.{mine_at, HasCertificate, HasOwnCertificate}
 use Rattle.la_runner.specs.Sound.{IsSound, IsView}
 use Rattle.la_runner.specs.Heard.{Answered, Hears, HearsMost}
-use Rattle.la_runner.specs.Following.{Follows, Goes, SubmitsNothing, IsLearnt}
-use Rattle.la_runner.specs.Instances.{InstanceState, IsLearntSet, IsInstance, Steps, IsComplete, IsUpdated}
+use Rattle.la_runner.specs.Following.{FollowsProposer, Goes, SubmitsNothing, IsLearnt}
+use Rattle.la_runner.specs.Instances.{InstanceState, IsLearntSet, IsInstance, InstanceSteps, IsComplete, IsUpdated}
 use Rattle.la_runner.specs.Rounds.{IsLarger}
-use Rattle.la_runner.specs.Refusals.{IsOfferRefusal, IsRoundsRefusal, MayMiss, IsInstanceRefusal, IsUpdateRefusal}
+use Rattle.la_runner.specs.Refusals.{IsRoundOfferRefusal, IsRoundsRefusal, MayMiss, IsInstanceRefusal, IsUpdateRefusal}
 use Rattle.la_runner.specs.declared.error.RunnerError.{RunnerError}
 use Rattle.la_runner.specs.declared.error.RunnerError.TheVariants as errors
 use Rattle.la_runner.specs.declared.learned.Learned.{Learned}
@@ -68,7 +68,7 @@ learnt_now p ps q qs n s g l = record {
   some = subst (λ o. 1 ≤ count s o) (sym g.follows.own) l.some;
 }
 
-pub steps_trans : (x y z : InstanceState) → Steps x y → Steps y z → Steps x z
+pub steps_trans : (x y z : InstanceState) → InstanceSteps x y → InstanceSteps y z → InstanceSteps x z
 steps_trans x y z f g = record {
   is = g.is;
   follows = follows_trans x.proposer y.proposer z.proposer x.passes y.passes z.passes f.follows g.follows;
@@ -78,7 +78,7 @@ steps_trans x y z f g = record {
   grows = subset-trans x.view y.view z.view f.grows g.grows;
 }
 
-pub goes_of_steps : (x y : InstanceState) → Steps x y → SubmitsNothing x.proposer y.proposer
+pub goes_of_steps : (x y : InstanceState) → InstanceSteps x y → SubmitsNothing x.proposer y.proposer
     → Goes x.proposer x.passes y.proposer y.passes
 goes_of_steps x y s n = record { sound = s.is.sound; follows = s.follows; nothing = n }
 
@@ -87,7 +87,7 @@ some_none e = cc
 
 -- nothing was learnt
 pub steps_on : (x y : InstanceState) → IsInstance x → Goes x.proposer x.passes y.proposer y.passes
-    → (x.proposer.is_asking ≡ true → y.proposer.is_asking ≡ true) → y.learnt ≡ x.learnt → y.view ≡ x.view → Steps x y
+    → (x.proposer.is_asking ≡ true → y.proposer.is_asking ≡ true) → y.learnt ≡ x.learnt → y.view ≡ x.view → InstanceSteps x y
 steps_on x y is g asks same view = record {
   is = record {
     sound = g.sound;
@@ -108,7 +108,7 @@ steps_on x y is g asks same view = record {
 -- a set was
 pub steps_learnt : (x y : InstanceState) (n : ℕ) (s : Histories) → IsInstance x
     → Goes x.proposer x.passes y.proposer y.passes → IsLearnt x.proposer x.passes y.passes n s → y.learnt ≡ Some s
-    → IsLarger s x.view y.view → Steps x y
+    → IsLarger s x.view y.view → InstanceSteps x y
 steps_learnt x y n s is g l now larger = record {
   is = record {
     sound = g.sound;
@@ -149,9 +149,9 @@ module _ (x y : InstanceState) (n : ℕ) (s : Histories) (is : IsInstance x)
 
 module _ (x : InstanceState) (q : ProposerState) (d : ObjectOp) (is : IsInstance x)
     (after : q ≡ after_submission x.proposer d) (state : IsProposerState q) where
-  submitted_follows : Follows x.proposer q x.passes x.passes
+  submitted_follows : FollowsProposer x.proposer q x.passes x.passes
   submitted_follows =
-      subst (λ z. Follows x.proposer z x.passes x.passes) (sym after) (submission_follows x.proposer x.passes d is.sound)
+      subst (λ z. FollowsProposer x.proposer z x.passes x.passes) (sym after) (submission_follows x.proposer x.passes d is.sound)
 
   pub submitted_adds : all_submitted q ≡ all_submitted x.proposer ++ d ∷ []
   submitted_adds = ap all_submitted after ∙ submission_adds x.proposer x.passes d is.sound
@@ -182,10 +182,10 @@ module _ (x : InstanceState) (q : ProposerState) (d : ObjectOp) (is : IsInstance
     under_way = λ none some. submitted_asks;
   }
 
-  pub submitted_steps : Steps x submitted_instance
+  pub submitted_steps : InstanceSteps x submitted_instance
   submitted_steps = record { is = submitted_is_instance; follows = submitted_follows; submitted = (d ∷ [], sym submitted_adds); grows = subset-refl x.view }
 
-  module _ (y : InstanceState) (n : ℕ) (s : Histories) (steps : Steps submitted_instance y)
+  module _ (y : InstanceState) (n : ℕ) (s : Histories) (steps : InstanceSteps submitted_instance y)
       (nothing : SubmitsNothing q y.proposer) (l : IsLearnt q x.passes y.passes n s)
       (c : IsComplete submitted_instance y s) where
     enough : submitted q ≤ count s x.proposer.own
@@ -217,7 +217,7 @@ module _ (x : InstanceState) (q : ProposerState) (d : ObjectOp) (is : IsInstance
         view_within (inr c) = contains x.view c
 
   module _ (y : InstanceState) (rounds : ℕ) (result : Result (Learned × ℕ) RunnerError)
-      (steps : Steps submitted_instance y) (nothing : SubmitsNothing q y.proposer) where
+      (steps : InstanceSteps submitted_instance y) (nothing : SubmitsNothing q y.proposer) where
     pub updated_of : IfOk result (λ end. IsLearnt q x.passes y.passes end.0.ballot end.0.updates)
         → IfOk result (λ end. IsComplete submitted_instance y end.0.updates)
         → IfOk result (λ end. IsUpdated x y end.0.updates)
@@ -259,7 +259,7 @@ module _ (x : InstanceState) (q : ProposerState) (d : ObjectOp) (is : IsInstance
 -- ## Rounds that are refused
 
 -- a refused offer, in some round
-pub in_rounds : (rounds first last : ℕ) (e : RunnerError) → 1 ≤ rounds → IsOfferRefusal e
+pub in_rounds : (rounds first last : ℕ) (e : RunnerError) → 1 ≤ rounds → IsRoundOfferRefusal e
     → IsRoundsRefusal rounds first last e
 in_rounds rounds first last (errors.Clash id) some h = some
 in_rounds rounds first last errors.BallotsSpent some h = some
@@ -272,7 +272,7 @@ in_rounds rounds first last errors.NoMajority some h = absurd h
 in_rounds rounds first last errors.TryAgain some h = absurd h
 
 -- all that was recorded was heard
-pub unended : (x y : InstanceState) (rounds : ℕ) (e : RunnerError) → Steps x y
+pub unended : (x y : InstanceState) (rounds : ℕ) (e : RunnerError) → InstanceSteps x y
     → Hears x.proposer y.proposer x.passes y.passes [] → MayMiss e [] → y.proposer.is_asking ≡ true
     → IsRoundsRefusal rounds x.proposer.number y.proposer.number e → IsInstanceRefusal rounds x y e
 unended x y rounds e steps hears few asks refusal = record {
@@ -281,7 +281,7 @@ unended x y rounds e steps hears few asks refusal = record {
   kept = record { missed = []; few = few; hears = hears; counts = still_counts x.proposer y.proposer x.passes y.passes [] hears steps.follows.same asks };
 }
 
-may_miss : (e : RunnerError) (missed : List Answered) → IsOfferRefusal e → length missed ≤ 1 → MayMiss e missed
+may_miss : (e : RunnerError) (missed : List Answered) → IsRoundOfferRefusal e → length missed ≤ 1 → MayMiss e missed
 may_miss (errors.Clash id) missed h few = few
 may_miss errors.BallotsSpent missed h few = few
 may_miss errors.Memory missed h few = few
@@ -293,7 +293,7 @@ may_miss errors.NoMajority missed h few = absurd h
 may_miss errors.TryAgain missed h few = absurd h
 
 -- an offer was refused, or its reply
-pub cut_off : (x y : InstanceState) (rounds : ℕ) (e : RunnerError) → 1 ≤ rounds → IsOfferRefusal e → Steps x y
+pub cut_off : (x y : InstanceState) (rounds : ℕ) (e : RunnerError) → 1 ≤ rounds → IsRoundOfferRefusal e → InstanceSteps x y
     → HearsMost x.proposer y.proposer x.passes y.passes → y.proposer.is_asking ≡ true → IsInstanceRefusal rounds x y e
 cut_off x y rounds e some refusal steps hears asks = record {
   refusal = in_rounds rounds x.proposer.number y.proposer.number e some refusal;

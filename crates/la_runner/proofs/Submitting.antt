@@ -12,9 +12,9 @@ use Rattle.la_commit.specs.Votes.{vote_of, own_vote, proposal, HoldsVote, casts,
 use Rattle.la_commit.proofs.lemmas.Casting.{own_vote-cast}
 use Rattle.la_proposer.proofs.lemmas.Theorems.{majorities_meet}
 use Rattle.la_runner.specs.Invariant.{IsMember}
-use Rattle.la_runner.specs.Members.{MemberState, submitted_in, IsOwnCertified}
+use Rattle.la_runner.specs.Members.{MemberState, member_submitted, IsOwnCertified}
 use Rattle.la_runner.specs.Participants.{HasProposed, HasVoted}
-use Rattle.la_runner.specs.Sound.{IsSubmission}
+use Rattle.la_runner.specs.Sound.{IsMemberSubmission}
 use Rattle.la_runner.proofs.Proposing.{some_same, none_some}
 use Rattle.la_runner.proofs.Standing.{own_submitted, learnt_is}
 
@@ -50,10 +50,10 @@ proposed_there m is k value s own holds =
     own_submitted m is (first_instance k) there.0 s Yes (own.2 there.0 there.3) at.0 (ap (get s) named ∙ at.1)
     (ap (λ (i : UpdateId). i.replica) named) in
     elim (is.participant k).first [
-      | inl none ↦ absurd (none_numbered (submitted_in m (first_instance k)) (object_op_of at.0) at.0.id.number none given.1)
+      | inl none ↦ absurd (none_numbered (member_submitted m (first_instance k)) (object_op_of at.0) at.0.id.number none given.1)
       | inr p ↦
           let same =
-          one_numbered (submitted_in m (first_instance k)) k (first_vote_for p.0) (first_vote_for value) at.0
+          one_numbered (member_submitted m (first_instance k)) k (first_vote_for p.0) (first_vote_for value) at.0
           at.0.id.number p.1 given.1 at.2 in
           subst (HasProposed m k) (sym (ap (λ (v : Vote). v.value) same)) p.1
     ]
@@ -87,8 +87,8 @@ led_by m is k v h same =
 
 -- a vote that a member submitted in a second instance is one that a first set led to
 pub led_to : (m : MemberState) → IsMember m → (k : ℕ) (u : Update) (v : Vote)
-    → IsSubmission m.replica (submitted_in m (second_instance k)) u → vote_of u.op ≡ Some v → IsLedTo m k v
+    → IsMemberSubmission m.replica (member_submitted m (second_instance k)) u → vote_of u.op ≡ Some v → IsLedTo m k v
 led_to m is k u v given cast = elim (is.participant k).second [
-  | inl none ↦ absurd (none_numbered (submitted_in m (second_instance k)) (object_op_of u) u.id.number none given.1)
-  | inr h ↦ led_by m is k v h (one_numbered (submitted_in m (second_instance k)) k h.vote v u u.id.number h.cast given.1 cast)
+  | inl none ↦ absurd (none_numbered (member_submitted m (second_instance k)) (object_op_of u) u.id.number none given.1)
+  | inr h ↦ led_by m is k v h (one_numbered (member_submitted m (second_instance k)) k h.vote v u u.id.number h.cast given.1 cast)
 ]

@@ -7,7 +7,7 @@ use Rattle.std.proofs.lemmas.List.{length-set}
 use mathlib.Core.List.{IsPrefix}
 use Rattle.la_set.specs.Histories.{Histories}
 use Rattle.la_shared.specs.History.{HasYes}
-use Rattle.la_shared.specs.Passes.{Known, Told, AcceptorName}
+use Rattle.la_shared.specs.Passes.{Known, ToldPass, AcceptorName}
 use Rattle.la_shared.proofs.lemmas.Theorems.{prefix_self}
 use Rattle.la_runner.specs.declared.group.Row.{Row}
 use Rattle.la_runner.specs.declared.instance.Instance.{Instance}
@@ -15,13 +15,13 @@ use Rattle.la_runner.specs.declared.note.InstanceNote.{InstanceNote}
 use Rattle.la_proposer.specs.Majority.{votes_of}
 use Rattle.la_runner.specs.declared.member.Member.TheInside.{Inside}
 use Rattle.la_runner.specs.declared.note.MemberNote.TheInside as notes
-use Rattle.la_runner.specs.Certificates.{seen_of, seen_at, OfMajority}
+use Rattle.la_runner.specs.Certificates.{seen_of, passes_seen_at, OfMajority}
 use Rattle.la_runner.specs.Fields.{stands_for, note_stands_for}
 use Rattle.la_runner.specs.Following.{acceptors_of}
 use Rattle.la_runner.specs.Instances.{InstanceState, state_of}
 use Rattle.la_runner.specs.Invariant.{IsMember}
-use Rattle.la_runner.specs.Members.{MemberState, GroupState, passes_of, passes_in, view, acceptors_in, IsOf}
-use Rattle.la_runner.specs.Notes.{told_by, told_names, told_seen, told_at, told_of, told_in, Meets, AllMeet, NoteState, IsNote, IsNoteOf, Tells}
+use Rattle.la_runner.specs.Members.{MemberState, GroupState, passes_of, passes_in, member_view, acceptors_in, IsOfGroup}
+use Rattle.la_runner.specs.Notes.{pass_told, told_names, told_seen, notes_told_at, told_of, note_told_in, Meets, AllMeet, NoteState, IsNote, IsNoteOf, TellsNote}
 use Rattle.la_runner.proofs.Standing.{view_is}
 use Rattle.la_runner.specs.Sound.{IsSound}
 use Rattle.la_runner.proofs.Certified.{of_majority}
@@ -31,8 +31,8 @@ use Rattle.la_runner.proofs.Passing.{get-set_same, get-set_other, map-set_other}
 
 -- ## What is told
 
-abbrev pub tell : InstanceState → List Told
-tell x = map told_by x.passes
+abbrev pub tell : InstanceState → List ToldPass
+tell x = map pass_told x.passes
 
 -- so many of the instances are told
 pub record Telling (states : List InstanceState) (at : ℕ) (xs : List Instance) (notes : List InstanceNote) : Type 0
@@ -40,9 +40,9 @@ pub record Telling (states : List InstanceState) (at : ℕ) (xs : List Instance)
     pub same : map state_of xs ≡ states
     pub told : map (λ n. n.notes.items) notes ≡ take at (map tell states)
 
-pub tells_of : (xs : List Instance) → map (λ x. map told_by x.passes.items) xs ≡ map tell (map state_of xs)
+pub tells_of : (xs : List Instance) → map (λ x. map pass_told x.passes.items) xs ≡ map tell (map state_of xs)
 tells_of [] = refl
-tells_of (x ∷ xs) = ap (λ l. map told_by x.passes.items ∷ l) (tells_of xs)
+tells_of (x ∷ xs) = ap (λ l. map pass_told x.passes.items ∷ l) (tells_of xs)
 
 names_of : (xs : List Instance)
     → map (λ x. acceptors_of x.passes.items) xs ≡ map (λ z. acceptors_of z.passes) (map state_of xs)
@@ -76,7 +76,7 @@ module _ (states : List InstanceState) (rows : List Row)
     same_after y same = map-set_other state_of xs at x y here same ∙ t.same
 
     pub told_more : (y : Instance) (n : InstanceNote) → state_of y ≡ state_of x
-        → n.notes.items ≡ map told_by x.passes.items → Telling states (at + 1) (slice_set xs at y) (notes ++ n ∷ [])
+        → n.notes.items ≡ map pass_told x.passes.items → Telling states (at + 1) (slice_set xs at y) (notes ++ n ∷ [])
     told_more y n same told = record {
       same = same_after y same;
       told =
@@ -120,14 +120,14 @@ module _ (init : List Instance) (rows : List Row) (at : ℕ) (xs : List Instance
 pub told_whole : (init xs : List Instance) (rows : List Row) (at : ℕ) (notes : List InstanceNote)
     → map (λ x. acceptors_of x.passes.items) init ≡ map (λ r. r.acceptors.items) rows → at ≡ length rows
     → Telling (map state_of init) at xs notes
-    → map (λ n. n.notes.items) notes ≡ map (λ x. map told_by x.passes.items) init
+    → map (λ n. n.notes.items) notes ≡ map (λ x. map pass_told x.passes.items) init
 told_whole init xs rows at notes names end t =
     t.told
     ∙ take_whole (map tell (map state_of init)) at
     (long_map tell (map state_of init) ∙ as_many_rows (map state_of init) rows (names_known init rows names)
     ∙ sym end) ∙ sym (tells_of init)
 
-names_told : (ps : List Known) → told_names (map told_by ps) ≡ acceptors_of ps
+names_told : (ps : List Known) → told_names (map pass_told ps) ≡ acceptors_of ps
 names_told [] = refl
 names_told (k ∷ ps) = ap (λ l. k.acceptor ∷ l) (names_told ps)
 
@@ -135,75 +135,75 @@ names_all_told : (xs : List InstanceState) → map told_names (map tell xs) ≡ 
 names_all_told [] = refl
 names_all_told (x ∷ xs) = ap₂ (λ n l. n ∷ l) (names_told x.passes) (names_all_told xs)
 
-told_seen_of : (ps : List Known) (a : ℕ) → told_seen (slice_get (map told_by ps) a) ≡ seen_of (slice_get ps a)
+told_seen_of : (ps : List Known) (a : ℕ) → told_seen (slice_get (map pass_told ps) a) ≡ seen_of (slice_get ps a)
 told_seen_of [] a = refl
 told_seen_of (k ∷ ps) zero = refl
 told_seen_of (k ∷ ps) (suc a) = told_seen_of ps a
 
-pub told_is_seen : (ps : List Known) (a : ℕ) → told_at (map told_by ps) a ≡ seen_at ps a
-unfolding told_at seen_at
+pub told_is_seen : (ps : List Known) (a : ℕ) → notes_told_at (map pass_told ps) a ≡ passes_seen_at ps a
+unfolding notes_told_at passes_seen_at
 told_is_seen ps a = told_seen_of ps a
 
 pub told_of_instance : (xs : List InstanceState) (i : ℕ)
-    → told_of (slice_get (map tell xs) i) ≡ map told_by (passes_of (slice_get xs i))
+    → told_of (slice_get (map tell xs) i) ≡ map pass_told (passes_of (slice_get xs i))
 told_of_instance [] i = refl
 told_of_instance (x ∷ xs) zero = refl
 told_of_instance (x ∷ xs) (suc i) = told_of_instance xs i
 
 -- what is told of an instance's acceptor is what was seen
-pub tells_seen : (m : MemberState) (n : NoteState) → Tells m n → (i a : ℕ)
-    → told_at (told_in n i) a ≡ seen_at (passes_in m i) a
+pub tells_seen : (m : MemberState) (n : NoteState) → TellsNote m n → (i a : ℕ)
+    → notes_told_at (note_told_in n i) a ≡ passes_seen_at (passes_in m i) a
 tells_seen m n t i a =
-    ap (λ l. told_at (told_of (slice_get l i)) a) t.told ∙ ap (λ l. told_at l a) (told_of_instance m.instances i)
+    ap (λ l. notes_told_at (told_of (slice_get l i)) a) t.told ∙ ap (λ l. notes_told_at l a) (told_of_instance m.instances i)
     ∙ told_is_seen (passes_in m i) a
 
 -- a note of a member is one
-pub note_is : (m : MemberState) (n : NoteState) → IsMember m → Tells m n → IsNote n
+pub note_is : (m : MemberState) (n : NoteState) → IsMember m → TellsNote m n → IsNote n
 note_is m n is t = elim (view_is m is) [
   | inl e ↦ inl (t.view ∙ e)
-  | inr c ↦ inr (subst (λ (z : List ℕ × Histories). OfMajority z.0 (λ a. HasYes (told_at (told_in n 0) a) z.1)) (λ k. (sym t.votes k, sym t.view k))
-      (of_majority m.votes (λ a. HasYes (seen_at (passes_in m 0) a) (view m)) (λ a. HasYes (told_at (told_in n 0) a) (view m)) (λ a y. subst (λ l. HasYes l (view m)) (sym (tells_seen m n t 0 a)) y) c))
+  | inr c ↦ inr (subst (λ (z : List ℕ × Histories). OfMajority z.0 (λ a. HasYes (notes_told_at (note_told_in n 0) a) z.1)) (λ k. (sym t.votes k, sym t.view k))
+      (of_majority m.votes (λ a. HasYes (passes_seen_at (passes_in m 0) a) (member_view m)) (λ a. HasYes (notes_told_at (note_told_in n 0) a) (member_view m)) (λ a y. subst (λ l. HasYes l (member_view m)) (sym (tells_seen m n t 0 a)) y) c))
 ]
 
-pub note_of : (group : GroupState) (m : MemberState) (n : NoteState) → IsOf group m → Tells m n → IsNoteOf group n
+pub note_of : (group : GroupState) (m : MemberState) (n : NoteState) → IsOfGroup group m → TellsNote m n → IsNoteOf group n
 note_of group m n of t = record { votes = t.votes ∙ of.votes; acceptors = ap (map told_names) t.told ∙ names_all_told m.instances ∙ of.acceptors }
 
 -- by what the code knows
 pub names_given : (m : Inside) (n : MemberState) (group : GroupState) (rows : List Row) → stands_for m ≡ n
-    → IsOf group n → map (λ r. r.acceptors.items) rows ≡ group.acceptors
+    → IsOfGroup group n → map (λ r. r.acceptors.items) rows ≡ group.acceptors
     → map (λ x. acceptors_of x.passes.items) m.instances.items ≡ map (λ r. r.acceptors.items) rows
 names_given m n group rows same of rows_are =
     names_of m.instances.items ∙ ap acceptors_in same ∙ of.acceptors ∙ sym rows_are
 
 pub tells_now : (m : Inside) (note : notes.Inside) → note.votes ≡ m.votes → note.giver ≡ m.replica
-    → map (λ n. n.notes.items) note.told.items ≡ map (λ x. map told_by x.passes.items) m.instances.items
-    → note.view ≡ view (stands_for m) → Tells (stands_for m) (note_stands_for note)
-tells_now m note votes giver told view = record { votes = ap votes_of votes; giver = giver; told = told ∙ tells_of m.instances.items; view = view }
+    → map (λ n. n.notes.items) note.told.items ≡ map (λ x. map pass_told x.passes.items) m.instances.items
+    → note.view ≡ member_view (stands_for m) → TellsNote (stands_for m) (note_stands_for note)
+tells_now m note votes giver told member_view = record { votes = ap votes_of votes; giver = giver; told = told ∙ tells_of m.instances.items; view = member_view }
 
 -- ## What is met
 
 -- these notes are still to be met
-pub record MeetingAll (told : List (List Told)) (xs : List InstanceState) (notes : List (List Told))
+pub record MeetingAll (told : List (List ToldPass)) (xs : List InstanceState) (notes : List (List ToldPass))
     (ys : List InstanceState) : Type 0 where
   pub sizes : length ys ≡ length xs
   pub front : IsPrefix notes told
   pub before : (i : ℕ) → i < length notes → slice_get ys i ≡ slice_get xs i
   pub done :
-      (i : ℕ) (t : List Told) (x y : InstanceState) → length notes ≤ i → slice_get told i ≡ Some t
+      (i : ℕ) (t : List ToldPass) (x y : InstanceState) → length notes ≤ i → slice_get told i ≡ Some t
       → slice_get xs i ≡ Some x → slice_get ys i ≡ Some y → Meets t x y
 
 past : {A : Type 0} (xs : List A) (i : ℕ) (x : A) → length xs ≤ i → slice_get xs i ≡ Some x → ⊥
 past xs i x le e = let lt = slice_get_within xs i x e in omega (arith, le, lt)
 
-pub all_start : (told : List (List Told)) (xs : List InstanceState) → MeetingAll told xs told xs
+pub all_start : (told : List (List ToldPass)) (xs : List InstanceState) → MeetingAll told xs told xs
 all_start told xs = record { sizes = refl; front = prefix_self told; before = λ i lt. refl; done = λ i t x y le e. absurd (past told i t le e) }
 
-last_told : (notes rest : List (List Told)) (n : List Told)
+last_told : (notes rest : List (List ToldPass)) (n : List ToldPass)
     → slice_get ((notes ++ n ∷ []) ++ rest) (length notes) ≡ Some n
 last_told [] rest n = refl
 last_told (t ∷ notes) rest n = last_told notes rest n
 
-module _ (told : List (List Told)) (xs : List InstanceState) (notes : List (List Told)) (n : List Told)
+module _ (told : List (List ToldPass)) (xs : List InstanceState) (notes : List (List ToldPass)) (n : List ToldPass)
     (ys : List InstanceState) (m : MeetingAll told xs (notes ++ n ∷ []) ys) (x y : InstanceState)
     (at : slice_get ys (length notes) ≡ Some x) (meets : Meets n x y) where
   more : length (notes ++ n ∷ []) ≡ length notes + 1
@@ -215,7 +215,7 @@ module _ (told : List (List Told)) (xs : List InstanceState) (notes : List (List
   was_here : slice_get xs (length notes) ≡ Some x
   was_here = sym (m.before (length notes) (let h = more in omega arith)) ∙ at
 
-  done_now : (i : ℕ) (t : List Told) (u v : InstanceState) → length notes ≤ i → slice_get told i ≡ Some t
+  done_now : (i : ℕ) (t : List ToldPass) (u v : InstanceState) → length notes ≤ i → slice_get told i ≡ Some t
       → slice_get xs i ≡ Some u → slice_get (slice_set ys (length notes) y) i ≡ Some v → Meets t u v
   done_now i t u v le te ue ve = elim (cases_eq i (length notes)) [
     | inl e ↦
@@ -225,7 +225,7 @@ module _ (told : List (List Told)) (xs : List InstanceState) (notes : List (List
         some_is
         (sym (get-set_same ys (length notes) y (slice_get_within ys (length notes) x at))
         ∙ ap (slice_get (slice_set ys (length notes) y)) (sym e) ∙ ve) in
-        subst (λ (z : List Told × InstanceState × InstanceState). Meets z.0 z.1 z.2) (λ k. (one k, two k, three k))
+        subst (λ (z : List ToldPass × InstanceState × InstanceState). Meets z.0 z.1 z.2) (λ k. (one k, two k, three k))
         meets
     | inr ne ↦ m.done i t u v (let h = more in omega (arith, ne, le, h)) te ue (sym (get-set_other ys (length notes) i y ne) ∙ ve)
   ]
@@ -241,10 +241,10 @@ module _ (told : List (List Told)) (xs : List InstanceState) (notes : List (List
     done = done_now;
   }
 
-pub all_end : (told : List (List Told)) (xs ys : List InstanceState) → MeetingAll told xs [] ys → AllMeet told xs ys
+pub all_end : (told : List (List ToldPass)) (xs ys : List InstanceState) → MeetingAll told xs [] ys → AllMeet told xs ys
 all_end told xs ys m = record { sizes = m.sizes; each = λ i t x y. m.done i t x y (omega arith) }
 
-abbrev pub told_items : List InstanceNote → List (List Told)
+abbrev pub told_items : List InstanceNote → List (List ToldPass)
 told_items notes = map (λ n. n.notes.items) notes
 
 abbrev pub told_all : List InstanceNote → List (List AcceptorName)

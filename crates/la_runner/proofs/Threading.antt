@@ -9,7 +9,7 @@ use Rattle.la_runner.specs.declared.jobs.Entry.{Entry}
 use Rattle.la_runner.specs.declared.jobs.Job.{Job}
 use Rattle.la_runner.specs.declared.jobs.Stopped.{Stopped}
 use Rattle.la_runner.specs.Members.{MemberState, GroupState}
-use Rattle.la_runner.specs.Runs.{IsReady, IsWorked, IsWorkOf}
+use Rattle.la_runner.specs.Runs.{IsReadyMember, IsWorked, IsWorkOf}
 
 moved : {H W : Type 0} (f : H → W) (hs : List H) (h : H) (after : List W)
     → map f (hs ++ h ∷ []) ++ after ≡ map f hs ++ f h ∷ after
@@ -100,10 +100,10 @@ none_left (x ∷ xs) none = let no : ⊥ = omega arith in absurd no
 
 -- a work is ready where what it was made of is
 pub ready_of : (group : GroupState) (m : MemberState) (shelf : ShelfState) (jobs : List Job) (n : MemberState)
-    (its : ShelfState) (their : List Job) → IsWorkOf m shelf jobs n its their → IsReady group m shelf
-    → IsReady group n its
+    (its : ShelfState) (their : List Job) → IsWorkOf m shelf jobs n its their → IsReadyMember group m shelf
+    → IsReadyMember group n its
 ready_of group m shelf jobs n its their is ready =
-    subst (IsReady group n) (sym is.shelf) (subst (λ z. IsReady group z shelf) (sym is.member) ready)
+    subst (IsReadyMember group n) (sym is.shelf) (subst (λ z. IsReadyMember group z shelf) (sym is.member) ready)
 
 -- and what comes back of it comes back of that
 pub worked_of : (m : MemberState) (shelf : ShelfState) (jobs : List Job) (n : MemberState) (its : ShelfState)

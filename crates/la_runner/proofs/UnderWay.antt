@@ -18,8 +18,8 @@ use Rattle.la_runner.specs.declared.jobs.Entry.{Entry}
 use Rattle.la_runner.specs.declared.jobs.Entry.TheVariants.{Learned, Decided, Answer}
 use Rattle.la_runner.specs.declared.jobs.Stopped.{Stopped}
 use Rattle.la_runner.specs.declared.jobs.Stopped.TheVariants.{Memory}
-use Rattle.la_runner.specs.Entries.{is_update, updates_of, next_number, set_of, IsKnownTo, Answers, HasDone, StopsAt}
-use Rattle.la_runner.specs.Members.{MemberState, GroupState, IsOf, GoesOn, submitted_in, view}
+use Rattle.la_runner.specs.Entries.{is_update_job, update_jobs, next_number, entry_set, IsKnownTo, AnswersJob, HasDone, StopsAt}
+use Rattle.la_runner.specs.Members.{MemberState, GroupState, IsOfGroup, MemberGoesOn, member_submitted, member_view}
 use Rattle.la_runner.specs.Stops.{StopFits}
 use Rattle.la_runner.proofs.Answering.{goes_on_self}
 use Rattle.la_runner.proofs.Keeping.{goes_on_then}
@@ -29,10 +29,10 @@ use Rattle.la_runner.proofs.Standing.{stay}
 pub record UnderWay (first : MemberState) (objects : List (ℕ × Kind)) (all : List Job) (entries : List Entry)
     (now : MemberState) (shelf : ShelfState) (rest : List Job) : Type 0 where
   pub done : HasDone first objects all entries now
-  pub goes : GoesOn first now
-  pub submitted : length (submitted_in now 0) ≡ length (submitted_in first 0) + updates_of (take (length entries) all)
+  pub goes : MemberGoesOn first now
+  pub submitted : length (member_submitted now 0) ≡ length (member_submitted first 0) + update_jobs (take (length entries) all)
   pub same : shelf.objects ≡ objects
-  pub within : IsSubset shelf.view (view now)
+  pub within : IsSubset shelf.view (member_view now)
   pub left : rest ≡ drop (length entries) all
 
 -- an item of a longer list is one of the list, or the last
@@ -56,12 +56,12 @@ next_left [] (suc n) x rest e = absurd (cc e)
 next_left (y ∷ xs) zero x rest e = cc e
 next_left (y ∷ xs) (suc n) x rest e = next_left xs n x rest e
 
-one_more : (xs : List Job) (n : ℕ) (j : Job) → slice_get xs n ≡ Some j → (b : Bool) → is_update j ≡ b
-    → updates_of (take (n + 1) xs) ≡ updates_of (take n xs) + cond b 1 0
+one_more : (xs : List Job) (n : ℕ) (j : Job) → slice_get xs n ≡ Some j → (b : Bool) → is_update_job j ≡ b
+    → update_jobs (take (n + 1) xs) ≡ update_jobs (take n xs) + cond b 1 0
 one_more xs n j e true is =
-    count_by_more_yes is_update xs n j (slice_get_within xs n j e) (ap is_update (get_or_from_slice_get xs n j j e) ∙ is)
+    count_by_more_yes is_update_job xs n j (slice_get_within xs n j e) (ap is_update_job (get_or_from_slice_get xs n j j e) ∙ is)
 one_more xs n j e false is =
-    count_by_more_no is_update xs n j (slice_get_within xs n j e) (ap is_update (get_or_from_slice_get xs n j j e) ∙ is)
+    count_by_more_no is_update_job xs n j (slice_get_within xs n j e) (ap is_update_job (get_or_from_slice_get xs n j j e) ∙ is)
     ∙ omega arith
 
 length_snoc : {X : Type 0} (xs : List X) (y : X) → length (xs ++ y ∷ []) ≡ length xs + 1
@@ -69,13 +69,13 @@ length_snoc [] y = refl
 length_snoc (x ∷ xs) y = omega (arith, length_snoc xs y)
 
 -- what is known stays known as the member goes on
-pub known_stays : (old new : MemberState) → GoesOn old new → (s : Histories) → IsKnownTo old s → IsKnownTo new s
+pub known_stays : (old new : MemberState) → MemberGoesOn old new → (s : Histories) → IsKnownTo old s → IsKnownTo new s
 known_stays old new g s (inl e) = inl e
 known_stays old new g s (inr c) = inr ((stay old new g 0 s).0 c)
 
 -- an answer stays one
-pub answer_stays : (old new : MemberState) → GoesOn old new → (n : ℕ) (objects : List (ℕ × Kind)) (j : Job) (e : Entry)
-    → Answers old n objects j e → Answers new n objects j e
+pub answer_stays : (old new : MemberState) → MemberGoesOn old new → (n : ℕ) (objects : List (ℕ × Kind)) (j : Job) (e : Entry)
+    → AnswersJob old n objects j e → AnswersJob new n objects j e
 answer_stays old new g n objects (Update object op) (Learned l) h = (
   (stay old new g 0 l.updates).1 h.0,
   subst (λ r. ContainsUpdate l.updates (update_of r n (op_on object op)))
@@ -96,12 +96,12 @@ answer_stays old new g n objects (Ask object query) (Learned l) h = h
 answer_stays old new g n objects (Ask object query) (Decided s t o) h = h
 answer_stays old new g n objects (Ask object query) (Answer seen answer) h = (known_stays old new g seen h.0, h.1)
 
-pub of_goes : (group : GroupState) (old new : MemberState) → GoesOn old new → IsOf group old → IsOf group new
+pub of_goes : (group : GroupState) (old new : MemberState) → MemberGoesOn old new → IsOfGroup group old → IsOfGroup group new
 of_goes group old new g of = record { votes = g.votes ∙ of.votes; acceptors = g.acceptors ∙ of.acceptors }
 
 -- what was done stays done while the member goes on
 pub keeps_done : (first : MemberState) (objects : List (ℕ × Kind)) (all : List Job) (es : List Entry)
-    (now next : MemberState) → HasDone first objects all es now → GoesOn now next → HasDone first objects all es next
+    (now next : MemberState) → HasDone first objects all es now → MemberGoesOn now next → HasDone first objects all es next
 keeps_done first objects all es now next h g = record {
   answers =
       λ k e at.
@@ -113,10 +113,10 @@ keeps_done first objects all es now next h g = record {
 
 -- the set that the new entry names, if any, is the view
 abbrev pub Names : Entry → MemberState → Type 0
-Names e new = IfSome (set_of e) (λ s. s ≡ view new)
+Names e new = IfSome (entry_set e) (λ s. s ≡ member_view new)
 
-named : (e : Entry) (new : MemberState) (t : Histories) → Names e new → set_of e ≡ Some t → t ≡ view new
-named e new t names is = subst (λ (o : Option Histories). IfSome o (λ s. s ≡ view new)) is names
+named : (e : Entry) (new : MemberState) (t : Histories) → Names e new → entry_set e ≡ Some t → t ≡ member_view new
+named e new t names is = subst (λ (o : Option Histories). IfSome o (λ s. s ≡ member_view new)) is names
 
 module _ (first : MemberState) (objects : List (ℕ × Kind)) (all : List Job) (es : List Entry) (now : MemberState)
     (shelf : ShelfState) (j : Job) (rest : List Job) (h : UnderWay first objects all es now shelf (j ∷ rest)) where
@@ -124,51 +124,51 @@ module _ (first : MemberState) (objects : List (ℕ × Kind)) (all : List Job) (
   at_job = first_left all (length es) j rest h.left
 
   module _ (e : Entry) (next : MemberState) (later : ShelfState)
-      (answers : Answers next (length (submitted_in now 0) + 1) objects j e) (names : Names e next)
-      (goes : GoesOn now next) where
+      (answers : AnswersJob next (length (member_submitted now 0) + 1) objects j e) (names : Names e next)
+      (goes : MemberGoesOn now next) where
     kept : HasDone first objects all es next
     kept = keeps_done first objects all es now next h.done goes
 
     answers_more : (k : ℕ) (f : Entry) → slice_get (es ++ e ∷ []) k ≡ Some f
-        → (i : Job) × (slice_get all k ≡ Some i) × Answers next (next_number first (take k all)) objects i f
+        → (i : Job) × (slice_get all k ≡ Some i) × AnswersJob next (next_number first (take k all)) objects i f
     answers_more k f got = elim (snoc_cases es e k f got) [
       | inl old ↦ kept.answers k f old
       | inr last ↦ (
         j,
         ap (slice_get all) last.0 ∙ at_job,
-        subst (λ (m : ℕ). Answers next (next_number first (take m all)) objects j f) (sym last.0)
-            (subst (λ (g : Entry). Answers next (next_number first (take (length es) all)) objects j g) (sym last.1)
-            (subst (λ (m : ℕ). Answers next (m + 1) objects j e) h.submitted answers)),
+        subst (λ (m : ℕ). AnswersJob next (next_number first (take m all)) objects j f) (sym last.0)
+            (subst (λ (g : Entry). AnswersJob next (next_number first (take (length es) all)) objects j g) (sym last.1)
+            (subst (λ (m : ℕ). AnswersJob next (m + 1) objects j e) h.submitted answers)),
       )
     ]
 
-    within_more : (k : ℕ) (f : Entry) (s : Histories) → slice_get (es ++ e ∷ []) k ≡ Some f → set_of f ≡ Some s
-        → IsSubset s (view next)
+    within_more : (k : ℕ) (f : Entry) (s : Histories) → slice_get (es ++ e ∷ []) k ≡ Some f → entry_set f ≡ Some s
+        → IsSubset s (member_view next)
     within_more k f s got is = elim (snoc_cases es e k f got) [
       | inl old ↦ kept.within k f s old is
-      | inr last ↦ subst (λ z. IsSubset s z) (named e next s names (ap set_of (sym last.1) ∙ is)) (λ u has. has)
+      | inr last ↦ subst (λ z. IsSubset s z) (named e next s names (ap entry_set (sym last.1) ∙ is)) (λ u has. has)
     ]
 
     growing_more : (k m : ℕ) (f g : Entry) (s t : Histories) → k < m → slice_get (es ++ e ∷ []) k ≡ Some f
-        → slice_get (es ++ e ∷ []) m ≡ Some g → set_of f ≡ Some s → set_of g ≡ Some t → IsSubset s t
+        → slice_get (es ++ e ∷ []) m ≡ Some g → entry_set f ≡ Some s → entry_set g ≡ Some t → IsSubset s t
     growing_more k m f g s t less got_f got_g is_f is_g = elim (snoc_cases es e m g got_g) [
       | inl old_g ↦ (elim (snoc_cases es e k f got_f) [
         | inl old_f ↦ h.done.growing k m f g s t less old_f old_g is_f is_g
         | inr last_f ↦ absurd (let w = slice_get_within es m g old_g in let at = last_f.0 in omega (arith, w, at, less))
       ])
-      | inr last_g ↦ subst (λ z. IsSubset s z) (sym (named e next t names (ap set_of (sym last_g.1) ∙ is_g))) (within_more k f s got_f is_f)
+      | inr last_g ↦ subst (λ z. IsSubset s z) (sym (named e next t names (ap entry_set (sym last_g.1) ∙ is_g))) (within_more k f s got_f is_f)
     ]
 
-    pub goes_on_more : length (submitted_in next 0) ≡ length (submitted_in now 0) + cond (is_update j) 1 0
-        → later.objects ≡ objects → IsSubset later.view (view next)
+    pub goes_on_more : length (member_submitted next 0) ≡ length (member_submitted now 0) + cond (is_update_job j) 1 0
+        → later.objects ≡ objects → IsSubset later.view (member_view next)
         → UnderWay first objects all (es ++ e ∷ []) next later rest
     goes_on_more submitted same within = record {
       done = record { answers = answers_more; growing = growing_more; within = within_more };
       goes = goes_on_then first now next h.goes goes;
       submitted =
-          let o = one_more all (length es) j at_job (is_update j) refl in
-          let t : updates_of (take (length (es ++ e ∷ [])) all) ≡ updates_of (take (length es + 1) all) =
-          ap (λ (m : ℕ). updates_of (take m all)) (length_snoc es e) in
+          let o = one_more all (length es) j at_job (is_update_job j) refl in
+          let t : update_jobs (take (length (es ++ e ∷ [])) all) ≡ update_jobs (take (length es + 1) all) =
+          ap (λ (m : ℕ). update_jobs (take m all)) (length_snoc es e) in
           let s = h.submitted in
           omega (arith, submitted, o, t, s);
       same = same;
@@ -182,7 +182,7 @@ module _ (first : MemberState) (objects : List (ℕ × Kind)) (all : List Job) (
       → StopsAt objects next all n why
   stops_here n next why is fits = subst (λ (m : ℕ). StopsAt objects next all m why) (sym is) (j, at_job, fits)
 
-starts : (first : MemberState) (all : List Job) (shelf : ShelfState) → IsSubset shelf.view (view first)
+starts : (first : MemberState) (all : List Job) (shelf : ShelfState) → IsSubset shelf.view (member_view first)
     → UnderWay first shelf.objects all [] first shelf all
 starts first all shelf within = record {
   done = record {
@@ -198,7 +198,7 @@ starts first all shelf within = record {
 }
 
 pub begins : (first : MemberState) (all : List Job) (shelf : ShelfState) (es : List Entry) (rest : List Job) → es ≡ []
-    → rest ≡ all → IsSubset shelf.view (view first) → UnderWay first shelf.objects all es first shelf rest
+    → rest ≡ all → IsSubset shelf.view (member_view first) → UnderWay first shelf.objects all es first shelf rest
 begins first all shelf es rest none is within =
     subst (λ (xs : List Entry). UnderWay first shelf.objects all xs first shelf rest) (sym none)
     (subst (λ (xs : List Job). UnderWay first shelf.objects all [] first shelf xs) (sym is)

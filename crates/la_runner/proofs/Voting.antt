@@ -19,10 +19,10 @@ use Rattle.la_runner.specs.declared.error.RunnerError.{RunnerError}
 use Rattle.la_runner.specs.declared.error.RunnerError.TheVariants as errors
 use Rattle.la_runner.specs.Certificates.{HasOwnCertificate}
 use Rattle.la_runner.specs.Sound.{IsSound}
-use Rattle.la_runner.specs.Instances.{InstanceState, with_update, with_vote, IsLearntSet, Steps, MayCast, HasCast}
-use Rattle.la_runner.specs.Members.{MemberState, submitted_of, learnt_of, last_learnt}
-use Rattle.la_runner.specs.Participants.{IsParticipant, HasVotedSet, MayVote}
-use Rattle.la_runner.specs.Refusals.{of_proposer, IsRoundsRefusal, IsSubmissionRefusal, IsVoteRefusal, IsVoteError, IsRefusedVote}
+use Rattle.la_runner.specs.Instances.{InstanceState, with_update, vote_submitted, IsLearntSet, InstanceSteps, MayCast, HasCast}
+use Rattle.la_runner.specs.Members.{MemberState, submitted_of, instance_learnt, member_learnt}
+use Rattle.la_runner.specs.Participants.{IsMemberParticipant, HasVotedSet, MayVote}
+use Rattle.la_runner.specs.Refusals.{of_member_proposer, IsRoundsRefusal, IsMemberSubmissionRefusal, IsVoteRefusal, IsVoteError, IsRefusedVote}
 use Rattle.la_runner.proofs.Keeping.{with_instance, there, own_certified, refused_after, participant_stays}
 use Rattle.la_runner.proofs.Passing.{get-set_other}
 use Rattle.la_runner.proofs.Updating.{submitted_is}
@@ -79,7 +79,7 @@ none_submitted k v x zero_is (inr e) =
 
 -- with the vote, whether it was submitted or is now
 vote_is : (k : ℕ) (v : Vote) (x : InstanceState) (ds : List ObjectOp) → all_submitted x.proposer ≡ ds
-    → with_vote k v x ≡ cond (is_nothing ds) (with_update (casts k v) x) x
+    → vote_submitted k v x ≡ cond (is_nothing ds) (with_update (casts k v) x) x
 vote_is k v x ds e = ap (λ l. cond (is_nothing l) (with_update (casts k v) x) x) e
 
 -- which errors a vote may be refused with
@@ -95,7 +95,7 @@ rounds_error rounds first last errors.AlreadyProposed h = absurd h
 rounds_error rounds first last errors.Full h = absurd h
 
 submission_error : (p : ProposerState) (e : RunnerError) (refused : ProposerError) → 1 ≤ p.cap → submitted p ≡ 0
-    → e ≡ of_proposer refused → IsSubmitRefusal p refused → IsVoteError e
+    → e ≡ of_member_proposer refused → IsSubmitRefusal p refused → IsVoteError e
 submission_error p e proposer.Full cap none same h = absurd (omega (arith, h, none, cap))
 submission_error p e proposer.BallotsSpent cap none same h = subst IsVoteError (sym same) tt
 submission_error p e proposer.Memory cap none same h = subst IsVoteError (sym same) tt
@@ -113,7 +113,7 @@ module _ (m : MemberState) (k : ℕ) (v : Vote) (i : ℕ) (x y : InstanceState) 
     beside j ne = get-set_other m.instances i j y ne
 
     in_first : i ≡ first_instance k → v ≡ first_vote_for v.value → (IsSome x.learnt → y ≡ x) → MayCast k v y
-        → IsParticipant m k → IsParticipant (with_instance m i y) k
+        → IsMemberParticipant m k → IsMemberParticipant (with_instance m i y) k
     in_first e form stays may p = record {
       first = elim may [
         | inl none ↦ inl (ap submitted_of mine ∙ none)
@@ -123,12 +123,12 @@ module _ (m : MemberState) (k : ℕ) (v : Vote) (i : ℕ) (x y : InstanceState) 
         | inl none ↦ inl (ap submitted_of other ∙ none)
         | inr h ↦
             let learnt : x.learnt ≡ Some h.first =
-            ap learnt_of (sym (subst (λ z. slice_get m.instances z ≡ Some x) e at)) ∙ h.learnt in
+            ap instance_learnt (sym (subst (λ z. slice_get m.instances z ≡ Some x) e at)) ∙ h.learnt in
             inr (record {
               first = h.first;
               vote = h.vote;
               learnt =
-                  ap learnt_of mine ∙ ap (λ (z : InstanceState). z.learnt) (stays (some_is x.learnt h.first learnt))
+                  ap instance_learnt mine ∙ ap (λ (z : InstanceState). z.learnt) (stays (some_is x.learnt h.first learnt))
                   ∙ learnt;
               leads = h.leads;
               cast = ap submitted_of other ∙ h.cast;
@@ -142,8 +142,8 @@ module _ (m : MemberState) (k : ℕ) (v : Vote) (i : ℕ) (x y : InstanceState) 
         other : slice_get (slice_set m.instances i y) (second_instance k) ≡ slice_get m.instances (second_instance k)
         other = beside (second_instance k) (λ s. omega (arith, s, e))
 
-    in_second : i ≡ second_instance k → (s : Histories) → last_learnt m (first_instance k) ≡ Some s
-        → second_vote s m.replica ≡ Some v → MayCast k v y → IsParticipant m k → IsParticipant (with_instance m i y) k
+    in_second : i ≡ second_instance k → (s : Histories) → member_learnt m (first_instance k) ≡ Some s
+        → second_vote s m.replica ≡ Some v → MayCast k v y → IsMemberParticipant m k → IsMemberParticipant (with_instance m i y) k
     in_second e s learnt leads may p = record {
       first = elim p.first [
         | inl none ↦ inl (ap submitted_of other ∙ none)
@@ -151,7 +151,7 @@ module _ (m : MemberState) (k : ℕ) (v : Vote) (i : ℕ) (x y : InstanceState) 
       ];
       second = elim may [
         | inl none ↦ inl (ap submitted_of mine ∙ none)
-        | inr one ↦ inr (record { first = s; vote = v; learnt = ap learnt_of other ∙ learnt; leads = leads; cast = ap submitted_of mine ∙ one })
+        | inr one ↦ inr (record { first = s; vote = v; learnt = ap instance_learnt other ∙ learnt; leads = leads; cast = ap submitted_of mine ∙ one })
       ];
     }
       where
@@ -164,8 +164,8 @@ module _ (m : MemberState) (k : ℕ) (v : Vote) (i : ℕ) (x y : InstanceState) 
     place : MayVote k v i m → (i ≡ first_instance k) ⊎ (i ≡ second_instance k)
     place may = elim may.leads [ inl h ↦ inl h.0 | inr h ↦ inr h.0 ]
 
-    other_commit : (j : ℕ) → j ≢ k → (i ≡ first_instance k) ⊎ (i ≡ second_instance k) → IsParticipant m j
-        → IsParticipant (with_instance m i y) j
+    other_commit : (j : ℕ) → j ≢ k → (i ≡ first_instance k) ⊎ (i ≡ second_instance k) → IsMemberParticipant m j
+        → IsMemberParticipant (with_instance m i y) j
     other_commit j ne (inl e) p =
         participant_stays m (with_instance m i y) j refl (beside (first_instance j) (λ s. ne (omega (arith, s, e))))
         (beside (second_instance j) (λ s. absurd (omega (arith, s, e)))) p
@@ -173,10 +173,10 @@ module _ (m : MemberState) (k : ℕ) (v : Vote) (i : ℕ) (x y : InstanceState) 
         participant_stays m (with_instance m i y) j refl (beside (first_instance j) (λ s. absurd (omega (arith, s, e))))
         (beside (second_instance j) (λ s. ne (omega (arith, s, e)))) p
 
-    pub participants_after : ((j : ℕ) → IsParticipant m j) → MayVote k v i m → (IsSome x.learnt → y ≡ x) → MayCast k v y
-        → (j : ℕ) → IsParticipant (with_instance m i y) j
+    pub participants_after : ((j : ℕ) → IsMemberParticipant m j) → MayVote k v i m → (IsSome x.learnt → y ≡ x) → MayCast k v y
+        → (j : ℕ) → IsMemberParticipant (with_instance m i y) j
     participants_after are may stays cast j = elim (cases_eq j k) [
-      | inl e ↦ subst (IsParticipant (with_instance m i y)) (sym e) (elim may.leads [
+      | inl e ↦ subst (IsMemberParticipant (with_instance m i y)) (sym e) (elim may.leads [
         | inl h ↦ in_first h.0 h.1 stays cast (are k)
         | inr h ↦ in_second h.0 h.1 h.2 h.3 cast (are k)
       ])
@@ -189,7 +189,7 @@ module _ (m : MemberState) (k : ℕ) (v : Vote) (i : ℕ) (x y : InstanceState) 
       | inr e ↦ inr (sym (ap submitted_of at) ∙ e)
     ]
 
-    module _ (votes : x.proposer.votes ≡ m.votes) (own : x.proposer.own ≡ m.replica) (steps : Steps x y) where
+    module _ (votes : x.proposer.votes ≡ m.votes) (own : x.proposer.own ≡ m.replica) (steps : InstanceSteps x y) where
       pub voted : HasCast k v y → HasVotedSet (with_instance m i y) i v
       voted cast = go y.learnt refl cast.learnt
         where
@@ -199,7 +199,7 @@ module _ (m : MemberState) (k : ℕ) (v : Vote) (i : ℕ) (x y : InstanceState) 
               let l = subst (λ z. IfSome z (IsLearntSet y.proposer y.passes)) e steps.is.learnt in (
                 s,
                 record {
-                  learnt = ap learnt_of here ∙ e;
+                  learnt = ap instance_learnt here ∙ e;
                   own =
                       own_certified m i x y at s votes
                       (subst (λ vs. HasOwnCertificate vs y.passes s) steps.follows.votes l.own);
@@ -213,5 +213,5 @@ module _ (m : MemberState) (k : ℕ) (v : Vote) (i : ℕ) (x y : InstanceState) 
     pub refused : (rounds : ℕ) (e : RunnerError) → IsVoteRefusal rounds k v x y e
         → IsRefusedVote rounds k v i m (with_instance m i y) e
     refused rounds e (inl h) =
-        inl (ap submitted_of here ∙ h.0, subst (λ o. IsSomeAnd o (λ z. IsSubmissionRefusal z.proposer e)) (sym here) h.1)
-    refused rounds e (inr h) = inr (ap submitted_of here ∙ h.0, refused_after m i x y at (with_vote k v) rounds e h.1)
+        inl (ap submitted_of here ∙ h.0, subst (λ o. IsSomeAnd o (λ z. IsMemberSubmissionRefusal z.proposer e)) (sym here) h.1)
+    refused rounds e (inr h) = inr (ap submitted_of here ∙ h.0, refused_after m i x y at (vote_submitted k v) rounds e h.1)

@@ -16,8 +16,8 @@ abbrev pub mine_of : Option Known → List Entry
 mine_of None = []
 mine_of (Some k) = k.mine
 
-unfoldable pub seen_at : List Known → ℕ → List Entry
-seen_at passes a = seen_of (slice_get passes a)
+unfoldable pub passes_seen_at : List Known → ℕ → List Entry
+passes_seen_at passes a = seen_of (slice_get passes a)
 
 unfoldable pub mine_at : List Known → ℕ → List Entry
 mine_at passes a = mine_of (slice_get passes a)
@@ -29,7 +29,7 @@ OfMajority votes P =
 
 -- in the passes of one instance a majority of acceptors acknowledged the set
 abbrev pub HasCertificate : (votes : List ℕ) → List Known → Histories → Type 0
-HasCertificate votes passes s = OfMajority votes (λ a. HasYes (seen_at passes a) s)
+HasCertificate votes passes s = OfMajority votes (λ a. HasYes (passes_seen_at passes a) s)
 
 -- to these passes' own offers
 abbrev pub HasOwnCertificate : (votes : List ℕ) → List Known → Histories → Type 0

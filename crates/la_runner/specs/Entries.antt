@@ -17,24 +17,24 @@ use Rattle.la_runner.specs.declared.jobs.Entry.TheVariants.{Learned, Decided, An
 use Rattle.la_runner.specs.declared.jobs.Job.{Job}
 use Rattle.la_runner.specs.declared.jobs.Job.TheVariants.{Update, Decide, Ask}
 use Rattle.la_runner.specs.declared.jobs.Stopped.{Stopped}
-use Rattle.la_runner.specs.Members.{MemberState, submitted_in, view, IsCertified, IsOwnCertified}
+use Rattle.la_runner.specs.Members.{MemberState, member_submitted, member_view, IsCertified, IsOwnCertified}
 use Rattle.la_runner.specs.Stops.{StopFits}
 
 -- whether a job submits an update for an object
-abbrev pub is_update : Job → Bool
-is_update (Update object op) = true
-is_update (Decide commit value) = false
-is_update (Ask object query) = false
+abbrev pub is_update_job : Job → Bool
+is_update_job (Update object op) = true
+is_update_job (Decide commit value) = false
+is_update_job (Ask object query) = false
 
 -- how many of these jobs do
-abbrev pub updates_of : List Job → ℕ
-updates_of jobs = count_by is_update jobs
+abbrev pub update_jobs : List Job → ℕ
+update_jobs jobs = count_by is_update_job jobs
 
 -- the set of updates for objects that an entry names: the learnt set, or the view of an answer
-abbrev pub set_of : Entry → Option Histories
-set_of (Learned l) = Some l.updates
-set_of (Decided first second reached) = None
-set_of (Answer seen answer) = Some seen
+abbrev pub entry_set : Entry → Option Histories
+entry_set (Learned l) = Some l.updates
+entry_set (Decided first second reached) = None
+entry_set (Answer seen answer) = Some seen
 
 -- empty, or acknowledged by a majority as far as the member's passes have seen
 abbrev pub IsKnownTo : MemberState → Histories → Type 0
@@ -74,14 +74,14 @@ AnswersAsk m objects object query (Answer seen answer) =
     × (answer_at (record { view = seen; objects = objects }) object query ≡ Some answer)
 
 -- an entry answers a job of a member whose next update has this number, beside these objects
-abbrev pub Answers : MemberState → (number : ℕ) → List (ℕ × Kind) → Job → Entry → Type 0
-Answers m number objects (Update object op) e = AnswersUpdate m number object op e
-Answers m number objects (Decide commit value) e = AnswersDecide m commit value e
-Answers m number objects (Ask object query) e = AnswersAsk m objects object query e
+abbrev pub AnswersJob : MemberState → (number : ℕ) → List (ℕ × Kind) → Job → Entry → Type 0
+AnswersJob m number objects (Update object op) e = AnswersUpdate m number object op e
+AnswersJob m number objects (Decide commit value) e = AnswersDecide m commit value e
+AnswersJob m number objects (Ask object query) e = AnswersAsk m objects object query e
 
 -- the number of a member's next update, once these jobs are done
 abbrev pub next_number : MemberState → List Job → ℕ
-next_number first jobs = length (submitted_in first 0) + updates_of jobs + 1
+next_number first jobs = length (member_submitted first 0) + update_jobs jobs + 1
 
 -- the entries answer the first jobs, in order, and each names a set that contains those before it;
 -- the view contains all
@@ -90,14 +90,14 @@ pub record HasDone (first : MemberState) (objects : List (ℕ × Kind)) (jobs : 
   pub answers :
       (k : ℕ) (e : Entry) → slice_get entries k ≡ Some e
       → (j : Job) × (slice_get jobs k ≡ Some j)
-      × Answers now (next_number first (take k jobs)) objects j e
+      × AnswersJob now (next_number first (take k jobs)) objects j e
   pub growing :
       (k m : ℕ) (e f : Entry) (s t : Histories) → k < m
       → slice_get entries k ≡ Some e → slice_get entries m ≡ Some f
-      → set_of e ≡ Some s → set_of f ≡ Some t → IsSubset s t
+      → entry_set e ≡ Some s → entry_set f ≡ Some t → IsSubset s t
   pub within :
       (k : ℕ) (e : Entry) (s : Histories) → slice_get entries k ≡ Some e
-      → set_of e ≡ Some s → IsSubset s (view now)
+      → entry_set e ≡ Some s → IsSubset s (member_view now)
 
 -- the first job that is not done is there, and the reason fits it
 abbrev pub StopsAt : List (ℕ × Kind) → MemberState → List Job → (done : ℕ) → Stopped → Type 0

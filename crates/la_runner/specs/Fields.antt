@@ -26,5 +26,5 @@ note_stands_for n = record {
 abbrev pub NoteInvariant : told.Inside → Type 0
 NoteInvariant n = IsNote (note_stands_for n)
 
-abbrev pub HoldsInvariant : Inside → Type 0
-HoldsInvariant m = IsMember (stands_for m)
+abbrev pub HoldsMemberInvariant : Inside → Type 0
+HoldsMemberInvariant m = IsMember (stands_for m)

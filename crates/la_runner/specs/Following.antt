@@ -11,7 +11,7 @@ use Rattle.la_proposer.specs.Inputs.{all_submitted}
 use Rattle.la_shared.specs.declared.entry.Entry.{Entry}
 use Rattle.la_shared.specs.History.{HasYes}
 use Rattle.la_shared.specs.Passes.{Known, AcceptorName}
-use Rattle.la_runner.specs.Certificates.{seen_at, mine_at, OfMajority, HasOwnCertificate}
+use Rattle.la_runner.specs.Certificates.{passes_seen_at, mine_at, OfMajority, HasOwnCertificate}
 use Rattle.la_runner.specs.Sound.{HasReply, IsSound}
 
 -- of which acceptors the passes are
@@ -21,17 +21,17 @@ acceptors_of passes = map (λ k. k.acceptor) passes
 -- the acceptor acknowledged the set after what the earlier passes had seen
 abbrev pub Beyond : (earlier later : List Known) → (a : ℕ) → Histories → Type 0
 Beyond earlier later a s =
-    (rest : List Entry) × (seen_at later a ≡ seen_at earlier a ++ rest) × HasYes rest s
+    (rest : List Entry) × (passes_seen_at later a ≡ passes_seen_at earlier a ++ rest) × HasYes rest s
 
 -- each pass goes on: it has seen what it had, and has the entries that it had
 pub record GoOn (ps qs : List Known) : Type 0 where
   pub acceptors : acceptors_of qs ≡ acceptors_of ps
-  pub seen : (a : ℕ) → IsPrefix (seen_at ps a) (seen_at qs a)
+  pub seen : (a : ℕ) → IsPrefix (passes_seen_at ps a) (passes_seen_at qs a)
   pub mine : (a : ℕ) → IsPrefix (mine_at ps a) (mine_at qs a)
 
 -- the passes, too, go on, and the ballots grow; what has counted in the open ballot had counted
 -- when it stood open before, or was acknowledged since
-pub record Follows (p q : ProposerState) (ps qs : List Known) : Type 0 where
+pub record FollowsProposer (p q : ProposerState) (ps qs : List Known) : Type 0 where
   pub votes : q.votes ≡ p.votes
   pub own : q.own ≡ p.own
   pub cap : q.cap ≡ p.cap
@@ -69,7 +69,7 @@ IfLearnt (said.Learnt s next) P = P s
 -- a step without a submission
 pub record Goes (p : ProposerState) (ps : List Known) (q : ProposerState) (qs : List Known) : Type 0 where
   pub sound : IsSound q qs
-  pub follows : Follows p q ps qs
+  pub follows : FollowsProposer p q ps qs
   pub nothing : SubmitsNothing p q
 
 -- a ballot is open, or the set has all that was submitted

@@ -12,7 +12,7 @@ use Rattle.la_shared.specs.Passes.{Known}
 use Rattle.la_runner.specs.declared.instance.Instance.{Instance}
 use Rattle.la_runner.specs.Certificates.{HasCertificate, HasOwnCertificate}
 use Rattle.la_runner.specs.Sound.{IsSound, IsView}
-use Rattle.la_runner.specs.Following.{Follows}
+use Rattle.la_runner.specs.Following.{FollowsProposer}
 
 pub record InstanceState : Type 0 where
   pub proposer : ProposerState
@@ -44,9 +44,9 @@ pub record IsInstance (x : InstanceState) : Type 0 where
   pub under_way : x.learnt ≡ None → 1 ≤ length (all_submitted x.proposer) → x.proposer.is_asking ≡ true
 
 -- a step, whatever it answers
-pub record Steps (old new : InstanceState) : Type 0 where
+pub record InstanceSteps (old new : InstanceState) : Type 0 where
   pub is : IsInstance new
-  pub follows : Follows old.proposer new.proposer old.passes new.passes
+  pub follows : FollowsProposer old.proposer new.proposer old.passes new.passes
   pub submitted : IsPrefix (all_submitted old.proposer) (all_submitted new.proposer)
   pub grows : IsSubset old.view new.view
 
@@ -70,8 +70,8 @@ MayCast k v x =
     (all_submitted x.proposer ≡ []) ⊎ (all_submitted x.proposer ≡ casts k v ∷ [])
 
 -- with the vote submitted, unless something was
-abbrev pub with_vote : (commit : ℕ) → Vote → InstanceState → InstanceState
-with_vote k v x = if is_nothing (all_submitted x.proposer) then with_update (casts k v) x else x
+abbrev pub vote_submitted : (commit : ℕ) → Vote → InstanceState → InstanceState
+vote_submitted k v x = if is_nothing (all_submitted x.proposer) then with_update (casts k v) x else x
 
 -- it was, and a set was learnt since
 pub record HasCast (commit : ℕ) (v : Vote) (x : InstanceState) : Type 0 where

@@ -7,8 +7,8 @@ use Rattle.la_acceptor.specs.declared.reply.Reply.{Reply}
 use Rattle.la_shared.specs.History.{HasEntry}
 use Rattle.la_runner.specs.Certificates.{mine_at}
 use Rattle.la_runner.specs.Invariant.{IsMember}
-use Rattle.la_runner.specs.Members.{MemberState, GoesOn, passes_in, submitted_in, last_learnt, view, IsCertified, IsOwnCertified}
-use Rattle.la_runner.specs.Sound.{IsSubmission, WasTold}
+use Rattle.la_runner.specs.Members.{MemberState, MemberGoesOn, passes_in, member_submitted, member_learnt, member_view, IsCertified, IsOwnCertified}
+use Rattle.la_runner.specs.Sound.{IsMemberSubmission, WasTold}
 
 abbrev pub CertifiedCompare : Type 0
 CertifiedCompare = (m : MemberState) → IsMember m → (i : ℕ) (s t : Histories) →
@@ -19,25 +19,25 @@ OwnAreCertified = (m : MemberState) → IsMember m → (i : ℕ) (s : Histories)
     IsOwnCertified m i s → IsCertified m i s
 
 abbrev pub CertificatesStay : Type 0
-CertificatesStay = (old new : MemberState) → GoesOn old new → (i : ℕ) (s : Histories) →
+CertificatesStay = (old new : MemberState) → MemberGoesOn old new → (i : ℕ) (s : Histories) →
     (IsCertified old i s → IsCertified new i s) × (IsOwnCertified old i s → IsOwnCertified new i s)
 
 abbrev pub ViewsAreCertified : Type 0
-ViewsAreCertified = (m : MemberState) → IsMember m → (view m ≡ empty) ⊎ IsCertified m 0 (view m)
+ViewsAreCertified = (m : MemberState) → IsMember m → (member_view m ≡ empty) ⊎ IsCertified m 0 (member_view m)
 
 abbrev pub ViewsCompare : Type 0
 ViewsCompare = (m : MemberState) → IsMember m → (s : Histories) →
-    IsCertified m 0 s → AreComparable s (view m)
+    IsCertified m 0 s → AreComparable s (member_view m)
 
 abbrev pub LearntAreOwnCertified : Type 0
 LearntAreOwnCertified = (m : MemberState) → IsMember m → (i : ℕ) (s : Histories) →
-    last_learnt m i ≡ Some s → IsOwnCertified m i s
+    member_learnt m i ≡ Some s → IsOwnCertified m i s
 
 -- each update of an own offer is the member's own, or was told by a refusal of an offer that lacks it
 abbrev pub InventsNothing : MemberState → Type 0
 InventsNothing m = (i a : ℕ) (s : Histories) (r : Reply) →
     HasEntry (mine_at (passes_in m i) a) s r → (u : Update) → ContainsUpdate s u →
-    IsSubmission m.replica (submitted_in m i) u ⊎ WasTold (passes_in m i) u
+    IsMemberSubmission m.replica (member_submitted m i) u ⊎ WasTold (passes_in m i) u
 
 abbrev pub NothingIsInvented : Type 0
 NothingIsInvented = (m : MemberState) → IsMember m → InventsNothing m

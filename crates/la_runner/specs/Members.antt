@@ -6,7 +6,7 @@ use Rattle.la_set.specs.Histories.{Histories, history, empty}
 use Rattle.la_set.specs.Inclusion.{IsSubset}
 use Rattle.la_proposer.specs.Inputs.{all_submitted}
 use Rattle.la_shared.specs.Passes.{Known, AcceptorName}
-use Rattle.la_runner.specs.Certificates.{seen_at, mine_at, HasCertificate, HasOwnCertificate}
+use Rattle.la_runner.specs.Certificates.{passes_seen_at, mine_at, HasCertificate, HasOwnCertificate}
 use Rattle.la_runner.specs.Following.{acceptors_of}
 use Rattle.la_runner.specs.Instances.{InstanceState}
 
@@ -18,8 +18,8 @@ pub record MemberState : Type 0 where
   pub instances : List InstanceState
 
 -- there is an instance with this number, and a fact holds of it
-abbrev pub InInstance : MemberState → (instance : ℕ) → (InstanceState → Type 0) → Type 0
-InInstance m i P = IsSomeAnd (slice_get m.instances i) P
+abbrev pub InMemberInstance : MemberState → (instance : ℕ) → (InstanceState → Type 0) → Type 0
+InMemberInstance m i P = IsSomeAnd (slice_get m.instances i) P
 
 -- ## What there is in an instance; nothing, where there is no such instance
 
@@ -35,8 +35,8 @@ submitted_of None = []
 submitted_of (Some x) = all_submitted x.proposer
 
 -- what the member has submitted there, in order
-abbrev pub submitted_in : MemberState → (instance : ℕ) → List ObjectOp
-submitted_in m i = submitted_of (slice_get m.instances i)
+abbrev pub member_submitted : MemberState → (instance : ℕ) → List ObjectOp
+member_submitted m i = submitted_of (slice_get m.instances i)
 
 abbrev pub is_asking_of : Option InstanceState → Bool
 is_asking_of None = false
@@ -51,24 +51,24 @@ number_of None = 0
 number_of (Some x) = x.proposer.number
 
 -- the last ballot's number
-abbrev pub number_in : MemberState → (instance : ℕ) → ℕ
-number_in m i = number_of (slice_get m.instances i)
+abbrev pub ballot_number_in : MemberState → (instance : ℕ) → ℕ
+ballot_number_in m i = number_of (slice_get m.instances i)
 
-abbrev pub learnt_of : Option InstanceState → Option Histories
-learnt_of None = None
-learnt_of (Some x) = x.learnt
+abbrev pub instance_learnt : Option InstanceState → Option Histories
+instance_learnt None = None
+instance_learnt (Some x) = x.learnt
 
 -- the last set that it learnt there
-abbrev pub last_learnt : MemberState → (instance : ℕ) → Option Histories
-last_learnt m i = learnt_of (slice_get m.instances i)
+abbrev pub member_learnt : MemberState → (instance : ℕ) → Option Histories
+member_learnt m i = instance_learnt (slice_get m.instances i)
 
-abbrev pub view_of : Option InstanceState → Histories
-view_of None = empty
-view_of (Some x) = x.view
+abbrev pub instance_view : Option InstanceState → Histories
+instance_view None = empty
+instance_view (Some x) = x.view
 
 -- what it answers questions from
-abbrev pub view : MemberState → Histories
-view m = view_of (slice_get m.instances 0)
+abbrev pub member_view : MemberState → Histories
+member_view m = instance_view (slice_get m.instances 0)
 
 -- a majority of the acceptors of an instance, by votes, acknowledged the set: as far as the member's
 -- passes have seen, or by its own entries
@@ -89,7 +89,7 @@ abbrev pub acceptors_in : MemberState → List (List AcceptorName)
 acceptors_in m = map (λ x. acceptors_of x.passes) m.instances
 
 -- the member has the group's votes, and its passes are of the group's acceptors
-pub record IsOf (group : GroupState) (m : MemberState) : Type 0 where
+pub record IsOfGroup (group : GroupState) (m : MemberState) : Type 0 where
   pub votes : m.votes ≡ group.votes
   pub acceptors : acceptors_in m ≡ group.acceptors
 
@@ -97,14 +97,14 @@ pub record IsOf (group : GroupState) (m : MemberState) : Type 0 where
 
 -- whatever a call answers: the passes have seen, and made, what they had, and perhaps more; what was
 -- submitted stays, and the view only grows
-pub record GoesOn (old new : MemberState) : Type 0 where
+pub record MemberGoesOn (old new : MemberState) : Type 0 where
   pub votes : new.votes ≡ old.votes
   pub replica : new.replica ≡ old.replica
   pub acceptors : acceptors_in new ≡ acceptors_in old
-  pub seen : (i a : ℕ) → IsPrefix (seen_at (passes_in old i) a) (seen_at (passes_in new i) a)
+  pub seen : (i a : ℕ) → IsPrefix (passes_seen_at (passes_in old i) a) (passes_seen_at (passes_in new i) a)
   pub mine : (i a : ℕ) → IsPrefix (mine_at (passes_in old i) a) (mine_at (passes_in new i) a)
-  pub submitted : (i : ℕ) → IsPrefix (submitted_in old i) (submitted_in new i)
-  pub grows : IsSubset (view old) (view new)
+  pub submitted : (i : ℕ) → IsPrefix (member_submitted old i) (member_submitted new i)
+  pub grows : IsSubset (member_view old) (member_view new)
 
 -- in every instance but this one nothing changes
 abbrev pub IsOnlyIn : (instance : ℕ) → MemberState → MemberState → Type 0
@@ -116,12 +116,12 @@ IsOnlyIn i old new = (j : ℕ) → j ≢ i → slice_get new.instances j ≡ sli
 -- submitted there, and contains each set that had an own certificate at the call
 pub record IsLearntIn (instance : ℕ) (old new : MemberState) (s : Histories) : Type 0 where
   pub own : IsOwnCertified new instance s
-  pub holds : history s new.replica ≡ submitted_in new instance
+  pub holds : history s new.replica ≡ member_submitted new instance
   pub contains_own : (t : Histories) → IsOwnCertified old instance t → IsSubset t s
-  pub last : last_learnt new instance ≡ Some s
+  pub last : member_learnt new instance ≡ Some s
 
 -- of an update: it contains each set that had a certificate at the call
 pub record IsUpdateOf (old new : MemberState) (s : Histories) : Type 0 where
   pub learnt : IsLearntIn 0 old new s
   pub contains : (t : Histories) → IsCertified old 0 t → IsSubset t s
-  pub view : view new ≡ s
+  pub view : member_view new ≡ s

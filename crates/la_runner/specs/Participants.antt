@@ -7,7 +7,7 @@ use Rattle.la_commit.specs.declared.outcome.Outcome.{Outcome}
 use Rattle.la_commit.specs.Instances.{first_instance, second_instance}
 use Rattle.la_commit.specs.Outcomes.{outcome, outcome_of}
 use Rattle.la_commit.specs.Votes.{HoldsVote, casts, first_vote, first_vote_for, second_vote, second_vote_for}
-use Rattle.la_runner.specs.Members.{MemberState, submitted_in, last_learnt, IsOwnCertified}
+use Rattle.la_runner.specs.Members.{MemberState, member_submitted, member_learnt, IsOwnCertified}
 
 -- its group has the object
 abbrev pub HasCommit : MemberState → (commit : ℕ) → Type 0
@@ -15,34 +15,34 @@ HasCommit m k = second_instance k < length m.instances
 
 -- it has voted for the value in the first instance: it has proposed it
 abbrev pub HasProposed : MemberState → (commit value : ℕ) → Type 0
-HasProposed m k value = submitted_in m (first_instance k) ≡ first_vote k value ∷ []
+HasProposed m k value = member_submitted m (first_instance k) ≡ first_vote k value ∷ []
 
 -- it has voted in the second instance, as a set leads to that it learnt in the first
 pub record HasVoted (m : MemberState) (commit : ℕ) : Type 0 where
   pub first : Histories
   pub vote : Vote
-  pub learnt : last_learnt m (first_instance commit) ≡ Some first
+  pub learnt : member_learnt m (first_instance commit) ≡ Some first
   pub leads : second_vote first m.replica ≡ Some vote
-  pub cast : submitted_in m (second_instance commit) ≡ casts commit vote ∷ []
+  pub cast : member_submitted m (second_instance commit) ≡ casts commit vote ∷ []
 
 -- in the first instance it has submitted nothing, or the vote of a proposal; in the second nothing,
 -- or the vote to which the first leads
-pub record IsParticipant (m : MemberState) (commit : ℕ) : Type 0 where
-  pub first : (submitted_in m (first_instance commit) ≡ []) ⊎ ((value : ℕ) × HasProposed m commit value)
-  pub second : (submitted_in m (second_instance commit) ≡ []) ⊎ HasVoted m commit
+pub record IsMemberParticipant (m : MemberState) (commit : ℕ) : Type 0 where
+  pub first : (member_submitted m (first_instance commit) ≡ []) ⊎ ((value : ℕ) × HasProposed m commit value)
+  pub second : (member_submitted m (second_instance commit) ≡ []) ⊎ HasVoted m commit
 
 -- what it has come to, once it has learnt a set in the second instance
-abbrev pub outcome_in : MemberState → (commit : ℕ) → Option Outcome
-outcome_in m k = option_and_then (λ s. outcome_of s m.replica) (last_learnt m (second_instance k))
+abbrev pub member_outcome : MemberState → (commit : ℕ) → Option Outcome
+member_outcome m k = option_and_then (λ s. outcome_of s m.replica) (member_learnt m (second_instance k))
 
 -- it has finished there, or has another value under way
 abbrev pub HasOther : MemberState → (commit value : ℕ) → Type 0
 HasOther m k value =
-    IsSome (last_learnt m (second_instance k)) ⊎ ((other : ℕ) × HasProposed m k other × (other ≢ value))
+    IsSome (member_learnt m (second_instance k)) ⊎ ((other : ℕ) × HasProposed m k other × (other ≢ value))
 
 -- the last set that it learnt in an instance: certified by own offers, with the member's own vote
 pub record IsVotedSet (m : MemberState) (instance : ℕ) (v : Vote) (s : Histories) : Type 0 where
-  pub learnt : last_learnt m instance ≡ Some s
+  pub learnt : member_learnt m instance ≡ Some s
   pub own : IsOwnCertified m instance s
   pub holds : HoldsVote s m.replica v
 
@@ -67,9 +67,9 @@ IsOnlyAt k old new =
 -- a vote that a member may cast in an instance of the object: in the first any that is not sole, in
 -- the second the one to which the first leads; and it is the one that was cast there, if any was
 pub record MayVote (commit : ℕ) (v : Vote) (instance : ℕ) (m : MemberState) : Type 0 where
-  pub once : (submitted_in m instance ≡ []) ⊎ (submitted_in m instance ≡ casts commit v ∷ [])
+  pub once : (member_submitted m instance ≡ []) ⊎ (member_submitted m instance ≡ casts commit v ∷ [])
   pub leads :
       ((instance ≡ first_instance commit) × (v ≡ first_vote_for v.value))
       ⊎ ((instance ≡ second_instance commit)
-      × (first : Histories) × (last_learnt m (first_instance commit) ≡ Some first)
+      × (first : Histories) × (member_learnt m (first_instance commit) ≡ Some first)
       × (second_vote first m.replica ≡ Some v))

@@ -15,8 +15,8 @@ use Rattle.la_commit.specs.Votes.{casts, first_vote_for, second_vote_for}
 use Rattle.la_runner.specs.declared.error.RunnerError.{RunnerError}
 use Rattle.la_runner.specs.declared.error.RunnerError.TheVariants.{BadConfig, NoSuchCommit, AlreadyProposed, Clash, Full, BallotsSpent, NoMajority, TryAgain, Memory}
 use Rattle.la_runner.specs.Heard.{Answered, Hears, StillCounts}
-use Rattle.la_runner.specs.Instances.{InstanceState, with_update, with_vote}
-use Rattle.la_runner.specs.Members.{MemberState, InInstance, submitted_in, is_asking_in, number_in}
+use Rattle.la_runner.specs.Instances.{InstanceState, with_update, vote_submitted}
+use Rattle.la_runner.specs.Members.{MemberState, InMemberInstance, member_submitted, is_asking_in, ballot_number_in}
 use Rattle.la_runner.specs.Participants.{HasCommit, HasOther, IsVotedSet}
 
 -- ## The refusals of lower crates, as members name them
@@ -25,26 +25,26 @@ abbrev pub of_offer : AcceptorError → RunnerError
 of_offer (offer.Clash id) = Clash id
 of_offer offer.Memory = Memory
 
-abbrev pub of_proposer : ProposerError → RunnerError
-of_proposer proposer.Full = Full
-of_proposer proposer.NoSuchReplica = BadConfig
-of_proposer (proposer.Clash id) = Clash id
-of_proposer proposer.BallotsSpent = BallotsSpent
-of_proposer proposer.Memory = Memory
+abbrev pub of_member_proposer : ProposerError → RunnerError
+of_member_proposer proposer.Full = Full
+of_member_proposer proposer.NoSuchReplica = BadConfig
+of_member_proposer (proposer.Clash id) = Clash id
+of_member_proposer proposer.BallotsSpent = BallotsSpent
+of_member_proposer proposer.Memory = Memory
 
 -- ## Refusals of steps
 
 -- of an offer and its reply
-abbrev pub IsOfferRefusal : RunnerError → Type 0
-IsOfferRefusal (Clash id) = Unit {0}
-IsOfferRefusal BallotsSpent = Unit {0}
-IsOfferRefusal Memory = Unit {0}
-IsOfferRefusal BadConfig = ⊥
-IsOfferRefusal NoSuchCommit = ⊥
-IsOfferRefusal AlreadyProposed = ⊥
-IsOfferRefusal Full = ⊥
-IsOfferRefusal NoMajority = ⊥
-IsOfferRefusal TryAgain = ⊥
+abbrev pub IsRoundOfferRefusal : RunnerError → Type 0
+IsRoundOfferRefusal (Clash id) = Unit {0}
+IsRoundOfferRefusal BallotsSpent = Unit {0}
+IsRoundOfferRefusal Memory = Unit {0}
+IsRoundOfferRefusal BadConfig = ⊥
+IsRoundOfferRefusal NoSuchCommit = ⊥
+IsRoundOfferRefusal AlreadyProposed = ⊥
+IsRoundOfferRefusal Full = ⊥
+IsRoundOfferRefusal NoMajority = ⊥
+IsRoundOfferRefusal TryAgain = ⊥
 
 -- of at most so many rounds: none of them is left. These are the numbers of the ballot that was open
 -- before them, and of the one that is open now: without rounds, or where the last one ended its
@@ -86,13 +86,13 @@ pub record IsInstanceRefusal (rounds : ℕ) (start new : InstanceState) (e : Run
   pub kept : KeepsCounted start new e
 
 -- of a submission: the proposer's
-abbrev pub IsSubmissionRefusal : ProposerState → RunnerError → Type 0
-IsSubmissionRefusal p e = (refused : ProposerError) × (e ≡ of_proposer refused) × IsSubmitRefusal p refused
+abbrev pub IsMemberSubmissionRefusal : ProposerState → RunnerError → Type 0
+IsMemberSubmissionRefusal p e = (refused : ProposerError) × (e ≡ of_member_proposer refused) × IsSubmitRefusal p refused
 
 -- of a submission, and then nothing was submitted; or of the rounds after it, and then it was
 abbrev pub IsUpdateRefusal : (rounds : ℕ) → ObjectOp → InstanceState → InstanceState → RunnerError → Type 0
 IsUpdateRefusal rounds update old new e =
-    (IsSubmissionRefusal old.proposer e × (new ≡ old))
+    (IsMemberSubmissionRefusal old.proposer e × (new ≡ old))
     ⊎ ((all_submitted new.proposer ≡ all_submitted old.proposer ++ update ∷ [])
     × IsInstanceRefusal rounds (with_update update old) new e)
 
@@ -100,8 +100,8 @@ IsUpdateRefusal rounds update old new e =
 -- after it were refused
 abbrev pub IsVoteRefusal : (rounds commit : ℕ) → Vote → InstanceState → InstanceState → RunnerError → Type 0
 IsVoteRefusal rounds k v old new e =
-    ((all_submitted new.proposer ≡ []) × IsSubmissionRefusal new.proposer e)
-    ⊎ ((all_submitted new.proposer ≡ casts k v ∷ []) × IsInstanceRefusal rounds (with_vote k v old) new e)
+    ((all_submitted new.proposer ≡ []) × IsMemberSubmissionRefusal new.proposer e)
+    ⊎ ((all_submitted new.proposer ≡ casts k v ∷ []) × IsInstanceRefusal rounds (vote_submitted k v old) new e)
 
 -- the errors that a vote may be refused with
 abbrev pub IsVoteError : RunnerError → Type 0
@@ -120,29 +120,29 @@ IsVoteError Full = ⊥
 -- of rounds in an instance that begin so: a ballot stays open there
 pub record IsRefusedRounds (rounds : ℕ) (start : InstanceState) (instance : ℕ) (new : MemberState) (e : RunnerError) :
     Type 0 where
-  pub refusal : IsRoundsRefusal rounds start.proposer.number (number_in new instance) e
+  pub refusal : IsRoundsRefusal rounds start.proposer.number (ballot_number_in new instance) e
   pub asks : is_asking_in new instance ≡ true
-  pub kept : InInstance new instance (λ y. KeepsCounted start y e)
+  pub kept : InMemberInstance new instance (λ y. KeepsCounted start y e)
 
 -- of a resumption
 abbrev pub IsRefusedResume : (rounds : ℕ) → MemberState → MemberState → RunnerError → Type 0
-IsRefusedResume rounds old new e = InInstance old 0 (λ x. IsRefusedRounds rounds x 0 new e)
+IsRefusedResume rounds old new e = InMemberInstance old 0 (λ x. IsRefusedRounds rounds x 0 new e)
 
 -- of an update: of its submission, and then nothing was submitted; or of the rounds after it
 abbrev pub IsRefusedUpdate : (rounds : ℕ) → ObjectOp → MemberState → MemberState → RunnerError → Type 0
 IsRefusedUpdate rounds update old new e =
-    (InInstance old 0 (λ x. IsSubmissionRefusal x.proposer e) × (new ≡ old))
-    ⊎ ((submitted_in new 0 ≡ submitted_in old 0 ++ update ∷ [])
-    × InInstance old 0 (λ x. IsRefusedRounds rounds (with_update update x) 0 new e))
+    (InMemberInstance old 0 (λ x. IsMemberSubmissionRefusal x.proposer e) × (new ≡ old))
+    ⊎ ((member_submitted new 0 ≡ member_submitted old 0 ++ update ∷ [])
+    × InMemberInstance old 0 (λ x. IsRefusedRounds rounds (with_update update x) 0 new e))
 
 -- of a vote in an instance: its submission was refused, and nothing is submitted there; or it is
 -- cast, and the rounds were
 abbrev pub IsRefusedVote : (rounds commit : ℕ) → Vote → (instance : ℕ) → MemberState → MemberState → RunnerError
     → Type 0
 IsRefusedVote rounds k v i old new e =
-    ((submitted_in new i ≡ []) × InInstance new i (λ x. IsSubmissionRefusal x.proposer e))
-    ⊎ ((submitted_in new i ≡ casts k v ∷ [])
-    × InInstance old i (λ x. IsRefusedRounds rounds (with_vote k v x) i new e))
+    ((member_submitted new i ≡ []) × InMemberInstance new i (λ x. IsMemberSubmissionRefusal x.proposer e))
+    ⊎ ((member_submitted new i ≡ casts k v ∷ [])
+    × InMemberInstance old i (λ x. IsRefusedRounds rounds (vote_submitted k v x) i new e))
 
 -- the first vote was refused, or the second one, with the rounds that the first left
 abbrev pub IsRefusedInEither : (rounds commit value : ℕ) → MemberState → MemberState → RunnerError → Type 0

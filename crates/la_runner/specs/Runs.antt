@@ -11,12 +11,12 @@ use Rattle.la_runner.specs.declared.log.RunError.{RunError}
 use Rattle.la_runner.specs.declared.log.RunError.TheVariants.{BadConfig, NoThread, Memory as RunMemory}
 use Rattle.la_runner.specs.Entries.{HasDone, StopsAt}
 use Rattle.la_runner.specs.Invariant.{IsMember}
-use Rattle.la_runner.specs.Members.{MemberState, GroupState, IsOf, GoesOn, view}
+use Rattle.la_runner.specs.Members.{MemberState, GroupState, IsOfGroup, MemberGoesOn, member_view}
 
 -- a member of the group, and a shelf that has absorbed no more than the member's view
-pub record IsReady (group : GroupState) (m : MemberState) (shelf : ShelfState) : Type 0 where
-  pub of : IsOf group m
-  pub behind : IsSubset shelf.view (view m)
+pub record IsReadyMember (group : GroupState) (m : MemberState) (shelf : ShelfState) : Type 0 where
+  pub of : IsOfGroup group m
+  pub behind : IsSubset shelf.view (member_view m)
 
 -- what comes back of a member, its shelf and its jobs: the member has gone on, the entries answer the
 -- first jobs in order; without a reason to stop they answer all, and the shelf's view is the
@@ -25,11 +25,11 @@ pub record IsWorked (first : MemberState) (shelf : ShelfState) (jobs : List Job)
     (last : ShelfState) (entries : List Entry) (stopped : Option Stopped) : Type 0 where
   pub is : IsMember member
   pub named : replica ≡ member.replica
-  pub goes : GoesOn first member
+  pub goes : MemberGoesOn first member
   pub done : HasDone first shelf.objects jobs entries member
   pub objects : last.objects ≡ shelf.objects
   pub all : stopped ≡ None → length entries ≡ length jobs
-  pub shown : stopped ≡ None → last.view ≡ view member
+  pub shown : stopped ≡ None → last.view ≡ member_view member
   pub stop :
       IfSome stopped
       (λ why. (why ≡ Memory) ⊎ StopsAt shelf.objects member jobs (length entries) why)

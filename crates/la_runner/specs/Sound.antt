@@ -24,8 +24,8 @@ IsPassAt None = Unit {0}
 IsPassAt (Some k) = IsPass k
 
 -- an update is one of these submissions of the member's
-abbrev pub IsSubmission : (own : ℕ) → List ObjectOp → Update → Type 0
-IsSubmission own ds u = (u.id.replica ≡ own) × (object_op_number ds u.id.number ≡ Some (object_op_of u))
+abbrev pub IsMemberSubmission : (own : ℕ) → List ObjectOp → Update → Type 0
+IsMemberSubmission own ds u = (u.id.replica ≡ own) × (object_op_number ds u.id.number ≡ Some (object_op_of u))
 
 -- an own offer whose set lacks the update was refused with a set that has it
 abbrev pub WasTold : List Known → Update → Type 0

@@ -8,7 +8,7 @@ use Rattle.la_shared.specs.Passes.{Known, AcceptorName}
 use Rattle.la_runner.specs.declared.error.RunnerError.{RunnerError}
 use Rattle.la_runner.specs.declared.error.RunnerError.TheVariants.{BadConfig, NoSuchCommit, AlreadyProposed, Clash, Full, BallotsSpent, NoMajority, TryAgain, Memory}
 use Rattle.la_runner.specs.Instances.{InstanceState}
-use Rattle.la_runner.specs.Members.{MemberState, GroupState, IsOf}
+use Rattle.la_runner.specs.Members.{MemberState, GroupState, IsOfGroup}
 
 -- a pass that has seen nothing, and made no offer
 abbrev pub newcomer : AcceptorName → Known
@@ -22,16 +22,16 @@ pub record IsNewInstance (votes : List ℕ) (own cap : ℕ) (row : List Acceptor
   pub view : x.view ≡ empty
 
 -- how many updates a member may submit in an instance
-abbrev pub cap_in : (cap instance : ℕ) → ℕ
-cap_in cap i = if i == 0 then cap else 1
+abbrev pub member_cap : (cap instance : ℕ) → ℕ
+member_cap cap i = if i == 0 then cap else 1
 
 -- a member that has done nothing
 pub record IsNewMember (group : GroupState) (cap number : ℕ) (m : MemberState) : Type 0 where
   pub replica : m.replica ≡ number
-  pub of : IsOf group m
+  pub of : IsOfGroup group m
   pub each :
       (i : ℕ) (row : List AcceptorName) (x : InstanceState) → slice_get group.acceptors i ≡ Some row
-      → slice_get m.instances i ≡ Some x → IsNewInstance group.votes number (cap_in cap i) row x
+      → slice_get m.instances i ≡ Some x → IsNewInstance group.votes number (member_cap cap i) row x
 
 -- the members from this replica on, in order
 abbrev pub AreMembersFrom : GroupState → (cap replica : ℕ) → List MemberState → Type 0
@@ -40,18 +40,18 @@ AreMembersFrom group cap r (m ∷ ms) =
     IsNewMember group cap r m × AreMembersFrom group cap (r + 1) ms
 
 -- the values of a group are in their ranges
-abbrev pub IsConfig : (replicas commits cap : ℕ) → (votes : List ℕ) → Type 0
-IsConfig n commits cap votes = IsGroupOf n cap votes × (commits ≤ MAX_COMMITS)
+abbrev pub IsRunnerConfig : (replicas commits cap : ℕ) → (votes : List ℕ) → Type 0
+IsRunnerConfig n commits cap votes = IsGroupOf n cap votes × (commits ≤ MAX_COMMITS)
 
 -- one acceptor a replica in each instance, of which an adopt-commit object has two
-pub record IsGroup (replicas commits : ℕ) (of_all : List ℕ) (group : GroupState) : Type 0 where
+pub record IsAcceptorGroup (replicas commits : ℕ) (of_all : List ℕ) (group : GroupState) : Type 0 where
   pub votes : group.votes ≡ of_all
   pub instances : length group.acceptors ≡ 2 * commits + 1
   pub acceptors : All (λ row. length row ≡ replicas) group.acceptors
 
 abbrev pub IsNewRefusal : (replicas commits cap : ℕ) → (votes : List ℕ) → RunnerError → Type 0
-IsNewRefusal n commits cap votes BadConfig = ¬ IsConfig n commits cap votes
-IsNewRefusal n commits cap votes Memory = IsConfig n commits cap votes
+IsNewRefusal n commits cap votes BadConfig = ¬ IsRunnerConfig n commits cap votes
+IsNewRefusal n commits cap votes Memory = IsRunnerConfig n commits cap votes
 IsNewRefusal n commits cap votes NoSuchCommit = ⊥
 IsNewRefusal n commits cap votes AlreadyProposed = ⊥
 IsNewRefusal n commits cap votes (Clash id) = ⊥

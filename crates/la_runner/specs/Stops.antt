@@ -9,7 +9,7 @@ use Rattle.la_runner.specs.declared.jobs.Job.{Job}
 use Rattle.la_runner.specs.declared.jobs.Job.TheVariants.{Update, Decide, Ask}
 use Rattle.la_runner.specs.declared.jobs.Stopped.{Stopped}
 use Rattle.la_runner.specs.declared.jobs.Stopped.TheVariants.{Full, NoSuchObject, NoSuchCommit, AlreadyProposed, Clash, BallotsSpent, NoMajority, TryAgain, Memory}
-use Rattle.la_runner.specs.Members.{MemberState, InInstance}
+use Rattle.la_runner.specs.Members.{MemberState, InMemberInstance}
 use Rattle.la_runner.specs.Participants.{HasCommit, HasOther}
 
 -- a refusal that a job may meet
@@ -38,7 +38,7 @@ stop_by error.Memory = Memory
 
 -- the member has submitted as many updates as it may
 abbrev pub HasSubmittedCap : MemberState → Type 0
-HasSubmittedCap m = InInstance m 0 (λ x. x.proposer.cap ≤ submitted x.proposer)
+HasSubmittedCap m = InMemberInstance m 0 (λ x. x.proposer.cap ≤ submitted x.proposer)
 
 -- at an update: the cap comes only where it is reached
 abbrev pub StopsUpdate : MemberState → Stopped → Type 0

@@ -15,27 +15,27 @@ use Rattle.la_set.specs.Inclusion.{IsSubset, AreComparable}
 use Rattle.la_runner.specs.declared.jobs.Entry.{Entry}
 use Rattle.la_runner.specs.declared.jobs.Entry.TheVariants.{Decided}
 use Rattle.la_runner.specs.declared.jobs.Job.TheVariants.{Decide}
-use Rattle.la_runner.specs.Certificates.{seen_at}
-use Rattle.la_runner.specs.Entries.{set_of, IsKnownTo}
+use Rattle.la_runner.specs.Certificates.{passes_seen_at}
+use Rattle.la_runner.specs.Entries.{entry_set, IsKnownTo}
 use Rattle.la_runner.specs.Invariant.{IsMember}
 use Rattle.la_runner.specs.Laws.{InventsNothing}
-use Rattle.la_runner.specs.Members.{MemberState, GoesOn, passes_in, submitted_in, view}
+use Rattle.la_runner.specs.Members.{MemberState, MemberGoesOn, passes_in, member_submitted, member_view}
 use Rattle.la_runner.specs.Notes.{doings}
 use Rattle.la_runner.specs.Participants.{HasProposed}
 use Rattle.la_runner.specs.Runs.{Back, Place}
-use Rattle.la_runner.specs.Sound.{IsSubmission}
+use Rattle.la_runner.specs.Sound.{IsMemberSubmission}
 
 -- the second is of the first's group, and has seen what the first has
 pub record HasSeen (m n : MemberState) : Type 0 where
   pub votes : n.votes ≡ m.votes
-  pub sees : (i a : ℕ) → IsPrefix (seen_at (passes_in m i) a) (seen_at (passes_in n i) a)
+  pub sees : (i a : ℕ) → IsPrefix (passes_seen_at (passes_in m i) a) (passes_seen_at (passes_in n i) a)
 
 -- the member has seen what it had, and perhaps more; what it did is as before, and its view
 pub record SeesMore (old new : MemberState) : Type 0 where
   pub is : IsMember new
-  pub goes : GoesOn old new
+  pub goes : MemberGoesOn old new
   pub same : doings new ≡ doings old
-  pub kept : view new ≡ view old
+  pub kept : member_view new ≡ member_view old
 
 -- a log that is as before, but for what its member has seen
 pub record IsSameLog (b c : Back) : Type 0 where
@@ -57,15 +57,15 @@ AreSeen logs = (logs ≡ []) ⊎ IsSeenBy logs
 
 -- the view of a member that comes back is empty or certified, and it has invented nothing
 abbrev pub IsHonest : MemberState → Type 0
-IsHonest m = IsKnownTo m (view m) × InventsNothing m
+IsHonest m = IsKnownTo m (member_view m) × InventsNothing m
 
 -- ## Sets of a log
 
 -- a set that the log names: its final view, a learnt set or the view of an answer
 abbrev pub NamesSet : Back → Histories → Type 0
 NamesSet b s =
-    (s ≡ view b.member)
-    ⊎ ((k : ℕ) × (e : Entry) × (slice_get b.entries k ≡ Some e) × (set_of e ≡ Some s))
+    (s ≡ member_view b.member)
+    ⊎ ((k : ℕ) × (e : Entry) × (slice_get b.entries k ≡ Some e) × (entry_set e ≡ Some s))
 
 -- over all logs any two are comparable
 abbrev pub AllComparable : List Back → Type 0
@@ -82,7 +82,7 @@ NotesHold notes logs =
     (at n : ℕ) (b : Back) → slice_get notes at ≡ Some n → n + 1 ≡ length logs
     → slice_get logs at ≡ Some b
     → (to : ℕ) (c : Back) (s : Histories) → slice_get logs to ≡ Some c
-    → NamesSet c s → IsSubset s (view b.member)
+    → NamesSet c s → IsSubset s (member_view b.member)
 
 -- two shelves give the same answers for objects of one kind
 abbrev pub AnswerAlike : ShelfState → ShelfState → Type 0
@@ -97,7 +97,7 @@ NotesAgree notes logs =
     (i j n m : ℕ) (b c : Back) → slice_get notes i ≡ Some n → slice_get notes j ≡ Some m
     → n + 1 ≡ length logs → m + 1 ≡ length logs
     → slice_get logs i ≡ Some b → slice_get logs j ≡ Some c
-    → (view b.member ≡ view c.member)
+    → (member_view b.member ≡ member_view c.member)
     × (b.stopped ≡ None → c.stopped ≡ None → AnswerAlike b.shelf c.shelf)
 
 -- ## Decisions
@@ -113,7 +113,7 @@ pub record Decision : Type 0 where
   pub reached : Outcome
 
 -- a job that proposes the value is answered by it, in the replica's log
-pub record IsMade (given : List Place) (logs : List Back) (d : Decision) : Type 0 where
+pub record IsDecisionMade (given : List Place) (logs : List Back) (d : Decision) : Type 0 where
   pub at : ℕ
   pub place : Place
   pub log : Back
@@ -126,7 +126,7 @@ pub record IsMade (given : List Place) (logs : List Back) (d : Decision) : Type 
 
 -- at one object
 abbrev pub IsMadeAt : List Place → List Back → (commit : ℕ) → Decision → Type 0
-IsMadeAt given logs k d = IsMade given logs d × (d.commit ≡ k)
+IsMadeAt given logs k d = IsDecisionMade given logs d × (d.commit ≡ k)
 
 -- of an object's decisions the first sets are pairwise comparable, and so are the second
 abbrev pub DecisionsCompare : List Place → List Back → Type 0
@@ -143,7 +143,7 @@ IsFirstOfDecided given logs k u =
 abbrev pub WasSubmitted : List Back → (instance : ℕ) → Update → Type 0
 WasSubmitted logs i u =
     (at : ℕ) × (b : Back) × (slice_get logs at ≡ Some b)
-    × IsSubmission b.member.replica (submitted_in b.member i) u
+    × IsMemberSubmission b.member.replica (member_submitted b.member i) u
 
 -- some member of the run has proposed the value at the object
 abbrev pub WasProposed : List Back → (commit value : ℕ) → Type 0

@@ -5,10 +5,10 @@ ghost use Rattle.la_commit.specs.declared.instance.TheConstants.{MAX_COMMITS};
 ghost use Rattle.la_commit.specs.Instances.{first_instance};
 ghost use Rattle.la_commit.specs.Votes.{second_vote};
 ghost use Rattle.la_runner.specs.Following.{acceptors_of};
-ghost use Rattle.la_runner.specs.Instances.{state_of, IsInstance, Steps, MayCast, HasCast};
+ghost use Rattle.la_runner.specs.Instances.{state_of, IsInstance, InstanceSteps, MayCast, HasCast};
 ghost use Rattle.la_runner.specs.Invariant.{IsMember};
-ghost use Rattle.la_runner.specs.Members.{IsOf, GoesOn, IsOnlyIn, last_learnt};
-ghost use Rattle.la_runner.specs.Participants.{HasCommit, HasOther, HasVotedSet, IsDecision, MayVote, outcome_in, IsOnlyAt};
+ghost use Rattle.la_runner.specs.Members.{IsOfGroup, MemberGoesOn, IsOnlyIn, member_learnt};
+ghost use Rattle.la_runner.specs.Participants.{HasCommit, HasOther, HasVotedSet, IsDecision, MayVote, member_outcome, IsOnlyAt};
 ghost use Rattle.la_runner.specs.Refusals.{IsVoteRefusal, IsVoteError, IsRefusedVote, IsProposalRefusal, IsRefusedDecision};
 
 use crate::instance::Instance;
@@ -38,7 +38,7 @@ impl Instance {
         requires acceptors { acceptors_of self.old.passes.items ≡ acceptors.now }
         requires own { own ≡ self.old.proposer.own }
         requires may { MayCast commit vote (state_of self.old) }
-        ensures steps { Steps (state_of self.old) (state_of self.new) }
+        ensures steps { InstanceSteps (state_of self.old) (state_of self.new) }
         ensures cast { IfOk result (λ left. HasCast commit vote (state_of self.new)) }
         ensures once { MayCast commit vote (state_of self.new) }
         ensures stays { IsSome self.old.learnt → state_of self.new ≡ state_of self.old }
@@ -90,7 +90,7 @@ impl Member {
     fn second_vote(&self, commit: u8) -> Option<Vote>
         requires { commit < MAX_COMMITS }
         ensures vote { result ≡ option_and_then (λ s. second_vote s self.now.replica)
-            (last_learnt self.now (first_instance commit)) }
+            (member_learnt self.now (first_instance commit)) }
         ensures is { IsMember self.now }
     {
         let own = self.replica;
@@ -112,11 +112,11 @@ impl Group {
         rounds: u32,
         gate: &G,
     ) -> Result<u32, RunnerError>
-        requires of { IsOf self.now member.old }
+        requires of { IsOfGroup self.now member.old }
         requires within { instance < length member.old.instances }
         requires may { MayVote commit vote instance member.old }
-        ensures of { IsOf self.now member.new }
-        ensures goes_on { GoesOn member.old member.new }
+        ensures of { IsOfGroup self.now member.new }
+        ensures goes_on { MemberGoesOn member.old member.new }
         ensures only { IsOnlyIn instance member.old member.new }
         ensures voted { IfOk result (λ left. HasVotedSet member.new instance vote) }
         ensures left { IfOk result (λ left. left ≤ rounds) }
@@ -155,12 +155,12 @@ impl Group {
         rounds: u32,
         gate: &G,
     ) -> Result<Outcome, RunnerError>
-        requires { IsOf self.now member.old }
-        ensures of { IsOf self.now member.new }
-        ensures goes_on { GoesOn member.old member.new }
+        requires { IsOfGroup self.now member.old }
+        ensures of { IsOfGroup self.now member.new }
+        ensures goes_on { MemberGoesOn member.old member.new }
         ensures only { IsOnlyAt commit member.old member.new }
         ensures decided { IfOk result (IsDecision commit value member.new) }
-        ensures outcome { IfOk result (λ reached. outcome_in member.new commit ≡ Some reached) }
+        ensures outcome { IfOk result (λ reached. member_outcome member.new commit ≡ Some reached) }
         ensures error { IfErr result (IsRefusedDecision rounds commit value member.old member.new) }
     {
         member.may_propose(commit, value)?;

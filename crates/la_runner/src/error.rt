@@ -1,5 +1,5 @@
 ghost use Rattle.std.specs.Prelude.{◌≡◌};
-ghost use Rattle.la_runner.specs.Refusals.{of_offer, of_proposer};
+ghost use Rattle.la_runner.specs.Refusals.{of_offer, of_member_proposer};
 ghost use Rattle.la_runner.specs.declared.error.RunnerError.TheVariants.{Memory};
 
 use la_acceptor::AcceptorError;
@@ -60,7 +60,7 @@ impl From<AcceptorError> for RunnerError {
 }
 
 impl From<ProposerError> for RunnerError {
-    ghost from_gives = { λ a e. e ≡ of_proposer a };
+    ghost from_gives = { λ a e. e ≡ of_member_proposer a };
 
     fn from(refused: ProposerError) -> RunnerError {
         match refused {

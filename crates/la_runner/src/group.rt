@@ -2,10 +2,10 @@ ghost use Rattle.std.specs.Prelude.{◌≡◌, ◌<◌, ◌≤◌, ◌∷◌, []
 ghost use Rattle.std.specs.Option.{option_to_list};
 ghost use Rattle.la_proposer.specs.Majority.{votes_of};
 ghost use Rattle.la_proposer.specs.ProposerState.{op_on};
-ghost use Rattle.la_runner.specs.Members.{GroupState, IsOf, GoesOn, IsOnlyIn, IsLearntIn, IsUpdateOf, submitted_in, is_asking_in, view};
+ghost use Rattle.la_runner.specs.Members.{GroupState, IsOfGroup, MemberGoesOn, IsOnlyIn, IsLearntIn, IsUpdateOf, member_submitted, is_asking_in, member_view};
 ghost use Rattle.la_runner.specs.Refusals.{IsRefusedResume, IsRefusedUpdate};
 ghost use Rattle.la_runner.specs.Rounds.{IsLarger};
-ghost use Rattle.la_runner.specs.Starting.{IsConfig, IsGroup, IsNewMember, AreMembersFrom, IsNewRefusal};
+ghost use Rattle.la_runner.specs.Starting.{IsRunnerConfig, IsAcceptorGroup, IsNewMember, AreMembersFrom, IsNewRefusal};
 
 use crate::{Learned, Member, RunnerError, starting};
 use la_commit::MAX_COMMITS;
@@ -62,8 +62,8 @@ impl Group {
         cap: u32,
         votes: Votes,
     ) -> Result<(Group, Members), RunnerError>
-        ensures config { IfOk result (λ _. IsConfig replicas commits cap (votes_of votes)) }
-        ensures group { IfOk result (λ made. IsGroup replicas commits (votes_of votes) made.0) }
+        ensures config { IfOk result (λ _. IsRunnerConfig replicas commits cap (votes_of votes)) }
+        ensures group { IfOk result (λ made. IsAcceptorGroup replicas commits (votes_of votes) made.0) }
         ensures count { IfOk result (λ made. length made.1 ≡ replicas) }
         ensures members { IfOk result (λ made. AreMembersFrom made.0 cap 0 made.1) }
         ensures error { IfErr result (IsNewRefusal replicas commits cap (votes_of votes)) }
@@ -105,12 +105,12 @@ impl Group {
         rounds: u32,
         gate: &G,
     ) -> Result<Learned, RunnerError>
-        requires { IsOf self.now member.old }
-        ensures of { IsOf self.now member.new }
-        ensures goes_on { GoesOn member.old member.new }
+        requires { IsOfGroup self.now member.old }
+        ensures of { IsOfGroup self.now member.new }
+        ensures goes_on { MemberGoesOn member.old member.new }
         ensures only { IsOnlyIn 0 member.old member.new }
         ensures submitted { OnOk result
-            (submitted_in member.new 0 ≡ submitted_in member.old 0 ++ op_on object op ∷ []) }
+            (member_submitted member.new 0 ≡ member_submitted member.old 0 ++ op_on object op ∷ []) }
         ensures updated { IfOk result (λ l. IsUpdateOf member.old member.new l.updates) }
         ensures error { IfErr result
             (IsRefusedUpdate rounds (op_on object op) member.old member.new) }
@@ -139,17 +139,17 @@ impl Group {
         rounds: u32,
         gate: &G,
     ) -> Result<Option<Learned>, RunnerError>
-        requires { IsOf self.now member.old }
-        ensures of { IsOf self.now member.new }
-        ensures goes_on { GoesOn member.old member.new }
+        requires { IsOfGroup self.now member.old }
+        ensures of { IsOfGroup self.now member.new }
+        ensures goes_on { MemberGoesOn member.old member.new }
         ensures only { IsOnlyIn 0 member.old member.new }
-        ensures submitted { submitted_in member.new 0 ≡ submitted_in member.old 0 }
+        ensures submitted { member_submitted member.new 0 ≡ member_submitted member.old 0 }
         ensures idle { is_asking_in member.old 0 ≡ false → result ≡ Ok None }
         ensures asking { is_asking_in member.old 0 ≡ true → IfOk result IsSome }
         ensures learnt { IfOk result (λ end. IfSome end (λ l.
             IsLearntIn 0 member.old member.new l.updates)) }
         ensures view { IfOk result (λ end. IfSome end (λ l.
-            IsLarger l.updates (view member.old) (view member.new))) }
+            IsLarger l.updates (member_view member.old) (member_view member.new))) }
         ensures error { IfErr result
             (IsRefusedResume rounds member.old member.new) }
     {

@@ -1,7 +1,7 @@
 ghost use Rattle.std.specs.Prelude.{◌≡◌, ◌≢◌, true, ◌<◌, ◌≤◌, [], length, IfOk, OnOk, OnErr, IfErr, IfSome};
 ghost use Rattle.la_proposer.specs.ProposerState.{counts};
 ghost use Rattle.la_proposer.specs.Invariant.{IsProposerState};
-ghost use Rattle.la_runner.specs.Refusals.{IsOfferRefusal};
+ghost use Rattle.la_runner.specs.Refusals.{IsRoundOfferRefusal};
 ghost use Rattle.la_runner.specs.Asking.{Asks, AsksInVain};
 ghost use Rattle.la_runner.specs.Heard.{Hears, HearsMost};
 ghost use Rattle.la_runner.specs.Sound.{IsSound};
@@ -49,7 +49,7 @@ impl Instance {
         ensures learnt { IfOk result (λ heard. IfLearnt heard
             (IsLearnt self.old.proposer self.old.passes.items self.new.passes.items self.old.proposer.number)) }
         ensures stays { IfOk result (λ heard. StaysOpen heard self.old.proposer self.new.proposer) }
-        ensures error { IfErr result IsOfferRefusal }
+        ensures error { IfErr result IsRoundOfferRefusal }
         ensures vain { OnErr result (self.new.proposer ≡ self.old.proposer) }
         ensures kept { self.new.learnt ≡ self.old.learnt }
         ensures view { self.new.view ≡ self.old.view }
@@ -88,7 +88,7 @@ impl Instance {
         ensures open { self.old.proposer.is_asking ≡ true
             → IsOpenAfter result self.new.proposer }
         ensures view { self.new.view ≡ self.old.view }
-        ensures error { IfErr result IsOfferRefusal }
+        ensures error { IfErr result IsRoundOfferRefusal }
     {
         let Status::Asking(number) = self.proposer.status() else {
             return Ok(None);
@@ -143,7 +143,7 @@ fn ask_one<R: Wait, G: Gate>(
     ensures state { OnOk result (IsProposerState proposer.new) }
     ensures ok { IfOk result (λ heard. Asks proposer.old from pass.old heard proposer.new pass.new) }
     ensures err { OnErr result (AsksInVain proposer.old pass.old proposer.new pass.new) }
-    ensures error { IfErr result IsOfferRefusal }
+    ensures error { IfErr result IsRoundOfferRefusal }
 {
     let Status::Asking(number) = proposer.status() else {
         return Ok(Heard::Ignored);

@@ -1,6 +1,6 @@
 // Notes on their way between the threads of one run.
 ghost use Rattle.std.specs.Prelude.{◌≡◌, []};
-ghost use Rattle.la_runner.specs.Members.{GroupState, IsOf, GoesOn};
+ghost use Rattle.la_runner.specs.Members.{GroupState, IsOfGroup, MemberGoesOn};
 ghost use Rattle.la_runner.specs.Notes.{IsNoteOf, doings};
 
 use crate::{Group, Member, MemberNote};
@@ -49,7 +49,7 @@ fn send_one<J: Naming, R: Wait>(
     member: &mut Member,
     outbox: Sender<Letter<J>>,
 ) -> bool
-    requires of { IsOf group.now member.old }
+    requires of { IsOfGroup group.now member.old }
     requires named { group.now ≡ J.group }
     ensures { member.new ≡ member.old }
 {
@@ -71,7 +71,7 @@ pub(crate) fn send_all<J: Naming, R: Wait>(
     member: &mut Member,
     outboxes: Vec<Sender<Letter<J>>>,
 ) -> bool
-    requires of { IsOf group.now member.old }
+    requires of { IsOfGroup group.now member.old }
     requires named { group.now ≡ J.group }
     ensures { member.new ≡ member.old }
 {
@@ -86,9 +86,9 @@ pub(crate) fn send_all<J: Naming, R: Wait>(
 
 // Takes a note, unless it is of the member itself or of a peer that has given one.
 fn take_one(group: &Group, member: &mut Member, note: MemberNote, taken: &mut [bool; 8])
-    requires of { IsOf group.now member.old }
+    requires of { IsOfGroup group.now member.old }
     requires note { IsNoteOf group.now note }
-    ensures goes_on { GoesOn member.old member.new }
+    ensures goes_on { MemberGoesOn member.old member.new }
     ensures same { doings member.new ≡ doings member.old }
 {
     let from = note.giver() as usize;
@@ -106,9 +106,9 @@ pub(crate) fn take_all<J: Naming, R: Wait>(
     member: &mut Member,
     inbox: Receiver<Letter<J>>,
 ) -> [bool; 8]
-    requires of { IsOf group.now member.old }
+    requires of { IsOfGroup group.now member.old }
     requires named { group.now ≡ J.group }
-    ensures goes_on { GoesOn member.old member.new }
+    ensures goes_on { MemberGoesOn member.old member.new }
     ensures same { doings member.new ≡ doings member.old }
 {
     let mut taken = [false; 8];

@@ -1,8 +1,8 @@
 ghost use Rattle.std.specs.Prelude.{◌≡◌, ◌<◌, Some, length};
 ghost use Rattle.std.specs.Option.{option_copied};
 ghost use Rattle.la_runner.specs.Invariant.{IsMember};
-ghost use Rattle.la_runner.specs.Members.{view, last_learnt, submitted_in};
-ghost use Rattle.la_runner.specs.Participants.{outcome_in};
+ghost use Rattle.la_runner.specs.Members.{member_view, member_learnt, member_submitted};
+ghost use Rattle.la_runner.specs.Participants.{member_outcome};
 
 use crate::instance::Instance;
 use la_commit::{MAX_COMMITS, Outcome, outcome_of, second_instance};
@@ -22,13 +22,13 @@ pub struct Member {
 
 impl Model for Member {
     ghost use Rattle.la_runner.specs.Members.{MemberState};
-    ghost use Rattle.la_runner.specs.Fields.{stands_for, HoldsInvariant};
+    ghost use Rattle.la_runner.specs.Fields.{stands_for, HoldsMemberInvariant};
 
     ghost Value = { MemberState };
 
     ghost view = { stands_for };
 
-    ghost invariant = { HoldsInvariant };
+    ghost invariant = { HoldsMemberInvariant };
 }
 
 impl Member {
@@ -43,14 +43,14 @@ impl Member {
     /// What it answers questions from: the largest of the sets of instance 0 that it learnt or met;
     /// empty at first.
     pub fn view(&self) -> &UpdateSet
-        ensures { result.now ≡ view self.now }
+        ensures { result.now ≡ member_view self.now }
     {
         &self.instances[0].view
     }
 
     /// How many updates it has submitted in instance 0.
     pub fn submitted(&self) -> u32
-        ensures { result ≡ length (submitted_in self.now 0) }
+        ensures { result ≡ length (member_submitted self.now 0) }
     {
         self.instances[0].proposer.submitted()
     }
@@ -58,7 +58,7 @@ impl Member {
     /// The set that it learnt last in an instance; `None` where it learnt none there, or there is no
     /// such instance.
     pub fn last_learnt(&self, instance: u8) -> Option<&UpdateSet>
-        ensures { option_copied result ≡ last_learnt self.now instance }
+        ensures { option_copied result ≡ member_learnt self.now instance }
     {
         self.instances.get(instance as usize)?.learnt.as_ref()
     }
@@ -66,7 +66,7 @@ impl Member {
     /// What it has come to at an adopt-commit object; `None` before it has, and where the group has
     /// no such object. The cost is linear in the set's length, of one vote a replica.
     pub fn outcome(&self, commit: u8) -> Option<Outcome>
-        ensures { result ≡ outcome_in self.now commit }
+        ensures { result ≡ member_outcome self.now commit }
     {
         let own = self.replica;
         if commit >= MAX_COMMITS {

@@ -2,8 +2,8 @@ ghost use Rattle.std.specs.Prelude.{◌≡◌, ◌<◌, ℕ, Some, map, length, 
 ghost use Rattle.la_runner.specs.declared.error.RunnerError.TheVariants.{Memory};
 ghost use Rattle.la_runner.specs.Following.{acceptors_of};
 ghost use Rattle.la_runner.specs.Instances.{InstanceState, state_of};
-ghost use Rattle.la_runner.specs.Members.{IsOf, GoesOn};
-ghost use Rattle.la_runner.specs.Notes.{told_by, told_names, Meets, AllMeet, IsNote, IsNoteOf, Tells, HasMet};
+ghost use Rattle.la_runner.specs.Members.{IsOfGroup, MemberGoesOn};
+ghost use Rattle.la_runner.specs.Notes.{pass_told, told_names, Meets, AllMeet, IsNote, IsNoteOf, TellsNote, HasMetNote};
 ghost use Rattle.la_runner.specs.Sound.{IsSound};
 
 use crate::group::Row;
@@ -63,7 +63,7 @@ impl Instance {
         requires { acceptors_of self.old.passes.items ≡ acceptors.now }
         ensures same { state_of self.new ≡ state_of self.old }
         ensures notes { IfOk result (λ told.
-            told.notes.items ≡ map told_by self.old.passes.items) }
+            told.notes.items ≡ map pass_told self.old.passes.items) }
     {
         let mut notes = Vec::with_capacity(alloc, acceptors.len())?;
         for at in 0..acceptors.len() {
@@ -100,7 +100,7 @@ fn tell_all(
         ≡ map (λ r. r.acceptors.items) rows.now }
     ensures same { map state_of instances.new.items ≡ map state_of instances.old.items }
     ensures told { IfOk result (λ told. map (λ n. n.notes.items) told.items
-        ≡ map (λ x. map told_by x.passes.items) instances.old.items) }
+        ≡ map (λ x. map pass_told x.passes.items) instances.old.items) }
 {
     let mut told = Vec::with_capacity(alloc, rows.len())?;
     for at in 0..rows.len() {
@@ -134,10 +134,10 @@ impl Group {
     ///
     /// The cost is that of a pass for each acceptor; the view is shared.
     pub fn note(&self, alloc: Global, member: &mut Member) -> Result<MemberNote, RunnerError>
-        requires { IsOf self.now member.old }
+        requires { IsOfGroup self.now member.old }
         ensures same { member.new ≡ member.old }
         ensures of { IfOk result (IsNoteOf self.now) }
-        ensures note { IfOk result (Tells member.old) }
+        ensures note { IfOk result (TellsNote member.old) }
         ensures error { IfErr result (λ e. e ≡ Memory) }
     {
         let view = member.view().copy()?;
@@ -156,11 +156,11 @@ impl Group {
     ///
     /// The cost is that of a pass for each acceptor.
     pub fn meet(&self, member: &mut Member, note: MemberNote)
-        requires of { IsOf self.now member.old }
+        requires of { IsOfGroup self.now member.old }
         requires note { IsNoteOf self.now note }
-        ensures of { IsOf self.now member.new }
-        ensures goes_on { GoesOn member.old member.new }
-        ensures met { HasMet note member.old member.new }
+        ensures of { IsOfGroup self.now member.new }
+        ensures goes_on { MemberGoesOn member.old member.new }
+        ensures met { HasMetNote note member.old member.new }
     {
         let MemberNote {
             votes: _,

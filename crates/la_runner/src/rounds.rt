@@ -7,8 +7,8 @@ ghost use Rattle.la_proposer.specs.ProposerState.{op_on};
 ghost use Rattle.la_proposer.specs.Inputs.{all_submitted};
 ghost use Rattle.la_runner.specs.Heard.{Hears, HearsMost};
 ghost use Rattle.la_runner.specs.Following.{acceptors_of, IsLearnt, SubmitsNothing};
-ghost use Rattle.la_runner.specs.Instances.{state_of, IsInstance, Steps, IsComplete, IsUpdated};
-ghost use Rattle.la_runner.specs.Refusals.{IsOfferRefusal, IsInstanceRefusal, IsUpdateRefusal};
+ghost use Rattle.la_runner.specs.Instances.{state_of, IsInstance, InstanceSteps, IsComplete, IsUpdated};
+ghost use Rattle.la_runner.specs.Refusals.{IsRoundOfferRefusal, IsInstanceRefusal, IsUpdateRefusal};
 ghost use Rattle.la_runner.specs.Rounds.{IsLarger, IsViewAfter, IsLastAnswer, IsOpenAnswer};
 
 use crate::instance::Instance;
@@ -30,7 +30,7 @@ impl Instance {
     ) -> Result<Option<Learned>, RunnerError>
         requires is { IsInstance (state_of self.old) }
         requires acceptors { acceptors_of self.old.passes.items ≡ acceptors.now }
-        ensures steps { Steps (state_of self.old) (state_of self.new) }
+        ensures steps { InstanceSteps (state_of self.old) (state_of self.new) }
         ensures nothing { SubmitsNothing self.old.proposer self.new.proposer }
         ensures heard { OnOk result (Hears self.old.proposer self.new.proposer
             self.old.passes.items self.new.passes.items []) }
@@ -44,7 +44,7 @@ impl Instance {
         ensures last { IsLastAnswer result self.old.learnt self.new.learnt }
         ensures open { self.old.proposer.is_asking ≡ true
             → IsOpenAnswer result self.new.proposer }
-        ensures error { IfErr result IsOfferRefusal }
+        ensures error { IfErr result IsRoundOfferRefusal }
     {
         match self.round(rt, acceptors, own, instance, gate)? {
             None => Ok(None),
@@ -73,7 +73,7 @@ impl Instance {
         requires acceptors { acceptors_of self.old.passes.items ≡ acceptors.now }
         requires own { own ≡ self.old.proposer.own }
         requires asks { self.old.proposer.is_asking ≡ true }
-        ensures steps { Steps (state_of self.old) (state_of self.new) }
+        ensures steps { InstanceSteps (state_of self.old) (state_of self.new) }
         ensures nothing { SubmitsNothing self.old.proposer self.new.proposer }
         ensures learnt { IfOk result (λ end. IsLearnt self.old.proposer
             self.old.passes.items self.new.passes.items end.0.ballot end.0.updates) }
@@ -118,7 +118,7 @@ impl Instance {
         requires is { IsInstance (state_of self.old) }
         requires acceptors { acceptors_of self.old.passes.items ≡ acceptors.now }
         requires own { own ≡ self.old.proposer.own }
-        ensures steps { Steps (state_of self.old) (state_of self.new) }
+        ensures steps { InstanceSteps (state_of self.old) (state_of self.new) }
         ensures submitted { OnOk result (all_submitted self.new.proposer
             ≡ all_submitted self.old.proposer ++ op_on object op ∷ []) }
         ensures updated { IfOk result (λ end. IsUpdated (state_of self.old) (state_of self.new) end.0.updates) }
@@ -147,7 +147,7 @@ impl Instance {
         requires is { IsInstance (state_of self.old) }
         requires acceptors { acceptors_of self.old.passes.items ≡ acceptors.now }
         requires own { own ≡ self.old.proposer.own }
-        ensures steps { Steps (state_of self.old) (state_of self.new) }
+        ensures steps { InstanceSteps (state_of self.old) (state_of self.new) }
         ensures nothing { SubmitsNothing self.old.proposer self.new.proposer }
         ensures idle { self.old.proposer.is_asking ≡ false
             → (result ≡ Ok None) × (state_of self.new ≡ state_of self.old) }

@@ -1,7 +1,7 @@
 // One thread a member: channels, starting, joining.
 ghost use Rattle.std.specs.Prelude.{◌≡◌, [], All, map, IfOk, IfSome, OnOk};
 ghost use Rattle.std.specs.List.{AllZip};
-ghost use Rattle.la_runner.specs.Runs.{IsReady, IsWorked, IsWorkOf};
+ghost use Rattle.la_runner.specs.Runs.{IsReadyMember, IsWorked, IsWorkOf};
 
 use crate::jobs::Job;
 use crate::letter::{Letter, Naming};
@@ -43,7 +43,7 @@ fn start_one<
     gate: &'s G,
 ) -> Option<PromisedHandle<Log<B>, WorkedOf<J, B>>>
     requires named { group.now ≡ J.group }
-    requires ready { IsReady group.now work.member work.shelf }
+    requires ready { IsReadyMember group.now work.member work.shelf }
     ensures { IfSome result (λ h. h.promise.0.value ≡ work) }
 {
     let promise = WorkedOf(Snapshot::of(&work));
@@ -51,7 +51,7 @@ fn start_one<
         .spawn_with(
             promise,
             move ||
-                requires { (group.now ≡ J.group) × IsReady group.now work.member work.shelf }
+                requires { (group.now ≡ J.group) × IsReadyMember group.now work.member work.shelf }
             { work_on(rt, alloc, group, work, rounds, gate) },
         )
         .ok()
@@ -76,7 +76,7 @@ fn start_all<
     handles: &mut Vec<PromisedHandle<Log<B>, WorkedOf<J, B>>>,
 ) -> Result<(), RunError>
     requires named { group.now ≡ J.group }
-    requires ready { All (λ w. IsReady group.now w.member w.shelf) works.items }
+    requires ready { All (λ w. IsReadyMember group.now w.member w.shelf) works.items }
     requires none { handles.old.items ≡ [] }
     ensures { OnOk result (map (λ h. h.promise.0.value) handles.new.items ≡ works.items) }
 {
@@ -130,7 +130,7 @@ fn start_and_join<
     gate: &'s G,
 ) -> Result<Vec<Log<B>>, RunError>
     requires named { group.now ≡ J.group }
-    requires ready { All (λ w. IsReady group.now w.member w.shelf) works.items }
+    requires ready { All (λ w. IsReadyMember group.now w.member w.shelf) works.items }
     ensures { IfOk result (λ done. AllZip (λ w b. IsWorked w.member w.shelf w.jobs.items
         b.replica b.member b.shelf b.entries b.stopped) works.items done.items) }
 {
@@ -156,7 +156,7 @@ fn run_all<J: Naming + Send + Sync, R: Threads + Wait + Sync, G: Gate, B: Replic
     gate: &G,
 ) -> Result<Vec<Log<B>>, RunError>
     requires named { group.now ≡ J.group }
-    requires ready { All (λ w. IsReady group.now w.member w.shelf) works.items }
+    requires ready { All (λ w. IsReadyMember group.now w.member w.shelf) works.items }
     ensures { IfOk result (λ done. AllZip (λ w b. IsWorked w.member w.shelf w.jobs.items
         b.replica b.member b.shelf b.entries b.stopped) works.items done.items) }
 {
@@ -165,7 +165,7 @@ fn run_all<J: Naming + Send + Sync, R: Threads + Wait + Sync, G: Gate, B: Replic
         rt,
         |scope| -> Result<Vec<Log<B>>, RunError>
             requires { (group.now ≡ J.group)
-                × All (λ w. IsReady group.now w.member w.shelf) works.items }
+                × All (λ w. IsReadyMember group.now w.member w.shelf) works.items }
             ensures { IfOk result (λ done. AllZip (λ w b. IsWorked w.member w.shelf w.jobs.items
                 b.replica b.member b.shelf b.entries b.stopped) works.items done.items) }
         { start_and_join(scope, rt, alloc, group, works, rounds, gate) },
@@ -242,7 +242,7 @@ pub(crate) fn run_in<J: Naming + Send + Sync, R: Threads + Wait + Sync, G: Gate,
     gate: &G,
 ) -> Result<Vec<Log<B>>, RunError>
     requires named { group.now ≡ J.group }
-    requires ready { All (λ s. IsReady group.now s.member s.shelf) starts.items }
+    requires ready { All (λ s. IsReadyMember group.now s.member s.shelf) starts.items }
     ensures { IfOk result (λ done. AllZip (λ s b. IsWorked s.member s.shelf s.jobs.items
         b.replica b.member b.shelf b.entries b.stopped) starts.items done.items) }
 {

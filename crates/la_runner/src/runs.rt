@@ -6,7 +6,7 @@ ghost use Rattle.la_set.specs.Inclusion.{IsSubset};
 ghost use Rattle.la_proposer.specs.Majority.{how_many};
 ghost use Rattle.la_runner.specs.Counted.{taker, has_met, counts_peer, NotesCount};
 ghost use Rattle.la_runner.specs.Invariant.{IsMember};
-ghost use Rattle.la_runner.specs.Members.{IsOf, view};
+ghost use Rattle.la_runner.specs.Members.{IsOfGroup, member_view};
 ghost use Rattle.la_object.specs.Shelves.{ShelfState};
 ghost use Rattle.la_runner.specs.Runs.{IsBackOf, back_of, places, place_of, ViewsHold, ContainsAll, IsRunConfig, IsRunRefusal};
 ghost use Rattle.la_runner.specs.Together.{IsSameLog, AreSeen, AllComparable, IsHonest};
@@ -100,9 +100,9 @@ fn took(taken: &[bool; 8], replica: u8) -> bool
 // Whether a log took the other's note and contains its view.
 fn has_met<B: Replicated>(log: &Log<B>, other: &Log<B>) -> bool
     ensures value { result ≡ has_met
-        (taker log.now.replica log.now.taken (view log.now.member))
-        (taker other.now.replica other.now.taken (view other.now.member)) }
-    ensures contains { result ≡ true → IsSubset (view other.now.member) (view log.now.member) }
+        (taker log.now.replica log.now.taken (member_view log.now.member))
+        (taker other.now.replica other.now.taken (member_view other.now.member)) }
+    ensures contains { result ≡ true → IsSubset (member_view other.now.member) (member_view log.now.member) }
 {
     took(&log.taken, other.replica) && log.member.view().contains_all(other.member.view())
 }
@@ -112,9 +112,9 @@ fn count_notes<B: Replicated>(logs: &Vec<Log<B>>, at: usize) -> u8
     requires there { at < vec_len logs.now }
     requires few { vec_len logs.now < 256 }
     ensures counted { result ≡ how_many (length logs.now.items)
-        (counts_peer (map (λ l. taker l.replica l.taken (view l.member)) logs.now.items) at) }
+        (counts_peer (map (λ l. taker l.replica l.taken (member_view l.member)) logs.now.items) at) }
     ensures all { result + 1 ≡ length logs.now.items
-        → ContainsAll (map (λ l. view l.member) logs.now.items) at }
+        → ContainsAll (map (λ l. member_view l.member) logs.now.items) at }
 {
     let mut count = 0;
     for other in 0..logs.len() {
@@ -131,9 +131,9 @@ fn note_all<B: Replicated>(logs: &mut Vec<Log<B>>)
     ensures same { map (λ l. back_of l.replica l.member l.shelf l.entries l.stopped) logs.new.items
         ≡ map (λ l. back_of l.replica l.member l.shelf l.entries l.stopped) logs.old.items }
     ensures counted { NotesCount (map (λ l. l.notes) logs.new.items)
-        (map (λ l. taker l.replica l.taken (view l.member)) logs.new.items) }
+        (map (λ l. taker l.replica l.taken (member_view l.member)) logs.new.items) }
     ensures all { ViewsHold (map (λ l. l.notes) logs.new.items)
-        (map (λ l. view l.member) logs.new.items) }
+        (map (λ l. member_view l.member) logs.new.items) }
 {
     for at in 0..logs.len() {
         let notes = count_notes(logs, at);
@@ -143,7 +143,7 @@ fn note_all<B: Replicated>(logs: &mut Vec<Log<B>>)
 
 // What is known and counted once all threads are joined. It takes no memory.
 fn finish<B: Replicated>(group: &Group, done: Vec<Log<B>>) -> Logs<B>
-    requires of { All (λ l. IsOf group.now l.member × IsMember l.member) done.items }
+    requires of { All (λ l. IsOfGroup group.now l.member × IsMember l.member) done.items }
     requires few { vec_len done < 256 }
     ensures same { AllZip IsSameLog
         (map (λ l. back_of l.replica l.member l.shelf l.entries l.stopped) done.items)
@@ -151,9 +151,9 @@ fn finish<B: Replicated>(group: &Group, done: Vec<Log<B>>) -> Logs<B>
     ensures seen { AreSeen
         (map (λ l. back_of l.replica l.member l.shelf l.entries l.stopped) result) }
     ensures counted { NotesCount (map (λ l. l.notes) result)
-        (map (λ l. taker l.replica l.taken (view l.member)) result) }
+        (map (λ l. taker l.replica l.taken (member_view l.member)) result) }
     ensures notes { ViewsHold (map (λ l. l.notes) result)
-        (map (λ l. view l.member) result) }
+        (map (λ l. member_view l.member) result) }
 {
     let mut logs = done;
     show_all(group, &mut logs);
@@ -193,7 +193,7 @@ pub fn run<R: Threads + Wait + Sync, G: Gate, B: Replicated>(
     rounds: u32,
     gate: &G,
 ) -> Result<Logs<B>, RunError>
-    requires { All (IsOf group.now) members.items }
+    requires { All (IsOfGroup group.now) members.items }
     ensures config { IfOk result (λ _. IsRunConfig (length group.now.votes)
         (length members.items) (length jobs.items) shelves.items) }
     ensures each { IfOk result (λ logs. AllZip IsBackOf
@@ -212,7 +212,7 @@ pub fn run<R: Threads + Wait + Sync, G: Gate, B: Replicated>(
         (places members.items shelves.items jobs.items)
         (map (λ l. back_of l.replica l.member l.shelf l.entries l.stopped) logs)) }
     ensures counted { IfOk result (λ logs. NotesCount (map (λ l. l.notes) logs)
-        (map (λ l. taker l.replica l.taken (view l.member)) logs)) }
+        (map (λ l. taker l.replica l.taken (member_view l.member)) logs)) }
     ensures notes { IfOk result (λ logs. NotesHold (map (λ l. l.notes) logs)
         (map (λ l. back_of l.replica l.member l.shelf l.entries l.stopped) logs)) }
     ensures alike { IfOk result (λ logs. NotesAgree (map (λ l. l.notes) logs)

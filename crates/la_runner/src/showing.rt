@@ -5,8 +5,8 @@ ghost use Rattle.std.specs.List.{AllZip};
 ghost use Rattle.la_runner.specs.Following.{acceptors_of};
 ghost use Rattle.la_runner.specs.Instances.{InstanceState, state_of};
 ghost use Rattle.la_runner.specs.Invariant.{IsMember};
-ghost use Rattle.la_runner.specs.Members.{IsOf};
-ghost use Rattle.la_runner.specs.Notes.{told_by, Meets, AllMeet};
+ghost use Rattle.la_runner.specs.Members.{IsOfGroup};
+ghost use Rattle.la_runner.specs.Notes.{pass_told, Meets, AllMeet};
 ghost use Rattle.la_runner.specs.Runs.{back_of};
 ghost use Rattle.la_runner.specs.Sound.{IsSound};
 ghost use Rattle.la_runner.specs.Together.{HasSeen, SeesMore, IsSameLog, AreSeen};
@@ -24,7 +24,7 @@ impl Instance {
         requires from { acceptors_of self.old.passes.items ≡ acceptors.now }
         requires to { acceptors_of to.old.passes.items ≡ acceptors.now }
         ensures same { state_of self.new ≡ state_of self.old }
-        ensures met { Meets (map told_by self.old.passes.items) (state_of to.old) (state_of to.new) }
+        ensures met { Meets (map pass_told self.old.passes.items) (state_of to.old) (state_of to.new) }
     {
         for at in 0..acceptors.len() {
             let acceptor = &acceptors[at];
@@ -43,7 +43,7 @@ fn show_instances(rows: &[Row], from: &mut Vec<Instance>, to: &mut Vec<Instance>
     requires to { map (λ x. acceptors_of x.passes.items) to.old.items
         ≡ map (λ r. r.acceptors.items) rows.now }
     ensures same { map state_of from.new.items ≡ map state_of from.old.items }
-    ensures met { AllMeet (map (λ x. map told_by x.passes.items) from.old.items)
+    ensures met { AllMeet (map (λ x. map pass_told x.passes.items) from.old.items)
         (map state_of to.old.items) (map state_of to.new.items) }
 {
     for at in 0..rows.len() {
@@ -54,8 +54,8 @@ fn show_instances(rows: &[Row], from: &mut Vec<Instance>, to: &mut Vec<Instance>
 impl Group {
     // One member has then seen what another one has, and keeps its view. It takes no memory.
     fn show(&self, from: &mut Member, to: &mut Member)
-        requires from { IsOf self.now from.old }
-        requires to { IsOf self.now to.old }
+        requires from { IsOfGroup self.now from.old }
+        requires to { IsOfGroup self.now to.old }
         ensures same { from.new ≡ from.old }
         ensures more { SeesMore to.old to.new }
         ensures shown { HasSeen from.old to.new }
@@ -66,8 +66,8 @@ impl Group {
 
 // The last member has then seen what each of the others has.
 fn show_last<B: Replicated>(group: &Group, others: &mut [Log<B>], last: &mut Member)
-    requires of { All (λ l. IsOf group.now l.member) others.old }
-    requires last { IsOf group.now last.old }
+    requires of { All (λ l. IsOfGroup group.now l.member) others.old }
+    requires last { IsOfGroup group.now last.old }
     ensures same { others.new ≡ others.old }
     ensures more { SeesMore last.old last.new }
     ensures shown { All (λ l. HasSeen l.member last.new) others.old }
@@ -81,7 +81,7 @@ fn show_last<B: Replicated>(group: &Group, others: &mut [Log<B>], last: &mut Mem
 
 // The last log's member has then seen what all have.
 pub(crate) fn show_all<B: Replicated>(group: &Group, logs: &mut [Log<B>])
-    requires { All (λ l. IsOf group.now l.member × IsMember l.member) logs.old }
+    requires { All (λ l. IsOfGroup group.now l.member × IsMember l.member) logs.old }
     ensures same { AllZip IsSameLog
         (map (λ l. back_of l.replica l.member l.shelf l.entries l.stopped) logs.old)
         (map (λ l. back_of l.replica l.member l.shelf l.entries l.stopped) logs.new) }

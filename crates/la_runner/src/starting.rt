@@ -5,7 +5,7 @@ ghost use Rattle.la_proposer.specs.declared.proposer.TheConstants.{MAX_CAP};
 ghost use Rattle.la_proposer.specs.Majority.{votes_of};
 ghost use Rattle.la_commit.specs.declared.instance.TheConstants.{MAX_COMMITS};
 ghost use Rattle.la_runner.specs.Instances.{state_of};
-ghost use Rattle.la_runner.specs.Starting.{newcomer, cap_in, IsNewInstance, IsNewMember, AreMembersFrom};
+ghost use Rattle.la_runner.specs.Starting.{newcomer, member_cap, IsNewInstance, IsNewMember, AreMembersFrom};
 
 use crate::Member;
 use crate::group::Row;
@@ -99,7 +99,7 @@ pub fn rows(
 
 // How many updates a member may submit in an instance.
 fn cap_of(cap: u32, instance: usize) -> u32
-    ensures { result ≡ cap_in cap instance }
+    ensures { result ≡ member_cap cap instance }
 {
     if instance == 0 { cap } else { 1 }
 }

@@ -1,8 +1,8 @@
 // What a thread of a run works on, does and hands back.
 ghost use Rattle.std.specs.Prelude.{◌≡◌, ◌⊎◌, true, None, Some, IfSome};
 ghost use Rattle.la_runner.specs.declared.jobs.Stopped.TheVariants.{Memory};
-ghost use Rattle.la_runner.specs.Members.{view};
-ghost use Rattle.la_runner.specs.Runs.{IsReady, IsWorked};
+ghost use Rattle.la_runner.specs.Members.{member_view};
+ghost use Rattle.la_runner.specs.Runs.{IsReadyMember, IsWorked};
 
 use crate::jobs::{Entries, Job, Stopped};
 use crate::letter::{Letter, Naming, send_all, take_all};
@@ -26,7 +26,7 @@ pub(crate) struct Work<J: Naming, B: Replicated> {
 // Lets the shelf absorb the member's view. Whether there was memory.
 fn absorb_view<B: Replicated>(member: &Member, shelf: &mut Shelf<B>) -> bool
     ensures objects { shelf.new.objects ≡ shelf.old.objects }
-    ensures view { result ≡ true → shelf.new.view ≡ view member.now }
+    ensures view { result ≡ true → shelf.new.view ≡ member_view member.now }
 {
     match shelf.absorb(member.view()) {
         Ok(_) => true,
@@ -62,7 +62,7 @@ pub(crate) fn work_on<J: Naming, R: Wait, G: Gate, B: Replicated>(
     gate: &G,
 ) -> Log<B>
     requires named { group.now ≡ J.group }
-    requires ready { IsReady group.now work.member work.shelf }
+    requires ready { IsReadyMember group.now work.member work.shelf }
     ensures { IsWorked work.member work.shelf work.jobs.items
         result.replica result.member result.shelf result.entries result.stopped }
 {

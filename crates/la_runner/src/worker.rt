@@ -2,9 +2,9 @@
 ghost use Rattle.std.specs.Prelude.{◌≡◌, ◌+◌, ℕ, [], cond, Some, IsSome, IfOk, IfErr, OnOk, IfNone, IfSome, vec_len, length};
 ghost use Rattle.la_set.specs.Inclusion.{IsSubset};
 ghost use Rattle.la_runner.specs.declared.jobs.Stopped.TheVariants.{Memory};
-ghost use Rattle.la_runner.specs.Entries.{Answers, AnswersUpdate, AnswersDecide, AnswersAsk, HasDone, StopsAt, is_update, set_of};
+ghost use Rattle.la_runner.specs.Entries.{AnswersJob, AnswersUpdate, AnswersDecide, AnswersAsk, HasDone, StopsAt, is_update_job, entry_set};
 ghost use Rattle.la_runner.specs.Invariant.{IsMember};
-ghost use Rattle.la_runner.specs.Members.{IsOf, GoesOn, submitted_in, last_learnt, view};
+ghost use Rattle.la_runner.specs.Members.{IsOfGroup, MemberGoesOn, member_submitted, member_learnt, member_view};
 ghost use Rattle.la_runner.specs.Participants.{IsDecision, IsOnlyAt};
 ghost use Rattle.la_runner.specs.Stops.{StopsUpdate, StopsDecide, StopsAsk, StopFits};
 
@@ -26,13 +26,13 @@ fn submit<R: Wait, G: Gate>(
     rounds: u32,
     gate: &G,
 ) -> Result<Entry, Stopped>
-    requires { IsOf group.now member.old }
-    ensures goes_on { GoesOn member.old member.new }
+    requires { IsOfGroup group.now member.old }
+    ensures goes_on { MemberGoesOn member.old member.new }
     ensures answers { IfOk result
-        (AnswersUpdate member.new (length (submitted_in member.old 0) + 1) object op) }
-    ensures names { IfOk result (λ e. set_of e ≡ Some (view member.new)) }
+        (AnswersUpdate member.new (length (member_submitted member.old 0) + 1) object op) }
+    ensures names { IfOk result (λ e. entry_set e ≡ Some (member_view member.new)) }
     ensures submitted { OnOk result
-        (length (submitted_in member.new 0) ≡ length (submitted_in member.old 0) + 1) }
+        (length (member_submitted member.new 0) ≡ length (member_submitted member.old 0) + 1) }
     ensures error { IfErr result (StopsUpdate member.new) }
 {
     match group.update(rt, member, object, op, rounds, gate) {
@@ -43,8 +43,8 @@ fn submit<R: Wait, G: Gate>(
 
 // A copy of the set that a member learnt last in an instance.
 fn learnt(member: &Member, instance: u8) -> Result<UpdateSet, Stopped>
-    requires { IsSome (last_learnt member.now instance) }
-    ensures ok { IfOk result (λ s. last_learnt member.now instance ≡ Some s) }
+    requires { IsSome (member_learnt member.now instance) }
+    ensures ok { IfOk result (λ s. member_learnt member.now instance ≡ Some s) }
     ensures error { IfErr result (λ e. e ≡ Memory) }
 {
     match member.last_learnt(instance) {
@@ -84,8 +84,8 @@ fn decide<R: Wait, G: Gate>(
     rounds: u32,
     gate: &G,
 ) -> Result<Entry, Stopped>
-    requires { IsOf group.now member.old }
-    ensures goes_on { GoesOn member.old member.new }
+    requires { IsOfGroup group.now member.old }
+    ensures goes_on { MemberGoesOn member.old member.new }
     ensures only { IsOnlyAt commit member.old member.new }
     ensures answers { IfOk result (AnswersDecide member.new commit value) }
     ensures error { IfErr result (StopsDecide member.new commit value) }
@@ -103,11 +103,11 @@ fn ask<B: Replicated>(
     object: u16,
     query: &Query,
 ) -> Result<Entry, Stopped>
-    requires { IsSubset shelf.old.view (view member.now) }
+    requires { IsSubset shelf.old.view (member_view member.now) }
     ensures objects { shelf.new.objects ≡ shelf.old.objects }
-    ensures within { IsSubset shelf.new.view (view member.now) }
+    ensures within { IsSubset shelf.new.view (member_view member.now) }
     ensures answers { IfOk result (AnswersAsk member.now shelf.old.objects object query.now) }
-    ensures names { IfOk result (λ e. set_of e ≡ Some (view member.now)) }
+    ensures names { IfOk result (λ e. entry_set e ≡ Some (member_view member.now)) }
     ensures error { IfErr result (StopsAsk shelf.old.objects object) }
 {
     // a hint to the prover: its contract tells what holds of every member
@@ -137,16 +137,16 @@ fn do_job<R: Wait, G: Gate, B: Replicated>(
     rounds: u32,
     gate: &G,
 ) -> Result<Entry, Stopped>
-    requires of { IsOf group.now member.old }
-    requires within { IsSubset shelf.old.view (view member.old) }
-    ensures goes_on { GoesOn member.old member.new }
+    requires of { IsOfGroup group.now member.old }
+    requires within { IsSubset shelf.old.view (member_view member.old) }
+    ensures goes_on { MemberGoesOn member.old member.new }
     ensures objects { shelf.new.objects ≡ shelf.old.objects }
-    ensures within { IsSubset shelf.new.view (view member.new) }
+    ensures within { IsSubset shelf.new.view (member_view member.new) }
     ensures answers { IfOk result
-        (Answers member.new (length (submitted_in member.old 0) + 1) shelf.old.objects job) }
-    ensures names { IfOk result (λ e. IfSome (set_of e) (λ s. s ≡ view member.new)) }
-    ensures submitted { OnOk result (length (submitted_in member.new 0)
-        ≡ length (submitted_in member.old 0) + cond (is_update job) 1 0) }
+        (AnswersJob member.new (length (member_submitted member.old 0) + 1) shelf.old.objects job) }
+    ensures names { IfOk result (λ e. IfSome (entry_set e) (λ s. s ≡ member_view member.new)) }
+    ensures submitted { OnOk result (length (member_submitted member.new 0)
+        ≡ length (member_submitted member.old 0) + cond (is_update_job job) 1 0) }
     ensures error { IfErr result (StopFits shelf.old.objects member.new job) }
 {
     match job {
@@ -167,13 +167,13 @@ pub(crate) fn do_all<R: Wait, G: Gate, B: Replicated>(
     gate: &G,
     entries: &mut Vec<Entry>,
 ) -> Option<Stopped>
-    requires of { IsOf group.now member.old }
-    requires within { IsSubset shelf.old.view (view member.old) }
+    requires of { IsOfGroup group.now member.old }
+    requires within { IsSubset shelf.old.view (member_view member.old) }
     requires none { entries.old.items ≡ [] }
     ensures done { HasDone member.old shelf.old.objects jobs.items entries.new.items member.new }
-    ensures goes_on { GoesOn member.old member.new }
+    ensures goes_on { MemberGoesOn member.old member.new }
     ensures objects { shelf.new.objects ≡ shelf.old.objects }
-    ensures within { IsSubset shelf.new.view (view member.new) }
+    ensures within { IsSubset shelf.new.view (member_view member.new) }
     ensures all { IfNone result (vec_len entries.new ≡ vec_len jobs) }
     ensures stop { IfSome result
         (StopsAt shelf.old.objects member.new jobs.items (vec_len entries.new)) }

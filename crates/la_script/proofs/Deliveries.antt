@@ -13,7 +13,7 @@ use Rattle.la_script.specs.declared.script.Version.{Version}
 use Rattle.la_script.specs.declared.script.Version.TheVariants.{One, Two}
 use Rattle.la_script.specs.Numbers.{u64_max, is_canonical, number}
 use Rattle.la_script.specs.Forms.{spelling, form_of}
-use Rattle.la_script.specs.Lines.{words_of, event_in, event_of}
+use Rattle.la_script.specs.Lines.{words_of, event_in, line_event}
 use Rattle.la_script.proofs.CanonicalNumbers.{canonical_digits}
 
 not_space : (d : ℕ) → is_ascii_digit d ≡ true → eqb d 32 ≡ false
@@ -51,7 +51,7 @@ said version (d ∷ ds) n e = rw (delivery_form version d ds, sym e) refl
 
 -- the keyword, a space and a number deliver the message with this number
 delivers : (version : Version) (word : List ℕ) (n : ℕ) → Some n ≡ number 0 u64_max word
-    → event_of version (spelling keyword.Deliver ++ 32 ∷ word) ≡ Ok (Deliver n)
+    → line_event version (spelling keyword.Deliver ++ 32 ∷ word) ≡ Ok (Deliver n)
 delivers version word n e =
     let words : words_of (spelling keyword.Deliver ++ 32 ∷ word) ≡ spelling keyword.Deliver ∷ word ∷ [] =
     rw (one_word word (canonical_digits word (canonical word n e))) refl in
@@ -64,8 +64,8 @@ behind_space (b ∷ bs) some is = ap (λ x. x ∷ bs) is
 -- where a space and a number stand behind the keyword, it is the number of the message
 pub delivered : (line rest : List ℕ) → line ≡ spelling keyword.Deliver ++ rest → 1 ≤ length rest → get_or rest 0 0 ≡ 32
     → (r : Option ℕ) → r ≡ number 0 u64_max (take (length rest - 1) (drop 1 rest))
-    → IfSome r (λ n. (version : Version) → event_of version line ≡ Ok (Deliver n))
+    → IfSome r (λ n. (version : Version) → line_event version line ≡ Ok (Deliver n))
 delivered line rest is some space None read = tt
 delivered line rest is some space (Some n) read = λ version.
-    ap (event_of version) (is ∙ ap (λ t. spelling keyword.Deliver ++ t) (behind_space rest some space))
+    ap (line_event version) (is ∙ ap (λ t. spelling keyword.Deliver ++ t) (behind_space rest some space))
     ∙ delivers version (drop 1 rest) n (read ∙ ap (number 0 u64_max) (take_rest rest 1))

@@ -11,8 +11,8 @@ use Rattle.la_script.specs.declared.marks.Mark.TheVariants.{Words, Ids, MoreIds,
 use Rattle.la_script.specs.declared.marks.Plain.TheVariants as plain
 use Rattle.la_script.specs.Pieces.{front}
 use Rattle.la_script.specs.Plain.{plain_line}
-use Rattle.la_script.specs.Marks.{words_of, numbers_of, mark_text, ids_mark, words_in, IsLine, IsRun, AddsRuns, AddsMark}
-use Rattle.la_script.specs.Laid.{laid_text, kept_of, AreIds, IsReady, AreReady, AreOwn, IsLaid}
+use Rattle.la_script.specs.Marks.{mark_words, numbers_of, mark_text, ids_mark, words_in, IsLine, IsRunMark, AddsRuns, AddsMark}
+use Rattle.la_script.specs.Laid.{laid_text, kept_of, AreIds, IsReadyMark, AreReady, AreOwn, IsLaid}
 use Rattle.la_script.proofs.IdFronts.{front_some}
 use Rattle.la_script.proofs.PlainLines.{line_some}
 
@@ -42,7 +42,7 @@ module _ (ids grown : List (ℕ × ℕ)) (g : Grows ids grown) where
   ids_grown : (r n : ℕ) → AreIds ids r n → AreIds grown r n
   ids_grown r n is = record { known = is.known; some = is.some; ready = omega (arith, is.ready, g.more r is.known) }
 
-  ready_grown : (m : Mark) (words numbers : List ℕ) → IsReady ids m words numbers → IsReady grown m words numbers
+  ready_grown : (m : Mark) (words numbers : List ℕ) → IsReadyMark ids m words numbers → IsReadyMark grown m words numbers
   ready_grown (Words n) words numbers is = is
   ready_grown (Ids r) words numbers is = (is.0, ids_grown r _ is.1)
   ready_grown (MoreIds r) words numbers is = (is.0, ids_grown r _ is.1)
@@ -55,7 +55,7 @@ module _ (ids grown : List (ℕ × ℕ)) (g : Grows ids grown) where
       → AreReady grown marks words numbers
   each_grown [] words numbers is = is
   each_grown (m ∷ marks) words numbers is =
-      (ready_grown m words numbers is.0, each_grown marks (drop (words_of m) words) (drop (numbers_of m) numbers) is.1)
+      (ready_grown m words numbers is.0, each_grown marks (drop (mark_words m) words) (drop (numbers_of m) numbers) is.1)
 
   pub laid_grown : (marks : List Mark) (words numbers : List ℕ) (marked : ℕ) → IsLaid marks words numbers marked ids
       → IsLaid marks words numbers marked grown
@@ -118,7 +118,7 @@ module _ (marks : List Mark) (words numbers : List ℕ) (marked : ℕ) (ids : Li
 abbrev marked_text : List Mark → (words numbers : List ℕ) → List ℕ
 marked_text [] words numbers = []
 marked_text (m ∷ marks) words numbers =
-    mark_text m words numbers ++ marked_text marks (drop (words_of m) words) (drop (numbers_of m) numbers)
+    mark_text m words numbers ++ marked_text marks (drop (mark_words m) words) (drop (numbers_of m) numbers)
 
 drop_both : (m n : ℕ) (xs : List ℕ) → drop n (drop m xs) ≡ drop (m + n) xs
 drop_both m n xs = drop-drop n m xs
@@ -127,16 +127,16 @@ text_split : (marks : List Mark) (words numbers : List ℕ)
     → laid_text marks words numbers ≡ marked_text marks words numbers ++ drop (words_in marks) words
 text_split [] words numbers = refl
 text_split (m ∷ marks) words numbers =
-    let w = drop (words_of m) words in
+    let w = drop (mark_words m) words in
     let n = drop (numbers_of m) numbers in
     ap (λ t. mark_text m words numbers ++ t) (text_split marks w n)
     ∙ sym (append_assoc (mark_text m words numbers) (marked_text marks w n) (drop (words_in marks) w))
     ∙ ap (λ t. (mark_text m words numbers ++ marked_text marks w n) ++ t)
-    (drop_both (words_of m) (words_in marks) words)
+    (drop_both (mark_words m) (words_in marks) words)
 
 -- a mark that is ready takes no more words and numbers than there are
 module _ (ids : List (ℕ × ℕ)) where
-  enough_words : (m : Mark) (words numbers : List ℕ) → IsReady ids m words numbers → words_of m ≤ length words
+  enough_words : (m : Mark) (words numbers : List ℕ) → IsReadyMark ids m words numbers → mark_words m ≤ length words
   enough_words (Words n) words numbers is = is.1
   enough_words (Ids r) words numbers is = omega arith
   enough_words (MoreIds r) words numbers is = omega arith
@@ -145,7 +145,7 @@ module _ (ids : List (ℕ × ℕ)) where
   enough_words Kept words numbers is = omega arith
   enough_words Yes words numbers is = omega arith
 
-  enough_numbers : (m : Mark) (words numbers : List ℕ) → IsReady ids m words numbers → numbers_of m ≤ length numbers
+  enough_numbers : (m : Mark) (words numbers : List ℕ) → IsReadyMark ids m words numbers → numbers_of m ≤ length numbers
   enough_numbers (Words n) words numbers is = omega arith
   enough_numbers (Ids r) words numbers is = is.0
   enough_numbers (MoreIds r) words numbers is = is.0
@@ -161,9 +161,9 @@ module _ (ids : List (ℕ × ℕ)) where
       omega (
         arith,
         enough_words m words numbers is.0,
-        words_within marks (drop (words_of m) words)
+        words_within marks (drop (mark_words m) words)
             (drop (numbers_of m) numbers) is.1,
-        length-drop (words_of m) words,
+        length-drop (mark_words m) words,
       )
 
 -- what is kept has no more words with a mark than words
@@ -181,7 +181,7 @@ laid_same marks new words numbers all_numbers marked ids is same_marks same_numb
 
 module _ (ids : List (ℕ × ℕ)) (words numbers ws ns : List ℕ) where
   -- what a mark takes stays the same
-  mark_same : (m : Mark) → IsReady ids m words numbers
+  mark_same : (m : Mark) → IsReadyMark ids m words numbers
       → mark_text m (words ++ ws) (numbers ++ ns) ≡ mark_text m words numbers
   mark_same (Words n) is = take-append-le n words ws is.1
   mark_same (Ids r) is = ap (front false r) (get_or_append_left numbers ns 0 0 is.0)
@@ -197,7 +197,7 @@ module _ (ids : List (ℕ × ℕ)) (words numbers ws ns : List ℕ) where
       → AreIds ids r (get_or (numbers ++ ns) 0 0)
   ids_same r some is = subst (AreIds ids r) (sym (get_or_append_left numbers ns 0 0 some)) is
 
-  ready_same : (m : Mark) → IsReady ids m words numbers → IsReady ids m (words ++ ws) (numbers ++ ns)
+  ready_same : (m : Mark) → IsReadyMark ids m words numbers → IsReadyMark ids m (words ++ ws) (numbers ++ ns)
   ready_same (Words n) is = (is.0, omega (arith, is.1, length-append words ws))
   ready_same (Ids r) is = (omega (arith, is.0, length-append numbers ns), ids_same r is.0 is.1)
   ready_same (MoreIds r) is = (omega (arith, is.0, length-append numbers ns), ids_same r is.0 is.1)
@@ -213,12 +213,12 @@ module _ (ids : List (ℕ × ℕ)) (more : List Mark) (ws ns : List ℕ) where
       ≡ marked_text marks words numbers ++ laid_text more (drop (words_in marks) words ++ ws) ns
   text_append [] words numbers is = ap (λ n. laid_text more (words ++ ws) (n ++ ns)) is
   text_append (m ∷ marks) words numbers is =
-      let w = drop (words_of m) words in
+      let w = drop (mark_words m) words in
       let n = drop (numbers_of m) numbers in
-      ap (λ t. t ++ laid_text (marks ++ more) (drop (words_of m) (words ++ ws)) (drop (numbers_of m) (numbers ++ ns)))
+      ap (λ t. t ++ laid_text (marks ++ more) (drop (mark_words m) (words ++ ws)) (drop (numbers_of m) (numbers ++ ns)))
       (mark_same ids words numbers ws ns m is.0)
       ∙ ap (λ t. mark_text m words numbers ++ laid_text (marks ++ more) t (drop (numbers_of m) (numbers ++ ns)))
-      (drop-append-le (words_of m) words ws (enough_words ids m words numbers is.0))
+      (drop-append-le (mark_words m) words ws (enough_words ids m words numbers is.0))
       ∙ ap (λ t. mark_text m words numbers ++ laid_text (marks ++ more) (w ++ ws) t)
       (drop-append-le (numbers_of m) numbers ns (enough_numbers ids m words numbers is.0))
       ∙ ap (λ t. mark_text m words numbers ++ t) (text_append marks w n is.1)
@@ -226,21 +226,21 @@ module _ (ids : List (ℕ × ℕ)) (more : List Mark) (ws ns : List ℕ) where
       (append_assoc (mark_text m words numbers) (marked_text marks w n)
       (laid_text more (drop (words_in marks) w ++ ws) ns))
       ∙ ap (λ t. (mark_text m words numbers ++ marked_text marks w n) ++ laid_text more (t ++ ws) ns)
-      (drop_both (words_of m) (words_in marks) words)
+      (drop_both (mark_words m) (words_in marks) words)
 
   pub ready_append : (marks : List Mark) (words numbers : List ℕ) → AreReady ids marks words numbers
       → AreReady ids more (drop (words_in marks) words ++ ws) ns
       → AreReady ids (marks ++ more) (words ++ ws) (numbers ++ ns)
   ready_append [] words numbers is next = subst (λ n. AreReady ids more (words ++ ws) (n ++ ns)) (sym is) next
   ready_append (m ∷ marks) words numbers is next =
-      let w = drop (words_of m) words in
+      let w = drop (mark_words m) words in
       let n = drop (numbers_of m) numbers in
       let next_is =
-      subst (λ t. AreReady ids more (t ++ ws) ns) (sym (drop_both (words_of m) (words_in marks) words)) next in
+      subst (λ t. AreReady ids more (t ++ ws) ns) (sym (drop_both (mark_words m) (words_in marks) words)) next in
       let rest = ready_append marks w n is.1 next_is in (
         ready_same ids words numbers ws ns m is.0,
         subst (λ t. AreReady ids (marks ++ more) t (drop (numbers_of m) (numbers ++ ns)))
-            (sym (drop-append-le (words_of m) words ws (enough_words ids m words numbers is.0)))
+            (sym (drop-append-le (mark_words m) words ws (enough_words ids m words numbers is.0)))
             (subst (λ t. AreReady ids (marks ++ more) (w ++ ws) t)
             (sym (drop-append-le (numbers_of m) numbers ns (enough_numbers ids m words numbers is.0))) rest),
       )
@@ -290,7 +290,7 @@ text_if (Err e) marks words more text new numbers marked ids old is same view is
 -- ## A further mark
 
 -- a mark that takes no words says the same whatever words are left
-text_alone : (m : Mark) (words numbers : List ℕ) → words_of m ≡ 0 → mark_text m words numbers ≡ mark_text m [] numbers
+text_alone : (m : Mark) (words numbers : List ℕ) → mark_words m ≡ 0 → mark_text m words numbers ≡ mark_text m [] numbers
 text_alone (Words n) words numbers none = rw none refl
 text_alone (Ids r) words numbers none = refl
 text_alone (MoreIds r) words numbers none = refl
@@ -304,41 +304,41 @@ no_words_left [] none = refl
 no_words_left (w ∷ words) none = absurd (omega arith)
 
 -- runs of all words that are left, and then a mark that takes no words
-module _ (m : Mark) (numbers : List ℕ) (no_words : words_of m ≡ 0) where
-  runs_text : (runs : List Mark) (words : List ℕ) → All IsRun runs → words_in runs ≡ length words
+module _ (m : Mark) (numbers : List ℕ) (no_words : mark_words m ≡ 0) where
+  runs_text : (runs : List Mark) (words : List ℕ) → All IsRunMark runs → words_in runs ≡ length words
       → laid_text (runs ++ m ∷ []) words numbers ≡ words ++ mark_text m [] numbers
   runs_text [] words each all =
       rw (no_words_left words all)
-      (ap (λ t. mark_text m [] numbers ++ t) (drop_all (words_of m) [] (omega arith))
+      (ap (λ t. mark_text m [] numbers ++ t) (drop_all (mark_words m) [] (omega arith))
       ∙ append-nil (mark_text m [] numbers))
   runs_text (Words n ∷ runs) words each all =
       let rest : words_in runs ≡ length (drop n words) = omega (arith, length-drop n words) in
-      ap (λ t. take n words ++ t) (runs_text runs (drop n words) (All-tail IsRun (Words n) runs each) rest)
+      ap (λ t. take n words ++ t) (runs_text runs (drop n words) (All-tail IsRunMark (Words n) runs each) rest)
       ∙ sym (append_assoc (take n words) (drop n words) (mark_text m [] numbers))
       ∙ ap (λ t. t ++ mark_text m [] numbers) (take-append-drop n words)
-  runs_text (Ids r ∷ runs) words each all = absurd (All-head IsRun (Ids r) runs each)
-  runs_text (MoreIds r ∷ runs) words each all = absurd (All-head IsRun (MoreIds r) runs each)
-  runs_text (Counted ∷ runs) words each all = absurd (All-head IsRun Counted runs each)
-  runs_text (Ignored ∷ runs) words each all = absurd (All-head IsRun Ignored runs each)
-  runs_text (Kept ∷ runs) words each all = absurd (All-head IsRun Kept runs each)
-  runs_text (Yes ∷ runs) words each all = absurd (All-head IsRun Yes runs each)
+  runs_text (Ids r ∷ runs) words each all = absurd (All-head IsRunMark (Ids r) runs each)
+  runs_text (MoreIds r ∷ runs) words each all = absurd (All-head IsRunMark (MoreIds r) runs each)
+  runs_text (Counted ∷ runs) words each all = absurd (All-head IsRunMark Counted runs each)
+  runs_text (Ignored ∷ runs) words each all = absurd (All-head IsRunMark Ignored runs each)
+  runs_text (Kept ∷ runs) words each all = absurd (All-head IsRunMark Kept runs each)
+  runs_text (Yes ∷ runs) words each all = absurd (All-head IsRunMark Yes runs each)
 
-  module _ (ids : List (ℕ × ℕ)) (ready : IsReady ids m [] numbers) (takes : length numbers ≡ numbers_of m) where
-    runs_ready : (runs : List Mark) (words : List ℕ) → All IsRun runs → words_in runs ≡ length words
+  module _ (ids : List (ℕ × ℕ)) (ready : IsReadyMark ids m [] numbers) (takes : length numbers ≡ numbers_of m) where
+    runs_ready : (runs : List Mark) (words : List ℕ) → All IsRunMark runs → words_in runs ≡ length words
         → AreReady ids (runs ++ m ∷ []) words numbers
     runs_ready [] words each all = rw (no_words_left words all) (ready, drop_all (numbers_of m) numbers (omega arith))
     runs_ready (Words n ∷ runs) words each all =
         let rest : words_in runs ≡ length (drop n words) = omega (arith, length-drop n words) in (
-          (All-head IsRun (Words n) runs each, omega arith),
+          (All-head IsRunMark (Words n) runs each, omega arith),
           runs_ready runs (drop n words)
-              (All-tail IsRun (Words n) runs each) rest,
+              (All-tail IsRunMark (Words n) runs each) rest,
         )
-    runs_ready (Ids r ∷ runs) words each all = absurd (All-head IsRun (Ids r) runs each)
-    runs_ready (MoreIds r ∷ runs) words each all = absurd (All-head IsRun (MoreIds r) runs each)
-    runs_ready (Counted ∷ runs) words each all = absurd (All-head IsRun Counted runs each)
-    runs_ready (Ignored ∷ runs) words each all = absurd (All-head IsRun Ignored runs each)
-    runs_ready (Kept ∷ runs) words each all = absurd (All-head IsRun Kept runs each)
-    runs_ready (Yes ∷ runs) words each all = absurd (All-head IsRun Yes runs each)
+    runs_ready (Ids r ∷ runs) words each all = absurd (All-head IsRunMark (Ids r) runs each)
+    runs_ready (MoreIds r ∷ runs) words each all = absurd (All-head IsRunMark (MoreIds r) runs each)
+    runs_ready (Counted ∷ runs) words each all = absurd (All-head IsRunMark Counted runs each)
+    runs_ready (Ignored ∷ runs) words each all = absurd (All-head IsRunMark Ignored runs each)
+    runs_ready (Kept ∷ runs) words each all = absurd (All-head IsRunMark Kept runs each)
+    runs_ready (Yes ∷ runs) words each all = absurd (All-head IsRunMark Yes runs each)
 
 words_in-append : (xs ys : List Mark) → words_in (xs ++ ys) ≡ words_in xs + words_in ys
 words_in-append [] ys = omega arith
@@ -350,14 +350,14 @@ pub runs_more : (before marks after : List Mark) (count n all : ℕ) → AddsRun
 runs_more before marks after count n all adds some is sum = (
   adds.0 ++ Words n ∷ [],
   is ∙ ap (λ ms. ms ++ Words n ∷ []) adds.1 ∙ append_assoc before adds.0 (Words n ∷ []),
-  All-push IsRun adds.0 (Words n) adds.2 some,
+  All-push IsRunMark adds.0 (Words n) adds.2 some,
   omega (arith, adds.3, words_in-append adds.0 (Words n ∷ [])),
 )
 
 -- the words that had no mark have one now, and a mark stands behind them
 module _ (marks new : List Mark) (words numbers more all_numbers : List ℕ) (marked count : ℕ) (ids : List (ℕ × ℕ))
     (m : Mark) (is : IsLaid marks words numbers marked ids) (left : count ≡ length words - marked)
-    (adds : AddsMark count m marks new) (is_numbers : all_numbers ≡ numbers ++ more) (no_words : words_of m ≡ 0) where
+    (adds : AddsMark count m marks new) (is_numbers : all_numbers ≡ numbers ++ more) (no_words : mark_words m ≡ 0) where
   abbrev runs : List Mark
   runs = adds.1.0
 
@@ -386,7 +386,7 @@ module _ (marks new : List Mark) (words numbers more all_numbers : List ℕ) (ma
       → laid_text new words all_numbers ≡ old ++ mark_text m [] more
   text_next old view = text_mark ∙ ap (λ t. t ++ mark_text m [] more) view
 
-  pub laid_mark : IsReady ids m [] more → length more ≡ numbers_of m → IsUtf8 (mark_text m [] more) → (at : ℕ)
+  pub laid_mark : IsReadyMark ids m [] more → length more ≡ numbers_of m → IsUtf8 (mark_text m [] more) → (at : ℕ)
       → at ≡ length words → IsLaid new words all_numbers at ids
   laid_mark ready takes utf8 at end =
       let there = runs_ready m more no_words ids ready takes runs (words_left ++ []) adds.1.2 all_left in
@@ -410,16 +410,16 @@ module _ (b : Bool) (r n : ℕ) where
   ids_text_is : mark_text (ids_mark b r) [] (n ∷ []) ≡ front b r n
   ids_text_is = elim b as (λ v. mark_text (ids_mark v r) [] (n ∷ []) ≡ front v r n) [ true ↦ refl | false ↦ refl ]
 
-  no_ids_words : words_of (ids_mark b r) ≡ 0
-  no_ids_words = elim b as (λ v. words_of (ids_mark v r) ≡ 0) [ true ↦ refl | false ↦ refl ]
+  no_ids_words : mark_words (ids_mark b r) ≡ 0
+  no_ids_words = elim b as (λ v. mark_words (ids_mark v r) ≡ 0) [ true ↦ refl | false ↦ refl ]
 
   one_number : 1 ≡ numbers_of (ids_mark b r)
   one_number = elim b as (λ v. 1 ≡ numbers_of (ids_mark v r)) [ true ↦ refl | false ↦ refl ]
 
-  ids_ready : (ids : List (ℕ × ℕ)) → AreIds ids r n → IsReady ids (ids_mark b r) [] (n ∷ [])
+  ids_ready : (ids : List (ℕ × ℕ)) → AreIds ids r n → IsReadyMark ids (ids_mark b r) [] (n ∷ [])
   ids_ready ids is =
       let one : 1 ≤ length (n ∷ []) = omega arith in
-      elim b as (λ v. IsReady ids (ids_mark v r) [] (n ∷ [])) [ true ↦ (one, is) | false ↦ (one, is) ]
+      elim b as (λ v. IsReadyMark ids (ids_mark v r) [] (n ∷ [])) [ true ↦ (one, is) | false ↦ (one, is) ]
 
 module _ (marks new : List Mark) (words numbers all_numbers : List ℕ) (marked count : ℕ) (ids : List (ℕ × ℕ)) (b : Bool)
     (r n : ℕ) (m : Mark) (m_is : m ≡ ids_mark b r) (is : IsLaid marks words numbers marked ids)
@@ -443,7 +443,7 @@ module _ (marks new : List Mark) (words numbers all_numbers : List ℕ) (marked 
       (ids_ready b r n ids ready) (one_number b r n) (subst IsUtf8 (sym (ids_text_is b r n)) utf8) at end
 
 -- the mark of a line
-line_no_words : (m : Mark) (numbers : List ℕ) → IsLine m numbers → words_of m ≡ 0
+line_no_words : (m : Mark) (numbers : List ℕ) → IsLine m numbers → mark_words m ≡ 0
 line_no_words (Words n) numbers is = absurd is
 line_no_words (Ids r) numbers is = refl
 line_no_words (MoreIds r) numbers is = refl
@@ -461,7 +461,7 @@ line_takes Ignored numbers is = is
 line_takes Kept numbers is = is
 line_takes Yes numbers is = is
 
-line_ready : (ids : List (ℕ × ℕ)) (m : Mark) (numbers : List ℕ) → IsLine m numbers → IsReady ids m [] numbers
+line_ready : (ids : List (ℕ × ℕ)) (m : Mark) (numbers : List ℕ) → IsLine m numbers → IsReadyMark ids m [] numbers
 line_ready ids (Words n) numbers is = absurd is
 line_ready ids (Ids r) numbers is = absurd is
 line_ready ids (MoreIds r) numbers is = absurd is
@@ -486,7 +486,7 @@ module _ (marks new : List Mark) (words numbers more all_numbers : List ℕ) (ma
 
 -- ## What a mark stands for is not empty
 
-pub mark_some : (ids : List (ℕ × ℕ)) (m : Mark) (words numbers : List ℕ) → IsReady ids m words numbers
+pub mark_some : (ids : List (ℕ × ℕ)) (m : Mark) (words numbers : List ℕ) → IsReadyMark ids m words numbers
     → 0 < length (mark_text m words numbers)
 mark_some ids (Words n) words numbers is = omega (arith, is.0, is.1, length-take n words)
 mark_some ids (Ids r) words numbers is = front_some false r (get_or numbers 0 0) is.1.some

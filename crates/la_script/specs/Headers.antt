@@ -8,7 +8,7 @@ use Rattle.la_script.specs.declared.script.Version.TheVariants.{One, Two}
 use Rattle.la_script.specs.Words.{each_word}
 use Rattle.la_script.specs.Numbers.{number}
 use Rattle.la_script.specs.Forms.{spelling, header, fits}
-use Rattle.la_script.specs.Values.{HeaderGroup, nothing, values, group}
+use Rattle.la_script.specs.Values.{HeaderGroup, no_values, values, values_group}
 use Rattle.la_script.specs.Lines.{words_of}
 
 -- the first line
@@ -24,21 +24,21 @@ version_of line =
 
 -- the group that a header's words say
 abbrev pub header_in : List (List ℕ) → Option HeaderGroup
-header_in words = if fits header words then option_map group (values header words nothing) else None
+header_in words = if fits header words then option_map values_group (values header words no_values) else None
 
 -- the group that a header's line says
 abbrev pub header_of : List ℕ → Option HeaderGroup
 header_of line = header_in (words_of line)
 
 -- the votes that a word says
-abbrev pub vote : List ℕ → Option ℕ
-vote word = number 1 MAX_VOTES word
+abbrev pub vote_word : List ℕ → Option ℕ
+vote_word word = number 1 MAX_VOTES word
 
 -- the votes that a line's words say: `votes`, and a number for each of n replicas
 abbrev pub votes_in : (n : ℕ) → List (List ℕ) → Option (List ℕ)
 votes_in n [] = None
 votes_in n (first ∷ words) =
-    if bytes_eq first (spelling keyword.Votes) && (length words == n) then each_word vote words
+    if bytes_eq first (spelling keyword.Votes) && (length words == n) then each_word vote_word words
     else None
 
 -- the votes that a line says

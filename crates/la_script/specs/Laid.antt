@@ -6,7 +6,7 @@ use Rattle.la_set.specs.declared.set.TheConstants.{REPLICAS}
 use Rattle.la_script.specs.declared.marks.Mark.{Mark}
 use Rattle.la_script.specs.declared.marks.Mark.TheVariants.{Words, Ids, MoreIds, Counted, Ignored, Kept, Yes}
 use Rattle.la_script.specs.Pieces.{front}
-use Rattle.la_script.specs.Marks.{words_of, numbers_of, mark_text, words_in}
+use Rattle.la_script.specs.Marks.{mark_words, numbers_of, mark_text, words_in}
 
 -- the text of a replica's first ids, each with a space before it, and the places where they end
 pub record IsIdText (replica : ℕ) (text ends : List ℕ) : Type 0 where
@@ -18,7 +18,7 @@ abbrev pub laid_text : List Mark → (words numbers : List ℕ) → List ℕ
 laid_text [] words numbers = words
 laid_text (m ∷ marks) words numbers =
     mark_text m words numbers ++
-    laid_text marks (drop (words_of m) words) (drop (numbers_of m) numbers)
+    laid_text marks (drop (mark_words m) words) (drop (numbers_of m) numbers)
 
 -- of a replica, by its number: whose the kept text is, and how many ids it has
 abbrev pub kept_of : List (ℕ × ℕ) → ℕ → ℕ × ℕ
@@ -31,21 +31,21 @@ pub record AreIds (ids : List (ℕ × ℕ)) (replica count : ℕ) : Type 0 where
   pub ready : count ≤ (kept_of ids replica).1
 
 -- what a mark takes is there, and what it stands for is ready
-abbrev pub IsReady : (ids : List (ℕ × ℕ)) → Mark → (words numbers : List ℕ) → Type 0
-IsReady ids (Words n) words numbers = (0 < n) × (n ≤ length words)
-IsReady ids (Ids r) words numbers = (1 ≤ length numbers) × AreIds ids r (slice_index numbers 0)
-IsReady ids (MoreIds r) words numbers = (1 ≤ length numbers) × AreIds ids r (slice_index numbers 0)
-IsReady ids Counted words numbers = 1 ≤ length numbers
-IsReady ids Ignored words numbers = 1 ≤ length numbers
-IsReady ids Kept words numbers = 1 ≤ length numbers
-IsReady ids Yes words numbers = 2 ≤ length numbers
+abbrev pub IsReadyMark : (ids : List (ℕ × ℕ)) → Mark → (words numbers : List ℕ) → Type 0
+IsReadyMark ids (Words n) words numbers = (0 < n) × (n ≤ length words)
+IsReadyMark ids (Ids r) words numbers = (1 ≤ length numbers) × AreIds ids r (slice_index numbers 0)
+IsReadyMark ids (MoreIds r) words numbers = (1 ≤ length numbers) × AreIds ids r (slice_index numbers 0)
+IsReadyMark ids Counted words numbers = 1 ≤ length numbers
+IsReadyMark ids Ignored words numbers = 1 ≤ length numbers
+IsReadyMark ids Kept words numbers = 1 ≤ length numbers
+IsReadyMark ids Yes words numbers = 2 ≤ length numbers
 
 -- each mark finds what it takes, and no number is left
 abbrev pub AreReady : (ids : List (ℕ × ℕ)) → List Mark → (words numbers : List ℕ) → Type 0
 AreReady ids [] words numbers = numbers ≡ []
 AreReady ids (m ∷ marks) words numbers =
-    IsReady ids m words numbers ×
-    AreReady ids marks (drop (words_of m) words) (drop (numbers_of m) numbers)
+    IsReadyMark ids m words numbers ×
+    AreReady ids marks (drop (mark_words m) words) (drop (numbers_of m) numbers)
 
 -- each replica's text is its own
 abbrev pub AreOwn : (ids : List (ℕ × ℕ)) → Type 0

@@ -7,14 +7,14 @@ use Rattle.la_script.specs.Pieces.{front}
 use Rattle.la_script.specs.Plain.{plain_line}
 
 -- how many words it takes
-abbrev pub words_of : Mark → ℕ
-words_of (Words n) = n
-words_of (Ids r) = 0
-words_of (MoreIds r) = 0
-words_of Counted = 0
-words_of Ignored = 0
-words_of Kept = 0
-words_of Yes = 0
+abbrev pub mark_words : Mark → ℕ
+mark_words (Words n) = n
+mark_words (Ids r) = 0
+mark_words (MoreIds r) = 0
+mark_words Counted = 0
+mark_words Ignored = 0
+mark_words Kept = 0
+mark_words Yes = 0
 
 -- how many numbers it takes
 abbrev pub numbers_of : Mark → ℕ
@@ -54,22 +54,22 @@ IsLine Yes numbers = length numbers ≡ 2
 -- how many words marks take
 abbrev pub words_in : List Mark → ℕ
 words_in [] = 0
-words_in (m ∷ marks) = words_of m + words_in marks
+words_in (m ∷ marks) = mark_words m + words_in marks
 
 -- it takes some words and nothing else
-abbrev pub IsRun : Mark → Type 0
-IsRun (Words n) = 0 < n
-IsRun (Ids r) = ⊥
-IsRun (MoreIds r) = ⊥
-IsRun Counted = ⊥
-IsRun Ignored = ⊥
-IsRun Kept = ⊥
-IsRun Yes = ⊥
+abbrev pub IsRunMark : Mark → Type 0
+IsRunMark (Words n) = 0 < n
+IsRunMark (Ids r) = ⊥
+IsRunMark (MoreIds r) = ⊥
+IsRunMark Counted = ⊥
+IsRunMark Ignored = ⊥
+IsRunMark Kept = ⊥
+IsRunMark Yes = ⊥
 
 -- so many words were marked
 abbrev pub AddsRuns : (words : ℕ) → (before after : List Mark) → Type 0
 AddsRuns words before after =
-    (runs : List Mark) × (after ≡ before ++ runs) × All IsRun runs × (words_in runs ≡ words)
+    (runs : List Mark) × (after ≡ before ++ runs) × All IsRunMark runs × (words_in runs ≡ words)
 
 -- so many words were marked, and then this mark was added
 abbrev pub AddsMark : (words : ℕ) → Mark → (before after : List Mark) → Type 0

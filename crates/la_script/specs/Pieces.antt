@@ -28,5 +28,5 @@ ids_before counts zero = []
 ids_before counts (suc r) = ids_before counts r ++ ids_from r 1 (counts r)
 
 -- the text was put behind what was there
-abbrev pub Adds : (before after text : List ℕ) → Type 0
-Adds before after text = after ≡ before ++ text
+abbrev pub AddsText : (before after text : List ℕ) → Type 0
+AddsText before after text = after ≡ before ++ text

@@ -4,6 +4,6 @@ use Rattle.la_script.specs.declared.walk.Piece.{Piece}
 use Rattle.la_script.specs.declared.walk.Piece.TheVariants.{Lent, Made}
 
 -- the bytes of a piece
-abbrev pub bytes_of : Piece → List ℕ
-bytes_of (Lent bytes) = bytes.now
-bytes_of (Made line) = line.bytes
+abbrev pub piece_bytes : Piece → List ℕ
+piece_bytes (Lent bytes) = bytes.now
+piece_bytes (Made line) = line.bytes

@@ -1,7 +1,7 @@
 // What objects answered.
 ghost use Rattle.std.specs.Prelude.{◌≡◌, OnOk};
 ghost use Rattle.la_script.specs.Text.{items_text, yes_text, answer_text};
-ghost use Rattle.la_script.specs.Pieces.{Adds};
+ghost use Rattle.la_script.specs.Pieces.{AddsText};
 
 use crate::Pieces;
 use la_object::Answer;
@@ -9,7 +9,7 @@ use std::alloc::AllocError;
 
 // Writes elements, with single spaces between them.
 fn put_items(out: &mut Pieces, items: &[u64]) -> Result<(), AllocError>
-    ensures { OnOk result (Adds out.old out.new (items_text items.now)) }
+    ensures { OnOk result (AddsText out.old out.new (items_text items.now)) }
 {
     let [first, others @ ..] = items else {
         return Ok(());
@@ -23,14 +23,14 @@ fn put_items(out: &mut Pieces, items: &[u64]) -> Result<(), AllocError>
 }
 
 fn put_yes(out: &mut Pieces, is: bool) -> Result<(), AllocError>
-    ensures { OnOk result (Adds out.old out.new (yes_text is)) }
+    ensures { OnOk result (AddsText out.old out.new (yes_text is)) }
 {
     out.push_str(if is { "yes" } else { "no" })
 }
 
 /// Adds what an object answered, as a report has it.
 pub fn put_answer(out: &mut Pieces, answer: &Answer) -> Result<(), AllocError>
-    ensures { OnOk result (Adds out.old out.new (answer_text answer.now)) }
+    ensures { OnOk result (AddsText out.old out.new (answer_text answer.now)) }
 {
     match answer {
         Answer::Total(total) => {

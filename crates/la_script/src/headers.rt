@@ -3,7 +3,7 @@ ghost use Rattle.std.specs.Prelude.{◌≡◌, ◌≤◌, length, option_map, If
 ghost use Rattle.la_proposer.specs.Majority.{votes_of};
 ghost use Rattle.la_world.specs.Groups.{IsConfig};
 ghost use Rattle.la_script.specs.Words.{bytes_of, each_word};
-ghost use Rattle.la_script.specs.Headers.{version_of, header_of, vote, votes_said};
+ghost use Rattle.la_script.specs.Headers.{version_of, header_of, vote_word, votes_said};
 ghost use Rattle.la_script.specs.Values.{header_group};
 
 use crate::Version;
@@ -49,7 +49,7 @@ fn votes_of(alloc: Global, words: &[&[u8]]) -> Result<Option<Votes>, AllocError>
     requires some { 1 ≤ length words.now }
     requires few { length words.now ≤ 8 }
     ensures exact { IfOk result (λ votes. option_map votes_of votes
-        ≡ each_word vote (bytes_of words.now)) }
+        ≡ each_word vote_word (bytes_of words.now)) }
     ensures len { IfOk result (λ votes. IfSome votes (λ v. length (votes_of v) ≡ length words.now)) }
 {
     let mut votes = Vec::new(alloc);

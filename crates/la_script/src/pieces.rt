@@ -2,7 +2,7 @@ ghost use Rattle.std.specs.Prelude.{◌≡◌, ◌<◌, ◌∷◌, [], IfOk, OnO
 ghost use Rattle.std.specs.Fmt.{decimal, signed_decimal};
 ghost use Rattle.std.specs.Str.{IsUtf8};
 ghost use Rattle.la_set.specs.declared.set.TheConstants.{REPLICAS};
-ghost use Rattle.la_script.specs.Pieces.{front, Adds};
+ghost use Rattle.la_script.specs.Pieces.{front, AddsText};
 ghost use Rattle.la_script.specs.Plain.{plain_line};
 ghost use Rattle.la_script.specs.Marks.{ids_mark, mark_text, IsLine};
 
@@ -90,7 +90,7 @@ impl Pieces {
     /// text to go on with.
     #[inline(always)]
     pub fn push_str(&mut self, words: &str) -> Result<(), AllocError>
-        ensures { OnOk result (Adds self.old self.new words.now) }
+        ensures { OnOk result (AddsText self.old self.new words.now) }
     {
         self.words.extend_from_slice(words.as_bytes())
     }
@@ -99,7 +99,7 @@ impl Pieces {
     #[inline(always)]
     pub(crate) fn push_ascii(&mut self, letter: u8) -> Result<(), AllocError>
         requires { letter < 128 }
-        ensures { OnOk result (Adds self.old self.new (letter ∷ [])) }
+        ensures { OnOk result (AddsText self.old self.new (letter ∷ [])) }
     {
         self.words.push(letter)?;
         Ok(())
@@ -108,14 +108,14 @@ impl Pieces {
     /// Adds a number in decimal.
     #[inline(always)]
     pub fn push_number(&mut self, number: u64) -> Result<(), AllocError>
-        ensures { OnOk result (Adds self.old self.new (decimal number)) }
+        ensures { OnOk result (AddsText self.old self.new (decimal number)) }
     {
         self.push_str(Buffer::new().format(number))
     }
 
     // Adds a number that may be below zero.
     pub(crate) fn push_signed(&mut self, number: i64) -> Result<(), AllocError>
-        ensures { OnOk result (Adds self.old self.new (signed_decimal number)) }
+        ensures { OnOk result (AddsText self.old self.new (signed_decimal number)) }
     {
         self.push_str(Buffer::new().format(number))
     }
@@ -129,7 +129,7 @@ impl Pieces {
         count: u32,
     ) -> Result<(), AllocError>
         requires { replica < REPLICAS }
-        ensures { OnOk result (Adds self.old self.new (front behind replica count)) }
+        ensures { OnOk result (AddsText self.old self.new (front behind replica count)) }
     {
         if count == 0 {
             return Ok(());
@@ -152,7 +152,7 @@ impl Pieces {
     fn push_line(&mut self, mark: Mark, numbers: &[u32]) -> Result<(), AllocError>
         requires line { IsLine mark numbers.now }
         requires text { IsUtf8 (mark_text mark [] numbers.now) }
-        ensures { OnOk result (Adds self.old self.new (mark_text mark [] numbers.now)) }
+        ensures { OnOk result (AddsText self.old self.new (mark_text mark [] numbers.now)) }
     {
         let words = self.words.len() - self.marked;
         add_mark(&mut self.marks, &mut self.numbers, words, mark, numbers)?;
@@ -163,7 +163,7 @@ impl Pieces {
     // Adds a line of few words, at constant cost, and no text of it.
     #[inline(always)]
     pub(crate) fn push_plain(&mut self, number: u32, line: Plain) -> Result<(), AllocError>
-        ensures { OnOk result (Adds self.old self.new (plain_line number line)) }
+        ensures { OnOk result (AddsText self.old self.new (plain_line number line)) }
     {
         match line {
             Plain::Counted => self.push_line(Mark::Counted, &[number]),

@@ -1,6 +1,6 @@
 ghost use Rattle.std.specs.Prelude.{◌≡◌, OnOk};
 ghost use Rattle.la_script.specs.Text.{id_text, set_text};
-ghost use Rattle.la_script.specs.Pieces.{Adds};
+ghost use Rattle.la_script.specs.Pieces.{AddsText};
 
 use crate::Pieces;
 use la_set::{REPLICAS, UpdateId, UpdateSet};
@@ -8,7 +8,7 @@ use std::alloc::AllocError;
 
 /// Writes an id.
 pub fn put_id(out: &mut Pieces, id: UpdateId) -> Result<(), AllocError>
-    ensures { OnOk result (Adds out.old out.new (id_text id)) }
+    ensures { OnOk result (AddsText out.old out.new (id_text id)) }
 {
     let UpdateId { replica, number } = id;
     out.push_number(u64::from(replica))?;
@@ -18,7 +18,7 @@ pub fn put_id(out: &mut Pieces, id: UpdateId) -> Result<(), AllocError>
 
 /// Writes the ids of a set's updates, by its counts.
 pub fn put_set(out: &mut Pieces, set: &UpdateSet) -> Result<(), AllocError>
-    ensures { OnOk result (Adds out.old out.new (set_text set.now)) }
+    ensures { OnOk result (AddsText out.old out.new (set_text set.now)) }
 {
     let counts = set.counts();
     let mut behind = false;

@@ -16,9 +16,9 @@ ghost use Rattle.std.specs.Prelude.{
 ghost use Rattle.la_script.specs.Pieces.{front};
 ghost use Rattle.arrayvec.specs.ArrayString.{array_string_len};
 ghost use Rattle.la_script.specs.Plain.{plain_text, plain_line};
-ghost use Rattle.la_script.specs.Marks.{words_of, numbers_of, mark_text};
-ghost use Rattle.la_script.specs.Laid.{laid_text, AreIds, IsReady, IsWalked, AreOwn};
-ghost use Rattle.la_script.specs.Walks.{bytes_of};
+ghost use Rattle.la_script.specs.Marks.{mark_words, numbers_of, mark_text};
+ghost use Rattle.la_script.specs.Laid.{laid_text, AreIds, IsReadyMark, IsWalked, AreOwn};
+ghost use Rattle.la_script.specs.Walks.{piece_bytes};
 
 use crate::id_text::IdText;
 use crate::marks::{Mark, Plain};
@@ -41,7 +41,7 @@ pub enum Piece<'a> {
 impl Piece<'_> {
     /// The bytes of the piece.
     pub fn bytes(&self) -> &[u8]
-        ensures { result.now ≡ bytes_of self.now }
+        ensures { result.now ≡ piece_bytes self.now }
     {
         match self {
             Piece::Lent(bytes) => bytes,
@@ -114,7 +114,7 @@ struct Taken<'a> {
 #[inline(always)]
 fn take_words<'a>(words: &'a [u8], numbers: &'a [u32], count: usize) -> Taken<'a>
     requires { count ≤ length words.now }
-    ensures piece { bytes_of result.piece ≡ take count words.now }
+    ensures piece { piece_bytes result.piece ≡ take count words.now }
     ensures words { result.words.now ≡ drop count words.now }
     ensures numbers { result.numbers.now ≡ numbers.now }
 {
@@ -138,7 +138,7 @@ fn take_ids<'a>(
     requires some { 1 ≤ length numbers.now }
     requires ready { AreIds ids.now replica (slice_index numbers.now 0) }
     requires own { AreOwn ids.now }
-    ensures piece { bytes_of result.piece ≡ front behind replica (slice_index numbers.now 0) }
+    ensures piece { piece_bytes result.piece ≡ front behind replica (slice_index numbers.now 0) }
     ensures words { result.words.now ≡ words.now }
     ensures numbers { result.numbers.now ≡ drop 1 numbers.now }
 {
@@ -155,7 +155,7 @@ fn take_ids<'a>(
 #[inline(always)]
 fn take_line<'a>(words: &'a [u8], numbers: &'a [u32], plain: Plain) -> Taken<'a>
     requires { 1 ≤ length numbers.now }
-    ensures piece { bytes_of result.piece ≡ plain_line (slice_index numbers.now 0) plain }
+    ensures piece { piece_bytes result.piece ≡ plain_line (slice_index numbers.now 0) plain }
     ensures words { result.words.now ≡ words.now }
     ensures numbers { result.numbers.now ≡ drop 1 numbers.now }
 {
@@ -171,7 +171,7 @@ fn take_line<'a>(words: &'a [u8], numbers: &'a [u32], plain: Plain) -> Taken<'a>
 #[inline(always)]
 fn take_yes<'a>(words: &'a [u8], numbers: &'a [u32]) -> Taken<'a>
     requires { 2 ≤ length numbers.now }
-    ensures piece { bytes_of result.piece
+    ensures piece { piece_bytes result.piece
         ≡ plain_line (slice_index numbers.now 0) (Plain.Yes (slice_index numbers.now 1)) }
     ensures words { result.words.now ≡ words.now }
     ensures numbers { result.numbers.now ≡ drop 2 numbers.now }
@@ -192,10 +192,10 @@ fn take_piece<'a>(
     numbers: &'a [u32],
     ids: &'a [IdText; 8],
 ) -> Taken<'a>
-    requires ready { IsReady ids.now mark words.now numbers.now }
+    requires ready { IsReadyMark ids.now mark words.now numbers.now }
     requires own { AreOwn ids.now }
-    ensures piece { bytes_of result.piece ≡ mark_text mark words.now numbers.now }
-    ensures words { result.words.now ≡ drop (words_of mark) words.now }
+    ensures piece { piece_bytes result.piece ≡ mark_text mark words.now numbers.now }
+    ensures words { result.words.now ≡ drop (mark_words mark) words.now }
     ensures numbers { result.numbers.now ≡ drop (numbers_of mark) numbers.now }
 {
     match mark {
@@ -212,8 +212,8 @@ fn take_piece<'a>(
 // The words that no mark takes, where there are some.
 #[inline(always)]
 fn last_piece(words: &[u8]) -> Option<Piece<'_>>
-    ensures some { IfSome result (λ piece. bytes_of piece ≡ words.now) }
-    ensures bytes { IfSome result (λ piece. 0 < length (bytes_of piece)) }
+    ensures some { IfSome result (λ piece. piece_bytes piece ≡ words.now) }
+    ensures bytes { IfSome result (λ piece. 0 < length (piece_bytes piece)) }
     ensures none { IfNone result (words.now ≡ []) }
 {
     if words.is_empty() {
@@ -246,8 +246,8 @@ impl<'a> Walk<'a> {
     /// written down, anything else is lent. There is none exactly where nothing is left.
     #[inline(always)]
     pub fn next(&mut self) -> Option<Piece<'a>>
-        ensures some { IfSome result (λ piece. self.old ≡ bytes_of piece ++ self.new) }
-        ensures bytes { IfSome result (λ piece. 0 < length (bytes_of piece)) }
+        ensures some { IfSome result (λ piece. self.old ≡ piece_bytes piece ++ self.new) }
+        ensures bytes { IfSome result (λ piece. 0 < length (piece_bytes piece)) }
         ensures none { IfNone result (self.old ≡ []) }
         ensures end { IfNone result (self.new ≡ []) }
     {

@@ -1,10 +1,10 @@
 -- What a call comes to, by what a journal says of it.
 use Rattle.std.proofs.Common.{◌≡◌, ◌⊎◌, inl, inr, ℕ, Bool, true, false, List, Option, Some, None, option_map, refl, sym, ap, ◌∙◌}
 use Rattle.std.proofs.lemmas.Option.{none-some, same_Some}
-use Rattle.la_wire.specs.Calls.{Call}
-use Rattle.la_wire.specs.CallLines.{named}
+use Rattle.la_wire.specs.Calls.{WireCall}
+use Rattle.la_wire.specs.CallLines.{named_call}
 use Rattle.la_durable.specs.Given.{Given}
-use Rattle.la_durable.specs.Nodes.{KeptState, acts, acts_by, step, answers}
+use Rattle.la_durable.specs.Nodes.{KeptState, acts, acts_by, step, given_by}
 use Rattle.la_durable.specs.CallLines.{is_line, call_line, call_line_where, or_tick}
 
 -- an input's line is the one of its call
@@ -28,16 +28,16 @@ neither : (o : Option (Given × KeptState)) → option_map (λ (made : Given × 
 neither None e = refl
 neither (Some made) e = absurd cc
 
-module _ (n : KeptState) (line : List ℕ) (call : Call) (is : is_line line ≡ true) (says : named line ≡ Some call) where
-  acts_line : acts_by n (named (or_tick (call_line line)).line) ≡ acts n call
-  acts_line = ap (λ l. acts_by n (named l)) (line_of_input line is) ∙ ap (acts_by n) says
+module _ (n : KeptState) (line : List ℕ) (call : WireCall) (is : is_line line ≡ true) (says : named_call line ≡ Some call) where
+  acts_line : acts_by n (named_call (or_tick (call_line line)).line) ≡ acts n call
+  acts_line = ap (λ l. acts_by n (named_call l)) (line_of_input line is) ∙ ap (acts_by n) says
 
   pub acted : (given : Given) (after : KeptState) → step n (or_tick (call_line line)) ≡ Some after
-      → Some given ≡ answers n (or_tick (call_line line)) → acts n call ≡ Some (given, after)
-  acted given after e f = sym acts_line ∙ both (acts_by n (named (or_tick (call_line line)).line)) given after e f
+      → Some given ≡ given_by n (or_tick (call_line line)) → acts n call ≡ Some (given, after)
+  acted given after e f = sym acts_line ∙ both (acts_by n (named_call (or_tick (call_line line)).line)) given after e f
 
   pub refused : step n (or_tick (call_line line)) ≡ None → acts n call ≡ None
-  refused e = sym acts_line ∙ neither (acts_by n (named (or_tick (call_line line)).line)) e
+  refused e = sym acts_line ∙ neither (acts_by n (named_call (or_tick (call_line line)).line)) e
 
   -- why it is refused
   pub cause_of : {A : Type 0} → A ⊎ (step n (or_tick (call_line line)) ≡ None) → A ⊎ (acts n call ≡ None)

@@ -16,7 +16,7 @@ use Rattle.la_io.proofs.lemmas.TellingOn.{tells_on}
 use Rattle.la_serve.specs.declared.error.NodeFault.{NodeFault}
 use Rattle.la_serve.specs.declared.error.NodeFault.TheVariants as fault
 use Rattle.la_serve.specs.Turns.{Turn, IsTurn}
-use Rattle.la_serve.specs.Serving.{AreTurns, IsStep, Takes, TakesCut, TakesNone, Ends, IsStepRefusal, Unflushed, of_step, Serves, ServesSome, ServesClosed, IsServeRefusal, lines_of, written, kept, told, cut_told}
+use Rattle.la_serve.specs.Serving.{AreTurns, IsTurnStep, TakesLine, TakesCut, TakesNone, InputEnds, IsStepRefusal, Unflushed, of_step, ServesLines, ServesSome, ServesClosed, IsServeRefusal, turn_lines, written, kept_lines, turns_told, cut_told}
 use Rattle.la_serve.proofs.Turning.{turns_snoc, turns_join}
 
 -- the turns so far: what the first ones came to was written, and what the others came to is held back
@@ -30,12 +30,12 @@ pub record ServedSo (objects : List (ℕ × Kind)) (n : KeptState) (Told : List 
   pub are_done : AreTurns objects n 1 done between
   pub are_group : AreTurns objects between (1 + length done) group now
   pub count : number ≡ 1 + length (done ++ group)
-  pub read : ReadSo left ahead (lines_of (done ++ group))
+  pub read : ReadSo left ahead (turn_lines (done ++ group))
   pub wrote : Appends out_before out_now (written done)
   pub holds : held ≡ written group
-  pub journal : journal_now ≡ journal_before ++ kept done
-  pub stages : staged ≡ kept group
-  pub tells : Told (told (done ++ group))
+  pub journal : journal_now ≡ journal_before ++ kept_lines done
+  pub stages : staged ≡ kept_lines group
+  pub tells : Told (turns_told (done ++ group))
   pub crash : Crash between done
 
 -- the same when no more is read: of what the others came to a front is held back
@@ -48,13 +48,13 @@ pub record CutSo (objects : List (ℕ × Kind)) (n : KeptState) (Told : List (Li
   pub between : KeptState
   pub are_done : AreTurns objects n 1 done between
   pub are_group : AreTurns objects between (1 + length done) group now
-  pub read : ReadsFront left_before left_after (lines_of (done ++ group))
+  pub read : ReadsFront left_before left_after (turn_lines (done ++ group))
   pub wrote : Appends out_before out_now (written done)
   pub holds : held ++ more ≡ written group
-  pub journal : journal_now ≡ journal_before ++ kept done
-  pub stages : staged ≡ kept group
+  pub journal : journal_now ≡ journal_before ++ kept_lines done
+  pub stages : staged ≡ kept_lines group
   pub rest : List ℕ
-  pub tells : Told (told (done ++ group) ++ cut_told (1 + length (done ++ group)) rest)
+  pub tells : Told (turns_told (done ++ group) ++ cut_told (1 + length (done ++ group)) rest)
   pub crash : Crash between done
 
 -- what may be missing of what is held back, by why no more is read
@@ -70,15 +70,15 @@ text_on : (turns : List Turn) (t : Turn) → written turns ++ t.text ≡ written
 text_on turns t =
     sym (flat_map-append (λ (t : Turn). t.text) turns (t ∷ []) ∙ ap (λ x. written turns ++ x) (append-nil t.text))
 
-kept_on : (turns : List Turn) (t : Turn) → kept turns ++ t.kept ≡ kept (turns ++ t ∷ [])
+kept_on : (turns : List Turn) (t : Turn) → kept_lines turns ++ t.kept ≡ kept_lines (turns ++ t ∷ [])
 kept_on turns t =
-    sym (flat_map-append (λ (t : Turn). t.kept) turns (t ∷ []) ∙ ap (λ x. kept turns ++ x) (append-nil t.kept))
+    sym (flat_map-append (λ (t : Turn). t.kept) turns (t ∷ []) ∙ ap (λ x. kept_lines turns ++ x) (append-nil t.kept))
 
-told_on : (turns : List Turn) (t : Turn) → told turns ++ t.told ≡ told (turns ++ t ∷ [])
+told_on : (turns : List Turn) (t : Turn) → turns_told turns ++ t.told ≡ turns_told (turns ++ t ∷ [])
 told_on turns t =
-    sym (flat_map-append (λ (t : Turn). t.told) turns (t ∷ []) ∙ ap (λ x. told turns ++ x) (append-nil t.told))
+    sym (flat_map-append (λ (t : Turn). t.told) turns (t ∷ []) ∙ ap (λ x. turns_told turns ++ x) (append-nil t.told))
 
-lines_on : (turns : List Turn) (t : Turn) → lines_of turns ++ t.line ∷ [] ≡ lines_of (turns ++ t ∷ [])
+lines_on : (turns : List Turn) (t : Turn) → turn_lines turns ++ t.line ∷ [] ≡ turn_lines (turns ++ t ∷ [])
 lines_on turns t = sym (map-append (λ (t : Turn). t.line) turns (t ∷ []))
 
 module _ {E : Type 0} (contents : E → Option (List ℕ)) (refuses : E → List ℕ → E → Type 0) (objects : List (ℕ × Kind))
@@ -126,17 +126,17 @@ module _ {E : Type 0} (contents : E → Option (List ℕ)) (refuses : E → List
           are_done = turns_join objects n 1 so.done so.between so.group n1 so.are_done so.are_group;
           are_group = refl;
           count = so.count ∙ ap (λ (ts : List Turn). 1 + length ts) (sym same);
-          read = subst (λ ts. ReadSo left ahead1 (lines_of ts)) (sym same) so.read;
+          read = subst (λ ts. ReadSo left ahead1 (turn_lines ts)) (sym same) so.read;
           wrote =
               subst (Appends out out2)
               (ap (λ h. written so.done ++ h) so.holds ∙ sym (flat_map-append (λ (t : Turn). t.text) so.done so.group))
               (Appends-trans out out1 out2 (written so.done) held1 so.wrote wrote);
           holds = none;
           journal =
-              behind ∙ (λ i. so.journal i ++ so.stages i) ∙ append_assoc journal (kept so.done) (kept so.group)
+              behind ∙ (λ i. so.journal i ++ so.stages i) ∙ append_assoc journal (kept_lines so.done) (kept_lines so.group)
               ∙ ap (λ k. journal ++ k) (sym (flat_map-append (λ (t : Turn). t.kept) so.done so.group));
           stages = unstaged;
-          tells = subst (λ ts. TellsAll contents refuses e0 e1 (told ts)) (sym same) so.tells;
+          tells = subst (λ ts. TellsAll contents refuses e0 e1 (turns_told ts)) (sym same) so.tells;
           crash = crash;
         }
 
@@ -150,14 +150,14 @@ module _ {E : Type 0} (contents : E → Option (List ℕ)) (refuses : E → List
       are_done = so.are_done;
       are_group = so.are_group;
       read =
-          reads_front left ahead1 left1 p (lines_of (so.done ++ so.group)) so.read
+          reads_front left ahead1 left1 p (turn_lines (so.done ++ so.group)) so.read
           ([], subst (λ a. Consumes ahead1 a []) is (Consumes-nil ahead1));
       wrote = so.wrote;
       holds = append-nil held1 ∙ so.holds;
       journal = so.journal;
       stages = so.stages;
       rest = [];
-      tells = subst (TellsAll contents refuses e0 e1) (sym (append-nil (told (so.done ++ so.group)))) so.tells;
+      tells = subst (TellsAll contents refuses e0 e1) (sym (append-nil (turns_told (so.done ++ so.group)))) so.tells;
       crash = so.crash;
     }
 
@@ -178,20 +178,20 @@ module _ {E : Type 0} (contents : E → Option (List ℕ)) (refuses : E → List
           (turns_snoc objects so.between (1 + length so.done) so.group n1 t so.are_group (last_is t is))
 
       read_on : (t : Turn) → IsOneLine t.line → Consumes ahead1 ahead2 (t.line ++ 10 ∷ [])
-          → ReadSo left ahead2 (lines_of (so.done ++ (so.group ++ t ∷ [])))
+          → ReadSo left ahead2 (turn_lines (so.done ++ (so.group ++ t ∷ [])))
       read_on t one read =
-          subst (λ ts. ReadSo left ahead2 (lines_of ts)) (sym (grown t))
+          subst (λ ts. ReadSo left ahead2 (turn_lines ts)) (sym (grown t))
           (subst (ReadSo left ahead2) (lines_on (so.done ++ so.group) t)
-          (reads_line left ahead1 ahead2 (lines_of (so.done ++ so.group)) t.line so.read one read))
+          (reads_line left ahead1 ahead2 (turn_lines (so.done ++ so.group)) t.line so.read one read))
 
       tells_more : (t : Turn) → TellsAll contents refuses e1 e2 t.told
-          → TellsAll contents refuses e0 e2 (told (so.done ++ (so.group ++ t ∷ [])))
+          → TellsAll contents refuses e0 e2 (turns_told (so.done ++ (so.group ++ t ∷ [])))
       tells_more t tells =
-          subst (λ ts. TellsAll contents refuses e0 e2 (told ts)) (sym (grown t))
+          subst (λ ts. TellsAll contents refuses e0 e2 (turns_told ts)) (sym (grown t))
           (subst (TellsAll contents refuses e0 e2) (told_on (so.done ++ so.group) t)
-          (tells_on contents refuses e0 e1 e2 (told (so.done ++ so.group)) t.told so.tells tells))
+          (tells_on contents refuses e0 e1 e2 (turns_told (so.done ++ so.group)) t.told so.tells tells))
 
-      pub served_more : Takes (IsStep objects n1 number ahead1 ahead2) (TellsAll contents refuses e1 e2) (Some held1)
+      pub served_more : TakesLine (IsTurnStep objects n1 number ahead1 ahead2) (TellsAll contents refuses e1 e2) (Some held1)
           (Some held2) staged1 staged2 n2
           → ServedSo objects n (TellsAll contents refuses e0 e2) Crash left ahead2 out out1 held2 journal journal1 staged2
           n2 (number + 1)
@@ -213,7 +213,7 @@ module _ {E : Type 0} (contents : E → Option (List ℕ)) (refuses : E → List
 
       -- the input is at its end
       module _ (p : List ℕ) (left2 : Option (List ℕ)) (is : ahead2 ≡ prepend_known p left2) where
-        pub ended : Ends number (TellsAll contents refuses e1 e2) ahead1 ahead2 (Some held1) (Some held2) staged1
+        pub ended : InputEnds number (TellsAll contents refuses e1 e2) ahead1 ahead2 (Some held1) (Some held2) staged1
             staged2 n1 n2
             → CutSo objects n (TellsAll contents refuses e0 e2) Crash left left2 out out1 held2 journal journal1 staged2
             n2 []
@@ -224,7 +224,7 @@ module _ {E : Type 0} (contents : E → Option (List ℕ)) (refuses : E → List
           are_done = so.are_done;
           are_group = subst (AreTurns objects so.between (1 + length so.done) so.group) (sym s.now_is) so.are_group;
           read =
-              reads_front left ahead1 left2 p (lines_of (so.done ++ so.group)) so.read
+              reads_front left ahead1 left2 p (turn_lines (so.done ++ so.group)) so.read
               (s.rest, subst (λ a. Consumes ahead1 a s.rest) is s.read);
           wrote = so.wrote;
           holds = append-nil held2 ∙ s.out ∙ so.holds;
@@ -232,16 +232,16 @@ module _ {E : Type 0} (contents : E → Option (List ℕ)) (refuses : E → List
           stages = s.journal ∙ so.stages;
           rest = s.rest;
           tells =
-              tells_on contents refuses e0 e1 e2 (told (so.done ++ so.group))
+              tells_on contents refuses e0 e1 e2 (turns_told (so.done ++ so.group))
               (cut_told (1 + length (so.done ++ so.group)) s.rest) so.tells
               (subst (λ k. TellsAll contents refuses e1 e2 (cut_told k s.rest)) so.count s.tells);
           crash = so.crash;
         }
 
-        pub served_all : Ends number (TellsAll contents refuses e1 e2) ahead1 ahead2 (Some held1) (Some held2) staged1
+        pub served_all : InputEnds number (TellsAll contents refuses e1 e2) ahead1 ahead2 (Some held1) (Some held2) staged1
             staged2 n1 n2 → (out3 : Option (List ℕ)) (journal3 : List (List ℕ)) → Appends out1 out3 held2
             → journal3 ≡ journal1 ++ staged2 → Left (so.done ++ so.group) []
-            → Serves objects n (TellsAll contents refuses e0 e2) Left left left2 out out3 journal journal3 n2
+            → ServesLines objects n (TellsAll contents refuses e0 e2) Left left left2 out out3 journal journal3 n2
         served_all s out3 journal3 wrote behind remains = record {
           turns = so.done ++ so.group;
           rest = s.rest;
@@ -249,7 +249,7 @@ module _ {E : Type 0} (contents : E → Option (List ℕ)) (refuses : E → List
               subst (AreTurns objects n 1 (so.done ++ so.group)) (sym s.now_is)
               (turns_join objects n 1 so.done so.between so.group n1 so.are_done so.are_group);
           read =
-              reads_all left ahead1 left2 p (lines_of (so.done ++ so.group)) s.rest so.read s.one
+              reads_all left ahead1 left2 p (turn_lines (so.done ++ so.group)) s.rest so.read s.one
               (subst (λ a. Consumes ahead1 a s.rest) is s.read) (subst IsAtEnd is s.at_end);
           wrote =
               subst (Appends out out3)
@@ -258,10 +258,10 @@ module _ {E : Type 0} (contents : E → Option (List ℕ)) (refuses : E → List
               (Appends-trans out out1 out3 (written so.done) held2 so.wrote wrote);
           journal =
               behind ∙ (λ i. so.journal i ++ (s.journal ∙ so.stages) i)
-              ∙ append_assoc journal (kept so.done) (kept so.group)
+              ∙ append_assoc journal (kept_lines so.done) (kept_lines so.group)
               ∙ ap (λ k. journal ++ k) (sym (flat_map-append (λ (t : Turn). t.kept) so.done so.group));
           tells =
-              tells_on contents refuses e0 e1 e2 (told (so.done ++ so.group))
+              tells_on contents refuses e0 e1 e2 (turns_told (so.done ++ so.group))
               (cut_told (1 + length (so.done ++ so.group)) s.rest) so.tells
               (subst (λ k. TellsAll contents refuses e1 e2 (cut_told k s.rest)) so.count s.tells);
           left = remains;
@@ -279,21 +279,21 @@ module _ {E : Type 0} (contents : E → Option (List ℕ)) (refuses : E → List
           are_done = so.are_done;
           are_group = subst (AreTurns objects so.between (1 + length so.done) so.group) (sym none.now_is) so.are_group;
           read =
-              reads_front left ahead1 left2 p (lines_of (so.done ++ so.group)) so.read (subst (TakesSome ahead1) is some);
+              reads_front left ahead1 left2 p (turn_lines (so.done ++ so.group)) so.read (subst (TakesSome ahead1) is some);
           wrote = so.wrote;
           holds = append-nil held2 ∙ none.out ∙ so.holds;
           journal = so.journal;
           stages = none.journal ∙ so.stages;
           rest = [];
           tells =
-              subst (TellsAll contents refuses e0 e2) (sym (append-nil (told (so.done ++ so.group))))
-              (subst (λ e. TellsAll contents refuses e0 e (told (so.done ++ so.group))) (sym none.tells) so.tells);
+              subst (TellsAll contents refuses e0 e2) (sym (append-nil (turns_told (so.done ++ so.group))))
+              (subst (λ e. TellsAll contents refuses e0 e (turns_told (so.done ++ so.group))) (sym none.tells) so.tells);
           crash = so.crash;
         }
 
         -- or it was, but of what it comes to only a front is held back
         one_cut :
-            (t : TakesCut (IsStep objects n1 number ahead1 ahead2) (TellsAll contents refuses e1 e2) (Some held1)
+            (t : TakesCut (IsTurnStep objects n1 number ahead1 ahead2) (TellsAll contents refuses e1 e2) (Some held1)
             (Some held2) staged1 staged2 n2)
             → (more : List ℕ)
             × CutSo objects n (TellsAll contents refuses e0 e2) Crash left left2 out out1 held2 journal journal1
@@ -309,7 +309,7 @@ module _ {E : Type 0} (contents : E → Option (List ℕ)) (refuses : E → List
                 are_done = so.are_done;
                 are_group = are_on t.turn t.is.is t.now_is;
                 read =
-                    reads_front left ahead2 left2 p (lines_of (so.done ++ (so.group ++ t.turn ∷ [])))
+                    reads_front left ahead2 left2 p (turn_lines (so.done ++ (so.group ++ t.turn ∷ [])))
                     (read_on t.turn t.is.one t.is.read)
                     ([], subst (λ a. Consumes ahead2 a []) is (Consumes-nil ahead2));
                 wrote = so.wrote;
@@ -322,7 +322,7 @@ module _ {E : Type 0} (contents : E → Option (List ℕ)) (refuses : E → List
                 rest = [];
                 tells =
                     subst (TellsAll contents refuses e0 e2)
-                    (sym (append-nil (told (so.done ++ (so.group ++ t.turn ∷ []))))) (tells_more t.turn t.tells);
+                    (sym (append-nil (turns_told (so.done ++ (so.group ++ t.turn ∷ []))))) (tells_more t.turn t.tells);
                 crash = so.crash;
               },
             )
@@ -362,9 +362,9 @@ module _ {E : Type 0} (contents : E → Option (List ℕ)) (refuses : E → List
       left = remains;
     }
 
-    journal_is : journal2 ≡ journal1 ++ staged → journal2 ≡ journal ++ kept (so.done ++ so.group)
+    journal_is : journal2 ≡ journal1 ++ staged → journal2 ≡ journal ++ kept_lines (so.done ++ so.group)
     journal_is behind =
-        behind ∙ (λ i. so.journal i ++ so.stages i) ∙ append_assoc journal (kept so.done) (kept so.group)
+        behind ∙ (λ i. so.journal i ++ so.stages i) ∙ append_assoc journal (kept_lines so.done) (kept_lines so.group)
         ∙ ap (λ k. journal ++ k) (sym (flat_map-append (λ (t : Turn). t.kept) so.done so.group))
 
     pub some : (Wrote : List ℕ → Type 0) → Wrote (written (so.done ++ so.group)) → journal2 ≡ journal1 ++ staged

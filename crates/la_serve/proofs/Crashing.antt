@@ -10,7 +10,7 @@ use Rattle.la_durable.specs.CallLines.{CallLine}
 use Rattle.la_durable.specs.Nodes.{KeptState, step}
 use Rattle.la_durable.specs.Restarts.{leads_from}
 use Rattle.la_serve.specs.Turns.{Turn}
-use Rattle.la_serve.specs.Serving.{kept}
+use Rattle.la_serve.specs.Serving.{kept_lines}
 use Rattle.la_serve.specs.Crashes.{Leaves, Commits, CommitsSome}
 use Rattle.la_serve.proofs.Leading.{Led}
 
@@ -60,7 +60,7 @@ module _ {D : Type 0} (seen : D → List ℕ) (may_leave : D → List ℕ → Ty
       → LeavesOnly moment left_since mid new (LeadsToSome (leads_from start) step later next)
       → LeavesOnly moment left_since old new (LeadsToSome (leads_from start) step (taken ++ later) first))
       (n between after : KeptState) (old now new : D) (turns last : List Turn) (staged : List ℕ)
-      (so : CrashSo n between old now turns) (then : Led between after last) (is : lines staged ≡ kept last)
+      (so : CrashSo n between old now turns) (then : Led between after last) (is : lines staged ≡ kept_lines last)
       (some : CommitsSome seen moment left_since staged now new) where
     throughout : (start : KeptState) → leads_from start (seen old) ≡ Some n
         → LeavesOnly moment left_since old new (LeadsToSome (leads_from start) step (so.led.calls ++ then.calls) n)

@@ -15,7 +15,7 @@ use Rattle.la_serve.specs.declared.error.NodeFault.{NodeFault}
 use Rattle.la_serve.specs.declared.error.NodeFault.TheVariants as fault
 use Rattle.la_serve.specs.Turns.{Turn}
 use Rattle.la_serve.specs.Crashes.{Leaves, Commits, CommitsSome, Flushes, FlushesOrNot}
-use Rattle.la_serve.specs.Serving.{IsStep, Takes, Ends, IsStepRefusal, Unflushed, of_step, Serves, IsServeRefusal}
+use Rattle.la_serve.specs.Serving.{IsTurnStep, TakesLine, InputEnds, IsStepRefusal, Unflushed, of_step, ServesLines, IsServeRefusal}
 use Rattle.la_serve.proofs.Leading.{Led, turns_lead}
 use Rattle.la_serve.proofs.Crashing.{CrashSo, crash_none, crash_more, crash_some, crash_all}
 use Rattle.la_serve.proofs.Behind.{ServedSo, CutSo, Missing, served_none, flushed, stopped, served_more, ended, served_all, step_cut, unflushed, then_refused}
@@ -45,7 +45,7 @@ module _ {D E : Type 0} (seen : D → List ℕ) (may_leave : D → List ℕ → 
   module _ (ahead1 out1 : Option (List ℕ)) (held1 : List ℕ) (d1 : D) (text1 : List ℕ) (n1 : KeptState) (e1 : E)
       (number : ℕ) (so : So ahead1 out1 held1 d1 text1 n1 e1 number) where
     pub so_more : (ahead2 : Option (List ℕ)) (held2 text2 : List ℕ) (n2 : KeptState) (e2 : E)
-        → Takes (IsStep objects n1 number ahead1 ahead2) (TellsAll contents refuses e1 e2) (Some held1) (Some held2)
+        → TakesLine (IsTurnStep objects n1 number ahead1 ahead2) (TellsAll contents refuses e1 e2) (Some held1) (Some held2)
         (lines text1) (lines text2) n2 → So ahead2 out1 held2 d1 text2 n2 e2 (number + 1)
     so_more ahead2 held2 text2 n2 e2 t =
         served_more contents refuses objects n left out (lines (seen d0)) e0 (Left d1) (Crash d1) ahead1 out1 held1
@@ -145,7 +145,7 @@ module _ {D E : Type 0} (seen : D → List ℕ) (may_leave : D → List ℕ → 
       module _ (left2 ahead2 : Option (List ℕ)) (held2 text2 : List ℕ) (n2 : KeptState) (e2 : E)
           (is : ahead2 ≡ prepend_known p left2) (some : CommitsSome seen moment left_since text2 d1 d3) where
         module _
-            (s : Ends number (TellsAll contents refuses e1 e2) ahead1 ahead2 (Some held1) (Some held2) (lines text1)
+            (s : InputEnds number (TellsAll contents refuses e1 e2) ahead1 ahead2 (Some held1) (Some held2) (lines text1)
             (lines text2) n1 n2) where
           cut_at_end : CutSo objects n (TellsAll contents refuses e0 e2) (Crash d1) left left2 out out1 held2
               (lines (seen d0)) (lines (seen d1)) (lines text2) n2 []
@@ -156,7 +156,7 @@ module _ {D E : Type 0} (seen : D → List ℕ) (may_leave : D → List ℕ → 
           pub so_ends : {T : Type 0} (held3 text3 : List ℕ) (r : Result T NodeFault)
               → OnOk r (Flushes seen may_leave moment left_since out1 out3 held2 held3 text2 text3 d1 d3)
               → OnOk r
-              (Serves objects n (TellsAll contents refuses e0 e2) (Left d3) left left2 out out3 (lines (seen d0))
+              (ServesLines objects n (TellsAll contents refuses e0 e2) (Left d3) left left2 out out3 (lines (seen d0))
               (lines (seen d3)) n2)
           so_ends held3 text3 (Ok x) w =
               served_all contents refuses objects n left out (lines (seen d0)) e0 (Left d3) (Crash d1) ahead1 out1 held1

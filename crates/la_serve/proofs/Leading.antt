@@ -6,14 +6,14 @@ use Rattle.la_object.specs.Shelves.{answer_at}
 use Rattle.la_journal.specs.Machine.{steps, steps_from}
 use Rattle.la_wire.specs.declared.calls.TheConstants.{MAX_LINE}
 use Rattle.la_wire.specs.declared.error.LineFault.TheVariants.{TooLong}
-use Rattle.la_wire.specs.Calls.{Call, Submit, Decide, Ask, Tick, Receive}
-use Rattle.la_wire.specs.CallLines.{named}
+use Rattle.la_wire.specs.Calls.{WireCall, Submit, Decide, Ask, Tick, Receive}
+use Rattle.la_wire.specs.CallLines.{named_call}
 use Rattle.la_durable.specs.declared.error.NodeError.TheVariants.{Memory}
 use Rattle.la_durable.specs.Given.{Given}
 use Rattle.la_durable.specs.Nodes.{KeptState, acts_by, step}
 use Rattle.la_durable.specs.CallLines.{CallLine, is_line}
-use Rattle.la_serve.specs.Turns.{Turn, only, refused, faulty, answered, question, is_note, is_elsewhere, is_stale, OneOf, IsTaken, IsStarved, IsKeptTurn, IsTurnHere, Says, IsShortTurn, IsTurn}
-use Rattle.la_serve.specs.Serving.{AreTurns, kept}
+use Rattle.la_serve.specs.Turns.{Turn, only_writes, turn_refused, faulty, question_answered, question, is_note, is_elsewhere, is_stale, OneOf, IsCallTaken, IsStarved, IsKeptTurn, IsTurnHere, SaysCall, IsShortTurn, IsTurn}
+use Rattle.la_serve.specs.Serving.{AreTurns, kept_lines}
 
 -- a turn by which the journal gains nothing, and nothing changes
 abbrev IsStill : KeptState → Turn → Type 0
@@ -34,16 +34,16 @@ still : (n : KeptState) (t u : Turn) → t ≡ u → IsStill n u → IsStill n t
 still n t u is s = subst (IsStill n) (sym is) s
 
 answered_still : (n : KeptState) (k object : ℕ) (line : List ℕ) (o : Option Answer)
-    → IsStill n (answered n k object line o)
+    → IsStill n (question_answered n k object line o)
 answered_still n k object line None = (refl, refl)
 answered_still n k object line (Some answer) = (refl, refl)
 
 module _ (objects : List (ℕ × Kind)) (n : KeptState) (k : ℕ) (t : Turn) where
   starved_goes : IsStarved n k t → Goes n t
-  starved_goes is = inl (still n t (refused n k t.line Memory) is (refl, refl))
+  starved_goes is = inl (still n t (turn_refused n k t.line Memory) is (refl, refl))
 
-  module _ (call : Call) (stands : is_line t.line ≡ true) (says : named t.line ≡ Some call) where
-    taken_goes : IsTaken n call t → IsStep n t
+  module _ (call : WireCall) (stands : is_line t.line ≡ true) (says : named_call t.line ≡ Some call) where
+    taken_goes : IsCallTaken n call t → IsStep n t
     taken_goes taken = (
       record { line = t.line; says = stands },
       taken.journal,
@@ -53,9 +53,9 @@ module _ (objects : List (ℕ × Kind)) (n : KeptState) (k : ℕ) (t : Turn) whe
 
     kept_goes : IsKeptTurn n k call t → Goes n t
     kept_goes (inl taken) = inr (taken_goes taken)
-    kept_goes (inr not) = inl (still n t (refused n k t.line not.why) not.turn (refl, refl))
+    kept_goes (inr not) = inl (still n t (turn_refused n k t.line not.why) not.turn (refl, refl))
 
-  here_goes : (call : Call) → is_line t.line ≡ true → named t.line ≡ Some call → IsTurnHere objects n k call t
+  here_goes : (call : WireCall) → is_line t.line ≡ true → named_call t.line ≡ Some call → IsTurnHere objects n k call t
       → Goes n t
   here_goes (Submit replica object op) stands says is = kept_goes (Submit replica object op) stands says is
   here_goes (Decide replica commit value) stands says is = kept_goes (Decide replica commit value) stands says is
@@ -66,15 +66,15 @@ module _ (objects : List (ℕ × Kind)) (n : KeptState) (k : ℕ) (t : Turn) whe
   here_goes Tick stands says (inr is) = starved_goes is
   here_goes (Receive m) stands says is = kept_goes (Receive m) stands says is
 
-  says_goes : Says objects n k t → Goes n t
+  says_goes : SaysCall objects n k t → Goes n t
   says_goes s = elim (one_of (is_elsewhere n s.call || is_stale n s.call) s.turn) [
-    | inl passed ↦ inl (still n t (only n t.line []) passed (refl, refl))
+    | inl passed ↦ inl (still n t (only_writes n t.line []) passed (refl, refl))
     | inr here ↦ here_goes s.call s.stands s.says here
   ]
 
   short_goes : IsShortTurn objects n k t → Goes n t
   short_goes is = elim (one_of (is_note t.line) is) [
-    | inl note ↦ inl (still n t (only n t.line []) note (refl, refl))
+    | inl note ↦ inl (still n t (only_writes n t.line []) note (refl, refl))
     | inr (inl says) ↦ says_goes says
     | inr (inr (inl has)) ↦ inl (still n t (faulty n k t.line has.fault) has.turn (refl, refl))
     | inr (inr (inr starved)) ↦ starved_goes starved
@@ -90,7 +90,7 @@ module _ (objects : List (ℕ × Kind)) (n : KeptState) (k : ℕ) (t : Turn) whe
 -- the calls of the lines that the journal gains by these turns, and where they lead
 pub record Led (n after : KeptState) (turns : List Turn) : Type 0 where
   pub calls : List CallLine
-  pub lines : kept turns ≡ map (λ (c : CallLine). c.line) calls
+  pub lines : kept_lines turns ≡ map (λ (c : CallLine). c.line) calls
   pub led : steps step calls n ≡ Some after
 
 pub turns_lead : (objects : List (ℕ × Kind)) (n : KeptState) (k : ℕ) (turns : List Turn) (after : KeptState)
@@ -101,7 +101,7 @@ turns_lead objects n k (t ∷ turns) after are =
     elim (turn_goes objects n k t are.0) [
       | inl same ↦ record {
         calls = rest.calls;
-        lines = ap (λ (ls : List (List ℕ)). ls ++ kept turns) same.0 ∙ rest.lines;
+        lines = ap (λ (ls : List (List ℕ)). ls ++ kept_lines turns) same.0 ∙ rest.lines;
         led = ap (steps step rest.calls) (sym same.1) ∙ rest.led;
       }
       | inr next ↦ record {

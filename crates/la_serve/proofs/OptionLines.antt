@@ -20,7 +20,7 @@ use Rattle.la_cli.proofs.lemmas.Entered.{IsNoHelp, enters_well, help_never}
 use Rattle.la_cli.proofs.lemmas.GivenNumbers.{some_is, some≢none}
 use Rattle.la_cli.proofs.lemmas.Faultless.{AllOne, defaults_there, level_reads, next_none, some_kinds}
 use Rattle.la_cli.specs.Calls.{option}
-use Rattle.la_serve.specs.Options.{AreTaken, lattice_node, own, journal}
+use Rattle.la_serve.specs.Options.{AreNodeOptions, lattice_node, own, journal_option}
 
 -- the command with a version
 abbrev pub versioned : App → App
@@ -73,7 +73,7 @@ abbrev cap_rule : Rule
 cap_rule = filled (option (codes "cap") 1 1000000 (codes "1000000"))
 
 abbrev journal_rule : Rule
-journal_rule = filled journal
+journal_rule = filled journal_option
 
 no : {X : Type 0} → false ≡ true → X
 no e = absurd (true≢false (sym e))
@@ -212,7 +212,7 @@ module _ (words : List Text) (faultless : level_fault shape [] nothing_held word
       let all = none_missing shape (finished rules end) check in
       (or_first _ _ all, or_first _ _ (or_second (not (is_given (codes "own") (finished rules end))) _ all))
 
-  all_taken : AreTaken (rows_after rules [] words)
+  all_taken : AreNodeOptions (rows_after rules [] words)
   unfolding clap_on_literals end rows
   all_taken =
       let start = (settled rules end).rows in
@@ -226,19 +226,19 @@ module _ (words : List Text) (faultless : level_fault shape [] nothing_held word
       let cap = level_reads cap_rule shape [] words false [] cap_alone
       (defaults_there cap_rule (codes "1000000") [] (replicas_rule ∷ own_rule ∷ commits_rule ∷ []) (drop 4 rules) start
       refl refl) faultless in
-      let journal = level_reads journal_rule shape [] words false [] journal_alone
+      let journal_option = level_reads journal_rule shape [] words false [] journal_alone
       (given_there (codes "journal") rows (not_false _ both_given.1)) faultless in
       record {
         replicas = record { text = replicas.0; given = replicas.1; passed = replicas.2 };
         own = record { text = own.0; given = own.1; passed = own.2 };
         commits = record { text = commits.0; given = commits.1; passed = commits.2 };
         cap = record { text = cap.0; given = cap.1; passed = cap.2 };
-        journal = (_, journal.1);
+        journal = (_, journal_option.1);
       }
 
 -- what is named is a node, with all that it needs
 abbrev pub NamesNode : Option (Text × List Row) → Type 0
-NamesNode o = (rows : List Row) × (o ≡ Some (codes "node", rows)) × AreTaken rows
+NamesNode o = (rows : List Row) × (o ≡ Some (codes "node", rows)) × AreNodeOptions rows
 
 named_at : (stop : Option (Text × List Text)) → entered_fault whole stop ≡ [] → is_some (entered whole stop) ≡ true
     → IsNoHelp stop → NamesNode (entered whole stop)
@@ -268,15 +268,15 @@ faultless_node words e =
     enters.no_help
 
 some_rows : (o : Option (Text × List Row)) (rows : List Row) → option_map (λ p. p.1) o ≡ Some rows → NamesNode o
-    → (o ≡ Some (codes "node", rows)) × AreTaken rows
+    → (o ≡ Some (codes "node", rows)) × AreNodeOptions rows
 some_rows o rows is named =
     let same : named.0 ≡ rows = some_is _ _ (ap (option_map (λ p. p.1)) (sym named.1) ∙ is) in
-    (named.1 ∙ ap (λ (r : List Row). Some (codes "node", r)) same, subst AreTaken same named.2)
+    (named.1 ∙ ap (λ (r : List Row). Some (codes "node", r)) same, subst AreNodeOptions same named.2)
 
 -- the rows of the subcommand that was entered are a node's
 pub rows_are_taken : (words : List Text) (rows : List Row) → fault_of lattice_node words ≡ []
     → option_map (λ p. p.1) (subcommand_of lattice_node words) ≡ Some rows
-    → (subcommand_of lattice_node words ≡ Some (codes "node", rows)) × AreTaken rows
+    → (subcommand_of lattice_node words ≡ Some (codes "node", rows)) × AreNodeOptions rows
 rows_are_taken words rows faultless is =
     some_rows (subcommand_of lattice_node words) rows is (faultless_node words faultless)
 

@@ -15,8 +15,8 @@ use Rattle.la_durable.specs.Restarts.{leads_from}
 use Rattle.la_serve.specs.declared.error.NodeFault.{NodeFault}
 use Rattle.la_serve.specs.declared.error.NodeFault.TheVariants as fault
 use Rattle.la_serve.specs.Turns.{Turn}
-use Rattle.la_serve.specs.Serving.{Serves, ServesSome, ServesClosed, IsServeRefusal}
-use Rattle.la_serve.specs.Starting.{at_start, Runs, RunsNot, IsRunRefusal}
+use Rattle.la_serve.specs.Serving.{ServesLines, ServesSome, ServesClosed, IsServeRefusal}
+use Rattle.la_serve.specs.Starting.{at_start, Runs, RunsNot, IsServerStartRefusal}
 
 -- nothing lies in every set
 pub nothing_within : (s : Histories) → IsSubset empty s
@@ -34,8 +34,8 @@ nothing_within s u is =
 module _ (objects : List (ℕ × Kind)) (n : KeptState) (Told : List (List ℕ) → Type 0)
     (Left Left2 : (turns last : List Turn) → Type 0) (to : (turns last : List Turn) → Left turns last → Left2 turns last)
     (left1 left2 out1 out2 : Option (List ℕ)) (journal1 journal2 : List (List ℕ)) (now : KeptState) where
-  serves_to : Serves objects n Told Left left1 left2 out1 out2 journal1 journal2 now
-      → Serves objects n Told Left2 left1 left2 out1 out2 journal1 journal2 now
+  serves_to : ServesLines objects n Told Left left1 left2 out1 out2 journal1 journal2 now
+      → ServesLines objects n Told Left2 left1 left2 out1 out2 journal1 journal2 now
   serves_to s = record { turns = s.turns; rest = s.rest; are = s.are; read = s.read; wrote = s.wrote; journal = s.journal; tells = s.tells; left = to s.turns [] s.left }
 
   some_to : (Wrote : List ℕ → Type 0) → ServesSome objects n Told Left left1 left2 Wrote journal1 journal2 now
@@ -64,7 +64,7 @@ module _ (objects : List (ℕ × Kind)) (config : Config) (own : ℕ) (file file
     (LeftHere : (turns last : List Turn) → Type 0)
     (to : (turns last : List Turn) → LeftHere turns last → Left before turns last) where
   pub runs : {T : Type 0} (r : Result T NodeFault)
-      → OnOk r (Serves objects before Told LeftHere left1 left2 out1 out2 (lines file2) journal now)
+      → OnOk r (ServesLines objects before Told LeftHere left1 left2 out1 out2 (lines file2) journal now)
       → OnOk r (Runs objects config own file Told Left left1 left2 out1 out2)
   runs (Ok x) s = record {
     before = before;
@@ -72,14 +72,14 @@ module _ (objects : List (ℕ × Kind)) (config : Config) (own : ℕ) (file file
     journal = journal;
     now = now;
     serves =
-        subst (λ (ls : List (List ℕ)). Serves objects before Told (Left before) left1 left2 out1 out2 ls journal now) same
+        subst (λ (ls : List (List ℕ)). ServesLines objects before Told (Left before) left1 left2 out1 out2 ls journal now) same
         (serves_to objects before Told LeftHere (Left before) to left1 left2 out1 out2 (lines file2) journal now s);
   }
   runs (Err e) s = tt
 
   run_stops : (f : NodeFault)
       → IsServeRefusal objects before Told (Left before) left1 left2 out1 out2 (lines file) journal now f
-      → IsRunRefusal objects config own file Told Left left1 left2 out1 out2 f
+      → IsServerStartRefusal objects config own file Told Left left1 left2 out1 out2 f
   run_stops fault.ReadFault s = inr (record { before = before; plays = plays; journal = journal; now = now; stops = s })
   run_stops fault.WriteFault s = inr (record { before = before; plays = plays; journal = journal; now = now; stops = s })
   run_stops fault.Memory s = inr (record { before = before; plays = plays; journal = journal; now = now; stops = s })
@@ -90,7 +90,7 @@ module _ (objects : List (ℕ × Kind)) (config : Config) (own : ℕ) (file file
 
   pub stops : {T : Type 0} (r : Result T NodeFault)
       → IfErr r (IsServeRefusal objects before Told LeftHere left1 left2 out1 out2 (lines file2) journal now)
-      → IfErr r (IsRunRefusal objects config own file Told Left left1 left2 out1 out2)
+      → IfErr r (IsServerStartRefusal objects config own file Told Left left1 left2 out1 out2)
   stops (Ok x) s = tt
   stops (Err f) s =
       run_stops f

@@ -6,10 +6,10 @@ use Rattle.la_object.specs.declared.kind.Kind.{Kind}
 use Rattle.la_wire.specs.declared.calls.TheConstants.{MAX_LINE}
 use Rattle.la_wire.specs.declared.error.LineFault.TheVariants.{TooLong}
 use Rattle.la_durable.specs.Nodes.{KeptState}
-use Rattle.la_io.specs.Notes.{fault_line}
-use Rattle.la_io.specs.Streams.{IsOneLine, Tells, TellsAll}
+use Rattle.la_io.specs.Notes.{line_fault_line}
+use Rattle.la_io.specs.Streams.{IsOneLine, TellsLine, TellsAll}
 use Rattle.la_serve.specs.Turns.{faulty}
-use Rattle.la_serve.specs.Serving.{IsStep, Takes}
+use Rattle.la_serve.specs.Serving.{IsTurnStep, TakesLine}
 use Rattle.la_serve.proofs.Turns.{long_turn}
 
 module _ {E : Type 0} (contents : E → Option (List ℕ)) (refuses : E → List ℕ → E → Type 0) (objects : List (ℕ × Kind))
@@ -17,8 +17,8 @@ module _ {E : Type 0} (contents : E → Option (List ℕ)) (refuses : E → List
     (read : Consumes left1 left2 (line ++ 10 ∷ [])) where
   -- a line that is too long
   pub long_step : (out : Option (List ℕ)) (journal : List (List ℕ)) → MAX_LINE < length line
-      → Tells contents refuses e1 e2 (fault_line k TooLong)
-      → Takes (IsStep objects n k left1 left2) (TellsAll contents refuses e1 e2) out out journal journal n
+      → TellsLine contents refuses e1 e2 (line_fault_line k TooLong)
+      → TakesLine (IsTurnStep objects n k left1 left2) (TellsAll contents refuses e1 e2) out out journal journal n
   long_step out journal lt t = record {
     turn = faulty n k line TooLong;
     is = record { is = long_turn objects n k line lt; one = one; read = read };

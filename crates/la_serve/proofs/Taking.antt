@@ -5,25 +5,25 @@ use Rattle.la_cli.specs.Streams.{AppendsPrefix}
 use Rattle.la_durable.specs.Nodes.{KeptState}
 use Rattle.la_serve.specs.declared.error.NodeFault.{NodeFault}
 use Rattle.la_serve.specs.declared.error.NodeFault.TheVariants as fault
-use Rattle.la_serve.specs.Turns.{Turn, only}
-use Rattle.la_serve.specs.Serving.{Of, Takes, TakesCut, Breaks, TellsNothing}
+use Rattle.la_serve.specs.Turns.{Turn, only_writes}
+use Rattle.la_serve.specs.Serving.{Of, TakesLine, TakesCut, Breaks, TellsNoLine}
 
 -- ## Nothing changes but what is written
 
 module _ (Is : Turn → Type 0) (n : KeptState) (line text : List ℕ) (out1 out2 : Option (List ℕ))
-    (journal : List (List ℕ)) (is : Is (only n line text)) where
-  pub takes_only : Appends out1 out2 text → Takes (Of line Is) TellsNothing out1 out2 journal journal n
-  takes_only w = record { turn = only n line text; is = (refl, is); now_is = refl; wrote = w; journal = sym (append-nil journal); tells = refl }
+    (journal : List (List ℕ)) (is : Is (only_writes n line text)) where
+  pub takes_only : Appends out1 out2 text → TakesLine (Of line Is) TellsNoLine out1 out2 journal journal n
+  takes_only w = record { turn = only_writes n line text; is = (refl, is); now_is = refl; wrote = w; journal = sym (append-nil journal); tells = refl }
 
-  pub cut_only : AppendsPrefix out1 out2 text → TakesCut (Of line Is) TellsNothing out1 out2 journal journal n
-  cut_only w = record { turn = only n line text; is = (refl, is); now_is = refl; wrote = w; journal = sym (append-nil journal); tells = refl }
+  pub cut_only : AppendsPrefix out1 out2 text → TakesCut (Of line Is) TellsNoLine out1 out2 journal journal n
+  cut_only w = record { turn = only_writes n line text; is = (refl, is); now_is = refl; wrote = w; journal = sym (append-nil journal); tells = refl }
 
 -- ## The same of more
 
 module _ {Is More : Turn → Type 0} {Told ToldMore : List (List ℕ) → Type 0} (out1 out2 : Option (List ℕ))
     (journal1 journal2 : List (List ℕ)) (n : KeptState)
     (is_more : (t : Turn) → Is t → More t) (told_more : (told : List (List ℕ)) → Told told → ToldMore told) where
-  pub takes_more : Takes Is Told out1 out2 journal1 journal2 n → Takes More ToldMore out1 out2 journal1 journal2 n
+  pub takes_more : TakesLine Is Told out1 out2 journal1 journal2 n → TakesLine More ToldMore out1 out2 journal1 journal2 n
   takes_more t = record { turn = t.turn; is = is_more t.turn t.is; now_is = t.now_is; wrote = t.wrote; journal = t.journal; tells = told_more t.turn.told t.tells }
 
   pub cut_more : TakesCut Is Told out1 out2 journal1 journal2 n → TakesCut More ToldMore out1 out2 journal1 journal2 n
@@ -39,8 +39,8 @@ module _ {Is More : Turn → Type 0} {Told ToldMore : List (List ℕ) → Type 0
   breaks_more fault.BadJournal b = b
   breaks_more fault.DiskFault b = b
 
-  pub on_ok_more : {T E : Type 0} (r : Result T E) → OnOk r (Takes Is Told out1 out2 journal1 journal2 n)
-      → OnOk r (Takes More ToldMore out1 out2 journal1 journal2 n)
+  pub on_ok_more : {T E : Type 0} (r : Result T E) → OnOk r (TakesLine Is Told out1 out2 journal1 journal2 n)
+      → OnOk r (TakesLine More ToldMore out1 out2 journal1 journal2 n)
   on_ok_more (Ok x) t = takes_more t
   on_ok_more (Err e) t = tt
 

@@ -10,8 +10,8 @@ use Rattle.la_wire.specs.declared.calls.TheConstants.{MAX_LINE}
 use Rattle.la_wire.specs.declared.error.LineFault.{LineFault}
 use Rattle.la_wire.specs.declared.error.LineFault.TheVariants.{TooLong}
 use Rattle.la_wire.specs.declared.error.LineError.TheVariants.{Fault}
-use Rattle.la_wire.specs.Calls.{Call}
-use Rattle.la_wire.specs.CallLines.{named}
+use Rattle.la_wire.specs.Calls.{WireCall}
+use Rattle.la_wire.specs.CallLines.{named_call}
 use Rattle.la_durable.specs.declared.error.NodeError.{NodeError}
 use Rattle.la_durable.specs.declared.error.NodeError.TheVariants.{Memory}
 use Rattle.la_durable.specs.Given.{Given}
@@ -21,8 +21,8 @@ use Rattle.la_durable.specs.Inputs.{IsInputRefusal}
 use Rattle.la_io.specs.Notes.{refused_note}
 use Rattle.la_durable.specs.CallLines.{is_line}
 use Rattle.la_serve.specs.Names.{refusal_name}
-use Rattle.la_serve.specs.Turns.{Turn, only, refused, faulty, call_text, own_of, is_note, OneOf, Says, HasFault, IsStarved, IsTurnHere, IsCallTurn, IsShortTurn, IsTurn, IsKeptTurn, is_elsewhere, is_stale}
-use Rattle.la_serve.specs.Serving.{Of, Takes, TakesCut, TellsNothing}
+use Rattle.la_serve.specs.Turns.{Turn, only_writes, turn_refused, faulty, call_text, own_of, is_note, OneOf, SaysCall, HasFault, IsStarved, IsTurnHere, IsCallTurn, IsShortTurn, IsTurn, IsKeptTurn, is_elsewhere, is_stale}
+use Rattle.la_serve.specs.Serving.{Of, TakesLine, TakesCut, TellsNoLine}
 
 short : (line : List ℕ) → length line ≤ MAX_LINE → nat_lt MAX_LINE (length line) ≡ false
 short line le = grind (arith, nat_tests)
@@ -44,27 +44,27 @@ module _ (objects : List (ℕ × Kind)) (n : KeptState) (k : ℕ) where
       OneOf b (faulty n k line TooLong ≡ faulty n k line TooLong) (IsShortTurn objects n k (faulty n k line TooLong)))
       (sym (long line lt)) refl
 
-  pub note_turn : (line : List ℕ) → length line ≤ MAX_LINE → is_note line ≡ true → IsTurn objects n k (only n line [])
+  pub note_turn : (line : List ℕ) → length line ≤ MAX_LINE → is_note line ≡ true → IsTurn objects n k (only_writes n line [])
   note_turn line le is =
-      short_turn (only n line []) le
+      short_turn (only_writes n line []) le
       (subst
       (λ b.
-      OneOf b (only n line [] ≡ only n line [])
-      (Says objects n k (only n line []) ⊎ (HasFault n k (only n line []) ⊎ IsStarved n k (only n line []))))
+      OneOf b (only_writes n line [] ≡ only_writes n line [])
+      (SaysCall objects n k (only_writes n line []) ⊎ (HasFault n k (only_writes n line []) ⊎ IsStarved n k (only_writes n line []))))
       (sym is) refl)
 
   other_turn : (t : Turn) → length t.line ≤ MAX_LINE → is_note t.line ≡ false
-      → (Says objects n k t ⊎ (HasFault n k t ⊎ IsStarved n k t)) → IsTurn objects n k t
+      → (SaysCall objects n k t ⊎ (HasFault n k t ⊎ IsStarved n k t)) → IsTurn objects n k t
   other_turn t le is s =
       short_turn t le
-      (subst (λ b. OneOf b (t ≡ only n t.line []) (Says objects n k t ⊎ (HasFault n k t ⊎ IsStarved n k t))) (sym is) s)
+      (subst (λ b. OneOf b (t ≡ only_writes n t.line []) (SaysCall objects n k t ⊎ (HasFault n k t ⊎ IsStarved n k t))) (sym is) s)
 
-  pub call_turn : (line : List ℕ) (call : Call) → length line ≤ MAX_LINE → is_note line ≡ false → named line ≡ Some call
+  pub call_turn : (line : List ℕ) (call : WireCall) → length line ≤ MAX_LINE → is_note line ≡ false → named_call line ≡ Some call
       → is_line line ≡ true → (t : Turn) → Of line (IsCallTurn objects n k call) t → Of line (IsTurn objects n k) t
   call_turn line call le is says stands t (same, turn) = (
     same,
     other_turn t (subst (λ l. length l ≤ MAX_LINE) (sym same) le) (ap is_note same ∙ is)
-        (inl (record { call = call; says = ap named same ∙ says; stands = ap is_line same ∙ stands; turn = turn })),
+        (inl (record { call = call; says = ap named_call same ∙ says; stands = ap is_line same ∙ stands; turn = turn })),
   )
 
   pub fault_turn : (line : List ℕ) (f : LineFault) → length line ≤ MAX_LINE → is_note line ≡ false
@@ -72,19 +72,19 @@ module _ (objects : List (ℕ × Kind)) (n : KeptState) (k : ℕ) where
   fault_turn line f le is refusal = other_turn (faulty n k line f) le is (inr (inl (record { fault = f; is = refusal; turn = refl })))
 
   pub starved_turn : (line : List ℕ) → length line ≤ MAX_LINE → is_note line ≡ false
-      → IsTurn objects n k (refused n k line Memory)
-  starved_turn line le is = other_turn (refused n k line Memory) le is (inr (inr refl))
+      → IsTurn objects n k (turn_refused n k line Memory)
+  starved_turn line le is = other_turn (turn_refused n k line Memory) le is (inr (inr refl))
 
   -- a call that is passed over
-  pub passed_turn : (line : List ℕ) (call : Call) (b : Bool) → b ≡ true → is_elsewhere n call || is_stale n call ≡ b
-      → IsCallTurn objects n k call (only n line [])
+  pub passed_turn : (line : List ℕ) (call : WireCall) (b : Bool) → b ≡ true → is_elsewhere n call || is_stale n call ≡ b
+      → IsCallTurn objects n k call (only_writes n line [])
   passed_turn line call b so is =
-      subst (λ b. OneOf b (only n line [] ≡ only n line []) (IsTurnHere objects n k call (only n line [])))
+      subst (λ b. OneOf b (only_writes n line [] ≡ only_writes n line []) (IsTurnHere objects n k call (only_writes n line [])))
       (sym (is ∙ so)) refl
 
 -- ## A call that is kept
 
-module _ (n after : KeptState) (k : ℕ) (call : Call) (line : List ℕ) (out1 out2 : Option (List ℕ))
+module _ (n after : KeptState) (k : ℕ) (call : WireCall) (line : List ℕ) (out1 out2 : Option (List ℕ))
     (journal1 journal2 : List (List ℕ)) where
   module _ (given : Given) (acted : acts n call ≡ Some (given, after)) (journal : journal2 ≡ journal1 ++ line ∷ [])
     where
@@ -95,32 +95,32 @@ module _ (n after : KeptState) (k : ℕ) (call : Call) (line : List ℕ) (out1 o
       is_kept = inl (record { given = given; acted = acted; written = refl; journal = refl; silent = refl })
 
       pub take_taken : (text : List ℕ) → text ≡ call_text (length (updates n.replica.view)) after call given
-          → Appends out1 out2 text → Takes (Of line (IsKeptTurn n k call)) TellsNothing out1 out2 journal1 journal2 after
+          → Appends out1 out2 text → TakesLine (Of line (IsKeptTurn n k call)) TellsNoLine out1 out2 journal1 journal2 after
       take_taken text is w = record { turn = turn_of; is = (refl, is_kept); now_is = refl; wrote = subst (Appends out1 out2) is w; journal = journal; tells = refl }
 
       pub take_cut : (text : List ℕ) → text ≡ call_text (length (updates n.replica.view)) after call given
           → AppendsPrefix out1 out2 text
-          → TakesCut (Of line (IsKeptTurn n k call)) TellsNothing out1 out2 journal1 journal2 after
+          → TakesCut (Of line (IsKeptTurn n k call)) TellsNoLine out1 out2 journal1 journal2 after
       take_cut text is w = record { turn = turn_of; is = (refl, is_kept); now_is = refl; wrote = subst (AppendsPrefix out1 out2) is w; journal = journal; tells = refl }
 
       pub take_unwritten : out2 ≡ out1
-          → TakesCut (Of line (IsKeptTurn n k call)) TellsNothing out1 out2 journal1 journal2 after
+          → TakesCut (Of line (IsKeptTurn n k call)) TellsNoLine out1 out2 journal1 journal2 after
       take_unwritten same = record { turn = turn_of; is = (refl, is_kept); now_is = refl; wrote = (0, subst (λ o. Appends out1 o []) (sym same) (Appends-nil out1)); journal = journal; tells = refl }
 
   module _ (why : NodeError) (cause : IsForMemory why ⊎ (acts n call ≡ None)) (same : after ≡ n)
       (still : journal2 ≡ journal1) where
-    is_refused : IsKeptTurn n k call (refused n k line why)
+    is_refused : IsKeptTurn n k call (turn_refused n k line why)
     is_refused = inr (record { why = why; cause = cause; turn = refl })
 
     pub take_refused : Appends out1 out2 (refused_note (own_of n) k (refusal_name why))
-        → Takes (Of line (IsKeptTurn n k call)) TellsNothing out1 out2 journal1 journal2 after
-    take_refused w = record { turn = refused n k line why; is = (refl, is_refused); now_is = sym same; wrote = w; journal = still ∙ sym (append-nil journal1); tells = refl }
+        → TakesLine (Of line (IsKeptTurn n k call)) TellsNoLine out1 out2 journal1 journal2 after
+    take_refused w = record { turn = turn_refused n k line why; is = (refl, is_refused); now_is = sym same; wrote = w; journal = still ∙ sym (append-nil journal1); tells = refl }
 
     pub refused_cut : AppendsPrefix out1 out2 (refused_note (own_of n) k (refusal_name why))
-        → TakesCut (Of line (IsKeptTurn n k call)) TellsNothing out1 out2 journal1 journal2 after
-    refused_cut w = record { turn = refused n k line why; is = (refl, is_refused); now_is = sym same; wrote = w; journal = still ∙ sym (append-nil journal1); tells = refl }
+        → TakesCut (Of line (IsKeptTurn n k call)) TellsNoLine out1 out2 journal1 journal2 after
+    refused_cut w = record { turn = turn_refused n k line why; is = (refl, is_refused); now_is = sym same; wrote = w; journal = still ∙ sym (append-nil journal1); tells = refl }
 
-pub same_text : (text : List ℕ) (before b : ℕ) (after : KeptState) (call call2 : Call) (given : Given)
+pub same_text : (text : List ℕ) (before b : ℕ) (after : KeptState) (call call2 : WireCall) (given : Given)
     → text ≡ call_text before after call given → before ≡ b → call ≡ call2 → text ≡ call_text b after call2 given
 same_text text before b after call call2 given e p q =
     e ∙ ap (λ x. call_text x after call given) p ∙ ap (λ y. call_text b after y given) q

@@ -9,12 +9,12 @@ use Rattle.la_durable.specs.CallLines.{CallLine}
 use Rattle.la_durable.specs.Nodes.{KeptState, step}
 use Rattle.la_durable.specs.Restarts.{leads_from}
 use Rattle.la_serve.specs.Turns.{Turn}
-use Rattle.la_serve.specs.Serving.{kept}
+use Rattle.la_serve.specs.Serving.{kept_lines}
 use Rattle.la_serve.specs.declared.options.Options.{Options}
 use Rattle.la_serve.specs.Starting.{at_start}
 
-abbrev pub texts : List CallLine → List (List ℕ)
-texts calls = map (λ (c : CallLine). c.line) calls
+abbrev pub crash_texts : List CallLine → List (List ℕ)
+crash_texts calls = map (λ (c : CallLine). c.line) calls
 
 -- The journal led to a state, from which these turns were taken: what the first ones came to was written, and of the
 -- last ones nothing. A crash at any moment of that leaves one that leads to where the first some of the lines
@@ -22,9 +22,9 @@ texts calls = map (λ (c : CallLine). c.line) calls
 pub record Leaves {D : Type 0} (seen : D → List ℕ) (may_leave : D → List ℕ → Type 0) (moment : D → ℕ)
     (left_since : D → ℕ → List ℕ → Type 0) (n : KeptState) (old new : D) (turns last : List Turn) : Type 0 where
   pub calls : List CallLine
-  pub lines : kept turns ≡ texts calls
+  pub lines : kept_lines turns ≡ crash_texts calls
   pub later : List CallLine
-  pub last_lines : kept last ≡ texts later
+  pub last_lines : kept_lines last ≡ crash_texts later
   pub between : KeptState
   pub led : steps step calls n ≡ Some between
   pub any_moment : (start : KeptState) → leads_from start (seen old) ≡ Some n
@@ -57,14 +57,14 @@ pub record Commits {D : Type 0} (seen : D → List ℕ) (may_leave : D → List 
   pub settled : IsSettled seen may_leave new
   pub lines : lines_in (seen new) ≡ lines_in (seen old) ++ lines_in staged
   pub leads : (start before : KeptState) (calls : List CallLine) → leads_from start (seen old) ≡ Some before
-      → lines_in staged ≡ texts calls → leads_from start (seen new) ≡ steps step calls before
+      → lines_in staged ≡ crash_texts calls → leads_from start (seen new) ≡ steps step calls before
 
 -- or, whatever happens, the first some of them are there
 abbrev pub CommitsSome : {D : Type 0} (seen : D → List ℕ) (moment : D → ℕ) (left_since : D → ℕ → List ℕ → Type 0)
     (staged : List ℕ) (old new : D) → Type 0
 CommitsSome seen moment left_since staged old new =
     (start before : KeptState) (calls : List CallLine) → leads_from start (seen old) ≡ Some before
-    → lines_in staged ≡ texts calls
+    → lines_in staged ≡ crash_texts calls
     → LeavesOnly moment left_since old new (LeadsToSome (leads_from start) step calls before)
 
 -- all that was held back was written, once all that was staged was on the disk

@@ -5,12 +5,12 @@ use Rattle.la_object.specs.declared.kind.Kind.TheVariants.{Counter, MaxRegister,
 use Rattle.la_object.specs.declared.state.State.{State}
 use Rattle.la_object.specs.Objects.{start}
 use Rattle.la_world.specs.declared.config.Config.{Config}
-use Rattle.la_io.specs.Streams.{Tells, TellsAll}
+use Rattle.la_io.specs.Streams.{TellsLine, TellsAll}
 use Rattle.la_serve.specs.declared.error.NodeFault.{NodeFault}
 use Rattle.la_serve.specs.declared.error.NodeFault.TheVariants as fault
 use Rattle.la_durable.specs.Nodes.{KeptState}
 use Rattle.la_serve.specs.Turns.{Turn}
-use Rattle.la_serve.specs.Starting.{Runs, IsRunRefusal}
+use Rattle.la_serve.specs.Starting.{Runs, IsServerStartRefusal}
 
 -- the objects on a node's shelf
 abbrev pub node_objects : List (ℕ × Kind)
@@ -22,14 +22,14 @@ AreAtStart state counter register set =
     (state counter ≡ start Counter) × (state register ≡ start MaxRegister) × (state set ≡ start OrSet)
 
 -- the exit status after a fault
-abbrev pub status_of : NodeFault → ℕ
-status_of fault.Memory = 3
-status_of fault.ReadFault = 4
-status_of fault.WriteFault = 4
-status_of fault.BadConfig = 4
-status_of fault.NoJournal = 5
-status_of fault.BadJournal = 5
-status_of fault.DiskFault = 5
+abbrev pub node_status : NodeFault → ℕ
+node_status fault.Memory = 3
+node_status fault.ReadFault = 4
+node_status fault.WriteFault = 4
+node_status fault.BadConfig = 4
+node_status fault.NoJournal = 5
+node_status fault.BadJournal = 5
+node_status fault.DiskFault = 5
 
 abbrev pub end_name : NodeFault → List ℕ
 end_name fault.ReadFault = codes "ReadFault"
@@ -45,7 +45,7 @@ abbrev pub end_line : NodeFault → List ℕ
 end_line f = end_name f ++ 10 ∷ []
 
 -- it took all lines of its input
-pub record EndsWell {E : Type 0} (contents : E → Option (List ℕ)) (refuses : E → List ℕ → E → Type 0)
+pub record ServerEndsWell {E : Type 0} (contents : E → Option (List ℕ)) (refuses : E → List ℕ → E → Type 0)
     (Left : KeptState → (turns last : List Turn) → Type 0) (config : Config) (own : ℕ) (file : List ℕ)
     (left_before left_after out_before out_after : Option (List ℕ)) (told_before told_after : E) (status : ℕ) : Type 0
   where
@@ -59,17 +59,17 @@ pub record EndsBadly {E : Type 0} (contents : E → Option (List ℕ)) (refuses 
     (left_before left_after out_before out_after : Option (List ℕ)) (told_before told_after : E) (status : ℕ) : Type 0
   where
     pub why : NodeFault
-    pub is : status ≡ status_of why
+    pub is : status ≡ node_status why
     pub between : E
-    pub stops : IsRunRefusal node_objects config own file (TellsAll contents refuses told_before between) Left left_before
+    pub stops : IsServerStartRefusal node_objects config own file (TellsAll contents refuses told_before between) Left left_before
         left_after out_before out_after why
-    pub told : Tells contents refuses between told_after (end_line why)
+    pub told : TellsLine contents refuses between told_after (end_line why)
 
-abbrev pub Ends : {E : Type 0} (contents : E → Option (List ℕ)) (refuses : E → List ℕ → E → Type 0)
+abbrev pub ServerEnds : {E : Type 0} (contents : E → Option (List ℕ)) (refuses : E → List ℕ → E → Type 0)
     (Left : KeptState → (turns last : List Turn) → Type 0) (config : Config) (own : ℕ) (file : List ℕ)
     (left_before left_after out_before out_after : Option (List ℕ)) (told_before told_after : E) (status : ℕ) → Type 0
-Ends contents refuses Left config own file left_before left_after out_before out_after told_before told_after status =
-    EndsWell contents refuses Left config own file left_before left_after out_before out_after told_before told_after
+ServerEnds contents refuses Left config own file left_before left_after out_before out_after told_before told_after status =
+    ServerEndsWell contents refuses Left config own file left_before left_after out_before out_after told_before told_after
     status
     ⊎ EndsBadly contents refuses Left config own file left_before left_after out_before out_after told_before told_after
     status

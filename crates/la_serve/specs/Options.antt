@@ -4,7 +4,7 @@ use Rattle.std.specs.Str.Parse.{IsNumeral, without_leading_plus, digits_value}
 use Rattle.clap.specs.Words.{App, Row, Rule, Text, new_app, new_rule, with_rule, with_subcommand}
 use Rattle.clap.specs.Words.{fault_of, first_of, many_of, one_of, subcommand_of}
 use Rattle.clap.specs.declared.builder.value_parser.ValueParser.TheVariants.{Signed}
-use Rattle.la_cli.specs.Calls.{IsGiven, IsTaken, lattice_alone, option}
+use Rattle.la_cli.specs.Calls.{IsGiven, IsNumberTaken, lattice_alone, option}
 use Rattle.la_proposer.specs.Majority.{IsGroup, votes_of}
 use Rattle.la_proposer.specs.declared.votes.Votes.{Votes}
 use Rattle.la_serve.specs.declared.options.Options.{Options}
@@ -12,8 +12,8 @@ use Rattle.la_serve.specs.declared.options.Options.{Options}
 -- ## The command line
 
 -- an option `--NAME N`, with a number from `least` to `most`
-abbrev pub number : (name : Text) → (least most : ℕ) → Rule
-number name least most = record (new_rule name) {
+abbrev pub number_option : (name : Text) → (least most : ℕ) → Rule
+number_option name least most = record (new_rule name) {
   long = Some name;
   value_names = 1;
   parser = Some (Signed (pos least) (pos most));
@@ -21,17 +21,17 @@ number name least most = record (new_rule name) {
 
 -- which replica it is, which must be said
 abbrev pub own : Rule
-own = record (number (codes "own") 0 7) { required = true }
+own = record (number_option (codes "own") 0 7) { required = true }
 
 -- 1 to 8 numbers in one use
-abbrev pub votes : Rule
-votes = record (number (codes "votes") 1 1000) {
+abbrev pub votes_option : Rule
+votes_option = record (number_option (codes "votes") 1 1000) {
   range = Some (record { start_inclusive = 1; end_inclusive = 8 });
 }
 
 -- the folder, which must be said
-abbrev pub journal : Rule
-journal = record (new_rule (codes "journal")) {
+abbrev pub journal_option : Rule
+journal_option = record (new_rule (codes "journal")) {
   long = Some (codes "journal");
   value_names = 1;
   required = true;
@@ -55,8 +55,8 @@ node = with_rule
     own)
     (option (codes "commits") 0 16 (codes "0")))
     (option (codes "cap") 1 1000000 (codes "1000000")))
-    votes)
-    journal
+    votes_option)
+    journal_option
 
 -- the program `lattice`, of whose subcommands this is the one that is read here
 abbrev pub lattice_node : App
@@ -65,11 +65,11 @@ lattice_node = with_subcommand lattice_alone node.top
 -- ## What it says
 
 -- a text in its range stands for each number, and there is one for the folder
-pub record AreTaken (rows : List Row) : Type 0 where
-  pub replicas : IsTaken rows (codes "replicas") 1 8
-  pub own : IsTaken rows (codes "own") 0 7
-  pub commits : IsTaken rows (codes "commits") 0 16
-  pub cap : IsTaken rows (codes "cap") 1 1000000
+pub record AreNodeOptions (rows : List Row) : Type 0 where
+  pub replicas : IsNumberTaken rows (codes "replicas") 1 8
+  pub own : IsNumberTaken rows (codes "own") 0 7
+  pub commits : IsNumberTaken rows (codes "commits") 0 16
+  pub cap : IsNumberTaken rows (codes "cap") 1 1000000
   pub journal : (folder : Text) × (one_of (codes "journal") rows ≡ Some folder)
 
 -- the text is this number
@@ -86,21 +86,21 @@ AreNumbers (t ∷ ts) (n ∷ ns) = IsNumber t n × AreNumbers ts ns
 
 -- the votes that were given, which are those of a group; one for each replica, where none were
 abbrev pub AreVotes : (given : Option (List Text)) → (replicas : ℕ) → List ℕ → Type 0
-AreVotes None replicas votes = votes ≡ replicate replicas 1
-AreVotes (Some texts) replicas votes = AreNumbers texts votes × IsGroup votes
+AreVotes None replicas votes_option = votes_option ≡ replicate replicas 1
+AreVotes (Some texts) replicas votes_option = AreNumbers texts votes_option × IsGroup votes_option
 
 -- votes were given that are those of no group
 abbrev pub AreNoVotes : (given : Option (List Text)) → Type 0
 AreNoVotes None = ⊥
-AreNoVotes (Some texts) = (votes : List ℕ) → AreNumbers texts votes → IsGroup votes → ⊥
+AreNoVotes (Some texts) = (votes_option : List ℕ) → AreNumbers texts votes_option → IsGroup votes_option → ⊥
 
 -- these are those votes, or there are none, and those that were given are those of no group
 abbrev pub IsVotes : (given : Option (List Text)) → (replicas : ℕ) → Option Votes → Type 0
 IsVotes given replicas None = AreNoVotes given
-IsVotes given replicas (Some votes) = AreVotes given replicas (votes_of votes)
+IsVotes given replicas (Some votes_option) = AreVotes given replicas (votes_of votes_option)
 
 -- the numbers are in their ranges
-pub record AreInRange (replicas own commits cap : ℕ) : Type 0 where
+pub record AreNodeNumbers (replicas own commits cap : ℕ) : Type 0 where
   pub some_replicas : 1 ≤ replicas
   pub few_replicas : replicas ≤ 8
   pub few_own : own ≤ 7
@@ -114,18 +114,18 @@ pub record AreOptions (rows : List Row) (options : Options) : Type 0 where
   pub own_given : IsGiven rows (codes "own") options.own
   pub commits_given : IsGiven rows (codes "commits") options.config.commits
   pub cap_given : IsGiven rows (codes "cap") options.config.cap
-  pub in_range : AreInRange options.config.replicas options.own options.config.commits options.config.cap
+  pub in_range : AreNodeNumbers options.config.replicas options.own options.config.commits options.config.cap
   pub votes_given : AreVotes (many_of (codes "votes") rows) options.config.replicas (votes_of options.config.votes)
   pub folder_given : first_of (codes "journal") rows ≡ Some (string_bytes options.folder)
 
 -- the same, or there are none, and the votes are those of no group
-abbrev pub Says : (rows : List Row) → Option Options → Type 0
-Says rows None = AreNoVotes (many_of (codes "votes") rows)
-Says rows (Some options) = AreOptions rows options
+abbrev pub SaysOptions : (rows : List Row) → Option Options → Type 0
+SaysOptions rows None = AreNoVotes (many_of (codes "votes") rows)
+SaysOptions rows (Some options) = AreOptions rows options
 
 -- nothing is wrong with the words, and they name a node, of which they say this
 pub record IsSaid (words : List Text) (said : Option Options) : Type 0 where
   pub faultless : fault_of lattice_node words ≡ []
   pub rows : List Row
   pub named : subcommand_of lattice_node words ≡ Some (codes "node", rows)
-  pub says : Says rows said
+  pub says : SaysOptions rows said

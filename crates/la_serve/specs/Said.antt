@@ -10,7 +10,7 @@ use Rattle.la_replica.specs.Whole.{whole_mail}
 use Rattle.la_replica.specs.Again.{again}
 use Rattle.la_replica.specs.Bases.{AreToldIn}
 use Rattle.la_durable.specs.Nodes.{KeptState}
-use Rattle.la_io.specs.Notes.{answered_note, refused_note, mail_text}
+use Rattle.la_io.specs.Notes.{answered_note, refused_note, letters_text}
 use Rattle.la_serve.specs.declared.said.Said.{Said}
 use Rattle.la_serve.specs.declared.said.Said.TheVariants as said
 
@@ -35,6 +35,6 @@ answer_by objects n object query = answer_at (record { view = n.replica.view; ob
 abbrev pub IsSaidAgain : KeptState → Said → Type 0
 IsSaidAgain n (said.Lines text) =
     (mail : List code.Message) × (whole_mail mail ≡ again n.replica)
-    × ((offered : Counts) → AreToldIn n.replica offered mail) × (text.items ≡ mail_text n.replicas mail)
+    × ((offered : Counts) → AreToldIn n.replica offered mail) × (text.items ≡ letters_text n.replicas mail)
 IsSaidAgain n said.NoSuchObject = ⊥
 IsSaidAgain n said.Memory = ⊤

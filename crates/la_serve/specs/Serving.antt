@@ -6,8 +6,8 @@ use Rattle.la_cli.specs.Streams.{AppendsPrefix}
 use Rattle.la_object.specs.declared.kind.Kind.{Kind}
 use Rattle.la_durable.specs.Nodes.{KeptState}
 use Rattle.la_wire.specs.declared.error.LineFault.TheVariants.{BadLine}
-use Rattle.la_io.specs.Notes.{fault_line}
-use Rattle.la_io.specs.Streams.{IsOneLine, TakesSome, ReadsFront, ReadsAll}
+use Rattle.la_io.specs.Notes.{line_fault_line}
+use Rattle.la_io.specs.Streams.{IsOneLine, TakesSome, ReadsFront, ReadsLines}
 use Rattle.la_serve.specs.declared.error.NodeFault.{NodeFault}
 use Rattle.la_serve.specs.declared.error.NodeFault.TheVariants as fault
 use Rattle.la_serve.specs.Turns.{Turn, IsTurn}
@@ -17,20 +17,20 @@ abbrev pub AreTurns : List (ℕ × Kind) → KeptState → (k : ℕ) → List Tu
 AreTurns objects n k [] after = after ≡ n
 AreTurns objects n k (t ∷ turns) after = IsTurn objects n k t × AreTurns objects t.after (k + 1) turns after
 
-abbrev pub lines_of : List Turn → List (List ℕ)
-lines_of turns = map (λ (t : Turn). t.line) turns
+abbrev pub turn_lines : List Turn → List (List ℕ)
+turn_lines turns = map (λ (t : Turn). t.line) turns
 
 -- all that is written
 abbrev pub written : List Turn → List ℕ
 written turns = flat_map (λ (t : Turn). t.text) turns
 
 -- the lines that the journal gains
-abbrev pub kept : List Turn → List (List ℕ)
-kept turns = flat_map (λ (t : Turn). t.kept) turns
+abbrev pub kept_lines : List Turn → List (List ℕ)
+kept_lines turns = flat_map (λ (t : Turn). t.kept) turns
 
 -- what is told
-abbrev pub told : List Turn → List (List ℕ)
-told turns = flat_map (λ (t : Turn). t.told) turns
+abbrev pub turns_told : List Turn → List (List ℕ)
+turns_told turns = flat_map (λ (t : Turn). t.told) turns
 
 -- ## One of them
 
@@ -39,7 +39,7 @@ abbrev pub Of : (line : List ℕ) → (Turn → Type 0) → Turn → Type 0
 Of line Is t = (t.line ≡ line) × Is t
 
 -- a line was taken: all that it comes to was written, and is in the journal
-pub record Takes (Is : Turn → Type 0) (Told : List (List ℕ) → Type 0) (out_before out_after : Option (List ℕ))
+pub record TakesLine (Is : Turn → Type 0) (Told : List (List ℕ) → Type 0) (out_before out_after : Option (List ℕ))
     (journal_before journal_after : List (List ℕ)) (now : KeptState) : Type 0 where
   pub turn : Turn
   pub is : Is turn
@@ -75,11 +75,11 @@ Breaks Is Told out_before out_after journal_before journal_after now fault.Memor
     TakesCut Is Told out_before out_after journal_before journal_after now
 Breaks Is Told out_before out_after journal_before journal_after now _ = ⊥
 
-abbrev pub TellsNothing : List (List ℕ) → Type 0
-TellsNothing told = told ≡ []
+abbrev pub TellsNoLine : List (List ℕ) → Type 0
+TellsNoLine turns_told = turns_told ≡ []
 
 -- a turn, and what was read of its line
-pub record IsStep (objects : List (ℕ × Kind)) (n : KeptState) (k : ℕ) (left_before left_after : Option (List ℕ))
+pub record IsTurnStep (objects : List (ℕ × Kind)) (n : KeptState) (k : ℕ) (left_before left_after : Option (List ℕ))
     (t : Turn) : Type 0 where
   pub is : IsTurn objects n k t
   pub one : IsOneLine t.line
@@ -88,10 +88,10 @@ pub record IsStep (objects : List (ℕ × Kind)) (n : KeptState) (k : ℕ) (left
 -- what is told of bytes behind the last line's end, where there are some
 abbrev pub cut_told : (k : ℕ) → (rest : List ℕ) → List (List ℕ)
 cut_told k [] = []
-cut_told k (b ∷ rest) = fault_line k BadLine ∷ []
+cut_told k (b ∷ rest) = line_fault_line k BadLine ∷ []
 
 -- the input is at its end, perhaps behind bytes that no line's end follows, and nothing has changed
-pub record Ends (k : ℕ) (Told : List (List ℕ) → Type 0) (left_before left_after out_before out_after : Option (List ℕ))
+pub record InputEnds (k : ℕ) (Told : List (List ℕ) → Type 0) (left_before left_after out_before out_after : Option (List ℕ))
     (journal_before journal_after : List (List ℕ)) (before now : KeptState) : Type 0 where
   pub rest : List ℕ
   pub one : IsOneLine rest
@@ -103,13 +103,13 @@ pub record Ends (k : ℕ) (Told : List (List ℕ) → Type 0) (left_before left_
   pub tells : Told (cut_told k rest)
 
 -- a turn was taken, or there was none
-abbrev pub Steps : (objects : List (ℕ × Kind)) (n : KeptState) (k : ℕ) (Told : List (List ℕ) → Type 0)
+abbrev pub TurnSteps : (objects : List (ℕ × Kind)) (n : KeptState) (k : ℕ) (Told : List (List ℕ) → Type 0)
     (left_before left_after : Option (List ℕ)) (out_before out_after : Option (List ℕ))
     (journal_before journal_after : List (List ℕ)) (now : KeptState) → (more : Bool) → Type 0
-Steps objects n k Told left_before left_after out_before out_after journal_before journal_after now true =
-    Takes (IsStep objects n k left_before left_after) Told out_before out_after journal_before journal_after now
-Steps objects n k Told left_before left_after out_before out_after journal_before journal_after now false =
-    Ends k Told left_before left_after out_before out_after journal_before journal_after n now
+TurnSteps objects n k Told left_before left_after out_before out_after journal_before journal_after now true =
+    TakesLine (IsTurnStep objects n k left_before left_after) Told out_before out_after journal_before journal_after now
+TurnSteps objects n k Told left_before left_after out_before out_after journal_before journal_after now false =
+    InputEnds k Told left_before left_after out_before out_after journal_before journal_after n now
 
 -- some of a line was read; it was not taken, or of what it comes to only a front was written
 abbrev pub IsStepRefusal : (objects : List (ℕ × Kind)) (n : KeptState) (k : ℕ) (Told : List (List ℕ) → Type 0)
@@ -120,11 +120,11 @@ IsStepRefusal objects n k Told left_before left_after out_before out_after journ
     TakesSome left_before left_after × TakesNone Told out_before out_after journal_before journal_after n now
 IsStepRefusal objects n k Told left_before left_after out_before out_after journal_before journal_after now
     fault.WriteFault =
-    TakesCut (IsStep objects n k left_before left_after) Told out_before out_after journal_before journal_after now
+    TakesCut (IsTurnStep objects n k left_before left_after) Told out_before out_after journal_before journal_after now
 IsStepRefusal objects n k Told left_before left_after out_before out_after journal_before journal_after now fault.Memory
     =
     (TakesSome left_before left_after × TakesNone Told out_before out_after journal_before journal_after n now)
-    ⊎ TakesCut (IsStep objects n k left_before left_after) Told out_before out_after journal_before journal_after now
+    ⊎ TakesCut (IsTurnStep objects n k left_before left_after) Told out_before out_after journal_before journal_after now
 IsStepRefusal objects n k Told left_before left_after out_before out_after journal_before journal_after now _ = ⊥
 
 -- what was held back was not written: where a write failed the second holds, and else the first
@@ -147,17 +147,17 @@ of_step fault.DiskFault = fault.DiskFault
 -- ## All of them
 
 -- all lines of an input were taken
-pub record Serves (objects : List (ℕ × Kind)) (n : KeptState) (Told : List (List ℕ) → Type 0)
+pub record ServesLines (objects : List (ℕ × Kind)) (n : KeptState) (Told : List (List ℕ) → Type 0)
     (Left : (turns last : List Turn) → Type 0) (left_before left_after out_before out_after : Option (List ℕ))
     (journal_before journal_after : List (List ℕ)) (now : KeptState) : Type 0 where
   pub turns : List Turn
   -- what is behind the last line's end
   pub rest : List ℕ
   pub are : AreTurns objects n 1 turns now
-  pub read : ReadsAll left_before left_after (lines_of turns) rest
+  pub read : ReadsLines left_before left_after (turn_lines turns) rest
   pub wrote : Appends out_before out_after (written turns)
-  pub journal : journal_after ≡ journal_before ++ kept turns
-  pub tells : Told (told turns ++ cut_told (1 + length turns) rest)
+  pub journal : journal_after ≡ journal_before ++ kept_lines turns
+  pub tells : Told (turns_told turns ++ cut_told (1 + length turns) rest)
   -- what a crash leaves
   pub left : Left turns []
 
@@ -167,12 +167,12 @@ pub record ServesSome (objects : List (ℕ × Kind)) (n : KeptState) (Told : Lis
     (journal_before journal_after : List (List ℕ)) (now : KeptState) : Type 0 where
   pub turns : List Turn
   pub are : AreTurns objects n 1 turns now
-  pub read : ReadsFront left_before left_after (lines_of turns)
+  pub read : ReadsFront left_before left_after (turn_lines turns)
   pub wrote : Wrote (written turns)
-  pub journal : journal_after ≡ journal_before ++ kept turns
+  pub journal : journal_after ≡ journal_before ++ kept_lines turns
   -- what is behind them, where the input is at its end
   pub rest : List ℕ
-  pub tells : Told (told turns ++ cut_told (1 + length turns) rest)
+  pub tells : Told (turns_told turns ++ cut_told (1 + length turns) rest)
   pub left : Left turns []
 
 -- some were, but of the last ones nothing was written, and the journal may lack them
@@ -183,10 +183,10 @@ pub record ServesClosed (objects : List (ℕ × Kind)) (n : KeptState) (Told : L
     pub last : List Turn
     pub after : KeptState
     pub are : AreTurns objects n 1 (turns ++ last) after
-    pub read : ReadsFront left_before left_after (lines_of (turns ++ last))
+    pub read : ReadsFront left_before left_after (turn_lines (turns ++ last))
     pub wrote : Appends out_before out_after (written turns)
     pub rest : List ℕ
-    pub tells : Told (told (turns ++ last) ++ cut_told (1 + length (turns ++ last)) rest)
+    pub tells : Told (turns_told (turns ++ last) ++ cut_told (1 + length (turns ++ last)) rest)
     pub left : Left turns last
 
 -- Where a read failed all of these was written, and where a write did, or there was no memory, a front of it; but where

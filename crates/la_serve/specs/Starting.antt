@@ -6,16 +6,16 @@ use Rattle.la_journal.specs.Journal.{IsDamaged}
 use Rattle.la_world.specs.declared.config.Config.{Config}
 use Rattle.la_world.specs.declared.error.WorldError.TheVariants as world
 use Rattle.la_world.specs.Nodes.{node_at_start, IsStartRefusal}
-use Rattle.la_durable.specs.Nodes.{KeptState, no_objects}
+use Rattle.la_durable.specs.Nodes.{KeptState, empty_shelf}
 use Rattle.la_durable.specs.Restarts.{kept_state, leads_from}
 use Rattle.la_serve.specs.declared.error.NodeFault.{NodeFault}
 use Rattle.la_serve.specs.declared.error.NodeFault.TheVariants as fault
 use Rattle.la_serve.specs.Turns.{Turn}
-use Rattle.la_serve.specs.Serving.{Serves, IsServeRefusal}
+use Rattle.la_serve.specs.Serving.{ServesLines, IsServeRefusal}
 
 -- what a new node keeps
 abbrev pub at_start : Config → (own : ℕ) → KeptState
-at_start config own = kept_state config.replicas (node_at_start config own no_objects)
+at_start config own = kept_state config.replicas (node_at_start config own empty_shelf)
 
 -- where the journal leads the lines of an input were taken, all of them
 pub record Runs (objects : List (ℕ × Kind)) (config : Config) (own : ℕ) (file : List ℕ) (Told : List (List ℕ) → Type 0)
@@ -25,7 +25,7 @@ pub record Runs (objects : List (ℕ × Kind)) (config : Config) (own : ℕ) (fi
   pub plays : leads_from (at_start config own) file ≡ Some before
   pub journal : List (List ℕ)
   pub now : KeptState
-  pub serves : Serves objects before Told (Left before) left_before left_after out_before out_after (lines file) journal
+  pub serves : ServesLines objects before Told (Left before) left_before left_after out_before out_after (lines file) journal
       now
 
 -- or some of them
@@ -50,14 +50,14 @@ pub record RunsNot (Told : List (List ℕ) → Type 0) (left_before left_after o
 abbrev pub IsUnplayable : Config → (own : ℕ) → (file : List ℕ) → Type 0
 IsUnplayable config own file = (leads_from (at_start config own) file ≡ None) ⊎ IsDamaged file
 
-abbrev pub IsRunRefusal : (objects : List (ℕ × Kind)) (config : Config) (own : ℕ) (file : List ℕ)
+abbrev pub IsServerStartRefusal : (objects : List (ℕ × Kind)) (config : Config) (own : ℕ) (file : List ℕ)
     (Told : List (List ℕ) → Type 0) (Left : KeptState → (turns last : List Turn) → Type 0)
     (left_before left_after out_before out_after : Option (List ℕ)) → NodeFault → Type 0
-IsRunRefusal objects config own file Told Left left_before left_after out_before out_after fault.BadConfig =
+IsServerStartRefusal objects config own file Told Left left_before left_after out_before out_after fault.BadConfig =
     RunsNot Told left_before left_after out_before out_after
-    × (IsStartRefusal config own no_objects world.BadConfig ⊎ IsStartRefusal config own no_objects world.NoSuchReplica)
-IsRunRefusal objects config own file Told Left left_before left_after out_before out_after fault.BadJournal =
+    × (IsStartRefusal config own empty_shelf world.BadConfig ⊎ IsStartRefusal config own empty_shelf world.NoSuchReplica)
+IsServerStartRefusal objects config own file Told Left left_before left_after out_before out_after fault.BadJournal =
     RunsNot Told left_before left_after out_before out_after × IsUnplayable config own file
-IsRunRefusal objects config own file Told Left left_before left_after out_before out_after f =
+IsServerStartRefusal objects config own file Told Left left_before left_after out_before out_after f =
     RunsNot Told left_before left_after out_before out_after
     ⊎ RunsCut objects config own file Told Left left_before left_after out_before out_after f

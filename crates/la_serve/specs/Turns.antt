@@ -20,9 +20,9 @@ use Rattle.la_wire.specs.declared.calls.TheConstants.{MAX_LINE}
 use Rattle.la_wire.specs.declared.error.LineFault.{LineFault}
 use Rattle.la_wire.specs.declared.error.LineFault.TheVariants.{TooLong}
 use Rattle.la_wire.specs.declared.error.LineError.TheVariants.{Fault}
-use Rattle.la_wire.specs.Messages.{Body, Offer, Yes, No, Tell}
-use Rattle.la_wire.specs.Calls.{Call, Submit, Decide, Ask, Tick, Receive}
-use Rattle.la_wire.specs.CallLines.{named}
+use Rattle.la_wire.specs.Messages.{WireBody, Offer, Yes, No, Tell}
+use Rattle.la_wire.specs.Calls.{WireCall, Submit, Decide, Ask, Tick, Receive}
+use Rattle.la_wire.specs.CallLines.{named_call}
 use Rattle.la_durable.specs.declared.error.NodeError.{NodeError}
 use Rattle.la_durable.specs.declared.error.NodeError.TheVariants.{Memory}
 use Rattle.la_durable.specs.CallLines.{is_line}
@@ -33,7 +33,7 @@ use Rattle.la_durable.specs.Inputs.{IsInputRefusal}
 use Rattle.la_serve.specs.declared.keeping.Kept.{Kept}
 use Rattle.la_serve.specs.declared.keeping.Kept.TheVariants as kept
 use Rattle.la_serve.specs.Names.{refusal_name}
-use Rattle.la_io.specs.Notes.{submitted_note, proposed_note, learnt_note, view_note, outcome_note, answered_note, refused_note, fault_line, mail_text}
+use Rattle.la_io.specs.Notes.{submitted_note, proposed_note, learnt_note, view_note, outcome_note, answered_note, refused_note, line_fault_line, letters_text}
 
 abbrev pub own_of : KeptState → ℕ
 own_of n = n.replica.own
@@ -45,7 +45,7 @@ submitted_text own None = []
 submitted_text own (Some number) = submitted_note own number
 
 -- a submission and a proposal are answered
-abbrev pub taken_text : (after : ReplicaState) → Call → List ℕ
+abbrev pub taken_text : (after : ReplicaState) → WireCall → List ℕ
 taken_text after (Submit replica object op) = submitted_text after.own (submitted_in after 0)
 taken_text after (Decide replica commit value) = proposed_note after.own commit
 taken_text after (Ask replica object query) = []
@@ -53,9 +53,9 @@ taken_text after Tick = []
 taken_text after (Receive m) = []
 
 -- what was learnt by a message of an instance and a ballot
-abbrev pub learnt_text : (own instance ballot : ℕ) → Option Histories → List ℕ
-learnt_text own instance ballot None = []
-learnt_text own instance ballot (Some learnt) = learnt_note own instance ballot (counts_of learnt)
+abbrev pub learnt_line : (own instance ballot : ℕ) → Option Histories → List ℕ
+learnt_line own instance ballot None = []
+learnt_line own instance ballot (Some learnt) = learnt_note own instance ballot (counts_of learnt)
 
 -- the view, where it has more updates than before
 abbrev pub growth_text : (own before : ℕ) → (view : Histories) → List ℕ
@@ -67,9 +67,9 @@ return_text own instance None = []
 return_text own instance (Some o) = outcome_note own (commit_of (instance - 1)) o
 
 -- and what else a message came to: before it the view had so many updates
-abbrev pub receipt_text : (before : ℕ) → (after : ReplicaState) → Call → Given → List ℕ
+abbrev pub receipt_text : (before : ℕ) → (after : ReplicaState) → WireCall → Given → List ℕ
 receipt_text before after (Receive m) given =
-    learnt_text after.own m.instance m.ballot (learnt_in given.said) ++
+    learnt_line after.own m.instance m.ballot (learnt_in given.said) ++
     growth_text after.own before after.view ++
     return_text after.own m.instance given.outcome
 receipt_text before after (Submit replica object op) given = []
@@ -78,9 +78,9 @@ receipt_text before after (Ask replica object query) given = []
 receipt_text before after Tick given = []
 
 -- first the notes, then the messages, in order
-abbrev pub call_text : (before : ℕ) → (after : KeptState) → Call → Given → List ℕ
+abbrev pub call_text : (before : ℕ) → (after : KeptState) → WireCall → Given → List ℕ
 call_text before after call given =
-    taken_text after.replica call ++ receipt_text before after.replica call given ++ mail_text after.replicas given.mail
+    taken_text after.replica call ++ receipt_text before after.replica call given ++ letters_text after.replicas given.mail
 
 -- ## Lines that are passed over
 
@@ -90,7 +90,7 @@ is_note [] = true
 is_note (b ∷ bytes) = b == 35
 
 -- a call for another node
-abbrev pub is_elsewhere : KeptState → Call → Bool
+abbrev pub is_elsewhere : KeptState → WireCall → Bool
 is_elsewhere n (Submit replica object op) = not (replica == own_of n)
 is_elsewhere n (Decide replica commit value) = not (replica == own_of n)
 is_elsewhere n (Ask replica object query) = not (replica == own_of n)
@@ -113,19 +113,19 @@ pub record Turn : Type 0 where
   pub after : KeptState
 
 -- only this is written, and nothing changes
-abbrev pub only : KeptState → (line text : List ℕ) → Turn
-only n line text = record { line = line; text = text; kept = []; told = []; after = n }
+abbrev pub only_writes : KeptState → (line text : List ℕ) → Turn
+only_writes n line text = record { line = line; text = text; kept = []; told = []; after = n }
 
 -- line k was refused for this
-abbrev pub refused : KeptState → (k : ℕ) → (line : List ℕ) → NodeError → Turn
-refused n k line e = only n line (refused_note (own_of n) k (refusal_name e))
+abbrev pub turn_refused : KeptState → (k : ℕ) → (line : List ℕ) → NodeError → Turn
+turn_refused n k line e = only_writes n line (refused_note (own_of n) k (refusal_name e))
 
 -- line k has this fault: it is told, and nothing is written
 abbrev pub faulty : KeptState → (k : ℕ) → (line : List ℕ) → LineFault → Turn
-faulty n k line fault = record { line = line; text = []; kept = []; told = fault_line k fault ∷ []; after = n }
+faulty n k line fault = record { line = line; text = []; kept = []; told = line_fault_line k fault ∷ []; after = n }
 
 -- what became of a call that is to be kept: its line is in the journal, or nothing has changed
-abbrev pub IsOutcome : (n after : KeptState) (call : Call) (line : List ℕ)
+abbrev pub IsOutcome : (n after : KeptState) (call : WireCall) (line : List ℕ)
     (journal_before journal_after : List (List ℕ)) → Kept → Type 0
 IsOutcome n after call line journal_before journal_after (kept.Taken given) =
     (acts n call ≡ Some (given_of given, after)) × (journal_after ≡ journal_before ++ line ∷ [])
@@ -133,7 +133,7 @@ IsOutcome n after call line journal_before journal_after (kept.Refused why) =
     (IsForMemory why ⊎ (acts n call ≡ None)) × (after ≡ n) × (journal_after ≡ journal_before)
 
 -- a call was taken: its line is in the journal
-pub record IsTaken (n : KeptState) (call : Call) (t : Turn) : Type 0 where
+pub record IsCallTaken (n : KeptState) (call : WireCall) (t : Turn) : Type 0 where
   pub given : Given
   pub acted : acts n call ≡ Some (given, t.after)
   pub written : t.text ≡ call_text (length (updates n.replica.view)) t.after call given
@@ -141,62 +141,62 @@ pub record IsTaken (n : KeptState) (call : Call) (t : Turn) : Type 0 where
   pub silent : t.told ≡ []
 
 -- or it was refused, and then nothing has changed: where there is memory, exactly where the node has no step
-pub record IsRefused (n : KeptState) (k : ℕ) (call : Call) (t : Turn) : Type 0 where
+pub record IsRefused (n : KeptState) (k : ℕ) (call : WireCall) (t : Turn) : Type 0 where
   pub why : NodeError
   pub cause : IsForMemory why ⊎ (acts n call ≡ None)
-  pub turn : t ≡ refused n k t.line why
+  pub turn : t ≡ turn_refused n k t.line why
 
 -- nothing changed for want of memory
 abbrev pub IsStarved : KeptState → (k : ℕ) → Turn → Type 0
-IsStarved n k t = t ≡ refused n k t.line Memory
+IsStarved n k t = t ≡ turn_refused n k t.line Memory
 
 -- a question is answered by the view; where there is no such object, this is said
-abbrev pub answered : KeptState → (k object : ℕ) → (line : List ℕ) → Option Answer → Turn
-answered n k object line None = only n line (refused_note (own_of n) k (codes "NoSuchObject"))
-answered n k object line (Some answer) = only n line (answered_note (own_of n) object answer)
+abbrev pub question_answered : KeptState → (k object : ℕ) → (line : List ℕ) → Option Answer → Turn
+question_answered n k object line None = only_writes n line (refused_note (own_of n) k (codes "NoSuchObject"))
+question_answered n k object line (Some answer) = only_writes n line (answered_note (own_of n) object answer)
 
 -- by the kinds of the objects on the shelf
 abbrev pub question : List (ℕ × Kind) → KeptState → (k object : ℕ) → Query → (line : List ℕ) → Turn
 question objects n k object query line =
-    answered n k object line (answer_at (record { view = n.replica.view; objects = objects }) object query)
+    question_answered n k object line (answer_at (record { view = n.replica.view; objects = objects }) object query)
 
 -- what waits for an answer is sent once more
 pub record IsSentAgain (n : KeptState) (t : Turn) : Type 0 where
   pub mail : List code.Message
   pub whole : whole_mail mail ≡ again n.replica
   pub over : (offered : Counts) → AreToldIn n.replica offered mail
-  pub turn : t ≡ only n t.line (mail_text n.replicas mail)
+  pub turn : t ≡ only_writes n t.line (letters_text n.replicas mail)
 
-abbrev pub IsAnswered : List (ℕ × Kind) → KeptState → (k object : ℕ) → Query → Turn → Type 0
-IsAnswered objects n k object query t = (t ≡ question objects n k object query t.line) ⊎ IsStarved n k t
+abbrev pub IsAnsweredTurn : List (ℕ × Kind) → KeptState → (k object : ℕ) → Query → Turn → Type 0
+IsAnsweredTurn objects n k object query t = (t ≡ question objects n k object query t.line) ⊎ IsStarved n k t
 
 abbrev pub IsTicked : KeptState → (k : ℕ) → Turn → Type 0
 IsTicked n k t = IsSentAgain n t ⊎ IsStarved n k t
 
-abbrev pub IsKeptTurn : KeptState → (k : ℕ) → Call → Turn → Type 0
-IsKeptTurn n k call t = IsTaken n call t ⊎ IsRefused n k call t
+abbrev pub IsKeptTurn : KeptState → (k : ℕ) → WireCall → Turn → Type 0
+IsKeptTurn n k call t = IsCallTaken n call t ⊎ IsRefused n k call t
 
-abbrev pub IsTurnHere : List (ℕ × Kind) → KeptState → (k : ℕ) → Call → Turn → Type 0
+abbrev pub IsTurnHere : List (ℕ × Kind) → KeptState → (k : ℕ) → WireCall → Turn → Type 0
 IsTurnHere objects n k (Submit replica object op) t = IsKeptTurn n k (Submit replica object op) t
 IsTurnHere objects n k (Decide replica commit value) t = IsKeptTurn n k (Decide replica commit value) t
-IsTurnHere objects n k (Ask replica object query) t = IsAnswered objects n k object query t
+IsTurnHere objects n k (Ask replica object query) t = IsAnsweredTurn objects n k object query t
 IsTurnHere objects n k Tick t = IsTicked n k t
 IsTurnHere objects n k (Receive m) t = IsKeptTurn n k (Receive m) t
 
 -- a set that was learnt is told, and the view has all of it
-abbrev pub is_known : (view : Histories) → Body → Bool
-is_known view (Tell told) = is_subset told view
-is_known view (Offer base more) = false
-is_known view Yes = false
-is_known view (No base more) = false
+abbrev pub is_told_known : (view : Histories) → WireBody → Bool
+is_told_known view (Tell told) = is_subset told view
+is_told_known view (Offer base more) = false
+is_told_known view Yes = false
+is_told_known view (No base more) = false
 
 -- a message that brings no news: it would change nothing, and nothing would be sent for it
-abbrev pub is_stale : KeptState → Call → Bool
+abbrev pub is_stale : KeptState → WireCall → Bool
 is_stale n (Submit replica object op) = false
 is_stale n (Decide replica commit value) = false
 is_stale n (Ask replica object query) = false
 is_stale n Tick = false
-is_stale n (Receive m) = (m.instance == 0) && is_known n.replica.view m.body
+is_stale n (Receive m) = (m.instance == 0) && is_told_known n.replica.view m.body
 
 -- one of two
 abbrev pub OneOf : Bool → (A B : Type 0) → Type 0
@@ -204,14 +204,14 @@ OneOf true A B = A
 OneOf false A B = B
 
 -- a call that is for another node, or brings no news, is passed over
-abbrev pub IsCallTurn : List (ℕ × Kind) → KeptState → (k : ℕ) → Call → Turn → Type 0
+abbrev pub IsCallTurn : List (ℕ × Kind) → KeptState → (k : ℕ) → WireCall → Turn → Type 0
 IsCallTurn objects n k call t =
-    OneOf (is_elsewhere n call || is_stale n call) (t ≡ only n t.line []) (IsTurnHere objects n k call t)
+    OneOf (is_elsewhere n call || is_stale n call) (t ≡ only_writes n t.line []) (IsTurnHere objects n k call t)
 
 -- a line that says a call, and that a journal may have
-pub record Says (objects : List (ℕ × Kind)) (n : KeptState) (k : ℕ) (t : Turn) : Type 0 where
-  pub call : Call
-  pub says : named t.line ≡ Some call
+pub record SaysCall (objects : List (ℕ × Kind)) (n : KeptState) (k : ℕ) (t : Turn) : Type 0 where
+  pub call : WireCall
+  pub says : named_call t.line ≡ Some call
   pub stands : is_line t.line ≡ true
   pub turn : IsCallTurn objects n k call t
 
@@ -224,7 +224,7 @@ pub record HasFault (n : KeptState) (k : ℕ) (t : Turn) : Type 0 where
 -- a line that is not too long
 abbrev pub IsShortTurn : List (ℕ × Kind) → KeptState → (k : ℕ) → Turn → Type 0
 IsShortTurn objects n k t =
-    OneOf (is_note t.line) (t ≡ only n t.line []) (Says objects n k t ⊎ (HasFault n k t ⊎ IsStarved n k t))
+    OneOf (is_note t.line) (t ≡ only_writes n t.line []) (SaysCall objects n k t ⊎ (HasFault n k t ⊎ IsStarved n k t))
 
 -- what line k comes to, where the node keeps this before it
 unfoldable pub IsTurn : List (ℕ × Kind) → KeptState → (k : ℕ) → Turn → Type 0

@@ -6,16 +6,16 @@ ghost use Rattle.la_journal.specs.Lines.{lines};
 ghost use Rattle.la_wire.specs.declared.calls.TheConstants.{MAX_LINE};
 ghost use Rattle.la_wire.specs.Calls.{called};
 ghost use Rattle.la_wire.specs.Messages.{said_body};
-ghost use Rattle.la_wire.specs.CallLines.{named};
+ghost use Rattle.la_wire.specs.CallLines.{named_call};
 ghost use Rattle.la_serve.specs.declared.error.NodeFault.TheVariants.{WriteFault};
-ghost use Rattle.la_io.specs.Notes.{refused_note, fault_line};
-ghost use Rattle.la_io.specs.Streams.{Tells, TellsAll};
+ghost use Rattle.la_io.specs.Notes.{refused_note, line_fault_line};
+ghost use Rattle.la_io.specs.Streams.{TellsLine, TellsAll};
 ghost use Rattle.la_durable.specs.Restarts.{kept_state};
 ghost use Rattle.la_set.specs.Inclusion.{IsSubset};
-ghost use Rattle.la_serve.specs.Turns.{Turn, is_note, is_elsewhere, IsKeptTurn, IsAnswered, IsTicked, IsCallTurn, IsTurnHere, IsTurn, is_stale, is_known};
+ghost use Rattle.la_serve.specs.Turns.{Turn, is_note, is_elsewhere, IsKeptTurn, IsAnsweredTurn, IsTicked, IsCallTurn, IsTurnHere, IsTurn, is_stale, is_told_known};
 ghost use Rattle.la_object.specs.Shelves.{answer_at};
 ghost use Rattle.la_serve.specs.Said.{said_text, IsSaidAnswer, answer_by, IsSaidAgain};
-ghost use Rattle.la_serve.specs.Serving.{Of, Takes, TakesCut, Breaks, TellsNothing};
+ghost use Rattle.la_serve.specs.Serving.{Of, TakesLine, TakesCut, Breaks, TellsNoLine};
 
 use crate::keeping::{Kept, keep};
 use crate::names::refusal_name;
@@ -71,7 +71,7 @@ fn is_stale(machine: &NodeMachine, call: &Call) -> bool
 
 // Whether a view has all of a set that is told.
 fn is_known(view: &UpdateSet, body: &Body) -> bool
-    ensures { result ≡ is_known view.now (said_body body.now) }
+    ensures { result ≡ is_told_known view.now (said_body body.now) }
 {
     match body {
         Body::Tell(told) => view.contains_all(told),
@@ -88,9 +88,9 @@ fn take<W: Write, D: Disk>(
     output: &mut W,
 ) -> Result<(), NodeFault>
     requires unclosed { node.old.durable.closed ≡ false }
-    ensures ok { OnOk result (Takes (Of input.now.line (IsKeptTurn (kept_state node.old.durable.machine.replicas node.old.durable.machine.node) number (called input.now.call))) TellsNothing (W.contents output.old) (W.contents output.new)
+    ensures ok { OnOk result (TakesLine (Of input.now.line (IsKeptTurn (kept_state node.old.durable.machine.replicas node.old.durable.machine.node) number (called input.now.call))) TellsNoLine (W.contents output.old) (W.contents output.new)
         (lines node.old.text.items) (lines node.new.text.items) (kept_state node.new.durable.machine.replicas node.new.durable.machine.node)) }
-    ensures err { IfErr result (Breaks (Of input.now.line (IsKeptTurn (kept_state node.old.durable.machine.replicas node.old.durable.machine.node) number (called input.now.call))) TellsNothing (W.contents output.old) (W.contents output.new)
+    ensures err { IfErr result (Breaks (Of input.now.line (IsKeptTurn (kept_state node.old.durable.machine.replicas node.old.durable.machine.node) number (called input.now.call))) TellsNoLine (W.contents output.old) (W.contents output.new)
         (lines node.old.text.items) (lines node.new.text.items) (kept_state node.new.durable.machine.replicas node.new.durable.machine.node)) }
     ensures disk { node.new.durable.disk ≡ node.old.durable.disk }
     ensures unclosed { node.new.durable.closed ≡ false }
@@ -206,12 +206,12 @@ fn ask<W: Write, B: Replicated>(
 ) -> Result<(), NodeFault>
     requires { IsSubset shelf.old.view machine.now.node.replica.view }
     ensures ok { (line : List ℕ) (journal : List (List ℕ)) → OnOk result
-        (Takes (Of line (IsAnswered shelf.old.objects (kept_state machine.now.replicas machine.now.node) number object query.now))
-        TellsNothing (W.contents output.old) (W.contents output.new) journal journal
+        (TakesLine (Of line (IsAnsweredTurn shelf.old.objects (kept_state machine.now.replicas machine.now.node) number object query.now))
+        TellsNoLine (W.contents output.old) (W.contents output.new) journal journal
         (kept_state machine.now.replicas machine.now.node)) }
     ensures err { (line : List ℕ) (journal : List (List ℕ)) → IfErr result
-        (Breaks (Of line (IsAnswered shelf.old.objects (kept_state machine.now.replicas machine.now.node) number object query.now))
-        TellsNothing (W.contents output.old) (W.contents output.new) journal journal
+        (Breaks (Of line (IsAnsweredTurn shelf.old.objects (kept_state machine.now.replicas machine.now.node) number object query.now))
+        TellsNoLine (W.contents output.old) (W.contents output.new) journal journal
         (kept_state machine.now.replicas machine.now.node)) }
     ensures objects { shelf.new.objects ≡ shelf.old.objects }
     ensures within { IsSubset shelf.new.view machine.now.node.replica.view }
@@ -229,12 +229,12 @@ fn tick<W: Write>(
     output: &mut W,
 ) -> Result<(), NodeFault>
     ensures ok { (line : List ℕ) (journal : List (List ℕ)) → OnOk result
-        (Takes (Of line (IsTicked (kept_state machine.now.replicas machine.now.node) number))
-        TellsNothing (W.contents output.old) (W.contents output.new) journal journal
+        (TakesLine (Of line (IsTicked (kept_state machine.now.replicas machine.now.node) number))
+        TellsNoLine (W.contents output.old) (W.contents output.new) journal journal
         (kept_state machine.now.replicas machine.now.node)) }
     ensures err { (line : List ℕ) (journal : List (List ℕ)) → IfErr result
         (Breaks (Of line (IsTicked (kept_state machine.now.replicas machine.now.node) number))
-        TellsNothing (W.contents output.old) (W.contents output.new) journal journal
+        TellsNoLine (W.contents output.old) (W.contents output.new) journal journal
         (kept_state machine.now.replicas machine.now.node)) }
 {
     let said = said_again(alloc, machine);
@@ -252,9 +252,9 @@ fn call_here<W: Write, D: Disk, B: Replicated>(
 ) -> Result<(), NodeFault>
     requires unclosed { filter.old.node.durable.closed ≡ false }
     requires within { IsSubset filter.old.shelf.view filter.old.node.durable.machine.node.replica.view }
-    ensures ok { OnOk result (Takes (Of input.now.line (IsTurnHere filter.old.shelf.objects (kept_state filter.old.node.durable.machine.replicas filter.old.node.durable.machine.node) number (called input.now.call))) TellsNothing (W.contents output.old) (W.contents output.new)
+    ensures ok { OnOk result (TakesLine (Of input.now.line (IsTurnHere filter.old.shelf.objects (kept_state filter.old.node.durable.machine.replicas filter.old.node.durable.machine.node) number (called input.now.call))) TellsNoLine (W.contents output.old) (W.contents output.new)
         (lines filter.old.node.text.items) (lines filter.new.node.text.items) (kept_state filter.new.node.durable.machine.replicas filter.new.node.durable.machine.node)) }
-    ensures err { IfErr result (Breaks (Of input.now.line (IsTurnHere filter.old.shelf.objects (kept_state filter.old.node.durable.machine.replicas filter.old.node.durable.machine.node) number (called input.now.call))) TellsNothing (W.contents output.old) (W.contents output.new)
+    ensures err { IfErr result (Breaks (Of input.now.line (IsTurnHere filter.old.shelf.objects (kept_state filter.old.node.durable.machine.replicas filter.old.node.durable.machine.node) number (called input.now.call))) TellsNoLine (W.contents output.old) (W.contents output.new)
         (lines filter.old.node.text.items) (lines filter.new.node.text.items) (kept_state filter.new.node.durable.machine.replicas filter.new.node.durable.machine.node)) }
     ensures disk { filter.new.node.durable.disk ≡ filter.old.node.durable.disk }
     ensures unclosed { filter.new.node.durable.closed ≡ false }
@@ -284,9 +284,9 @@ fn call<W: Write, D: Disk, B: Replicated>(
 ) -> Result<(), NodeFault>
     requires unclosed { filter.old.node.durable.closed ≡ false }
     requires within { IsSubset filter.old.shelf.view filter.old.node.durable.machine.node.replica.view }
-    ensures ok { OnOk result (Takes (Of input.now.line (IsCallTurn filter.old.shelf.objects (kept_state filter.old.node.durable.machine.replicas filter.old.node.durable.machine.node) number (called input.now.call))) TellsNothing (W.contents output.old) (W.contents output.new)
+    ensures ok { OnOk result (TakesLine (Of input.now.line (IsCallTurn filter.old.shelf.objects (kept_state filter.old.node.durable.machine.replicas filter.old.node.durable.machine.node) number (called input.now.call))) TellsNoLine (W.contents output.old) (W.contents output.new)
         (lines filter.old.node.text.items) (lines filter.new.node.text.items) (kept_state filter.new.node.durable.machine.replicas filter.new.node.durable.machine.node)) }
-    ensures err { IfErr result (Breaks (Of input.now.line (IsCallTurn filter.old.shelf.objects (kept_state filter.old.node.durable.machine.replicas filter.old.node.durable.machine.node) number (called input.now.call))) TellsNothing (W.contents output.old) (W.contents output.new)
+    ensures err { IfErr result (Breaks (Of input.now.line (IsCallTurn filter.old.shelf.objects (kept_state filter.old.node.durable.machine.replicas filter.old.node.durable.machine.node) number (called input.now.call))) TellsNoLine (W.contents output.old) (W.contents output.new)
         (lines filter.old.node.text.items) (lines filter.new.node.text.items) (kept_state filter.new.node.durable.machine.replicas filter.new.node.durable.machine.node)) }
     ensures disk { filter.new.node.durable.disk ≡ filter.old.node.durable.disk }
     ensures unclosed { filter.new.node.durable.closed ≡ false }
@@ -318,7 +318,7 @@ pub fn answer<W: Write, E: Listener, D: Disk, B: Replicated>(
     requires short { length line.now ≤ MAX_LINE }
     requires unclosed { filter.old.node.durable.closed ≡ false }
     requires within { IsSubset filter.old.shelf.view filter.old.node.durable.machine.node.replica.view }
-    ensures ok { OnOk result (Takes (Of line.now (IsTurn filter.old.shelf.objects (kept_state filter.old.node.durable.machine.replicas filter.old.node.durable.machine.node) number)) (TellsAll E.contents E.refuses errors.old errors.new) (W.contents output.old) (W.contents output.new)
+    ensures ok { OnOk result (TakesLine (Of line.now (IsTurn filter.old.shelf.objects (kept_state filter.old.node.durable.machine.replicas filter.old.node.durable.machine.node) number)) (TellsAll E.contents E.refuses errors.old errors.new) (W.contents output.old) (W.contents output.new)
         (lines filter.old.node.text.items) (lines filter.new.node.text.items) (kept_state filter.new.node.durable.machine.replicas filter.new.node.durable.machine.node)) }
     ensures err { IfErr result (Breaks (Of line.now (IsTurn filter.old.shelf.objects (kept_state filter.old.node.durable.machine.replicas filter.old.node.durable.machine.node) number)) (TellsAll E.contents E.refuses errors.old errors.new) (W.contents output.old) (W.contents output.new)
         (lines filter.old.node.text.items) (lines filter.new.node.text.items) (kept_state filter.new.node.durable.machine.replicas filter.new.node.durable.machine.node)) }

@@ -5,9 +5,9 @@ ghost use Rattle.clap.specs.Words.{many_of, with_subcommand};
 ghost use Rattle.clap.specs.declared.builder.command.Command.TheViews.{out-Command as fields_of};
 ghost use Rattle.clap.specs.declared.builder.value_parser.ValueParser.TheVariants.{Signed};
 ghost use Rattle.la_cli.specs.Calls.{option, lattice_alone};
-ghost use Rattle.la_serve.specs.Options.{number as number_rule, own as own_rule, votes as votes_rule};
-ghost use Rattle.la_serve.specs.Options.{journal as journal_rule, node, node_named, lattice_node};
-ghost use Rattle.la_serve.specs.Options.{AreTaken, IsSaid, IsVotes, Says};
+ghost use Rattle.la_serve.specs.Options.{number_option as number_rule, own as own_rule, votes_option as votes_rule};
+ghost use Rattle.la_serve.specs.Options.{journal_option as journal_rule, node, node_named, lattice_node};
+ghost use Rattle.la_serve.specs.Options.{AreNodeOptions, IsSaid, IsVotes, SaysOptions};
 
 use arrayvec::ArrayVec;
 use clap::builder::ValueParser;
@@ -153,8 +153,8 @@ fn votes_in(given: &ArgMatches<'_>, replicas: u8) -> Option<Votes>
 
 // The options, each number of which is there and in its range.
 fn options_in(alloc: Global, given: &ArgMatches<'_>) -> Result<Option<Options>, AllocError>
-    requires { AreTaken (rows_of (found_of given.now)) }
-    ensures { IfOk result (Says (rows_of (found_of given.now))) }
+    requires { AreNodeOptions (rows_of (found_of given.now)) }
+    ensures { IfOk result (SaysOptions (rows_of (found_of given.now))) }
 {
     let replicas = given.get_one::<u8>("replicas").unwrap();
     let own = given.get_one::<u8>("own").unwrap();

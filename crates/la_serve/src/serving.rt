@@ -7,7 +7,7 @@ ghost use Rattle.la_io.specs.Streams.{ahead, has_line, TellsAll};
 ghost use Rattle.la_set.specs.Inclusion.{IsSubset};
 ghost use Rattle.la_durable.specs.Restarts.{kept_state};
 ghost use Rattle.la_serve.specs.Crashes.{Leaves, Commits, CommitsSome, Flushes, FlushesOrNot};
-ghost use Rattle.la_serve.specs.Serving.{Steps, IsStepRefusal, Unflushed, of_step, Serves, IsServeRefusal};
+ghost use Rattle.la_serve.specs.Serving.{TurnSteps, IsStepRefusal, Unflushed, of_step, ServesLines, IsServeRefusal};
 
 use crate::answering::answer;
 use crate::{Filter, NodeFault};
@@ -35,7 +35,7 @@ fn step<R: Read, E: Listener, D: Disk, B: Replicated>(
     requires within { IsSubset filter.old.shelf.view filter.old.node.durable.machine.node.replica.view }
     requires flushed { has_line source.old ≡ false → (output.old.items ≡ []) × (filter.old.node.text.items ≡ []) }
     requires over { source.old.over ≡ true → IsAtEnd (ahead source.old (R.remaining input.old)) }
-    ensures ok { IfOk result (Steps filter.old.shelf.objects (kept_state filter.old.node.durable.machine.replicas filter.old.node.durable.machine.node) number (TellsAll E.contents E.refuses errors.old errors.new)
+    ensures ok { IfOk result (TurnSteps filter.old.shelf.objects (kept_state filter.old.node.durable.machine.replicas filter.old.node.durable.machine.node) number (TellsAll E.contents E.refuses errors.old errors.new)
         (ahead source.old (R.remaining input.old)) (ahead source.new (R.remaining input.new)) (Some output.old.items) (Some output.new.items)
         (lines filter.old.node.text.items) (lines filter.new.node.text.items) (kept_state filter.new.node.durable.machine.replicas filter.new.node.durable.machine.node)) }
     ensures err { IfErr result (IsStepRefusal filter.old.shelf.objects (kept_state filter.old.node.durable.machine.replicas filter.old.node.durable.machine.node) number (TellsAll E.contents E.refuses errors.old errors.new)
@@ -158,7 +158,7 @@ pub fn serve<R: Read, W: Write, E: Listener, D: Disk, B: Replicated>(
     requires unclosed { filter.old.node.durable.closed ≡ false }
     requires unstaged { filter.old.node.text.items ≡ [] }
     requires within { IsSubset filter.old.shelf.view filter.old.node.durable.machine.node.replica.view }
-    ensures ok { OnOk result (Serves filter.old.shelf.objects (kept_state filter.old.node.durable.machine.replicas filter.old.node.durable.machine.node) (TellsAll E.contents E.refuses errors.old errors.new)
+    ensures ok { OnOk result (ServesLines filter.old.shelf.objects (kept_state filter.old.node.durable.machine.replicas filter.old.node.durable.machine.node) (TellsAll E.contents E.refuses errors.old errors.new)
         (Leaves D.seen D.may_leave D.moment D.left_since (kept_state filter.old.node.durable.machine.replicas filter.old.node.durable.machine.node) filter.old.node.durable.disk filter.new.node.durable.disk)
         (R.remaining input.old) (R.remaining input.new) (W.contents output.old) (W.contents output.new)
         (lines (D.seen filter.old.node.durable.disk)) (lines (D.seen filter.new.node.durable.disk)) (kept_state filter.new.node.durable.machine.replicas filter.new.node.durable.machine.node)) }

@@ -4,11 +4,11 @@ ghost use Rattle.la_object.specs.declared.kind.Kind.TheVariants.{Counter as Coun
 ghost use Rattle.la_object.specs.declared.kind.Kind.TheVariants.{MaxRegister as RegisterKind};
 ghost use Rattle.la_object.specs.declared.kind.Kind.TheVariants.{OrSet as SetKind};
 ghost use Rattle.la_object.specs.Objects.{start};
-ghost use Rattle.la_io.specs.Streams.{Tells, TellsAll};
+ghost use Rattle.la_io.specs.Streams.{TellsLine, TellsAll};
 ghost use Rattle.la_serve.specs.Faults.{of_journal};
-ghost use Rattle.la_serve.specs.Ending.{status_of, end_line, AreAtStart, Ends};
+ghost use Rattle.la_serve.specs.Ending.{node_status, end_line, AreAtStart, ServerEnds};
 ghost use Rattle.la_serve.specs.Crashes.{LeftBy};
-ghost use Rattle.la_serve.specs.Starting.{Runs, IsRunRefusal};
+ghost use Rattle.la_serve.specs.Starting.{Runs, IsServerStartRefusal};
 
 use crate::names::end_name;
 use crate::serving::serve;
@@ -28,7 +28,7 @@ type Line = ArrayString<16>;
 
 // The exit status after a fault.
 fn status_of(fault: NodeFault) -> u8
-    ensures { result ≡ status_of fault }
+    ensures { result ≡ node_status fault }
 {
     match fault {
         NodeFault::Memory => 3,
@@ -39,8 +39,8 @@ fn status_of(fault: NodeFault) -> u8
 
 /// The exit status after a fault, which is told.
 pub fn end_with<E: Listener>(fault: NodeFault, errors: &mut E) -> u8
-    ensures status { result ≡ status_of fault }
-    ensures told { Tells E.contents E.refuses errors.old errors.new (end_line fault) }
+    ensures status { result ≡ node_status fault }
+    ensures told { TellsLine E.contents E.refuses errors.old errors.new (end_line fault) }
 {
     let mut line = Line::new();
     line.push_str(end_name(fault));
@@ -79,7 +79,7 @@ fn start<R: Read, W: Write, E: Listener, D: Disk, B: Replicated>(
         (TellsAll E.contents E.refuses errors.old errors.new)
         (LeftBy D.seen D.may_leave D.moment D.left_since options.now disk)
         (R.remaining input.old) (R.remaining input.new) (W.contents output.old) (W.contents output.new)) }
-    ensures err { IfErr result (IsRunRefusal shelf.objects options.now.config options.now.own (D.seen disk)
+    ensures err { IfErr result (IsServerStartRefusal shelf.objects options.now.config options.now.own (D.seen disk)
         (TellsAll E.contents E.refuses errors.old errors.new)
         (LeftBy D.seen D.may_leave D.moment D.left_since options.now disk)
         (R.remaining input.old) (R.remaining input.new) (W.contents output.old) (W.contents output.new)) }
@@ -131,7 +131,7 @@ fn run_with<
     requires callable { F.pre make }
     requires made { (made : _) → F.post make made
         → IfOk made (λ o. AreAtStart B.state o.0 o.1 o.2) }
-    ensures { Ends E.contents E.refuses
+    ensures { ServerEnds E.contents E.refuses
         (LeftBy D.seen D.may_leave D.moment D.left_since options.now disk)
         options.now.config options.now.own (D.seen disk)
         (R.remaining input.old) (R.remaining input.new) (W.contents output.old) (W.contents output.new)
@@ -159,7 +159,7 @@ pub fn run<R: Read, W: Write, E: Listener, D: Disk>(
     output: &mut W,
     errors: &mut E,
 ) -> u8
-    ensures { Ends E.contents E.refuses
+    ensures { ServerEnds E.contents E.refuses
         (LeftBy D.seen D.may_leave D.moment D.left_since options.now disk)
         options.now.config options.now.own (D.seen disk)
         (R.remaining input.old) (R.remaining input.new) (W.contents output.old) (W.contents output.new)

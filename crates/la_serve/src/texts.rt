@@ -3,9 +3,9 @@ ghost use Rattle.std.specs.Prelude.{◌≡◌, ◌++◌, IfOk, OnOk};
 ghost use Rattle.la_replica.specs.Steps.{learnt_in};
 ghost use Rattle.la_wire.specs.Calls.{called};
 ghost use Rattle.la_durable.specs.Given.{given_of};
-ghost use Rattle.la_io.specs.Notes.{answered_note, mail_text};
+ghost use Rattle.la_io.specs.Notes.{answered_note, letters_text};
 ghost use Rattle.la_durable.specs.Restarts.{kept_state};
-ghost use Rattle.la_serve.specs.Turns.{taken_text, learnt_text, growth_text, return_text};
+ghost use Rattle.la_serve.specs.Turns.{taken_text, learnt_line, growth_text, return_text};
 ghost use Rattle.la_serve.specs.Turns.{receipt_text, call_text};
 
 use la_durable::NodeMachine;
@@ -43,7 +43,7 @@ fn put_learning(
     letter: &Letter,
     given: &Received,
 ) -> Result<(), AllocError>
-    ensures { OnOk result (out.new.items ≡ out.old.items ++ learnt_text own letter.now.message.instance letter.now.message.ballot (learnt_in given.now.done.said)) }
+    ensures { OnOk result (out.new.items ≡ out.old.items ++ learnt_line own letter.now.message.instance letter.now.message.ballot (learnt_in given.now.done.said)) }
 {
     let message = &letter.message;
     match given.done.said.learnt() {
@@ -136,7 +136,7 @@ pub fn answer_text(
 
 /// What is written when the timer has run out.
 pub fn mail_text(alloc: Global, replicas: u8, mail: &Mail) -> Result<Vec<u8>, AllocError>
-    ensures { IfOk result (λ text. text.items ≡ mail_text replicas mail.now) }
+    ensures { IfOk result (λ text. text.items ≡ letters_text replicas mail.now) }
 {
     let mut out = Vec::new(alloc);
     put_mail(&mut out, replicas, mail.all())?;

@@ -21,11 +21,11 @@ pub struct Pass {
 impl Model for Pass {
     ghost use Rattle.la_shared.specs.Bases.{IsOwnOffer};
     ghost use Rattle.la_shared.specs.Passes.{Known};
-    ghost use Rattle.la_shared.specs.Seats.{IsAtRest, known};
+    ghost use Rattle.la_shared.specs.Seats.{IsAtRest, pass_of};
 
     ghost Value = { Known };
 
-    ghost view = { λ pass. known pass.seat };
+    ghost view = { λ pass. pass_of pass.seat };
 
     ghost invariant = { λ pass.
         IsAtRest pass.seat × IsOwnOffer pass.offered pass.seat.me.0.mine };
@@ -49,12 +49,12 @@ pub struct Note {
 }
 
 impl Model for Note {
-    ghost use Rattle.la_shared.specs.Passes.{Told};
-    ghost use Rattle.la_shared.specs.Seats.{IsAtRest, told};
+    ghost use Rattle.la_shared.specs.Passes.{ToldPass};
+    ghost use Rattle.la_shared.specs.Seats.{IsAtRest, seat_told};
 
-    ghost Value = { Told };
+    ghost Value = { ToldPass };
 
-    ghost view = { λ note. told note.seat };
+    ghost view = { λ note. seat_told note.seat };
 
     ghost invariant = { λ note. IsAtRest note.seat };
 }

@@ -22,11 +22,11 @@ pub struct SharedAcceptor {
 }
 
 impl Model for SharedAcceptor {
-    ghost use Rattle.la_shared.specs.Passes.{AcceptorName, named};
+    ghost use Rattle.la_shared.specs.Passes.{AcceptorName, table_name};
 
     ghost Value = { AcceptorName };
 
-    ghost view = { λ acceptor. named acceptor.core.table.shared.table_id };
+    ghost view = { λ acceptor. table_name acceptor.core.table.shared.table_id };
 }
 
 impl SharedAcceptor {

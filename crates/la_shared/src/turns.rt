@@ -4,8 +4,8 @@ ghost use Rattle.std.specs.Prelude.{[]};
 ghost use Rattle.la_set.specs.Histories.{Histories, empty};
 ghost use Rattle.la_acceptor.specs.declared.reply.Reply.{Reply};
 ghost use Rattle.la_acceptor.specs.declared.reply.Reply.TheVariants.{Yes};
-ghost use Rattle.la_shared.specs.Turns.{Draws, Looks, Records, Serves, Tells};
-ghost use Rattle.la_shared.specs.Turns.{newcomer, informed};
+ghost use Rattle.la_shared.specs.Turns.{Draws, Looks, RecordsEntry, Serves, Tells};
+ghost use Rattle.la_shared.specs.Turns.{new_caller, informed};
 
 use crate::caller::Caller;
 use atomic_table::{Join, Play, Seat, Split, TableRule};
@@ -16,12 +16,12 @@ use std::marker::{Brand, PhantomData};
 pub struct Turns;
 
 impl TableRule<Option<Acceptor>, Caller, ()> for Turns {
-    ghost use Rattle.la_shared.specs.Turns.{IsKept, newcomer};
+    ghost use Rattle.la_shared.specs.Turns.{IsKept, new_caller};
     ghost use Rattle.std.specs.Prelude.{[]};
 
     ghost holds = { λ _. IsKept };
 
-    ghost first = { λ _. newcomer [] };
+    ghost first = { λ _. new_caller [] };
 }
 
 pub type Ticketed = Seat<Option<Acceptor>, Caller>;
@@ -56,7 +56,7 @@ pub struct Record<J> {
 }
 
 impl<J: Offered> Play<Option<Acceptor>, Caller> for Record<J> {
-    ghost then = { Records J.set J.reply };
+    ghost then = { RecordsEntry J.set J.reply };
 }
 
 pub struct Serve;
@@ -70,7 +70,7 @@ pub struct Another;
 impl Split<Caller> for Another {
     ghost left = { λ caller. caller };
 
-    ghost right = { λ caller. newcomer caller.seen };
+    ghost right = { λ caller. new_caller caller.seen };
 }
 
 pub struct Meeting;
@@ -78,7 +78,7 @@ pub struct Meeting;
 impl Join<Caller> for Meeting {
     ghost both = { informed };
 
-    ghost spent = { newcomer [] };
+    ghost spent = { new_caller [] };
 }
 
 pub struct Tell;

@@ -4,7 +4,7 @@ use Rattle.la_replica.specs.declared.message.Body as code
 use Rattle.la_replica.specs.declared.message.Body.TheVariants as body
 use Rattle.la_replica.specs.Alike.{AreAlike, AreAlikeBodies}
 use Rattle.la_wire.specs.declared.letter.Letter.{Letter}
-use Rattle.la_wire.specs.Messages.{Message, said_body, said_by}
+use Rattle.la_wire.specs.Messages.{WireMessage, said_body, letter_message}
 
 alike-bodies : (a b : code.Body) → said_body a ≡ said_body b → AreAlikeBodies a b
 alike-bodies (body.Offer d) (body.Offer e) same = (cc, cc)
@@ -24,11 +24,11 @@ alike-bodies (body.Tell t) body.Yes same = absurd cc
 alike-bodies (body.Tell t) (body.No e) same = absurd cc
 alike-bodies (body.Tell t) (body.Tell s) same = cc
 
-pub alike-letters : (a b : Letter) → said_by a ≡ said_by b → AreAlike a.message b.message
+pub alike-letters : (a b : Letter) → letter_message a ≡ letter_message b → AreAlike a.message b.message
 alike-letters a b same = record {
-  instance = ap (λ (m : Message). m.instance) same;
-  from = ap (λ (m : Message). m.from) same;
-  to = ap (λ (m : Message). m.to) same;
-  ballot = ap (λ (m : Message). m.ballot) same;
-  body = alike-bodies a.message.body b.message.body (ap (λ (m : Message). m.body) same);
+  instance = ap (λ (m : WireMessage). m.instance) same;
+  from = ap (λ (m : WireMessage). m.from) same;
+  to = ap (λ (m : WireMessage). m.to) same;
+  ballot = ap (λ (m : WireMessage). m.ballot) same;
+  body = alike-bodies a.message.body b.message.body (ap (λ (m : WireMessage). m.body) same);
 }

@@ -20,19 +20,19 @@ use Rattle.la_script.specs.declared.forms.Form.TheVariants as form
 use Rattle.la_script.specs.declared.forms.Keyword.TheVariants as keyword
 use Rattle.la_script.specs.declared.script.Version.TheVariants.{Two}
 use Rattle.la_script.specs.Numbers.{u8_max, u16_max, u32_max, u64_max, number}
-use Rattle.la_script.specs.Tags.{tags_of}
+use Rattle.la_script.specs.Tags.{tag_words}
 use Rattle.la_script.specs.Text.{id_text}
-use Rattle.la_script.specs.Forms.{spelling, places, has_gap, form_of}
-use Rattle.la_script.specs.Values.{nothing, values, event as event_from}
+use Rattle.la_script.specs.Forms.{spelling, form_places, has_gap, form_of}
+use Rattle.la_script.specs.Values.{no_values, values, event as event_from}
 use Rattle.la_script.specs.Lines.{words_of, event_in}
 use Rattle.la_wire.specs.declared.messages.Kind.{Kind}
 use Rattle.la_wire.specs.declared.messages.Kind.TheVariants as kind
 use Rattle.la_wire.specs.Joined.{spaced}
 use Rattle.la_wire.specs.Updates.{update_text, op_words, made}
-use Rattle.la_wire.specs.Calls.{Call, Submit, Decide, Ask, Tick, Receive}
-use Rattle.la_wire.specs.CallLines.{query_words, tick_word, text, event_call, script_call, first_kind, call_by, call_of}
-use Rattle.la_wire.specs.MessageLines.{spelling as kind_word, kind_in, base_words, carried, message_text, message_of}
-use Rattle.la_wire.specs.Messages.{Message, Offer, Yes, No, Tell}
+use Rattle.la_wire.specs.Calls.{WireCall, Submit, Decide, Ask, Tick, Receive}
+use Rattle.la_wire.specs.CallLines.{query_words, tick_word, call_line_text, event_call, script_call, first_kind, call_by, call_of}
+use Rattle.la_wire.specs.MessageLines.{kind_text as kind_word, kind_in, base_words, carried, message_text, line_message}
+use Rattle.la_wire.specs.Messages.{WireMessage, Offer, Yes, No, Tell}
 use Rattle.la_wire.specs.Writable.{IsId, IsOp, IsVoteless, IsQuery, IsCall, IsMessage}
 use Rattle.la_wire.proofs.Decimals.{number-decimal, decimal-plain, is_plain, IsPlain}
 use Rattle.la_wire.proofs.Joins.{words-back}
@@ -63,7 +63,7 @@ some-ids (id ∷ ids) all = rw (some-id id (All-head IsId id ids all), some-ids 
 
 -- words of a form
 event-by : (words : List (List ℕ)) (form : Form) (v : Values) → form_of Two words ≡ Some form
-    → values (places form) words nothing ≡ Some v → event_in words (form_of Two words) ≡ Ok (event_from form v)
+    → values (form_places form) words no_values ≡ Some v → event_in words (form_of Two words) ≡ Ok (event_from form v)
 event-by words form v e f = rw (e, f) refl
 
 module _ (r o : ℕ) (small_r : r ≤ u8_max) (small_o : o ≤ u16_max) where
@@ -113,22 +113,22 @@ module _ (r o : ℕ) (small_r : r ≤ u8_max) (small_o : o ≤ u16_max) where
             (length (map id_text (id ∷ ids))) 64 (omega (arith, few, length-map (id ∷ ids) id_text)),
       ) refl
 
-  inc-values : (x : ℕ) → x ≤ u32_max → values (places form.Inc) (submitted (op_words (op.Inc x))) nothing ≡ Some (record nothing { replica = r; object = o; amount = x })
+  inc-values : (x : ℕ) → x ≤ u32_max → values (form_places form.Inc) (submitted (op_words (op.Inc x))) no_values ≡ Some (record no_values { replica = r; object = o; amount = x })
   inc-values x few = rw (nr, no, number-decimal 0 u32_max x (omega arith) few (omega arith)) refl
 
-  dec-values : (x : ℕ) → x ≤ u32_max → values (places form.Dec) (submitted (op_words (op.Dec x))) nothing ≡ Some (record nothing { replica = r; object = o; amount = x })
+  dec-values : (x : ℕ) → x ≤ u32_max → values (form_places form.Dec) (submitted (op_words (op.Dec x))) no_values ≡ Some (record no_values { replica = r; object = o; amount = x })
   dec-values x few = rw (nr, no, number-decimal 0 u32_max x (omega arith) few (omega arith)) refl
 
-  raise-values : (x : ℕ) → x ≤ u64_max → values (places form.Raise) (submitted (op_words (op.Raise x))) nothing ≡ Some (record nothing { replica = r; object = o; value = x })
+  raise-values : (x : ℕ) → x ≤ u64_max → values (form_places form.Raise) (submitted (op_words (op.Raise x))) no_values ≡ Some (record no_values { replica = r; object = o; value = x })
   raise-values x few = rw (nr, no, number-decimal 0 u64_max x (omega arith) few (omega arith)) refl
 
-  put-values : (x : ℕ) → x ≤ u64_max → values (places form.Put) (submitted (op_words (op.Put x))) nothing ≡ Some (record nothing { replica = r; object = o; value = x })
+  put-values : (x : ℕ) → x ≤ u64_max → values (form_places form.Put) (submitted (op_words (op.Put x))) no_values ≡ Some (record no_values { replica = r; object = o; value = x })
   put-values x few = rw (nr, no, number-decimal 0 u64_max x (omega arith) few (omega arith)) refl
 
-  mark-values : values (places form.Mark) (submitted (op_words op.Mark)) nothing ≡ Some (record nothing { replica = r; object = o })
+  mark-values : values (form_places form.Mark) (submitted (op_words op.Mark)) no_values ≡ Some (record no_values { replica = r; object = o })
   mark-values = rw (nr, no) refl
 
-  remove-values : (ids : List UpdateId) → tags_of (map id_text ids) ≡ Some ids → values (places form.Remove) (submitted (op_words (op.Remove ids))) nothing ≡ Some (record nothing { replica = r; object = o; tags = ids })
+  remove-values : (ids : List UpdateId) → tag_words (map id_text ids) ≡ Some ids → values (form_places form.Remove) (submitted (op_words (op.Remove ids))) no_values ≡ Some (record no_values { replica = r; object = o; tags = ids })
   remove-values [] back = rw (nr, no) refl
   remove-values (id ∷ ids) back = rw (nr, no, back) refl
 
@@ -167,24 +167,24 @@ module _ (r o : ℕ) (small_r : r ≤ u8_max) (small_o : o ≤ u16_max) where
   items-form = rw (sr, so) refl
 
   abbrev asks : Values
-  asks = record nothing { replica = r; object = o }
+  asks = record no_values { replica = r; object = o }
 
-  total-values : values (places form.Total) (asked (query_words query.Total)) nothing ≡ Some asks
+  total-values : values (form_places form.Total) (asked (query_words query.Total)) no_values ≡ Some asks
   total-values = rw (nr, no) refl
 
-  atleast-values : (x : ℕ) → x ≤ u64_max → values (places form.AtLeast) (asked (query_words (query.AtLeast x))) nothing ≡ Some (record nothing { replica = r; object = o; value = x })
+  atleast-values : (x : ℕ) → x ≤ u64_max → values (form_places form.AtLeast) (asked (query_words (query.AtLeast x))) no_values ≡ Some (record no_values { replica = r; object = o; value = x })
   atleast-values x few = rw (nr, no, number-decimal 0 u64_max x (omega arith) few (omega arith)) refl
 
-  largest-values : values (places form.Largest) (asked (query_words query.Largest)) nothing ≡ Some asks
+  largest-values : values (form_places form.Largest) (asked (query_words query.Largest)) no_values ≡ Some asks
   largest-values = rw (nr, no) refl
 
-  has-values : (x : ℕ) → x ≤ u64_max → values (places form.Has) (asked (query_words (query.Has x))) nothing ≡ Some (record nothing { replica = r; object = o; value = x })
+  has-values : (x : ℕ) → x ≤ u64_max → values (form_places form.Has) (asked (query_words (query.Has x))) no_values ≡ Some (record no_values { replica = r; object = o; value = x })
   has-values x few = rw (nr, no, number-decimal 0 u64_max x (omega arith) few (omega arith)) refl
 
-  size-values : values (places form.Size) (asked (query_words query.Size)) nothing ≡ Some asks
+  size-values : values (form_places form.Size) (asked (query_words query.Size)) no_values ≡ Some asks
   size-values = rw (nr, no) refl
 
-  items-values : values (places form.Items) (asked (query_words query.Items)) nothing ≡ Some asks
+  items-values : values (form_places form.Items) (asked (query_words query.Items)) no_values ≡ Some asks
   items-values = rw (nr, no) refl
 
   ask-event : (q : Query) → IsQuery q
@@ -211,7 +211,7 @@ decide-event r c v lr lc lv =
     (rw (some r (omega arith), some c (omega arith), some v lv) refl)
     (decide-values r c v lr lc lv)
   where
-    decide-values : (r c v : ℕ) → r ≤ u8_max → c ≤ u8_max → v ≤ u64_max → values (places form.Decide) (spelling keyword.Decide ∷ decimal r ∷ decimal c ∷ decimal v ∷ []) nothing ≡ Some (record nothing { replica = r; commit = c; value = v })
+    decide-values : (r c v : ℕ) → r ≤ u8_max → c ≤ u8_max → v ≤ u64_max → values (form_places form.Decide) (spelling keyword.Decide ∷ decimal r ∷ decimal c ∷ decimal v ∷ []) no_values ≡ Some (record no_values { replica = r; commit = c; value = v })
     decide-values r c v lr lc lv =
         rw (
           number-decimal 0 u8_max r (omega arith) lr (omega arith),
@@ -250,35 +250,35 @@ query-plain query.Items is =
 -- ## Calls
 
 -- a line that begins with none of the words of messages, nor is `tick`
-script-line : (line : List ℕ) (words : List (List ℕ)) (e : Event) (call : Call) → first_kind line ≡ None
+script-line : (line : List ℕ) (words : List (List ℕ)) (e : Event) (call : WireCall) → first_kind line ≡ None
     → words_of line ≡ words → event_in words (form_of Two words) ≡ Ok e → event_call e ≡ Ok call
     → call_by (first_kind line) line ≡ Ok call
 script-line line words e call none is back event =
     rw (none) (ap (λ ws. script_call (event_in ws (form_of Two ws))) is ∙ ap script_call back ∙ event)
 
-submit-back : (r o : ℕ) (does : Op) → IsCall (Submit r o does) → call_of (text (Submit r o does)) ≡ Ok (Submit r o does)
+submit-back : (r o : ℕ) (does : Op) → IsCall (Submit r o does) → call_of (call_line_text (Submit r o does)) ≡ Ok (Submit r o does)
 unfolding call_of
 submit-back r o does is =
-    script-line (text (Submit r o does)) (submitted r o is.0 is.1 (op_words does)) (event.Submit r o does)
+    script-line (call_line_text (Submit r o does)) (submitted r o is.0 is.1 (op_words does)) (event.Submit r o does)
     (Submit r o does) refl
     (words-back (spelling keyword.Submit) (decimal r ∷ decimal o ∷ op_words does)
     (AllPass-from_list_all is_plain (spelling keyword.Submit) refl)
     (front-plain r o is.0 is.1 (op_words does) (op-plain does is.2)))
     (submit-event r o is.0 is.1 does is.2 is.3) refl
 
-decide-back : (r c v : ℕ) → IsCall (Decide r c v) → call_of (text (Decide r c v)) ≡ Ok (Decide r c v)
+decide-back : (r c v : ℕ) → IsCall (Decide r c v) → call_of (call_line_text (Decide r c v)) ≡ Ok (Decide r c v)
 unfolding call_of
 decide-back r c v is =
-    script-line (text (Decide r c v)) (spelling keyword.Decide ∷ decimal r ∷ decimal c ∷ decimal v ∷ [])
+    script-line (call_line_text (Decide r c v)) (spelling keyword.Decide ∷ decimal r ∷ decimal c ∷ decimal v ∷ [])
     (event.Decide r c v) (Decide r c v) refl
     (words-back (spelling keyword.Decide) (decimal r ∷ decimal c ∷ decimal v ∷ [])
     (AllPass-from_list_all is_plain (spelling keyword.Decide) refl) (decide-plain r c v is))
     (decide-event r c v is.0 is.1 is.2) refl
 
-ask-back : (r o : ℕ) (q : Query) → IsCall (Ask r o q) → call_of (text (Ask r o q)) ≡ Ok (Ask r o q)
+ask-back : (r o : ℕ) (q : Query) → IsCall (Ask r o q) → call_of (call_line_text (Ask r o q)) ≡ Ok (Ask r o q)
 unfolding call_of
 ask-back r o q is =
-    script-line (text (Ask r o q)) (asked r o is.0 is.1 (query_words q)) (event.Ask r o q) (Ask r o q) refl
+    script-line (call_line_text (Ask r o q)) (asked r o is.0 is.1 (query_words q)) (event.Ask r o q) (Ask r o q) refl
     (words-back (spelling keyword.Ask) (decimal r ∷ decimal o ∷ query_words q)
     (AllPass-from_list_all is_plain (spelling keyword.Ask) refl)
     (front-plain r o is.0 is.1 (query_words q) (query-plain q is.2)))
@@ -297,11 +297,11 @@ kind-no_tick kind.No a b = refl
 kind-no_tick kind.Tell a b = refl
 
 receive-line : (line : List ℕ) (k : Kind) → first_kind line ≡ Some k → bytes_eq line tick_word ≡ false
-    → call_of line ≡ made Receive (message_of line)
+    → call_of line ≡ made Receive (line_message line)
 unfolding call_of
 receive-line line k first other = rw (other, first) refl
 
-receive-back : (m : Message) → IsMessage m → call_of (message_text m) ≡ Ok (Receive m)
+receive-back : (m : WireMessage) → IsMessage m → call_of (message_text m) ≡ Ok (Receive m)
 receive-back m is =
     let a : List ℕ =
     decimal m.replicas
@@ -315,7 +315,7 @@ unfolding call_of
 tick-back = refl
 
 -- a call that can be had is read back from its line
-pub call-back : (c : Call) → IsCall c → call_of (text c) ≡ Ok c
+pub call-back : (c : WireCall) → IsCall c → call_of (call_line_text c) ≡ Ok c
 call-back (Submit r o does) is = submit-back r o does is
 call-back (Decide r c v) is = decide-back r c v is
 call-back (Ask r o q) is = ask-back r o q is

@@ -12,12 +12,12 @@ use Rattle.la_script.specs.declared.forms.Keyword.TheVariants as keyword
 use Rattle.la_script.specs.Forms.{spelling}
 use Rattle.la_wire.specs.declared.messages.Kind.{Kind}
 use Rattle.la_wire.specs.declared.messages.Kind.TheVariants as kind
-use Rattle.la_wire.specs.Joined.{spaced, joined}
+use Rattle.la_wire.specs.Joined.{spaced, joined_by}
 use Rattle.la_wire.specs.Updates.{update_words, update_text, op_words}
-use Rattle.la_wire.specs.Messages.{Message}
-use Rattle.la_wire.specs.MessageLines.{spelling as kind_word, kind_in, base_words, carried, head_words, message_text}
-use Rattle.la_wire.specs.Calls.{Call, Submit, Decide, Ask, Tick, Receive}
-use Rattle.la_wire.specs.CallLines.{query_words, tick_word, text}
+use Rattle.la_wire.specs.Messages.{WireMessage}
+use Rattle.la_wire.specs.MessageLines.{kind_text as kind_word, kind_in, base_words, carried, head_words, message_text}
+use Rattle.la_wire.specs.Calls.{WireCall, Submit, Decide, Ask, Tick, Receive}
+use Rattle.la_wire.specs.CallLines.{query_words, tick_word, call_line_text}
 use Rattle.la_wire.specs.Writable.{IsUpdate, IsCall, IsMessage}
 use Rattle.la_wire.proofs.Decimals.{is_plain, IsPlain}
 use Rattle.la_wire.proofs.UpdatesBack.{update-plain, op-plain}
@@ -41,13 +41,13 @@ spaced-printed byte (part ∷ parts) own all =
     (spaced-printed byte parts own (All-tail IsPrinted part parts all)))
 
 joined-printed : (byte : ℕ) (parts : List (List ℕ)) → leb 32 byte ≡ true → All IsPrinted parts
-    → IsPrinted (joined byte parts)
+    → IsPrinted (joined_by byte parts)
 joined-printed byte [] own all = All-nil (λ b. leb 32 b ≡ true)
 joined-printed byte (part ∷ parts) own all =
     All-append (λ b. leb 32 b ≡ true) part (spaced byte parts) (All-head IsPrinted part parts all)
     (spaced-printed byte parts own (All-tail IsPrinted part parts all))
 
-words-printed : (words : List (List ℕ)) → All IsPlain words → IsPrinted (joined 32 words)
+words-printed : (words : List (List ℕ)) → All IsPlain words → IsPrinted (joined_by 32 words)
 words-printed words all = joined-printed 32 words refl (All-weaker IsPlain IsPrinted plain-printed words all)
 
 clean : (w : List ℕ) → IsPrinted w → IsClean w
@@ -59,18 +59,18 @@ clean (b ∷ w) printed =
 update-printed : (u : Update) → IsUpdate u → IsPrinted (update_text u)
 update-printed u is = words-printed (update_words u) (update-plain u is)
 
-message-printed : (m : Message) → IsMessage m → IsPrinted (message_text m)
+message-printed : (m : WireMessage) → IsMessage m → IsPrinted (message_text m)
 message-printed m is =
     let us = carried m.body in
-    joined-printed 59 (joined 32 (head_words m) ∷ map update_text us) refl
-    (All-cons IsPrinted (joined 32 (head_words m)) (map update_text us) (words-printed (head_words m) (head-plain m is))
+    joined-printed 59 (joined_by 32 (head_words m) ∷ map update_text us) refl
+    (All-cons IsPrinted (joined_by 32 (head_words m)) (map update_text us) (words-printed (head_words m) (head-plain m is))
     (All-map IsPrinted update_text us (All-weaker IsUpdate (λ u. IsPrinted (update_text u)) update-printed us (carried-updates m.body is.body))))
 
 keyword-words : (word : List ℕ) (words : List (List ℕ)) → IsPlain word → All IsPlain words
-    → IsPrinted (joined 32 (word ∷ words))
+    → IsPrinted (joined_by 32 (word ∷ words))
 keyword-words word words first rest = words-printed (word ∷ words) (All-cons IsPlain word words first rest)
 
-text-printed : (c : Call) → IsCall c → IsPrinted (text c)
+text-printed : (c : WireCall) → IsCall c → IsPrinted (call_line_text c)
 text-printed (Submit r o does) is =
     keyword-words (spelling keyword.Submit) (decimal r ∷ decimal o ∷ op_words does)
     (AllPass-from_list_all is_plain (spelling keyword.Submit) refl)
@@ -91,7 +91,7 @@ kind-first kind.Yes a b = refl
 kind-first kind.No a b = refl
 kind-first kind.Tell a b = refl
 
-no-state : (c : Call) → state_in (text c) ≡ None
+no-state : (c : WireCall) → state_in (call_line_text c) ≡ None
 no-state (Submit r o does) = refl
 no-state (Decide r c v) = refl
 no-state (Ask r o q) = refl
@@ -103,5 +103,5 @@ no-state (Receive m) =
     (spaced 59 (map update_text (carried m.body)))
 
 -- the line of a call that can be had is one of a journal's calls
-pub call-line : (c : Call) → IsCall c → IsCallLine (text c)
-call-line c is = (clean (text c) (text-printed c is), no-state c)
+pub call-line : (c : WireCall) → IsCall c → IsCallLine (call_line_text c)
+call-line c is = (clean (call_line_text c) (text-printed c is), no-state c)

@@ -10,7 +10,7 @@ use Rattle.la_set.specs.Tags.{with_tag}
 use Rattle.la_set.proofs.lemmas.IdOrder.{below_trans, below_irreflexive, below-test, test-below}
 use Rattle.la_script.specs.Numbers.{u8_max, u32_max, number}
 use Rattle.la_script.specs.Words.{each_word}
-use Rattle.la_script.specs.Tags.{tag_in, tag_of, with_tags, tags_of}
+use Rattle.la_script.specs.Tags.{tag_in, tag_of, with_tags, tag_words}
 use Rattle.la_script.specs.Text.{id_text}
 use Rattle.la_wire.specs.Writable.{IsId}
 use Rattle.la_wire.proofs.Decimals.{number-decimal, decimal-plain, decimal-no_stop, is_plain, IsPlain}
@@ -94,6 +94,6 @@ with_tags-ascending tags (t ∷ more) pairs =
     ∙ with_tags-ascending (tags ++ t ∷ []) more (subst (AllPairs IsBelow) same pairs)
     ∙ sym same
 
-pub tags-back : (ids : List UpdateId) → AllPairs IsBelow ids → All IsId ids → tags_of (map id_text ids) ≡ Some ids
+pub tags-back : (ids : List UpdateId) → AllPairs IsBelow ids → All IsId ids → tag_words (map id_text ids) ≡ Some ids
 tags-back ids ascending all =
     ap (option_map (with_tags [])) (each-back ids all) ∙ ap Some (with_tags-ascending [] ids ascending)

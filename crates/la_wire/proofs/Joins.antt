@@ -5,7 +5,7 @@ use Rattle.std.proofs.Math.Seq.{take-append_seam, drop-append-add}
 use Rattle.std.proofs.lemmas.Bool.Decides.{nat_tests}
 use Rattle.std.proofs.lemmas.List.Elements.{All-nil, All-cons, All-head, All-tail, All-append, All-weaker}
 use Rattle.std.proofs.lemmas.List.Splits.{slice_split_none, slice_split_at}
-use Rattle.la_wire.specs.Joined.{spaced, joined, parted}
+use Rattle.la_wire.specs.Joined.{spaced, joined_by, parted}
 use Rattle.la_wire.proofs.Decimals.{is_plain, IsPlain}
 
 -- no byte of it is this one
@@ -31,7 +31,7 @@ plain-one w plain =
 
 -- words behind a first one
 pub words-back : (w : List ℕ) (ws : List (List ℕ)) → IsPlain w → All IsPlain ws
-    → parted 32 (joined 32 (w ∷ ws)) ≡ w ∷ ws
+    → parted 32 (joined_by 32 (w ∷ ws)) ≡ w ∷ ws
 words-back w ws one rest =
     parted-joined 32 w ws refl (plain-no_space w one) (All-weaker IsPlain (Lacks 32) plain-no_space ws rest)
 
@@ -43,12 +43,12 @@ spaced-one (w ∷ ws) all =
     (spaced-one ws (All-tail IsPlain w ws all)))
 
 -- words make one part
-pub words-part : (w : List ℕ) (ws : List (List ℕ)) → IsPlain w → All IsPlain ws → Lacks 59 (joined 32 (w ∷ ws))
+pub words-part : (w : List ℕ) (ws : List (List ℕ)) → IsPlain w → All IsPlain ws → Lacks 59 (joined_by 32 (w ∷ ws))
 words-part w ws one rest = All-append (λ b. eqb b 59 ≡ false) w (spaced 32 ws) (plain-one w one) (spaced-one ws rest)
 
 -- parts behind a first one
 pub parts-back : (part : List ℕ) (parts : List (List ℕ)) → Lacks 59 part → All (Lacks 59) parts
-    → parted 59 (joined 59 (part ∷ parts)) ≡ part ∷ parts
+    → parted 59 (joined_by 59 (part ∷ parts)) ≡ part ∷ parts
 parts-back part parts one rest = parted-joined 59 part parts refl one rest
 
 -- ## What stands before a byte, and after it

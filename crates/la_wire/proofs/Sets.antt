@@ -17,8 +17,8 @@ use Rattle.la_set.proofs.lemmas.SetHistories.{history-empty, same_histories}
 use Rattle.la_set.proofs.lemmas.Differences.{beyond-pushes}
 use Rattle.la_wire.specs.declared.error.LineFault.TheVariants.{BadSet}
 use Rattle.la_wire.specs.declared.error.LineError.{LineError}
-use Rattle.la_wire.specs.Readings.{Gives}
-use Rattle.la_wire.specs.Updates.{comes_next, come_next, set_of, refused_by}
+use Rattle.la_wire.specs.Readings.{GivesOnLine}
+use Rattle.la_wire.specs.Updates.{comes_next, come_next, rebuilt_set, refused_by}
 
 none-listed : (n : ℕ) → object_op_number [] n ≡ None
 none-listed zero = refl
@@ -52,11 +52,11 @@ pushed-to : (us : List Update) (a b : Histories) → PushesTo a us b → pushed 
 pushed-to [] a b to = to
 pushed-to (u ∷ us) a b to = pushed-to us (push a u) b to.1
 
-set-of : (us : List Update) → AreNext empty us → set_of us ≡ Ok (pushed empty us)
-unfolding set_of
+set-of : (us : List Update) → AreNext empty us → rebuilt_set us ≡ Ok (pushed empty us)
+unfolding rebuilt_set
 set-of us next = rw (come-next us empty next) refl
 
-pub set-back : (s : Histories) → IsWithinLimit s → set_of (updates s) ≡ Ok s
+pub set-back : (s : Histories) → IsWithinLimit s → rebuilt_set (updates s) ≡ Ok s
 set-back s few =
     let to : PushesTo empty (updates s) s =
     subst (λ us. PushesTo empty us s) (lacks-all (updates s)) (beyond-pushes empty s (empty-subset s) few) in
@@ -97,7 +97,7 @@ abbrev pub delta_of : List Update → DeltaState
 delta_of us = record { base = zero_counts; more = us; made_of = None }
 
 pub set-rebuilt : (us : List Update) (x : Histories) (d : DeltaState) (s : Histories) → x ≡ empty → d ≡ delta_of us
-    → s ≡ rebuilt x d → IsOver x d → set_of us ≡ Ok s
+    → s ≡ rebuilt x d → IsOver x d → rebuilt_set us ≡ Ok s
 set-rebuilt us x d s none e is over =
     let here : IsOver empty (delta_of us) = subst (λ y. IsOver y (delta_of us)) none (subst (IsOver x) e over) in
     let same : s ≡ rebuilt empty (delta_of us) = is ∙ (λ i. rebuilt (none i) (e i)) in
@@ -106,14 +106,14 @@ set-rebuilt us x d s none e is over =
     ∙ ap Ok (sym same)
 
 not-next : (us : List Update) → (AreNext (within empty zero_counts) us → ⊥) → (b : Bool) → come_next empty us ≡ b
-    → set_of us ≡ Err BadSet
-unfolding set_of
+    → rebuilt_set us ≡ Err BadSet
+unfolding rebuilt_set
 not-next us gap true e =
     absurd (gap (subst (λ w. AreNext w us) (sym (within-empty zero_counts)) (next-come us empty e)))
 not-next us gap false e = rw e refl
 
 refused : (us : List Update) (e : SetError) → IsRebuildRefusal empty (delta_of us) e
-    → Gives {X = Histories} (λ set. set) (set_of us) (Err (refused_by e))
+    → GivesOnLine {X = Histories} (λ set. set) (rebuilt_set us) (Err (refused_by e))
 refused us Memory h = tt
 refused us NoBase h = absurd (h no-base)
 refused us Gap h = not-next us h.1 (come_next empty us) refl
@@ -121,7 +121,7 @@ refused us TooManyTags h = absurd h
 refused us (Clash id) h = absurd h
 
 pub set-refused : (us : List Update) (x : Histories) (d : DeltaState) (e : SetError) (r : LineError) → x ≡ empty
-    → d ≡ delta_of us → r ≡ refused_by e → IsRebuildRefusal x d e → Gives {X = Histories} (λ set. set) (set_of us) (Err r)
+    → d ≡ delta_of us → r ≡ refused_by e → IsRebuildRefusal x d e → GivesOnLine {X = Histories} (λ set. set) (rebuilt_set us) (Err r)
 set-refused us x d e r none is by h =
-    subst (λ f. Gives {X = Histories} (λ set. set) (set_of us) (Err f)) (sym by)
+    subst (λ f. GivesOnLine {X = Histories} (λ set. set) (rebuilt_set us) (Err f)) (sym by)
     (refused us e (subst (λ y. IsRebuildRefusal y (delta_of us) e) none (subst (λ t. IsRebuildRefusal x t e) is h)))

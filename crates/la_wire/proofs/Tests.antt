@@ -21,10 +21,10 @@ use Rattle.la_set.proofs.lemmas.SetHistories.{count_past}
 use Rattle.la_object.specs.declared.query.Query.{Query}
 use Rattle.la_object.specs.declared.query.Query.TheVariants as query
 use Rattle.la_script.specs.Numbers.{u8_max, u16_max, u32_max, u64_max}
-use Rattle.la_wire.specs.Messages.{Message, Body, Offer, Yes, No, Tell}
-use Rattle.la_wire.specs.Calls.{Call, Submit, Decide, Ask, Tick, Receive}
+use Rattle.la_wire.specs.Messages.{WireMessage, WireBody, Offer, Yes, No, Tell}
+use Rattle.la_wire.specs.Calls.{WireCall, Submit, Decide, Ask, Tick, Receive}
 use Rattle.la_wire.specs.Writable.{IsId, IsOp, IsUpdate, IsCounts, IsBody, IsMessage, IsVoteless, IsQuery, IsCall}
-use Rattle.la_wire.specs.Tests.{is_id, are_ascending, are_tags, is_op, is_update, are_counts, is_within_limit, is_body, is_message, is_voteless, is_query, is_call}
+use Rattle.la_wire.specs.Tests.{is_id, are_ascending, are_tags, is_op, is_wire_update, are_counts, is_within_limit, is_body, is_message, is_voteless, is_query, is_call}
 
 decides-le : (a b : ℕ) → Decides (leb a b) (a ≤ b)
 decides-le a b = (leb-true a b, le-leb a b)
@@ -78,14 +78,14 @@ decides-op (Remove tags) =
 decides-op Mark = decides-yes
 decides-op (Vote x sole) = decides-le x u64_max
 
-decides-update : (u : Update) → Decides (is_update u) (IsUpdate u)
+decides-update : (u : Update) → Decides (is_wire_update u) (IsUpdate u)
 decides-update u =
-    Decides-like (is_update u) (λ p. record { id = p.0; object = p.1.0; op = p.1.1 }) (λ is. (is.id, (is.object, is.op)))
+    Decides-like (is_wire_update u) (λ p. record { id = p.0; object = p.1.0; op = p.1.1 }) (λ is. (is.id, (is.object, is.op)))
     (Decides-and (is_id u.id) (leb u.object u16_max && is_op u.op) (decides-id u.id)
     (Decides-and (leb u.object u16_max) (is_op u.op) (decides-le u.object u16_max) (decides-op u.op)))
 
-decides-updates : (us : List Update) → Decides (list_all is_update us) (All IsUpdate us)
-decides-updates us = decides-all is_update IsUpdate decides-update us
+decides-updates : (us : List Update) → Decides (list_all is_wire_update us) (All IsUpdate us)
+decides-updates us = decides-all is_wire_update IsUpdate decides-update us
 
 counts-from : (c : Counts) → length c.of ≡ 8 → All (λ n. n ≤ u32_max) c.of → (r : ℕ) → count_in c r ≤ u32_max
 counts-from c eight all r = elim (cases_lt r 8) [
@@ -121,20 +121,20 @@ decides-limit s =
     (decides-all (λ ds. leb (length ds) 1000000) (λ ds. length ds ≤ 1000000) (λ ds. decides-le (length ds) 1000000)
     (listed s))
 
-decides-body : (body : Body) → Decides (is_body body) (IsBody body)
+decides-body : (body : WireBody) → Decides (is_body body) (IsBody body)
 decides-body (Offer base more) =
-    Decides-and (are_counts base) (list_all is_update more) (decides-counts base) (decides-updates more)
+    Decides-and (are_counts base) (list_all is_wire_update more) (decides-counts base) (decides-updates more)
 decides-body Yes = decides-yes
 decides-body (No base more) =
-    Decides-and (are_counts base) (list_all is_update more) (decides-counts base) (decides-updates more)
+    Decides-and (are_counts base) (list_all is_wire_update more) (decides-counts base) (decides-updates more)
 decides-body (Tell told) =
-    Decides-and (is_within_limit told) (list_all is_update (updates told)) (decides-limit told)
+    Decides-and (is_within_limit told) (list_all is_wire_update (updates told)) (decides-limit told)
     (decides-updates (updates told))
 
 decides-two : (a b c d : ℕ) → Decides (leb a b && leb c d) ((a ≤ b) × (c ≤ d))
 decides-two a b c d = Decides-and (leb a b) (leb c d) (decides-le a b) (decides-le c d)
 
-decides-message : (m : Message) → Decides (is_message m) (IsMessage m)
+decides-message : (m : WireMessage) → Decides (is_message m) (IsMessage m)
 decides-message m =
     Decides-like (is_message m)
     (λ p. record { some = p.0.0; few = p.0.1; from = p.1.0.0; to = p.1.0.1; instance = p.1.1.0.0; ballot = p.1.1.0.1; body = p.1.1.1 })
@@ -160,7 +160,7 @@ decides-query (query.Has x) = decides-le x u64_max
 decides-query query.Size = decides-yes
 decides-query query.Items = decides-yes
 
-pub decides-call : (c : Call) → Decides (is_call c) (IsCall c)
+pub decides-call : (c : WireCall) → Decides (is_call c) (IsCall c)
 decides-call (Submit r o op) =
     Decides-like (is_call (Submit r o op)) (λ p. (p.0.0, p.0.1, p.1.0, p.1.1)) (λ is. ((is.0, is.1), (is.2, is.3)))
     (Decides-and (leb r u8_max && leb o u16_max) (is_op op && is_voteless op) (decides-two r u8_max o u16_max)

@@ -10,19 +10,19 @@ use Rattle.la_set.specs.declared.update.Update.{Update}
 use Rattle.la_set.specs.declared.update.Op.{Op}
 use Rattle.la_set.specs.declared.update.Op.TheVariants.{Inc, Dec, Raise, Put, Remove, Mark, Vote}
 use Rattle.la_script.specs.Numbers.{u16_max, u32_max, u64_max, number}
-use Rattle.la_script.specs.Tags.{tag_of, tags_of}
+use Rattle.la_script.specs.Tags.{tag_of, tag_words}
 use Rattle.la_script.specs.Text.{id_text}
 use Rattle.la_wire.specs.declared.updates.Verb.{Verb}
 use Rattle.la_wire.specs.declared.updates.Verb.TheVariants as verb
 use Rattle.la_wire.specs.Joined.{parted}
-use Rattle.la_wire.specs.Updates.{update_words, spelling, vote_verb, op_words, update_text, tags_at, op_at, op_in, update_in, updates_in}
+use Rattle.la_wire.specs.Updates.{update_words, verb_spelling, vote_verb, op_words, update_text, line_tags, op_at, op_in, update_in, updates_in}
 use Rattle.la_wire.specs.Writable.{IsId, IsOp, IsUpdate}
 use Rattle.la_wire.proofs.Decimals.{number-decimal, decimal-plain, is_plain, IsPlain}
 use Rattle.la_wire.proofs.Joins.{Lacks, words-back, words-part}
 use Rattle.la_wire.proofs.Ids.{id-plain, id-back, tags-back}
 
-tags_at-back : (tags : List UpdateId) → length tags ≤ 64 → tags_of (map id_text tags) ≡ Some tags
-    → tags_at (map id_text tags) ≡ Ok tags
+tags_at-back : (tags : List UpdateId) → length tags ≤ 64 → tag_words (map id_text tags) ≡ Some tags
+    → line_tags (map id_text tags) ≡ Ok tags
 tags_at-back tags few back =
     rw (le-leb (length (map id_text tags)) 64 (omega (arith, length-map tags id_text)), back) refl
 
@@ -49,26 +49,26 @@ one-number w x plain few =
     All-cons IsPlain w (decimal x ∷ []) plain
     (All-cons IsPlain (decimal x) [] (decimal-plain x (omega arith)) (All-nil IsPlain))
 
-verb-plain : (v : Verb) → IsPlain (spelling v)
-verb-plain verb.Inc = AllPass-from_list_all is_plain (spelling verb.Inc) refl
-verb-plain verb.Dec = AllPass-from_list_all is_plain (spelling verb.Dec) refl
-verb-plain verb.Raise = AllPass-from_list_all is_plain (spelling verb.Raise) refl
-verb-plain verb.Put = AllPass-from_list_all is_plain (spelling verb.Put) refl
-verb-plain verb.Remove = AllPass-from_list_all is_plain (spelling verb.Remove) refl
-verb-plain verb.Mark = AllPass-from_list_all is_plain (spelling verb.Mark) refl
-verb-plain verb.Vote = AllPass-from_list_all is_plain (spelling verb.Vote) refl
-verb-plain verb.Sole = AllPass-from_list_all is_plain (spelling verb.Sole) refl
+verb-plain : (v : Verb) → IsPlain (verb_spelling v)
+verb-plain verb.Inc = AllPass-from_list_all is_plain (verb_spelling verb.Inc) refl
+verb-plain verb.Dec = AllPass-from_list_all is_plain (verb_spelling verb.Dec) refl
+verb-plain verb.Raise = AllPass-from_list_all is_plain (verb_spelling verb.Raise) refl
+verb-plain verb.Put = AllPass-from_list_all is_plain (verb_spelling verb.Put) refl
+verb-plain verb.Remove = AllPass-from_list_all is_plain (verb_spelling verb.Remove) refl
+verb-plain verb.Mark = AllPass-from_list_all is_plain (verb_spelling verb.Mark) refl
+verb-plain verb.Vote = AllPass-from_list_all is_plain (verb_spelling verb.Vote) refl
+verb-plain verb.Sole = AllPass-from_list_all is_plain (verb_spelling verb.Sole) refl
 
 pub op-plain : (op : Op) → IsOp op → All IsPlain (op_words op)
-op-plain (Inc x) is = one-number (spelling verb.Inc) x (verb-plain verb.Inc) (omega arith)
-op-plain (Dec x) is = one-number (spelling verb.Dec) x (verb-plain verb.Dec) (omega arith)
-op-plain (Raise x) is = one-number (spelling verb.Raise) x (verb-plain verb.Raise) is
-op-plain (Put x) is = one-number (spelling verb.Put) x (verb-plain verb.Put) is
+op-plain (Inc x) is = one-number (verb_spelling verb.Inc) x (verb-plain verb.Inc) (omega arith)
+op-plain (Dec x) is = one-number (verb_spelling verb.Dec) x (verb-plain verb.Dec) (omega arith)
+op-plain (Raise x) is = one-number (verb_spelling verb.Raise) x (verb-plain verb.Raise) is
+op-plain (Put x) is = one-number (verb_spelling verb.Put) x (verb-plain verb.Put) is
 op-plain (Remove tags) is =
-    All-cons IsPlain (spelling verb.Remove) (map id_text tags) (verb-plain verb.Remove)
+    All-cons IsPlain (verb_spelling verb.Remove) (map id_text tags) (verb-plain verb.Remove)
     (All-map IsPlain id_text tags (All-weaker IsId (λ id. IsPlain (id_text id)) id-plain tags is.1))
-op-plain Mark is = All-cons IsPlain (spelling verb.Mark) [] (verb-plain verb.Mark) (All-nil IsPlain)
-op-plain (Vote x sole) is = one-number (spelling (vote_verb sole)) x (verb-plain (vote_verb sole)) is
+op-plain Mark is = All-cons IsPlain (verb_spelling verb.Mark) [] (verb-plain verb.Mark) (All-nil IsPlain)
+op-plain (Vote x sole) is = one-number (verb_spelling (vote_verb sole)) x (verb-plain (vote_verb sole)) is
 
 rest-plain : (u : Update) → IsUpdate u → All IsPlain (decimal u.object ∷ op_words u.op)
 rest-plain u is =

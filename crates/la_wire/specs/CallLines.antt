@@ -12,15 +12,15 @@ use Rattle.la_script.specs.declared.error.FaultName.TheVariants as script
 use Rattle.la_script.specs.declared.forms.Keyword.TheVariants as keyword
 use Rattle.la_script.specs.declared.script.Version.TheVariants.{Two}
 use Rattle.la_script.specs.Forms.{spelling}
-use Rattle.la_script.specs.Lines.{event_of}
+use Rattle.la_script.specs.Lines.{line_event}
 use Rattle.la_wire.specs.declared.error.LineFault.{LineFault}
 use Rattle.la_wire.specs.declared.error.LineFault.TheVariants.{TooLong, BadLine, BadNumber}
 use Rattle.la_wire.specs.declared.messages.Kind.{Kind}
 use Rattle.la_wire.specs.declared.calls.TheConstants.{MAX_LINE}
-use Rattle.la_wire.specs.Joined.{joined}
+use Rattle.la_wire.specs.Joined.{joined_by}
 use Rattle.la_wire.specs.Updates.{made, op_words}
-use Rattle.la_wire.specs.MessageLines.{kind_of, message_text, message_of}
-use Rattle.la_wire.specs.Calls.{Call, Submit, Decide, Ask, Tick, Receive}
+use Rattle.la_wire.specs.MessageLines.{kind_word, message_text, line_message}
+use Rattle.la_wire.specs.Calls.{WireCall, Submit, Decide, Ask, Tick, Receive}
 
 -- ## As it is written
 
@@ -36,19 +36,19 @@ abbrev pub tick_word : List ℕ
 tick_word = codes "tick"
 
 -- the line of a call
-abbrev pub text : Call → List ℕ
-text (Submit replica object op) = joined 32 (spelling keyword.Submit ∷ decimal replica ∷ decimal object ∷ op_words op)
-text (Decide replica commit value) =
-    joined 32 (spelling keyword.Decide ∷ decimal replica ∷ decimal commit ∷ decimal value ∷ [])
-text (Ask replica object query) =
-    joined 32 (spelling keyword.Ask ∷ decimal replica ∷ decimal object ∷ query_words query)
-text Tick = tick_word
-text (Receive message) = message_text message
+abbrev pub call_line_text : WireCall → List ℕ
+call_line_text (Submit replica object op) = joined_by 32 (spelling keyword.Submit ∷ decimal replica ∷ decimal object ∷ op_words op)
+call_line_text (Decide replica commit value) =
+    joined_by 32 (spelling keyword.Decide ∷ decimal replica ∷ decimal commit ∷ decimal value ∷ [])
+call_line_text (Ask replica object query) =
+    joined_by 32 (spelling keyword.Ask ∷ decimal replica ∷ decimal object ∷ query_words query)
+call_line_text Tick = tick_word
+call_line_text (Receive message) = message_text message
 
 -- ## As it is read
 
 -- the call that an event is
-abbrev pub event_call : Event → Result Call LineFault
+abbrev pub event_call : Event → Result WireCall LineFault
 event_call (event.Submit replica object op) = Ok (Submit replica object op)
 event_call (event.Deliver message) = Err BadLine
 event_call (event.Decide replica commit value) = Ok (Decide replica commit value)
@@ -58,30 +58,30 @@ abbrev pub fault_of : FaultName → LineFault
 fault_of script.BadNumber = BadNumber
 fault_of _ = BadLine
 
-abbrev pub script_call : Result Event FaultName → Result Call LineFault
+abbrev pub script_call : Result Event FaultName → Result WireCall LineFault
 script_call (Ok event) = event_call event
 script_call (Err name) = Err (fault_of name)
 
 -- the kind of message that a line's first word is
 abbrev pub first_kind : List ℕ → Option Kind
-first_kind line = kind_of (before_first (λ b. b == 32) line)
+first_kind line = kind_word (before_first (λ b. b == 32) line)
 
-abbrev pub call_by : Option Kind → List ℕ → Result Call LineFault
-call_by (Some kind) line = made Receive (message_of line)
-call_by None line = script_call (event_of Two line)
+abbrev pub call_by : Option Kind → List ℕ → Result WireCall LineFault
+call_by (Some kind) line = made Receive (line_message line)
+call_by None line = script_call (line_event Two line)
 
 -- the call that a line says, or its first fault
-unfoldable pub call_of : List ℕ → Result Call LineFault
+unfoldable pub call_of : List ℕ → Result WireCall LineFault
 call_of line = if bytes_eq line tick_word then Ok Tick else call_by (first_kind line) line
 
 -- the same, of a line that is not too long
-abbrev pub bounded_call_of : List ℕ → Result Call LineFault
+abbrev pub bounded_call_of : List ℕ → Result WireCall LineFault
 bounded_call_of line = if nat_lt MAX_LINE (length line) then Err TooLong else call_of line
 
-abbrev pub said : {A : Type 0} → Result A LineFault → Option A
-said (Ok x) = Some x
-said (Err fault) = None
+abbrev pub said_ok : {A : Type 0} → Result A LineFault → Option A
+said_ok (Ok x) = Some x
+said_ok (Err fault) = None
 
 -- the call that a line names, if it names one
-abbrev pub named : List ℕ → Option Call
-named line = said (call_of line)
+abbrev pub named_call : List ℕ → Option WireCall
+named_call line = said_ok (call_of line)

@@ -4,24 +4,24 @@ use Rattle.la_set.specs.declared.update.Op.{Op}
 use Rattle.la_object.specs.declared.query.Query.{Query}
 use Rattle.la_wire.specs.declared.calls.Call as code
 use Rattle.la_wire.specs.declared.calls.Call.TheVariants as call
-use Rattle.la_wire.specs.Messages.{Message, said_by}
+use Rattle.la_wire.specs.Messages.{WireMessage, letter_message}
 
-pub data Call : Type 0 where
+pub data WireCall : Type 0 where
   -- a replica submits an operation on an object
-  Submit : (replica object : ℕ) → Op → Call
+  Submit : (replica object : ℕ) → Op → WireCall
   -- it proposes a value to an adopt-commit object
-  Decide : (replica commit value : ℕ) → Call
+  Decide : (replica commit value : ℕ) → WireCall
   -- an object on its shelf is asked
-  Ask : (replica object : ℕ) → Query → Call
+  Ask : (replica object : ℕ) → Query → WireCall
   -- the timer has run out
-  Tick : Call
+  Tick : WireCall
   -- a message has come
-  Receive : Message → Call
+  Receive : WireMessage → WireCall
 
 -- what a call of the code says
-abbrev pub called : code.Call → Call
+abbrev pub called : code.Call → WireCall
 called (call.Submit replica object op) = Submit replica object op
 called (call.Decide replica commit value) = Decide replica commit value
 called (call.Ask replica object query) = Ask replica object query
 called call.Tick = Tick
-called (call.Receive letter) = Receive (said_by letter)
+called (call.Receive letter) = Receive (letter_message letter)

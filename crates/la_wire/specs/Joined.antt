@@ -8,9 +8,9 @@ spaced byte [] = []
 spaced byte (part ∷ parts) = byte ∷ part ++ spaced byte parts
 
 -- the parts with the byte between them
-abbrev pub joined : (byte : ℕ) → List (List ℕ) → List ℕ
-joined byte [] = []
-joined byte (part ∷ parts) = part ++ spaced byte parts
+abbrev pub joined_by : (byte : ℕ) → List (List ℕ) → List ℕ
+joined_by byte [] = []
+joined_by byte (part ∷ parts) = part ++ spaced byte parts
 
 -- what stands between the bytes
 abbrev pub parted : (byte : ℕ) → List ℕ → List (List ℕ)

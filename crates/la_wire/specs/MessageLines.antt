@@ -12,18 +12,18 @@ use Rattle.la_wire.specs.declared.error.LineFault.TheVariants.{BadLine}
 use Rattle.la_wire.specs.declared.messages.Kind.{Kind}
 use Rattle.la_wire.specs.declared.messages.Kind.TheVariants as kind
 use Rattle.la_wire.specs.declared.messages.Header.{Header}
-use Rattle.la_wire.specs.Joined.{joined, parted}
-use Rattle.la_wire.specs.Readings.{◌>>=◌, or_fault, first_number, at_end}
-use Rattle.la_wire.specs.Updates.{update_text, updates_in, set_of}
-use Rattle.la_wire.specs.Messages.{Message, Body, Offer, Yes, No, Tell}
+use Rattle.la_wire.specs.Joined.{joined_by, parted}
+use Rattle.la_wire.specs.Readings.{◌>>=◌, or_line_fault, first_number, at_end}
+use Rattle.la_wire.specs.Updates.{update_text, updates_in, rebuilt_set}
+use Rattle.la_wire.specs.Messages.{WireMessage, WireBody, Offer, Yes, No, Tell}
 
 -- ## As it is written
 
-abbrev pub spelling : Kind → List ℕ
-spelling kind.Offer = codes "offer"
-spelling kind.Yes = codes "yes"
-spelling kind.No = codes "no"
-spelling kind.Tell = codes "tell"
+abbrev pub kind_text : Kind → List ℕ
+kind_text kind.Offer = codes "offer"
+kind_text kind.Yes = codes "yes"
+kind_text kind.No = codes "no"
+kind_text kind.Tell = codes "tell"
 
 abbrev pub base_word : List ℕ
 base_word = codes "base"
@@ -34,46 +34,46 @@ count_words base =
     decimal (count_in base 0) ∷ decimal (count_in base 1) ∷ decimal (count_in base 2) ∷ decimal (count_in base 3) ∷
     decimal (count_in base 4) ∷ decimal (count_in base 5) ∷ decimal (count_in base 6) ∷ decimal (count_in base 7) ∷ []
 
-abbrev pub kind_in : Body → Kind
+abbrev pub kind_in : WireBody → Kind
 kind_in (Offer base more) = kind.Offer
 kind_in Yes = kind.Yes
 kind_in (No base more) = kind.No
 kind_in (Tell told) = kind.Tell
 
-abbrev pub base_words : Body → List (List ℕ)
+abbrev pub base_words : WireBody → List (List ℕ)
 base_words (Offer base more) = base_word ∷ count_words base
 base_words Yes = []
 base_words (No base more) = base_word ∷ count_words base
 base_words (Tell told) = []
 
 -- the updates that a message carries: of a set, in the order of their ids
-abbrev pub carried : Body → List Update
+abbrev pub carried : WireBody → List Update
 carried (Offer base more) = more
 carried Yes = []
 carried (No base more) = more
 carried (Tell told) = updates told
 
 -- `offer`, `yes`, `no` or `tell`, then the group's size, sender, receiver, instance and ballot, and then the base
-abbrev pub head_words : Message → List (List ℕ)
+abbrev pub head_words : WireMessage → List (List ℕ)
 head_words m =
-    spelling (kind_in m.body) ∷ decimal m.replicas ∷ decimal m.from ∷ decimal m.to ∷ decimal m.instance ∷
+    kind_text (kind_in m.body) ∷ decimal m.replicas ∷ decimal m.from ∷ decimal m.to ∷ decimal m.instance ∷
     decimal m.ballot ∷ base_words m.body
 
-abbrev pub message_text : Message → List ℕ
-message_text m = joined 59 (joined 32 (head_words m) ∷ map update_text (carried m.body))
+abbrev pub message_text : WireMessage → List ℕ
+message_text m = joined_by 59 (joined_by 32 (head_words m) ∷ map update_text (carried m.body))
 
 -- ## As it is read
 
-abbrev pub kind_of : List ℕ → Option Kind
-kind_of word =
-    if bytes_eq word (spelling kind.Offer) then Some kind.Offer else
-    if bytes_eq word (spelling kind.Yes) then Some kind.Yes else
-    if bytes_eq word (spelling kind.No) then Some kind.No else
-    if bytes_eq word (spelling kind.Tell) then Some kind.Tell else None
+abbrev pub kind_word : List ℕ → Option Kind
+kind_word word =
+    if bytes_eq word (kind_text kind.Offer) then Some kind.Offer else
+    if bytes_eq word (kind_text kind.Yes) then Some kind.Yes else
+    if bytes_eq word (kind_text kind.No) then Some kind.No else
+    if bytes_eq word (kind_text kind.Tell) then Some kind.Tell else None
 
 -- the five numbers that a head begins with, and the words behind them
-unfoldable pub header_in : List (List ℕ) → Result (Header × List (List ℕ)) LineFault
-header_in words = do
+unfoldable pub message_header : List (List ℕ) → Result (Header × List (List ℕ)) LineFault
+message_header words = do
   replicas ← first_number 1 8 words
   from ← first_number 0 u8_max replicas.1
   to ← first_number 0 u8_max from.1
@@ -95,14 +95,14 @@ counts_in words = do
   end ← at_end h.1
   Ok (from_counts (λ r. slice_index_or (a.0 ∷ b.0 ∷ c.0 ∷ d.0 ∷ e.0 ∷ f.0 ∷ g.0 ∷ h.0 ∷ []) r 0))
 
-abbrev pub base_in : List (List ℕ) → Result Counts LineFault
-base_in [] = Err BadLine
-base_in (word ∷ words) = if bytes_eq word base_word then counts_in words else Err BadLine
+abbrev pub base_on : List (List ℕ) → Result Counts LineFault
+base_on [] = Err BadLine
+base_on (word ∷ words) = if bytes_eq word base_word then counts_in words else Err BadLine
 
 -- what stands behind the header, and the parts behind the head
-unfoldable pub body_in : Kind → List (List ℕ) → List (List ℕ) → Result Body LineFault
+unfoldable pub body_in : Kind → List (List ℕ) → List (List ℕ) → Result WireBody LineFault
 body_in kind.Offer words parts = do
-  base ← base_in words
+  base ← base_on words
   more ← updates_in parts
   Ok (Offer base more)
 body_in kind.Yes words parts = do
@@ -110,16 +110,16 @@ body_in kind.Yes words parts = do
   last ← at_end parts
   Ok Yes
 body_in kind.No words parts = do
-  base ← base_in words
+  base ← base_on words
   more ← updates_in parts
   Ok (No base more)
 body_in kind.Tell words parts = do
   end ← at_end words
   us ← updates_in parts
-  told ← set_of us
+  told ← rebuilt_set us
   Ok (Tell told)
 
-abbrev pub letter : Header → Body → Message
+abbrev pub letter : Header → WireBody → WireMessage
 letter h body = record {
   replicas = h.replicas;
   from = h.from;
@@ -130,21 +130,21 @@ letter h body = record {
 }
 
 -- a message of a kind, by the words behind it
-unfoldable pub message_at : Kind → List (List ℕ) → List (List ℕ) → Result Message LineFault
+unfoldable pub message_at : Kind → List (List ℕ) → List (List ℕ) → Result WireMessage LineFault
 message_at kind words parts = do
-  header ← header_in words
+  header ← message_header words
   body ← body_in kind header.1 parts
   Ok (letter header.0 body)
 
 -- the message that a head's words and the parts behind it say
-abbrev pub message_in : List (List ℕ) → List (List ℕ) → Result Message LineFault
+abbrev pub message_in : List (List ℕ) → List (List ℕ) → Result WireMessage LineFault
 message_in [] parts = Err BadLine
-message_in (word ∷ words) parts = or_fault BadLine (kind_of word) >>= (λ kind. message_at kind words parts)
+message_in (word ∷ words) parts = or_line_fault BadLine (kind_word word) >>= (λ kind. message_at kind words parts)
 
-abbrev pub message_of_parts : List (List ℕ) → Result Message LineFault
+abbrev pub message_of_parts : List (List ℕ) → Result WireMessage LineFault
 message_of_parts [] = Err BadLine
 message_of_parts (head ∷ parts) = message_in (parted 32 head) parts
 
 -- the message that a line says, or its first fault
-abbrev pub message_of : List ℕ → Result Message LineFault
-message_of line = message_of_parts (parted 59 line)
+abbrev pub line_message : List ℕ → Result WireMessage LineFault
+line_message line = message_of_parts (parted 59 line)

@@ -7,18 +7,18 @@ use Rattle.la_replica.specs.declared.message.Body as code
 use Rattle.la_replica.specs.declared.message.Body.TheVariants as body
 use Rattle.la_wire.specs.declared.letter.Letter.{Letter}
 
-pub data Body : Type 0 where
+pub data WireBody : Type 0 where
   -- over a base, these updates beyond it are offered
-  Offer : Counts → List Update → Body
+  Offer : Counts → List Update → WireBody
   -- the offer is acknowledged
-  Yes : Body
+  Yes : WireBody
   -- it is refused, and this is accepted now
-  No : Counts → List Update → Body
+  No : Counts → List Update → WireBody
   -- this set was learnt
-  Tell : Histories → Body
+  Tell : Histories → WireBody
 
 -- a message of a group
-pub record Message : Type 0 where
+pub record WireMessage : Type 0 where
   -- how many replicas the group has
   pub replicas : ℕ
   -- who sends it
@@ -28,17 +28,17 @@ pub record Message : Type 0 where
   pub instance : ℕ
   -- the ballot's number
   pub ballot : ℕ
-  pub body : Body
+  pub body : WireBody
 
-abbrev pub said_body : code.Body → Body
+abbrev pub said_body : code.Body → WireBody
 said_body (body.Offer d) = Offer d.base d.more
 said_body body.Yes = Yes
 said_body (body.No d) = No d.base d.more
 said_body (body.Tell told) = Tell told
 
 -- what a letter says
-abbrev pub said_by : Letter → Message
-said_by l = record {
+abbrev pub letter_message : Letter → WireMessage
+letter_message l = record {
   replicas = l.replicas;
   from = l.message.from;
   to = l.message.to;

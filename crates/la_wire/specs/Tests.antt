@@ -13,8 +13,8 @@ use Rattle.la_set.specs.Histories.{Histories, listed, updates}
 use Rattle.la_object.specs.declared.query.Query.{Query}
 use Rattle.la_object.specs.declared.query.Query.TheVariants as query
 use Rattle.la_script.specs.Numbers.{u8_max, u16_max, u32_max, u64_max}
-use Rattle.la_wire.specs.Messages.{Message, Body, Offer, Yes, No, Tell}
-use Rattle.la_wire.specs.Calls.{Call, Submit, Decide, Ask, Tick, Receive}
+use Rattle.la_wire.specs.Messages.{WireMessage, WireBody, Offer, Yes, No, Tell}
+use Rattle.la_wire.specs.Calls.{WireCall, Submit, Decide, Ask, Tick, Receive}
 
 abbrev pub is_id : UpdateId → Bool
 is_id id = nat_le id.replica u8_max && (nat_le 1 id.number && nat_le id.number u32_max)
@@ -35,8 +35,8 @@ is_op (Remove tags) = are_tags tags && list_all is_id tags
 is_op Mark = true
 is_op (Vote x sole) = nat_le x u64_max
 
-abbrev pub is_update : Update → Bool
-is_update u = is_id u.id && (nat_le u.object u16_max && is_op u.op)
+abbrev pub is_wire_update : Update → Bool
+is_wire_update u = is_id u.id && (nat_le u.object u16_max && is_op u.op)
 
 abbrev pub are_counts : Counts → Bool
 are_counts c = (length c.of == 8) && list_all (λ n. nat_le n u32_max) c.of
@@ -44,13 +44,13 @@ are_counts c = (length c.of == 8) && list_all (λ n. nat_le n u32_max) c.of
 abbrev pub is_within_limit : Histories → Bool
 is_within_limit s = list_all (λ history. nat_le (length history) MAX_NUMBER) (listed s)
 
-abbrev pub is_body : Body → Bool
-is_body (Offer base more) = are_counts base && list_all is_update more
+abbrev pub is_body : WireBody → Bool
+is_body (Offer base more) = are_counts base && list_all is_wire_update more
 is_body Yes = true
-is_body (No base more) = are_counts base && list_all is_update more
-is_body (Tell told) = is_within_limit told && list_all is_update (updates told)
+is_body (No base more) = are_counts base && list_all is_wire_update more
+is_body (Tell told) = is_within_limit told && list_all is_wire_update (updates told)
 
-abbrev pub is_message : Message → Bool
+abbrev pub is_message : WireMessage → Bool
 is_message m =
     (nat_le 1 m.replicas && nat_le m.replicas 8)
     && ((nat_le m.from u8_max && nat_le m.to u8_max)
@@ -66,7 +66,7 @@ is_query (query.AtLeast x) = nat_le x u64_max
 is_query (query.Has x) = nat_le x u64_max
 is_query _ = true
 
-abbrev pub is_call : Call → Bool
+abbrev pub is_call : WireCall → Bool
 is_call (Submit replica object op) = (nat_le replica u8_max && nat_le object u16_max) && (is_op op && is_voteless op)
 is_call (Decide replica commit value) = nat_le replica u8_max && (nat_le commit u8_max && nat_le value u64_max)
 is_call (Ask replica object query) = nat_le replica u8_max && (nat_le object u16_max && is_query query)

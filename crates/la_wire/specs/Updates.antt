@@ -11,7 +11,7 @@ use Rattle.la_set.specs.declared.tags.TheConstants.{MAX_TAGS}
 use Rattle.la_set.specs.Histories.{Histories, empty, count, push}
 use Rattle.la_set.specs.Deltas.{pushed}
 use Rattle.la_script.specs.Text.{id_text}
-use Rattle.la_script.specs.Tags.{tags_of}
+use Rattle.la_script.specs.Tags.{tag_words}
 use Rattle.la_script.specs.Numbers.{u16_max, u32_max, u64_max}
 use Rattle.la_wire.specs.declared.error.LineFault.{LineFault}
 use Rattle.la_wire.specs.declared.error.LineFault.TheVariants.{BadLine, BadNumber, BadSet}
@@ -21,20 +21,20 @@ use Rattle.la_wire.specs.declared.error.LineError.{LineError}
 use Rattle.la_wire.specs.declared.error.LineError.TheVariants as error
 use Rattle.la_set.specs.declared.error.SetError.{SetError}
 use Rattle.la_set.specs.declared.error.SetError.TheVariants.{Memory}
-use Rattle.la_wire.specs.Joined.{joined, parted}
-use Rattle.la_wire.specs.Readings.{◌>>=◌, or_fault, number_at, first_number, first_id, at_end}
+use Rattle.la_wire.specs.Joined.{joined_by, parted}
+use Rattle.la_wire.specs.Readings.{◌>>=◌, or_line_fault, number_on, first_number, first_id, at_end}
 
 -- ## As it is written
 
-abbrev pub spelling : Verb → List ℕ
-spelling verb.Inc = codes "inc"
-spelling verb.Dec = codes "dec"
-spelling verb.Raise = codes "raise"
-spelling verb.Put = codes "put"
-spelling verb.Remove = codes "remove"
-spelling verb.Mark = codes "mark"
-spelling verb.Vote = codes "vote"
-spelling verb.Sole = codes "sole"
+abbrev pub verb_spelling : Verb → List ℕ
+verb_spelling verb.Inc = codes "inc"
+verb_spelling verb.Dec = codes "dec"
+verb_spelling verb.Raise = codes "raise"
+verb_spelling verb.Put = codes "put"
+verb_spelling verb.Remove = codes "remove"
+verb_spelling verb.Mark = codes "mark"
+verb_spelling verb.Vote = codes "vote"
+verb_spelling verb.Sole = codes "sole"
 
 abbrev pub vote_verb : (sole : Bool) → Verb
 vote_verb true = verb.Sole
@@ -42,42 +42,42 @@ vote_verb false = verb.Vote
 
 -- a vote for a value that its voter saw alone is `sole`
 abbrev pub op_words : Op → List (List ℕ)
-op_words (op.Inc x) = spelling verb.Inc ∷ decimal x ∷ []
-op_words (op.Dec x) = spelling verb.Dec ∷ decimal x ∷ []
-op_words (op.Raise x) = spelling verb.Raise ∷ decimal x ∷ []
-op_words (op.Put x) = spelling verb.Put ∷ decimal x ∷ []
-op_words (op.Remove tags) = spelling verb.Remove ∷ map id_text tags
-op_words op.Mark = spelling verb.Mark ∷ []
-op_words (op.Vote x sole) = spelling (vote_verb sole) ∷ decimal x ∷ []
+op_words (op.Inc x) = verb_spelling verb.Inc ∷ decimal x ∷ []
+op_words (op.Dec x) = verb_spelling verb.Dec ∷ decimal x ∷ []
+op_words (op.Raise x) = verb_spelling verb.Raise ∷ decimal x ∷ []
+op_words (op.Put x) = verb_spelling verb.Put ∷ decimal x ∷ []
+op_words (op.Remove tags) = verb_spelling verb.Remove ∷ map id_text tags
+op_words op.Mark = verb_spelling verb.Mark ∷ []
+op_words (op.Vote x sole) = verb_spelling (vote_verb sole) ∷ decimal x ∷ []
 
 abbrev pub update_words : Update → List (List ℕ)
 update_words u = id_text u.id ∷ decimal u.object ∷ op_words u.op
 
 abbrev pub update_text : Update → List ℕ
-update_text u = joined 32 (update_words u)
+update_text u = joined_by 32 (update_words u)
 
 -- ## As it is read
 
 -- the verb that a word is
 abbrev pub verb_of : List ℕ → Option Verb
 verb_of word =
-    if bytes_eq word (spelling verb.Inc) then Some verb.Inc else
-    if bytes_eq word (spelling verb.Dec) then Some verb.Dec else
-    if bytes_eq word (spelling verb.Raise) then Some verb.Raise else
-    if bytes_eq word (spelling verb.Put) then Some verb.Put else
-    if bytes_eq word (spelling verb.Remove) then Some verb.Remove else
-    if bytes_eq word (spelling verb.Mark) then Some verb.Mark else
-    if bytes_eq word (spelling verb.Vote) then Some verb.Vote else
-    if bytes_eq word (spelling verb.Sole) then Some verb.Sole else None
+    if bytes_eq word (verb_spelling verb.Inc) then Some verb.Inc else
+    if bytes_eq word (verb_spelling verb.Dec) then Some verb.Dec else
+    if bytes_eq word (verb_spelling verb.Raise) then Some verb.Raise else
+    if bytes_eq word (verb_spelling verb.Put) then Some verb.Put else
+    if bytes_eq word (verb_spelling verb.Remove) then Some verb.Remove else
+    if bytes_eq word (verb_spelling verb.Mark) then Some verb.Mark else
+    if bytes_eq word (verb_spelling verb.Vote) then Some verb.Vote else
+    if bytes_eq word (verb_spelling verb.Sole) then Some verb.Sole else None
 
 -- one number up to the highest, and nothing behind it
 abbrev pub only_number : (high : ℕ) → List (List ℕ) → Result ℕ LineFault
-only_number high (word ∷ []) = number_at 0 high word
+only_number high (word ∷ []) = number_on 0 high word
 only_number high _ = Err BadLine
 
 -- the tags of a remove are the rest of the words
-abbrev pub tags_at : List (List ℕ) → Result (List UpdateId) LineFault
-tags_at words = if nat_le (length words) MAX_TAGS then or_fault BadNumber (tags_of words) else Err BadLine
+abbrev pub line_tags : List (List ℕ) → Result (List UpdateId) LineFault
+line_tags words = if nat_le (length words) MAX_TAGS then or_line_fault BadNumber (tag_words words) else Err BadLine
 
 abbrev pub made : {A B : Type 0} → (A → B) → Result A LineFault → Result B LineFault
 made make (Ok x) = Ok (make x)
@@ -89,7 +89,7 @@ op_at verb.Inc words = made op.Inc (only_number u32_max words)
 op_at verb.Dec words = made op.Dec (only_number u32_max words)
 op_at verb.Raise words = made op.Raise (only_number u64_max words)
 op_at verb.Put words = made op.Put (only_number u64_max words)
-op_at verb.Remove words = made op.Remove (tags_at words)
+op_at verb.Remove words = made op.Remove (line_tags words)
 op_at verb.Mark words = made (λ end. op.Mark) (at_end words)
 op_at verb.Vote words = made (λ value. op.Vote value false) (only_number u64_max words)
 op_at verb.Sole words = made (λ value. op.Vote value true) (only_number u64_max words)
@@ -97,7 +97,7 @@ op_at verb.Sole words = made (λ value. op.Vote value true) (only_number u64_max
 -- what words say is done
 abbrev pub op_in : List (List ℕ) → Result Op LineFault
 op_in [] = Err BadLine
-op_in (word ∷ words) = or_fault BadLine (verb_of word) >>= (λ is. op_at is words)
+op_in (word ∷ words) = or_line_fault BadLine (verb_of word) >>= (λ is. op_at is words)
 
 -- the update that words say
 unfoldable pub update_in : List (List ℕ) → Result Update LineFault
@@ -132,5 +132,5 @@ refused_by Memory = error.Memory
 refused_by _ = error.Fault BadSet
 
 -- the set of these updates
-unfoldable pub set_of : List Update → Result Histories LineFault
-set_of us = if come_next empty us then Ok (pushed empty us) else Err BadSet
+unfoldable pub rebuilt_set : List Update → Result Histories LineFault
+rebuilt_set us = if come_next empty us then Ok (pushed empty us) else Err BadSet

@@ -12,8 +12,8 @@ use Rattle.la_set.specs.Histories.{updates, IsWithinLimit}
 use Rattle.la_script.specs.Numbers.{u8_max, u16_max, u32_max, u64_max}
 use Rattle.la_object.specs.declared.query.Query.{Query}
 use Rattle.la_object.specs.declared.query.Query.TheVariants as query
-use Rattle.la_wire.specs.Messages.{Message, Body, Offer, Yes, No, Tell}
-use Rattle.la_wire.specs.Calls.{Call, Submit, Decide, Ask, Tick, Receive}
+use Rattle.la_wire.specs.Messages.{WireMessage, WireBody, Offer, Yes, No, Tell}
+use Rattle.la_wire.specs.Calls.{WireCall, Submit, Decide, Ask, Tick, Receive}
 
 pub record IsId (id : UpdateId) : Type 0 where
   pub replica : id.replica ≤ u8_max
@@ -39,13 +39,13 @@ pub record IsCounts (c : Counts) : Type 0 where
   pub eight : length c.of ≡ 8
   pub each : (r : ℕ) → count_in c r ≤ u32_max
 
-abbrev pub IsBody : Body → Type 0
+abbrev pub IsBody : WireBody → Type 0
 IsBody (Offer base more) = IsCounts base × All IsUpdate more
 IsBody Yes = Unit {0}
 IsBody (No base more) = IsCounts base × All IsUpdate more
 IsBody (Tell told) = IsWithinLimit told × All IsUpdate (updates told)
 
-pub record IsMessage (m : Message) : Type 0 where
+pub record IsMessage (m : WireMessage) : Type 0 where
   pub some : 1 ≤ m.replicas
   pub few : m.replicas ≤ 8
   pub from : m.from ≤ u8_max
@@ -64,7 +64,7 @@ IsQuery (query.AtLeast x) = x ≤ u64_max
 IsQuery (query.Has x) = x ≤ u64_max
 IsQuery _ = Unit {0}
 
-abbrev pub IsCall : Call → Type 0
+abbrev pub IsCall : WireCall → Type 0
 IsCall (Submit replica object op) = (replica ≤ u8_max) × (object ≤ u16_max) × IsOp op × IsVoteless op
 IsCall (Decide replica commit value) = (replica ≤ u8_max) × (commit ≤ u8_max) × (value ≤ u64_max)
 IsCall (Ask replica object query) = (replica ≤ u8_max) × (object ≤ u16_max) × IsQuery query

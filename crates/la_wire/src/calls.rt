@@ -3,11 +3,11 @@ ghost use Rattle.std.specs.Prelude.{◌≡◌, ◌==◌, Ok, Some, IfOk};
 ghost use Rattle.la_journal.specs.Machine.{IsNamed};
 ghost use Rattle.std.specs.List.{before_first};
 ghost use Rattle.la_script.specs.declared.script.Version.TheVariants.{Two};
-ghost use Rattle.la_script.specs.Lines.{event_of};
-ghost use Rattle.la_wire.specs.Readings.{Gives};
+ghost use Rattle.la_script.specs.Lines.{line_event};
+ghost use Rattle.la_wire.specs.Readings.{GivesOnLine};
 ghost use Rattle.la_wire.specs.Calls.{called};
 ghost use Rattle.la_wire.specs.CallLines.{event_call, fault_of, script_call, first_kind};
-ghost use Rattle.la_wire.specs.CallLines.{call_of, bounded_call_of, named};
+ghost use Rattle.la_wire.specs.CallLines.{call_of, bounded_call_of, named_call};
 
 use crate::messages::{Kind, read_message};
 use crate::{Letter, LineError, LineFault};
@@ -58,7 +58,7 @@ pub enum Call {
 
 // The call that an event is: a delivery is none.
 fn event_call(event: Event) -> Result<Call, LineError>
-    ensures { Gives called (event_call event) result }
+    ensures { GivesOnLine called (event_call event) result }
 {
     match event {
         Event::Submit {
@@ -103,7 +103,7 @@ fn fault_of(name: FaultName) -> LineFault
 
 // The call that an event of a script is.
 fn script_call(alloc: Global, line: &[u8]) -> Result<Call, LineError>
-    ensures { Gives called (script_call (event_of Two line.now)) result }
+    ensures { GivesOnLine called (script_call (line_event Two line.now)) result }
 {
     match event_at(alloc, Version::Two, 0, line) {
         Ok(event) => event_call(event),
@@ -130,7 +130,7 @@ fn first_kind(line: &[u8]) -> Option<Kind>
 /// other line it is the fault of a script's event, and `BadLine` for `deliver`. `Memory` may come at any line.
 /// Nothing stands after a refusal.
 pub fn read(alloc: Global, line: &[u8]) -> Result<Call, LineError>
-    ensures { Gives called (call_of line.now) result }
+    ensures { GivesOnLine called (call_of line.now) result }
 {
     if line == b"tick".as_slice() {
         return Ok(Call::Tick);
@@ -145,7 +145,7 @@ pub fn read(alloc: Global, line: &[u8]) -> Result<Call, LineError>
 /// [`MAX_LINE`] bytes, and then it is not looked at. So no line takes more memory than some such lines
 /// have bytes.
 pub fn read_bounded(alloc: Global, line: &[u8]) -> Result<Call, LineError>
-    ensures exact { Gives called (bounded_call_of line.now) result }
+    ensures exact { GivesOnLine called (bounded_call_of line.now) result }
     ensures ok { IfOk result (λ call. call_of line.now ≡ Ok (called call)) }
 {
     if line.len() > MAX_LINE {
@@ -157,7 +157,7 @@ pub fn read_bounded(alloc: Global, line: &[u8]) -> Result<Call, LineError>
 /// The call that a line names, as [`read`] reads it; `None` where it has a fault. It is what a `Machine` of
 /// `la_journal` reads.
 pub fn named(alloc: Global, line: &[u8]) -> Result<Option<Call>, AllocError>
-    ensures { IfOk result (λ call. IsNamed called (named line.now) call) }
+    ensures { IfOk result (λ call. IsNamed called (named_call line.now) call) }
 {
     match read(alloc, line) {
         Ok(call) => Ok(Some(call)),

@@ -1,10 +1,10 @@
 // Messages, read from lines.
 ghost use Rattle.std.specs.Prelude.{◌≡◌, IfOk};
 ghost use Rattle.la_script.specs.Words.{bytes_of};
-ghost use Rattle.la_wire.specs.Readings.{Gives, GivesFirst};
-ghost use Rattle.la_wire.specs.Messages.{said_body, said_by};
-ghost use Rattle.la_wire.specs.MessageLines.{spelling, kind_of, header_in, counts_in, base_in};
-ghost use Rattle.la_wire.specs.MessageLines.{body_in, message_at, message_in, message_of};
+ghost use Rattle.la_wire.specs.Readings.{GivesOnLine, GivesFirst};
+ghost use Rattle.la_wire.specs.Messages.{said_body, letter_message};
+ghost use Rattle.la_wire.specs.MessageLines.{kind_text, kind_word, message_header, counts_in, base_on};
+ghost use Rattle.la_wire.specs.MessageLines.{body_in, message_at, message_in, line_message};
 
 use crate::updates::{set_of, updates_in};
 use crate::words::{at_end, first_number, parts_of};
@@ -26,7 +26,7 @@ pub enum Kind {
 impl Kind {
     /// The word, as bytes.
     pub fn spelling(self) -> &'static [u8]
-        ensures { result.now ≡ spelling self }
+        ensures { result.now ≡ kind_text self }
     {
         match self {
             Kind::Offer => b"offer",
@@ -38,7 +38,7 @@ impl Kind {
 
     /// The kind that a word is.
     pub fn of(word: &[u8]) -> Option<Kind>
-        ensures { result ≡ kind_of word.now }
+        ensures { result ≡ kind_word word.now }
     {
         if word == Kind::Offer.spelling() {
             Some(Kind::Offer)
@@ -66,7 +66,7 @@ pub struct Header {
 
 // The header, and the words behind it.
 fn header_in<'a, 'b>(words: &'a [&'b [u8]]) -> Result<(Header, &'a [&'b [u8]]), LineFault>
-    ensures { GivesFirst (header_in (bytes_of words.now)) result }
+    ensures { GivesFirst (message_header (bytes_of words.now)) result }
 {
     let byte = u64::from(u8::MAX);
     let (replicas, words) = first_number(1, 8, words)?;
@@ -104,7 +104,7 @@ fn counts_in(words: &[&[u8]]) -> Result<Counts, LineFault>
 }
 
 fn base_in(words: &[&[u8]]) -> Result<Counts, LineFault>
-    ensures { result ≡ base_in (bytes_of words.now) }
+    ensures { result ≡ base_on (bytes_of words.now) }
 {
     match words {
         [word, rest @ ..] if *word == b"base".as_slice() => counts_in(rest),
@@ -114,7 +114,7 @@ fn base_in(words: &[&[u8]]) -> Result<Counts, LineFault>
 
 // What stands behind the header, and in the parts behind the head.
 fn body_in(alloc: Global, kind: Kind, words: &[&[u8]], parts: &[&[u8]]) -> Result<Body, LineError>
-    ensures { Gives said_body (body_in kind (bytes_of words.now) (bytes_of parts.now)) result }
+    ensures { GivesOnLine said_body (body_in kind (bytes_of words.now) (bytes_of parts.now)) result }
 {
     match kind {
         Kind::Offer => {
@@ -145,7 +145,7 @@ fn message_at(
     words: &[&[u8]],
     parts: &[&[u8]],
 ) -> Result<Letter, LineError>
-    ensures { Gives said_by (message_at kind (bytes_of words.now) (bytes_of parts.now)) result }
+    ensures { GivesOnLine letter_message (message_at kind (bytes_of words.now) (bytes_of parts.now)) result }
 {
     let (header, words) = header_in(words)?;
     let body = body_in(alloc, kind, words, parts)?;
@@ -163,7 +163,7 @@ fn message_at(
 }
 
 fn message_in(alloc: Global, words: &[&[u8]], parts: &[&[u8]]) -> Result<Letter, LineError>
-    ensures { Gives said_by (message_in (bytes_of words.now) (bytes_of parts.now)) result }
+    ensures { GivesOnLine letter_message (message_in (bytes_of words.now) (bytes_of parts.now)) result }
 {
     let [word, rest @ ..] = words else {
         return Err(LineError::Fault(LineFault::BadLine));
@@ -176,7 +176,7 @@ fn message_in(alloc: Global, words: &[&[u8]], parts: &[&[u8]]) -> Result<Letter,
 
 /// The message that a line says, at a cost linear in its bytes.
 pub fn read_message(alloc: Global, line: &[u8]) -> Result<Letter, LineError>
-    ensures { Gives said_by (message_of line.now) result }
+    ensures { GivesOnLine letter_message (line_message line.now) result }
 {
     let parts = parts_of(alloc, line)?;
     let [head, updates @ ..] = parts.as_slice() else {

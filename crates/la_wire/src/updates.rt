@@ -1,9 +1,9 @@
 // Updates, each read from a part of a line.
 ghost use Rattle.std.specs.Prelude.{◌≡◌, ◌≤◌, IfOk};
 ghost use Rattle.la_script.specs.Words.{bytes_of};
-ghost use Rattle.la_wire.specs.Readings.{Gives};
-ghost use Rattle.la_wire.specs.Updates.{spelling, vote_verb, verb_of, only_number, tags_at};
-ghost use Rattle.la_wire.specs.Updates.{op_at, op_in, update_in, updates_in, set_of, refused_by};
+ghost use Rattle.la_wire.specs.Readings.{GivesOnLine};
+ghost use Rattle.la_wire.specs.Updates.{verb_spelling, vote_verb, verb_of, only_number, line_tags};
+ghost use Rattle.la_wire.specs.Updates.{op_at, op_in, update_in, updates_in, rebuilt_set, refused_by};
 
 use crate::words::{at_end, first_id, first_number, number_at};
 use crate::{LineError, LineFault};
@@ -27,7 +27,7 @@ pub enum Verb {
 impl Verb {
     /// The word, as bytes.
     pub fn spelling(self) -> &'static [u8]
-        ensures { result.now ≡ spelling self }
+        ensures { result.now ≡ verb_spelling self }
     {
         match self {
             Verb::Inc => b"inc",
@@ -86,7 +86,7 @@ fn only_number(high: u64, words: &[&[u8]]) -> Result<u64, LineFault>
 }
 
 fn tags_at(alloc: Global, words: &[&[u8]]) -> Result<Tags, LineError>
-    ensures { Gives (λ tags. tags) (tags_at (bytes_of words.now)) result }
+    ensures { GivesOnLine (λ tags. tags) (line_tags (bytes_of words.now)) result }
 {
     if words.len() > MAX_TAGS {
         return Err(LineError::Fault(LineFault::BadLine));
@@ -99,7 +99,7 @@ fn tags_at(alloc: Global, words: &[&[u8]]) -> Result<Tags, LineError>
 
 // What the words behind a verb say.
 fn op_at(alloc: Global, verb: Verb, words: &[&[u8]]) -> Result<Op, LineError>
-    ensures { Gives (λ op. op) (op_at verb (bytes_of words.now)) result }
+    ensures { GivesOnLine (λ op. op) (op_at verb (bytes_of words.now)) result }
 {
     let small = u64::from(u32::MAX);
     match verb {
@@ -124,7 +124,7 @@ fn op_at(alloc: Global, verb: Verb, words: &[&[u8]]) -> Result<Op, LineError>
 }
 
 fn op_in(alloc: Global, words: &[&[u8]]) -> Result<Op, LineError>
-    ensures { Gives (λ op. op) (op_in (bytes_of words.now)) result }
+    ensures { GivesOnLine (λ op. op) (op_in (bytes_of words.now)) result }
 {
     let [word, rest @ ..] = words else {
         return Err(LineError::Fault(LineFault::BadLine));
@@ -137,7 +137,7 @@ fn op_in(alloc: Global, words: &[&[u8]]) -> Result<Op, LineError>
 
 // The update that words say.
 fn update_in(alloc: Global, words: &[&[u8]]) -> Result<Update, LineError>
-    ensures { Gives (λ update. update) (update_in (bytes_of words.now)) result }
+    ensures { GivesOnLine (λ update. update) (update_in (bytes_of words.now)) result }
 {
     let (id, words) = first_id(words)?;
     let (object, words) = first_number(0, u64::from(u16::MAX), words)?;
@@ -152,7 +152,7 @@ fn update_in(alloc: Global, words: &[&[u8]]) -> Result<Update, LineError>
 /// The updates that parts of a line say, at a cost linear in their bytes.
 #[tactic(auto, using(crate::proofs::UpdateLists::goes_on))]
 pub fn updates_in(alloc: Global, parts: &[&[u8]]) -> Result<Updates, LineError>
-    ensures { Gives (λ updates. updates) (updates_in (bytes_of parts.now)) result }
+    ensures { GivesOnLine (λ updates. updates) (updates_in (bytes_of parts.now)) result }
 {
     let mut updates = Updates::new(alloc);
     for part in parts {
@@ -164,7 +164,7 @@ pub fn updates_in(alloc: Global, parts: &[&[u8]]) -> Result<Updates, LineError>
 
 /// The set of these updates, or `BadSet` where one of them does not come next.
 pub fn set_of(alloc: Global, updates: Updates) -> Result<UpdateSet, LineError>
-    ensures { Gives (λ set. set) (set_of updates) result }
+    ensures { GivesOnLine (λ set. set) (rebuilt_set updates) result }
 {
     let delta = Delta::new(Counts::zero(), updates);
     match UpdateSet::new(alloc).with(&delta) {

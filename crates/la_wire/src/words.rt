@@ -2,7 +2,7 @@
 ghost use Rattle.std.specs.Prelude.{◌≡◌, ◌<◌, ◌≤◌, ◌^◌, Ok, IfOk};
 ghost use Rattle.la_script.specs.Words.{bytes_of};
 ghost use Rattle.la_wire.specs.Joined.{parted};
-ghost use Rattle.la_wire.specs.Readings.{number_at, first_number, first_id, at_end, GivesFirst};
+ghost use Rattle.la_wire.specs.Readings.{number_on, first_number, first_id, at_end, GivesFirst};
 
 use crate::LineFault;
 use la_script::{number, tag_of};
@@ -18,7 +18,7 @@ pub fn parts_of(alloc: Global, line: &[u8]) -> Result<Vec<&[u8]>, AllocError>
 
 /// A word that is a number from `low` to `high`, as a script writes it, or `BadNumber`.
 pub fn number_at(low: u64, high: u64, word: &[u8]) -> Result<u64, LineFault>
-    ensures exact { result ≡ number_at low high word.now }
+    ensures exact { result ≡ number_on low high word.now }
     ensures high { IfOk result (λ n. n ≤ high) }
 {
     match number(low, high, word) {

@@ -3,15 +3,15 @@ ghost use Rattle.std.specs.Prelude.{◌≡◌, ◌++◌, ◌∷◌, [], map, IfO
 ghost use Rattle.std.specs.Fmt.{decimal};
 ghost use Rattle.la_set.specs.Histories.{updates};
 ghost use Rattle.la_script.specs.Text.{id_text};
-ghost use Rattle.la_wire.specs.Joined.{spaced, joined};
+ghost use Rattle.la_wire.specs.Joined.{spaced, joined_by};
 ghost use Rattle.la_wire.specs.Updates.{op_words, update_text};
-ghost use Rattle.la_wire.specs.Messages.{said_by, said_body};
+ghost use Rattle.la_wire.specs.Messages.{letter_message, said_body};
 ghost use Rattle.la_wire.specs.MessageLines.{count_words, base_words, base_word, carried};
 ghost use Rattle.la_wire.specs.MessageLines.{kind_in, head_words, message_text};
-ghost use Rattle.la_wire.specs.MessageLines.{spelling as kind_spelling};
-ghost use Rattle.la_wire.specs.Updates.{spelling};
+ghost use Rattle.la_wire.specs.MessageLines.{kind_text as kind_spelling};
+ghost use Rattle.la_wire.specs.Updates.{verb_spelling};
 ghost use Rattle.la_wire.specs.Calls.{called};
-ghost use Rattle.la_wire.specs.CallLines.{query_words, text};
+ghost use Rattle.la_wire.specs.CallLines.{query_words, call_line_text};
 
 use crate::messages::Kind;
 use crate::updates::Verb;
@@ -75,7 +75,7 @@ fn put_tags(out: &mut Vec<u8>, tags: &Tags) -> Result<(), AllocError>
 // Writes a verb and its number.
 fn put_verb(out: &mut Vec<u8>, verb: Verb, number: u64) -> Result<(), AllocError>
     ensures { OnOk result
-        (out.new.items ≡ out.old.items ++ spaced 32 (spelling verb ∷ decimal number ∷ [])) }
+        (out.new.items ≡ out.old.items ++ spaced 32 (verb_spelling verb ∷ decimal number ∷ [])) }
 {
     put_word(out, verb.spelling())?;
     put_number(out, number)
@@ -198,7 +198,7 @@ fn put_header(out: &mut Vec<u8>, replicas: u8, message: &Message) -> Result<(), 
 /// finding each update. After a refusal a part of it may stand there.
 pub fn put_message(out: &mut Vec<u8>, replicas: u8, message: &Message) -> Result<(), AllocError>
     ensures { OnOk result (out.new.items ≡ out.old.items
-        ++ message_text (said_by (record { replicas = replicas; message = message.now }))) }
+        ++ message_text (letter_message (record { replicas = replicas; message = message.now }))) }
 {
     put_header(out, replicas, message)?;
     put_body(out, &message.body)
@@ -227,7 +227,7 @@ fn put_query(out: &mut Vec<u8>, query: Query) -> Result<(), AllocError>
 // Writes a call's first word, and the numbers of a replica and of an object.
 fn put_front(out: &mut Vec<u8>, word: &[u8], replica: u8, object: u16) -> Result<(), AllocError>
     ensures { OnOk result (out.new.items
-        ≡ out.old.items ++ joined 32 (word.now ∷ decimal replica ∷ decimal object ∷ [])) }
+        ≡ out.old.items ++ joined_by 32 (word.now ∷ decimal replica ∷ decimal object ∷ [])) }
 {
     out.extend_from_slice(word)?;
     put_number(out, u64::from(replica))?;
@@ -236,7 +236,7 @@ fn put_front(out: &mut Vec<u8>, word: &[u8], replica: u8, object: u16) -> Result
 
 // Writes a call's line behind what is there.
 fn put_call(out: &mut Vec<u8>, call: &Call) -> Result<(), AllocError>
-    ensures { OnOk result (out.new.items ≡ out.old.items ++ text (called call.now)) }
+    ensures { OnOk result (out.new.items ≡ out.old.items ++ call_line_text (called call.now)) }
 {
     match call {
         Call::Submit {
@@ -271,7 +271,7 @@ fn put_call(out: &mut Vec<u8>, call: &Call) -> Result<(), AllocError>
 /// The line of a call, without the line's end, at the cost of [`put_message`]. A call that can be had, with a vote
 /// in no submission and with ids from 1, is read back from it ([`laws`](crate::laws)).
 pub fn write(alloc: Global, call: &Call) -> Result<Vec<u8>, AllocError>
-    ensures { IfOk result (λ line. line.items ≡ text (called call.now)) }
+    ensures { IfOk result (λ line. line.items ≡ call_line_text (called call.now)) }
 {
     let mut line = Vec::new(alloc);
     put_call(&mut line, call)?;

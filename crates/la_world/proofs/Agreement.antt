@@ -19,9 +19,9 @@ use Rattle.la_world.specs.Groups.{Group, replicas}
 use Rattle.la_world.specs.Events.{Event, Decide}
 use Rattle.la_world.specs.Learnings.{learnt}
 use Rattle.la_world.specs.Playing.{trace}
-use Rattle.la_world.specs.StandsFor.{IsLegal}
+use Rattle.la_world.specs.StandsFor.{IsLegalTrace}
 use Rattle.la_world.specs.Outcomes.{decisions}
-use Rattle.la_world.specs.Laws.{CommitsAgree, ReturnsAreProposed, UnanimousCommit, AdoptCommitIsSafe}
+use Rattle.la_world.specs.Laws.{CommitsAgree, ReturnsAreProposed, UnanimousProposalsCommit, AdoptCommitIsSafe}
 use Rattle.la_world.proofs.Chains.{learnt_comparable}
 use Rattle.la_world.proofs.SubmittedVotes.{HasVoted}
 use Rattle.la_world.proofs.LearntVotes.{IsSecond, first_votes, second_votes}
@@ -76,7 +76,7 @@ sole_seconds_agree g events k v w a b sole_v sole_w =
     (sym (ap (λ (z : Vote). z.sole) b.is) ∙ sole_w)
     ∙ sym (ap (λ (z : Vote). z.value) b.is)
 
-module _ (g : Group) (events : List Event) (few : replicas g ≤ 8) (legal : IsLegal g events) where
+module _ (g : Group) (events : List Event) (few : replicas g ≤ 8) (legal : IsLegalTrace g events) where
   -- every sole vote of a set of the second instance is for the value of this sole vote
   sole_value : (k : ℕ) (v : Vote) → IsSecond (trace g events) k v → v.sole ≡ true → (x : Learnt)
       → Contains (learnt (trace g events)) x → x.instance ≡ second_instance k
@@ -158,7 +158,7 @@ module _ (g : Group) (events : List Event) (few : replicas g ≤ 8) (legal : IsL
     commits x was at r own holds = unanimous-commit x.updates own.value value (some_votes x.updates r own holds)
         (all_members (λ (v : Vote). v ≡ record { value = value; sole = true }) (votes x.updates) (λ v has. second_is v (second_votes g events few legal x was k at v has)))
 
-  unanimous : UnanimousCommit events (decisions g (trace g events))
+  unanimous : UnanimousProposalsCommit events (decisions g (trace g events))
   unanimous k value one x has of =
       let a = was_returned g (trace g events) x has in
       sym a.is ∙ commits k value one a.set a.was (a.instance ∙ ap second_instance of) a.set.replica a.own a.holds

@@ -21,7 +21,7 @@ use Rattle.la_world.specs.Groups.{Group, replicas, kinds_on}
 use Rattle.la_world.specs.Events.{Event, Ask}
 use Rattle.la_world.specs.Trace.{Trace}
 use Rattle.la_world.specs.Playing.{answer_of, trace}
-use Rattle.la_world.specs.Report.{refused, refused_object, line_of, runs, runs_on, lines, trace_of}
+use Rattle.la_world.specs.Report.{refused, refused_object, line_of, runs, runs_on, report_lines, trace_of}
 use Rattle.la_world.specs.Laws.{AnswersAreValues, EqualViewsAnswerAlike, ReportedAnswersAreValues}
 use Rattle.la_world.proofs.Allowing.{none_from_cond}
 use Rattle.la_world.proofs.Safe.{line_each}
@@ -98,7 +98,7 @@ module _ (g : Group) where
       lines_many = length-reverse (runs g es).lines ∙ line_each g es
 
   -- what a report says of the event at a place, by the events before
-  pub line_of_place : (events : List Event) (k : ℕ) (d : Event) → slice_get events k ≡ Some d → let t = trace_of g (take k events) in slice_get (lines g events) k ≡ Some (becomes g t d (refused g t d))
+  pub line_of_place : (events : List Event) (k : ℕ) (d : Event) → slice_get events k ≡ Some d → let t = trace_of g (take k events) in slice_get (report_lines g events) k ≡ Some (becomes g t d (refused g t d))
   unfolding before
   line_of_place events k d is =
       line_at (reverse events) k d (ap (λ xs. slice_get xs k) (reverse-reverse events) ∙ is)

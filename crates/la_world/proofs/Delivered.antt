@@ -17,12 +17,12 @@ use Rattle.la_world.specs.Groups.{Group, replicas}
 use Rattle.la_world.specs.Events.{Past}
 use Rattle.la_world.specs.Trace.{Trace}
 use Rattle.la_world.specs.Sent.{sent}
-use Rattle.la_world.specs.Acceptors.{accepted}
+use Rattle.la_world.specs.Acceptors.{accepted_there}
 use Rattle.la_world.specs.Ballots.{round}
 use Rattle.la_world.specs.Playing.{trace}
 use Rattle.la_world.specs.ReplicaStates.{proposer_state, instance_of}
-use Rattle.la_world.specs.StandsFor.{IsLegal}
-use Rattle.la_world.specs.Told.{told, StandsBody}
+use Rattle.la_world.specs.StandsFor.{IsLegalTrace}
+use Rattle.la_world.specs.Told.{told_messages, StandsBody}
 use Rattle.la_world.proofs.Lists.{IsIn, IsIn_get}
 use Rattle.la_world.proofs.Within.{set_in}
 use Rattle.la_world.proofs.OwnBound.{own_bound, history-own_bound}
@@ -34,15 +34,15 @@ use Rattle.la_world.proofs.Tellings.{told_carries, told_messages_stand}
 use Rattle.la_world.proofs.Traces.{holds, message_known, round_known, own_count}
 use Rattle.la_world.proofs.Deliverable.{IsDeliverable, IsDeliverableAt}
 
-module _ (g : Group) (events : Past) (legal : IsLegal g events) (small : g.cap ≤ 1000000) (k : ℕ) (m : code.Message)
-    (stored : slice_get (told (replicas g) (trace g events)) k ≡ Some m) where
+module _ (g : Group) (events : Past) (legal : IsLegalTrace g events) (small : g.cap ≤ 1000000) (k : ℕ) (m : code.Message)
+    (stored : slice_get (told_messages (replicas g) (trace g events)) k ≡ Some m) where
   abbrev t : Trace
   t = trace g events
 
   -- it carries the one that was sent
   pub told_sent : slice_get (sent (replicas g) t) k ≡ Some (whole_of m)
   told_sent =
-      sym (message_at (told (replicas g) t) (sent (replicas g) t) k (told_carries (replicas g) t))
+      sym (message_at (told_messages (replicas g) t) (sent (replicas g) t) k (told_carries (replicas g) t))
       ∙ ap (option_map whole_of) stored
 
   abbrev at : Instance
@@ -79,7 +79,7 @@ module _ (g : Group) (events : Past) (legal : IsLegal g events) (small : g.cap �
         theirs = st.0;
         few = within_limit (set_of d) sub;
         fits =
-            compatible-within (accepted t m.instance m.to) (set_of d) (own_bound t m.instance)
+            compatible-within (accepted_there t m.instance m.to) (set_of d) (own_bound t m.instance)
             ((holds g events).within.acceptor m.instance m.to) sub;
       }
   body_deliverable body.Yes is st = tt

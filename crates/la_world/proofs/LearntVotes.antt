@@ -19,10 +19,10 @@ use Rattle.la_world.specs.Groups.{Group, replicas}
 use Rattle.la_world.specs.Events.{Event, Decide}
 use Rattle.la_world.specs.Trace.{Trace}
 use Rattle.la_world.specs.Ballots.{ballots}
-use Rattle.la_world.specs.Submissions.{submitted, whole}
+use Rattle.la_world.specs.Submissions.{submitted_ops, whole}
 use Rattle.la_world.specs.Learnings.{learnt}
 use Rattle.la_world.specs.Playing.{trace}
-use Rattle.la_world.specs.StandsFor.{IsLegal}
+use Rattle.la_world.specs.StandsFor.{IsLegalTrace}
 use Rattle.la_world.proofs.Lists.{IsIn, AllIn_at, contains_IsIn}
 use Rattle.la_world.proofs.Quorum.{learnt_ballot}
 use Rattle.la_world.proofs.Within.{IsBallotWithin}
@@ -59,7 +59,7 @@ pub record IsSecond (t : Trace) (k : ℕ) (v : Vote) : Type 0 where
   pub voted : HasVoted t k replica
   pub is : v ≡ second_vote_for voted.first.updates voted.value
 
-module _ (g : Group) (events : List Event) (few : replicas g ≤ 8) (legal : IsLegal g events) (x : Learnt)
+module _ (g : Group) (events : List Event) (few : replicas g ≤ 8) (legal : IsLegalTrace g events) (x : Learnt)
     (was : Contains (learnt (trace g events)) x) where
   opened : IsIn (learnt_ballot x) (ballots (trace g events) x.instance x.replica)
   opened = (learning_justified g events x (contains_IsIn (learnt (trace g events)) x was)).opened
@@ -79,7 +79,7 @@ module _ (g : Group) (events : List Event) (few : replicas g ≤ 8) (legal : IsL
 
   -- each of its updates was submitted
   update_submitted : (u : Update) → ContainsUpdate x.updates u
-      → object_op_number (submitted (trace g events) x.instance u.id.replica) u.id.number ≡ Some (object_op_of u)
+      → object_op_number (submitted_ops (trace g events) x.instance u.id.replica) u.id.number ≡ Some (object_op_of u)
   update_submitted u member =
       let t = trace g events in
       let at = object_op-contains (whole t x.instance) u (within u member) in
@@ -90,10 +90,10 @@ module _ (g : Group) (events : List Event) (few : replicas g ≤ 8) (legal : IsL
 
   -- where these are all that its replica submitted there, it is one of them
   submitted_at : (i : ℕ) → x.instance ≡ i → (u : Update) → ContainsUpdate x.updates u → (ds : List ObjectOp)
-      → submitted (trace g events) i u.id.replica ≡ ds → object_op_number ds u.id.number ≡ Some (object_op_of u)
+      → submitted_ops (trace g events) i u.id.replica ≡ ds → object_op_number ds u.id.number ≡ Some (object_op_of u)
   submitted_at i at u member ds e =
       subst (λ zs. object_op_number zs u.id.number ≡ Some (object_op_of u))
-      (ap (λ j. submitted (trace g events) j u.id.replica) at ∙ e) (update_submitted u member)
+      (ap (λ j. submitted_ops (trace g events) j u.id.replica) at ∙ e) (update_submitted u member)
 
   casts_only : (u : Update) (v w : Vote) (k : ℕ) → vote_of u.op ≡ Some v → casts k w ≡ object_op_of u → v ≡ w
   casts_only u v w k e same = sym (same_Some w v (ap (λ (d : ObjectOp). vote_of d.op) same ∙ e))
@@ -148,7 +148,7 @@ module _ (g : Group) (events : List Event) (few : replicas g ≤ 8) (legal : IsL
   abbrev own_op : ObjectOp
   own_op = (learnt_first g events x was).object_op
 
-  own_submitted : (i : ℕ) → x.instance ≡ i → (ds : List ObjectOp) → submitted (trace g events) i r ≡ ds
+  own_submitted : (i : ℕ) → x.instance ≡ i → (ds : List ObjectOp) → submitted_ops (trace g events) i r ≡ ds
       → object_op_number ds 1 ≡ Some own_op
   own_submitted i at ds e = submitted_at i at (update_of r 1 own_op) (learnt_first g events x was).is ds e
 

@@ -28,7 +28,7 @@ use Rattle.la_replica.proofs.lemmas.Carrying.{carried_received, carried_offers}
 use Rattle.la_replica.proofs.lemmas.Alike.{alike_trans, alike_received}
 use Rattle.la_replica.proofs.lemmas.Rebasing.{rebased_whole, over_one, alike_stands}
 use Rattle.la_replica.specs.Stored.{IsMade}
-use Rattle.la_world.specs.Told.{offered_to, told_at, told}
+use Rattle.la_world.specs.Told.{offered_to, sent_as_told, told_messages}
 use Rattle.la_world.proofs.Tellings.{told_are_made}
 use Rattle.la_world.proofs.ToldMail.{told_of, told_as, sent_sides}
 use Rattle.la_world.proofs.Deliverable.{IsDeliverableAt, deliverable_carried}
@@ -44,10 +44,10 @@ use Rattle.la_world.specs.Groups.{Group, replicas, instances}
 use Rattle.la_world.specs.Events.{Event, Past, Submit, Deliver, Decide}
 use Rattle.la_world.specs.Trace.{Did, Entry, Trace}
 use Rattle.la_world.specs.Sent.{sent_at, sent}
-use Rattle.la_world.specs.Ballots.{learnt_by}
-use Rattle.la_world.specs.Submissions.{submission_by, submitted}
-use Rattle.la_world.specs.Views.{view}
-use Rattle.la_world.specs.Playing.{submits, receives, entry, trace}
+use Rattle.la_world.specs.Ballots.{opening_learnt}
+use Rattle.la_world.specs.Submissions.{submission_by, submitted_ops}
+use Rattle.la_world.specs.Views.{trace_view}
+use Rattle.la_world.specs.Playing.{does_submit, does_receive, event_entry, trace}
 use Rattle.la_world.specs.Learnings.{learning_of, learnt}
 use Rattle.la_world.specs.Outcomes.{decisions}
 use Rattle.la_world.specs.Report.{refused, views}
@@ -58,7 +58,7 @@ use Rattle.la_world.specs.Nodes.{NodeState}
 use Rattle.la_world.specs.Calls.{views_of, decisions_at}
 use Rattle.la_world.specs.Laws.{IsAdoptCommit}
 use Rattle.la_world.specs.Promises.{KeepsPromises}
-use Rattle.la_world.specs.LiveGroups.{LearntSet, LiveGroup, Call, Submitted, Proposed, Received, Looked, silence, submission, makes, MayAccept, learnt_from, learnt_by_call, IsStep, IsStart, Reaches, IsReached, told_by_calls, replicas_of, event_of, events_of, live_group_of, learnt_set_of, StandsForEvents, decisions_of}
+use Rattle.la_world.specs.LiveGroups.{LearntSet, LiveGroup, LiveCall, Submitted, Proposed, Received, Looked, silence, submission, live_makes, MayAccept, learnt_from, learnt_by_call, IsGroupStep, IsGroupStart, Reaches, IsReached, told_by_calls, replicas_of, live_event, events_of, live_group_of, learnt_set_of, StandsForEvents, decisions_of}
 use Rattle.la_world.specs.LiveGroups.{LiveGroupsStandForEvents, LiveGroupsKeepAll, LiveLearntAreComparable, LiveViewsAreComparable, LiveNodesAreOneHistory, NewNodesAreLive, NetworksMayLose, SubmissionsKeepLive, ProposalsKeepLive, ReceiptsKeepLive, LooksKeepLive}
 use Rattle.la_world.specs.Rebased.{TellsAs, IsRetold, AreRetold}
 use Rattle.la_world.specs.Kept as kept
@@ -81,7 +81,7 @@ use Rattle.la_world.proofs.Agreement.{adopt_commit}
 use Rattle.la_world.proofs.Promised.{trace_keeps}
 use Rattle.la_world.proofs.RebasedReceipts.{sent_one}
 
-pub start_stands : (c : Config) (group : LiveGroup) → IsStart c group → StandsForEvents c group []
+pub start_stands : (c : Config) (group : LiveGroup) → IsGroupStart c group → StandsForEvents c group []
 unfolding trace learnt
 start_stands c group is = record {
   config = is.config;
@@ -103,14 +103,14 @@ module _ (c : Config) (group : LiveGroup) (events : Past) (stands : StandsForEve
 
   stands_with : (e : Event) (r : ℕ) (made : NodeState) (mail : List Message) (said : List LearntSet) (after : LiveGroup)
       → refused g t e ≡ None → r < replicas g
-      → ((q : ℕ) → q ≢ r → replica_state g (entry g t e ∷ t) q ≡ replica_state g t q)
-      → made.replica ≡ replica_state g (entry g t e ∷ t) r → mail ≡ sent_at (replicas g) (entry g t e)
-      → said ≡ map learnt_set_of (learning_of (length t) (learnt_by (entry g t e).did))
+      → ((q : ℕ) → q ≢ r → replica_state g (event_entry g t e ∷ t) q ≡ replica_state g t q)
+      → made.replica ≡ replica_state g (event_entry g t e ∷ t) r → mail ≡ sent_at (replicas g) (event_entry g t e)
+      → said ≡ map learnt_set_of (learning_of (length t) (opening_learnt (event_entry g t e).did))
       → after.nodes ≡ slice_set group.nodes r made → after.sent ≡ group.sent ++ mail → after.learnt ≡ group.learnt ++ said
       → StandsForEvents c after (e ∷ events)
   unfolding trace learnt
   stands_with e r made mail said after allowed known others is mails says nodes sends learns =
-      let x = entry g t e in
+      let x = event_entry g t e in
       record {
         config = stands.config;
         led =
@@ -120,7 +120,7 @@ module _ (c : Config) (group : LiveGroup) (events : Past) (stands : StandsForEve
             is mails);
         learnt =
             learns ∙ ap₂ (λ xs ys. xs ++ ys) stands.learnt says
-            ∙ sym (map-append learnt_set_of (learnt t) (learning_of (length t) (learnt_by x.did)));
+            ∙ sym (map-append learnt_set_of (learnt t) (learning_of (length t) (opening_learnt x.did)));
       }
 
   -- ## A call of node r
@@ -142,14 +142,14 @@ module _ (c : Config) (group : LiveGroup) (events : Past) (stands : StandsForEve
         ∙ ap (replica_state g t) {x = 0 + r} {y = r} (omega arith)
 
     -- what it has submitted in an instance, if there is one
-    count_is : (i : ℕ) → i < instances g → submitted_in node.replica i ≡ Some (length (submitted t i r))
+    count_is : (i : ℕ) → i < instances g → submitted_in node.replica i ≡ Some (length (submitted_ops t i r))
     unfolding instance_of proposer_state
     count_is i there =
         ap (λ (m : ReplicaState). submitted_in m i) is_state
         ∙ ap (option_map (λ (x : Instance). proposer.submitted x.proposer)) (get_instance g t r i there)
         ∙ ap Some (submitted_is g t i r (holds g events))
 
-    has_room : HasRoom node.replica 0 → length (submitted t 0 r) < g.cap
+    has_room : HasRoom node.replica 0 → length (submitted_ops t 0 r) < g.cap
     unfolding instance_of proposer_state
     has_room h =
         subst (λ n. n < g.cap) (submitted_is g t 0 r (holds g events))
@@ -162,13 +162,13 @@ module _ (c : Config) (group : LiveGroup) (events : Past) (stands : StandsForEve
         → after.learnt ≡ group.learnt ++ [] → StandsForEvents c after (Submit r d ∷ events)
     submitted_stands d taken made after room does nodes sends learns =
         let e = Submit r d in
-        let x = entry g t e in
+        let x = event_entry g t e in
         let allowed = submission_allowed g t r d known (has_room room) in
         let f = submission_steps g events r d few stands.led.legal allowed in
         let both =
         same_Some _ _ (sym does ∙ ap (λ m. submission (acting.submits m 0 d)) is_state ∙ ap submission f.step) in
-        let none : learnt_by x.did ≡ None =
-        ap (λ y. learnt_by y.did) (submission_entry g t 0 r d e (λ did. refl)) ∙ submits_learns t 0 r d in
+        let none : opening_learnt x.did ≡ None =
+        ap (λ y. opening_learnt y.did) (submission_entry g t 0 r d e (λ did. refl)) ∙ submits_learns t 0 r d in
         stands_with e r made taken.mail [] after allowed known f.others (ap (λ p. p.1) both) (ap (λ p. p.0.mail) both)
         (sym (ap (λ o. map learnt_set_of (learning_of (length t) o)) none)) nodes sends learns
 
@@ -193,7 +193,7 @@ module _ (c : Config) (group : LiveGroup) (events : Past) (stands : StandsForEve
         → after.learnt ≡ group.learnt ++ [] → StandsForEvents c after (Decide r k value ∷ events)
     proposed_stands k value taken made after first does nodes sends learns =
         let e = Decide r k value in
-        let x = entry g t e in
+        let x = event_entry g t e in
         let i = first_instance k in
         let there = object_known k first in
         let none_yet = same_Some _ _ (sym (count_is i there) ∙ first) in
@@ -204,8 +204,8 @@ module _ (c : Config) (group : LiveGroup) (events : Past) (stands : StandsForEve
         same_Some _ _
         (sym does ∙ ap (λ m. submission (acting.submits m i (first_vote k value))) is_state ∙ ap submission f.step)
         in
-        let none : learnt_by x.did ≡ None =
-        ap (λ y. learnt_by y.did) (submission_entry g t i r (first_vote k value) e (λ did. refl))
+        let none : opening_learnt x.did ≡ None =
+        ap (λ y. opening_learnt y.did) (submission_entry g t i r (first_vote k value) e (λ did. refl))
         ∙ submits_learns t i r (first_vote k value) in
         stands_with e r made taken.mail [] after allowed known f.others (ap (λ p. p.1) both) (ap (λ p. p.0.mail) both)
         (sym (ap (λ o. map learnt_set_of (learning_of (length t) o)) none)) nodes sends learns
@@ -224,26 +224,26 @@ module _ (c : Config) (group : LiveGroup) (events : Past) (stands : StandsForEve
         → StandsForEvents c after (Deliver number ∷ events)
     received_stands number m taken made after at to does nodes sends learns =
         let e = Deliver number in
-        let x = entry g t e in
+        let x = event_entry g t e in
         let was = ap (λ ms. slice_get ms number) (sym stands.led.sent) ∙ at in
         let allowed = delivery_allowed g t number (slice_get_within (sent (replicas g) t) number m was) in
         let f = delivery_steps g events number m few stands.led.legal was in
         let both =
         same_Some _ _ (sym does ∙ ap (λ s. takes s m) (is_state ∙ ap (replica_state g t) (sym to)) ∙ f.step) in
-        let did : x.did ≡ receives g t (Some m) = ap (λ y. y.did) (entry_delivers g t number m was) in
+        let did : x.did ≡ does_receive g t (Some m) = ap (λ y. y.did) (entry_delivers g t number m was) in
         let placed =
-        subst (λ d. (b : Opening) → learnt_by d ≡ Some b → IsOf m.instance m.to b) (sym did)
+        subst (λ d. (b : Opening) → opening_learnt d ≡ Some b → IsOf m.instance m.to b) (sym did)
         (delivery_placed g events stands.led.legal few number m was).learnt in
         stands_with e r made taken.mail (learnt_from r (Some m) (learnt_in taken.said)) after allowed known
         (subst (λ p. (q : ℕ) → q ≢ p → replica_state g (x ∷ t) q ≡ replica_state g t q) to f.others)
         (ap (λ p. p.1) both ∙ ap (replica_state g (x ∷ t)) to)
         (ap (λ p. p.0.mail) both)
         (ap (λ p. learnt_from r (Some m) (learnt_in p.0.said)) both ∙ ap (learnt_from r (Some m)) (learnt_said x.did)
-        ∙ said_as m (learnt_by x.did) to placed)
+        ∙ said_as m (opening_learnt x.did) to placed)
         nodes sends learns
 
     looked_stands : (taken : Taken) (made : NodeState) (after : LiveGroup)
-        → makes group.sent node.replica Looked ≡ Some (taken, made.replica) → after.nodes ≡ slice_set group.nodes r made
+        → live_makes group.sent node.replica Looked ≡ Some (taken, made.replica) → after.nodes ≡ slice_set group.nodes r made
         → after.sent ≡ group.sent ++ taken.mail → after.learnt ≡ group.learnt ++ [] → StandsForEvents c after events
     looked_stands taken made after does nodes sends learns =
         let both = same_Some _ _ does in
@@ -265,37 +265,37 @@ module _ (c : Config) (group : LiveGroup) (events : Past) (stands : StandsForEve
     -- ### How it is told
 
     -- by a submission
-    submission_told : (e : Event) (i : ℕ) (d : ObjectOp) (by : (did : Did) → submission_by e did ≡ Some (record { instance = i; replica = r; object_op = d })) → i < instances g → (made : NodeState) (mail : List code.Message) → made.replica ≡ replica_state g (entry g t e ∷ t) r → map whole_of mail ≡ sent_at (replicas g) (entry g t e) → ((offered : Counts) → AreToldFrom made.replica i offered mail) → mail ≡ told_at (replicas g) (entry g t e) t
-    submission_told e i d by there made mail is carry told =
-        let x = entry g t e in
+    submission_told : (e : Event) (i : ℕ) (d : ObjectOp) (by : (did : Did) → submission_by e did ≡ Some (record { instance = i; replica = r; object_op = d })) → i < instances g → (made : NodeState) (mail : List code.Message) → made.replica ≡ replica_state g (event_entry g t e ∷ t) r → map whole_of mail ≡ sent_at (replicas g) (event_entry g t e) → ((offered : Counts) → AreToldFrom made.replica i offered mail) → mail ≡ sent_as_told (replicas g) (event_entry g t e) t
+    submission_told e i d by there made mail is carry told_messages =
+        let x = event_entry g t e in
         let h = legal_submits g events stands.led.legal few e i r d by there known in
         let none = submits_learns t i r d in
         let sides : AllIn (λ (m : Message). (m.from ≡ r) × (m.to < 8)) (sent_at (replicas g) x) =
         subst (λ (y : Entry). AllIn (λ (m : Message). (m.from ≡ r) × (m.to < 8)) (sent_at (replicas g) y))
         (sym (submission_entry g t i r d e by))
-        (sent_sides (replicas g) r None (submits t i r d) few (λ b f. (h.concerns.opened b f).replica)
+        (sent_sides (replicas g) r None (does_submit t i r d) few (λ b f. (h.concerns.opened b f).replica)
         (λ b f. absurd (none-some b (sym none ∙ f))) (λ m f. absurd (none-some m f))) in
         told_as g t x r mail carry sides
         (subst (λ q. AreToldIn q (offered_to x.delivered) mail) is
-        (told_of made.replica i (offered_to x.delivered) mail (told (offered_to x.delivered))))
+        (told_of made.replica i (offered_to x.delivered) mail (told_messages (offered_to x.delivered))))
 
     pub update_told : (d : ObjectOp) (made : NodeState) (mail : List code.Message) (taken : Taken)
         → HasRoom node.replica 0 → submission (acting.submits node.replica 0 d) ≡ Some (taken, made.replica)
         → map whole_of mail ≡ taken.mail → ((offered : Counts) → AreToldFrom made.replica 0 offered mail)
-        → mail ≡ told_at (replicas g) (entry g t (Submit r d)) t
-    update_told d made mail taken room does carry told =
+        → mail ≡ sent_as_told (replicas g) (event_entry g t (Submit r d)) t
+    update_told d made mail taken room does carry told_messages =
         let f = submission_steps g events r d few stands.led.legal (submission_allowed g t r d known (has_room room)) in
         let both =
         same_Some _ _ (sym does ∙ ap (λ m. submission (acting.submits m 0 d)) is_state ∙ ap submission f.step) in
         submission_told (Submit r d) 0 d (λ did. refl) (omega arith) made mail (ap (λ p. p.1) both)
-        (carry ∙ ap (λ p. p.0.mail) both) told
+        (carry ∙ ap (λ p. p.0.mail) both) told_messages
 
     pub proposal_told : (k value : ℕ) (made : NodeState) (mail : List code.Message) (taken : Taken)
         → submitted_in node.replica (first_instance k) ≡ Some 0
         → submission (acting.submits node.replica (first_instance k) (first_vote k value)) ≡ Some (taken, made.replica)
         → map whole_of mail ≡ taken.mail → ((offered : Counts) → AreToldFrom made.replica (first_instance k) offered mail)
-        → mail ≡ told_at (replicas g) (entry g t (Decide r k value)) t
-    proposal_told k value made mail taken first does carry told =
+        → mail ≡ sent_as_told (replicas g) (event_entry g t (Decide r k value)) t
+    proposal_told k value made mail taken first does carry told_messages =
         let i = first_instance k in
         let there = object_known k first in
         let none_yet = same_Some _ _ (sym (count_is i there) ∙ first) in
@@ -307,15 +307,15 @@ module _ (c : Config) (group : LiveGroup) (events : Past) (stands : StandsForEve
         (sym does ∙ ap (λ m. submission (acting.submits m i (first_vote k value))) is_state ∙ ap submission f.step)
         in
         submission_told (Decide r k value) i (first_vote k value) (λ did. refl) there made mail (ap (λ p. p.1) both)
-        (carry ∙ ap (λ p. p.0.mail) both) told
+        (carry ∙ ap (λ p. p.0.mail) both) told_messages
 
     -- by a receipt
     pub receipt_told : (number : ℕ) (m : Message) (made : NodeState) (mail : List code.Message) (taken : Taken)
         → slice_get (sent (replicas g) t) number ≡ Some m → m.to ≡ r → takes node.replica m ≡ Some (taken, made.replica)
         → map whole_of mail ≡ taken.mail → AreToldIn made.replica (offered_by m) mail
-        → mail ≡ told_at (replicas g) (entry g t (Deliver number)) t
-    receipt_told number m made mail taken was to does carry told =
-        let x = entry g t (Deliver number) in
+        → mail ≡ sent_as_told (replicas g) (event_entry g t (Deliver number)) t
+    receipt_told number m made mail taken was to does carry told_messages =
+        let x = event_entry g t (Deliver number) in
         let f = delivery_steps g events number m few stands.led.legal was in
         let both =
         same_Some _ _ (sym does ∙ ap (λ s. takes s m) (is_state ∙ ap (replica_state g t) (sym to)) ∙ f.step) in
@@ -323,15 +323,15 @@ module _ (c : Config) (group : LiveGroup) (events : Past) (stands : StandsForEve
         let sides : AllIn (λ (w : Message). (w.from ≡ m.to) × (w.to < 8)) (sent_at (replicas g) x) =
         subst (λ (y : Entry). AllIn (λ (w : Message). (w.from ≡ m.to) × (w.to < 8)) (sent_at (replicas g) y))
         (sym (entry_delivers g t number m was))
-        (sent_sides (replicas g) m.to (Some m) (receives g t (Some m)) few (λ b h. (placed.opened b h).replica) (λ b h. (placed.learnt b h).replica)
+        (sent_sides (replicas g) m.to (Some m) (does_receive g t (Some m)) few (λ b h. (placed.opened b h).replica) (λ b h. (placed.learnt b h).replica)
         (λ n h. let one = same_Some m n h in (ap (λ (z : Message). z.to) (sym one), subst (λ (z : Message). z.from < replicas g) one (legal_between g events stands.led.legal number m was).from))) in
         let offers : offered_by m ≡ offered_to x.delivered = sym (ap offered_to was) in
         told_as g t x m.to mail (carry ∙ ap (λ p. p.0.mail) both) sides
-        (subst₂ (λ q counts. AreToldIn q counts mail) (ap (λ p. p.1) both) offers told)
+        (subst₂ (λ q counts. AreToldIn q counts mail) (ap (λ p. p.1) both) offers told_messages)
 
   -- by whatever call
-  pub step_stands : (r : ℕ) (call : Call) (after : LiveGroup) → IsStep group r call after
-      → StandsForEvents c after (cons_option (event_of r call) events)
+  pub step_stands : (r : ℕ) (call : LiveCall) (after : LiveGroup) → IsGroupStep group r call after
+      → StandsForEvents c after (cons_option (live_event r call) events)
   step_stands r (Submitted d) after s =
       submitted_stands r s.node s.is_at d s.taken s.made after s.accepts s.does s.nodes s.sent s.learnt
   step_stands r (Proposed k value) after s =
@@ -395,7 +395,7 @@ learnt_comparable_live c calls group reached x y has_x has_y same =
 
 -- the view of a node, as the events have it
 view_in_trace : (c : Config) (group : LiveGroup) (events : Past) → StandsForEvents c group events → (n : NodeState)
-    → Contains group.nodes n → (r : ℕ) × (view (trace (live_group_of c) events) r ≡ n.replica.view)
+    → Contains group.nodes n → (r : ℕ) × (trace_view (trace (live_group_of c) events) r ≡ n.replica.view)
 unfolding replica_state
 view_in_trace c group events stands n has =
     let p = IsIn_place group.nodes n (contains_IsIn group.nodes n has) in
@@ -404,14 +404,14 @@ view_in_trace c group events stands n has =
 pub views_comparable_live : LiveViewsAreComparable
 views_comparable_live c more calls before after m n reached later has_m has_n =
     let g = live_group_of c in
-    let event = λ (call : ℕ × Call). event_of call.0 call.1 in
+    let event = λ (call : ℕ × LiveCall). live_event call.0 call.1 in
     let all : events_of (more ++ calls) ≡ events_of more ++ events_of calls = filter_map-append event more calls in
     let past : drop (length (events_of more)) (events_of (more ++ calls)) ≡ events_of calls =
     ap (drop (length (events_of more))) all
     ∙ drop_at (events_of more) (events_of calls) (length (events_of more)) refl in
     let p = view_in_trace c before (events_of calls) (groups_stand c calls before reached) m has_m in
     let q = view_in_trace c after (events_of (more ++ calls)) (groups_stand c (more ++ calls) after later) n has_n in
-    subst₂ AreComparable (ap (λ es. view (trace g es) p.0) past ∙ p.1) q.1
+    subst₂ AreComparable (ap (λ es. trace_view (trace g es) p.0) past ∙ p.1) q.1
     (views_comparable g (events_of (more ++ calls)) (length (events_of more)) 0 p.0 q.0)
 
 -- ## What a program holds
@@ -465,23 +465,23 @@ loses_live nodes network left live within = ∥∥₁_map live (λ is. record {
 })
 
 -- what was told before a call was told after it
-still_told : (c : Config) (r : ℕ) (call : Call) (calls : List (ℕ × Call)) (m : code.Message)
+still_told : (c : Config) (r : ℕ) (call : LiveCall) (calls : List (ℕ × LiveCall)) (m : code.Message)
     → IsRetold m (told_by_calls c calls) → IsRetold m (told_by_calls c ((r, call) ∷ calls))
-unfolding trace told
+unfolding trace told_messages
 still_told c r (Submitted d) calls m a = (a.0, Contains-append_left (told_by_calls c calls) _ a.0 a.1, a.2)
 still_told c r (Proposed k value) calls m a = (a.0, Contains-append_left (told_by_calls c calls) _ a.0 a.1, a.2)
 still_told c r (Received number) calls m a = (a.0, Contains-append_left (told_by_calls c calls) _ a.0 a.1, a.2)
 still_told c r Looked calls m a = a
 
 -- and so is what it tells, over whatever bases
-newly_told : (c : Config) (events : Past) (e : Event) (sends mail : List code.Message) → let g = live_group_of c in let t = trace g events in sends ≡ told_at (replicas g) (entry g t e) t
-    → AreRetold mail sends → AreRetold mail (told (replicas g) (trace g (e ∷ events)))
-unfolding trace told
+newly_told : (c : Config) (events : Past) (e : Event) (sends mail : List code.Message) → let g = live_group_of c in let t = trace g events in sends ≡ sent_as_told (replicas g) (event_entry g t e) t
+    → AreRetold mail sends → AreRetold mail (told_messages (replicas g) (trace g (e ∷ events)))
+unfolding trace told_messages
 newly_told c events e sends mail is retold m has =
     let g = live_group_of c in let t = trace g events in
     let a = retold m has in (
       a.0,
-      Contains-append_right (told (replicas g) t) (told_at (replicas g) (entry g t e) t) a.0
+      Contains-append_right (told_messages (replicas g) t) (sent_as_told (replicas g) (event_entry g t e) t) a.0
           (subst (λ ms. Contains ms a.0) is a.1),
       a.2,
     )
@@ -489,8 +489,8 @@ newly_told c events e sends mail is retold m has =
 -- one call more, by which this is sent
 module _ (nodes : List NodeState) (network mail : List code.Message) (r : ℕ) (node made : NodeState)
     (at : slice_get nodes r ≡ Some node) where
-  reached_on : (is : IsReached nodes network) (call : Call) (taken : Taken)
-      → MayAccept is.group.sent r node.replica call → makes is.group.sent node.replica call ≡ Some (taken, made.replica)
+  reached_on : (is : IsReached nodes network) (call : LiveCall) (taken : Taken)
+      → MayAccept is.group.sent r node.replica call → live_makes is.group.sent node.replica call ≡ Some (taken, made.replica)
       → AreRetold mail (told_by_calls is.config ((r, call) ∷ is.calls))
       → IsReached (slice_set nodes r made) (network ++ mail)
   unfolding Reaches
@@ -524,25 +524,25 @@ module _ (nodes : List NodeState) (network mail : List code.Message) (r : ℕ) (
       }
 
 pub submissions_live : SubmissionsKeepLive
-submissions_live nodes network mail r node made d out live at room step told retold = ∥∥₁_map live (λ is.
+submissions_live nodes network mail r node made d out live at room step told_messages retold = ∥∥₁_map live (λ is.
     let stands = groups_stand is.config is.calls is.group is.reached in
     let found = ap (λ ns. slice_get ns r) is.nodes_are ∙ at in
     reached_on nodes network mail r node made at is (Submitted d) (without_vote (whole_out out)) room
     (ap submission step)
-    (newly_told is.config (events_of is.calls) (Submit r d) out.mail mail (update_told is.config is.group (events_of is.calls) stands r node found d made out.mail (without_vote (whole_out out)) room (ap submission step) refl told) retold))
+    (newly_told is.config (events_of is.calls) (Submit r d) out.mail mail (update_told is.config is.group (events_of is.calls) stands r node found d made out.mail (without_vote (whole_out out)) room (ap submission step) refl told_messages) retold))
 
 pub proposals_live : ProposalsKeepLive
-proposals_live nodes network mail r node made k value out live at first step told retold = ∥∥₁_map live (λ is.
+proposals_live nodes network mail r node made k value out live at first step told_messages retold = ∥∥₁_map live (λ is.
     let stands = groups_stand is.config is.calls is.group is.reached in
     let found = ap (λ ns. slice_get ns r) is.nodes_are ∙ at in
     reached_on nodes network mail r node made at is (Proposed k value) (without_vote (whole_out out)) first
     (ap submission step)
-    (newly_told is.config (events_of is.calls) (Decide r k value) out.mail mail (proposal_told is.config is.group (events_of is.calls) stands r node found k value made out.mail (without_vote (whole_out out)) first (ap submission step) refl told) retold))
+    (newly_told is.config (events_of is.calls) (Decide r k value) out.mail mail (proposal_told is.config is.group (events_of is.calls) stands r node found k value made out.mail (without_vote (whole_out out)) first (ap submission step) refl told_messages) retold))
 
 -- a message on the network is received as the one that was sent
 module _ (c : Config) (group : LiveGroup) (events : Past) (stands : StandsForEvents c group events) (r : ℕ)
     (node : NodeState) (found : slice_get group.nodes r ≡ Some node) (place : ℕ) (n : code.Message)
-    (at : slice_get (told (replicas (live_group_of c)) (trace (live_group_of c) events)) place ≡ Some n) (to : n.to ≡ r)
+    (at : slice_get (told_messages (replicas (live_group_of c)) (trace (live_group_of c) events)) place ≡ Some n) (to : n.to ≡ r)
   where
     sent_there : slice_get group.sent place ≡ Some (whole_of n)
     sent_there =
@@ -559,7 +559,7 @@ module _ (c : Config) (group : LiveGroup) (events : Past) (stands : StandsForEve
         let deliverable = told_deliverable g events stands.led.legal stands.config.group.cap_most place n at in
         subst (λ q. IsCarriedIn q n) (ap (replica_state g t) to ∙ sym (is_state c group events stands r node found))
         (deliverable_carried (replica_state g t n.to) n
-        (AllIn_at IsMade (told (replicas g) t) n (told_are_made g events) (IsIn_get (told (replicas g) t) place n at))
+        (AllIn_at IsMade (told_messages (replicas g) t) n (told_are_made g events) (IsIn_get (told_messages (replicas g) t) place n at))
         (subst (λ o. IsSomeAnd o (λ x. IsDeliverableAt x n)) (sym there) deliverable))
 
     takes_sent : takes node.replica (received_in node.replica n) ≡ takes node.replica (whole_of n)
@@ -616,7 +616,7 @@ pub receipt_reached : (nodes : List NodeState) (network mail : List code.Message
     → takes node.replica (received_in node.replica m) ≡ Some (whole_done done, made.replica)
     → AreToldIn made.replica (offered_by (received_in node.replica m)) done.mail → AreRetold mail done.mail
     → IsReached (slice_set nodes r made) (network ++ mail)
-receipt_reached nodes network mail r node made m done is at has to over step told retold =
+receipt_reached nodes network mail r node made m done is at has to over step told_messages retold =
     let c = is.config in let events = events_of is.calls in let group = is.group in
     let stands = groups_stand c is.calls group is.reached in
     let found = ap (λ ns. slice_get ns r) is.nodes_are ∙ at in
@@ -634,11 +634,11 @@ receipt_reached nodes network mail r node made m done is at has to over step tol
     (newly_told c events (Deliver p.0) done.mail mail
     (receipt_told c group events stands r node found p.0 (whole_of n) made done.mail (whole_done done)
     (ap (λ ms. slice_get ms p.0) (sym stands.led.sent) ∙ there) n_to does refl
-    (subst (λ counts. AreToldIn made.replica counts done.mail) offers told)) retold)
+    (subst (λ counts. AreToldIn made.replica counts done.mail) offers told_messages)) retold)
 
 pub receipts_live : ReceiptsKeepLive
-receipts_live nodes network mail r node made m done live at has to over step told retold =
-    ∥∥₁_map live (λ is. receipt_reached nodes network mail r node made m done is at has to over step told retold)
+receipts_live nodes network mail r node made m done live at has to over step told_messages retold =
+    ∥∥₁_map live (λ is. receipt_reached nodes network mail r node made m done is at has to over step told_messages retold)
 
 pub looks_live : LooksKeepLive
 looks_live nodes network r node made live at same =
@@ -658,8 +658,8 @@ module _ {A : Type 0} where
   came_to (Some made) after e = (made.0, ap (λ s. Some (made.0, s)) (same_Some made.1 after e))
 
 unheard : (nodes : List NodeState) (network : List code.Message) (r : ℕ) (node made : NodeState)
-    → slice_get nodes r ≡ Some node → (is : IsReached nodes network) (call : Call) (taken : Taken)
-    → MayAccept is.group.sent r node.replica call → makes is.group.sent node.replica call ≡ Some (taken, made.replica)
+    → slice_get nodes r ≡ Some node → (is : IsReached nodes network) (call : LiveCall) (taken : Taken)
+    → MayAccept is.group.sent r node.replica call → live_makes is.group.sent node.replica call ≡ Some (taken, made.replica)
     → IsReached (slice_set nodes r made) network
 unheard nodes network r node made at is call taken accepts does =
     subst (IsReached (slice_set nodes r made)) (append-nil network)

@@ -20,7 +20,7 @@ use Rattle.la_world.specs.Nodes.{NodeState}
 use Rattle.la_world.specs.Playing.{trace}
 use Rattle.la_world.specs.Rebased.{TellsAs}
 use Rattle.la_world.specs.ReplicaStates.{replica_state}
-use Rattle.la_world.specs.Told.{told}
+use Rattle.la_world.specs.Told.{told_messages}
 use Rattle.la_world.proofs.Lists.{contains_IsIn, IsIn_place}
 use Rattle.la_world.proofs.LiveGroups.{groups_stand, is_state, alike_tells, tells_to, receipt_reached}
 use Rattle.la_world.proofs.RebasedReceipts.{sent_one_told, sent_within_limit}
@@ -152,8 +152,8 @@ without_message nodes network mail k is = record {
 }
 
 pub parcels_live : ParcelReceiptsKeepLive
-parcels_live nodes network mail r node made p done live at (m, has, (believed, alike)) to unwraps over step told retold = ∥∥₁_map live (λ is.
+parcels_live nodes network mail r node made p done live at (m, has, (believed, alike)) to unwraps over step told_messages retold = ∥∥₁_map live (λ is.
     let k = unwrapped_in node.replica p in
     let same = parcel_is nodes network is r node at m has (sym alike.to ∙ to) p believed alike unwraps in
     without_message (slice_set nodes r made) network mail k
-    (receipt_reached nodes (k ∷ network) mail r node made k done (with_message nodes network k m is has same) at (0, omega arith, refl) to over step told retold))
+    (receipt_reached nodes (k ∷ network) mail r node made k done (with_message nodes network k m is has same) at (0, omega arith, refl) to over step told_messages retold))

@@ -27,16 +27,16 @@ use Rattle.la_world.specs.Events.{Event, Past, Submit, Deliver, Decide, Ask}
 use Rattle.la_world.specs.Trace as did
 use Rattle.la_world.specs.Trace.{Did, Entry, Trace}
 use Rattle.la_world.specs.Sent.{sent}
-use Rattle.la_world.specs.Ballots.{opened_by, learnt_by, only, round, is_open}
-use Rattle.la_world.specs.Votes.{Submission, second_vote_of, second_vote}
-use Rattle.la_world.specs.Submissions.{submitted, second_vote_after}
-use Rattle.la_world.specs.Playing.{submits, opens_or_waits, opens_for, receives, entry, trace}
+use Rattle.la_world.specs.Ballots.{opened_by, opening_learnt, only, round, is_open}
+use Rattle.la_world.specs.Votes.{Submission, second_vote_of, cast_vote}
+use Rattle.la_world.specs.Submissions.{submitted_ops, second_vote_after}
+use Rattle.la_world.specs.Playing.{does_submit, opens_or_waits, opens_for, does_receive, event_entry, trace}
 use Rattle.la_world.specs.Learnings.{learning, learnt}
-use Rattle.la_world.specs.Outcomes.{outcome_by, returned, decision_of, decisions}
-use Rattle.la_world.specs.Report.{shown_as, line_of, lines, trace_of}
-use Rattle.la_world.specs.StandsFor.{IsLegal}
+use Rattle.la_world.specs.Outcomes.{outcome_learnt, returned, decision_of, decisions}
+use Rattle.la_world.specs.Report.{shown_as, line_of, report_lines, trace_of}
+use Rattle.la_world.specs.StandsFor.{IsLegalTrace}
 use Rattle.la_world.specs.Laws.{LearningsReturn, LearningsVote}
-use Rattle.la_world.specs.Promises.{learnt_in}
+use Rattle.la_world.specs.Promises.{learnt_by_did}
 use Rattle.la_world.specs.Returning.{outcome_told, opened_with, ShowsVote, OutcomesAreListed}
 use Rattle.la_world.proofs.Lists.{IsIn, IsIn-left, IsIn-right, IsIn_contains, contains_IsIn}
 use Rattle.la_world.proofs.Openings.{only_of, round_is}
@@ -120,7 +120,7 @@ record Shown (n place : ℕ) (d : Did) (y : Learnt) : Type 0 where
   is : d ≡ did.Learnt ballot next
   learnt : learning place ballot ≡ y
 
-was_shown : (n place : ℕ) (d : Did) (y : Learnt) → learnt_in (shown_as n place d) ≡ Some y → Shown n place d y
+was_shown : (n place : ℕ) (d : Did) (y : Learnt) → learnt_by_did (shown_as n place d) ≡ Some y → Shown n place d y
 was_shown n place (did.Learnt b next) y e = record { ballot = b; next = next; is = refl; learnt = same_Some (learning place b) y e }
 was_shown n place (did.Opened b) y e = absurd (none-some y e)
 was_shown n place (did.Held id) y e = absurd (none-some y e)
@@ -133,15 +133,15 @@ was_shown n place did.Kept y e = absurd (none-some y e)
 was_shown n place (did.Replied answer) y e = absurd (none-some y e)
 
 -- a submission learns nothing
-quietly : (r n : ℕ) (o : Option Opening) (b : Opening) → learnt_by (opens_or_waits r n o) ≡ Some b → ⊥
+quietly : (r n : ℕ) (o : Option Opening) (b : Opening) → opening_learnt (opens_or_waits r n o) ≡ Some b → ⊥
 quietly r n None b e = none-some b e
 quietly r n (Some c) b e = none-some b e
 
 submits_quietly : (t : Trace) (i r : ℕ) (object_op : ObjectOp) (b : Opening)
-    → learnt_by (submits t i r object_op) ≡ Some b → ⊥
-unfolding submits
+    → opening_learnt (does_submit t i r object_op) ≡ Some b → ⊥
+unfolding does_submit
 submits_quietly t i r object_op b =
-    let all = submitted t i r ++ object_op ∷ [] in quietly r (length all) (opens_for t i r all) b
+    let all = submitted_ops t i r ++ object_op ∷ [] in quietly r (length all) (opens_for t i r all) b
 
 -- what is so once a step shows this learning in the second instance of object k
 pub record IsTold (g : Group) (t : Trace) (k : ℕ) (d : step.Did) (y : Learnt) : Type 0 where
@@ -150,17 +150,17 @@ pub record IsTold (g : Group) (t : Trace) (k : ℕ) (d : step.Did) (y : Learnt) 
   pub told : IsSome (outcome_told d)
   pub returned : returned t k y.replica ≡ outcome_told d
 
-module _ (g : Group) (events : Past) (e : Event) (few : replicas g ≤ 8) (legal : IsLegal g (e ∷ events)) where
+module _ (g : Group) (events : Past) (e : Event) (few : replicas g ≤ 8) (legal : IsLegalTrace g (e ∷ events)) where
   abbrev t : Trace
   t = trace g events
 
   abbrev x : Entry
-  x = entry g t e
+  x = event_entry g t e
 
   abbrev n : ℕ
   n = replicas g
 
-  module _ (b : Opening) (ends : learnt_by x.did ≡ Some b) where
+  module _ (b : Opening) (ends : opening_learnt x.did ≡ Some b) where
     asking : is_open t b.instance b.replica ≡ true
     asking = (event_learns g t e x.delivered x.did (event_step g t e).cases b ends).asking
 
@@ -171,30 +171,30 @@ module _ (g : Group) (events : Past) (e : Event) (few : replicas g ≤ 8) (legal
     unfolding trace
     was_learnt = learnt_now x t b ends
 
-    told : (k : ℕ) → b.instance ≡ second_instance k → outcome_by b ≡ outcome_of b.updates b.replica
+    told : (k : ℕ) → b.instance ≡ second_instance k → outcome_learnt b ≡ outcome_of b.updates b.replica
     told k at =
         cond-true (is_second_instance b.instance) (outcome_of b.updates b.replica) None (second_is b.instance k at)
 
     returned_so : (k : ℕ) → b.instance ≡ second_instance k
         → returned (x ∷ t) k b.replica ≡ outcome_of b.updates b.replica
     returned_so k at =
-        let here : only (second_instance k) b.replica (learnt_by x.did) ≡ Some b = ap (only (second_instance k) b.replica) ends ∙ only_of (second_instance k) b.replica b (record { instance = at; replica = refl }) in
+        let here : only (second_instance k) b.replica (opening_learnt x.did) ≡ Some b = ap (only (second_instance k) b.replica) ends ∙ only_of (second_instance k) b.replica b (record { instance = at; replica = refl }) in
         ap (λ l. option_and_then (λ s. outcome_of s b.replica) (option_map (λ (c : Ballot). c.updates) l))
         (last_learnt_ballot-some x t (second_instance k) b.replica b here)
 
-    returns : (k : ℕ) → b.instance ≡ second_instance k → IsSome (outcome_by b)
+    returns : (k : ℕ) → b.instance ≡ second_instance k → IsSome (outcome_learnt b)
     returns k at =
         subst IsSome (sym (told k at)) (learnings_return g (e ∷ events) (learning (length t) b) k few legal was_learnt at)
 
-  pub is_told : (d : step.Did) → d ≡ shown_as n (length t) x.did → (y : Learnt) (k : ℕ) → learnt_in d ≡ Some y
+  pub is_told : (d : step.Did) → d ≡ shown_as n (length t) x.did → (y : Learnt) (k : ℕ) → learnt_by_did d ≡ Some y
       → y.instance ≡ second_instance k → IsTold g (x ∷ t) k d y
   is_told d is y k learns at =
-      let w = was_shown n (length t) x.did y (ap learnt_in (sym is) ∙ learns) in
+      let w = was_shown n (length t) x.did y (ap learnt_by_did (sym is) ∙ learns) in
       let b = w.ballot in
-      let ends : learnt_by x.did ≡ Some b = ap learnt_by w.is in
+      let ends : opening_learnt x.did ≡ Some b = ap opening_learnt w.is in
       let place : b.instance ≡ second_instance k = ap (λ (z : Learnt). z.instance) w.learnt ∙ at in
       let who : b.replica ≡ y.replica = ap (λ (z : Learnt). z.replica) w.learnt in
-      let shows : outcome_told d ≡ outcome_by b =
+      let shows : outcome_told d ≡ outcome_learnt b =
       ap outcome_told is ∙ ap (λ z. outcome_told (shown_as n (length t) z)) w.is in
       let lt = (of_group b ends).instance in
       record {
@@ -214,22 +214,22 @@ IsVote k r o = IsSomeAnd o (λ (b : Opening). (b.instance ≡ second_instance k)
 
 module _ (g : Group) (events : Past) (few : replicas g ≤ 8) (k : ℕ) where
   -- what a delivery learns in a first instance leads to a vote
-  delivered_votes : (j : ℕ) (m : Message) → IsLegal g (Deliver j ∷ events)
+  delivered_votes : (j : ℕ) (m : Message) → IsLegalTrace g (Deliver j ∷ events)
       → slice_get (sent (replicas g) (trace g events)) j ≡ Some m → (b : Opening)
-      → learnt_by (receives g (trace g events) (Some m)) ≡ Some b → b.instance ≡ first_instance k → IsSome (second_vote b)
-      → IsVote k b.replica (opened_by (receives g (trace g events) (Some m)))
-  delivered_votes j m legal is b ends at some = go (second_vote b) refl some
+      → opening_learnt (does_receive g (trace g events) (Some m)) ≡ Some b → b.instance ≡ first_instance k → IsSome (cast_vote b)
+      → IsVote k b.replica (opened_by (does_receive g (trace g events) (Some m)))
+  delivered_votes j m legal is b ends at some = go (cast_vote b) refl some
     where
       t : Trace
       t = trace g events
 
-      go : (o : Option Submission) → second_vote b ≡ o → IsSome o
-          → IsVote k b.replica (opened_by (receives g t (Some m)))
+      go : (o : Option Submission) → cast_vote b ≡ o → IsSome o
+          → IsVote k b.replica (opened_by (does_receive g t (Some m)))
       go None f h = absurd (true≢false (sym h))
       go (Some s) f h =
           let opens = vote_opens g events legal.1 few j m is s (ap second_vote_after ends ∙ f) in
           let of = second_vote_is b s f in
-          let last : round t m.instance m.to ≡ b = same_Some _ b (sym (ap learnt_by opens) ∙ ends) in
+          let last : round t m.instance m.to ≡ b = same_Some _ b (sym (ap opening_learnt opens) ∙ ends) in
           subst (IsVote k b.replica) (sym (ap opened_by opens)) (
             of.1
                 ∙ (let lt : b.instance % 2 < 2 = mod-lt b.instance (omega arith) in
@@ -237,9 +237,9 @@ module _ (g : Group) (events : Past) (few : replicas g ≤ 8) (k : ℕ) where
             sym (round_is t m.instance m.to).replica ∙ ap (λ (z : Opening). z.replica) last,
           )
 
-  votes_by : (e : Event) → IsLegal g (e ∷ events) → (b : Opening) → learnt_by (entry g (trace g events) e).did ≡ Some b
-      → b.instance ≡ first_instance k → IsSome (second_vote b)
-      → IsVote k b.replica (opened_by (entry g (trace g events) e).did)
+  votes_by : (e : Event) → IsLegalTrace g (e ∷ events) → (b : Opening) → opening_learnt (event_entry g (trace g events) e).did ≡ Some b
+      → b.instance ≡ first_instance k → IsSome (cast_vote b)
+      → IsVote k b.replica (opened_by (event_entry g (trace g events) e).did)
   votes_by (Submit r object_op) legal b ends at some = absurd (submits_quietly (trace g events) 0 r object_op b ends)
   votes_by (Decide r c value) legal b ends at some =
       absurd (submits_quietly (trace g events) (first_instance c) r (first_vote c value) b ends)
@@ -249,23 +249,23 @@ module _ (g : Group) (events : Past) (few : replicas g ≤ 8) (k : ℕ) where
       t : Trace
       t = trace g events
 
-      go : (o : Option Message) → slice_get (sent (replicas g) t) j ≡ o → learnt_by (receives g t o) ≡ Some b
-          → IsVote k b.replica (opened_by (receives g t (slice_get (sent (replicas g) t) j)))
+      go : (o : Option Message) → slice_get (sent (replicas g) t) j ≡ o → opening_learnt (does_receive g t o) ≡ Some b
+          → IsVote k b.replica (opened_by (does_receive g t (slice_get (sent (replicas g) t) j)))
       go None f h = absurd (none-some b h)
       go (Some m) f h =
-          subst (λ o. IsVote k b.replica (opened_by (receives g t o))) (sym f) (delivered_votes j m legal f b h at some)
+          subst (λ o. IsVote k b.replica (opened_by (does_receive g t o))) (sym f) (delivered_votes j m legal f b h at some)
 
-pub shows_vote : (g : Group) (events : Past) (e : Event) → replicas g ≤ 8 → IsLegal g (e ∷ events) → (d : step.Did)
-    → d ≡ shown_as (replicas g) (length (trace g events)) (entry g (trace g events) e).did → ShowsVote d
+pub shows_vote : (g : Group) (events : Past) (e : Event) → replicas g ≤ 8 → IsLegalTrace g (e ∷ events) → (d : step.Did)
+    → d ≡ shown_as (replicas g) (length (trace g events)) (event_entry g (trace g events) e).did → ShowsVote d
 shows_vote g events e few legal d is y k learns at =
     let t = trace g events in
-    let x = entry g t e in
-    let w = was_shown (replicas g) (length t) x.did y (ap learnt_in (sym is) ∙ learns) in
+    let x = event_entry g t e in
+    let w = was_shown (replicas g) (length t) x.did y (ap learnt_by_did (sym is) ∙ learns) in
     let b = w.ballot in
-    let ends : learnt_by x.did ≡ Some b = ap learnt_by w.is in
+    let ends : opening_learnt x.did ≡ Some b = ap opening_learnt w.is in
     let place : b.instance ≡ first_instance k = ap (λ (z : Learnt). z.instance) w.learnt ∙ at in
     let who : b.replica ≡ y.replica = ap (λ (z : Learnt). z.replica) w.learnt in
-    let some : IsSome (second_vote b) =
+    let some : IsSome (cast_vote b) =
     learnings_vote g (e ∷ events) (learning (length t) b) k few legal (was_learnt g events e few legal b ends) place
     in
     let opened : opened_with d ≡ opened_by x.did =
@@ -280,24 +280,24 @@ did_in (Done s) = s.did
 did_in (Refused name) = shown.Ignored
 
 pub did_of_line : (g : Group) (t : Trace) (e : Event) (s : Step) → line_of g t e ≡ Done s
-    → s.did ≡ shown_as (replicas g) (length t) (entry g t e).did
+    → s.did ≡ shown_as (replicas g) (length t) (event_entry g t e).did
 did_of_line g t e s line = sym (ap did_in line)
 
 pub outcomes_listed : (g : Group) (events : List Event) → replicas g ≤ 8
-    → OutcomesAreListed (lines g events) (decisions g (trace_of g events))
+    → OutcomesAreListed (report_lines g events) (decisions g (trace_of g events))
 unfolding trace
 outcomes_listed g events few place k y o h at =
     let p = handed_in_at g events place (Done h.step) h.done in
     let was = was_done g events place p.0 h.step p.1 h.done in
     let before = accepted_of g (take place events) in
     let next = accepted_next g events place p.0 p.1 was.allowed in
-    let legal : IsLegal g (p.0 ∷ before) = subst (IsLegal g) next (runs_legal g (reverse (take (place + 1) events))) in
+    let legal : IsLegalTrace g (p.0 ∷ before) = subst (IsLegalTrace g) next (runs_legal g (reverse (take (place + 1) events))) in
     let told =
     is_told g before p.0 few legal h.step.did (did_of_line g (trace g before) p.0 h.step was.line) y k h.learnt at in
     let all = accepted_before g events (place + 1) in
     let now : accepted_of g events ≡ all.more ++ p.0 ∷ before = all.is ∙ ap (λ es. all.more ++ es) next in
     let stays : returned (trace g (all.more ++ p.0 ∷ before)) k y.replica ≡ Some o =
-    outcomes_stay g (p.0 ∷ before) all.more k y.replica o (subst (IsLegal g) now (runs_legal g (reverse events)))
+    outcomes_stay g (p.0 ∷ before) all.more k y.replica o (subst (IsLegalTrace g) now (runs_legal g (reverse events)))
     (told.returned ∙ h.outcome) in
     is_listed g (trace_of g events) k y.replica o told.object told.replica
     (ap (λ es. returned (trace g es) k y.replica) now ∙ stays)

@@ -14,7 +14,7 @@ use Rattle.la_world.specs.Groups.{Group}
 use Rattle.la_world.specs.Events.{Event}
 use Rattle.la_world.specs.Trace.{Entry, Trace}
 use Rattle.la_world.specs.Ballots.{opened_by, only, ballots, round}
-use Rattle.la_world.specs.Submissions.{submitted, alone}
+use Rattle.la_world.specs.Submissions.{submitted_ops, updates_alone}
 use Rattle.la_world.specs.Playing.{trace}
 use Rattle.la_world.specs.Learnings.{learnt}
 use Rattle.la_world.proofs.Lists.{IsIn, AllIn, AllIn_at, contains_IsIn}
@@ -31,14 +31,14 @@ abbrev HoldOwn : Trace → Type 0
 HoldOwn t = (i r : ℕ) → AllIn (λ (b : Opening). 1 ≤ count b.updates r) (ballots t i r)
 
 -- where something new is taken, there is something of the replica's own
-some_new : (s : Histories) (r : ℕ) (ds : List ObjectOp) → ¬ IsSubset (alone r ds) s → (r < 8) × (1 ≤ length ds)
+some_new : (s : Histories) (r : ℕ) (ds : List ObjectOp) → ¬ IsSubset (updates_alone r ds) s → (r < 8) × (1 ≤ length ds)
 some_new s r ds new = elim (cases_lt r 8) [
   | inl lt ↦ (lt, go ds refl)
   | inr le ↦ absurd (new (alone_within r ds s (λ lt. absurd (omega (arith, lt, le)))))
 ] where
   go : (zs : List ObjectOp) → ds ≡ zs → 1 ≤ length zs
   go [] e =
-      absurd (new (subst (λ zs. IsSubset (alone r zs) s) (sym e) (alone_within r [] s (λ lt. record { front = refl }))))
+      absurd (new (subst (λ zs. IsSubset (updates_alone r zs) s) (sym e) (alone_within r [] s (λ lt. record { front = refl }))))
   go (z ∷ zs) e = omega arith
 
 module _ (g : Group) (t : Trace) (x : Entry) (h : Holds g t) (step_is : Step g t x) where
@@ -52,11 +52,11 @@ module _ (g : Group) (t : Trace) (x : Entry) (h : Holds g t) (step_is : Step g t
       r = b.replica
 
       all : List ObjectOp
-      all = submitted (x ∷ t) i r
+      all = submitted_ops (x ∷ t) i r
 
       begins : IsPrefix (history (round t i r).updates r) all
       begins =
-          IsPrefix-trans (history (round t i r).updates r) (submitted t i r) all (own g t h i r)
+          IsPrefix-trans (history (round t i r).updates r) (submitted_ops t i r) all (own g t h i r)
           (submitted_prefix x t i r)
 
       go : Source t x b → 1 ≤ count b.updates r

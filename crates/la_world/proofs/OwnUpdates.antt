@@ -21,12 +21,12 @@ use Rattle.la_world.specs.Groups.{Group, replicas}
 use Rattle.la_world.specs.Events.{Event}
 use Rattle.la_world.specs.Trace as did
 use Rattle.la_world.specs.Trace.{Did, Entry, Trace}
-use Rattle.la_world.specs.Ballots.{opened_by, learnt_by, only, ballots}
-use Rattle.la_world.specs.Submissions.{submitted, whole, is_refined, taken_at, taken}
-use Rattle.la_world.specs.Playing.{entry, trace}
+use Rattle.la_world.specs.Ballots.{opened_by, opening_learnt, only, ballots}
+use Rattle.la_world.specs.Submissions.{submitted_ops, whole, is_refined, taken_at, taken}
+use Rattle.la_world.specs.Playing.{event_entry, trace}
 use Rattle.la_world.specs.Learnings.{learning}
-use Rattle.la_world.specs.Report.{shown_as, lines, trace_of}
-use Rattle.la_world.specs.Promises.{learnt_in, IsLearntAt}
+use Rattle.la_world.specs.Report.{shown_as, report_lines, trace_of}
+use Rattle.la_world.specs.Promises.{learnt_by_did, IsLearntAt}
 use Rattle.la_world.specs.Reading.{ops_at, Submits, LearntWereSubmitted, taker_in, IsOpenedAt, LearntHoldTheirOwn}
 use Rattle.la_world.proofs.Lists.{IsIn, AllIn_at}
 use Rattle.la_world.proofs.EventCases.{step}
@@ -63,25 +63,25 @@ get_in_front (suc n) (suc k) (y ∷ xs) x lt e = get_in_front n k xs x (omega ar
 
 -- what is in all that was submitted, by its number
 whole_number : (t : Trace) (i : ℕ) (u : Update) → ContainsUpdate (whole t i) u
-    → object_op_number (submitted t i u.id.replica) u.id.number ≡ Some (object_op_of u)
+    → object_op_number (submitted_ops t i u.id.replica) u.id.number ≡ Some (object_op_of u)
 whole_number t i u h =
-    object_op_number-reads (history (whole t i) r) (submitted t i r) begins u.id.number (object_op_of u)
+    object_op_number-reads (history (whole t i) r) (submitted_ops t i r) begins u.id.number (object_op_of u)
     (object_op-contains (whole t i) u h)
   where
     r : ℕ
     r = u.id.replica
 
-    begins : IsPrefix (history (whole t i) r) (submitted t i r)
+    begins : IsPrefix (history (whole t i) r) (submitted_ops t i r)
     begins = elim (cases_lt r 8) [
-      | inl lt ↦ subst (λ ds. IsPrefix ds (submitted t i r)) (sym (history-whole t i r lt)) (prefix_same (submitted t i r))
-      | inr le ↦ subst (λ ds. IsPrefix ds (submitted t i r)) (sym (history_past (whole t i) r le)) (record { front = refl })
+      | inl lt ↦ subst (λ ds. IsPrefix ds (submitted_ops t i r)) (sym (history-whole t i r lt)) (prefix_same (submitted_ops t i r))
+      | inr le ↦ subst (λ ds. IsPrefix ds (submitted_ops t i r)) (sym (history_past (whole t i) r le)) (record { front = refl })
     ]
 
 module _ (g : Group) (events : List Event) where
   abbrev steps : List Line
-  steps = lines g events
+  steps = report_lines g events
 
-  pub learnt_were_submitted : LearntWereSubmitted events (lines g events)
+  pub learnt_were_submitted : LearntWereSubmitted events (report_lines g events)
   learnt_were_submitted place x u at holds =
       go u.id.number refl
       (whole_number (trace g until) i u (learnt_submitted g until x (learnt_then g events place x at) u holds))
@@ -98,8 +98,8 @@ module _ (g : Group) (events : List Event) where
       until : List Event
       until = accepted_of g (take n events)
 
-      go : (m : ℕ) → u.id.number ≡ m → object_op_number (submitted (trace g until) i r) m ≡ Some (object_op_of u)
-          → (k : ℕ) × (k ≤ place) × Submits events (lines g events) k i u
+      go : (m : ℕ) → u.id.number ≡ m → object_op_number (submitted_ops (trace g until) i r) m ≡ Some (object_op_of u)
+          → (k : ℕ) × (k ≤ place) × Submits events (report_lines g events) k i u
       go zero is e = absurd (none-some (object_op_of u) e)
       go (suc j) is e =
           let p =
@@ -125,11 +125,11 @@ module _ (g : Group) (events : List Event) where
           )
 
   -- what is submitted before a place stands under its number in all that was submitted by then
-  stands_under : (k n i : ℕ) (u : Update) → Submits events (lines g events) k i u → k < n
-      → object_op_number (submitted (trace_of g (take n events)) i u.id.replica) u.id.number ≡ Some (object_op_of u)
+  stands_under : (k n i : ℕ) (u : Update) → Submits events (report_lines g events) k i u → k < n
+      → object_op_number (submitted_ops (trace_of g (take n events)) i u.id.replica) u.id.number ≡ Some (object_op_of u)
   stands_under k n i u s lt =
       let r = u.id.replica in
-      let all = submitted (trace_of g (take n events)) i r in
+      let all = submitted_ops (trace_of g (take n events)) i r in
       let d = object_op_of u in
       let le : k ≤ n = omega arith in
       let before = length (ops_at (take k events) (take k steps) i r) in
@@ -157,8 +157,8 @@ taker_opened n place (did.Took s) b e = absurd (none-some b e)
 taker_opened n place did.Kept b e = absurd (none-some b e)
 taker_opened n place (did.Replied answer) b e = absurd (none-some b e)
 
-learnt_ended : (n place : ℕ) (d : Did) (x : Learnt) → learnt_in (shown_as n place d) ≡ Some x
-    → (c : Opening) × (learnt_by d ≡ Some c) × (learning place c ≡ x)
+learnt_ended : (n place : ℕ) (d : Did) (x : Learnt) → learnt_by_did (shown_as n place d) ≡ Some x
+    → (c : Opening) × (opening_learnt d ≡ Some c) × (learning place c ≡ x)
 learnt_ended n place (did.Learnt c next) x e = (c, refl, same_Some (learning place c) x e)
 learnt_ended n place (did.Opened c) x e = absurd (none-some x e)
 learnt_ended n place (did.Held id) x e = absurd (none-some x e)
@@ -172,12 +172,12 @@ learnt_ended n place (did.Replied answer) x e = absurd (none-some x e)
 
 -- a ballot that is no refinement takes all that was submitted
 taken_now : (x : Entry) (t : Trace) (b : Opening) → opened_by x.did ≡ Some b → is_refined x.did ≡ false
-    → taken (x ∷ t) b.instance b.replica b.ballot ≡ submitted (x ∷ t) b.instance b.replica
+    → taken (x ∷ t) b.instance b.replica b.ballot ≡ submitted_ops (x ∷ t) b.instance b.replica
 unfolding taken
 taken_now x t b e plain =
     let i = b.instance in
     let r = b.replica in
-    let all = submitted (x ∷ t) i r in
+    let all = submitted_ops (x ∷ t) i r in
     ap₂ (λ v w. taken_at b.ballot v w all (taken t i r)) (ap (only i r) e ∙ only_same b) plain
     ∙ cond-true (b.ballot == b.ballot) all (taken t i r b.ballot) (eq-eqb b.ballot b.ballot refl)
 
@@ -187,17 +187,17 @@ unfolding trace
 ballots_still g [] events i r b h = h
 ballots_still g (e ∷ more) events i r b h =
     let t = trace g (more ++ events) in
-    ballots_more (entry g t e) t i r b (ballots_still g more events i r b h)
+    ballots_more (event_entry g t e) t i r b (ballots_still g more events i r b h)
 
 module _ (g : Group) (events : List Event) where
   -- what an accepted event at a place did
   record IsPlayed (k : ℕ) (d : step.Did) : Type 0 where
     event : Event
     next : accepted_of g (take (k + 1) events) ≡ event ∷ accepted_of g (take k events)
-    did : shown_as (replicas g) (length (trace_of g (take k events))) (entry g (trace_of g (take k events)) event).did
+    did : shown_as (replicas g) (length (trace_of g (take k events))) (event_entry g (trace_of g (take k events)) event).did
         ≡ d
 
-  played : (k : ℕ) (s : Step) → slice_get (lines g events) k ≡ Some (Done s) → IsPlayed k s.did
+  played : (k : ℕ) (s : Step) → slice_get (report_lines g events) k ≡ Some (Done s) → IsPlayed k s.did
   played k s done =
       let p = handed_in_at g events k (Done s) done in
       let was = was_done g events k p.0 s p.1 done in
@@ -209,9 +209,9 @@ module _ (g : Group) (events : List Event) where
 
   record Takes (b : Opening) (until : List Event) : Type 0 where
     opened : IsIn b (ballots (trace g until) b.instance b.replica)
-    all : b.replica < 8 → history b.updates b.replica ≡ submitted (trace g until) b.instance b.replica
+    all : b.replica < 8 → history b.updates b.replica ≡ submitted_ops (trace g until) b.instance b.replica
 
-  takes : (began : ℕ) (b : Opening) → IsOpenedAt (lines g events) began b
+  takes : (began : ℕ) (b : Opening) → IsOpenedAt (report_lines g events) began b
       → Takes b (accepted_of g (take (began + 1) events))
   unfolding trace
   takes began b h = subst (Takes b) (sym p.next) record { opened = is_in; all = λ lt. has_taken g (p.event ∷ before) b.instance b.replica lt b is_in ∙ taken_now x t b is.0 is.1 }
@@ -226,7 +226,7 @@ module _ (g : Group) (events : List Event) where
       p = played began h.step h.done
 
       x : Entry
-      x = entry g t p.event
+      x = event_entry g t p.event
 
       is : (opened_by x.did ≡ Some b) × (is_refined x.did ≡ false)
       is = taker_opened (replicas g) (length t) x.did b (ap taker_in p.did ∙ h.opened)
@@ -235,8 +235,8 @@ module _ (g : Group) (events : List Event) where
       is_in = opened_in x t b is.0
 
   -- a set that is learnt later contains it
-  contains_ballot : (began place : ℕ) (b : Opening) (x : Learnt) → IsOpenedAt (lines g events) began b
-      → IsLearntAt (lines g events) place x → began < place → b.instance ≡ x.instance → b.replica ≡ x.replica
+  contains_ballot : (began place : ℕ) (b : Opening) (x : Learnt) → IsOpenedAt (report_lines g events) began b
+      → IsLearntAt (report_lines g events) place x → began < place → b.instance ≡ x.instance → b.replica ≡ x.replica
       → IsSubset b.updates x.updates
   contains_ballot began place b x opened at lt ei er =
       subst (λ (y : Learnt). IsSubset b.updates y.updates) ended.2 within
@@ -250,8 +250,8 @@ module _ (g : Group) (events : List Event) where
       p : IsPlayed place at.step.did
       p = played place at.step at.done
 
-      ended : (c : Opening) × (learnt_by (entry g t p.event).did ≡ Some c) × (learning (length t) c ≡ x)
-      ended = learnt_ended (replicas g) (length t) (entry g t p.event).did x (ap learnt_in p.did ∙ at.learnt)
+      ended : (c : Opening) × (opening_learnt (event_entry g t p.event).did ≡ Some c) × (learning (length t) c ≡ x)
+      ended = learnt_ended (replicas g) (length t) (event_entry g t p.event).did x (ap learnt_by_did p.did ∙ at.learnt)
 
       c : Opening
       c = ended.0
@@ -270,26 +270,26 @@ module _ (g : Group) (events : List Event) where
 
       within : IsSubset b.updates c.updates
       within =
-          let x = entry g t p.event in
+          let x = event_entry g t p.event in
           let last = event_learns g t x.event x.delivered x.did (step g t p.event).cases c ended.1 in
           subst (λ (z : Opening). IsSubset b.updates z.updates) last.is_last
           (last_grows t c.instance c.replica b ((holds g until).growing c.instance c.replica) here)
 
-  opened_in_group : (began : ℕ) (b : Opening) → IsOpenedAt (lines g events) began b → b.replica < replicas g
+  opened_in_group : (began : ℕ) (b : Opening) → IsOpenedAt (report_lines g events) began b → b.replica < replicas g
   opened_in_group began b opened =
       let until = accepted_of g (take (began + 1) events) in
       let all = (grouped g until (runs_legal g (reverse (take (began + 1) events)))).ballots b.instance b.replica in
       (AllIn_at (λ c. IsOfGroup g b.instance b.replica) (ballots (trace g until) b.instance b.replica) b all
       (takes began b opened).opened).replica
 
-  pub learnt_hold_their_own : replicas g ≤ 8 → LearntHoldTheirOwn events (lines g events)
+  pub learnt_hold_their_own : replicas g ≤ 8 → LearntHoldTheirOwn events (report_lines g events)
   learnt_hold_their_own few began place k b x u opened at lt ei er s mine le =
       let r = u.id.replica in
       let t = trace_of g (take (began + 1) events) in
       let own : r ≡ b.replica = mine ∙ sym er in
       let known : b.replica < 8 = omega (arith, opened_in_group began b opened, few) in
-      let all : history b.updates r ≡ submitted t x.instance r =
-      ap (history b.updates) own ∙ (takes began b opened).all known ∙ ap₂ (submitted t) ei (sym own) in
+      let all : history b.updates r ≡ submitted_ops t x.instance r =
+      ap (history b.updates) own ∙ (takes began b opened).all known ∙ ap₂ (submitted_ops t) ei (sym own) in
       let number = stands_under g events k (began + 1) x.instance u s (omega arith) in
       contains_ballot began place b x opened at lt ei er u
       (contains-object_op b.updates u (ap (λ ds. object_op_number ds u.id.number) all ∙ number))

@@ -16,7 +16,7 @@ use Rattle.la_replica.specs.Refusals.{HasRoom, SubmittingSpares}
 use Rattle.la_replica.specs.ReplicaState as acting
 use Rattle.la_replica.specs.ReplicaState.{ReplicaState, with_instance}
 use Rattle.la_world.specs.Votes.{Submission, vote_in, second_vote_of, second_vote_in}
-use Rattle.la_world.specs.Following.{vote_due, with_vote, without_vote, then_votes, takes, VoteFits}
+use Rattle.la_world.specs.Following.{vote_due, vote_added, without_vote, then_votes, takes, VoteFits}
 
 -- a vote as it is submitted in the second instance
 abbrev pub submission_of : (i r : ℕ) → Vote → Submission
@@ -104,7 +104,7 @@ module _ (at : ReplicaState) (m : Message) where
   pub takes_voting : (v : Vote) (out cast : Out) (then after : ReplicaState) → acting.receives at m ≡ Some (out, then)
       → Some v ≡ vote_by out.said
       → acting.submits then (m.instance + 1) (casts (commit_of m.instance) v) ≡ Some (cast, after)
-      → takes at m ≡ Some (with_vote out (m.instance + 1) cast, after)
+      → takes at m ≡ Some (vote_added out (m.instance + 1) cast, after)
   takes_voting v out cast then after received wanted submitted =
       let next = due_next v out.said (sym wanted) in
       ap (option_and_then (λ (made : Out × ReplicaState). then_votes made (vote_due m.instance at.own made.0.said)))
@@ -112,6 +112,6 @@ module _ (at : ReplicaState) (m : Message) where
       ∙ ap (then_votes (out, then)) next.0
       ∙ ap
       (λ j.
-      option_map (λ (c : Out × ReplicaState). (with_vote out j c.0, c.1))
+      option_map (λ (c : Out × ReplicaState). (vote_added out j c.0, c.1))
       (acting.submits then j (casts (commit_of m.instance) v))) next.1
-      ∙ ap (option_map (λ (c : Out × ReplicaState). (with_vote out (m.instance + 1) c.0, c.1))) submitted
+      ∙ ap (option_map (λ (c : Out × ReplicaState). (vote_added out (m.instance + 1) c.0, c.1))) submitted

@@ -19,14 +19,14 @@ use Rattle.la_world.specs.declared.step.Step.{Step}
 use Rattle.la_world.specs.Groups.{Group, replicas}
 use Rattle.la_world.specs.Events.{Event, submission_of}
 use Rattle.la_world.specs.Trace.{Trace}
-use Rattle.la_world.specs.Ballots.{learnt_by}
-use Rattle.la_world.specs.Submissions.{submitted}
-use Rattle.la_world.specs.Views.{view}
-use Rattle.la_world.specs.Playing.{entry, trace}
+use Rattle.la_world.specs.Ballots.{opening_learnt}
+use Rattle.la_world.specs.Submissions.{submitted_ops}
+use Rattle.la_world.specs.Views.{trace_view}
+use Rattle.la_world.specs.Playing.{event_entry, trace}
 use Rattle.la_world.specs.Learnings.{learning_of, learnt}
-use Rattle.la_world.specs.Report.{refused, line_of, runs, runs_on, lines, trace_of, views}
+use Rattle.la_world.specs.Report.{refused, line_of, runs, runs_on, report_lines, trace_of, views}
 use Rattle.la_world.specs.Laws.{IsSubmittedLater, WasLearnt, next_id}
-use Rattle.la_world.specs.Promises.{learnt_in, IsLearntAt, IsSubmittedAt, trace_before, ArePlacesInOrder, WasLearntBefore, RemovedAreShown}
+use Rattle.la_world.specs.Promises.{learnt_by_did, IsLearntAt, IsSubmittedAt, trace_before, ArePlacesInOrder, WasLearntBefore, RemovedAreShown}
 use Rattle.la_world.proofs.Asking.{becomes, done_by, line_of_place}
 use Rattle.la_world.proofs.Lists.{contains_IsIn, IsIn_made}
 use Rattle.la_world.proofs.Order.{in_order, learnt_still, learnt_submitted, removed_held}
@@ -99,7 +99,7 @@ pub record IsDone (g : Group) (events : List Event) (k : ℕ) (d : Event) (s : S
   pub line : line_of g (trace_of g (take k events)) d ≡ Done s
 
 pub was_done : (g : Group) (events : List Event) (k : ℕ) (d : Event) (s : Step) → slice_get events k ≡ Some d
-    → slice_get (lines g events) k ≡ Some (Done s) → IsDone g events k d s
+    → slice_get (report_lines g events) k ≡ Some (Done s) → IsDone g events k d s
 was_done g events k d s at done = go (refused g t d) refl (same_Some _ _ (sym (line_of_place g events k d at) ∙ done))
   where
     t : Trace
@@ -110,12 +110,12 @@ was_done g events k d s at done = go (refused g t d) refl (same_Some _ _ (sym (l
     go (Some name) is line = absurd (none-some s (ap done_by line))
 
 -- each line has its event
-pub handed_in_at : (g : Group) (events : List Event) (k : ℕ) (line : Line) → slice_get (lines g events) k ≡ Some line
+pub handed_in_at : (g : Group) (events : List Event) (k : ℕ) (line : Line) → slice_get (report_lines g events) k ≡ Some line
     → (d : Event) × (slice_get events k ≡ Some d)
 handed_in_at g events k line at =
-    let many : length (lines g events) ≡ length events =
+    let many : length (report_lines g events) ≡ length events =
     length-reverse (runs g (reverse events)).lines ∙ line_each g (reverse events) ∙ length-reverse events in
-    there events k (omega (arith, many, slice_get_within (lines g events) k line at))
+    there events k (omega (arith, many, slice_get_within (report_lines g events) k line at))
   where
     there : (xs : List Event) (k : ℕ) → k < length xs → (d : Event) × (slice_get xs k ≡ Some d)
     there [] k lt = absurd (omega arith)
@@ -124,7 +124,7 @@ handed_in_at g events k line at =
 
 -- ## A set that was learnt at a place
 
-learnt_listed : (d : step.Did) (x : Learnt) → learnt_in d ≡ Some x → learnings_in d ≡ x ∷ []
+learnt_listed : (d : step.Did) (x : Learnt) → learnt_by_did d ≡ Some x → learnings_in d ≡ x ∷ []
 learnt_listed (shown.Learnt l told outcome next) x e = ap (λ z. z ∷ []) (same_Some l x e)
 learnt_listed (shown.Opened b) x e = absurd (none-some x e)
 learnt_listed (shown.Held id) x e = absurd (none-some x e)
@@ -146,7 +146,7 @@ placed (Some b) place x e = ap (λ ls. (get_or ls 0 x).place) (sym e)
 
 module _ (g : Group) (events : List Event) where
   -- it is among those that were learnt by then
-  pub learnt_then : (j : ℕ) (x : Learnt) → IsLearntAt (lines g events) j x
+  pub learnt_then : (j : ℕ) (x : Learnt) → IsLearntAt (report_lines g events) j x
       → Contains (learnt (trace g (accepted_of g (take (j + 1) events)))) x
   unfolding trace learnt done_did
   learnt_then j x h =
@@ -159,27 +159,27 @@ module _ (g : Group) (events : List Event) where
       t : Trace
       t = trace_of g (take j events)
 
-      now : (d : Event) (s : Step) → line_of g t d ≡ Done s → learnt_in s.did ≡ Some x
+      now : (d : Event) (s : Step) → line_of g t d ≡ Done s → learnt_by_did s.did ≡ Some x
           → Contains (learnt (trace g (d ∷ accepted_of g (take j events)))) x
       now d s line e =
-          let did = (entry g t d).did in
-          let listed : learning_of (length t) (learnt_by did) ≡ x ∷ [] =
+          let did = (event_entry g t d).did in
+          let listed : learning_of (length t) (opening_learnt did) ≡ x ∷ [] =
           sym (learnings_shown (replicas g) (length t) did) ∙ ap done_did line ∙ learnt_listed s.did x e in
           subst (λ ls. Contains (learnt t ++ ls) x) (sym listed) (Contains-push (learnt t) x)
 
   -- its place counts the events that were accepted before
-  pub place_counts : (j : ℕ) (x : Learnt) → IsLearntAt (lines g events) j x → x.place ≡ length (trace_before g events j)
+  pub place_counts : (j : ℕ) (x : Learnt) → IsLearntAt (report_lines g events) j x → x.place ≡ length (trace_before g events j)
   unfolding done_did
   place_counts j x h =
       let p = handed_in_at g events j (Done h.step) h.done in
       let t = trace_before g events j in
-      let did = (entry g t p.0).did in
+      let did = (event_entry g t p.0).did in
       let was = was_done g events j p.0 h.step p.1 h.done in
-      placed (learnt_by did) (length t) x
+      placed (opening_learnt did) (length t) x
       (sym (learnings_shown (replicas g) (length t) did) ∙ ap done_did was.line ∙ learnt_listed h.step.did x h.learnt)
 
   -- and it stays
-  pub learnt_at_end : (j : ℕ) (x : Learnt) → IsLearntAt (lines g events) j x → Contains (learnt (trace_of g events)) x
+  pub learnt_at_end : (j : ℕ) (x : Learnt) → IsLearntAt (report_lines g events) j x → Contains (learnt (trace_of g events)) x
   learnt_at_end j x h =
       let p = accepted_before g events (j + 1) in
       subst (λ es. Contains (learnt (trace g es)) x) (sym p.is)
@@ -187,20 +187,20 @@ module _ (g : Group) (events : List Event) where
 
   -- what is submitted at a later place was not yet submitted then
   submitted_after : (j k : ℕ) (x : Learnt) (id : UpdateId) → j < k
-      → IsSubmittedAt g events (lines g events) k x.instance id
+      → IsSubmittedAt g events (report_lines g events) k x.instance id
       → IsSubmittedLater (trace g (accepted_of g (take (j + 1) events))) x.instance id
   submitted_after j k x id lt h =
       let i = x.instance in
       let p = accepted_between g events (j + 1) k (omega arith) in
       let early = accepted_of g (take (j + 1) events) in
-      let fewer : length (submitted (trace g early) i id.replica) ≤ length (submitted (trace_before g events k) i id.replica) =
-      subst (λ es. length (submitted (trace g early) i id.replica) ≤ length (submitted (trace g es) i id.replica))
+      let fewer : length (submitted_ops (trace g early) i id.replica) ≤ length (submitted_ops (trace_before g events k) i id.replica) =
+      subst (λ es. length (submitted_ops (trace g early) i id.replica) ≤ length (submitted_ops (trace g es) i id.replica))
       (sym p.is) (stays_submitted g p.more early i id.replica) in
-      let number : id.number ≡ length (submitted (trace_before g events k) i id.replica) + 1 =
-      h.number ∙ ap (λ r. length (submitted (trace_before g events k) i r) + 1) (sym h.replica) in
+      let number : id.number ≡ length (submitted_ops (trace_before g events k) i id.replica) + 1 =
+      h.number ∙ ap (λ r. length (submitted_ops (trace_before g events k) i r) + 1) (sym h.replica) in
       omega (arith, fewer, number)
 
-  pub learnt_in_order_of_places : ArePlacesInOrder g events (lines g events)
+  pub learnt_in_order_of_places : ArePlacesInOrder g events (report_lines g events)
   learnt_in_order_of_places j k l x y id at submitted_at lt was same holds =
       let until = accepted_of g (take (j + 1) events) in
       in_order g (accepted_of g events) until x y id (learnt_at_end j x at) (learnt_at_end l y was) same
@@ -209,7 +209,7 @@ module _ (g : Group) (events : List Event) where
 -- ## Removes
 
 module _ (g : Group) (events : List Event) where
-  learnt_before : (place : ℕ) (tag : UpdateId) → WasLearntBefore (lines g events) place tag
+  learnt_before : (place : ℕ) (tag : UpdateId) → WasLearntBefore (report_lines g events) place tag
       → WasLearnt (trace g (accepted_of g (take place events))) tag
   learnt_before place tag h =
       let p = accepted_between g events (h.earlier + 1) place (let lt = h.before in omega arith) in
@@ -223,7 +223,7 @@ module _ (g : Group) (events : List Event) where
         holds = h.holds;
       }
 
-  pub removed_shown : RemovedAreShown g events (lines g events) (views g (trace_of g events))
+  pub removed_shown : RemovedAreShown g events (report_lines g events) (views g (trace_of g events))
   removed_shown place r object tags step shown at done stood listed holds tag named =
       let e = submission_of r object (Remove tags) in
       let was = was_done g events place e step at done in
@@ -231,10 +231,10 @@ module _ (g : Group) (events : List Event) where
       let all : accepted_of g events ≡ p.more ++ e ∷ accepted_of g (take place events) =
       p.is ∙ ap (λ es. p.more ++ es) (accepted_next g events place e at was.allowed) in
       let q =
-      IsIn_made (view (trace_of g events)) (group (replicas g)) shown
+      IsIn_made (trace_view (trace_of g events)) (group (replicas g)) shown
       (contains_IsIn (views g (trace_of g events)) shown listed) in
-      let same : view (trace g (p.more ++ e ∷ accepted_of g (take place events))) q.0 ≡ shown =
-      sym (ap (λ es. view (trace g es) q.0) all) ∙ q.1 in
+      let same : trace_view (trace g (p.more ++ e ∷ accepted_of g (take place events))) q.0 ≡ shown =
+      sym (ap (λ es. trace_view (trace g es) q.0) all) ∙ q.1 in
       subst (λ s. IsSome (get s tag)) same
       (removed_held g (accepted_of g (take place events)) p.more r object tags q.0 (λ u c. learnt_before place u (stood u c))
       (subst (λ s. IsSome (get s (next_id (trace_before g events place) r))) (sym same) holds) tag named)

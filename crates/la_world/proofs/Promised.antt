@@ -10,12 +10,12 @@ use Rattle.la_world.specs.declared.step.Step.{Step}
 use Rattle.la_replica.specs.Messages.{group}
 use Rattle.la_world.specs.Groups.{Group, group_of, replicas}
 use Rattle.la_world.specs.Events.{Event, Past, submission_of}
-use Rattle.la_world.specs.Views.{seen, view}
+use Rattle.la_world.specs.Views.{seen, trace_view}
 use Rattle.la_world.specs.Playing.{trace}
 use Rattle.la_world.specs.Learnings.{learnt}
-use Rattle.la_world.specs.Report.{lines, trace_of, views, accepted_among}
+use Rattle.la_world.specs.Report.{report_lines, trace_of, views, accepted_among}
 use Rattle.la_world.specs.StandsFor.{World, group_in, StandsFor}
-use Rattle.la_world.specs.Calls.{Plays, views_of, view_of}
+use Rattle.la_world.specs.Calls.{PlaysEvent, views_of, known_view}
 use Rattle.la_world.specs.Laws.{IsLargest, next_id}
 use Rattle.la_world.specs.Promises.{KeepsPromises, accepted_in, NoViewShrinks}
 use Rattle.la_world.proofs.Chains.{learnt_comparable}
@@ -42,20 +42,20 @@ trace_keeps g events = record {
   valid = learnt_valid g events;
   largest =
       λ r s at.
-      let p = made_at (view (trace g events)) 0 (replicas g) r s at in
-      let same : view (trace g events) r ≡ s = ap (view (trace g events)) {x = r} {y = 0 + r} (omega arith) ∙ p in
+      let p = made_at (trace_view (trace g events)) 0 (replicas g) r s at in
+      let same : trace_view (trace g events) r ≡ s = ap (trace_view (trace g events)) {x = r} {y = 0 + r} (omega arith) ∙ p in
       subst (IsLargest (seen (trace g events) r)) same (views_largest g events r);
   one_history = λ a b p q.
-      let x = IsIn_made (view (trace g events)) (group (replicas g)) a (contains_IsIn (views g (trace g events)) a p) in
-      let y = IsIn_made (view (trace g events)) (group (replicas g)) b (contains_IsIn (views g (trace g events)) b q) in
+      let x = IsIn_made (trace_view (trace g events)) (group (replicas g)) a (contains_IsIn (views g (trace g events)) a p) in
+      let y = IsIn_made (trace_view (trace g events)) (group (replicas g)) b (contains_IsIn (views g (trace g events)) b q) in
       subst₂ AreComparable x.1 y.1 (views_comparable g events 0 0 x.0 y.0);
   order = learnt_in_order g events;
   removed = λ more before r object tags shown same stood listed holds tag named.
       let p =
-      IsIn_made (view (trace g events)) (group (replicas g)) shown
+      IsIn_made (trace_view (trace g events)) (group (replicas g)) shown
       (contains_IsIn (views g (trace g events)) shown listed) in
-      let is : view (trace g (more ++ submission_of r object (Remove tags) ∷ before)) p.0 ≡ shown =
-      sym (ap (λ es. view (trace g es) p.0) same) ∙ p.1 in
+      let is : trace_view (trace g (more ++ submission_of r object (Remove tags) ∷ before)) p.0 ≡ shown =
+      sym (ap (λ es. trace_view (trace g es) p.0) same) ∙ p.1 in
       subst (λ s. IsSome (get s tag)) is
       (removed_held g before more r object tags p.0 stood
       (subst (λ s. IsSome (get s (next_id (trace g before) r))) (sym is) holds) tag named);
@@ -70,34 +70,34 @@ world_keeps w events stands =
 
 -- an event shrinks no view
 pub no_view_shrinks : (w : World) (events : Past) (e : Event) (step : Step) (after : World) → StandsFor w events
-    → Plays w events e step after → NoViewShrinks w after
+    → PlaysEvent w events e step after → NoViewShrinks w after
 no_view_shrinks w events e step after stands p r s u was is =
     let g = group_in w in let t = trace g events in
     let same : group_in after ≡ g = ap₂ group_of p.config p.kinds in
-    let before : view_of g t r ≡ Some s = sym (view_is w events stands r) ∙ was in
-    let now : view_of g (trace g (e ∷ events)) r ≡ Some u =
-    subst (λ (h : Group). view_of h (trace h (e ∷ events)) r ≡ Some u) same
+    let before : known_view g t r ≡ Some s = sym (view_is w events stands r) ∙ was in
+    let now : known_view g (trace g (e ∷ events)) r ≡ Some u =
+    subst (λ (h : Group). known_view h (trace h (e ∷ events)) r ≡ Some u) same
     (sym (view_is after (e ∷ events) p.stands r) ∙ is) in
     go (nat_lt r (replicas g)) before now
   where
-    go : (v : Bool) → cond v (Some (view (trace (group_in w) events) r)) None ≡ Some s
-        → cond v (Some (view (trace (group_in w) (e ∷ events)) r)) None ≡ Some u → IsSubset s u
+    go : (v : Bool) → cond v (Some (trace_view (trace (group_in w) events) r)) None ≡ Some s
+        → cond v (Some (trace_view (trace (group_in w) (e ∷ events)) r)) None ≡ Some u → IsSubset s u
     go false a b = absurd (none-some s a)
     go true a b = subst₂ IsSubset (same_Some _ s a) (same_Some _ u b) (views_grow (group_in w) events e r)
 
-pub play_keeps : (w : World) (events : Past) (e : Event) (step : Step) (after : World) → Plays w events e step after
+pub play_keeps : (w : World) (events : Past) (e : Event) (step : Step) (after : World) → PlaysEvent w events e step after
     → KeepsPromises (group_in after) (e ∷ events) after.learnt (views_of after.replica_states)
 play_keeps w events e step after p = world_keeps after (e ∷ events) p.stands
 
 -- of a list that is played
-pub accepted_are_listed : (g : Group) (events : List Event) → accepted_in events (lines g events) ≡ accepted_of g events
+pub accepted_are_listed : (g : Group) (events : List Event) → accepted_in events (report_lines g events) ≡ accepted_of g events
 accepted_are_listed g events =
     ap reverse
-    (sym (ap (λ xs. accepted_among xs (lines g events)) (reverse-reverse events)) ∙ accepted_are g (reverse events))
+    (sym (ap (λ xs. accepted_among xs (report_lines g events)) (reverse-reverse events)) ∙ accepted_are g (reverse events))
     ∙ reverse-reverse (accepted_of g events)
 
 pub list_keeps : (g : Group) (events : List Event)
-    → KeepsPromises g (accepted_in events (lines g events)) (learnt (trace_of g events)) (views g (trace_of g events))
+    → KeepsPromises g (accepted_in events (report_lines g events)) (learnt (trace_of g events)) (views g (trace_of g events))
 list_keeps g events =
     subst (λ es. KeepsPromises g es (learnt (trace_of g events)) (views g (trace_of g events)))
     (sym (accepted_are_listed g events)) (trace_keeps g (accepted_of g events))

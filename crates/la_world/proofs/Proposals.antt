@@ -12,8 +12,8 @@ use Rattle.la_world.specs.Groups.{Group, replicas}
 use Rattle.la_world.specs.Events.{Event, Decide}
 use Rattle.la_world.specs.Trace.{Trace}
 use Rattle.la_world.specs.Votes.{Submission}
-use Rattle.la_world.specs.Submissions.{submitted}
-use Rattle.la_world.specs.Playing.{entry, trace}
+use Rattle.la_world.specs.Submissions.{submitted_ops}
+use Rattle.la_world.specs.Playing.{event_entry, trace}
 use Rattle.la_world.specs.Report.{refused}
 use Rattle.la_world.specs.Laws.{SecondProposalsAreRefused, AreTestedInOrder, ProposalsAreTestedInOrder, LimitsAre}
 use Rattle.la_world.proofs.EventCases.{submitted_with}
@@ -24,7 +24,7 @@ use Rattle.la_world.proofs.Allowing.{proposer_known, object_known}
 
 module _ (g : Group) (t : Trace) (r k value : ℕ) where
   abbrev proposals : ℕ
-  proposals = length (submitted t (first_instance k) r)
+  proposals = length (submitted_ops t (first_instance k) r)
 
   -- the tests after the first, and after the second
   abbrev by_proposals : Option Refusal
@@ -63,20 +63,20 @@ tested_in_order g events r k value = in_order g (trace g events) r k value
 
 -- a proposal is submitted
 is_submitted : (g : Group) (events : List Event) (r k value : ℕ)
-    → 1 ≤ length (submitted (trace g (Decide r k value ∷ events)) (first_instance k) r)
+    → 1 ≤ length (submitted_ops (trace g (Decide r k value ∷ events)) (first_instance k) r)
 unfolding trace
 is_submitted g events r k value =
     let t = trace g events in
     let vote : Submission = record { instance = first_instance k; replica = r; object_op = first_vote k value } in
     omega (
       arith,
-      ap length (submitted_with (entry g t (Decide r k value)) t (first_instance k) r vote refl refl refl)
-          ∙ length_push (submitted t (first_instance k) r) (first_vote k value),
+      ap length (submitted_with (event_entry g t (Decide r k value)) t (first_instance k) r vote refl refl refl)
+          ∙ length_push (submitted_ops t (first_instance k) r) (first_vote k value),
     )
 
 -- what is submitted stays so
 pub stays_submitted : (g : Group) (more events : List Event) (i r : ℕ)
-    → length (submitted (trace g events) i r) ≤ length (submitted (trace g (more ++ events)) i r)
+    → length (submitted_ops (trace g events) i r) ≤ length (submitted_ops (trace g (more ++ events)) i r)
 unfolding trace
 stays_submitted g [] events i r = omega arith
 stays_submitted g (e ∷ more) events i r =
@@ -84,8 +84,8 @@ stays_submitted g (e ∷ more) events i r =
     omega (
       arith,
       stays_submitted g more events i r,
-      IsPrefix-length (submitted t i r) (submitted (entry g t e ∷ t) i r)
-          (submitted_prefix (entry g t e) t i r),
+      IsPrefix-length (submitted_ops t i r) (submitted_ops (event_entry g t e ∷ t) i r)
+          (submitted_prefix (event_entry g t e) t i r),
     )
 
 pub second_refused : SecondProposalsAreRefused

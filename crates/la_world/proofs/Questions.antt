@@ -33,14 +33,14 @@ use Rattle.la_world.specs.Events.{Event, Ask}
 use Rattle.la_world.specs.Trace.{Trace}
 use Rattle.la_world.specs.Sent.{sent}
 use Rattle.la_replica.specs.Stored.{IsMade}
-use Rattle.la_world.specs.Told.{told}
-use Rattle.la_world.specs.Views.{view}
-use Rattle.la_world.specs.Playing.{answer_of, shelf_of, entry, trace}
+use Rattle.la_world.specs.Told.{told_messages}
+use Rattle.la_world.specs.Views.{trace_view}
+use Rattle.la_world.specs.Playing.{answer_of, shelf_of, event_entry, trace}
 use Rattle.la_world.specs.Learnings.{learnt}
 use Rattle.la_world.specs.Report.{refused, refused_object, line_of}
 use Rattle.la_world.specs.ReplicaStates.{replica_state, replica_states}
 use Rattle.la_world.specs.StandsFor.{World, world_of, kinds_of, group_in, AreBehind, EventsLeadTo, StandsFor}
-use Rattle.la_world.specs.Calls.{HoldsInvariant, Plays, Keeps, view_in, HasObject, IsFollowing, tags_of}
+use Rattle.la_world.specs.Calls.{HoldsWorldInvariant, PlaysEvent, Keeps, view_in, HasObject, IsFollowing, world_tags}
 use Rattle.la_world.proofs.Lists.{map_same}
 use Rattle.la_world.proofs.GrowingViews.{view_more}
 use Rattle.la_world.proofs.OneReplicaSteps.{replica_state-else}
@@ -54,7 +54,7 @@ use Rattle.la_world.proofs.WorldNodes.{world_of_nodes, replica_found, shelf_foun
 pub kept_group : (w after : World) → Keeps w after → group_in after ≡ group_in w
 kept_group w after k = ap₂ group_of k.config k.kinds
 
-pub kept_invariant : (w after : World) → Keeps w after → HoldsInvariant w → HoldsInvariant after
+pub kept_invariant : (w after : World) → Keeps w after → HoldsWorldInvariant w → HoldsWorldInvariant after
 kept_invariant w after k h = record {
   config = subst IsConfig (sym k.config) h.config;
   reached = ∥∥₁_map h.reached (λ p. (p.0, k.stands p.0 p.1));
@@ -63,7 +63,7 @@ kept_invariant w after k h = record {
 
 -- what is played after nothing has happened is played before it
 pub kept_plays : (w now : World) → Keeps w now → (events : List Event) (e : Event) (step : Step) (after : World)
-    → Plays now events e step after → Plays w events e step after
+    → PlaysEvent now events e step after → PlaysEvent w events e step after
 kept_plays w now k events e step after p =
     let same = kept_group w now k in
     record {
@@ -77,7 +77,7 @@ kept_plays w now k events e step after p =
 -- ## The entry of a question concerns no replica
 
 asked_concerns : (g : Group) (t : Trace) (r object : ℕ) (query : Query) (q : ℕ)
-    → Concerns 0 q (entry g t (Ask r object query))
+    → Concerns 0 q (event_entry g t (Ask r object query))
 asked_concerns g t r object query q = record {
   opened = λ b e. absurd (none-some b e);
   learnt = λ b e. absurd (none-some b e);
@@ -86,9 +86,9 @@ asked_concerns g t r object query q = record {
 }
 
 replicas_stay : (g : Group) (t : Trace) (r object : ℕ) (query : Query)
-    → replica_states g t ≡ replica_states g (entry g t (Ask r object query) ∷ t)
+    → replica_states g t ≡ replica_states g (event_entry g t (Ask r object query) ∷ t)
 replicas_stay g t r object query =
-    let x = entry g t (Ask r object query) in
+    let x = event_entry g t (Ask r object query) in
     map_same (replica_state g t) (replica_state g (x ∷ t)) 0 (replicas g)
     (λ q le.
     sym (replica_state-else g x t 0 (suc q) q (asked_concerns g t r object query (suc q)) (λ e. omega (arith, e))))
@@ -128,16 +128,16 @@ module _ (w : World) (events : List Event) (stands : StandsFor w events) where
     module _ (follows : view_in w r ≡ Some s.view) where
       shelf_is : ◌≡◌ {A = ShelfState} (shelf_of g t r) s
       shelf_is =
-          let there : view_in w r ≡ Some (view t r) =
+          let there : view_in w r ≡ Some (trace_view t r) =
           view_is w events stands r
-          ∙ cond-true (nat_lt r (replicas g)) (Some (view t r)) None (lt-ltb r (replicas g) is_replica) in
-          λ j. record { view = same_Some (view t r) s.view (sym there ∙ follows) j; objects = sym shelf_kinds j }
+          ∙ cond-true (nat_lt r (replicas g)) (Some (trace_view t r)) None (lt-ltb r (replicas g) is_replica) in
+          λ j. record { view = same_Some (trace_view t r) s.view (sym there ∙ follows) j; objects = sym shelf_kinds j }
 
       pub answer_is : (object : ℕ) (query : Query) → answer_of g t r object query ≡ answer_at s object query
       unfolding answer_of
       answer_is object query = ap (λ (z : ShelfState). answer_at z object query) shelf_is
 
-      pub tags_are : (object element : ℕ) → tags_of g t r object element ≡ tags_at s object element
+      pub tags_are : (object element : ℕ) → world_tags g t r object element ≡ tags_at s object element
       tags_are object element =
           cond-true (nat_lt r (replicas g)) (tags_at (shelf_of g t r) object element) None
           (lt-ltb r (replicas g) is_replica)
@@ -163,9 +163,9 @@ module _ (w : World) (events : List Event) (stands : StandsFor w events) where
   -- the world after a question stands for the events with it
   asked_stands : (r object : ℕ) (query : Query) → refused g t (Ask r object query) ≡ None
       → StandsFor (record w { count = w.count + 1 }) (Ask r object query ∷ events)
-  unfolding trace sent told learnt
+  unfolding trace sent told_messages learnt
   asked_stands r object query allowed =
-      let x = entry g t (Ask r object query) in
+      let x = event_entry g t (Ask r object query) in
       record {
         config = stands.config;
         led = record {
@@ -173,14 +173,14 @@ module _ (w : World) (events : List Event) (stands : StandsFor w events) where
           replica_states = stands.led.replica_states ∙ replicas_stay g t r object query;
           sent = stands.led.sent ∙ sym (append-nil (sent (replicas g) t));
         };
-        told = stands.told ∙ sym (append-nil (told (replicas g) t));
+        told = stands.told ∙ sym (append-nil (told_messages (replicas g) t));
         shelves = stands.shelves;
         absorbed = λ q s found u has. view_more x t q u (stands.absorbed q s found u has);
         learnt = stands.learnt ∙ sym (append-nil (learnt t));
         count = let c = stands.count in omega arith;
       }
 
-  pub question_plays : (r object : ℕ) (query : Query) (s : ShelfState) (answer : Answer) → slice_get w.shelves r ≡ Some s → view_in w r ≡ Some s.view → HasObject w.shelves r object → answer_at s object query ≡ Some answer → Plays w events (Ask r object query) (record { did = shown.Replied answer; first = length w.messages; sent = 0 }) (record w { count = w.count + 1 })
+  pub question_plays : (r object : ℕ) (query : Query) (s : ShelfState) (answer : Answer) → slice_get w.shelves r ≡ Some s → view_in w r ≡ Some s.view → HasObject w.shelves r object → answer_at s object query ≡ Some answer → PlaysEvent w events (Ask r object query) (record { did = shown.Replied answer; first = length w.messages; sent = 0 }) (record w { count = w.count + 1 })
   question_plays r object query s answer found follows there is =
       let allowed = question_allowed r object query there in
       let same : unwrap_or (answer_of g t r object query) Foreign ≡ answer =
@@ -197,7 +197,7 @@ module _ (w : World) (events : List Event) (stands : StandsFor w events) where
 
 -- the replica r is this one, and this is its shelf
 pub record IsShelf (w : World) (r : ℕ) (at : ReplicaState) (s : ShelfState) : Type 0 where
-  pub invariant : HoldsInvariant w
+  pub invariant : HoldsWorldInvariant w
   pub state : slice_get w.replica_states r ≡ Some at
   pub found : slice_get w.shelves r ≡ Some s
 
@@ -232,12 +232,12 @@ module _ {w : World} {r : ℕ} {at : ReplicaState} {s : ShelfState} (is : IsShel
   view_at_is = ap (option_map (λ (z : ReplicaState). z.view)) is.state
 
   module _ (events : List Event) (stands : StandsFor w events) where
-    view_then : at.view ≡ view (trace (group_in w) events) r
+    view_then : at.view ≡ trace_view (trace (group_in w) events) r
     view_then =
         let g = group_in w in let t = trace g events in
-        same_Some at.view (view t r)
+        same_Some at.view (trace_view t r)
         (sym view_at_is ∙ view_is w events stands r
-        ∙ cond-true (nat_lt r (replicas g)) (Some (view t r)) None
+        ∙ cond-true (nat_lt r (replicas g)) (Some (trace_view t r)) None
         (lt-ltb r (replicas g) (is_replica w events stands r s is.found)))
 
     within : IsSubset s.view at.view
@@ -254,9 +254,9 @@ module _ {w : World} {r : ℕ} {at : ReplicaState} {s : ShelfState} (is : IsShel
     behind events stands q z there u has = elim (get_set w.shelves r q new z there) [
       | inl p ↦
           let t = trace (group_in w) events in
-          let new_within : IsSubset new.view (view t r) =
+          let new_within : IsSubset new.view (trace_view t r) =
           subst (IsSubset new.view) (view_then events stands) (absorbed.within (within events stands)) in
-          subst₂ (λ (y : ShelfState) (k : ℕ). IsSubset y.view (view t k)) p.1 (sym p.0) new_within u has
+          subst₂ (λ (y : ShelfState) (k : ℕ). IsSubset y.view (trace_view t k)) p.1 (sym p.0) new_within u has
       | inr old ↦ stands.absorbed q z old u has
     ]
 
@@ -272,7 +272,7 @@ module _ {w : World} {r : ℕ} {at : ReplicaState} {s : ShelfState} (is : IsShel
           record {
             config = stands.config;
             led = subst (λ (g : Group). EventsLeadTo g events w.replica_states (whole_mail w.messages)) same stands.led;
-            told = subst (λ (g : Group). w.messages ≡ told (replicas g) (trace g events)) same stands.told;
+            told = subst (λ (g : Group). w.messages ≡ told_messages (replicas g) (trace g events)) same stands.told;
             shelves = length-set w.shelves r new ∙ stands.shelves;
             absorbed =
                 subst (λ (g : Group). AreBehind (slice_set w.shelves r new) (trace g events)) same (behind events stands);
@@ -329,13 +329,13 @@ module _ (w : World) (r object : ℕ) (query : Query) (s : ShelfState) (answer :
       subst (λ o. IsSomeAnd o (λ (z : ShelfState). IsSome (kind_at z.objects object))) (sym found)
       (kind_there (kind_at s.objects object) _ answer is)
 
-  pub question_played : (events : List Event) → StandsFor w events → Plays w events (Ask r object query) (record { did = shown.Replied answer; first = length w.messages; sent = 0 }) noted
+  pub question_played : (events : List Event) → StandsFor w events → PlaysEvent w events (Ask r object query) (record { did = shown.Replied answer; first = length w.messages; sent = 0 }) noted
   question_played events stands =
-      subst (λ v. Plays w events (Ask r object query) (record { did = shown.Replied answer; first = length w.messages; sent = 0 }) v) (sym noted_is)
+      subst (λ v. PlaysEvent w events (Ask r object query) (record { did = shown.Replied answer; first = length w.messages; sent = 0 }) v) (sym noted_is)
       (question_plays w events stands r object query s answer found
       (some_and (slice_get w.shelves r) (λ (z : ShelfState). view_in w r ≡ Some z.view) s following found) there is)
 
-  pub question_invariant : HoldsInvariant w → HoldsInvariant noted
+  pub question_invariant : HoldsWorldInvariant w → HoldsWorldInvariant noted
   question_invariant h = record { config = h.config; reached = ∥∥₁_map h.reached (λ p. (Ask r object query ∷ p.0, (question_played p.0 p.1).stands)); made = subst (λ (v : World). All IsMade v.messages) (sym noted_is) h.made }
 
 -- ## The tags that are observed
@@ -343,12 +343,12 @@ module _ (w : World) (r object : ℕ) (query : Query) (s : ShelfState) (answer :
 module _ (w now : World) (k : Keeps w now) (events : List Event) (stands : StandsFor w events) (r object element : ℕ)
   where
     abbrev tags_then : Option (List UpdateId)
-    tags_then = tags_of (group_in w) (trace (group_in w) events) r object element
+    tags_then = world_tags (group_in w) (trace (group_in w) events) r object element
 
     pub tags_kept : (s : ShelfState) → slice_get now.shelves r ≡ Some s → IsFollowing now r
         → tags_then ≡ tags_at s object element
     tags_kept s found following =
-        subst (λ (g : Group). tags_of g (trace g events) r object element ≡ tags_at s object element) (kept_group w now k)
+        subst (λ (g : Group). world_tags g (trace g events) r object element ≡ tags_at s object element) (kept_group w now k)
         (tags_are now events (k.stands events stands) r s found
         (some_and (slice_get now.shelves r) (λ (z : ShelfState). view_in now r ≡ Some z.view) s following found) object
         element)
@@ -375,7 +375,7 @@ module _ (w now : World) (k : Keeps w now) (events : List Event) (stands : Stand
 -- ## A node that was looked at
 
 module _ (c : Config) (nodes : List NodeState) (journal : Journal)
-    (invariant : HoldsInvariant (world_of_nodes c nodes journal)) (r : ℕ) (n : NodeState)
+    (invariant : HoldsWorldInvariant (world_of_nodes c nodes journal)) (r : ℕ) (n : NodeState)
     (found : slice_get nodes r ≡ Some n) where
   abbrev now : World
   now = world_of_nodes c nodes journal
@@ -398,7 +398,7 @@ module _ (c : Config) (nodes : List NodeState) (journal : Journal)
     pub looked_keeps : {old : World} → now ≡ old → Keeps old after_look
     looked_keeps is = subst (λ v. Keeps v after_look) is still_keeps
 
-    pub looked_holds : HoldsInvariant after_look
+    pub looked_holds : HoldsWorldInvariant after_look
     looked_holds = kept_invariant now after_look still_keeps invariant
 
   -- or all of it
@@ -428,13 +428,13 @@ module _ (c : Config) (nodes : List NodeState) (journal : Journal)
       follows
 
   pub tags_told : (events : List Event) → StandsFor now events → (object element : ℕ)
-      → tags_of (group_in now) (trace (group_in now) events) r object element ≡ tags_at (followed n) object element
+      → world_tags (group_in now) (trace (group_in now) events) r object element ≡ tags_at (followed n) object element
   tags_told events stands object element =
       tags_kept now following following_keeps events stands r object element (followed n) following_found follows
 
   pub tags_known : (events : List Event) → StandsFor now events → (object element : ℕ)
       → HasObject (shelves_of nodes) r object
-      → IsSome (tags_of (group_in now) (trace (group_in now) events) r object element)
+      → IsSome (world_tags (group_in now) (trace (group_in now) events) r object element)
   tags_known events stands object element = tags_there now following following_keeps events stands r object element
 
   -- it has answered, and the question was noted
@@ -448,21 +448,21 @@ module _ (c : Config) (nodes : List NodeState) (journal : Journal)
         looked nodes r n found c made after (ap (λ (m : NodeState). m.replica) made_is)
         ∙ ap (λ (m : NodeState). world_of c (replicas_of nodes) (slice_set (shelves_of nodes) r m.shelf) after) made_is
 
-    pub asked_holds : HoldsInvariant (world_of_nodes c (slice_set nodes r made) after)
+    pub asked_holds : HoldsWorldInvariant (world_of_nodes c (slice_set nodes r made) after)
     asked_holds =
-        subst HoldsInvariant (sym asked_as)
+        subst HoldsWorldInvariant (sym asked_as)
         (question_invariant following r object query (followed n) answer following_found follows is after.messages.items
         after.learnt.items after.count a b d (kept_invariant now following following_keeps invariant))
 
     pub asked_plays : {old : World} → now ≡ old → (events : List Event) → StandsFor old events → {step : Step}
         → step ≡ answer_step journal answer
-        → Plays old events (Ask r object query) step (world_of_nodes c (slice_set nodes r made) after)
+        → PlaysEvent old events (Ask r object query) step (world_of_nodes c (slice_set nodes r made) after)
     asked_plays same events stands {step = step} step_is =
         let e = Ask r object query in
         let p =
         question_played following r object query (followed n) answer following_found follows is after.messages.items
         after.learnt.items after.count a b d events
         (following_keeps.stands events (subst (λ v. StandsFor v events) (sym same) stands)) in
-        subst (λ v. Plays v events e step (world_of_nodes c (slice_set nodes r made) after)) same
-        (subst₂ (λ t v. Plays now events e t v) (sym step_is) (sym asked_as)
+        subst (λ v. PlaysEvent v events e step (world_of_nodes c (slice_set nodes r made) after)) same
+        (subst₂ (λ t v. PlaysEvent now events e t v) (sym step_is) (sym asked_as)
         (kept_plays now following following_keeps events e (answer_step journal answer) _ p))

@@ -15,12 +15,12 @@ use Rattle.la_world.specs.Groups.{Group, replicas, kinds_on}
 use Rattle.la_world.specs.Events.{Event}
 use Rattle.la_world.specs.Trace as did
 use Rattle.la_world.specs.Trace.{Did, Trace}
-use Rattle.la_world.specs.Ballots.{learnt_by}
-use Rattle.la_world.specs.Playing.{entry, trace}
+use Rattle.la_world.specs.Ballots.{opening_learnt}
+use Rattle.la_world.specs.Playing.{event_entry, trace}
 use Rattle.la_world.specs.Learnings.{learning_of, learnt}
-use Rattle.la_world.specs.Report.{refused, shown_as, line_of, Run, runs, runs_on, lines, trace_of}
+use Rattle.la_world.specs.Report.{refused, shown_as, line_of, Run, runs, runs_on, report_lines, trace_of}
 use Rattle.la_world.specs.Laws.{view_at_place}
-use Rattle.la_world.specs.Promises.{learnt_in, IsLearntAt, IsSubmittedAt}
+use Rattle.la_world.specs.Promises.{learnt_by_did, IsLearntAt, IsSubmittedAt}
 use Rattle.la_world.specs.Reading.{MarksAreRead}
 use Rattle.la_world.proofs.Lists.{IsIn, in_either}
 use Rattle.la_world.proofs.Asking.{answers_are_values}
@@ -32,8 +32,8 @@ use Rattle.la_world.proofs.ShownLater.{shown_later}
 
 -- ## The line of a learnt set
 
-learnt_shown : (n place : ℕ) (d : Did) (y : Learnt) → IsIn y (learning_of place (learnt_by d))
-    → learnt_in (shown_as n place d) ≡ Some y
+learnt_shown : (n place : ℕ) (d : Did) (y : Learnt) → IsIn y (learning_of place (opening_learnt d))
+    → learnt_by_did (shown_as n place d) ≡ Some y
 learnt_shown n place (did.Learnt b next) y (inl e) = ap Some e
 learnt_shown n place (did.Learnt b next) y (inr h) = absurd h
 learnt_shown n place (did.Opened b) y h = absurd h
@@ -87,8 +87,8 @@ line_in g (e ∷ es) y h = go (line_in g es y) (refused g t e) h
         → (j : ℕ) × IsLearntAt (reverse (runs_on g ran e t o).lines) j y
     go rest (Some name) k = kept (Refused name) (rest k)
     go rest None k =
-        let d = (entry g t e).did in
-        elim (in_either y (learnt t) (learning_of (length t) (learnt_by d)) k) [
+        let d = (event_entry g t e).did in
+        elim (in_either y (learnt t) (learning_of (length t) (opening_learnt d)) k) [
           | inl old ↦ kept (line_of g t e) (rest old)
           | inr new ↦ (n, record { step = _; done = last (line_of g t e); learnt = learnt_shown (replicas g) (length t) d y new })
         ]
@@ -96,15 +96,15 @@ line_in g (e ∷ es) y h = go (line_in g es y) (refused g t e) h
 module _ (g : Group) (events : List Event) where
   -- what was learnt by a place was learnt at a line before
   line_before : (k : ℕ) (y : Learnt) → IsIn y (learnt (trace_of g (take k events)))
-      → (j : ℕ) × (j < k) × IsLearntAt (lines g events) j y
+      → (j : ℕ) × (j < k) × IsLearntAt (report_lines g events) j y
   line_before k y h =
       let p = line_in g (reverse (take k events)) y h in
-      let at : slice_get (take k (lines g events)) p.0 ≡ Some (Done p.1.step) =
+      let at : slice_get (take k (report_lines g events)) p.0 ≡ Some (Done p.1.step) =
       ap (λ ls. slice_get ls p.0) (sym (lines_before g events k)) ∙ p.1.done in
-      let q = get_taken k p.0 (lines g events) (Done p.1.step) at in
+      let q = get_taken k p.0 (report_lines g events) (Done p.1.step) at in
       (p.0, q.0, record { step = p.1.step; done = q.1; learnt = p.1.learnt })
 
-  pub marks_are_read : MarksAreRead g events (lines g events)
+  pub marks_are_read : MarksAreRead g events (report_lines g events)
   marks_are_read m j k object mark x query answer s at of_objects holds lt asked =
       let r = x.replica in
       let shown = view_at_place g events k r in
@@ -127,7 +127,7 @@ module _ (g : Group) (events : List Event) where
             (shown_later g events l k y at_y of_y before));
         current = λ l y at_y before of_y.
             learnt_in_order_of_places g events l m line.0 y read mark.id at_y
-            (subst (λ i. IsSubmittedAt g events (lines g events) m i mark.id) (sym of_y)
+            (subst (λ i. IsSubmittedAt g events (report_lines g events) m i mark.id) (sym of_y)
             (submits_by_trace g events m 0 mark s)) before
             line.2 (of_y ∙ sym known.of_objects) (subst (λ u. IsSome (get u mark.id)) (sym known.set) has);
       }

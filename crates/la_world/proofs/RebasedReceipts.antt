@@ -22,8 +22,8 @@ use Rattle.la_world.specs.Groups.{Group, replicas}
 use Rattle.la_world.specs.Events.{Past}
 use Rattle.la_world.specs.Playing.{trace}
 use Rattle.la_world.specs.ReplicaStates.{replica_state}
-use Rattle.la_world.specs.StandsFor.{IsLegal}
-use Rattle.la_world.specs.Told.{told}
+use Rattle.la_world.specs.StandsFor.{IsLegalTrace}
+use Rattle.la_world.specs.Told.{told_messages}
 use Rattle.la_world.specs.Rebased.{IsRefusedFor, IsReceivedOver, DeliveriesFitOver, IsUnwrapped, ParcelsFit}
 use Rattle.la_world.proofs.RefusedForMemory.{delivery_fits}
 use Rattle.la_world.proofs.LargestViews.{empty_least}
@@ -35,8 +35,8 @@ one_here : (here : Bool) (view set : Histories) → (here ≡ true → IsCompati
 one_here true view set one = one refl
 one_here false view set one = compatible-subset empty set (empty_least set)
 
-module _ (g : Group) (events : Past) (few : replicas g ≤ 8) (small : g.cap ≤ 1000000) (legal : IsLegal g events) (k : ℕ)
-    (m : code.Message) (stored : slice_get (told (replicas g) (trace g events)) k ≡ Some m) where
+module _ (g : Group) (events : Past) (few : replicas g ≤ 8) (small : g.cap ≤ 1000000) (legal : IsLegalTrace g events) (k : ℕ)
+    (m : code.Message) (stored : slice_get (told_messages (replicas g) (trace g events)) k ≡ Some m) where
   abbrev at : ReplicaState
   at = replica_state g (trace g events) m.to
 

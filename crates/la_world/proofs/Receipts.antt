@@ -19,9 +19,9 @@ use Rattle.la_world.specs.Trace.{Trace}
 use Rattle.la_world.specs.Sent.{sent}
 use Rattle.la_world.specs.Playing.{trace}
 use Rattle.la_world.specs.ReplicaStates.{replica_state}
-use Rattle.la_world.specs.StandsFor.{IsLegal}
+use Rattle.la_world.specs.StandsFor.{IsLegalTrace}
 use Rattle.la_replica.specs.Stored.{IsMade}
-use Rattle.la_world.specs.Told.{told}
+use Rattle.la_world.specs.Told.{told_messages}
 use Rattle.la_world.specs.Following.{DeliveriesFit}
 use Rattle.la_world.proofs.Lists.{AllIn_at, IsIn_get}
 use Rattle.la_world.proofs.Legal.{legal_between}
@@ -46,8 +46,8 @@ there_stands : (m : code.Message) (o : Option Instance) → IsSomeAnd o (λ x. S
 there_stands m None over e h = absurd h
 there_stands m (Some x) over e h = told_stands (told_at x m) over e h
 
-module _ (g : Group) (events : Past) (few : replicas g ≤ 8) (small : g.cap ≤ 1000000) (legal : IsLegal g events) (k : ℕ)
-    (m : code.Message) (stored : slice_get (told (replicas g) (trace g events)) k ≡ Some m) where
+module _ (g : Group) (events : Past) (few : replicas g ≤ 8) (small : g.cap ≤ 1000000) (legal : IsLegalTrace g events) (k : ℕ)
+    (m : code.Message) (stored : slice_get (told_messages (replicas g) (trace g events)) k ≡ Some m) where
   abbrev t : Trace
   t = trace g events
 
@@ -61,7 +61,7 @@ module _ (g : Group) (events : Past) (few : replicas g ≤ 8) (small : g.cap ≤
   whole = delivery_fits g events k (whole_of m) few small legal is_sent
 
   is_made : IsMade m
-  is_made = AllIn_at IsMade (told (replicas g) t) m (told_are_made g events) (IsIn_get (told (replicas g) t) k m stored)
+  is_made = AllIn_at IsMade (told_messages (replicas g) t) m (told_are_made g events) (IsIn_get (told_messages (replicas g) t) k m stored)
 
   is_deliverable : IsDeliverableIn at m
   is_deliverable =

@@ -33,16 +33,16 @@ use Rattle.la_world.specs.declared.step.Opening.{Opening}
 use Rattle.la_world.specs.Groups.{Group, replicas, instances, cap_of}
 use Rattle.la_world.specs.Trace.{Trace}
 use Rattle.la_world.specs.Sent.{sent}
-use Rattle.la_world.specs.Acceptors.{accepted}
+use Rattle.la_world.specs.Acceptors.{accepted_there}
 use Rattle.la_world.specs.Ballots.{round, is_open}
 use Rattle.la_world.specs.Counting.{counted}
-use Rattle.la_world.specs.Submissions.{submitted}
+use Rattle.la_world.specs.Submissions.{submitted_ops}
 use Rattle.la_world.specs.Events.{Past}
-use Rattle.la_world.specs.Views.{view}
-use Rattle.la_world.specs.Playing.{counts, trace}
+use Rattle.la_world.specs.Views.{trace_view}
+use Rattle.la_world.specs.Playing.{counts_reply, trace}
 use Rattle.la_world.specs.ReplicaStates.{proposer_state, instance_of, replica_state}
 use Rattle.la_replica.specs.Fitting.{FitsReceiver, FitsViewBody}
-use Rattle.la_world.specs.StandsFor.{IsLegal}
+use Rattle.la_world.specs.StandsFor.{IsLegalTrace}
 use Rattle.la_world.specs.Following.{SubmissionsFit}
 use Rattle.la_world.proofs.Lists.{IsIn, AllIn, IsIn_get}
 use Rattle.la_world.proofs.Sizes.{total, total_subset, total_most, total_below, total_strict}
@@ -87,7 +87,7 @@ refines_some votes tally e =
     go false false w e = cc
 
 -- where each replica has submitted at most so much in an instance
-module _ (g : Group) (t : Trace) (h : Holds g t) (i most : ℕ) (caps : (q : ℕ) → length (submitted t i q) ≤ most) where
+module _ (g : Group) (t : Trace) (h : Holds g t) (i most : ℕ) (caps : (q : ℕ) → length (submitted_ops t i q) ≤ most) where
   count_known : (q : ℕ) → count (own_bound t i) q ≤ most
   count_known q = subst (λ (zs : List ObjectOp). length zs ≤ most) (sym (history-own_bound t i q))
       (let le = own_count g t h i q in let c = caps q in omega arith)
@@ -152,15 +152,15 @@ module _ (g : Group) (t : Trace) (m : Message) (h : Holds g t) (was_sent : IsIn 
       no_clash_in (own_bound t i) s (cond (is_open t i r) (counted t i r) []) (body_known (No s) is)
       (asked_known (is_open t i r)) id c
 
-  pub offer_fits : (s : Histories) → m.body ≡ Offer s → IsCompatible (accepted t i r) s
+  pub offer_fits : (s : Histories) → m.body ≡ Offer s → IsCompatible (accepted_there t i r) s
   offer_fits s is =
-      compatible-within (accepted t i r) s (own_bound t i) (h.within.acceptor i r) (body_known (Offer s) is)
+      compatible-within (accepted_there t i r) s (own_bound t i) (h.within.acceptor i r) (body_known (Offer s) is)
 
   -- ## Ballots' numbers
 
-  module _ (most : ℕ) (caps : (q : ℕ) → length (submitted t i q) ≤ most) where
+  module _ (most : ℕ) (caps : (q : ℕ) → length (submitted_ops t i q) ≤ most) where
     -- a refusal that counts in the last ballot has more than that ballot
-    refined_more : (reply : Reply) → m.body ≡ body_of reply → counts t m ≡ true
+    refined_more : (reply : Reply) → m.body ≡ body_of reply → counts_reply t m ≡ true
         → verdict g.votes (heard t m reply) ≡ Refines
         → total last.updates < total (joined_with_refusals last.updates (heard t m reply))
     refined_more reply is heeded refines =
@@ -178,13 +178,13 @@ module _ (g : Group) (t : Trace) (m : Message) (h : Holds g t) (was_sent : IsIn 
         → opens_by (with_reply (proposer_state g t i r) m.from reply)
         (verdict g.votes (with_reply (proposer_state g t i r) m.from reply).tally) ≡ true → last.ballot < 8 * most
     number_left lt reply is asked opens =
-        let heeded : counts t m ≡ true = sym (same_counts g t 0 m reply is h was_sent) ∙ asked in
+        let heeded : counts_reply t m ≡ true = sym (same_counts g t 0 m reply is h was_sent) ∙ asked in
         go heeded (verdict g.votes (tally_then g t 0 m reply is h was_sent)) refl
         (sym
         (ap (λ p. opens_by (with_reply p m.from reply) (verdict g.votes (with_reply p m.from reply).tally))
         (before g t 0 m reply is h was_sent heeded)) ∙ opens)
       where
-        go : (heeded : counts t m ≡ true) (w : Verdict) → verdict g.votes (tally_then g t 0 m reply is h was_sent) ≡ w
+        go : (heeded : counts_reply t m ≡ true) (w : Verdict) → verdict g.votes (tally_then g t 0 m reply is h was_sent) ≡ w
             → opens_by (with_new g t 0 m reply is h was_sent heeded)
             (verdict g.votes (tally_then g t 0 m reply is h was_sent)) ≡ true → last.ballot < 8 * most
         go heeded Waits e o =
@@ -203,7 +203,7 @@ module _ (g : Group) (t : Trace) (m : Message) (h : Holds g t) (was_sent : IsIn 
             something_length (waits g t 0 m reply is h was_sent heeded)
             (not-true (is_nothing (waits g t 0 m reply is h was_sent heeded)) some) in
             let c = caps r in
-            last_below g t h i most caps r lt (omega (arith, length-drop (count last.updates r) (submitted t i r)))
+            last_below g t h i most caps r lt (omega (arith, length-drop (count last.updates r) (submitted_ops t i r)))
 
     -- ## Refusals
 
@@ -229,12 +229,12 @@ module _ (g : Group) (t : Trace) (m : Message) (h : Holds g t) (was_sent : IsIn 
       hearing_refusal reply is NoBase w = absurd w
       hearing_refusal reply is Gap w = absurd w
 
-      body_refusal : (b : Body) → m.body ≡ b → (e : ReplicaError) → IsBodyRefusal (instance_of g t r i) (view t r) m b e
+      body_refusal : (b : Body) → m.body ≡ b → (e : ReplicaError) → IsBodyRefusal (instance_of g t r i) (trace_view t r) m b e
           → e ≡ Memory
       unfolding instance_of
       body_refusal (Offer s) is (Clash id) w =
           absurd
-          (no_clash (accepted t i r) s (own_bound t i) (h.within.acceptor i r) (body_known (Offer s) is) id w.clashes)
+          (no_clash (accepted_there t i r) s (own_bound t i) (h.within.acceptor i r) (body_known (Offer s) is) id w.clashes)
       body_refusal (Offer s) is BallotsSpent w = absurd w
       body_refusal (Offer s) is Memory w = refl
       body_refusal (Offer s) is NoSuchReplica w = absurd w
@@ -256,10 +256,10 @@ module _ (g : Group) (t : Trace) (m : Message) (h : Holds g t) (was_sent : IsIn 
       there : (e : ReplicaError)
           → IsSomeAnd (slice_get (replica_state g t r).instances i)
           (λ x. IsBodyRefusal x (replica_state g t r).view m m.body e)
-          → IsBodyRefusal (instance_of g t r i) (view t r) m m.body e
+          → IsBodyRefusal (instance_of g t r i) (trace_view t r) m m.body e
       unfolding replica_state
       there e w =
-          subst (λ o. IsSomeAnd o (λ x. IsBodyRefusal x (view t r) m m.body e)) (get_instance g t r i between.instance) w
+          subst (λ o. IsSomeAnd o (λ x. IsBodyRefusal x (trace_view t r) m m.body e)) (get_instance g t r i between.instance) w
 
       pub message_refusal : (e : ReplicaError) → IsReceiveRefusal (replica_state g t r) m e → e ≡ Memory
       unfolding replica_state
@@ -296,29 +296,29 @@ module _ (g : Group) (t : Trace) (m : Message) (h : Holds g t) (was_sent : IsIn 
       here P p = subst (λ o. IsSomeAnd o P) (sym (get_instance g t r i between.instance)) p
 
       -- the view lies in what is known, and so does each set that may become it
-      view_fits : IsSubset (view t r) (own_bound t 0) → (body : Body) → m.body ≡ body
-          → FitsViewBody (instance_of g t r i) (view t r) m body
+      view_fits : IsSubset (trace_view t r) (own_bound t 0) → (body : Body) → m.body ≡ body
+          → FitsViewBody (instance_of g t r i) (trace_view t r) m body
       unfolding proposer_state instance_of
       view_fits seen (Offer s) is = tt
       view_fits seen Yes is =
           λ e.
-          compatible-within (view t r) last.updates (own_bound t 0) seen
+          compatible-within (trace_view t r) last.updates (own_bound t 0) seen
           (subst (λ j. IsSubset last.updates (own_bound t j)) e (round_known g t h i r))
       view_fits seen (No s) is =
           λ e.
-          compatible-within (view t r) last.updates (own_bound t 0) seen
+          compatible-within (trace_view t r) last.updates (own_bound t 0) seen
           (subst (λ j. IsSubset last.updates (own_bound t j)) e (round_known g t h i r))
       view_fits seen (Tell s) is =
           λ e.
-          compatible-within (view t r) s (own_bound t 0) seen
+          compatible-within (trace_view t r) s (own_bound t 0) seen
           (subst (λ j. IsSubset s (own_bound t j)) e (body_known (Tell s) is))
 
-      pub message_fits : IsSubset (view t r) (own_bound t 0) → FitsReceiver (replica_state g t r) m
+      pub message_fits : IsSubset (trace_view t r) (own_bound t 0) → FitsReceiver (replica_state g t r) m
       unfolding replica_state proposer_state instance_of
       message_fits seen = record {
         receivable = ((between.from, refl), here (λ x. FitsBody x m m.body) (body_fits m.body refl));
         spares = here (λ x. SparesBody x m m.body) (body_spares m.body refl);
-        view = here (λ x. FitsViewBody x (view t r) m m.body) (view_fits seen m.body refl);
+        view = here (λ x. FitsViewBody x (trace_view t r) m m.body) (view_fits seen m.body refl);
       }
 
 -- ## Every legal list
@@ -327,7 +327,7 @@ module _ (g : Group) (t : Trace) (m : Message) (h : Holds g t) (was_sent : IsIn 
 pub cap_small : (g : Group) (i : ℕ) → g.cap ≤ 1000000 → cap_of g i ≤ 1000000
 cap_small g i small = cond_both (i == 0) g.cap 1 (λ n. n ≤ 1000000) (λ e. small) (λ e. omega arith)
 
-pub delivery_fits : (g : Group) (events : Past) (k : ℕ) (m : Message) → replicas g ≤ 8 → g.cap ≤ 1000000 → IsLegal g events → let t = trace g events in slice_get (sent (replicas g) t) k ≡ Some m
+pub delivery_fits : (g : Group) (events : Past) (k : ℕ) (m : Message) → replicas g ≤ 8 → g.cap ≤ 1000000 → IsLegalTrace g events → let t = trace g events in slice_get (sent (replicas g) t) k ≡ Some m
     → FitsReceiver (replica_state g t m.to) m
     × ((e : ReplicaError) → IsReceiveRefusal (replica_state g t m.to) m e → e ≡ Memory)
 delivery_fits g events k m few small legal is =
@@ -343,19 +343,19 @@ delivery_fits g events k m few small legal is =
 
 -- what the proposer counts as submitted
 pub submitted_is : (g : Group) (t : Trace) (i r : ℕ) → Holds g t
-    → proposer.submitted (proposer_state g t i r) ≡ length (submitted t i r)
+    → proposer.submitted (proposer_state g t i r) ≡ length (submitted_ops t i r)
 unfolding proposer_state
 submitted_is g t i r h =
-    let le = own_count g t h i r in omega (arith, length-drop (count (round t i r).updates r) (submitted t i r))
+    let le = own_count g t h i r in omega (arith, length-drop (count (round t i r).updates r) (submitted_ops t i r))
 
 -- a submission is refused where the cap is reached, and else for want of memory alone
 abbrev pub IsSubmittersRefusal : (cap : ℕ) → (all : List ObjectOp) → ReplicaError → Type 0
 IsSubmittersRefusal cap all e = ((e ≡ Full) × (cap ≤ length all)) ⊎ ((e ≡ Memory) × (length all < cap))
 
-module _ (g : Group) (t : Trace) (r i : ℕ) (h : Holds g t) (caps : (q : ℕ) → length (submitted t i q) ≤ cap_of g i)
+module _ (g : Group) (t : Trace) (r i : ℕ) (h : Holds g t) (caps : (q : ℕ) → length (submitted_ops t i q) ≤ cap_of g i)
     (known_replica : r < 8) (there : i < instances g) (small : cap_of g i ≤ 1000000) where
   -- within the cap no ballot is spent
-  pub spares : length (submitted t i r) < cap_of g i → ¬ SubmissionSpends (proposer_state g t i r)
+  pub spares : length (submitted_ops t i r) < cap_of g i → ¬ SubmissionSpends (proposer_state g t i r)
   unfolding proposer_state
   spares room spends =
       let le = own_count g t h i r in
@@ -364,7 +364,7 @@ module _ (g : Group) (t : Trace) (r i : ℕ) (h : Holds g t) (caps : (q : ℕ) �
       absurd (omega arith)
 
   proposers_refusal : (e : ReplicaError) → IsSubmissionRefusal (proposer_state g t i r) e
-      → IsSubmittersRefusal (cap_of g i) (submitted t i r) e
+      → IsSubmittersRefusal (cap_of g i) (submitted_ops t i r) e
   unfolding proposer_state
   proposers_refusal Full w = inl (refl, subst (λ z. cap_of g i ≤ z) (submitted_is g t i r h) w)
   proposers_refusal Memory w = inr (refl, subst (λ z. z < cap_of g i) (submitted_is g t i r h) w.0)
@@ -377,14 +377,14 @@ module _ (g : Group) (t : Trace) (r i : ℕ) (h : Holds g t) (caps : (q : ℕ) �
 
   proposer_there : (e : ReplicaError)
       → IsSomeAnd (slice_get (replica_state g t r).instances i) (λ x. IsSubmissionRefusal x.proposer e)
-      → IsSubmittersRefusal (cap_of g i) (submitted t i r) e
+      → IsSubmittersRefusal (cap_of g i) (submitted_ops t i r) e
   unfolding instance_of
   proposer_there e w =
       proposers_refusal e
       (subst (λ o. IsSomeAnd o (λ x. IsSubmissionRefusal x.proposer e)) (get_instance g t r i there) w)
 
   submitters_refusal : (e : ReplicaError) → IsSubmitRefusal (replica_state g t r) i e
-      → IsSubmittersRefusal (cap_of g i) (submitted t i r) e
+      → IsSubmittersRefusal (cap_of g i) (submitted_ops t i r) e
   unfolding replica_state
   submitters_refusal NoSuchInstance w =
       absurd (omega (arith, there, w, length-map-range_with_len (instance_of g t r) 0 (instances g)))

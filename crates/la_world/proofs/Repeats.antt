@@ -16,7 +16,7 @@ use Rattle.la_world.specs.declared.step.Opening.{Opening}
 use Rattle.la_world.specs.Groups.{Group, replicas, instances}
 use Rattle.la_world.specs.Trace.{Did, Opened, Held, Answered, Counted, Ignored, Refined, Learnt, Took, Kept, Replied, Entry, Trace}
 use Rattle.la_world.specs.Sent.{ballot_of, offers_for, offers_for_next, tells_for, sent_by, sent_at, sent}
-use Rattle.la_world.specs.Ballots.{opened_by, learnt_by, only, round, is_open, is_open_after}
+use Rattle.la_world.specs.Ballots.{opened_by, opening_learnt, only, round, is_open, is_open_after}
 use Rattle.la_world.specs.Learnings.{newest_ballot, last_learnt_ballot}
 use Rattle.la_world.specs.ReplicaStates.{proposer_state, instance_of, replica_state}
 use Rattle.la_world.specs.Playing.{trace}
@@ -48,7 +48,7 @@ module _ (n : ℕ) where
   opening_sends d Kept b e m h = absurd (none-some b e)
   opening_sends d (Replied answer) b e m h = absurd (none-some b e)
 
-  learning_sends : (d : Option Message) (did : Did) (b : Opening) → learnt_by did ≡ Some b → (m : Message)
+  learning_sends : (d : Option Message) (did : Did) (b : Opening) → opening_learnt did ≡ Some b → (m : Message)
       → IsIn m (tells_for n b) → IsIn m (sent_by n d did)
   learning_sends d (Learnt c next) b e m h =
       IsIn-left m (tells_for n c) (offers_for_next n next) (subst (λ z. IsIn m (tells_for n z)) (sym (same_Some c b e)) h)
@@ -68,7 +68,7 @@ module _ (n : ℕ) where
         → IsIn m (sent n t)
     unfolding is_open
     open_offers [] e m h = absurd (true≢false (sym e))
-    open_offers (x ∷ t) e m h = go (only i r (opened_by x.did)) refl (only i r (learnt_by x.did)) e (open_offers t)
+    open_offers (x ∷ t) e m h = go (only i r (opened_by x.did)) refl (only i r (opening_learnt x.did)) e (open_offers t)
       where
         go : (o : Option Opening) → only i r (opened_by x.did) ≡ o → (l : Option Opening)
             → is_open_after o l (is_open t i r) ≡ true
@@ -90,14 +90,14 @@ module _ (n : ℕ) where
         → IsIn m (tells_of sender b.number b.updates) → IsIn m (sent n t)
     unfolding last_learnt_ballot
     learnt_tells [] b e m h = absurd (none-some b e)
-    learnt_tells (x ∷ t) b e m h = go (only i r (learnt_by x.did)) refl e (learnt_tells t b)
+    learnt_tells (x ∷ t) b e m h = go (only i r (opening_learnt x.did)) refl e (learnt_tells t b)
       where
-        go : (o : Option Opening) → only i r (learnt_by x.did) ≡ o
-            → newest_ballot (cons_option o (filter_map (λ (y : Entry). only i r (learnt_by y.did)) t)) ≡ Some b
+        go : (o : Option Opening) → only i r (opening_learnt x.did) ≡ o
+            → newest_ballot (cons_option o (filter_map (λ (y : Entry). only i r (opening_learnt y.did)) t)) ≡ Some b
             → (last_learnt_ballot t i r ≡ Some b → (k : Message) → IsIn k (tells_of sender b.number b.updates)
             → IsIn k (sent n t)) → IsIn m (sent n (x ∷ t))
         go (Some c) at f before =
-            let is = only_is i r (learnt_by x.did) c at in
+            let is = only_is i r (opening_learnt x.did) c at in
             let told : tells_for n c ≡ tells_of sender b.number b.updates =
             ap₂ (λ j q. tells_of (record { replicas = n; from = q; instance = j }) c.ballot c.updates) is.1 is.2
             ∙ ap (λ (z : Ballot). tells_of sender z.number z.updates) (same_Some (ballot_of c) b f) in

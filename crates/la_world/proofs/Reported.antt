@@ -13,11 +13,11 @@ use Rattle.la_world.specs.Groups.{Group, group_of, replicas}
 use Rattle.la_world.specs.Events.{Event}
 use Rattle.la_world.specs.Trace as did
 use Rattle.la_world.specs.Trace.{Did, Trace}
-use Rattle.la_world.specs.Ballots.{learnt_by}
-use Rattle.la_world.specs.Playing.{entry, trace}
+use Rattle.la_world.specs.Ballots.{opening_learnt}
+use Rattle.la_world.specs.Playing.{event_entry, trace}
 use Rattle.la_world.specs.Learnings.{learning_of, learnt}
-use Rattle.la_world.specs.Report.{Run, refused, shown_as, line_of, runs, runs_on, lines, trace_of}
-use Rattle.la_world.specs.Promises.{learnt_in, learnt_on, IsLearntAt, AreListed, LinesAreComparable, LinesGrow}
+use Rattle.la_world.specs.Report.{Run, refused, shown_as, line_of, runs, runs_on, report_lines, trace_of}
+use Rattle.la_world.specs.Promises.{learnt_by_did, learnt_on, IsLearntAt, AreListed, LinesAreComparable, LinesGrow}
 use Rattle.la_world.specs.Reported.{ReportsKeepPromises}
 use Rattle.la_world.proofs.Asking.{answers_are_values, answers_alike}
 use Rattle.la_world.proofs.Chains.{learnt_comparable}
@@ -34,7 +34,7 @@ use Rattle.la_world.proofs.WorldSteps.{few_of}
 -- ## The lines show exactly what was learnt
 
 line_learns : (n place : ℕ) (d : Did)
-    → cons_option (learnt_in (shown_as n place d)) [] ≡ learning_of place (learnt_by d)
+    → cons_option (learnt_by_did (shown_as n place d)) [] ≡ learning_of place (opening_learnt d)
 line_learns n place (did.Learnt b next) = refl
 line_learns n place (did.Opened b) = refl
 line_learns n place (did.Held id) = refl
@@ -68,13 +68,13 @@ listed_in g (e ∷ es) = go (refused g t e) (listed_in g es)
     go : (o : Option Refusal) → learnt t ≡ filter_map learnt_on (reverse ran.lines)
         → learnt (trace g (runs_on g ran e t o).accepted) ≡ filter_map learnt_on (reverse (runs_on g ran e t o).lines)
     go None h =
-        let d = (entry g t e).did in
-        ap (λ ls. ls ++ learning_of (length t) (learnt_by d)) h
+        let d = (event_entry g t e).did in
+        ap (λ ls. ls ++ learning_of (length t) (opening_learnt d)) h
         ∙ ap (λ ls. filter_map learnt_on (reverse ran.lines) ++ ls) (sym (line_learns (replicas g) (length t) d))
         ∙ sym (pushed (line_of g t e))
     go (Some name) h = h ∙ sym (append-nil (filter_map learnt_on (reverse ran.lines))) ∙ sym (pushed (Refused name))
 
-pub listed : (g : Group) (events : List Event) → AreListed (lines g events) (learnt (trace_of g events))
+pub listed : (g : Group) (events : List Event) → AreListed (report_lines g events) (learnt (trace_of g events))
 listed g events = listed_in g (reverse events)
 
 -- ## Two lines, and what they show in the list
@@ -124,13 +124,13 @@ line_at : (steps : List Line) (k : ℕ) (x : Learnt) → IsLearntAt steps k x
 line_at steps k x h = ap (option_and_then learnt_on) h.done ∙ h.learnt
 
 module _ (g : Group) (events : List Event) where
-  lines_comparable : LinesAreComparable (lines g events)
+  lines_comparable : LinesAreComparable (report_lines g events)
   lines_comparable j k x y a b same =
       learnt_comparable g (accepted_of g events) x y (learnt_at_end g events j x a) (learnt_at_end g events k y b) same
 
-  lines_grow : LinesGrow (lines g events)
+  lines_grow : LinesGrow (report_lines g events)
   lines_grow j k x y a b ei er lt =
-      let steps = lines g events in
+      let steps = report_lines g events in
       let p = give_both learnt_on steps j k x y (line_at steps j x a) (line_at steps k y b) lt in
       learnt_grow g (accepted_of g events) p.first.at p.second.at x y
       (ap (λ ls. slice_get ls p.first.at) (listed g events) ∙ p.first.is)
@@ -152,7 +152,7 @@ reports_keep c kinds events is =
       order = learnt_in_order_of_places g events;
       removed = removed_shown g events;
       reads = marks_are_read g events;
-      answers = answers_alike g events (lines g events) (answers_are_values g events);
+      answers = answers_alike g events (report_lines g events) (answers_are_values g events);
       outcomes = outcomes_listed g events (few_of c kinds is);
       safe = reported c kinds events is;
     }

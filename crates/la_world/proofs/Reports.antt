@@ -11,9 +11,9 @@ use Rattle.la_replica.specs.Whole.{Message, Body, Offer, Yes, No, Tell}
 use Rattle.la_replica.specs.Messages.{body_of}
 use Rattle.la_world.specs.Trace.{Entry, Trace}
 use Rattle.la_world.specs.Ballots.{round}
-use Rattle.la_world.specs.Counting.{reply_of}
-use Rattle.la_world.specs.Playing.{counts}
-use Rattle.la_world.specs.Hearing.{told_by, heard_from, reported}
+use Rattle.la_world.specs.Counting.{counted_reply}
+use Rattle.la_world.specs.Playing.{counts_reply}
+use Rattle.la_world.specs.Hearing.{body_tells, heard_from, reported_set}
 use Rattle.la_world.specs.ReplicaStates.{reports}
 use Rattle.la_world.proofs.Lists.{map_same, set_made}
 use Rattle.la_world.proofs.Openings.{IsAway, not_both}
@@ -22,11 +22,11 @@ use Rattle.la_world.proofs.Openings.{IsAway, not_both}
 
 module _ (x : Entry) (t : Trace) (i r : ℕ) where
   nothing_new : ((a : ℕ) → heard_from t i r a x.delivered ≡ None) → reports (x ∷ t) i r ≡ reports t i r
-  unfolding reports reported
+  unfolding reports reported_set
   nothing_new none =
-      map_same (λ a. counts_of (unwrap_or (heard_from t i r a x.delivered) (reported t i r a)))
-      (λ a. counts_of (reported t i r a)) 0 8
-      (λ a le. ap (λ o. counts_of (unwrap_or o (reported t i r a))) (none a))
+      map_same (λ a. counts_of (unwrap_or (heard_from t i r a x.delivered) (reported_set t i r a)))
+      (λ a. counts_of (reported_set t i r a)) 0 8
+      (λ a le. ap (λ o. counts_of (unwrap_or o (reported_set t i r a))) (none a))
 
   -- nothing is delivered
   pub reports-silent : x.delivered ≡ None → reports (x ∷ t) i r ≡ reports t i r
@@ -41,8 +41,8 @@ module _ (x : Entry) (t : Trace) (i r : ℕ) where
       → heard_from t i r a o ≡ None
   away a None h = refl
   away a (Some m) h =
-      cond-false _ (told_by (round t i r).updates m.body) None
-      (away_false (m.instance == i) (m.to == r) ((m.from == a) && counts t m) (not_both m.instance m.to i r (h m refl)))
+      cond-false _ (body_tells (round t i r).updates m.body) None
+      (away_false (m.instance == i) (m.to == r) ((m.from == a) && counts_reply t m) (not_both m.instance m.to i r (h m refl)))
 
   -- what is delivered is to another replica, or of another instance
   pub reports-away : ((m : Message) → x.delivered ≡ Some m → IsAway m.instance m.to i r)
@@ -57,15 +57,15 @@ module _ (x : Entry) (t : Trace) (i r : ℕ) where
     last_false false v w c e = refl
 
     -- a reply that does not count
-    pub reports-ignored : counts t m ≡ false → reports (x ∷ t) i r ≡ reports t i r
+    pub reports-ignored : counts_reply t m ≡ false → reports (x ∷ t) i r ≡ reports t i r
     reports-ignored e =
         nothing_new
         (λ a.
         ap (heard_from t i r a) delivers
-        ∙ cond-false _ (told_by (round t i r).updates m.body) None
-        (last_false (m.instance == i) (m.to == r) (m.from == a) (counts t m) e))
+        ∙ cond-false _ (body_tells (round t i r).updates m.body) None
+        (last_false (m.instance == i) (m.to == r) (m.from == a) (counts_reply t m) e))
 
-    no_reply : (s : Histories) (b : Body) → reply_of m.from b ≡ [] → told_by s b ≡ None
+    no_reply : (s : Histories) (b : Body) → counted_reply m.from b ≡ [] → body_tells s b ≡ None
     no_reply s Yes e = cc
     no_reply s (No u) e = cc
     no_reply s (Offer u) e = refl
@@ -76,18 +76,18 @@ module _ (x : Entry) (t : Trace) (i r : ℕ) where
     either false o e = refl
 
     -- a message that is no reply
-    pub reports-quiet : reply_of m.from m.body ≡ [] → reports (x ∷ t) i r ≡ reports t i r
+    pub reports-quiet : counted_reply m.from m.body ≡ [] → reports (x ∷ t) i r ≡ reports t i r
     reports-quiet e =
         nothing_new
         (λ a.
         ap (heard_from t i r a) delivers
-        ∙ either ((m.instance == i) && ((m.to == r) && ((m.from == a) && counts t m)))
-        (told_by (round t i r).updates m.body) (no_reply (round t i r).updates m.body e))
+        ∙ either ((m.instance == i) && ((m.to == r) && ((m.from == a) && counts_reply t m)))
+        (body_tells (round t i r).updates m.body) (no_reply (round t i r).updates m.body e))
 
 -- ## A reply that counts
 
 module _ (x : Entry) (t : Trace) (m : Message) (reply : Reply) (delivers : x.delivered ≡ Some m)
-    (is : m.body ≡ body_of reply) (heeded : counts t m ≡ true) where
+    (is : m.body ≡ body_of reply) (heeded : counts_reply t m ≡ true) where
   abbrev i : ℕ
   i = m.instance
 
@@ -98,14 +98,14 @@ module _ (x : Entry) (t : Trace) (m : Message) (reply : Reply) (delivers : x.del
   updates = (round t i r).updates
 
   told_counts : (a : Reply) (before : Histories)
-      → counts_of (unwrap_or (told_by updates (body_of a)) before) ≡ proposer.told_by updates a
+      → counts_of (unwrap_or (body_tells updates (body_of a)) before) ≡ proposer.told_by updates a
   told_counts replied.Yes before = refl
   told_counts (replied.No s) before = refl
 
-  from_it : heard_from t i r m.from x.delivered ≡ told_by updates m.body
+  from_it : heard_from t i r m.from x.delivered ≡ body_tells updates m.body
   from_it =
       ap (heard_from t i r m.from) delivers
-      ∙ cond-true _ (told_by updates m.body) None
+      ∙ cond-true _ (body_tells updates m.body) None
       (and_from _ _ (eq-eqb m.instance i refl)
       (and_from _ _ (eq-eqb m.to r refl) (and_from _ _ (eq-eqb m.from m.from refl) heeded)))
 
@@ -117,16 +117,16 @@ module _ (x : Entry) (t : Trace) (m : Message) (reply : Reply) (delivers : x.del
   from_other : (a : ℕ) → a ≢ m.from → heard_from t i r a x.delivered ≡ None
   from_other a ne =
       ap (heard_from t i r a) delivers
-      ∙ cond-false _ (told_by updates m.body) None
-      (other_false (m.instance == i) (m.to == r) (m.from == a) (counts t m) (ne_eqb m.from a (λ e. ne (sym e))))
+      ∙ cond-false _ (body_tells updates m.body) None
+      (other_false (m.instance == i) (m.to == r) (m.from == a) (counts_reply t m) (ne_eqb m.from a (λ e. ne (sym e))))
 
   -- is what its acceptor reports
   pub reports-heard : reports (x ∷ t) i r ≡ slice_set (reports t i r) m.from (proposer.told_by updates reply)
-  unfolding reports reported
+  unfolding reports reported_set
   reports-heard =
-      set_made (λ a. counts_of (reported t i r a))
-      (λ a. counts_of (unwrap_or (heard_from t i r a x.delivered) (reported t i r a))) 0 8 m.from m.from (omega arith)
-      (λ a le ne. sym (ap (λ o. counts_of (unwrap_or o (reported t i r a))) (from_other a ne)))
+      set_made (λ a. counts_of (reported_set t i r a))
+      (λ a. counts_of (unwrap_or (heard_from t i r a x.delivered) (reported_set t i r a))) 0 8 m.from m.from (omega arith)
+      (λ a le ne. sym (ap (λ o. counts_of (unwrap_or o (reported_set t i r a))) (from_other a ne)))
       ∙ ap (slice_set (reports t i r) m.from)
-      (ap (λ o. counts_of (unwrap_or o (reported t i r m.from))) (from_it ∙ ap (told_by updates) is)
-      ∙ told_counts reply (reported t i r m.from))
+      (ap (λ o. counts_of (unwrap_or o (reported_set t i r m.from))) (from_it ∙ ap (body_tells updates) is)
+      ∙ told_counts reply (reported_set t i r m.from))

@@ -18,7 +18,7 @@ use Rattle.la_replica.specs.ReplicaState.{ReplicaState, learnt_of, with_instance
 use Rattle.la_world.specs.Votes.{Submission}
 use Rattle.la_commit.specs.Outcomes.{outcome_in}
 use Rattle.la_world.specs.Calls.{returned_by}
-use Rattle.la_world.specs.Following.{Taken, with_vote, vote_due, then_votes, takes}
+use Rattle.la_world.specs.Following.{Taken, vote_added, vote_due, then_votes, takes}
 use Rattle.la_world.specs.Nodes.{IsParticipant, OutcomesStayIn, ReturnsIn, outcome_due}
 use Rattle.la_world.proofs.Questions.{get_put}
 use Rattle.la_world.proofs.SubmittingOnce.{body_learns}
@@ -123,7 +123,7 @@ cases r m taken end e = go (receives r m) refl e
           where
             with_cast : (c : Option (Out × ReplicaState)) → submits made.1 vote.instance vote.object_op ≡ c
                 → option_map {U = Taken × ReplicaState}
-                (λ (cast : Out × ReplicaState). (with_vote made.0 vote.instance cast.0, cast.1)) c ≡ Some (taken, end)
+                (λ (cast : Out × ReplicaState). (vote_added made.0 vote.instance cast.0, cast.1)) c ≡ Some (taken, end)
                 → Cases r m taken end
             with_cast None cast l = absurd (none-some _ l)
             with_cast (Some c) cast l =

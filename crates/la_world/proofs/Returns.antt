@@ -16,8 +16,8 @@ use Rattle.la_proposer.specs.declared.ballot.Ballot.{Ballot}
 use Rattle.la_world.specs.declared.step.Opening.{Opening}
 use Rattle.la_world.specs.Groups.{Group, replicas}
 use Rattle.la_world.specs.Trace.{Trace}
-use Rattle.la_world.specs.Ballots.{only, learnt_by}
-use Rattle.la_world.specs.Learnings.{learning, learnt, newest_ballot, last_learnt_ballot, last_learnt}
+use Rattle.la_world.specs.Ballots.{only, opening_learnt}
+use Rattle.la_world.specs.Learnings.{learning, learnt, newest_ballot, last_learnt_ballot, trace_learnt}
 use Rattle.la_world.specs.Outcomes.{returned, decision_of, decisions_on, decisions}
 use Rattle.std.specs.List.{range_with_len}
 use Rattle.la_world.proofs.Lists.{IsIn_contains, contains_IsIn, in_flat_map}
@@ -32,17 +32,17 @@ record WasLast (t : Trace) (i r : ℕ) (s : Histories) : Type 0 where
   replica : set.replica ≡ r
   updates : set.updates ≡ s
 
-last_was : (t : Trace) (i r : ℕ) (s : Histories) → last_learnt t i r ≡ Some s → WasLast t i r s
+last_was : (t : Trace) (i r : ℕ) (s : Histories) → trace_learnt t i r ≡ Some s → WasLast t i r s
 unfolding last_learnt_ballot
 last_was [] i r s e = absurd (none-some s e)
-last_was (x ∷ t) i r s e = go (only i r (learnt_by x.did)) refl (last_was t i r s) e
+last_was (x ∷ t) i r s e = go (only i r (opening_learnt x.did)) refl (last_was t i r s) e
   where
-    go : (o : Option Opening) → only i r (learnt_by x.did) ≡ o → (last_learnt t i r ≡ Some s → WasLast t i r s)
+    go : (o : Option Opening) → only i r (opening_learnt x.did) ≡ o → (trace_learnt t i r ≡ Some s → WasLast t i r s)
         → option_map (λ (c : Ballot). c.updates)
-        (newest_ballot (cons_option o (filter_map (λ y. only i r (learnt_by y.did)) t))) ≡ Some s
+        (newest_ballot (cons_option o (filter_map (λ y. only i r (opening_learnt y.did)) t))) ≡ Some s
         → WasLast (x ∷ t) i r s
     go None f before k = let w = before k in record { set = w.set; was = learnt_stays x t w.set w.was; instance = w.instance; replica = w.replica; updates = w.updates }
-    go (Some b) f before k = let p = only_is i r (learnt_by x.did) b f in record { set = learning (length t) b; was = learnt_now x t b p.0; instance = p.1; replica = p.2; updates = same_Some b.updates s k }
+    go (Some b) f before k = let p = only_is i r (opening_learnt x.did) b f in record { set = learning (length t) b; was = learnt_now x t b p.0; instance = p.1; replica = p.2; updates = same_Some b.updates s k }
 
 -- what x says was returned by this set, with this own vote in it
 pub record IsReturned (t : Trace) (x : Decision) : Type 0 where
@@ -63,9 +63,9 @@ outcome_by_own s r o e = go (own_vote s r) refl e
     go (Some v) f k = (v, f, same_Some (outcome s v.value) o k)
 
 returned_by : (t : Trace) (k r : ℕ) (o : Outcome) → returned t k r ≡ Some o → IsReturned t (decision_of k r o)
-returned_by t k r o e = go (last_learnt t (second_instance k) r) refl e
+returned_by t k r o e = go (trace_learnt t (second_instance k) r) refl e
   where
-    go : (l : Option Histories) → last_learnt t (second_instance k) r ≡ l
+    go : (l : Option Histories) → trace_learnt t (second_instance k) r ≡ l
         → option_and_then (λ s. outcome_of s r) l ≡ Some o → IsReturned t (decision_of k r o)
     go None f h = absurd (none-some o h)
     go (Some s) f h =

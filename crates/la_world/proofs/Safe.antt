@@ -13,7 +13,7 @@ use Rattle.la_world.specs.Trace.{Trace}
 use Rattle.la_world.specs.Playing.{trace}
 use Rattle.la_world.specs.Outcomes.{decisions}
 use Rattle.la_world.specs.Report.{refused, line_of, Run, runs, runs_on, accepted_among}
-use Rattle.la_world.specs.StandsFor.{World, kinds_of, group_in, StandsFor, IsLegal}
+use Rattle.la_world.specs.StandsFor.{World, kinds_of, group_in, StandsFor, IsLegalTrace}
 use Rattle.la_world.specs.Calls.{decisions_in}
 use Rattle.la_world.specs.Laws.{IsAdoptCommit, ReportedOutcomesAreSafe}
 use Rattle.la_world.proofs.Agreement.{adopt_commit}
@@ -29,13 +29,13 @@ returns_safely w events stands =
 -- ## A list that is played
 
 -- what is accepted of it is not refused
-pub runs_legal : (g : Group) (es : List Event) → IsLegal g (runs g es).accepted
+pub runs_legal : (g : Group) (es : List Event) → IsLegalTrace g (runs g es).accepted
 unfolding runs
 runs_legal g [] = tt
 runs_legal g (e ∷ es) = go (refused g (trace g (runs g es).accepted) e) refl (runs_legal g es)
   where
-    go : (o : Option Refusal) → refused g (trace g (runs g es).accepted) e ≡ o → IsLegal g (runs g es).accepted
-        → IsLegal g (runs_on g (runs g es) e (trace g (runs g es).accepted) o).accepted
+    go : (o : Option Refusal) → refused g (trace g (runs g es).accepted) e ≡ o → IsLegalTrace g (runs g es).accepted
+        → IsLegalTrace g (runs_on g (runs g es) e (trace g (runs g es).accepted) o).accepted
     go None is legal = (is, legal)
     go (Some name) is legal = legal
 

@@ -23,12 +23,12 @@ use Rattle.la_world.specs.Events.{Event, Submit, Deliver, Decide, Ask}
 use Rattle.la_world.specs.Trace as did
 use Rattle.la_world.specs.Trace.{Did, Trace}
 use Rattle.la_world.specs.Sent.{sender_for, ballot_of, offers_for, offers_for_next, tells_for, replies_for, sent_by, sent_at, sent}
-use Rattle.la_world.specs.Ballots.{only, learnt_by}
-use Rattle.la_world.specs.Views.{told, told_to, set_of, seen_at, seen}
-use Rattle.la_world.specs.Playing.{delivered, entry, trace}
+use Rattle.la_world.specs.Ballots.{only, opening_learnt}
+use Rattle.la_world.specs.Views.{told_sets, told_to, opening_sets, seen_at, seen}
+use Rattle.la_world.specs.Playing.{delivered, event_entry, trace}
 use Rattle.la_world.specs.Learnings.{learning, learning_of, learnt}
-use Rattle.la_world.specs.Report.{Run, refused, shown_as, line_of, runs, runs_on, lines, trace_of, views}
-use Rattle.la_world.specs.Promises.{learnt_in, place_beside, IsToldAt, IsSeenAt, WasSeen, AreLargestSeen}
+use Rattle.la_world.specs.Report.{Run, refused, shown_as, line_of, runs, runs_on, report_lines, trace_of, views}
+use Rattle.la_world.specs.Promises.{learnt_by_did, place_beside, IsToldAt, IsSeenAt, WasSeen, AreLargestSeen}
 use Rattle.la_world.proofs.Allowing.{none_from_cond}
 use Rattle.la_world.proofs.Asking.{done_by}
 use Rattle.la_world.proofs.Lists.{IsIn, AllIn, AllIn-map, AllIn_at, IsIn_get, IsIn-left, IsIn-right, in_either, IsIn_contains, contains_IsIn}
@@ -47,7 +47,7 @@ last_at (y ∷ xs) x = last_at xs x
 
 -- ## Lines of learnings
 
-learnt_line : (n place : ℕ) (d : Did) → learnt_in (shown_as n place d) ≡ option_map (learning place) (learnt_by d)
+learnt_line : (n place : ℕ) (d : Did) → learnt_by_did (shown_as n place d) ≡ option_map (learning place) (opening_learnt d)
 learnt_line n place (did.Learnt b next) = refl
 learnt_line n place (did.Opened b) = refl
 learnt_line n place (did.Held id) = refl
@@ -65,7 +65,7 @@ record Learns (place : ℕ) (d : Did) (x : Learnt) : Type 0 where
   is : d ≡ did.Learnt ballot next
   same : learning place ballot ≡ x
 
-did_learn : (n place : ℕ) (d : Did) (x : Learnt) → learnt_in (shown_as n place d) ≡ Some x → Learns place d x
+did_learn : (n place : ℕ) (d : Did) (x : Learnt) → learnt_by_did (shown_as n place d) ≡ Some x → Learns place d x
 did_learn n place (did.Learnt b next) x e = record { ballot = b; next = next; is = refl; same = same_Some (learning place b) x e }
 did_learn n place (did.Opened b) x e = absurd (none-some x e)
 did_learn n place (did.Held id) x e = absurd (none-some x e)
@@ -88,7 +88,7 @@ module _ (g : Group) where
   unfolding trace sent
   sent_stays [] es n m e = e
   sent_stays (d ∷ more) es n m e =
-      still (sent_after (more ++ es)) (sent_at (replicas g) (entry g (trace g (more ++ es)) d)) n m
+      still (sent_after (more ++ es)) (sent_at (replicas g) (event_entry g (trace g (more ++ es)) d)) n m
       (sent_stays more es n m e)
 
   sent_longer : (more es : List Event) → length (sent_after es) ≤ length (sent_after (more ++ es))
@@ -99,7 +99,7 @@ module _ (g : Group) where
         arith,
         sent_longer more es,
         length-append (sent_after (more ++ es))
-            (sent_at (replicas g) (entry g (trace g (more ++ es)) d)),
+            (sent_at (replicas g) (event_entry g (trace g (more ++ es)) d)),
       )
 
   seen_stays : (more es : List Event) (r : ℕ) (s : Histories) → IsIn s (seen (trace g es) r)
@@ -107,13 +107,13 @@ module _ (g : Group) where
   unfolding trace seen
   seen_stays [] es r s h = h
   seen_stays (d ∷ more) es r s h =
-      IsIn-left s (seen (trace g (more ++ es)) r) (seen_at r (entry g (trace g (more ++ es)) d))
+      IsIn-left s (seen (trace g (more ++ es)) r) (seen_at r (event_entry g (trace g (more ++ es)) d))
       (seen_stays more es r s h)
 
-  seen_now : (es : List Event) (d : Event) (r : ℕ) (s : Histories) → IsIn s (seen_at r (entry g (trace g es) d))
+  seen_now : (es : List Event) (d : Event) (r : ℕ) (s : Histories) → IsIn s (seen_at r (event_entry g (trace g es) d))
       → IsIn s (seen (trace g (d ∷ es)) r)
   unfolding trace seen
-  seen_now es d r s h = IsIn-right s (seen (trace g es) r) (seen_at r (entry g (trace g es) d)) h
+  seen_now es d r s h = IsIn-right s (seen (trace g es) r) (seen_at r (event_entry g (trace g es) d)) h
 
 -- ## What lines show as seen, was seen
 
@@ -143,19 +143,19 @@ module _ (g : Group) (events : List Event) where
         → slice_get (sent_after g (before (j + 1))) (teller.first + place_beside x.replica r)
         ≡ Some (tell_of (replicas g) x r)
 
-  telling : (j : ℕ) (teller : Step) (x : Learnt) → slice_get (lines g events) j ≡ Some (Done teller)
-      → learnt_in teller.did ≡ Some x → IsTelling j teller x
+  telling : (j : ℕ) (teller : Step) (x : Learnt) → slice_get (report_lines g events) j ≡ Some (Done teller)
+      → learnt_by_did teller.did ≡ Some x → IsTelling j teller x
   unfolding trace sent
   telling j teller x done learns =
       let p = handed_in_at g events j (Done teller) done in
       let d = p.0 in
       let was = was_done g events j d teller p.1 done in
       let t = trace_of g (take j events) in
-      let y = entry g t d in
+      let y = event_entry g t d in
       let n = replicas g in
       let same : record { did = shown_as n (length t) y.did; first = length (sent n t); sent = length (sent_at n y) } ≡ teller = same_Some _ teller (ap done_by was.line) in
       let first : teller.first ≡ length (sent n t) = sym (ap (λ (z : Step). z.first) same) in
-      let l = did_learn n (length t) y.did x (ap (λ (z : Step). learnt_in z.did) same ∙ learns) in
+      let l = did_learn n (length t) y.did x (ap (λ (z : Step). learnt_by_did z.did) same ∙ learns) in
       let b = l.ballot in
       let all : sent_after g (before (j + 1)) ≡ sent n t ++ sent_by n y.delivered y.did =
       ap (sent_after g) (accepted_next g events j d p.1 was.allowed) in
@@ -177,7 +177,7 @@ module _ (g : Group) (events : List Event) where
             ∙ still (tells_for n b) (offers_for_next n l.next) q (tell_of n (learning (length t) b) r) (tells_are n b (length t) r zeroth lt ne));
       }
 
-  was_told : (place r : ℕ) (x : Learnt) → IsToldAt g events (lines g events) place r x
+  was_told : (place r : ℕ) (x : Learnt) → IsToldAt g events (report_lines g events) place r x
       → IsIn x.updates (seen (trace_of g events) r)
   was_told place r x h =
       let n = h.teller.first + place_beside x.replica r in
@@ -194,8 +194,8 @@ module _ (g : Group) (events : List Event) where
         | inr le ↦ absurd (let p = accepted_between g events place h.learnt_at le in let first = tells.first in let longer = sent_longer g p.more (before place) in let same = ap (λ es. length (sent_after g es)) p.is in omega arith)
       ] in
       let p = accepted_before g events (place + 1) in
-      let now : IsIn x.updates (seen_at r (entry g (trace g (before place)) e)) =
-      IsIn-right x.updates (set_of (only 0 r (learnt_by (entry g (trace g (before place)) e).did)))
+      let now : IsIn x.updates (seen_at r (event_entry g (trace g (before place)) e)) =
+      IsIn-right x.updates (opening_sets (only 0 r (opening_learnt (event_entry g (trace g (before place)) e).did)))
       (told_to r (delivered g (trace g (before place)) e))
       (subst (λ o. IsIn x.updates (told_to r o)) (sym there) (told_is (replicas g) x r h.of_objects)) in
       subst (λ es. IsIn x.updates (seen (trace g es) r)) (sym p.is)
@@ -208,27 +208,27 @@ module _ (g : Group) (events : List Event) where
   learnt_seen [] x i e = absurd i
   learnt_seen (y ∷ t) x i e =
       let r = x.replica in
-      elim (in_either x (learnt t) (learning_of (length t) (learnt_by y.did)) i) [
+      elim (in_either x (learnt t) (learning_of (length t) (opening_learnt y.did)) i) [
         | inl old ↦ IsIn-left x.updates (seen t r) (seen_at r y) (learnt_seen t x old e)
-        | inr new ↦ IsIn-right x.updates (seen t r) (seen_at r y) (IsIn-left x.updates (set_of (only 0 r (learnt_by y.did))) (told_to r y.delivered) (now (learnt_by y.did) new))
+        | inr new ↦ IsIn-right x.updates (seen t r) (seen_at r y) (IsIn-left x.updates (opening_sets (only 0 r (opening_learnt y.did))) (told_to r y.delivered) (now (opening_learnt y.did) new))
       ]
     where
-      own : (b : Opening) → learning (length t) b ≡ x → IsIn x.updates (set_of (only 0 x.replica (Some b)))
+      own : (b : Opening) → learning (length t) b ≡ x → IsIn x.updates (opening_sets (only 0 x.replica (Some b)))
       own b same =
           let zeroth : b.instance ≡ 0 = ap (λ (z : Learnt). z.instance) same ∙ e in
           let at : b.replica ≡ x.replica = ap (λ (z : Learnt). z.replica) same in
-          subst (λ o. IsIn x.updates (set_of o))
+          subst (λ o. IsIn x.updates (opening_sets o))
           (sym
           (cond-true ((b.instance == 0) && (b.replica == x.replica)) (Some b) None
           (both_at b.instance b.replica 0 x.replica zeroth at)))
           (inl (ap (λ (z : Learnt). z.updates) same))
 
-      now : (o : Option Opening) → IsIn x (learning_of (length t) o) → IsIn x.updates (set_of (only 0 x.replica o))
+      now : (o : Option Opening) → IsIn x (learning_of (length t) o) → IsIn x.updates (opening_sets (only 0 x.replica o))
       now None new = absurd new
       now (Some b) (inl same) = own b same
       now (Some b) (inr none) = absurd none
 
-  was_seen : (place r : ℕ) (x : Learnt) → IsSeenAt g events (lines g events) place r x
+  was_seen : (place r : ℕ) (x : Learnt) → IsSeenAt g events (report_lines g events) place r x
       → IsIn x.updates (seen (trace_of g events) r)
   was_seen place r x (inl h) =
       subst (λ q. IsIn x.updates (seen (trace_of g events) q)) h.replica
@@ -250,7 +250,7 @@ record IsTeller (g : Group) (steps : List Line) (n : ℕ) (m : Message) : Type 0
   learnt_at : ℕ
   teller : Step
   tells : slice_get steps learnt_at ≡ Some (Done teller)
-  learnt : learnt_in teller.did ≡ Some learnt_as
+  learnt : learnt_by_did teller.did ≡ Some learnt_as
   of_objects : learnt_as.instance ≡ 0
   in_group : m.to < replicas g
   other : m.to ≡ learnt_as.replica → ⊥
@@ -359,20 +359,20 @@ many_lines g es = length-reverse (runs g es).lines ∙ line_each g es ∙ sym (l
 
 -- the learning that sent it, where that is the newest event
 newest_teller : (g : Group) (steps : List Line) (t : Trace) (e : Event) (q : ℕ) (m : Message)
-    → TellsAt (replicas g) (entry g t e).did q m
+    → TellsAt (replicas g) (event_entry g t e).did q m
     → IsTeller g (steps ++ line_of g t e ∷ []) (length (sent (replicas g) t) + q) m
 newest_teller g steps t e q m h =
     let n = replicas g in
     let b = h.ballot in
     let x = h.tell in
-    let d = (entry g t e).did in
-    let teller : Step = record { did = shown_as n (length t) d; first = length (sent n t); sent = length (sent_at n (entry g t e)) } in
+    let d = (event_entry g t e).did in
+    let teller : Step = record { did = shown_as n (length t) d; first = length (sent n t); sent = length (sent_at n (event_entry g t e)) } in
     record {
       learnt_as = learning (length t) b;
       learnt_at = length steps;
       teller = teller;
       tells = last_at steps (line_of g t e);
-      learnt = learnt_line n (length t) d ∙ ap (λ z. option_map (learning (length t)) (learnt_by z)) h.is;
+      learnt = learnt_line n (length t) d ∙ ap (λ z. option_map (learning (length t)) (opening_learnt z)) h.is;
       of_objects = h.of_objects;
       in_group = let to : m.to ≡ x.to = ap (λ (z : Message). z.to) x.is in let lt = x.below in omega arith;
       other = λ same. x.other (sym (ap (λ (z : Message). z.to) x.is) ∙ same);
@@ -410,14 +410,14 @@ module _ (g : Group) where
           → IsTeller g (reverse (runs_on g ran e t o).lines) n m
       go old (Some name) there = more (Refused name) (old there)
       go old None there = elim (cases_lt n (length earlier)) [
-        | inl lt ↦ more (line_of g t e) (old (sym (slice_get-append_left earlier (sent_at (replicas g) (entry g t e)) n lt) ∙ there))
+        | inl lt ↦ more (line_of g t e) (old (sym (slice_get-append_left earlier (sent_at (replicas g) (event_entry g t e)) n lt) ∙ there))
         | inr le ↦ (
             let q = n - length earlier in
             let sum : length earlier + q ≡ n = omega arith in
             let new =
-            sent_tells (replicas g) (delivered g t e) (entry g t e).did q m s
-            (sym (slice_get-append_right earlier (sent_at (replicas g) (entry g t e)) q)
-            ∙ ap (slice_get (earlier ++ sent_at (replicas g) (entry g t e))) sum ∙ there) is in
+            sent_tells (replicas g) (delivered g t e) (event_entry g t e).did q m s
+            (sym (slice_get-append_right earlier (sent_at (replicas g) (event_entry g t e)) q)
+            ∙ ap (slice_get (earlier ++ sent_at (replicas g) (event_entry g t e))) sum ∙ there) is in
             subst₂ (λ ls k. IsTeller g ls k m) (sym (reverse-append (line_of g t e ∷ []) ran.lines)) sum (newest_teller g (reverse ran.lines) t e q m new))
       ]
 
@@ -430,7 +430,7 @@ module _ (g : Group) where
     to : message.to ≡ r
     set : told_set message.body ≡ Some s
 
-  told_one : (b : Body) (s : Histories) → IsIn s (told b) → told_set b ≡ Some s
+  told_one : (b : Body) (s : Histories) → IsIn s (told_sets b) → told_set b ≡ Some s
   told_one (Tell u) s (inl e) = ap Some e
   told_one (Tell u) s (inr none) = absurd none
   told_one (Offer u) s i = absurd i
@@ -444,7 +444,7 @@ module _ (g : Group) where
   heard t (Deliver n) r s i = go (slice_get (sent (replicas g) t) n) refl i
     where
       told_by : (m : Message) → slice_get (sent (replicas g) t) n ≡ Some m → (v : Bool)
-          → ((m.instance == 0) && (m.to == r)) ≡ v → IsIn s (cond v (told m.body) []) → IsHeard t (Deliver n) r s
+          → ((m.instance == 0) && (m.to == r)) ≡ v → IsIn s (cond v (told_sets m.body) []) → IsHeard t (Deliver n) r s
       told_by m at true both i = record {
         number = n;
         is = refl;
@@ -473,7 +473,7 @@ module _ (g : Group) where
       t = trace g (runs g es).accepted
 
       d : Did
-      d = (entry g t e).did
+      d = (event_entry g t e).did
 
       last_line : slice_get (reverse ran.lines ++ line_of g t e ∷ []) (length (reverse es)) ≡ Some (line_of g t e)
       last_line =
@@ -490,12 +490,12 @@ module _ (g : Group) where
           → WasSeen g (reverse (e ∷ es)) (reverse (l ∷ ran.lines)) r s
       more l h = listed l (seen_later g (reverse es) (e ∷ []) (reverse ran.lines) (l ∷ []) r s h)
 
-      learns : (o : Option Opening) → only 0 r (learnt_by d) ≡ o → IsIn s (set_of o)
+      learns : (o : Option Opening) → only 0 r (opening_learnt d) ≡ o → IsIn s (opening_sets o)
           → WasSeen g (reverse es ++ e ∷ []) (reverse ran.lines ++ line_of g t e ∷ []) r s
       learns None is own = absurd own
       learns (Some b) is (inr none) = absurd none
       learns (Some b) is (inl same) =
-          let p = only_is 0 r (learnt_by d) b is in
+          let p = only_is 0 r (opening_learnt d) b is in
           record {
             place = length (reverse es);
             learnt_as = learning (length t) b;
@@ -537,10 +537,10 @@ module _ (g : Group) where
           → IsIn s (seen (trace g (runs_on g ran e t o).accepted) r)
           → WasSeen g (reverse (e ∷ es)) (reverse (runs_on g ran e t o).lines) r s
       go rest (Some name) there = more (Refused name) (rest there)
-      go rest None there = elim (in_either s (seen t r) (seen_at r (entry g t e)) there) [
+      go rest None there = elim (in_either s (seen t r) (seen_at r (event_entry g t e)) there) [
         | inl old ↦ more (line_of g t e) (rest old)
-        | inr new ↦ listed (line_of g t e) (elim (in_either s (set_of (only 0 r (learnt_by d))) (told_to r (delivered g t e)) new) [
-          | inl own ↦ learns (only 0 r (learnt_by d)) refl own
+        | inr new ↦ listed (line_of g t e) (elim (in_either s (opening_sets (only 0 r (opening_learnt d))) (told_to r (delivered g t e)) new) [
+          | inl own ↦ learns (only 0 r (opening_learnt d)) refl own
           | inr other ↦ hears (heard t e r s other)
         ])
       ]
@@ -548,7 +548,7 @@ module _ (g : Group) where
 -- ## Views
 
 pub views_seen : (g : Group) (events : List Event)
-    → AreLargestSeen g events (lines g events) (views g (trace_of g events))
+    → AreLargestSeen g events (report_lines g events) (views g (trace_of g events))
 views_seen g events r s at =
     let sets = seen (trace_of g events) r in
     let largest = (trace_keeps g (accepted_of g events)).largest r s at in
@@ -558,7 +558,7 @@ views_seen g events r s at =
           largest.contains u
           (IsIn_contains sets u (subst (λ z. IsIn z sets) h.set (was_seen g events h.place r h.learnt_as h.seen)));
       is_one = elim largest.is_one [
-        | inl c ↦ inl (subst (λ xs. WasSeen g xs (lines g events) r s) (reverse-reverse events) (seen_from g (reverse events) r s (contains_IsIn sets s c)))
+        | inl c ↦ inl (subst (λ xs. WasSeen g xs (report_lines g events) r s) (reverse-reverse events) (seen_from g (reverse events) r s (contains_IsIn sets s c)))
         | inr none ↦ inr ((λ u h. subst (IsIn u) none.0 (subst (λ z. IsIn z sets) h.set (was_seen g events h.place r h.learnt_as h.seen))), none.1)
       ];
     }

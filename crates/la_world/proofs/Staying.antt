@@ -12,11 +12,11 @@ use Rattle.la_world.specs.declared.step.Opening.{Opening}
 use Rattle.la_world.specs.Groups.{Group}
 use Rattle.la_world.specs.Events.{Event}
 use Rattle.la_world.specs.Trace.{Entry, Trace}
-use Rattle.la_world.specs.Ballots.{learnt_by, only, ballots, is_open}
-use Rattle.la_world.specs.Submissions.{submitted}
-use Rattle.la_world.specs.Playing.{entry, trace}
+use Rattle.la_world.specs.Ballots.{opening_learnt, only, ballots, is_open}
+use Rattle.la_world.specs.Submissions.{submitted_ops}
+use Rattle.la_world.specs.Playing.{event_entry, trace}
 use Rattle.la_world.specs.Learnings.{last_learnt_ballot}
-use Rattle.la_world.specs.StandsFor.{IsLegal}
+use Rattle.la_world.specs.StandsFor.{IsLegalTrace}
 use Rattle.la_world.specs.Laws.{OutcomesStay}
 use Rattle.la_world.proofs.Lists.{IsIn}
 use Rattle.la_world.proofs.Openings.{only_is}
@@ -33,67 +33,67 @@ nothing_learnt i r = refl
 
 -- a ballot that ends as learnt was open, and is the last one
 module _ (g : Group) (events : List Event) (e : Event) (c : Opening)
-    (ends : learnt_by (entry g (trace g events) e).did ≡ Some c) where
+    (ends : opening_learnt (event_entry g (trace g events) e).did ≡ Some c) where
   abbrev t : Trace
   t = trace g events
 
   pub was_open : is_open t c.instance c.replica ≡ true
-  was_open = (event_learns g t e (entry g t e).delivered (entry g t e).did (step g t e).cases c ends).asking
+  was_open = (event_learns g t e (event_entry g t e).delivered (event_entry g t e).did (step g t e).cases c ends).asking
 
   holds_own : 1 ≤ count c.updates c.replica
   holds_own =
       own_held g events c.instance c.replica c
       (subst (λ z. IsIn z (ballots t c.instance c.replica))
-      (event_learns g t e (entry g t e).delivered (entry g t e).did (step g t e).cases c ends).is_last
+      (event_learns g t e (event_entry g t e).delivered (event_entry g t e).did (step g t e).cases c ends).is_last
       (open_in t c.instance c.replica was_open))
 
 -- where a set was learnt in an instance of an object, the ballot there has ended for good
-learnt_done : (g : Group) (events : List Event) → IsLegal g events → (i r : ℕ) → (i ≡ 0 → ⊥) → (b : Ballot)
+learnt_done : (g : Group) (events : List Event) → IsLegalTrace g events → (i r : ℕ) → (i ≡ 0 → ⊥) → (b : Ballot)
     → last_learnt_ballot (trace g events) i r ≡ Some b → IsDone (trace g events) i r
 unfolding trace
 learnt_done g [] legal i r above b e = absurd (none-some b (sym (nothing_learnt i r) ∙ e))
 learnt_done g (d ∷ events) legal i r above b e =
-    go (only i r (learnt_by x.did)) refl (learnt_done g events legal.1 i r above b)
+    go (only i r (opening_learnt x.did)) refl (learnt_done g events legal.1 i r above b)
   where
     t : Trace
     t = trace g events
 
     x : Entry
-    x = entry g t d
+    x = event_entry g t d
 
-    le : length (submitted (x ∷ t) i r) ≤ 1
+    le : length (submitted_ops (x ∷ t) i r) ≤ 1
     le = once (x ∷ t) i r (votes_once g (d ∷ events) legal) above
 
-    go : (o : Option Opening) → only i r (learnt_by x.did) ≡ o → (last_learnt_ballot t i r ≡ Some b → IsDone t i r)
+    go : (o : Option Opening) → only i r (opening_learnt x.did) ≡ o → (last_learnt_ballot t i r ≡ Some b → IsDone t i r)
         → IsDone (x ∷ t) i r
     go None f before =
         still_done g t x (holds g events) (step g t d) i r le (before (sym (last_learnt_ballot-none x t i r f) ∙ e))
     go (Some c) f before =
-        let p = only_is i r (learnt_by x.did) c f in
+        let p = only_is i r (opening_learnt x.did) c f in
         now_done g t x (holds g events) (step g t d) i r le c p.0 (holds_own g events d c p.0) p.1 p.2
 
 -- and no other set is learnt there
-learnt_more : (g : Group) (events : List Event) (d : Event) → IsLegal g events → (i r : ℕ) → (i ≡ 0 → ⊥) → (b : Ballot)
+learnt_more : (g : Group) (events : List Event) (d : Event) → IsLegalTrace g events → (i r : ℕ) → (i ≡ 0 → ⊥) → (b : Ballot)
     → last_learnt_ballot (trace g events) i r ≡ Some b → last_learnt_ballot (trace g (d ∷ events)) i r ≡ Some b
 unfolding trace
-learnt_more g events d legal i r above b e = go (only i r (learnt_by x.did)) refl
+learnt_more g events d legal i r above b e = go (only i r (opening_learnt x.did)) refl
   where
     t : Trace
     t = trace g events
 
     x : Entry
-    x = entry g t d
+    x = event_entry g t d
 
-    go : (o : Option Opening) → only i r (learnt_by x.did) ≡ o → last_learnt_ballot (x ∷ t) i r ≡ Some b
+    go : (o : Option Opening) → only i r (opening_learnt x.did) ≡ o → last_learnt_ballot (x ∷ t) i r ≡ Some b
     go None f = last_learnt_ballot-none x t i r f ∙ e
     go (Some c) f =
-        let p = only_is i r (learnt_by x.did) c f in
+        let p = only_is i r (opening_learnt x.did) c f in
         absurd
         (true≢false
         (sym (subst₂ (λ j q. is_open t j q ≡ true) p.1 p.2 (was_open g events d c p.0))
         ∙ (learnt_done g events legal i r above b e).closed))
 
-learnt_stays : (g : Group) (more events : List Event) → IsLegal g (more ++ events) → (i r : ℕ) → (i ≡ 0 → ⊥)
+learnt_stays : (g : Group) (more events : List Event) → IsLegalTrace g (more ++ events) → (i r : ℕ) → (i ≡ 0 → ⊥)
     → (b : Ballot) → last_learnt_ballot (trace g events) i r ≡ Some b
     → last_learnt_ballot (trace g (more ++ events)) i r ≡ Some b
 learnt_stays g [] events legal i r above b e = e

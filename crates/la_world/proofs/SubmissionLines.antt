@@ -13,19 +13,19 @@ use Rattle.la_world.specs.Groups.{Group, replicas}
 use Rattle.la_world.specs.Events.{Event, Submit, Deliver, Decide, Ask}
 use Rattle.la_world.specs.Trace as did
 use Rattle.la_world.specs.Trace.{Did, Trace}
-use Rattle.la_world.specs.Ballots.{learnt_by}
+use Rattle.la_world.specs.Ballots.{opening_learnt}
 use Rattle.la_world.specs.Votes.{Submission}
-use Rattle.la_world.specs.Submissions.{submission_by, second_vote_after, object_op_in, submitted}
-use Rattle.la_world.specs.Playing.{entry, trace}
-use Rattle.la_world.specs.Report.{refused, shown_as, line_of, Run, runs, runs_on, lines, trace_of}
-use Rattle.la_world.specs.Promises.{learnt_in, IsSubmittedAt}
+use Rattle.la_world.specs.Submissions.{submission_by, second_vote_after, object_op_in, submitted_ops}
+use Rattle.la_world.specs.Playing.{event_entry, trace}
+use Rattle.la_world.specs.Report.{refused, shown_as, line_of, Run, runs, runs_on, report_lines, trace_of}
+use Rattle.la_world.specs.Promises.{learnt_by_did, IsSubmittedAt}
 use Rattle.la_world.specs.Reading.{vote_after, submission_at, ops_at, Submits}
 use Rattle.la_world.proofs.Safe.{line_each}
 use Rattle.la_world.proofs.Places.{was_done}
 
 -- ## One line
 
-vote_shown : (n place : ℕ) (d : Did) → vote_after (learnt_in (shown_as n place d)) ≡ second_vote_after (learnt_by d)
+vote_shown : (n place : ℕ) (d : Did) → vote_after (learnt_by_did (shown_as n place d)) ≡ second_vote_after (opening_learnt d)
 vote_shown n place (did.Learnt b next) = refl
 vote_shown n place (did.Opened b) = refl
 vote_shown n place (did.Held id) = refl
@@ -39,10 +39,10 @@ vote_shown n place (did.Replied answer) = refl
 
 -- the line of an accepted event says what it submits
 pub submission_shown : (g : Group) (t : Trace) (e : Event)
-    → submission_at e (line_of g t e) ≡ submission_by e (entry g t e).did
+    → submission_at e (line_of g t e) ≡ submission_by e (event_entry g t e).did
 submission_shown g t (Submit r object_op) = refl
 submission_shown g t (Decide r k value) = refl
-submission_shown g t (Deliver k) = vote_shown (replicas g) (length t) (entry g t (Deliver k)).did
+submission_shown g t (Deliver k) = vote_shown (replicas g) (length t) (event_entry g t (Deliver k)).did
 submission_shown g t (Ask r object query) = refl
 
 -- ## All lines
@@ -59,8 +59,8 @@ ops-push (d ∷ es) (k ∷ ls) e l i r same =
     ∙ sym (append_assoc first (ops_at es ls i r) (object_op_in i r (submission_at e l)))
 
 ops_are : (g : Group) (es : List Event) (i r : ℕ)
-    → ops_at (reverse es) (reverse (runs g es).lines) i r ≡ submitted (trace g (runs g es).accepted) i r
-unfolding runs trace submitted ops_at
+    → ops_at (reverse es) (reverse (runs g es).lines) i r ≡ submitted_ops (trace g (runs g es).accepted) i r
+unfolding runs trace submitted_ops ops_at
 ops_are g [] i r = refl
 ops_are g (e ∷ es) i r = go (refused g t e) (ops_are g es i r)
   where
@@ -73,39 +73,39 @@ ops_are g (e ∷ es) i r = go (refused g t e) (ops_are g es i r)
     same : length (reverse es) ≡ length (reverse ran.lines)
     same = length-reverse es ∙ sym (line_each g es) ∙ sym (length-reverse ran.lines)
 
-    pushed : (l : Line) → ops_at (reverse es) (reverse ran.lines) i r ≡ submitted t i r
+    pushed : (l : Line) → ops_at (reverse es) (reverse ran.lines) i r ≡ submitted_ops t i r
         → ops_at (reverse (e ∷ es)) (reverse (l ∷ ran.lines)) i r
-        ≡ submitted t i r ++ object_op_in i r (submission_at e l)
+        ≡ submitted_ops t i r ++ object_op_in i r (submission_at e l)
     pushed l before =
         ap₂ (λ xs ls. ops_at xs ls i r) (reverse-append (e ∷ []) es) (reverse-append (l ∷ []) ran.lines)
         ∙ ops-push (reverse es) (reverse ran.lines) e l i r same
         ∙ ap (λ ds. ds ++ object_op_in i r (submission_at e l)) before
 
-    go : (o : Option Refusal) → ops_at (reverse es) (reverse ran.lines) i r ≡ submitted t i r
+    go : (o : Option Refusal) → ops_at (reverse es) (reverse ran.lines) i r ≡ submitted_ops t i r
         → ops_at (reverse (e ∷ es)) (reverse (runs_on g ran e t o).lines) i r
-        ≡ submitted (trace g (runs_on g ran e t o).accepted) i r
+        ≡ submitted_ops (trace g (runs_on g ran e t o).accepted) i r
     go None before =
-        pushed (line_of g t e) before ∙ ap (λ s. submitted t i r ++ object_op_in i r s) (submission_shown g t e)
-    go (Some name) before = pushed (Refused name) before ∙ append-nil (submitted t i r)
+        pushed (line_of g t e) before ∙ ap (λ s. submitted_ops t i r ++ object_op_in i r s) (submission_shown g t e)
+    go (Some name) before = pushed (Refused name) before ∙ append-nil (submitted_ops t i r)
 
 all_ops : (g : Group) (events : List Event) (i r : ℕ)
-    → ops_at events (lines g events) i r ≡ submitted (trace_of g events) i r
+    → ops_at events (report_lines g events) i r ≡ submitted_ops (trace_of g events) i r
 all_ops g events i r =
-    ap (λ xs. ops_at xs (lines g events) i r) (sym (reverse-reverse events)) ∙ ops_are g (reverse events) i r
+    ap (λ xs. ops_at xs (report_lines g events) i r) (sym (reverse-reverse events)) ∙ ops_are g (reverse events) i r
 
 -- the lines of a front are the front of the lines
 lines_earlier : (g : Group) (es : List Event) (k : ℕ)
-    → lines g (take k (reverse es)) ≡ take k (reverse (runs g es).lines)
+    → report_lines g (take k (reverse es)) ≡ take k (reverse (runs g es).lines)
 unfolding runs
-lines_earlier g [] k = ap (lines g) (take_all k [] (omega arith)) ∙ sym (take_all k [] (omega arith))
+lines_earlier g [] k = ap (report_lines g) (take_all k [] (omega arith)) ∙ sym (take_all k [] (omega arith))
 lines_earlier g (e ∷ es) k = elim (cases_lt (length es) k) [
   | inl all ↦
       let ls = (runs g (e ∷ es)).lines in
-      ap (lines g) (take_all k (reverse (e ∷ es)) (omega (arith, length-reverse (e ∷ es), all)))
+      ap (report_lines g) (take_all k (reverse (e ∷ es)) (omega (arith, length-reverse (e ∷ es), all)))
       ∙ ap (λ xs. reverse (runs g xs).lines) (reverse-reverse (e ∷ es))
       ∙ sym (take_all k (reverse ls) (omega (arith, length-reverse ls, line_each g (e ∷ es), all)))
   | inr le ↦
-      ap (lines g)
+      ap (report_lines g)
       (ap (take k) (reverse-append (e ∷ []) es)
       ∙ take-append-le k (reverse es) (e ∷ []) (omega (arith, length-reverse es, le)))
       ∙ lines_earlier g es k
@@ -126,13 +126,13 @@ lines_earlier g (e ∷ es) k = elim (cases_lt (length es) k) [
     go le None = one_more le (line_of g (trace g (runs g es).accepted) e)
     go le (Some name) = one_more le (Refused name)
 
-pub lines_before : (g : Group) (events : List Event) (k : ℕ) → lines g (take k events) ≡ take k (lines g events)
+pub lines_before : (g : Group) (events : List Event) (k : ℕ) → report_lines g (take k events) ≡ take k (report_lines g events)
 lines_before g events k =
-    ap (λ xs. lines g (take k xs)) (sym (reverse-reverse events)) ∙ lines_earlier g (reverse events) k
+    ap (λ xs. report_lines g (take k xs)) (sym (reverse-reverse events)) ∙ lines_earlier g (reverse events) k
 
 -- what is submitted before a place
 pub ops_before : (g : Group) (events : List Event) (k i r : ℕ)
-    → ops_at (take k events) (take k (lines g events)) i r ≡ submitted (trace_of g (take k events)) i r
+    → ops_at (take k events) (take k (report_lines g events)) i r ≡ submitted_ops (trace_of g (take k events)) i r
 ops_before g events k i r =
     ap (λ ls. ops_at (take k events) ls i r) (sym (lines_before g events k)) ∙ all_ops g (take k events) i r
 
@@ -241,16 +241,16 @@ listed (x ∷ es) (y ∷ ls) i r zero d e l p q s =
 
 module _ (g : Group) (events : List Event) (k i : ℕ) where
   -- they agree
-  pub submits_by_trace : (u : Update) → Submits events (lines g events) k i u
-      → IsSubmittedAt g events (lines g events) k i u.id
+  pub submits_by_trace : (u : Update) → Submits events (report_lines g events) k i u
+      → IsSubmittedAt g events (report_lines g events) k i u.id
   submits_by_trace u h = go h.line h.became h.submits
     where
       t : Trace
       t = trace_of g (take k events)
 
-      go : (l : Line) → slice_get (lines g events) k ≡ Some l
+      go : (l : Line) → slice_get (report_lines g events) k ≡ Some l
           → submission_at h.event l ≡ Some (submission_of_op i u.id.replica (object_op_of u))
-          → IsSubmittedAt g events (lines g events) k i u.id
+          → IsSubmittedAt g events (report_lines g events) k i u.id
       go (Refused name) at s = absurd (none-some _ s)
       go (Done step) at s = record {
         event = h.event;
@@ -266,8 +266,8 @@ module _ (g : Group) (events : List Event) (k i : ℕ) where
         number = h.number ∙ ap (λ ds. length ds + 1) (ops_before g events k i u.id.replica);
       }
 
-  pub submits_by_lines : (id : UpdateId) → IsSubmittedAt g events (lines g events) k i id
-      → (d : ObjectOp) × Submits events (lines g events) k i (update_of id.replica id.number d)
+  pub submits_by_lines : (id : UpdateId) → IsSubmittedAt g events (report_lines g events) k i id
+      → (d : ObjectOp) × Submits events (report_lines g events) k i (update_of id.replica id.number d)
   submits_by_lines id h =
       let t = trace_of g (take k events) in
       let s = h.submission in (
@@ -282,7 +282,7 @@ module _ (g : Group) (events : List Event) (k i : ℕ) where
               ∙ submission_shown g t h.event ∙ h.submits
               ∙ ap Some (the_submission s i id.replica s.object_op h.instance (sym h.replica) refl);
           number =
-              h.number ∙ ap (λ r. length (submitted t i r) + 1) (sym h.replica)
+              h.number ∙ ap (λ r. length (submitted_ops t i r) + 1) (sym h.replica)
               ∙ ap (λ ds. length ds + 1) (sym (ops_before g events k i id.replica));
         },
       )

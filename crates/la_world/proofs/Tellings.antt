@@ -20,12 +20,12 @@ use Rattle.la_world.specs.Groups.{Group, replicas}
 use Rattle.la_world.specs.Events.{Event, Past}
 use Rattle.la_world.specs.Trace.{Did, Entry, Trace}
 use Rattle.la_world.specs.Sent.{sender_for, ballot_of, offers_for, offers_for_next, tells_for, sent_by, sent_at, sent}
-use Rattle.la_world.specs.Acceptors.{accepted}
+use Rattle.la_world.specs.Acceptors.{accepted_there}
 use Rattle.la_world.specs.Ballots.{ballots, round}
-use Rattle.la_world.specs.Hearing.{reported}
-use Rattle.la_world.specs.Playing.{counts, trace}
+use Rattle.la_world.specs.Hearing.{reported_set}
+use Rattle.la_world.specs.Playing.{counts_reply, trace}
 use Rattle.la_replica.specs.Stored.{IsMadeBody, IsMade}
-use Rattle.la_world.specs.Told.{told_body, told_over, base_of, offered_to, told_at, told, StandsBody, ToldMessagesStand}
+use Rattle.la_world.specs.Told.{told_body, told_over, base_of, offered_to, sent_as_told, told_messages, StandsBody, ToldMessagesStand}
 use Rattle.la_world.proofs.Lists.{IsIn, IsIn_get, AllIn, AllIn-append, AllIn-each, AllIn-map, AllIn-made, AllIn_at}
 use Rattle.la_world.proofs.Accepted.{accepted_more}
 use Rattle.la_world.proofs.EventCases.{EventCases, silent, opens, answers_offer, refines, learns, Step}
@@ -50,14 +50,14 @@ wholes : (f : Message → Counts) (ms : List Message) → whole_mail (map (λ m.
 wholes f [] = refl
 wholes f (m ∷ ms) = ap₂ (λ x xs. x ∷ xs) (told_whole (f m) m) (wholes f ms)
 
-pub told_at_carries : (n : ℕ) (x : Entry) (t : Trace) → CarryAll (told_at n x t) (sent_at n x)
+pub told_at_carries : (n : ℕ) (x : Entry) (t : Trace) → CarryAll (sent_as_told n x t) (sent_at n x)
 told_at_carries n x t = wholes (base_of (x ∷ t) (offered_to x.delivered)) (sent_at n x)
 
-pub told_carries : (n : ℕ) (t : Trace) → CarryAll (told n t) (sent n t)
-unfolding told sent
+pub told_carries : (n : ℕ) (t : Trace) → CarryAll (told_messages n t) (sent n t)
+unfolding told_messages sent
 told_carries n [] = refl
 told_carries n (x ∷ t) =
-    map-append whole_of (told n t) (told_at n x t) ∙ ap₂ (λ xs ys. xs ++ ys) (told_carries n t) (told_at_carries n x t)
+    map-append whole_of (told_messages n t) (sent_as_told n x t) ∙ ap₂ (λ xs ys. xs ++ ys) (told_carries n t) (told_at_carries n x t)
 
 -- ## Its bases
 
@@ -69,11 +69,11 @@ smaller_right c s =
     HasCounts-known s (smaller c (counts_of s))
     (λ r lt. omega (arith, smaller_in c (counts_of s) r lt, count_in-counts_of s r))
 
-smaller_left : (told there : Histories) (d : Counts) → IsSubset told there
-    → HasCounts there (smaller (counts_of told) d)
-smaller_left told there d sub =
-    HasCounts-known there (smaller (counts_of told) d)
-    (λ r lt. omega (arith, smaller_in (counts_of told) d r lt, count_in-counts_of told r, subset-count told there sub r))
+smaller_left : (told_messages there : Histories) (d : Counts) → IsSubset told_messages there
+    → HasCounts there (smaller (counts_of told_messages) d)
+smaller_left told_messages there d sub =
+    HasCounts-known there (smaller (counts_of told_messages) d)
+    (λ r lt. omega (arith, smaller_in (counts_of told_messages) d r lt, count_in-counts_of told_messages r, subset-count told_messages there sub r))
 
 -- the base is what a ballot with this number has
 pub record IsBaseOf (t : Trace) (i r number : ℕ) (base : Counts) : Type 0 where
@@ -84,7 +84,7 @@ pub record IsBaseOf (t : Trace) (i r number : ℕ) (base : Counts) : Type 0 wher
 
 -- the set has it; and the acceptor to which it is offered has accepted it, or it is what was offered
 abbrev pub Stands : Trace → Message → (base : Counts) → Body → Type 0
-Stands t m base (Offer s) = HasCounts s base × HasCounts (accepted t m.instance m.to) base
+Stands t m base (Offer s) = HasCounts s base × HasCounts (accepted_there t m.instance m.to) base
 Stands t m base Yes = Unit {0}
 Stands t m base (No s) = HasCounts s base × IsBaseOf t m.instance m.to m.ballot base
 Stands t m base (Tell s) = Unit {0}
@@ -103,7 +103,7 @@ stands_more x t m base (Offer s) h = (
       omega (
         arith,
         h.1 r,
-        subset-count (accepted t m.instance m.to) (accepted (x ∷ t) m.instance m.to)
+        subset-count (accepted_there t m.instance m.to) (accepted_there (x ∷ t) m.instance m.to)
             (accepted_more x t m.instance m.to) r,
       ),
 )
@@ -121,8 +121,8 @@ module _ (g : Group) (x : Entry) (t : Trace) (h : Holds g t) (are : AreAccepted 
   offers_stand offered b =
       AllIn-map (StandsNew (x ∷ t) offered) (offer_to (sender_for (replicas g) b) (ballot_of b))
       (λ a. (
-        smaller_right (counts_of (reported (x ∷ t) b.instance b.replica a)) b.updates,
-        smaller_left (reported (x ∷ t) b.instance b.replica a) (accepted (x ∷ t) b.instance a) (counts_of b.updates)
+        smaller_right (counts_of (reported_set (x ∷ t) b.instance b.replica a)) b.updates,
+        smaller_left (reported_set (x ∷ t) b.instance b.replica a) (accepted_there (x ∷ t) b.instance a) (counts_of b.updates)
             (are.reports b.instance b.replica a),
       ))
       (group (replicas g))
@@ -133,11 +133,11 @@ module _ (g : Group) (x : Entry) (t : Trace) (h : Holds g t) (are : AreAccepted 
   next_stands offered (Some b) = offers_stand offered b
 
   answer_stands : (m : Message) (s : Histories) → x.delivered ≡ Some m → m.body ≡ Offer s
-      → StandsNew (x ∷ t) (offered_by m) (reply_to m (answer (accepted t m.instance m.to) s))
+      → StandsNew (x ∷ t) (offered_by m) (reply_to m (answer (accepted_there t m.instance m.to) s))
   answer_stands m s d e = go (is_subset u s)
     where
       u : Histories
-      u = accepted t m.instance m.to
+      u = accepted_there t m.instance m.to
 
       is_in : IsIn m (sent (replicas g) t)
       is_in = was_sent m d
@@ -187,21 +187,21 @@ module _ (g : Group) (x : Entry) (t : Trace) (h : Holds g t) (are : AreAccepted 
 
 pub record AreStanding (g : Group) (t : Trace) : Type 0 where
   pub reports : AreAccepted g t
-  pub messages : AllIn (StandsMessage t) (told (replicas g) t)
+  pub messages : AllIn (StandsMessage t) (told_messages (replicas g) t)
 
 standing_start : (g : Group) → AreStanding g []
-unfolding told
+unfolding told_messages
 standing_start g = record { reports = accepted_start g; messages = tt }
 
 standing_kept : (g : Group) (t : Trace) (x : Entry) → Step g t x → Holds g t → AreStanding g t → AreStanding g (x ∷ t)
-unfolding told
+unfolding told_messages
 standing_kept g t x step h are =
     let reports = accepted_kept g t x step h are.reports in
     let base = base_of (x ∷ t) (offered_to x.delivered) in
     record {
       reports = reports;
-      messages = AllIn-append (StandsMessage (x ∷ t)) (told (replicas g) t) (told_at (replicas g) x t)
-          (AllIn-each (StandsMessage t) (StandsMessage (x ∷ t)) (λ c k. record { whole = k.whole; base = k.base; is = k.is; stands = stands_more x t k.whole k.base k.whole.body k.stands }) (told (replicas g) t) are.messages)
+      messages = AllIn-append (StandsMessage (x ∷ t)) (told_messages (replicas g) t) (sent_as_told (replicas g) x t)
+          (AllIn-each (StandsMessage t) (StandsMessage (x ∷ t)) (λ c k. record { whole = k.whole; base = k.base; is = k.is; stands = stands_more x t k.whole k.base k.whole.body k.stands }) (told_messages (replicas g) t) are.messages)
           (AllIn-made (StandsMessage (x ∷ t)) (λ m. told_over (base m) m) (StandsNew (x ∷ t) (offered_to x.delivered)) (λ m k. record { whole = m; base = base m; is = refl; stands = k }) (sent_at (replicas g) x)
           (new_stand g x t h reports step.was_sent x.event x.delivered x.did refl step.cases));
     }
@@ -218,7 +218,7 @@ body_stands g t h m base Yes st = tt
 body_stands g t h m base (No s) st = (
   st.0,
   λ heeded.
-      let is = counts_is t m (ap (counts t) (sym (told_whole base m)) ∙ heeded) in
+      let is = counts_is t m (ap (counts_reply t) (sym (told_whole base m)) ∙ heeded) in
       let last = round t m.instance m.to in
       let same : st.1.ballot ≡ last =
       same_number (ballots t m.instance m.to) st.1.ballot last (h.quorum.numbered m.instance m.to) st.1.opened
@@ -231,8 +231,8 @@ pub told_messages_stand : ToldMessagesStand
 told_messages_stand g events k c at =
     let t = trace g events in
     let st =
-    AllIn_at (StandsMessage t) (told (replicas g) t) c (standing g events).messages
-    (IsIn_get (told (replicas g) t) k c at) in
+    AllIn_at (StandsMessage t) (told_messages (replicas g) t) c (standing g events).messages
+    (IsIn_get (told_messages (replicas g) t) k c at) in
     subst (λ m. StandsBody t m m.body) (sym st.is)
     (body_stands g t (holds g events) st.whole st.base st.whole.body st.stands)
 
@@ -244,8 +244,8 @@ over_made base Yes = tt
 over_made base (No s) = refl
 over_made base (Tell s) = tt
 
-pub told_are_made : (g : Group) (events : Past) → AllIn IsMade (told (replicas g) (trace g events))
+pub told_are_made : (g : Group) (events : Past) → AllIn IsMade (told_messages (replicas g) (trace g events))
 told_are_made g events =
     AllIn-each (StandsMessage (trace g events)) IsMade
-    (λ c st. subst IsMade (sym st.is) (over_made st.base st.whole.body)) (told (replicas g) (trace g events))
+    (λ c st. subst IsMade (sym st.is) (over_made st.base st.whole.body)) (told_messages (replicas g) (trace g events))
     (standing g events).messages

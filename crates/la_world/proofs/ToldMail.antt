@@ -22,11 +22,11 @@ use Rattle.la_world.specs.Groups.{Group, replicas, instances}
 use Rattle.la_world.specs.Trace as did
 use Rattle.la_world.specs.Trace.{Did, Entry, Trace}
 use Rattle.la_world.specs.Sent.{sender_for, ballot_of, offers_for, offers_for_next, tells_for, sent_by, sent_at}
-use Rattle.la_world.specs.Ballots.{opened_by, learnt_by}
+use Rattle.la_world.specs.Ballots.{opened_by, opening_learnt}
 use Rattle.la_world.specs.Hearing as hearing
 use Rattle.la_world.specs.ReplicaStates.{reports, proposer_state, instance_of, replica_state}
 use Rattle.la_replica.specs.Stored.{IsMadeBody, IsMade}
-use Rattle.la_world.specs.Told.{told_body, told_over, base_in, base_of, offered_to, told_at}
+use Rattle.la_world.specs.Told.{told_body, told_over, base_told, base_of, offered_to, sent_as_told}
 use Rattle.la_world.proofs.Lists.{AllIn, AllIn-append, AllIn-made, get_made, made_at}
 use Rattle.la_world.proofs.Quorum.{tells_all, group_within}
 
@@ -58,7 +58,7 @@ both_told old then after offered first second j mail added told done kept beside
 -- ## What a step tells is what the trace says
 
 body_told : (reported offered : Counts) (b : code_body.Body) → IsToldBody reported offered b
-    → b ≡ told_body (base_in reported offered (whole_body b)) (whole_body b)
+    → b ≡ told_body (base_told reported offered (whole_body b)) (whole_body b)
 body_told reported offered (body.Offer d) told = ap body.Offer told
 body_told reported offered body.Yes told = refl
 body_told reported offered (body.No d) told = ap body.No told
@@ -85,12 +85,12 @@ told_made r offered mail told =
 
 -- what has been reported to a replica is what it keeps
 reports_at : (t : Trace) (i r a : ℕ) → a < 8
-    → slice_index_or (reports t i r) a zero_counts ≡ counts_of (hearing.reported t i r a)
+    → slice_index_or (reports t i r) a zero_counts ≡ counts_of (hearing.reported_set t i r a)
 unfolding reports
 reports_at t i r a lt =
-    get_or_from_slice_get (map (λ q. counts_of (hearing.reported t i r q)) (range_with_len 0 8)) a
-    (counts_of (hearing.reported t i r a)) zero_counts
-    (get_made (λ q. counts_of (hearing.reported t i r q)) 0 8 a a lt (omega arith))
+    get_or_from_slice_get (map (λ q. counts_of (hearing.reported_set t i r q)) (range_with_len 0 8)) a
+    (counts_of (hearing.reported_set t i r a)) zero_counts
+    (get_made (λ q. counts_of (hearing.reported_set t i r q)) 0 8 a a lt (omega arith))
 
 module _ (g : Group) (t : Trace) (r : ℕ) (offered : Counts) where
   told_so : (c : code.Message) → c.from ≡ r → c.to < 8 → IsToldIn (replica_state g t r) offered c
@@ -108,10 +108,10 @@ module _ (g : Group) (t : Trace) (r : ℕ) (offered : Counts) where
           ap (instance_of g t r) (sym zero) ∙ made_at (instance_of g t r) 0 (instances g) c.instance x e in
           let here = subst (λ (y : Instance). IsToldBody (reported y.proposer c.to) offered c.body) (sym is) h in
           let same : reported (instance_of g t r c.instance).proposer c.to ≡ counts_of
-          (hearing.reported t c.instance c.from c.to) =
-          reports_at t c.instance r c.to lt ∙ ap (λ q. counts_of (hearing.reported t c.instance q c.to)) (sym from) in
+          (hearing.reported_set t c.instance c.from c.to) =
+          reports_at t c.instance r c.to lt ∙ ap (λ q. counts_of (hearing.reported_set t c.instance q c.to)) (sym from) in
           let b =
-          body_told (counts_of (hearing.reported t c.instance c.from c.to)) offered c.body
+          body_told (counts_of (hearing.reported_set t c.instance c.from c.to)) offered c.body
           (subst (λ n. IsToldBody n offered c.body) same here) in
           λ j. record { instance = c.instance; from = c.from; to = c.to; ballot = c.ballot; body = b j }
 
@@ -127,7 +127,7 @@ module _ (g : Group) (t : Trace) (r : ℕ) (offered : Counts) where
 -- a replica of a trace tells what that says
 pub told_as : (g : Group) (t : Trace) (x : Entry) (r : ℕ) (mail : List code.Message)
     → CarryAll mail (sent_at (replicas g) x) → AllIn (λ (w : Message). (w.from ≡ r) × (w.to < 8)) (sent_at (replicas g) x)
-    → AreToldIn (replica_state g (x ∷ t) r) (offered_to x.delivered) mail → mail ≡ told_at (replicas g) x t
+    → AreToldIn (replica_state g (x ∷ t) r) (offered_to x.delivered) mail → mail ≡ sent_as_told (replicas g) x t
 told_as g t x r mail carry sides told =
     told_all g (x ∷ t) r (offered_to x.delivered) mail
     (subst (AllIn (λ (w : Message). (w.from ≡ r) × (w.to < 8))) (sym carry) sides) told
@@ -137,7 +137,7 @@ told_as g t x r mail carry sides told =
 
 -- what an event sends is from its replica, and to one of the group
 pub sent_sides : (n r : ℕ) (m : Option Message) (d : Did) → n ≤ 8
-    → ((b : Opening) → opened_by d ≡ Some b → b.replica ≡ r) → ((b : Opening) → learnt_by d ≡ Some b → b.replica ≡ r)
+    → ((b : Opening) → opened_by d ≡ Some b → b.replica ≡ r) → ((b : Opening) → opening_learnt d ≡ Some b → b.replica ≡ r)
     → ((k : Message) → m ≡ Some k → (k.to ≡ r) × (k.from < n))
     → AllIn (λ (w : Message). (w.from ≡ r) × (w.to < 8)) (sent_by n m d)
 sent_sides n r m d few opened learnt received = go d m opened learnt received
@@ -153,7 +153,7 @@ sent_sides n r m d few opened learnt received = go d m opened learnt received
     next (Some b) of = offers b (of b refl)
 
     go : (d : Did) (m : Option Message) → ((b : Opening) → opened_by d ≡ Some b → b.replica ≡ r)
-        → ((b : Opening) → learnt_by d ≡ Some b → b.replica ≡ r)
+        → ((b : Opening) → opening_learnt d ≡ Some b → b.replica ≡ r)
         → ((k : Message) → m ≡ Some k → (k.to ≡ r) × (k.from < n))
         → AllIn (λ (w : Message). (w.from ≡ r) × (w.to < 8)) (sent_by n m d)
     go (did.Opened b) m o l k = offers b (o b refl)

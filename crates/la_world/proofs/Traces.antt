@@ -17,8 +17,8 @@ use Rattle.la_world.specs.Events.{Event}
 use Rattle.la_world.specs.Trace.{Entry, Trace}
 use Rattle.la_world.specs.Sent.{sent}
 use Rattle.la_world.specs.Ballots.{ballots, newest_of, round}
-use Rattle.la_world.specs.Counting.{reply_at, replies, counted}
-use Rattle.la_world.specs.Submissions.{submitted, whole}
+use Rattle.la_world.specs.Counting.{reply_at, counted_replies, counted}
+use Rattle.la_world.specs.Submissions.{submitted_ops, whole}
 use Rattle.la_world.specs.Playing.{trace}
 use Rattle.la_world.proofs.Lists.{IsIn, AllIn, AllIn-append, AllIn_at}
 use Rattle.la_world.proofs.EventCases.{Step, each}
@@ -91,14 +91,14 @@ module _ (g : Group) (t : Trace) (h : Holds g t) where
   size i r = newest_size i r (ballots t i r) (h.quorum.numbered i r) (h.growing i r)
 
   -- the own history in the last ballot's set is the beginning of what was submitted
-  pub own : (i r : ℕ) → IsPrefix (history (round t i r).updates r) (submitted t i r)
+  pub own : (i r : ℕ) → IsPrefix (history (round t i r).updates r) (submitted_ops t i r)
   own i r = elim (cases_lt r 8) [
     | inl lt ↦ subst (IsPrefix (history (round t i r).updates r)) (history-whole t i r lt) (subset-prefix (round t i r).updates (whole t i) (round_submitted g t h.submitted i r) r)
-    | inr le ↦ subst (λ ds. IsPrefix ds (submitted t i r)) (sym (history_past (round t i r).updates r le)) (record { front = refl })
+    | inr le ↦ subst (λ ds. IsPrefix ds (submitted_ops t i r)) (sym (history_past (round t i r).updates r le)) (record { front = refl })
   ]
 
-  pub own_count : (i r : ℕ) → count (round t i r).updates r ≤ length (submitted t i r)
-  own_count i r = IsPrefix-length (history (round t i r).updates r) (submitted t i r) (own i r)
+  pub own_count : (i r : ℕ) → count (round t i r).updates r ≤ length (submitted_ops t i r)
+  own_count i r = IsPrefix-length (history (round t i r).updates r) (submitted_ops t i r) (own i r)
 
   pub round_known : (i r : ℕ) → IsSubset (round t i r).updates (own_bound t i)
   round_known i r = round_within own_bound g t h.within i r
@@ -106,7 +106,7 @@ module _ (g : Group) (t : Trace) (h : Holds g t) where
   pub counted_known : (i r : ℕ) → AllIn (IsCountWithin own_bound t i) (counted t i r)
   unfolding counted
   counted_known i r =
-      firsts_all (IsCountWithin own_bound t i) (replies t i r (round t i r).ballot)
+      firsts_all (IsCountWithin own_bound t i) (counted_replies t i r (round t i r).ballot)
       (h.within.reply i r (round t i r).ballot)
 
   -- ## Messages
@@ -120,10 +120,10 @@ module _ (g : Group) (t : Trace) (h : Holds g t) where
 
   -- nobody has replied to a ballot before it opens
   pub unasked : (x : Entry) → ((m : Message) → x.delivered ≡ Some m → IsIn m (sent (replicas g) t)) → (i r b : ℕ)
-      → (round t i r).ballot < b → replies (x ∷ t) i r b ≡ []
-  unfolding replies
+      → (round t i r).ballot < b → counted_replies (x ∷ t) i r b ≡ []
+  unfolding counted_replies
   unasked x was_sent i r b lt =
-      unasked_in t i r b (replies t i r b ++ reply_at i r b x.delivered) (h.quorum.numbered i r)
+      unasked_in t i r b (counted_replies t i r b ++ reply_at i r b x.delivered) (h.quorum.numbered i r)
       (let e = last_is i r in omega arith)
-      (AllIn-append (IsCountBacked t i r b) (replies t i r b) (reply_at i r b x.delivered) (h.quorum.backed i r b)
+      (AllIn-append (IsCountBacked t i r b) (counted_replies t i r b) (reply_at i r b x.delivered) (h.quorum.backed i r b)
       (reply_backed t i r b x.delivered (λ m e. stands m (was_sent m e))))

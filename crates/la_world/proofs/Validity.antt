@@ -6,7 +6,7 @@ use Rattle.la_replica.specs.Whole.{Message}
 use Rattle.la_world.specs.Groups.{Group}
 use Rattle.la_world.specs.Events.{Event}
 use Rattle.la_world.specs.Trace.{Did, Entry, Trace}
-use Rattle.la_world.specs.Ballots.{learnt_by, round}
+use Rattle.la_world.specs.Ballots.{opening_learnt, round}
 use Rattle.la_world.specs.Learnings.{learning_of, learnt}
 use Rattle.la_world.specs.Playing.{trace}
 use Rattle.la_world.specs.Laws.{LearntAreValid, LearntHoldWhatWasTaken}
@@ -26,7 +26,7 @@ record WasSubmitted (t : Trace) (l : Learnt) : Type 0 where
   submitted : IsSubmitted (drop later t) l.instance l.updates
 
 new_submitted : (g : Group) (x : Entry) (t : Trace) (v : Event) (m : Option Message) (d : Did) → IsWithinSubmitted g t
-    → EventCases g t v m d → AllIn (WasSubmitted (x ∷ t)) (learning_of (length t) (learnt_by d))
+    → EventCases g t v m d → AllIn (WasSubmitted (x ∷ t)) (learning_of (length t) (opening_learnt d))
 new_submitted g x t v m d h (silent o l s) =
     subst (λ z. AllIn (WasSubmitted (x ∷ t)) (learning_of (length t) z)) (sym l) tt
 new_submitted g x t v m d h (opens b o) = tt
@@ -40,7 +40,7 @@ new_submitted g x t v m d h (learns c a next e q y o) =
 were_submitted : (g : Group) (events : List Event) → AllIn (WasSubmitted (trace g events)) (learnt (trace g events))
 unfolding learnt
 were_submitted g events = always g (λ t. AllIn (WasSubmitted t) (learnt t)) tt (λ t x step h w.
-    AllIn-append (WasSubmitted (x ∷ t)) (learnt t) (learning_of (length t) (learnt_by x.did))
+    AllIn-append (WasSubmitted (x ∷ t)) (learnt t) (learning_of (length t) (opening_learnt x.did))
     (AllIn-each (WasSubmitted t) (WasSubmitted (x ∷ t)) (λ l k. record { later = suc k.later; until_place = k.until_place; submitted = k.submitted }) (learnt t) w)
     (new_submitted g x t x.event x.delivered x.did h.submitted step.cases)) events
 

@@ -23,7 +23,7 @@ use Rattle.la_replica.specs.ReplicaState.{ReplicaState, start, submitted_in, wit
 use Rattle.la_replica.proofs.lemmas.Growing.{receives_grows, submits_grows}
 use Rattle.la_world.specs.declared.step.Opening.{Opening}
 use Rattle.la_world.specs.Votes.{Submission, second_vote_in}
-use Rattle.la_world.specs.Following.{Taken, with_vote, vote_due, then_votes, takes, VoteFits}
+use Rattle.la_world.specs.Following.{Taken, vote_added, vote_due, then_votes, takes, VoteFits}
 use Rattle.la_world.specs.Nodes.{SubmitsOnce, IsParticipant}
 use Rattle.la_world.proofs.InGroup.{second_vote_is}
 use Rattle.la_world.proofs.Questions.{get_set, get_put}
@@ -247,7 +247,7 @@ taken_participates r m taken end is e = go (receives r m) refl e
           where
             with_cast : (c : Option (Out × ReplicaState)) → submits made.1 vote.instance vote.object_op ≡ c
                 → option_map {U = Taken × ReplicaState}
-                (λ (cast : Out × ReplicaState). (with_vote made.0 vote.instance cast.0, cast.1)) c ≡ Some (taken, end)
+                (λ (cast : Out × ReplicaState). (vote_added made.0 vote.instance cast.0, cast.1)) c ≡ Some (taken, end)
                 → IsParticipant end × IsSubset r.view end.view
             with_cast None cast l = absurd (none-some _ l)
             with_cast (Some c) cast l =

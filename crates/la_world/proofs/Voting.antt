@@ -22,16 +22,16 @@ use Rattle.la_world.specs.Events.{Deliver}
 use Rattle.la_world.specs.Trace as did
 use Rattle.la_world.specs.Trace.{Entry, Trace}
 use Rattle.la_world.specs.Sent.{ballot_of, sent, offers_for, tells_for}
-use Rattle.la_world.specs.Acceptors.{offered, accepted}
+use Rattle.la_world.specs.Acceptors.{offered, accepted_there}
 use Rattle.la_world.specs.Ballots.{is_of, only, round}
-use Rattle.la_world.specs.Counting.{replies}
+use Rattle.la_world.specs.Counting.{counted_replies}
 use Rattle.la_world.specs.Learnings.{last_learnt_ballot}
 use Rattle.la_world.specs.Votes.{Submission, second_vote_in}
-use Rattle.la_world.specs.Submissions.{object_op_in, submitted}
-use Rattle.la_world.specs.Views.{view}
-use Rattle.la_world.specs.Playing.{after_vote, after_learning, receives}
+use Rattle.la_world.specs.Submissions.{object_op_in, submitted_ops}
+use Rattle.la_world.specs.Views.{trace_view}
+use Rattle.la_world.specs.Playing.{after_vote, opened_after_learning, does_receive}
 use Rattle.la_world.specs.ReplicaStates.{reports, proposer_state, instance_of, replica_state}
-use Rattle.la_world.specs.Following.{opened_there, voted_with, with_vote, vote_due, then_votes, takes, taken_at, StepsAs}
+use Rattle.la_world.specs.Following.{opened_there, voted_with, vote_added, vote_due, then_votes, takes, receipt_taken, StepsAs}
 use Rattle.la_world.proofs.Lists.{IsIn}
 use Rattle.la_world.proofs.Openings.{IsOf, not_both, IsAway, round_is, round-same, is_open-learnt, only_of}
 use Rattle.la_world.proofs.Reports.{reports-away}
@@ -71,8 +71,8 @@ module _ (g : Group) (t : Trace) (k : ℕ) (m : Message) (there : m.instance < i
   x = entry_of (Deliver k) (Some m) (did.Learnt last (Some next))
 
   -- this is what the delivery does
-  pub did_is : receives g t (Some m) ≡ did.Learnt last (Some next)
-  unfolding after_learning
+  pub did_is : does_receive g t (Some m) ≡ did.Learnt last (Some next)
+  unfolding opened_after_learning
   did_is =
       does_learn g t m (vote_at j r object_op) l
       ∙ ap (did.Learnt last) (ap (after_vote t last) l.vote ∙ opens_ballot g t j r object_op h d.rests lt)
@@ -108,7 +108,7 @@ module _ (g : Group) (t : Trace) (k : ℕ) (m : Message) (there : m.instance < i
   none_here : only i r (Some next) ≡ None
   none_here = cond-false (is_of i r next) (Some next) None (not_both j r i r (λ e f. d.apart e))
 
-  submitted_here : submitted (x ∷ t) i r ≡ submitted t i r
+  submitted_here : submitted_ops (x ∷ t) i r ≡ submitted_ops t i r
   submitted_here = submitted-none x t i r
       (ap (object_op_in i r) l.vote
       ∙ cond-false ((j == i) && (r == r)) (object_op ∷ []) [] (not_both j r i r (λ e f. d.apart e)))
@@ -118,7 +118,7 @@ module _ (g : Group) (t : Trace) (k : ℕ) (m : Message) (there : m.instance < i
 
   first_after : proposer_state g (x ∷ t) i r ≡ proposer.closed heeding
   first_after =
-      proposer_state_is g (x ∷ t) i r last false (replies (x ∷ t) i r last.ballot) (submitted t i r)
+      proposer_state_is g (x ∷ t) i r last false (counted_replies (x ∷ t) i r last.ballot) (submitted_ops t i r)
       (reports (x ∷ t) i r)
       (round-same x t i r none_here) (is_open-learnt x t i r last none_here last_here) refl submitted_here refl
       ∙ ap (keeping g i r last false [] heeding.waiting)
@@ -136,7 +136,7 @@ module _ (g : Group) (t : Trace) (k : ℕ) (m : Message) (there : m.instance < i
       ∙ cond-true (is_nothing heeding.waiting) (proposer.closed heeding) (proposer.after_opening heeding) nothing
       ∙ sym first_after
 
-  first_is : record { acceptor = accepted t i r; proposer = proposer_state g (x ∷ t) i r; learnt = Some (record { number = m.ballot; updates = last.updates }) } ≡ instance_of g (x ∷ t) r i
+  first_is : record { acceptor = accepted_there t i r; proposer = proposer_state g (x ∷ t) i r; learnt = Some (record { number = m.ballot; updates = last.updates }) } ≡ instance_of g (x ∷ t) r i
   unfolding instance_of
   first_is = λ q. record {
     acceptor =
@@ -153,31 +153,31 @@ module _ (g : Group) (t : Trace) (k : ℕ) (m : Message) (there : m.instance < i
   abbrev learning : Out
   learning = record { said = said.Learnt last.updates None; mail = tells_for (replicas g) last ++ [] }
 
-  hears_so : steps.receives_body sender (instance_of g t r i) (view t r) m (body_of l.reply)
-      ≡ steps.step_of learning (instance_of g (x ∷ t) r i) (view (x ∷ t) r)
+  hears_so : steps.receives_body sender (instance_of g t r i) (trace_view t r) m (body_of l.reply)
+      ≡ steps.step_of learning (instance_of g (x ∷ t) r i) (trace_view (x ∷ t) r)
   unfolding instance_of
   hears_so =
       let mail = ap (λ z. z ++ []) (tells_are g t k m l.reply l.body h was_sent l.heeded) in
       let seen = last_seen g t k m l.reply l.body h was_sent l.heeded (Some next) in
       hearing_step g t k m there l.reply
-      ∙ ap₂ (steps.hears_as sender (instance_of g t r i) (view t r) m.ballot) heard_so kept_so
+      ∙ ap₂ (steps.hears_as sender (instance_of g t r i) (trace_view t r) m.ballot) heard_so kept_so
       ∙ (λ q. record { said = said.Learnt last.updates None; mail = mail q; at = first_is q; view = seen q })
 
   -- the replica between the two
   abbrev middle : ReplicaState
-  middle = record { votes = g.votes; own = r; instances = between g x t i r; view = view (x ∷ t) r }
+  middle = record { votes = g.votes; own = r; instances = between g x t i r; view = trace_view (x ∷ t) r }
 
   receives_so : acting.receives (replica_state g t r) m ≡ Some (learning, middle)
   unfolding replica_state
   receives_so =
       ap
       (λ b.
-      option_map (λ y. acting.after_step (replica_state g t r) i (steps.receives_body sender y (view t r) m b))
+      option_map (λ y. acting.after_step (replica_state g t r) i (steps.receives_body sender y (trace_view t r) m b))
       (slice_get (replica_state g t r).instances i)) l.body
       ∙ ap
       (option_map
       (λ y.
-      acting.after_step (replica_state g t r) i (steps.receives_body sender y (view t r) m (body_of l.reply))))
+      acting.after_step (replica_state g t r) i (steps.receives_body sender y (trace_view t r) m (body_of l.reply))))
       (get_instance g t r i there)
       ∙ ap (λ s. Some (acting.after_step (replica_state g t r) i s)) hears_so
 
@@ -196,7 +196,7 @@ module _ (g : Group) (t : Trace) (k : ℕ) (m : Message) (there : m.instance < i
       (reports-away x t j r (λ n e ei er. d.apart (sym ei ∙ ap (λ (z : Message). z.instance) (sym (same_Some m n e)))))
 
   abbrev voted : Instance
-  voted = record { acceptor = accepted t j r; proposer = after_submission (proposer_state g t j r) object_op; learnt = last_learnt_ballot t j r }
+  voted = record { acceptor = accepted_there t j r; proposer = after_submission (proposer_state g t j r) object_op; learnt = last_learnt_ballot t j r }
 
   second_is : voted ≡ instance_of g (x ∷ t) r j
   unfolding instance_of
@@ -221,7 +221,7 @@ module _ (g : Group) (t : Trace) (k : ℕ) (m : Message) (there : m.instance < i
   submits_so =
       ap
       (option_map
-      (λ y. acting.after_step middle j (steps.submits (acting.sender_of middle j) y (view (x ∷ t) r) object_op)))
+      (λ y. acting.after_step middle j (steps.submits (acting.sender_of middle j) y (trace_view (x ∷ t) r) object_op)))
       (get_second g x t i j r d.apart there (d.there there) left)
       ∙ ap₂ (λ w z. Some (record { said = w; mail = z }, record middle { instances = slice_set middle.instances j voted })) (opened_said g t j r object_op h d.rests lt) (opened_mail g t j r object_op h d.rests lt)
       ∙ ap (λ ys. Some (casting, record middle { instances = ys }))
@@ -232,22 +232,22 @@ module _ (g : Group) (t : Trace) (k : ℕ) (m : Message) (there : m.instance < i
   vote_is : second_vote_in i r last.updates ≡ Some (vote_at j r object_op)
   vote_is = ap₂ (λ a q. second_vote_in a q last.updates) (sym last_is.instance) (sym last_is.replica) ∙ l.vote
 
-  takes_so : takes (replica_state g t r) m ≡ Some (taken_at (replicas g) x, replica_state g (x ∷ t) r)
+  takes_so : takes (replica_state g t r) m ≡ Some (receipt_taken (replicas g) x, replica_state g (x ∷ t) r)
   unfolding replica_state
   takes_so =
       ap (option_and_then (λ (made : Out × ReplicaState). then_votes made (vote_due i r made.0.said))) receives_so
       ∙ ap (then_votes (learning, middle)) vote_is
-      ∙ ap (option_map (λ (cast : Out × ReplicaState). (with_vote learning j cast.0, cast.1))) submits_so
-      ∙ ap (λ z. Some (with_vote (record { said = said.Learnt last.updates None; mail = z }) j casting, replica_state g (x ∷ t) r)) (append-nil (tells_for (replicas g) last))
+      ∙ ap (option_map (λ (cast : Out × ReplicaState). (vote_added learning j cast.0, cast.1))) submits_so
+      ∙ ap (λ z. Some (vote_added (record { said = said.Learnt last.updates None; mail = z }) j casting, replica_state g (x ∷ t) r)) (append-nil (tells_for (replicas g) last))
       ∙ ap (λ v. Some (record { said = said.Learnt last.updates (opened_there (Some next) v); voted = voted_with (Some next) v; mail = tells_for (replicas g) last ++ offers_for (replicas g) next }, replica_state g (x ∷ t) r)) (sym l.vote)
 
   -- the step is what the trace says
-  pub votes_as : let y = entry_of (Deliver k) (Some m) (receives g t (Some m)) in StepsAs g t y r (taken_at (replicas g) y) (takes (replica_state g t r) m)
+  pub votes_as : let y = entry_of (Deliver k) (Some m) (does_receive g t (Some m)) in StepsAs g t y r (receipt_taken (replicas g) y) (takes (replica_state g t r) m)
   votes_as =
       subst
       (λ d.
       let y = entry_of (Deliver k) (Some m) d in
-      StepsAs g t y r (taken_at (replicas g) y) (takes (replica_state g t r) m)) (sym did_is) record {
+      StepsAs g t y r (receipt_taken (replicas g) y) (takes (replica_state g t r) m)) (sym did_is) record {
         step = takes_so;
         others = λ q ne. replica_state-left g x t q (λ p. leaves_else p q (λ e f. ne (sym f)) (λ e f. ne (sym f)));
       }

@@ -21,9 +21,9 @@ use Rattle.la_world.specs.Groups.{Group, replicas}
 use Rattle.la_world.specs.Events.{Event}
 use Rattle.la_world.specs.Trace.{Did, Entry, Trace}
 use Rattle.la_world.specs.Sent.{sender_for, ballot_of, offers_for, offers_for_next, tells_for, sent_by, sent}
-use Rattle.la_world.specs.Acceptors.{offered, offered_to, offers, accepted}
+use Rattle.la_world.specs.Acceptors.{offered, offered_there, offers_to, accepted_there}
 use Rattle.la_world.specs.Ballots.{opened_by, only, ballots, newest_of, round}
-use Rattle.la_world.specs.Counting.{reply_of, reply_at, replies, counted}
+use Rattle.la_world.specs.Counting.{counted_reply, reply_at, counted_replies, counted}
 use Rattle.la_world.proofs.Lists.{AllIn, AllIn-append, AllIn-each, AllIn-map, AllIn_at}
 use Rattle.la_world.proofs.Accepted.{accepted_moves}
 use Rattle.la_world.proofs.EventCases.{EventCases, heard, silent, opens, answers_offer, refines, learns, Step}
@@ -64,8 +64,8 @@ module _ (bound : Trace → (i : ℕ) → Histories) where
   pub record AreWithin (g : Group) (t : Trace) : Type 0 where
     pub ballot : (i r : ℕ) → AllIn (IsBallotWithin t i) (ballots t i r)
     pub message : AllIn (IsMessageWithin t) (sent (replicas g) t)
-    pub acceptor : (i a : ℕ) → IsWithin t i (accepted t i a)
-    pub reply : (i r b : ℕ) → AllIn (IsCountWithin t i) (replies t i r b)
+    pub acceptor : (i a : ℕ) → IsWithin t i (accepted_there t i a)
+    pub reply : (i r b : ℕ) → AllIn (IsCountWithin t i) (counted_replies t i r b)
 
   -- the bound grows at an event
   abbrev pub Grows : Entry → Trace → Type 0
@@ -100,7 +100,7 @@ module _ (bound : Trace → (i : ℕ) → Histories) where
   unfolding counted
   heard_within g t h m a body k =
       AllIn-append (IsCountWithin t m.instance) (counted t m.instance m.to) (record { from = m.from; reply = a } ∷ [])
-      (firsts_all (IsCountWithin t m.instance) (replies t m.instance m.to (round t m.instance m.to).ballot)
+      (firsts_all (IsCountWithin t m.instance) (counted_replies t m.instance m.to (round t m.instance m.to).ballot)
       (h.reply m.instance m.to (round t m.instance m.to).ballot))
       (subst (IsWithin t m.instance) (refusal_in a) (subst (λ z. IsWithin t m.instance (set_in z)) body k), tt)
 
@@ -154,8 +154,8 @@ module _ (bound : Trace → (i : ℕ) → Histories) where
   new_within g x t up v m d h (silent o l s) k w = subst (AllIn (IsMessageWithin (x ∷ t))) (sym s) tt
   new_within g x t up v m d h (opens b o) k w = offers_within (replicas g) (x ∷ t) b (w b refl)
   new_within g x t up v m d h (answers_offer c s e) k w = (
-    within_later x t up c.instance (set_in (body_of (answer (accepted t c.instance c.to) s)))
-        (answer_within t c (accepted t c.instance c.to) s (h.acceptor c.instance c.to)
+    within_later x t up c.instance (set_in (body_of (answer (accepted_there t c.instance c.to) s)))
+        (answer_within t c (accepted_there t c.instance c.to) s (h.acceptor c.instance c.to)
         (subst (λ z. IsWithin t c.instance (set_in z)) e (k c refl))),
     tt,
   )
@@ -179,7 +179,7 @@ module _ (bound : Trace → (i : ℕ) → Histories) where
   offered_within t i (Tell s) h = tt
 
   offered_to_within : (t : Trace) (i a : ℕ) (m : Option Message) → ((k : Message) → m ≡ Some k → IsMessageWithin t k)
-      → AllIn (IsWithin t i) (offered_to i a m)
+      → AllIn (IsWithin t i) (offered_there i a m)
   offered_to_within t i a None d = tt
   offered_to_within t i a (Some m) d = go ((m.instance == i) && (m.to == a)) refl
     where
@@ -196,16 +196,16 @@ module _ (bound : Trace → (i : ℕ) → Histories) where
   join_within t i (u ∷ sets) s h w = join_within t i sets (join s u) (join-least s u (bound t i) h w.0) w.1
 
   accepted_within : (g : Group) (x : Entry) (t : Trace) → Grows x t → (i a : ℕ) → AreWithin g t
-      → ((k : Message) → x.delivered ≡ Some k → IsMessageWithin t k) → IsWithin (x ∷ t) i (accepted (x ∷ t) i a)
+      → ((k : Message) → x.delivered ≡ Some k → IsMessageWithin t k) → IsWithin (x ∷ t) i (accepted_there (x ∷ t) i a)
   accepted_within g x t up i a h d =
-      let now = fold join (accepted t i a) (offered_to i a x.delivered) in
+      let now = fold join (accepted_there t i a) (offered_there i a x.delivered) in
       subst (IsWithin (x ∷ t) i) (sym (accepted_moves x t i a))
       (within_later x t up i now
-      (join_within t i (offered_to i a x.delivered) (accepted t i a) (h.acceptor i a)
+      (join_within t i (offered_there i a x.delivered) (accepted_there t i a) (h.acceptor i a)
       (offered_to_within t i a x.delivered d)))
 
   reply_of_within : (t : Trace) (i from : ℕ) (b : Body) → IsWithin t i (set_in b)
-      → AllIn (IsCountWithin t i) (reply_of from b)
+      → AllIn (IsCountWithin t i) (counted_reply from b)
   reply_of_within t i from (Offer s) h = tt
   reply_of_within t i from Yes h = (h, tt)
   reply_of_within t i from (No s) h = (h, tt)
@@ -217,7 +217,7 @@ module _ (bound : Trace → (i : ℕ) → Histories) where
   reply_within t i r b (Some m) h = go ((m.instance == i) && ((m.to == r) && (m.ballot == b))) refl
     where
       go : (v : Bool) → ((m.instance == i) && ((m.to == r) && (m.ballot == b))) ≡ v
-          → AllIn (IsCountWithin t i) (cond v (reply_of m.from m.body) [])
+          → AllIn (IsCountWithin t i) (cond v (counted_reply m.from m.body) [])
       go true p =
           reply_of_within t i m.from m.body
           (subst (λ j. IsWithin t j (set_in m.body))
@@ -226,12 +226,12 @@ module _ (bound : Trace → (i : ℕ) → Histories) where
 
   replies_within : (g : Group) (x : Entry) (t : Trace) → Grows x t → (i r b : ℕ) → AreWithin g t
       → ((k : Message) → x.delivered ≡ Some k → IsMessageWithin t k)
-      → AllIn (IsCountWithin (x ∷ t) i) (replies (x ∷ t) i r b)
-  unfolding replies
+      → AllIn (IsCountWithin (x ∷ t) i) (counted_replies (x ∷ t) i r b)
+  unfolding counted_replies
   replies_within g x t up i r b h d =
       AllIn-each (IsCountWithin t i) (IsCountWithin (x ∷ t) i) (λ c k. within_later x t up i (refusal c.reply) k)
-      (replies t i r b ++ reply_at i r b x.delivered)
-      (AllIn-append (IsCountWithin t i) (replies t i r b) (reply_at i r b x.delivered) (h.reply i r b)
+      (counted_replies t i r b ++ reply_at i r b x.delivered)
+      (AllIn-append (IsCountWithin t i) (counted_replies t i r b) (reply_at i r b x.delivered) (h.reply i r b)
       (reply_within t i r b x.delivered d))
 
   -- a message that an event delivers was sent
@@ -257,5 +257,5 @@ module _ (bound : Trace → (i : ℕ) → Histories) where
       d = delivered_within g t x step h
 
   pub within_start : (g : Group) → AreWithin g []
-  unfolding sent ballots replies accepted offers
+  unfolding sent ballots counted_replies accepted_there offers_to
   within_start g = record { ballot = λ i r. tt; message = tt; acceptor = λ i a. empty_within [] i; reply = λ i r b. tt }

@@ -13,7 +13,7 @@ use Rattle.la_world.specs.declared.journal.Journal.{Journal}
 use Rattle.la_world.specs.Events.{Event}
 use Rattle.la_world.specs.Nodes.{NodeState, node_at_start, replicas_of, shelves_of}
 use Rattle.la_world.specs.StandsFor.{World, world_of}
-use Rattle.la_world.specs.Calls.{HoldsInvariant, IsSubmission, IsAllowed, HasObject}
+use Rattle.la_world.specs.Calls.{HoldsWorldInvariant, IsEventSubmission, IsAllowed, HasObject}
 use Rattle.la_world.proofs.Lists.{get_mapped}
 use Rattle.la_world.proofs.lemmas.Starting.{replica_states_more}
 use Rattle.la_world.proofs.Worlds.{set_same, found_at, IsDelivery, IsTaken}
@@ -101,14 +101,14 @@ module _ (c : Config) (own : ℕ) (nodes more : List NodeState) (node : NodeStat
 
 -- what is read of the nodes is read of their replicas
 pub receiver_at : (c : Config) (nodes : List NodeState) (journal : Journal)
-    → HoldsInvariant (world_of_nodes c nodes journal) → (k : ℕ) → {message : code.Message}
+    → HoldsWorldInvariant (world_of_nodes c nodes journal) → (k : ℕ) → {message : code.Message}
     → slice_get journal.messages.items k ≡ Some message → {n : NodeState} → slice_get nodes message.to ≡ Some n
     → IsDelivery (world_of_nodes c nodes journal) k message n.replica
 receiver_at c nodes journal invariant k {message = message} message_is {n = n} found = record { invariant = invariant; message_is = message_is; receiver_is = replica_found nodes message.to n found }
 
 pub submitter_at : (c : Config) (nodes : List NodeState) (journal : Journal)
-    → HoldsInvariant (world_of_nodes c nodes journal) → {old : World} → world_of_nodes c nodes journal ≡ old
-    → (e : Event) (i r : ℕ) (object_op : ObjectOp) → IsSubmission e i r object_op → IsAllowed old e → {n : NodeState}
+    → HoldsWorldInvariant (world_of_nodes c nodes journal) → {old : World} → world_of_nodes c nodes journal ≡ old
+    → (e : Event) (i r : ℕ) (object_op : ObjectOp) → IsEventSubmission e i r object_op → IsAllowed old e → {n : NodeState}
     → slice_get nodes r ≡ Some n → IsTaken (world_of_nodes c nodes journal) i r object_op n.replica
 submitter_at c nodes journal invariant same e i r object_op event allowed {n = n} found = record {
   invariant = invariant;

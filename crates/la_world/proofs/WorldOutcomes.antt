@@ -11,8 +11,8 @@ use Rattle.la_world.specs.Trace.{Trace}
 use Rattle.la_world.specs.Outcomes.{returned, decision_of}
 use Rattle.la_world.specs.Playing.{trace}
 use Rattle.la_world.specs.ReplicaStates.{replica_state}
-use Rattle.la_world.specs.StandsFor.{World, kinds_of, group_in, StandsFor, IsLegal}
-use Rattle.la_world.specs.Calls.{Plays, Keeps, returned_by, returned_in, returned_of, decision_by, decisions_in}
+use Rattle.la_world.specs.StandsFor.{World, kinds_of, group_in, StandsFor, IsLegalTrace}
+use Rattle.la_world.specs.Calls.{PlaysEvent, Keeps, returned_by, returned_in, returned_of, decision_by, decisions_in}
 use Rattle.la_world.specs.Laws.{IsAdoptCommit}
 use Rattle.la_world.specs.Returning.{ShowsOutcome, ShowsVote, OutcomesStayThere, AnswersAreListed}
 use Rattle.la_world.proofs.Lists.{IsIn_get}
@@ -38,14 +38,14 @@ is_returned w events stands k r = returned_found w events stands k r (returned_i
 -- ## An event
 
 module _ (w : World) (events : Past) (e : Event) (s : Step) (after : World) (stands : StandsFor w events)
-    (p : Plays w events e s after) where
+    (p : PlaysEvent w events e s after) where
   abbrev g : Group
   g = group_in w
 
   same : group_in after ≡ g
   same = ap₂ group_of p.config p.kinds
 
-  legal : IsLegal g (e ∷ events)
+  legal : IsLegalTrace g (e ∷ events)
   legal = (p.allowed, stands.led.legal)
 
   few : replicas g ≤ 8

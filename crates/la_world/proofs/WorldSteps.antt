@@ -22,20 +22,20 @@ use Rattle.la_world.specs.Events.{Event, Deliver}
 use Rattle.la_world.specs.Trace as did
 use Rattle.la_world.specs.Trace.{Did, Entry, Trace}
 use Rattle.la_world.specs.Sent.{sent_at, sent}
-use Rattle.la_world.specs.Told.{told_at, told}
-use Rattle.la_world.specs.Ballots.{opened_by, learnt_by, round, is_open}
-use Rattle.la_world.specs.Submissions.{submitted, second_vote_after}
+use Rattle.la_world.specs.Told.{sent_as_told, told_messages}
+use Rattle.la_world.specs.Ballots.{opened_by, opening_learnt, round, is_open}
+use Rattle.la_world.specs.Submissions.{submitted_ops, second_vote_after}
 use Rattle.la_commit.specs.Outcomes.{outcome_in}
-use Rattle.la_world.specs.Outcomes.{outcome_by}
+use Rattle.la_world.specs.Outcomes.{outcome_learnt}
 use Rattle.la_world.specs.Shown.{shown_by, submitter}
-use Rattle.la_world.specs.Playing.{next_ballot, opens_or_waits, submits, receives, entry, trace}
+use Rattle.la_world.specs.Playing.{ballot_opened_next, opens_or_waits, does_submit, does_receive, event_entry, trace}
 use Rattle.la_world.specs.Learnings.{learning_of, learnt}
 use Rattle.la_world.specs.Report.{refused, shown_as}
 use Rattle.la_world.specs.ReplicaStates.{replica_state, replica_states}
-use Rattle.la_world.specs.Views.{view}
+use Rattle.la_world.specs.Views.{trace_view}
 use Rattle.la_world.specs.StandsFor.{World, kinds_of, group_in, AreBehind, EventsLeadTo, StandsFor}
 use Rattle.la_world.specs.LiveGroups.{submission}
-use Rattle.la_world.specs.Calls.{IsGroup, replica_states_at_start, IsSubmission}
+use Rattle.la_world.specs.Calls.{IsWorldGroup, replica_states_at_start, IsEventSubmission}
 use Rattle.la_world.proofs.Lists.{AllIn, get_made}
 use Rattle.la_world.proofs.Tellings.{told_at_carries}
 use Rattle.la_world.proofs.ToldMail.{sent_sides}
@@ -45,7 +45,7 @@ use Rattle.la_world.specs.ReplicaStates.{instance_of}
 use Rattle.la_world.proofs.GrowingViews.{view_more}
 use Rattle.la_world.proofs.LargestViews.{empty_least}
 use Rattle.la_world.proofs.OneReplicaSteps.{replica_state-else, replica_states-set}
-use Rattle.la_world.specs.Following.{said_by, voted_with, voted_by, Taken, takes, taken_at}
+use Rattle.la_world.specs.Following.{did_say, voted_with, voted_by, Taken, takes, receipt_taken}
 use Rattle.la_replica.specs.Fitting.{FitsReceiver}
 use Rattle.la_world.proofs.EventCases.{entry_of}
 use Rattle.la_world.proofs.SubmissionEvents.{submission_entry, submission_replica, submission_instance}
@@ -71,10 +71,10 @@ same_made f h e (x ∷ xs) = ap₂ (λ y ys. y ∷ ys) (e x) (same_made f h e xs
 unused_behind : (shelves : List ShelfState) (t : Trace) → All (λ (s : ShelfState). s.view ≡ empty) shelves
     → AreBehind shelves t
 unused_behind shelves t unused r s found =
-    subst (λ v. IsSubset v (view t r))
+    subst (λ v. IsSubset v (trace_view t r))
     (sym
     (subst (λ (z : ShelfState). z.view ≡ empty) (get_or_from_slice_get shelves r s s found)
-    (unused r s (slice_get_within shelves r s found)))) (empty_least (view t r))
+    (unused r s (slice_get_within shelves r s found)))) (empty_least (trace_view t r))
 
 pub states_at_start : (c : Config) (kinds : List (List (ℕ × Kind)))
     → replica_states_at_start c ≡ replica_states (group_of c kinds) []
@@ -89,9 +89,9 @@ pub led_at_start : (g : Group) (states : List ReplicaState) (messages : List Mes
 unfolding trace sent
 led_at_start g states messages are none = record { legal = tt; replica_states = are; sent = none }
 
-pub stands_at_start : (c : Config) (shelves : List ShelfState) → IsGroup c shelves
+pub stands_at_start : (c : Config) (shelves : List ShelfState) → IsWorldGroup c shelves
     → StandsFor (world_at_start c shelves) []
-unfolding trace sent told learnt
+unfolding trace sent told_messages learnt
 stands_at_start c shelves is = record {
   config = is.config;
   told = refl;
@@ -104,17 +104,17 @@ stands_at_start c shelves is = record {
 
 -- ## What an event learns
 
-pub submits_learns : (t : Trace) (i r : ℕ) (object_op : ObjectOp) → learnt_by (submits t i r object_op) ≡ None
-unfolding submits
+pub submits_learns : (t : Trace) (i r : ℕ) (object_op : ObjectOp) → opening_learnt (does_submit t i r object_op) ≡ None
+unfolding does_submit
 submits_learns t i r object_op =
-    go (cond (is_open t i r) None (next_ballot (round t i r) (submitted t i r ++ object_op ∷ [])))
+    go (cond (is_open t i r) None (ballot_opened_next (round t i r) (submitted_ops t i r ++ object_op ∷ [])))
   where
-    go : (o : Option Opening) → learnt_by (opens_or_waits r (length (submitted t i r ++ object_op ∷ [])) o) ≡ None
+    go : (o : Option Opening) → opening_learnt (opens_or_waits r (length (submitted_ops t i r ++ object_op ∷ [])) o) ≡ None
     go None = refl
     go (Some b) = refl
 
 -- what a replica says that it learnt
-pub learnt_said : (d : Did) → learnt_in (said_by d) ≡ option_map (λ (b : Opening). b.updates) (learnt_by d)
+pub learnt_said : (d : Did) → learnt_in (did_say d) ≡ option_map (λ (b : Opening). b.updates) (opening_learnt d)
 learnt_said (did.Learnt b next) = refl
 learnt_said (did.Opened b) = refl
 learnt_said (did.Held id) = refl
@@ -130,8 +130,8 @@ learnt_said (did.Replied answer) = refl
 
 -- where all replicas but one stay as they were
 pub led_on : (g : Group) (events : List Event) (states : List ReplicaState) (messages : List Message) → EventsLeadTo g events states messages → (e : Event) (r : ℕ) (made : ReplicaState) (mail : List Message) → let t = trace g events in
-    refused g t e ≡ None → ((q : ℕ) → q ≢ r → replica_state g (entry g t e ∷ t) q ≡ replica_state g t q)
-    → r < replicas g → made ≡ replica_state g (entry g t e ∷ t) r → mail ≡ sent_at (replicas g) (entry g t e)
+    refused g t e ≡ None → ((q : ℕ) → q ≢ r → replica_state g (event_entry g t e ∷ t) q ≡ replica_state g t q)
+    → r < replicas g → made ≡ replica_state g (event_entry g t e ∷ t) r → mail ≡ sent_at (replicas g) (event_entry g t e)
     → EventsLeadTo g (e ∷ events) (slice_set states r made) (messages ++ mail)
 unfolding trace sent
 led_on g events states messages led e r made mail allowed others lt is mails =
@@ -139,13 +139,13 @@ led_on g events states messages led e r made mail allowed others lt is mails =
     record {
       legal = (allowed, led.legal);
       replica_states =
-          ap₂ (λ ms m. slice_set ms r m) led.replica_states is ∙ sym (replica_states-set g (entry g t e) t r others);
+          ap₂ (λ ms m. slice_set ms r m) led.replica_states is ∙ sym (replica_states-set g (event_entry g t e) t r others);
       sent = ap₂ (λ xs ys. xs ++ ys) led.sent mails;
     }
 
 -- with this replica, these messages more and what was learnt
 abbrev pub world_after : World → (r : ℕ) → ReplicaState → List code.Message → Did → World
-world_after w r m mail did = record { config = w.config; replica_states = slice_set w.replica_states r m; shelves = w.shelves; messages = w.messages ++ mail; learnt = w.learnt ++ learning_of w.count (learnt_by did); count = w.count + 1 }
+world_after w r m mail did = record { config = w.config; replica_states = slice_set w.replica_states r m; shelves = w.shelves; messages = w.messages ++ mail; learnt = w.learnt ++ learning_of w.count (opening_learnt did); count = w.count + 1 }
 
 -- a replica of this world that submits in i
 abbrev pub submitter_speaks : World → (i r : ℕ) → Speaker
@@ -184,16 +184,16 @@ module _ (w : World) (events : List Event) (stands : StandsFor w events) where
 
   -- and is told as the trace says
   pub get_told : (k : ℕ) (m : code.Message) → slice_get w.messages k ≡ Some m
-      → slice_get (told (replicas g) t) k ≡ Some m
+      → slice_get (told_messages (replicas g) t) k ≡ Some m
   get_told k m stored = sym (ap (λ ms. slice_get ms k) stands.told) ∙ stored
 
   pub stands_after : (e : Event) (r : ℕ) → refused g t e ≡ None
-      → ((q : ℕ) → q ≢ r → replica_state g (entry g t e ∷ t) q ≡ replica_state g t q) → r < replicas g
-      → (mail : List code.Message) → mail ≡ told_at (replicas g) (entry g t e) t
-      → StandsFor (world_after w r (replica_state g (entry g t e ∷ t) r) mail (entry g t e).did) (e ∷ events)
-  unfolding trace told learnt
+      → ((q : ℕ) → q ≢ r → replica_state g (event_entry g t e ∷ t) q ≡ replica_state g t q) → r < replicas g
+      → (mail : List code.Message) → mail ≡ sent_as_told (replicas g) (event_entry g t e) t
+      → StandsFor (world_after w r (replica_state g (event_entry g t e ∷ t) r) mail (event_entry g t e).did) (e ∷ events)
+  unfolding trace told_messages learnt
   stands_after e r allowed others lt mail is =
-      let x = entry g t e in
+      let x = event_entry g t e in
       let carry : CarryAll mail (sent_at (replicas g) x) = ap whole_mail is ∙ told_at_carries (replicas g) x t in
       let states = slice_set w.replica_states r (replica_state g (x ∷ t) r) in
       record {
@@ -205,8 +205,8 @@ module _ (w : World) (events : List Event) (stands : StandsFor w events) where
         told = ap₂ (λ xs ys. xs ++ ys) stands.told is;
         shelves = stands.shelves;
         absorbed =
-            λ q s found. subset-trans s.view (view t q) (view (x ∷ t) q) (stands.absorbed q s found) (view_more x t q);
-        learnt = ap₂ (λ ls n. ls ++ learning_of n (learnt_by x.did)) stands.learnt count_is;
+            λ q s found. subset-trans s.view (trace_view t q) (trace_view (x ∷ t) q) (stands.absorbed q s found) (view_more x t q);
+        learnt = ap₂ (λ ls n. ls ++ learning_of n (opening_learnt x.did)) stands.learnt count_is;
         count = let c = stands.count in omega arith;
       }
 
@@ -216,30 +216,30 @@ module _ (w : World) (events : List Event) (stands : StandsFor w events) where
   -- what one event comes to, where this is what its replica makes of it and tells
   pub record PlaysTo (e : Event) (by : Speaker) (made : Option (Taken × ReplicaState)) : Type 0 where
     pub in_group : by.replica < replicas g
-    pub step : made ≡ Some (taken_at (replicas g) (entry g t e), replica_state g (entry g t e ∷ t) by.replica)
-    pub shown : shown_by by w.count (said_by (entry g t e).did) (voted_by (entry g t e).did)
-        ≡ shown_as (replicas g) (length t) (entry g t e).did
-    pub sides : AllIn (λ (m : Message). (m.from ≡ by.replica) × (m.to < 8)) (sent_at (replicas g) (entry g t e))
-    pub after : (mail : List code.Message) → mail ≡ told_at (replicas g) (entry g t e) t
-        → StandsFor (world_after w by.replica (replica_state g (entry g t e ∷ t) by.replica) mail (entry g t e).did)
+    pub step : made ≡ Some (receipt_taken (replicas g) (event_entry g t e), replica_state g (event_entry g t e ∷ t) by.replica)
+    pub shown : shown_by by w.count (did_say (event_entry g t e).did) (voted_by (event_entry g t e).did)
+        ≡ shown_as (replicas g) (length t) (event_entry g t e).did
+    pub sides : AllIn (λ (m : Message). (m.from ≡ by.replica) × (m.to < 8)) (sent_at (replicas g) (event_entry g t e))
+    pub after : (mail : List code.Message) → mail ≡ sent_as_told (replicas g) (event_entry g t e) t
+        → StandsFor (world_after w by.replica (replica_state g (event_entry g t e ∷ t) by.replica) mail (event_entry g t e).did)
         (e ∷ events)
 
   -- a speaker of this world that speaks of an event
   shown_so : (by : Speaker) (d : Did) → by.replicas ≡ w.config.replicas → SpeaksOf by d
-      → shown_by by w.count (said_by d) (voted_by d) ≡ shown_as (replicas g) (length t) d
+      → shown_by by w.count (did_say d) (voted_by d) ≡ shown_as (replicas g) (length t) d
   shown_so by d n h =
       shown_is by w.count d h ∙ ap₂ (λ k place. shown_as k place d) (n ∙ stands.config.group.replicas) count_is
 
-  submits_plain : (i r : ℕ) (object_op : ObjectOp) → is_answer (submits t i r object_op) ≡ false
-  unfolding submits
+  submits_plain : (i r : ℕ) (object_op : ObjectOp) → is_answer (does_submit t i r object_op) ≡ false
+  unfolding does_submit
   submits_plain i r object_op =
-      go (cond (is_open t i r) None (next_ballot (round t i r) (submitted t i r ++ object_op ∷ [])))
+      go (cond (is_open t i r) None (ballot_opened_next (round t i r) (submitted_ops t i r ++ object_op ∷ [])))
     where
-      go : (o : Option Opening) → is_answer (opens_or_waits r (length (submitted t i r ++ object_op ∷ [])) o) ≡ false
+      go : (o : Option Opening) → is_answer (opens_or_waits r (length (submitted_ops t i r ++ object_op ∷ [])) o) ≡ false
       go None = refl
       go (Some b) = refl
 
-  pub submission_plays : (e : Event) (i r : ℕ) (object_op : ObjectOp) → IsSubmission e i r object_op
+  pub submission_plays : (e : Event) (i r : ℕ) (object_op : ObjectOp) → IsEventSubmission e i r object_op
       → refused g t e ≡ None
       → PlaysTo e (submitter_speaks w i r) (submission (acting.submits (replica_state g t r) i object_op))
   submission_plays e i r object_op by allowed =
@@ -247,10 +247,10 @@ module _ (w : World) (events : List Event) (stands : StandsFor w events) where
       let h =
       legal_submits g events stands.led.legal few e i r object_op by
       (submission_instance g t i r object_op e by allowed) lt in
-      let d = submits t i r object_op in
+      let d = does_submit t i r object_op in
       let x : Entry = entry_of e None d in
-      let same : entry g t e ≡ x = submission_entry g t i r object_op e by in
-      let others : (q : ℕ) → q ≢ r → replica_state g (entry g t e ∷ t) q ≡ replica_state g t q =
+      let same : event_entry g t e ≡ x = submission_entry g t i r object_op e by in
+      let others : (q : ℕ) → q ≢ r → replica_state g (event_entry g t e ∷ t) q ≡ replica_state g t q =
       subst (λ (y : Entry). (q : ℕ) → q ≢ r → replica_state g (y ∷ t) q ≡ replica_state g t q) (sym same)
       (λ q ne. replica_state-else g x t i r q h.concerns ne) in
       let none = submits_learns t i r object_op in
@@ -261,12 +261,12 @@ module _ (w : World) (events : List Event) (stands : StandsFor w events) where
             subst
             (λ (y : Entry).
             submission (acting.submits (replica_state g t r) i object_op)
-            ≡ Some (taken_at (replicas g) y, replica_state g (y ∷ t) r)) (sym same)
-            (ap submission h.step ∙ ap (λ v. Some (record { said = said_by d; voted = v; mail = sent_at (replicas g) x }, replica_state g (x ∷ t) r)) (sym voted));
+            ≡ Some (receipt_taken (replicas g) y, replica_state g (y ∷ t) r)) (sym same)
+            (ap submission h.step ∙ ap (λ v. Some (record { said = did_say d; voted = v; mail = sent_at (replicas g) x }, replica_state g (x ∷ t) r)) (sym voted));
         shown =
             subst
             (λ (y : Entry).
-            shown_by (submitter_speaks w i r) w.count (said_by y.did) (voted_by y.did)
+            shown_by (submitter_speaks w i r) w.count (did_say y.did) (voted_by y.did)
             ≡ shown_as (replicas g) (length t) y.did) (sym same)
             (shown_so (submitter_speaks w i r) d refl (record {
               opened = λ b f. (h.concerns.opened b f).replica;
@@ -291,13 +291,13 @@ module _ (w : World) (events : List Event) (stands : StandsFor w events) where
 
   pub delivery_step : (k : ℕ) (m : code.Message) → slice_get w.messages k ≡ Some m → refused g t (Deliver k) ≡ None
       → takes (replica_state g t m.to) (whole_of m)
-      ≡ Some (taken_at (replicas g) (entry g t (Deliver k)), replica_state g (entry g t (Deliver k) ∷ t) m.to)
+      ≡ Some (receipt_taken (replicas g) (event_entry g t (Deliver k)), replica_state g (event_entry g t (Deliver k) ∷ t) m.to)
   delivery_step k m stored allowed =
       (delivery_steps g events k (whole_of m) few stands.led.legal (get_message k m stored)).step
 
   -- of the kept message with this number, where its receiver learns this by it
   pub delivery_plays : (k : ℕ) (m : code.Message) → slice_get w.messages k ≡ Some m → refused g t (Deliver k) ≡ None
-      → (copy : Option Histories) → copy ≡ learnt_in (said_by (entry g t (Deliver k)).did)
+      → (copy : Option Histories) → copy ≡ learnt_in (did_say (event_entry g t (Deliver k)).did)
       → PlaysTo (Deliver k) (receiver_speaks w m copy) (takes (replica_state g t m.to) (whole_of m))
   delivery_plays k m stored allowed copy kept =
       let v = whole_of m in
@@ -305,17 +305,17 @@ module _ (w : World) (events : List Event) (stands : StandsFor w events) where
       let h = delivery_steps g events k v few stands.led.legal is in
       let placed = delivery_placed g events stands.led.legal few k v is in
       let lt = (legal_between g events stands.led.legal k v is).to in
-      let same : (entry g t (Deliver k)).did ≡ receives g t (Some v) =
+      let same : (event_entry g t (Deliver k)).did ≡ does_receive g t (Some v) =
       ap (λ (y : Entry). y.did) (entry_delivers g t k v is) in
-      let d = receives g t (Some v) in
+      let d = does_receive g t (Some v) in
       let by = receiver_speaks w m copy in
-      let learnt_copy : copy ≡ option_map (λ (b : Opening). b.updates) (learnt_by d) =
-      kept ∙ ap (λ y. learnt_in (said_by y)) same ∙ learnt_said d in
+      let learnt_copy : copy ≡ option_map (λ (b : Opening). b.updates) (opening_learnt d) =
+      kept ∙ ap (λ y. learnt_in (did_say y)) same ∙ learnt_said d in
       record {
         in_group = lt;
         step = h.step;
         shown =
-            subst (λ y. shown_by by w.count (said_by y) (voted_by y) ≡ shown_as (replicas g) (length t) y) (sym same)
+            subst (λ y. shown_by by w.count (did_say y) (voted_by y) ≡ shown_as (replicas g) (length t) y) (sym same)
             (shown_so by d refl (record {
               opened = λ b f. (placed.opened b f).replica;
               here = λ b f unvoted. (placed.opened b f).instance ∙ ap (opens_in m.instance) unvoted;
@@ -333,8 +333,8 @@ module _ (w : World) (events : List Event) (stands : StandsFor w events) where
       }
     where
       outcome_so : (m : code.Message) (copy : Option Histories) (d : Did) → IsPlaced m.instance m.to d
-          → copy ≡ option_map (λ (b : Opening). b.updates) (learnt_by d) → (b : Opening) → learnt_by d ≡ Some b
-          → option_and_then (outcome_in m.instance m.to) copy ≡ outcome_by b
+          → copy ≡ option_map (λ (b : Opening). b.updates) (opening_learnt d) → (b : Opening) → opening_learnt d ≡ Some b
+          → option_and_then (outcome_in m.instance m.to) copy ≡ outcome_learnt b
       outcome_so m copy d placed c b f =
           let of = placed.learnt b f in
           ap (option_and_then (outcome_in m.instance m.to)) (c ∙ ap (option_map (λ (b : Opening). b.updates)) f)

@@ -25,7 +25,7 @@ use Rattle.la_world.specs.declared.done.Done.{Done}
 use Rattle.la_world.specs.declared.report.Decision.{Decision}
 use Rattle.la_world.specs.declared.step.Learnt.{Learnt}
 use Rattle.la_world.specs.Groups.{Group, group_of, replicas, IsConfig}
-use Rattle.la_world.specs.Told.{told}
+use Rattle.la_world.specs.Told.{told_messages}
 use Rattle.la_world.specs.Events.{Event, Past, Submit, Deliver, Decide}
 use Rattle.la_world.specs.Playing.{trace}
 use Rattle.la_world.specs.Learnings.{learnt}
@@ -55,15 +55,15 @@ pub record LiveGroup : Type 0 where
   pub learnt : List LearntSet
 
 -- what a node accepted
-pub data Call : Type 0 where
+pub data LiveCall : Type 0 where
   -- an update
-  Submitted : ObjectOp → Call
+  Submitted : ObjectOp → LiveCall
   -- a value, to an adopt-commit object
-  Proposed : (commit value : ℕ) → Call
+  Proposed : (commit value : ℕ) → LiveCall
   -- the message with this number, from 0, of all that was sent
-  Received : (number : ℕ) → Call
+  Received : (number : ℕ) → LiveCall
   -- what leaves its replica as it was: a question, an object more or less
-  Looked : Call
+  Looked : LiveCall
 
 -- what a replica says and sends where it does nothing
 abbrev pub silence : Taken
@@ -73,16 +73,16 @@ abbrev pub submission : Option (Out × ReplicaState) → Option (Taken × Replic
 submission made = option_map (λ (p : Out × ReplicaState). (without_vote p.0, p.1)) made
 
 -- what a replica makes of a call
-abbrev pub makes : (sent : List Message) → ReplicaState → Call → Option (Taken × ReplicaState)
-makes sent state (Submitted d) = submission (submits state 0 d)
-makes sent state (Proposed k value) =
+abbrev pub live_makes : (sent : List Message) → ReplicaState → LiveCall → Option (Taken × ReplicaState)
+live_makes sent state (Submitted d) = submission (submits state 0 d)
+live_makes sent state (Proposed k value) =
     submission (submits state (first_instance k) (first_vote k value))
-makes sent state (Received number) = option_and_then (takes state) (slice_get sent number)
-makes sent state Looked = Some (silence, state)
+live_makes sent state (Received number) = option_and_then (takes state) (slice_get sent number)
+live_makes sent state Looked = Some (silence, state)
 
 -- the calls that replica r may accept: an update where its cap leaves room, its first proposal to an
 -- object, and a message that is for it
-abbrev pub MayAccept : (sent : List Message) → (r : ℕ) → ReplicaState → Call → Type 0
+abbrev pub MayAccept : (sent : List Message) → (r : ℕ) → ReplicaState → LiveCall → Type 0
 MayAccept sent r state (Submitted d) = HasRoom state 0
 MayAccept sent r state (Proposed k value) = submitted_in state (first_instance k) ≡ Some 0
 MayAccept sent r state (Received number) = IsSomeAnd (slice_get sent number) (λ m. m.to ≡ r)
@@ -96,7 +96,7 @@ learnt_from r (Some m) None = []
 learnt_from r None s = []
 
 -- and by a call
-abbrev pub learnt_by_call : (sent : List Message) → (r : ℕ) → Call → Said → List LearntSet
+abbrev pub learnt_by_call : (sent : List Message) → (r : ℕ) → LiveCall → Said → List LearntSet
 learnt_by_call sent r (Received number) said =
     learnt_from r (slice_get sent number) (learnt_in said)
 learnt_by_call sent r (Submitted d) said = []
@@ -106,41 +106,41 @@ learnt_by_call sent r Looked said = []
 -- ## Steps
 
 -- node r accepts a call, and all the others stay as they were
-pub record IsStep (before : LiveGroup) (r : ℕ) (call : Call) (after : LiveGroup) : Type 0 where
+pub record IsGroupStep (before : LiveGroup) (r : ℕ) (call : LiveCall) (after : LiveGroup) : Type 0 where
   pub node : NodeState
   pub is_at : slice_get before.nodes r ≡ Some node
   pub accepts : MayAccept before.sent r node.replica call
   pub taken : Taken
   pub made : NodeState
-  pub does : makes before.sent node.replica call ≡ Some (taken, made.replica)
+  pub does : live_makes before.sent node.replica call ≡ Some (taken, made.replica)
   pub nodes : after.nodes ≡ slice_set before.nodes r made
   pub sent : after.sent ≡ before.sent ++ taken.mail
   pub learnt : after.learnt ≡ before.learnt ++ learnt_by_call before.sent r call taken.said
 
 -- a group in which nothing has happened: each node as it is made, whatever is on its shelf
-pub record IsStart (c : Config) (group : LiveGroup) : Type 0 where
+pub record IsGroupStart (c : Config) (group : LiveGroup) : Type 0 where
   pub config : IsConfig c
   pub nodes : replicas_of group.nodes ≡ replica_states_at_start c
   pub sent : group.sent ≡ []
   pub learnt : group.learnt ≡ []
 
 -- these calls, the newest first and each of a node, lead from such a group to this one
-unfoldable pub Reaches : Config → (calls : List (ℕ × Call)) → LiveGroup → Type 0
-Reaches c [] group = IsStart c group
+unfoldable pub Reaches : Config → (calls : List (ℕ × LiveCall)) → LiveGroup → Type 0
+Reaches c [] group = IsGroupStart c group
 Reaches c (call ∷ calls) group =
-    (before : LiveGroup) × Reaches c calls before × IsStep before call.0 call.1 group
+    (before : LiveGroup) × Reaches c calls before × IsGroupStep before call.0 call.1 group
 
 -- ## Events
 
 -- a call of node r as an event of its group; looking is none
-abbrev pub event_of : (r : ℕ) → Call → Option Event
-event_of r (Submitted d) = Some (Submit r d)
-event_of r (Proposed k value) = Some (Decide r k value)
-event_of r (Received number) = Some (Deliver number)
-event_of r Looked = None
+abbrev pub live_event : (r : ℕ) → LiveCall → Option Event
+live_event r (Submitted d) = Some (Submit r d)
+live_event r (Proposed k value) = Some (Decide r k value)
+live_event r (Received number) = Some (Deliver number)
+live_event r Looked = None
 
-abbrev pub events_of : List (ℕ × Call) → Past
-events_of calls = filter_map (λ (call : ℕ × Call). event_of call.0 call.1) calls
+abbrev pub events_of : List (ℕ × LiveCall) → Past
+events_of calls = filter_map (λ (call : ℕ × LiveCall). live_event call.0 call.1) calls
 
 -- in which nothing is said of shelves
 abbrev pub live_group_of : Config → Group
@@ -149,9 +149,9 @@ live_group_of c = group_of c []
 -- ## What a program holds
 
 -- what calls sent, as it is told
-abbrev pub told_by_calls : Config → (calls : List (ℕ × Call)) → List code.Message
+abbrev pub told_by_calls : Config → (calls : List (ℕ × LiveCall)) → List code.Message
 told_by_calls c calls =
-    told (replicas (live_group_of c)) (trace (live_group_of c) (events_of calls))
+    told_messages (replicas (live_group_of c)) (trace (live_group_of c) (events_of calls))
 
 -- a message says the same as one of these, whatever their deltas were made of
 abbrev pub IsAmong : code.Message → List code.Message → Type 0
@@ -161,7 +161,7 @@ IsAmong m ms = (n : code.Message) × Contains ms n × AreAlike m n
 -- another delta that says the same, or over another base of its set. Others that they sent are lost
 pub record IsReached (nodes : List NodeState) (network : List code.Message) : Type 0 where
   pub config : Config
-  pub calls : List (ℕ × Call)
+  pub calls : List (ℕ × LiveCall)
   pub group : LiveGroup
   pub reached : Reaches config calls group
   pub nodes_are : group.nodes ≡ nodes
@@ -183,7 +183,7 @@ pub record StandsForEvents (c : Config) (group : LiveGroup) (events : Past) : Ty
 
 -- a group that some calls lead to stands for these calls' events
 abbrev pub LiveGroupsStandForEvents : Type 0
-LiveGroupsStandForEvents = (c : Config) (calls : List (ℕ × Call)) (group : LiveGroup) →
+LiveGroupsStandForEvents = (c : Config) (calls : List (ℕ × LiveCall)) (group : LiveGroup) →
     Reaches c calls group → StandsForEvents c group (events_of calls)
 
 -- what nodes returned from adopt-commit objects, by object, and then by replica
@@ -192,18 +192,18 @@ decisions_of c nodes =
     flat_map (decisions_at (replicas_of nodes)) (range_with_len 0 c.commits)
 
 -- so it keeps what a world promises
-pub record KeepsAll (c : Config) (calls : List (ℕ × Call)) (group : LiveGroup) : Type 0 where
+pub record LiveGroupKeepsAll (c : Config) (calls : List (ℕ × LiveCall)) (group : LiveGroup) : Type 0 where
   pub promises : let g = live_group_of c in let events = events_of calls in
       KeepsPromises g events (learnt (trace g events)) (views_of (replicas_of group.nodes))
   pub safe : IsAdoptCommit (events_of calls) (decisions_of c group.nodes)
 
 abbrev pub LiveGroupsKeepAll : Type 0
-LiveGroupsKeepAll = (c : Config) (calls : List (ℕ × Call)) (group : LiveGroup) →
-    Reaches c calls group → KeepsAll c calls group
+LiveGroupsKeepAll = (c : Config) (calls : List (ℕ × LiveCall)) (group : LiveGroup) →
+    Reaches c calls group → LiveGroupKeepsAll c calls group
 
 -- any two sets that nodes said they learnt in one instance are comparable
 abbrev pub LiveLearntAreComparable : Type 0
-LiveLearntAreComparable = (c : Config) (calls : List (ℕ × Call)) (group : LiveGroup) →
+LiveLearntAreComparable = (c : Config) (calls : List (ℕ × LiveCall)) (group : LiveGroup) →
     Reaches c calls group → (x y : LearntSet) →
     Contains group.learnt x → Contains group.learnt y → x.instance ≡ y.instance →
     AreComparable x.updates y.updates
@@ -211,7 +211,7 @@ LiveLearntAreComparable = (c : Config) (calls : List (ℕ × Call)) (group : Liv
 -- any two views are: of whatever nodes, before and after more calls
 abbrev pub LiveViewsAreComparable : Type 0
 LiveViewsAreComparable =
-    (c : Config) (more calls : List (ℕ × Call)) (before after : LiveGroup) (m n : NodeState) →
+    (c : Config) (more calls : List (ℕ × LiveCall)) (before after : LiveGroup) (m n : NodeState) →
     Reaches c calls before → Reaches c (more ++ calls) after →
     Contains before.nodes m → Contains after.nodes n →
     AreComparable m.replica.view n.replica.view

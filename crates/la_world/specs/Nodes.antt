@@ -38,10 +38,10 @@ with_shelf n shelf = record { replica = n.replica; shelf = shelf }
 
 -- what is left where tags of an object on its shelf were not told: the same node, or one whose shelf
 -- has absorbed the view; where memory ran out it may have absorbed a part
-abbrev pub LeftUntold : ShelfError → (before after : NodeState) → Type 0
-LeftUntold NoSuchObject before after = after ≡ before
-LeftUntold TooManyTags before after = after ≡ with_shelf before (followed before)
-LeftUntold _ before after = Unit {0}
+abbrev pub LeftUntoldNode : ShelfError → (before after : NodeState) → Type 0
+LeftUntoldNode NoSuchObject before after = after ≡ before
+LeftUntoldNode TooManyTags before after = after ≡ with_shelf before (followed before)
+LeftUntoldNode _ before after = Unit {0}
 
 -- the replicas of a group's nodes, from 0 on
 abbrev pub replicas_of : List NodeState → List ReplicaState

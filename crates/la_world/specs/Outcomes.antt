@@ -10,15 +10,15 @@ use Rattle.la_world.specs.declared.report.Decision.{Decision}
 use Rattle.la_world.specs.declared.step.Opening.{Opening}
 use Rattle.la_world.specs.Groups.{Group, replicas}
 use Rattle.la_world.specs.Trace.{Trace}
-use Rattle.la_world.specs.Learnings.{last_learnt}
+use Rattle.la_world.specs.Learnings.{trace_learnt}
 
 -- the outcome by a learnt ballot, where this is of a second instance
-abbrev pub outcome_by : Opening → Option Outcome
-outcome_by b = outcome_in b.instance b.replica b.updates
+abbrev pub outcome_learnt : Opening → Option Outcome
+outcome_learnt b = outcome_in b.instance b.replica b.updates
 
 -- what r returned from object k, if it has
 abbrev pub returned : Trace → (k r : ℕ) → Option Outcome
-returned t k r = option_and_then (λ s. outcome_of s r) (last_learnt t (second_instance k) r)
+returned t k r = option_and_then (λ s. outcome_of s r) (trace_learnt t (second_instance k) r)
 
 abbrev pub decision_of : (k r : ℕ) → Outcome → Decision
 decision_of k r o = record { commit = k; replica = r; outcome = o }

@@ -15,10 +15,10 @@ use Rattle.la_world.specs.Groups.{Group, replicas}
 use Rattle.la_world.specs.Events.{Event, Past, Deliver, submission_of}
 use Rattle.la_world.specs.Trace.{Trace}
 use Rattle.la_world.specs.Votes.{Submission}
-use Rattle.la_world.specs.Submissions.{submission_by, submitted}
+use Rattle.la_world.specs.Submissions.{submission_by, submitted_ops}
 use Rattle.la_world.specs.Views.{seen}
-use Rattle.la_world.specs.Playing.{entry, trace}
-use Rattle.la_world.specs.Report.{lines, trace_of, accepted_among}
+use Rattle.la_world.specs.Playing.{event_entry, trace}
+use Rattle.la_world.specs.Report.{report_lines, trace_of, accepted_among}
 use Rattle.la_world.specs.StandsFor.{World, group_in}
 use Rattle.la_world.specs.Calls.{view_in, views_of}
 use Rattle.la_world.specs.Laws.{IsStrictSubset, IsValid, IsLargest, IsSubmittedLater, WasLearnt, next_id}
@@ -111,20 +111,20 @@ NoViewShrinks w after =
 -- ## Lines: what became of each event of the list that was handed in
 
 -- the set that a step learnt, if it did
-abbrev pub learnt_in : Did → Option Learnt
-learnt_in (shown.Learnt learnt told outcome next) = Some learnt
-learnt_in _ = None
+abbrev pub learnt_by_did : Did → Option Learnt
+learnt_by_did (shown.Learnt learnt told outcome next) = Some learnt
+learnt_by_did _ = None
 
 -- the set that a line shows as learnt, if it does
 abbrev pub learnt_on : Line → Option Learnt
-learnt_on (Done step) = learnt_in step.did
+learnt_on (Done step) = learnt_by_did step.did
 learnt_on (Refused name) = None
 
 -- what became of the event at this place: it learnt this set
 pub record IsLearntAt (steps : List Line) (place : ℕ) (x : Learnt) : Type 0 where
   pub step : Step
   pub done : slice_get steps place ≡ Some (Done step)
-  pub learnt : learnt_in step.did ≡ Some x
+  pub learnt : learnt_by_did step.did ≡ Some x
 
 -- the learnt sets are exactly those that the lines show, in order
 abbrev pub AreListed : (steps : List Line) → (learnt : List Learnt) → Type 0
@@ -156,12 +156,12 @@ pub record IsSubmittedAt (g : Group) (events : List Event) (steps : List Line) (
   pub step : Step
   pub done : slice_get steps place ≡ Some (Done step)
   pub submission : Submission
-  pub submits : submission_by event (entry g (trace_before g events place) event).did
+  pub submits : submission_by event (event_entry g (trace_before g events place) event).did
       ≡ Some submission
   pub instance : submission.instance ≡ i
   pub replica : id.replica ≡ submission.replica
   pub number : id.number
-      ≡ length (submitted (trace_before g events place) i submission.replica) + 1
+      ≡ length (submitted_ops (trace_before g events place) i submission.replica) + 1
 
 -- where a line shows a set as learnt, each one that shows a set of its instance with an update which
 -- was submitted at a place after the first line has a set that contains the first one. So a learnt
@@ -198,7 +198,7 @@ RemovedAreShown g events steps views =
 -- learnt
 abbrev pub PlacesCountAccepted : Type 0
 PlacesCountAccepted = (g : Group) (events : List Event) (place : ℕ) (x : Learnt) →
-    IsLearntAt (lines g events) place x → x.place ≡ length (trace_before g events place)
+    IsLearntAt (report_lines g events) place x → x.place ≡ length (trace_before g events place)
 
 -- ## Views, by the lines that show what a replica saw
 
@@ -215,7 +215,7 @@ pub record IsToldAt (g : Group) (events : List Event) (steps : List Line) (place
   pub learnt_at : ℕ
   pub teller : Step
   pub tells : slice_get steps learnt_at ≡ Some (Done teller)
-  pub learnt : learnt_in teller.did ≡ Some x
+  pub learnt : learnt_by_did teller.did ≡ Some x
   pub of_objects : x.instance ≡ 0
   pub in_group : r < replicas g
   pub other : ¬ (r ≡ x.replica)

@@ -21,9 +21,9 @@ use Rattle.la_world.specs.Groups.{Group, replicas, kinds_on}
 use Rattle.la_world.specs.Events.{Event, Submit, Deliver, Decide, Ask}
 use Rattle.la_world.specs.Votes.{Submission, second_vote_in}
 use Rattle.la_world.specs.Submissions.{object_op_in}
-use Rattle.la_world.specs.Report.{lines}
-use Rattle.la_world.specs.Laws.{IsAnswered}
-use Rattle.la_world.specs.Promises.{learnt_in, IsLearntAt}
+use Rattle.la_world.specs.Report.{report_lines}
+use Rattle.la_world.specs.Laws.{IsAnsweredLine}
+use Rattle.la_world.specs.Promises.{learnt_by_did, IsLearntAt}
 
 -- ## What is submitted
 
@@ -39,7 +39,7 @@ submission_in (Submit r object_op) did =
     Some (record { instance = 0; replica = r; object_op = object_op })
 submission_in (Decide r k value) did =
     Some (record { instance = first_instance k; replica = r; object_op = first_vote k value })
-submission_in (Deliver number) did = vote_after (learnt_in did)
+submission_in (Deliver number) did = vote_after (learnt_by_did did)
 submission_in (Ask r object query) did = None
 
 -- what an event submits that has this line: nothing, where it was refused
@@ -131,20 +131,20 @@ MarksAreRead g events steps =
     (m j k object : ℕ) (mark : Update) (x : Learnt) (query : Query) (answer : Answer) →
     Submits events steps m 0 mark →
     IsLearntAt steps j x → x.instance ≡ 0 → IsSome (get x.updates mark.id) → j < k →
-    IsAnswered events steps k x.replica object query answer →
+    IsAnsweredLine events steps k x.replica object query answer →
     IsReadOf g steps m k x.replica object query answer
 
 -- ## Of every list of events that is played
 
 abbrev pub LearntUpdatesWereSubmitted : Type 0
 LearntUpdatesWereSubmitted =
-    (g : Group) (events : List Event) → LearntWereSubmitted events (lines g events)
+    (g : Group) (events : List Event) → LearntWereSubmitted events (report_lines g events)
 
 -- a set has the updates of eight replicas
 abbrev pub LearntSetsHoldTheirOwn : Type 0
 LearntSetsHoldTheirOwn = (g : Group) (events : List Event) →
-    replicas g ≤ 8 → LearntHoldTheirOwn events (lines g events)
+    replicas g ≤ 8 → LearntHoldTheirOwn events (report_lines g events)
 
 abbrev pub ReadsByMarksAreCurrent : Type 0
 ReadsByMarksAreCurrent =
-    (g : Group) (events : List Event) → MarksAreRead g events (lines g events)
+    (g : Group) (events : List Event) → MarksAreRead g events (report_lines g events)

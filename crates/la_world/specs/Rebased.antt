@@ -18,8 +18,8 @@ use Rattle.la_world.specs.Events.{Event}
 use Rattle.la_world.specs.Groups.{replicas, Group}
 use Rattle.la_world.specs.Playing.{trace}
 use Rattle.la_world.specs.ReplicaStates.{replica_state}
-use Rattle.la_world.specs.StandsFor.{IsLegal}
-use Rattle.la_world.specs.Told.{told}
+use Rattle.la_world.specs.StandsFor.{IsLegalTrace}
+use Rattle.la_world.specs.Told.{told_messages}
 
 -- ## A delivery
 
@@ -42,8 +42,8 @@ pub record IsReceivedOver (r : ReplicaState) (b : Counts) (m : code.Message) : T
 -- so it is of all that was sent, over whatever base that its set has
 abbrev pub DeliveriesFitOver : Type 0
 DeliveriesFitOver = (g : Group) (events : List Event) (k : ℕ) (m : code.Message) (b : Counts) →
-    replicas g ≤ 8 → g.cap ≤ MAX_CAP → IsLegal g events → let t = trace g events in
-    slice_get (told (replicas g) t) k ≡ Some m → MayBeOver b m.body →
+    replicas g ≤ 8 → g.cap ≤ MAX_CAP → IsLegalTrace g events → let t = trace g events in
+    slice_get (told_messages (replicas g) t) k ≡ Some m → MayBeOver b m.body →
     IsReceivedOver (replica_state g t m.to) b m
 
 -- ## A parcel
@@ -56,8 +56,8 @@ pub record IsUnwrapped (r : ReplicaState) (believed : Counts) (m : code.Message)
 
 abbrev pub ParcelsFit : Type 0
 ParcelsFit = (g : Group) (events : List Event) (k : ℕ) (m : code.Message) (believed : Counts) →
-    replicas g ≤ 8 → g.cap ≤ MAX_CAP → IsLegal g events → let t = trace g events in
-    slice_get (told (replicas g) t) k ≡ Some m → IsUnwrapped (replica_state g t m.to) believed m
+    replicas g ≤ 8 → g.cap ≤ MAX_CAP → IsLegalTrace g events → let t = trace g events in
+    slice_get (told_messages (replicas g) t) k ≡ Some m → IsUnwrapped (replica_state g t m.to) believed m
 
 -- ## What may be on a network
 

@@ -14,7 +14,7 @@ use Rattle.la_world.specs.declared.step.Step.{Step}
 use Rattle.la_world.specs.Outcomes.{decision_of}
 use Rattle.la_world.specs.StandsFor.{World}
 use Rattle.la_world.specs.Calls.{returned_in, decisions_in}
-use Rattle.la_world.specs.Promises.{learnt_in}
+use Rattle.la_world.specs.Promises.{learnt_by_did}
 
 -- ## A step
 
@@ -32,14 +32,14 @@ opened_with _ = None
 -- the world after it answers
 abbrev pub ShowsOutcome : Did → (after : World) → Type 0
 ShowsOutcome did after = (x : Learnt) (k : ℕ) →
-    learnt_in did ≡ Some x → x.instance ≡ second_instance k →
+    learnt_by_did did ≡ Some x → x.instance ≡ second_instance k →
     IsSome (outcome_told did) × (returned_in after k x.replica ≡ outcome_told did)
 
 -- one that learns a set in the first instance casts the second vote: with it the replica's ballot
 -- opens in the second instance
 abbrev pub ShowsVote : Did → Type 0
 ShowsVote did = (x : Learnt) (k : ℕ) →
-    learnt_in did ≡ Some x → x.instance ≡ first_instance k →
+    learnt_by_did did ≡ Some x → x.instance ≡ first_instance k →
     IsSomeAnd (opened_with did) (λ b. (b.instance ≡ second_instance k) × (b.replica ≡ x.replica))
 
 -- what a world answers of an outcome it still answers afterwards
@@ -58,7 +58,7 @@ AnswersAreListed w = (k r : ℕ) (o : Outcome) →
 pub record IsReturnedAt (steps : List Line) (place : ℕ) (x : Learnt) (o : Outcome) : Type 0 where
   pub step : Step
   pub done : slice_get steps place ≡ Some (Done step)
-  pub learnt : learnt_in step.did ≡ Some x
+  pub learnt : learnt_by_did step.did ≡ Some x
   pub outcome : outcome_told step.did ≡ Some o
 
 -- each outcome that a line shows is listed

@@ -12,10 +12,10 @@ use Rattle.la_world.specs.Groups.{Group, replicas}
 use Rattle.la_world.specs.Events.{Past}
 use Rattle.la_world.specs.Trace.{Entry, Trace}
 use Rattle.la_world.specs.Sent.{sent_at}
-use Rattle.la_world.specs.Acceptors.{accepted}
+use Rattle.la_world.specs.Acceptors.{accepted_there}
 use Rattle.la_world.specs.Ballots.{round}
-use Rattle.la_world.specs.Playing.{counts, trace}
-use Rattle.la_world.specs.Hearing.{reported}
+use Rattle.la_world.specs.Playing.{counts_reply, trace}
+use Rattle.la_world.specs.Hearing.{reported_set}
 
 -- a message, with its set told over this base
 abbrev pub told_body : (base : Counts) → Body → code_body.Body
@@ -35,30 +35,30 @@ told_over base m = record {
 
 -- an offer is told over the smaller, of each replica, of what its receiver has reported and what the
 -- set has; a refusal over what was offered
-abbrev pub base_in : (reported offered : Counts) → Body → Counts
-base_in reported offered (Offer s) = smaller reported (counts_of s)
-base_in reported offered Yes = zero_counts
-base_in reported offered (No s) = offered
-base_in reported offered (Tell s) = zero_counts
+abbrev pub base_told : (reported_set offered : Counts) → Body → Counts
+base_told reported_set offered (Offer s) = smaller reported_set (counts_of s)
+base_told reported_set offered Yes = zero_counts
+base_told reported_set offered (No s) = offered
+base_told reported_set offered (Tell s) = zero_counts
 
 -- that of a message which was sent by the event that left this trace, and delivered what offers this
 abbrev pub base_of : Trace → (offered : Counts) → Message → Counts
 base_of t offered m =
-    base_in (counts_of (reported t m.instance m.from m.to)) offered m.body
+    base_told (counts_of (reported_set t m.instance m.from m.to)) offered m.body
 
 abbrev pub offered_to : Option Message → Counts
 offered_to None = zero_counts
 offered_to (Some m) = offered_by m
 
 -- what an event sent, as it is told
-abbrev pub told_at : (n : ℕ) → Entry → Trace → List code.Message
-told_at n x t =
+abbrev pub sent_as_told : (n : ℕ) → Entry → Trace → List code.Message
+sent_as_told n x t =
     map (λ m. told_over (base_of (x ∷ t) (offered_to x.delivered) m) m) (sent_at n x)
 
 -- all that was sent, as it is told
-unfoldable pub told : (n : ℕ) → Trace → List code.Message
-told n [] = []
-told n (x ∷ t) = told n t ++ told_at n x t
+unfoldable pub told_messages : (n : ℕ) → Trace → List code.Message
+told_messages n [] = []
+told_messages n (x ∷ t) = told_messages n t ++ sent_as_told n x t
 
 -- ## What its receiver has
 
@@ -66,14 +66,14 @@ told n (x ∷ t) = told n t ++ told_at n x t
 -- and that of a refusal which counts is what the open ballot's set has
 abbrev pub StandsBody : Trace → code.Message → code_body.Body → Type 0
 StandsBody t m (body.Offer d) =
-    HasCounts (set_of d) d.base × HasCounts (accepted t m.instance m.to) d.base
+    HasCounts (set_of d) d.base × HasCounts (accepted_there t m.instance m.to) d.base
 StandsBody t m body.Yes = Unit {0}
 StandsBody t m (body.No d) =
     HasCounts (set_of d) d.base
-    × (counts t (whole_of m) ≡ true → d.base ≡ counts_of (round t m.instance m.to).updates)
-StandsBody t m (body.Tell told) = Unit {0}
+    × (counts_reply t (whole_of m) ≡ true → d.base ≡ counts_of (round t m.instance m.to).updates)
+StandsBody t m (body.Tell told_messages) = Unit {0}
 
 -- so it is of all that was sent
 abbrev pub ToldMessagesStand : Type 0
 ToldMessagesStand = (g : Group) (events : Past) (k : ℕ) (m : code.Message) →
-    let t = trace g events in slice_get (told (replicas g) t) k ≡ Some m → StandsBody t m m.body
+    let t = trace g events in slice_get (told_messages (replicas g) t) k ≡ Some m → StandsBody t m m.body

@@ -24,7 +24,7 @@ ghost use Rattle.la_world.specs.Calls.{returned_by};
 ghost use Rattle.la_world.specs.Following.{takes, whole_done};
 ghost use Rattle.la_world.specs.Nodes.{followed, with_shelf, MayStart, node_at_start};
 ghost use Rattle.la_world.specs.Nodes.{IsStartRefusal, IsProposeRefusal, IsObservedRefusal};
-ghost use Rattle.la_world.specs.Nodes.{outcome_due, OutcomesStayIn, ReturnsIn, LeftUntold};
+ghost use Rattle.la_world.specs.Nodes.{outcome_due, OutcomesStayIn, ReturnsIn, LeftUntoldNode};
 
 use crate::participant::{for_memory, outcome_by, returned, take_prepared};
 use crate::{Config, Done, WorldError};
@@ -435,7 +435,7 @@ impl<B: Replicated> Node<B> {
         ensures follows { OnOk result (self.new ≡ with_shelf self.old (followed self.old)) }
         ensures error { IfErr result
             (IsObservedRefusal (tags_at (followed self.old) object element)) }
-        ensures err { IfErr result (λ e. LeftUntold e self.old self.new) }
+        ensures err { IfErr result (λ e. LeftUntoldNode e self.old self.new) }
         ensures replica { self.new.replica ≡ self.old.replica }
         ensures objects { self.new.shelf.objects ≡ self.old.shelf.objects }
         ensures within { IsSubset self.new.shelf.view self.new.replica.view }

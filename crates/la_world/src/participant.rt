@@ -17,7 +17,7 @@ ghost use Rattle.la_replica.specs.Changes.{IsPreparedFrom, after_commit, led, Le
 ghost use Rattle.la_replica.specs.Refusals.{HasRoom, SubmittingSpares};
 ghost use Rattle.la_world.specs.Votes.{vote_in};
 ghost use Rattle.la_world.specs.Calls.{returned_by};
-ghost use Rattle.la_world.specs.Following.{VoteFits, takes, with_vote, whole_done};
+ghost use Rattle.la_world.specs.Following.{VoteFits, takes, vote_added, whole_done};
 
 use crate::done::{Done, Voted};
 use la_commit::{
@@ -115,7 +115,7 @@ fn commit_both(
         × (after_commit receiver.old change ≡ Some then)
         × (submits then (instance + 1) (casts (commit_of instance) vote)
         ≡ Some (cast, receiver.new))
-        × (whole_done done ≡ with_vote (whole_out out) (instance + 1) cast)) }
+        × (whole_done done ≡ vote_added (whole_out out) (instance + 1) cast)) }
     ensures told { (offered : Counts) → AreToldAfter receiver.old change offered out.mail
         → IfOk result (λ done. AreToldIn receiver.new offered done.mail) }
     ensures said { IfOk result (λ done. done.said ≡ out.said) }

@@ -3,11 +3,11 @@ ghost use Rattle.std.specs.Prelude.{OnOk, OnErr};
 ghost use Rattle.std.specs.Option.{option_copied};
 ghost use Rattle.la_world.specs.Events.{Past, event_of};
 ghost use Rattle.la_world.specs.Printable.{IsPrintable};
-ghost use Rattle.la_world.specs.StandsFor.{StandsFor, group_in, trace_in, sent_in, told_in};
+ghost use Rattle.la_world.specs.StandsFor.{StandsFor, group_in, trace_in, sent_in, world_told};
 ghost use Rattle.la_world.specs.Nodes.{replicas_of, shelves_of};
-ghost use Rattle.la_world.specs.Calls.{IsGroup, IsMakingRefusal, replica_states_at_start, Keeps};
-ghost use Rattle.la_world.specs.Calls.{may_absorb, IsSameUnless, Plays, Refuses, StandsForMessage};
-ghost use Rattle.la_world.specs.Calls.{view_at, view_in, view_of, views_of, decisions_in};
+ghost use Rattle.la_world.specs.Calls.{IsWorldGroup, IsMakingRefusal, replica_states_at_start, Keeps};
+ghost use Rattle.la_world.specs.Calls.{may_absorb, IsSameUnless, PlaysEvent, RefusesEvent, StandsForMessage};
+ghost use Rattle.la_world.specs.Calls.{view_at, view_in, known_view, views_of, decisions_in};
 ghost use Rattle.la_world.specs.Calls.{returned_in, returned_of, report_with, report_after};
 ghost use Rattle.la_world.specs.Laws.{IsAdoptCommit};
 ghost use Rattle.la_world.specs.Promises.{AreAllComparable, AreGrowing, AreValid, AreLargest};
@@ -48,7 +48,7 @@ pub struct World<B: Replicated> {
 
 impl<B: Replicated> Model for World<B> {
     ghost use Rattle.la_world.specs.StandsFor.{World, world_of};
-    ghost use Rattle.la_world.specs.Calls.{HoldsInvariant};
+    ghost use Rattle.la_world.specs.Calls.{HoldsWorldInvariant};
     ghost use Rattle.la_world.specs.Nodes.{replicas_of, shelves_of};
 
     ghost Value = { World };
@@ -56,7 +56,7 @@ impl<B: Replicated> Model for World<B> {
     ghost view = { λ w.
         world_of w.config (replicas_of w.nodes.items) (shelves_of w.nodes.items) w.journal };
 
-    ghost invariant = { λ w. HoldsInvariant
+    ghost invariant = { λ w. HoldsWorldInvariant
         (world_of w.config (replicas_of w.nodes.items) (shelves_of w.nodes.items) w.journal) };
 }
 
@@ -74,7 +74,7 @@ impl<B: Replicated> World<B> {
         ensures config { IfOk result (λ world. world.config ≡ config) }
         ensures shelves { IfOk result (λ world. world.shelves ≡ shelves.items) }
         ensures stands { IfOk result (λ world. StandsFor world []) }
-        ensures group { OnOk result (IsGroup config shelves.items) }
+        ensures group { OnOk result (IsWorldGroup config shelves.items) }
         ensures error { IfErr result (IsMakingRefusal config shelves.items) }
     {
         let shelves_fit = shelves.len() == config.replicas as usize && are_unused(&shelves);
@@ -117,7 +117,7 @@ impl<B: Replicated> World<B> {
     pub fn play(&mut self, event: &Event) -> Result<Step, WorldError>
         requires { self.old.count + 1 < 2 ^ 64 }
         ensures step { (events : Past) → StandsFor self.old events →
-            IfOk result (λ step. Plays self.old events (event_of event.now) step self.new) }
+            IfOk result (λ step. PlaysEvent self.old events (event_of event.now) step self.new) }
         ensures comparable { (events : Past) → StandsFor self.old events →
             OnOk result (AreAllComparable self.new.learnt) }
         ensures grows { (events : Past) → StandsFor self.old events →
@@ -145,7 +145,7 @@ impl<B: Replicated> World<B> {
             (IsAdoptCommit (event_of event.now ∷ events) (decisions_in self.new)) }
         ensures printable { IfOk result IsPrintable }
         ensures error { (events : Past) → StandsFor self.old events →
-            IfErr result (Refuses self.old events (event_of event.now)) }
+            IfErr result (RefusesEvent self.old events (event_of event.now)) }
         ensures keeps { OnErr result (Keeps self.old self.new) }
         ensures err { IfErr result (λ e.
             IsSameUnless (may_absorb (event_of event.now) e) self.old self.new) }
@@ -158,10 +158,10 @@ impl<B: Replicated> World<B> {
     fn take_event(&mut self, event: &Event) -> Result<Step, WorldError>
         requires { self.old.count + 1 < 2 ^ 64 }
         ensures step { (events : Past) → StandsFor self.old events →
-            IfOk result (λ step. Plays self.old events (event_of event.now) step self.new) }
+            IfOk result (λ step. PlaysEvent self.old events (event_of event.now) step self.new) }
         ensures printable { IfOk result IsPrintable }
         ensures error { (events : Past) → StandsFor self.old events →
-            IfErr result (Refuses self.old events (event_of event.now)) }
+            IfErr result (RefusesEvent self.old events (event_of event.now)) }
         ensures keeps { OnErr result (Keeps self.old self.new) }
         ensures err { IfErr result (λ e.
             IsSameUnless (may_absorb (event_of event.now) e) self.old self.new) }
@@ -212,7 +212,7 @@ impl<B: Replicated> World<B> {
         ensures stands { (events : Past) → StandsFor self.now events →
             StandsForMessage (option_copied result) (slice_get (sent_in self.now events) number) }
         ensures told { (events : Past) → StandsFor self.now events →
-            option_copied result ≡ slice_get (told_in self.now events) number }
+            option_copied result ≡ slice_get (world_told self.now events) number }
     {
         self.stored_message(number)
     }
@@ -228,7 +228,7 @@ impl<B: Replicated> World<B> {
     pub fn view(&self, replica: u8) -> Option<&UpdateSet>
         ensures value { option_copied result ≡ view_in self.now replica }
         ensures stands { (events : Past) → StandsFor self.now events → option_copied result
-            ≡ view_of (group_in self.now) (trace_in self.now events) replica }
+            ≡ known_view (group_in self.now) (trace_in self.now events) replica }
     {
         view_among(&self.nodes, replica)
     }
@@ -388,7 +388,7 @@ fn nodes_of<B: Replicated>(
     config: Config,
     shelves: Vec<Shelf<B>>,
 ) -> Result<Vec<Node<B>>, AllocError>
-    requires { IsGroup config shelves.items }
+    requires { IsWorldGroup config shelves.items }
     ensures replicas { IfOk result (λ nodes.
         replicas_of nodes.items ≡ replica_states_at_start config) }
     ensures shelves { IfOk result (λ nodes. shelves_of nodes.items ≡ shelves.items) }

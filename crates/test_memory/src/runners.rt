@@ -1,6 +1,6 @@
 // la_shared and la_runner, without threads: one acceptor that is shared, and the member of a group of one.
 ghost use Rattle.std.specs.Prelude.{◌≡◌, IfSome};
-ghost use Rattle.la_runner.specs.Members.{IsOf};
+ghost use Rattle.la_runner.specs.Members.{IsOfGroup};
 
 use crate::again;
 use crate::found::{is_no, is_of};
@@ -44,7 +44,7 @@ fn shares<R: Wait>(rt: &R, alloc: Global) -> Came {
 // ## A member
 
 fn one(alloc: Global) -> Option<(Group, Member)>
-    ensures { IfSome result (λ it. IsOf it.0 it.1) }
+    ensures { IfSome result (λ it. IsOfGroup it.0 it.1) }
 {
     let (group, mut members) = Group::new(alloc, 1, 1, 10, Votes::one_each(1)).ok()?;
     let member = members.take()?;
@@ -53,8 +53,8 @@ fn one(alloc: Global) -> Option<(Group, Member)>
 
 // Without rounds the update stays submitted.
 fn update<R: Wait>(rt: &R, group: &Group, member: &mut Member) -> Came
-    requires { IsOf group.now member.old }
-    ensures { IsOf group.now member.new }
+    requires { IsOfGroup group.now member.old }
+    ensures { IsOfGroup group.now member.new }
 {
     match group.update(rt, member, 1, Op::Put(7), 0, &FreeGate) {
         Ok(_) => Some(false),
@@ -64,8 +64,8 @@ fn update<R: Wait>(rt: &R, group: &Group, member: &mut Member) -> Came
 }
 
 fn resume<R: Wait>(rt: &R, group: &Group, member: &mut Member) -> Came
-    requires { IsOf group.now member.old }
-    ensures { IsOf group.now member.new }
+    requires { IsOfGroup group.now member.old }
+    ensures { IsOfGroup group.now member.new }
 {
     match group.resume(rt, member, 9, &FreeGate) {
         Ok(Some(learned)) => Some(is_of(&learned.updates, ONE) && is_of(member.view(), ONE)),
@@ -75,8 +75,8 @@ fn resume<R: Wait>(rt: &R, group: &Group, member: &mut Member) -> Came
 }
 
 fn decide<R: Wait>(rt: &R, group: &Group, member: &mut Member) -> Came
-    requires { IsOf group.now member.old }
-    ensures { IsOf group.now member.new }
+    requires { IsOfGroup group.now member.old }
+    ensures { IsOfGroup group.now member.new }
 {
     match group.decide(rt, member, 0, 9, 9, &FreeGate) {
         Ok(outcome) => Some(outcome == Outcome::Commit(9) && member.outcome(0) == Some(outcome)),
@@ -85,8 +85,8 @@ fn decide<R: Wait>(rt: &R, group: &Group, member: &mut Member) -> Came
 }
 
 fn note(alloc: Global, group: &Group, member: &mut Member) -> Came
-    requires { IsOf group.now member.old }
-    ensures { IsOf group.now member.new }
+    requires { IsOfGroup group.now member.old }
+    ensures { IsOfGroup group.now member.new }
 {
     match group.note(alloc, member) {
         Ok(_) => Some(is_of(member.view(), ONE)),
@@ -95,7 +95,7 @@ fn note(alloc: Global, group: &Group, member: &mut Member) -> Came
 }
 
 fn goes_on<R: Wait>(rt: &R, alloc: Global, group: &Group, member: &mut Member) -> Came
-    requires { IsOf group.now member.old }
+    requires { IsOfGroup group.now member.old }
 {
     Some(
         again!(alloc, update(rt, group, member))?

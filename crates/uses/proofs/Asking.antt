@@ -10,7 +10,7 @@ use Rattle.la_world.specs.Groups.{group_of, replicas, kinds_on}
 use Rattle.la_world.specs.Events.{Event}
 use Rattle.la_world.specs.StandsFor.{kinds_of}
 use Rattle.la_world.specs.Laws.{EqualViewsAnswerAlike}
-use Rattle.la_world.specs.Calls.{IsGroup}
+use Rattle.la_world.specs.Calls.{IsWorldGroup}
 use Rattle.uses.specs.Promises.{HaveOneKind, AnswersAgree}
 
 -- the shelf that stands at a place
@@ -26,7 +26,7 @@ stands_at (s ∷ ss) (suc r) lt =
     let rest = stands_at ss r (omega arith) in
     record { shelf = rest.shelf; there = (suc rest.there.0, omega arith, rest.there.2); kinds = rest.kinds }
 
-one_kind : (c : Config) (shelves : List ShelfState) → IsGroup c shelves → HaveOneKind shelves → (r q number : ℕ)
+one_kind : (c : Config) (shelves : List ShelfState) → IsWorldGroup c shelves → HaveOneKind shelves → (r q number : ℕ)
     → r < replicas (group_of c (kinds_of shelves)) → q < replicas (group_of c (kinds_of shelves))
     → kind_at (kinds_on (group_of c (kinds_of shelves)) r) number
     ≡ kind_at (kinds_on (group_of c (kinds_of shelves)) q) number
@@ -40,7 +40,7 @@ one_kind c shelves h one r q number lr lq =
 
 pub run_answers_agree : (c : Config) (shelves : List ShelfState) (events : List Event) (r : Result Report WorldError)
     → IfOk r (λ (made : Report). EqualViewsAnswerAlike (group_of c (kinds_of shelves)) events made.steps)
-    → OnOk r (IsGroup c shelves) → HaveOneKind shelves
+    → OnOk r (IsWorldGroup c shelves) → HaveOneKind shelves
     → IfOk r (λ (made : Report). AnswersAgree (group_of c (kinds_of shelves)) events made.steps)
 run_answers_agree c shelves events (Ok made) alike h one =
     λ j k r q object query a b lr lq x y views.

@@ -12,7 +12,7 @@ use Rattle.la_commit.specs.declared.outcome.Outcome.TheVariants.{Commit, Adopt}
 use Rattle.la_commit.specs.Votes.{votes, sole_votes, HoldsVote, first_vote_for, second_vote_for}
 use Rattle.la_commit.specs.Outcomes.{outcome, is_commit, value_of}
 use Rattle.la_commit.specs.Laws.{HasVoteFor, OwnVotesAreVotes, SoleValuesAgree, OutcomesAgree}
-use Rattle.uses.specs.Commits.{AreVotesOf, Follows}
+use Rattle.uses.specs.Commits.{AreVotesOf, FollowsOutcome}
 
 -- of two votes: where both are sole they have one value
 abbrev AgreeWhereSole : Vote → Vote → Type 0
@@ -51,7 +51,7 @@ pub follows : OwnVotesAreVotes → SoleValuesAgree → OutcomesAgree
     → AreComparable first other_first → AreComparable second other_second
     → AreVotesOf second (second_vote_for first v) (second_vote_for other_first w)
     → AreVotesOf other_second (second_vote_for first v) (second_vote_for other_first w)
-    → Follows (outcome second v) (outcome other_second w)
+    → FollowsOutcome (outcome second v) (outcome other_second w)
 follows own values outcomes p q v w first second other_first other_second in_first in_other in_second firsts seconds
     only only_other commits =
     let agree : AgreeWhereSole (second_vote_for first v) (second_vote_for other_first w) =

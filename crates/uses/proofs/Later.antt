@@ -7,14 +7,14 @@ use Rattle.la_world.specs.declared.step.Step.{Step}
 use Rattle.la_world.specs.Events.{Event, Past}
 use Rattle.la_world.specs.Outcomes.{decision_of}
 use Rattle.la_world.specs.StandsFor.{World, StandsFor}
-use Rattle.la_world.specs.Calls.{Plays, Keeps, returned_in, decisions_in}
+use Rattle.la_world.specs.Calls.{PlaysEvent, Keeps, returned_in, decisions_in}
 use Rattle.la_world.specs.Laws.{IsAdoptCommit}
 use Rattle.la_world.specs.Returning.{OutcomesStayThere, AnswersAreListed}
 use Rattle.uses.specs.Promises.{AgreeWhereCommitted}
 
 -- a world that was played, or refused the event, stands for some events
 stands_then : (w after : World) (events : Past) (e : Event) (r : Result Step WorldError) → StandsFor w events
-    → IfOk r (λ step. Plays w events e step after) → OnErr r (Keeps w after) → (later : Past) × StandsFor after later
+    → IfOk r (λ step. PlaysEvent w events e step after) → OnErr r (Keeps w after) → (later : Past) × StandsFor after later
 stands_then w after events e (Ok step) stands played kept = (e ∷ events, played.stands)
 stands_then w after events e (Err d) stands played kept = (events, kept.stands events stands)
 
@@ -28,7 +28,7 @@ module _ (after : World) (accepted : Past) (safe : IsAdoptCommit accepted (decis
       safe.agree (decision_of k q b) (decision_of k r a) (listed k q b has) (listed k r a had) refl e
 
 pub agree_later : (w after : World) (events : Past) (e : Event) (r : Result Step WorldError) → StandsFor w events
-    → IfOk r (λ step. Plays w events e step after) → OnErr r (Keeps w after) → OutcomesStayThere w after
+    → IfOk r (λ step. PlaysEvent w events e step after) → OnErr r (Keeps w after) → OutcomesStayThere w after
     → AnswersAreListed after → ((later : Past) → StandsFor after later → IsAdoptCommit later (decisions_in after))
     → (k p q : ℕ) (a b : Option Outcome) → a ≡ returned_in w k p → b ≡ returned_in after k q
     → IfSome a (λ x. IfSome b (λ y. AgreeWhereCommitted x y))

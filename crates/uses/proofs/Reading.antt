@@ -14,7 +14,7 @@ use Rattle.la_world.specs.declared.step.Learnt.{Learnt}
 use Rattle.la_world.specs.Groups.{Group}
 use Rattle.la_world.specs.Events.{Event, Submit, Deliver, Decide, Ask}
 use Rattle.la_world.specs.Votes.{Submission, second_vote_of, second_vote_in}
-use Rattle.la_world.specs.Promises.{learnt_in}
+use Rattle.la_world.specs.Promises.{learnt_by_did}
 use Rattle.la_world.specs.Reading.{vote_after, submission_at, Submits, LearntWereSubmitted, LearntHoldTheirOwn, MarksAreRead}
 use Rattle.uses.specs.Promises.{MarksShowWhatWasLearnt, OffersAreLearnt, NothingIsMadeUp}
 
@@ -58,7 +58,7 @@ by_submission (Submit r object_op) (Done step) u s =
 by_submission (Decide r k value) (Done step) u s =
     absurd (omega (arith, ap (λ (z : Submission). z.instance) (same_Some _ _ s)))
 by_submission (Ask r object query) (Done step) u s = absurd (none-some _ s)
-by_submission (Deliver n) (Done step) u s = go (learnt_in step.did) s
+by_submission (Deliver n) (Done step) u s = go (learnt_by_did step.did) s
   where
     go : (o : Option Learnt) → vote_after o ≡ Some (record { instance = 0; replica = u.id.replica; object_op = object_op_of u }) → Deliver n ≡ Submit u.id.replica (object_op_of u)
     go None k = absurd (none-some _ k)

@@ -11,5 +11,5 @@ abbrev pub AreVotesOf : Histories → (one other : Vote) → Type 0
 AreVotesOf s one other = All (λ v. (v ≡ one) ⊎ (v ≡ other)) (votes s)
 
 -- where the first commits, the second has its value
-abbrev pub Follows : (one other : Outcome) → Type 0
-Follows one other = IsTrue (is_commit one) → value_of other ≡ value_of one
+abbrev pub FollowsOutcome : (one other : Outcome) → Type 0
+FollowsOutcome one other = IsTrue (is_commit one) → value_of other ≡ value_of one

@@ -5,7 +5,7 @@ use Rattle.la_world.specs.Kept.{KeptCall}
 use Rattle.uses.specs.declared.kept.Kept.{Kept}
 use Rattle.uses.specs.declared.kept.Kept.TheVariants.{Update, Proposal, Message}
 
-abbrev pub call_of : Kept → KeptCall
-call_of (Update object op) = calls.Submitted (op_on object op)
-call_of (Proposal commit value) = calls.Proposed commit value
-call_of (Message message) = calls.Received message
+abbrev pub kept_call : Kept → KeptCall
+kept_call (Update object op) = calls.Submitted (op_on object op)
+kept_call (Proposal commit value) = calls.Proposed commit value
+kept_call (Message message) = calls.Received message

@@ -12,22 +12,22 @@ taken_after true Take = None
 taken_after true Release = Some false
 taken_after false Release = None
 
-abbrev pub text : Ask → List ℕ
-text Take = 116 ∷ []
-text Release = 114 ∷ []
+abbrev pub ask_text : Ask → List ℕ
+ask_text Take = 116 ∷ []
+ask_text Release = 114 ∷ []
 
-abbrev pub named : List ℕ → Option Ask
-named [] = None
-named (b ∷ []) = if b == 116 then Some Take else (if b == 114 then Some Release else None)
-named (b ∷ c ∷ bytes) = None
+abbrev pub named_ask : List ℕ → Option Ask
+named_ask [] = None
+named_ask (b ∷ []) = if b == 116 then Some Take else (if b == 114 then Some Release else None)
+named_ask (b ∷ c ∷ bytes) = None
 
-pub round_trip : (ask : Ask) → named (text ask) ≡ Some ask
-round_trip Take = refl
-round_trip Release = refl
+pub ask_round_trip : (ask : Ask) → named_ask (ask_text ask) ≡ Some ask
+ask_round_trip Take = refl
+ask_round_trip Release = refl
 
-pub clean : (ask : Ask) → IsCallLine (text ask)
-clean Take = ((omega arith, omega arith, tt), refl)
-clean Release = ((omega arith, omega arith, tt), refl)
+pub ask_is_clean : (ask : Ask) → IsCallLine (ask_text ask)
+ask_is_clean Take = ((omega arith, omega arith, tt), refl)
+ask_is_clean Release = ((omega arith, omega arith, tt), refl)
 
 -- the state as a text
 abbrev pub taken_in : List ℕ → Option Bool

@@ -13,9 +13,9 @@ base_numbers base =
     ∷ count_in base 4 ∷ count_in base 5 ∷ count_in base 6 ∷ count_in base 7 ∷ []
 
 -- an update's replica, number and object, and how much it adds
-abbrev pub numbers_of : Update → List ℕ
-numbers_of u = u.id.replica ∷ u.id.number ∷ u.object ∷ added_by u.op ∷ []
+abbrev pub update_numbers : Update → List ℕ
+update_numbers u = u.id.replica ∷ u.id.number ∷ u.object ∷ added_by u.op ∷ []
 
 -- the base, and then the updates beyond
 abbrev pub written_as : (base : Counts) → (more : List Update) → List ℕ
-written_as base more = base_numbers base ++ flat_map numbers_of more
+written_as base more = base_numbers base ++ flat_map update_numbers more

@@ -18,7 +18,7 @@ use Rattle.la_world.specs.declared.step.Opening.{Opening}
 use Rattle.la_world.specs.Groups.{Group, group_of, replicas, kinds_on}
 use Rattle.la_world.specs.Events.{Event, Submit, submission_of}
 use Rattle.la_world.specs.Report.{runs}
-use Rattle.la_world.specs.Laws.{IsAnswered, view_at_place}
+use Rattle.la_world.specs.Laws.{IsAnsweredLine, view_at_place}
 use Rattle.la_world.specs.Promises.{IsLearntAt}
 use Rattle.la_world.specs.Reading.{Submits, IsOpenedAt}
 
@@ -28,8 +28,8 @@ ViewsHoldTheirOwn views learnt = (x : Learnt) → Contains learnt x → x.instan
     IfSome (slice_get views x.replica) (IsSubset x.updates)
 
 -- the events of a list that are accepted, the newest first
-abbrev pub accepted : Config → (kinds : List (List (ℕ × Kind))) → List Event → List Event
-accepted c kinds events = (runs (group_of c kinds) (reverse events)).accepted
+abbrev pub accepted_events : Config → (kinds : List (List (ℕ × Kind))) → List Event → List Event
+accepted_events c kinds events = (runs (group_of c kinds) (reverse events)).accepted
 
 -- the object under a number is of one kind on all shelves, or stands on none
 abbrev pub HaveOneKind : List ShelfState → Type 0
@@ -40,7 +40,7 @@ HaveOneKind shelves = (s u : ShelfState) (number : ℕ) → Contains shelves s �
 abbrev pub AnswersAgree : Group → (events : List Event) → (steps : List Line) → Type 0
 AnswersAgree g events steps = (j k r q object : ℕ) (query : Query) (a b : Answer) →
     r < replicas g → q < replicas g →
-    IsAnswered events steps j r object query a → IsAnswered events steps k q object query b →
+    IsAnsweredLine events steps j r object query a → IsAnsweredLine events steps k q object query b →
     view_at_place g events j r ≡ view_at_place g events k q → a ≡ b
 
 -- ## By places and lines
@@ -69,7 +69,7 @@ MarksShowWhatWasLearnt g events steps =
     IsLearntAt steps i early → early.instance ≡ 0 → ContainsUpdate early.updates update →
     IsMarkedAt events steps m mark → i < m →
     IsLearntAt steps j x → x.instance ≡ 0 → ContainsUpdate x.updates mark → j < k →
-    IsAnswered events steps k x.replica object query answer →
+    IsAnsweredLine events steps k x.replica object query answer →
     Counts g x.replica object query answer update
 
 -- an update was submitted in instance 0 at this place, and opened a ballot of its replica there

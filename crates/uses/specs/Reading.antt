@@ -20,11 +20,11 @@ abbrev pub added_to : (object : ℕ) → Update → ℕ
 added_to object u = if u.object == object then added_by u.op else 0
 
 -- the operation removes exactly these adds
-abbrev pub Names : Op → List UpdateId → Type 0
-Names (Remove tags) adds = (id : UpdateId) → Contains tags id ↔ Contains adds id
-Names (Inc by) adds = ⊥
-Names (Dec by) adds = ⊥
-Names (Raise to) adds = ⊥
-Names (Put element) adds = ⊥
-Names Mark adds = ⊥
-Names (Vote value sole) adds = ⊥
+abbrev pub NamesAdds : Op → List UpdateId → Type 0
+NamesAdds (Remove tags) adds = (id : UpdateId) → Contains tags id ↔ Contains adds id
+NamesAdds (Inc by) adds = ⊥
+NamesAdds (Dec by) adds = ⊥
+NamesAdds (Raise to) adds = ⊥
+NamesAdds (Put element) adds = ⊥
+NamesAdds Mark adds = ⊥
+NamesAdds (Vote value sole) adds = ⊥

@@ -20,7 +20,7 @@ pub record IsReportOf (bytes text : List ℕ) : Type 0 where
 
 -- the bytes are a script, and the text is that of a report of its events which keeps what a report
 -- promises
-pub record IsTextOfKept (bytes text : List ℕ) : Type 0 where
+pub record IsPlayedText (bytes text : List ℕ) : Type 0 where
   pub script : Script
   pub said : script_of bytes ≡ Ok (said_by script)
   pub made : Report

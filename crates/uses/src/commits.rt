@@ -30,7 +30,7 @@ pub fn finish(
 
 // ---- more callers
 ghost use Rattle.la_set.specs.Inclusion.{AreComparable};
-ghost use Rattle.uses.specs.Commits.{AreVotesOf, Follows};
+ghost use Rattle.uses.specs.Commits.{AreVotesOf, FollowsOutcome};
 
 use la_commit::laws;
 
@@ -55,7 +55,7 @@ pub fn finish_both(one: &Learner, other: &Learner) -> Result<(Outcome, Outcome),
         → AreVotesOf other.now.second.now
         (second_vote_for one.now.first.now one.now.value)
         (second_vote_for other.now.first.now other.now.value)
-        → Follows both.0 both.1) }
+        → FollowsOutcome both.0 both.1) }
 {
     laws::own_votes_are_votes();
     laws::sole_values_agree();

@@ -1,6 +1,6 @@
 ghost use Rattle.std.specs.Prelude.{◌≡◌, ◌+◌, ◌≤◌, ◌++◌, length, take, IfOk, IfSome};
 ghost use Rattle.uses.specs.Reading.{added_by};
-ghost use Rattle.uses.specs.Numbers.{base_numbers, numbers_of, written_as};
+ghost use Rattle.uses.specs.Numbers.{base_numbers, update_numbers, written_as};
 
 use la_set::{Counts, Delta, Op, Update, UpdateId, Updates};
 use std::alloc::{AllocError, Global};
@@ -55,7 +55,7 @@ fn base_numbers(base: Counts) -> [u32; 8]
 }
 
 fn numbers_of(update: &Update) -> [u32; 4]
-    ensures { result ≡ numbers_of update.now }
+    ensures { result ≡ update_numbers update.now }
 {
     [
         update.id.replica as u32,
@@ -92,7 +92,7 @@ fn update_at(numbers: &[u32], at: usize) -> Option<Update>
     requires { at ≤ length numbers.now }
     ensures enough { IfSome result (λ _. at + 4 ≤ length numbers.now) }
     ensures update { IfSome result (λ update.
-        take (at + 4) numbers.now ≡ take at numbers.now ++ numbers_of update) }
+        take (at + 4) numbers.now ≡ take at numbers.now ++ update_numbers update) }
 {
     if numbers.len() - at < 4 {
         return None;

@@ -24,7 +24,7 @@ pub struct Lease {
 
 impl Machine for Lease {
     ghost use Rattle.uses.specs.declared.journals.Ask.{Ask};
-    ghost use Rattle.uses.specs.Leases.{taken_after, text, named, taken_in, round_trip, clean};
+    ghost use Rattle.uses.specs.Leases.{taken_after, ask_text, named_ask, taken_in, ask_round_trip, ask_is_clean};
 
     type Input = Ask;
 
@@ -48,17 +48,17 @@ impl Machine for Lease {
 
     ghost answers = { taken_after };
 
-    ghost text = { text };
+    ghost text = { ask_text };
 
-    ghost named = { named };
+    ghost named = { named_ask };
 
     ghost named_state = { taken_in };
 
     ghost lacks_memory = { λ _. ⊥ };
 
-    ghost round_trip = { round_trip };
+    ghost round_trip = { ask_round_trip };
 
-    ghost clean = { clean };
+    ghost clean = { ask_is_clean };
 
     fn apply(&mut self, ask: &Ask) -> Result<bool, SoAlready> {
         let take = matches!(ask, Ask::Take);
@@ -108,9 +108,9 @@ impl Snapshot for Lease {
 ghost use Rattle.std.specs.Prelude.{IfSome, Err};
 ghost use Rattle.la_journal.specs.Disk.{Only};
 ghost use Rattle.la_journal.specs.Lines.{lines};
-ghost use Rattle.la_journal.specs.Machine.{after, calls, LeadsToSome};
+ghost use Rattle.la_journal.specs.Machine.{state_after, calls, LeadsToSome};
 ghost use Rattle.la_journal.specs.Durable.{IsSettled};
-ghost use Rattle.la_journal.specs.Served.{alone, answered, LeadsToAtLeast};
+ghost use Rattle.la_journal.specs.Served.{answer_alone, answers_since, LeadsToAtLeast};
 ghost use Rattle.la_journal.specs.Starts.{IsStart};
 ghost use Rattle.la_journal.specs.declared.durable.Refused.TheVariants.{Machine as ByMachine};
 
@@ -127,9 +127,9 @@ pub fn start<M: Machine, D: Disk>(
     machine: M,
     disk: D,
 ) -> Result<Durable<M, D>, Unplayed<M::Refusal>>
-    ensures state { IfOk result (λ node. after M.named_state M.named M.step (M.state machine) (D.seen disk)
+    ensures state { IfOk result (λ node. state_after M.named_state M.named M.step (M.state machine) (D.seen disk)
         ≡ Some (M.state node.machine)) }
-    ensures leads { IfOk result (λ node. after M.named_state M.named M.step (M.state machine) (D.seen node.disk)
+    ensures leads { IfOk result (λ node. state_after M.named_state M.named M.step (M.state machine) (D.seen node.disk)
         ≡ Some (M.state node.machine)) }
     ensures ready { IfOk result (λ node. (node.closed ≡ false)
         × IsSettled D.seen D.may_leave node.disk) }
@@ -175,9 +175,9 @@ pub fn take_all<M: Machine, D: Disk>(
 ) -> Result<(), Refused<M::Refusal>>
     requires { node.old.closed ≡ false → IsSettled D.seen D.may_leave node.old.disk }
     ensures crash { (start : M.State) (found : D) → node.old.closed ≡ false
-        → after M.named_state M.named M.step start (D.seen node.old.disk) ≡ Some (M.state node.old.machine)
+        → state_after M.named_state M.named M.step start (D.seen node.old.disk) ≡ Some (M.state node.old.machine)
         → IsStart D.seen D.may_leave (D.left_since node.new.disk (D.moment node.old.disk)) found
-        → LeadsToSome (after M.named_state M.named M.step start) M.step
+        → LeadsToSome (state_after M.named_state M.named M.step start) M.step
         (calls M.call inputs.now) (M.state node.old.machine) (D.seen found) }
     ensures ready { node.new.closed ≡ false → IsSettled D.seen D.may_leave node.new.disk }
 {
@@ -193,9 +193,9 @@ pub fn answer_and_compact<M: Snapshot, D: Disk>(
 ) -> Result<M::Output, Refused<M::Refusal>>
     requires { node.old.closed ≡ false → IsSettled D.seen D.may_leave node.old.disk }
     ensures crash { (start : M.State) (found : D) → node.old.closed ≡ false
-        → after M.named_state M.named M.step start (D.seen node.old.disk) ≡ Some (M.state node.old.machine)
+        → state_after M.named_state M.named M.step start (D.seen node.old.disk) ≡ Some (M.state node.old.machine)
         → IsStart D.seen D.may_leave (D.left_since node.new.disk (D.moment node.old.disk)) found
-        → LeadsToSome (after M.named_state M.named M.step start) M.step
+        → LeadsToSome (state_after M.named_state M.named M.step start) M.step
         (M.call input.now ∷ []) (M.state node.old.machine) (D.seen found) }
     ensures answered { OnOk result (M.step (M.state node.old.machine) (M.call input.now)
         ≡ Some (M.state node.new.machine)) }
@@ -244,11 +244,11 @@ pub fn serve_and_start_again<M: Machine, O: Outlet<MemoryDisk, Item = M::Output>
 ) -> Result<Durable<M, MemoryDisk>, Unplayed<M::Refusal>>
     requires settled { IsSettled ⟦<MemoryDisk as Disk>⟧.seen ⟦<MemoryDisk as Disk>⟧.may_leave node.disk }
     requires unclosed { node.closed ≡ false }
-    requires leads { after M.named_state M.named M.step (M.state anew) (⟦<MemoryDisk as Disk>⟧.seen node.disk)
+    requires leads { state_after M.named_state M.named M.step (M.state anew) (⟦<MemoryDisk as Disk>⟧.seen node.disk)
         ≡ Some (M.state node.machine) }
     ensures { IfOk result (λ again.
-        LeadsToAtLeast (after M.named_state M.named M.step (M.state anew)) M.step
-        (answered (alone M.answer) (O.said outlet.old) (O.said outlet.new))
+        LeadsToAtLeast (state_after M.named_state M.named M.step (M.state anew)) M.step
+        (answers_since (answer_alone M.answer) (O.said outlet.old) (O.said outlet.new))
         (calls M.call inputs.now) (M.state node.machine) (⟦<MemoryDisk as Disk>⟧.seen again.disk)) }
 {
     let mut node = node;

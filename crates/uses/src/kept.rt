@@ -1,7 +1,7 @@
 ghost use Rattle.std.specs.Prelude.{◌≡◌, map, Some, OnOk};
 ghost use Rattle.la_proposer.specs.ProposerState.{op_on};
 ghost use Rattle.la_world.specs.Kept.{Submitted, after_call, after_calls};
-ghost use Rattle.uses.specs.Kept.{call_of};
+ghost use Rattle.uses.specs.Kept.{kept_call};
 
 use la_object::Replicated;
 use la_replica::{Message, ReplicaError};
@@ -31,7 +31,7 @@ pub enum Refused {
 /// Plays kept calls into a node, a new one for instance: its replica is then what they lead to. What
 /// it sends by them was sent before.
 pub fn play_again<B: Replicated>(node: &mut Node<B>, kept: &[Kept]) -> Result<(), Refused>
-    ensures { OnOk result (after_calls node.old.replica (map call_of kept.now)
+    ensures { OnOk result (after_calls node.old.replica (map kept_call kept.now)
         ≡ Some node.new.replica) }
 {
     live::kept_lists_lead_on();
@@ -43,7 +43,7 @@ pub fn play_again<B: Replicated>(node: &mut Node<B>, kept: &[Kept]) -> Result<()
 
 fn play_one<B: Replicated>(node: &mut Node<B>, call: &Kept) -> Result<(), Refused>
     ensures { OnOk result
-        (after_call node.old.replica (call_of call.now) ≡ Some node.new.replica) }
+        (after_call node.old.replica (kept_call call.now) ≡ Some node.new.replica) }
 {
     match call {
         Kept::Update { object, op } => update(node, *object, op).map_err(Refused::ByReplica),

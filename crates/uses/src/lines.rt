@@ -1,7 +1,7 @@
 // Messages of a group that go as lines of text.
 ghost use Rattle.std.specs.Prelude.{◌≡◌, Ok, IfOk, IfSome};
 ghost use Rattle.la_replica.specs.Alike.{AreAlike};
-ghost use Rattle.la_wire.specs.Messages.{said_by};
+ghost use Rattle.la_wire.specs.Messages.{letter_message};
 ghost use Rattle.la_wire.specs.MessageLines.{message_text};
 ghost use Rattle.la_wire.specs.Calls.{Receive};
 ghost use Rattle.la_wire.specs.CallLines.{call_of};
@@ -14,7 +14,7 @@ use std::alloc::{AllocError, Global};
 /// The line on which a message goes, in a group of so many replicas.
 pub fn sent(alloc: Global, replicas: u8, message: &Message) -> Result<Vec<u8>, AllocError>
     ensures { IfOk result (λ line. line.items
-        ≡ message_text (said_by (record { replicas = replicas; message = message.now }))) }
+        ≡ message_text (letter_message (record { replicas = replicas; message = message.now }))) }
 {
     let mut line = Vec::new(alloc);
     put_message(&mut line, replicas, message)?;
@@ -25,7 +25,7 @@ pub fn sent(alloc: Global, replicas: u8, message: &Message) -> Result<Vec<u8>, A
 /// or no message.
 pub fn came(alloc: Global, replicas: u8, line: &[u8]) -> Result<Option<Message>, LineError>
     ensures { IfOk result (λ came. IfSome came (λ message. call_of line.now
-        ≡ Ok (Receive (said_by (record { replicas = replicas; message = message }))))) }
+        ≡ Ok (Receive (letter_message (record { replicas = replicas; message = message }))))) }
 {
     match read_bounded(alloc, line)? {
         Call::Receive(letter) if letter.replicas == replicas => Ok(Some(letter.message)),
@@ -35,7 +35,7 @@ pub fn came(alloc: Global, replicas: u8, line: &[u8]) -> Result<Option<Message>,
 
 /// A message as its receiver has it, by its line: whatever its delta was made of, it says the same.
 pub fn carried(alloc: Global, replicas: u8, message: &Message) -> Result<Option<Message>, LineError>
-    requires { IsMessage (said_by (record { replicas = replicas; message = message.now })) }
+    requires { IsMessage (letter_message (record { replicas = replicas; message = message.now })) }
     ensures { IfOk result (λ came. IfSome came (AreAlike message.now)) }
 {
     laws::calls_are_read_back();

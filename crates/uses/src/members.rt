@@ -3,7 +3,7 @@ ghost use Rattle.la_set.specs.Histories.{Histories};
 ghost use Rattle.la_set.specs.Inclusion.{IsSubset, AreComparable};
 ghost use Rattle.la_commit.specs.Instances.{first_instance};
 ghost use Rattle.la_commit.specs.Votes.{HoldsVote, first_vote_for};
-ghost use Rattle.la_runner.specs.Members.{IsOf, view, last_learnt};
+ghost use Rattle.la_runner.specs.Members.{IsOfGroup, member_view, member_learnt};
 
 use la_commit::Outcome;
 use la_object::{Replicated, Shelf};
@@ -29,7 +29,7 @@ pub fn add_twice<R: Wait>(
     member: &mut Member,
     by: u32,
 ) -> Result<(Learned, Learned), RunnerError>
-    requires { IsOf group.now member.old }
+    requires { IsOfGroup group.now member.old }
     ensures { IfOk result (λ learnt. IsSubset learnt.0.updates learnt.1.updates) }
 {
     let first = group.update(rt, member, 1, Op::Inc(by), 100, &FreeGate)?;
@@ -44,11 +44,11 @@ pub fn tell(
     from: &mut Member,
     to: &mut Member,
 ) -> Result<(), RunnerError>
-    requires from { IsOf group.now from.old }
-    requires to { IsOf group.now to.old }
+    requires from { IsOfGroup group.now from.old }
+    requires to { IsOfGroup group.now to.old }
     ensures from { from.new ≡ from.old }
-    ensures told { OnOk result (IsSubset (view from.old) (view to.new)) }
-    ensures kept { OnOk result (IsSubset (view to.old) (view to.new)) }
+    ensures told { OnOk result (IsSubset (member_view from.old) (member_view to.new)) }
+    ensures kept { OnOk result (IsSubset (member_view to.old) (member_view to.new)) }
 {
     let note = group.note(alloc, from)?;
     group.meet(to, note);
@@ -57,8 +57,8 @@ pub fn tell(
 
 /// What a member learnt last and what it shows are comparable, whatever it met.
 pub fn compare_learnt_and_shown(member: &Member)
-    ensures { (learnt : Histories) → last_learnt member.now 0 ≡ Some learnt
-        → AreComparable learnt (view member.now) }
+    ensures { (learnt : Histories) → member_learnt member.now 0 ≡ Some learnt
+        → AreComparable learnt (member_view member.now) }
 {
     member.replica();
     laws::last_learnt_sets_are_certified();
@@ -74,8 +74,8 @@ pub fn propose<R: Wait>(
     member: &mut Member,
     value: u64,
 ) -> Result<Outcome, RunnerError>
-    requires { IsOf group.now member.old }
-    ensures { IfOk result (λ reached. IfSome (last_learnt member.new (first_instance 0)) (λ learnt.
+    requires { IsOfGroup group.now member.old }
+    ensures { IfOk result (λ reached. IfSome (member_learnt member.new (first_instance 0)) (λ learnt.
         HoldsVote learnt member.new.replica (first_vote_for value))) }
 {
     group.decide(rt, member, 0, value, 100, &FreeGate)
@@ -91,10 +91,10 @@ pub fn run_to_one_view<R: Threads + Wait + Sync, B: Replicated>(
     shelves: Vec<Shelf<B>>,
     jobs: Vec<Jobs>,
 ) -> Result<Option<Logs<B>>, RunError>
-    requires { All (IsOf group.now) members.items }
+    requires { All (IsOfGroup group.now) members.items }
     ensures { IfOk result (λ told. IfSome told (λ logs. (i j : ℕ) (l m : _)
         → slice_get logs i ≡ Some l → slice_get logs j ≡ Some m
-        → view l.member ≡ view m.member)) }
+        → member_view l.member ≡ member_view m.member)) }
 {
     let logs = run(
         rt, alloc, group, members, shelves, jobs, 1_000_000, &FreeGate,

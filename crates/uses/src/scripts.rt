@@ -1,5 +1,5 @@
 ghost use Rattle.std.specs.Prelude.{◌<◌, ◌^◌, length, IfOk, IfErr};
-ghost use Rattle.la_script.specs.Scripts.{script_of, IsRefusal};
+ghost use Rattle.la_script.specs.Scripts.{script_of, IsReadRefusal};
 ghost use Rattle.uses.specs.Scripts.{IsReportOf};
 
 use la_object::Counter;
@@ -12,7 +12,7 @@ use std::alloc::Global;
 pub fn report_of(alloc: Global, bytes: &[u8]) -> Result<Text, ReadError>
     requires { length bytes.now < 2 ^ 32 }
     ensures text { IfOk result (λ text. IsReportOf bytes.now text) }
-    ensures error { IfErr result (IsRefusal (script_of bytes.now)) }
+    ensures error { IfErr result (IsReadRefusal (script_of bytes.now)) }
 {
     let script = read(alloc, bytes)?;
     let shelves = empty_shelves::<Counter>(alloc, script.config.replicas)?;
@@ -27,7 +27,7 @@ pub fn report_of(alloc: Global, bytes: &[u8]) -> Result<Text, ReadError>
 }
 
 // ---- what a text keeps
-ghost use Rattle.uses.specs.Scripts.{IsTextOfKept};
+ghost use Rattle.uses.specs.Scripts.{IsPlayedText};
 
 use la_world::laws;
 
@@ -35,8 +35,8 @@ use la_world::laws;
 /// views and of what was returned.
 pub fn kept_report_of(alloc: Global, bytes: &[u8]) -> Result<Text, ReadError>
     requires { length bytes.now < 2 ^ 32 }
-    ensures kept { IfOk result (λ text. IsTextOfKept bytes.now text) }
-    ensures error { IfErr result (IsRefusal (script_of bytes.now)) }
+    ensures kept { IfOk result (λ text. IsPlayedText bytes.now text) }
+    ensures error { IfErr result (IsReadRefusal (script_of bytes.now)) }
 {
     laws::reports_keep_promises();
     report_of(alloc, bytes)

@@ -24,7 +24,7 @@ pub fn merged(one: &UpdateSet, other: &UpdateSet) -> Result<UpdateSet, SetError>
 ghost use Rattle.std.specs.Prelude.{◌≡◌, ◌<◌, ◌^◌, sum_by, IfSome, IfNone};
 ghost use Rattle.la_set.specs.Histories.{Histories, updates};
 ghost use Rattle.la_set.specs.Difference.{PushesTo};
-ghost use Rattle.uses.specs.Reading.{added_to, Names};
+ghost use Rattle.uses.specs.Reading.{added_to, NamesAdds};
 
 use la_set::{Op, Tags, Update, UpdateId};
 use std::alloc::Global;
@@ -56,7 +56,7 @@ pub fn catch_up(set: &mut UpdateSet, lacking: &[Update]) -> Result<(), SetError>
 
 /// The operation that takes these adds out of an observed-remove set.
 pub fn removal(alloc: Global, adds: &[UpdateId]) -> Result<Op, SetError>
-    ensures { IfOk result (λ op. Names op adds.now) }
+    ensures { IfOk result (λ op. NamesAdds op adds.now) }
 {
     laws::tags_are_sets();
     let mut tags = Tags::new(alloc);

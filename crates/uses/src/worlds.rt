@@ -283,7 +283,7 @@ pub fn answer_at(made: &Report, place: usize) -> Option<&Answer> {
 // ---- two lines
 ghost use Rattle.std.specs.Prelude.{IfSome, option_and_then};
 ghost use Rattle.la_world.specs.Promises.{learnt_on};
-ghost use Rattle.la_world.specs.Report.{lines};
+ghost use Rattle.la_world.specs.Report.{report_lines};
 ghost use Rattle.uses.specs.Promises.{ContainsBoth};
 
 use la_world::Learnt;
@@ -329,7 +329,7 @@ pub fn larger_learnt<B: Replicated>(
     other: usize,
 ) -> Result<Option<UpdateSet>, WorldError>
     ensures { IfOk result (λ larger. IfSome larger (ContainsBoth
-        (lines (group_of config (kinds_of shelves.items)) (map event_of events.now)) one other)) }
+        (report_lines (group_of config (kinds_of shelves.items)) (map event_of events.now)) one other)) }
 {
     let made = run(alloc, config, shelves, events)?;
     match larger_of(&made, one, other) {

@@ -6,7 +6,7 @@ use Rattle.la_durable.specs.declared.machine.NodeMachine.{NodeMachine}
 use Rattle.la_durable.specs.Nodes.{KeptState}
 use Rattle.la_durable.specs.Restarts.{kept_state}
 use Rattle.la_serve.specs.Turns.{Turn}
-use Rattle.la_serve.specs.Serving.{AreTurns, lines_of, written, kept}
+use Rattle.la_serve.specs.Serving.{AreTurns, turn_lines, written, kept_lines}
 
 abbrev pub kept_by : NodeMachine → KeptState
 kept_by machine = kept_state machine.replicas machine.node
@@ -18,6 +18,6 @@ pub record IsServed (objects : List (ℕ × Kind)) (before after : NodeMachine) 
   pub turns : List Turn
   pub rest : List ℕ
   pub are : AreTurns objects (kept_by before) 1 turns (kept_by after)
-  pub read : batch ≡ file_of (lines_of turns) ++ rest
+  pub read : batch ≡ file_of (turn_lines turns) ++ rest
   pub wrote : text ≡ written turns
-  pub journal : lines journal_after ≡ lines journal_before ++ kept turns
+  pub journal : lines journal_after ≡ lines journal_before ++ kept_lines turns

@@ -7,29 +7,29 @@ use Rattle.la_set.specs.Inclusion.{is_subset}
 use Rattle.la_set.specs.Join.{join}
 use Rattle.la_proposer.specs.Majority.{is_majority}
 use Rattle.la_world.specs.Sent.{sent}
-use Rattle.la_world.specs.Acceptors.{offers, accepted}
+use Rattle.la_world.specs.Acceptors.{offers_to, accepted_there}
 use Rattle.la_world.specs.Ballots.{ballots, round, is_open}
-use Rattle.la_world.specs.Counting.{replies, counted}
-use Rattle.la_world.specs.Submissions.{submitted}
-use Rattle.la_world.specs.Views.{seen, view}
-use Rattle.la_world.specs.Playing.{submits, counts, after_learning, hears, answers, is_told, trace}
+use Rattle.la_world.specs.Counting.{counted_replies, counted}
+use Rattle.la_world.specs.Submissions.{submitted_ops}
+use Rattle.la_world.specs.Views.{seen, trace_view}
+use Rattle.la_world.specs.Playing.{does_submit, counts_reply, opened_after_learning, does_hear, does_answer, does_tell, trace}
 use Rattle.la_world.specs.Learnings.{learnt}
 use Rattle.la_world.specs.Laws.{IsSubmittedLater, next_id, WasLearnt}
 use Rattle.worked_runs.specs.RemoveOfALearntAdd.{add, first, second, g, until_learnt, t}
 
 pub first_then : Contains (learnt (trace g until_learnt)) first
-unfolding history from_histories empty updates with_history is_subset join is_majority sent offers accepted ballots
-    round is_open replies counted submitted seen view submits counts after_learning hears answers is_told trace learnt
+unfolding history from_histories empty updates with_history is_subset join is_majority sent offers_to accepted_there ballots
+    round is_open counted_replies counted submitted_ops seen trace_view does_submit counts_reply opened_after_learning does_hear does_answer does_tell trace learnt
 first_then = (0, omega arith, refl)
 
 pub first_now : Contains (learnt t) first
-unfolding history from_histories empty updates with_history is_subset join is_majority sent offers accepted ballots
-    round is_open replies counted submitted seen view submits counts after_learning hears answers is_told trace learnt
+unfolding history from_histories empty updates with_history is_subset join is_majority sent offers_to accepted_there ballots
+    round is_open counted_replies counted submitted_ops seen trace_view does_submit counts_reply opened_after_learning does_hear does_answer does_tell trace learnt
 first_now = (0, omega arith, refl)
 
 pub second_now : Contains (learnt t) second
-unfolding history from_histories empty updates with_history is_subset join is_majority sent offers accepted ballots
-    round is_open replies counted submitted seen view submits counts after_learning hears answers is_told trace learnt
+unfolding history from_histories empty updates with_history is_subset join is_majority sent offers_to accepted_there ballots
+    round is_open counted_replies counted submitted_ops seen trace_view does_submit counts_reply opened_after_learning does_hear does_answer does_tell trace learnt
 second_now = (1, omega arith, refl)
 
 add_then : WasLearnt (trace g until_learnt) add
@@ -37,22 +37,22 @@ unfolding history from_histories
 add_then = record { learnt_as = first; was = first_then; of_objects = refl; holds = refl }
 
 pub removal_later : IsSubmittedLater (trace g until_learnt) 0 (record { replica = 0; number = 2 })
-unfolding history from_histories empty updates with_history is_subset join is_majority sent offers accepted ballots
-    round is_open replies counted submitted seen view submits counts after_learning hears answers is_told trace learnt
+unfolding history from_histories empty updates with_history is_subset join is_majority sent offers_to accepted_there ballots
+    round is_open counted_replies counted submitted_ops seen trace_view does_submit counts_reply opened_after_learning does_hear does_answer does_tell trace learnt
 removal_later = omega arith
 
 pub removal_held : IsSome (get second.updates (next_id (trace g until_learnt) 0))
-unfolding history from_histories empty updates with_history is_subset join is_majority sent offers accepted ballots
-    round is_open replies counted submitted seen view submits counts after_learning hears answers is_told trace learnt
+unfolding history from_histories empty updates with_history is_subset join is_majority sent offers_to accepted_there ballots
+    round is_open counted_replies counted submitted_ops seen trace_view does_submit counts_reply opened_after_learning does_hear does_answer does_tell trace learnt
 removal_held = refl
 
 pub removal_there : IsSome (get second.updates (record { replica = 0; number = 2 }))
 unfolding history from_histories
 removal_there = refl
 
-pub removal_shown : IsSome (get (view t 0) (next_id (trace g until_learnt) 0))
-unfolding history from_histories empty updates with_history is_subset join is_majority sent offers accepted ballots
-    round is_open replies counted submitted seen view submits counts after_learning hears answers is_told trace learnt
+pub removal_shown : IsSome (get (trace_view t 0) (next_id (trace g until_learnt) 0))
+unfolding history from_histories empty updates with_history is_subset join is_majority sent offers_to accepted_there ballots
+    round is_open counted_replies counted submitted_ops seen trace_view does_submit counts_reply opened_after_learning does_hear does_answer does_tell trace learnt
 removal_shown = refl
 
 pub stood : (tag : UpdateId) → Contains (add ∷ []) tag → WasLearnt (trace g until_learnt) tag

@@ -16,7 +16,7 @@ use Rattle.la_world.specs.declared.step.Opening.{Opening}
 use Rattle.la_world.specs.Groups.{Group, replicas}
 use Rattle.la_world.specs.Events.{Event, Submit, Deliver, Decide, Ask}
 use Rattle.la_world.specs.Sent.{sent}
-use Rattle.la_world.specs.Votes.{Submission, second_vote}
+use Rattle.la_world.specs.Votes.{Submission, cast_vote}
 use Rattle.la_world.specs.Playing.{trace}
 use Rattle.la_world.specs.ReplicaStates.{replica_states}
 use Rattle.worked_runs.specs.Words.{no_objects}
@@ -34,9 +34,9 @@ begun g = record {
 }
 
 -- a replica took this step
-abbrev pub after : Played → (r : ℕ) → Option (Out × ReplicaState) → Played
-after w r None = w
-after w r (Some x) = record {
+abbrev pub played_after : Played → (r : ℕ) → Option (Out × ReplicaState) → Played
+played_after w r None = w
+played_after w r (Some x) = record {
   replica_states = slice_set w.replica_states r x.1;
   mail = w.mail ++ (x.0).mail;
 }
@@ -50,29 +50,29 @@ receives_at None m = None
 receives_at (Some x) m = replica.receives x m
 
 abbrev pub submit : Played → (r i : ℕ) → ObjectOp → Played
-submit w r i object_op = after w r (submits_at (slice_get w.replica_states r) i object_op)
+submit w r i object_op = played_after w r (submits_at (slice_get w.replica_states r) i object_op)
 
 -- where a set is learnt in a first instance, the second vote is submitted
-abbrev pub vote : Played → Option Submission → Played
-vote w None = w
-vote w (Some s) = submit w s.replica s.instance s.object_op
+abbrev pub vote_played : Played → Option Submission → Played
+vote_played w None = w
+vote_played w (Some s) = submit w s.replica s.instance s.object_op
 
 -- the ballot with this set that a message replies to
-abbrev pub ballot_of : Message → Histories → Opening
-ballot_of m updates = record {
+abbrev pub opening_with : Message → Histories → Opening
+opening_with m updates = record {
   replica = m.to;
   instance = m.instance;
   ballot = m.ballot;
   updates = updates;
 }
 
-abbrev pub vote_after : Played → Message → Said → Played
-vote_after w m (Learnt learnt next) = vote w (second_vote (ballot_of m learnt))
-vote_after w m said = w
+abbrev pub vote_after_played : Played → Message → Said → Played
+vote_after_played w m (Learnt learnt next) = vote_played w (cast_vote (opening_with m learnt))
+vote_after_played w m said = w
 
 abbrev pub vote_after_step : Played → Message → Option (Out × ReplicaState) → Played
 vote_after_step w m None = w
-vote_after_step w m (Some x) = vote_after (after w m.to (Some x)) m (x.0).said
+vote_after_step w m (Some x) = vote_after_played (played_after w m.to (Some x)) m (x.0).said
 
 abbrev pub deliver : Played → Option Message → Played
 deliver w None = w
@@ -93,10 +93,10 @@ traced g events =
     let t = trace g (reverse events) in
     record { replica_states = replica_states g t; mail = sent (replicas g) t }
 
-abbrev pub three : Group
-three = record { votes = 1 ∷ 1 ∷ 1 ∷ []; commits = 1; cap = 10; kinds = no_objects 3 }
+abbrev pub three_replicas : Group
+three_replicas = record { votes = 1 ∷ 1 ∷ 1 ∷ []; commits = 1; cap = 10; kinds = no_objects 3 }
 
 -- the first events of the late dissenter's run: in each instance one set is learnt, and the other
 -- participant proposes
 abbrev pub LateDissenterByReplicas : Type 0
-LateDissenterByReplicas = played three (take 18 events) ≡ traced three (take 18 events)
+LateDissenterByReplicas = played three_replicas (take 18 events) ≡ traced three_replicas (take 18 events)

@@ -11,8 +11,8 @@ use Rattle.la_world.specs.Report.{report}
 use Rattle.worked_runs.specs.Words.{three, no_objects, vote, these, nothing, ballot, learnt_then, learnt_last, done}
 
 -- the set of replica 1's vote in the object's first instance, and in the second
-abbrev pub nine : Histories
-nine = these ([] ∷ vote 1 9 false ∷ [] ∷ [])
+abbrev pub nine_votes : Histories
+nine_votes = these ([] ∷ vote 1 9 false ∷ [] ∷ [])
 
 abbrev pub sole_nine : Histories
 sole_nine = these ([] ∷ vote 1 9 true ∷ [] ∷ [])
@@ -34,17 +34,17 @@ abbrev pub OneValueAlone : Type 0
 OneValueAlone = (few : 3 ≤ 8) → report (three few 2) (no_objects 3) events ≡ record {
   config = three few 2;
   steps =
-      done (Opened (ballot 1 3 1 nine)) 0 3
+      done (Opened (ballot 1 3 1 nine_votes)) 0 3
       ∷ done (Answered Yes) 3 1
       ∷ done (Answered Yes) 4 1
       ∷ done Counted 5 0
-      ∷ done (learnt_then 4 (ballot 1 3 1 nine) (ballot 1 4 1 sole_nine)) 5 3
+      ∷ done (learnt_then 4 (ballot 1 3 1 nine_votes) (ballot 1 4 1 sole_nine)) 5 3
       ∷ done (Answered Yes) 8 1
       ∷ done (Answered Yes) 9 1
       ∷ done Counted 10 0
       ∷ done (learnt_last 8 (ballot 1 4 1 sole_nine) (Commit 9)) 10 0
       ∷ [];
-  learnt = learning 4 (ballot 1 3 1 nine)
+  learnt = learning 4 (ballot 1 3 1 nine_votes)
       ∷ learning 8 (ballot 1 4 1 sole_nine)
       ∷ [];
   views = nothing ∷ nothing ∷ nothing ∷ [];

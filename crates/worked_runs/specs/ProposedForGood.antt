@@ -14,11 +14,11 @@ use Rattle.la_world.specs.Report.{report}
 use Rattle.worked_runs.specs.Words.{single, no_objects, vote, these, ballot, learnt_then, learnt_last, done}
 
 -- the set of the vote in the object's first instance, and in the second
-abbrev pub seven : Histories
-seven = these (vote 0 7 false ∷ [])
+abbrev pub seven_votes : Histories
+seven_votes = these (vote 0 7 false ∷ [])
 
-abbrev pub sole_seven : Histories
-sole_seven = these (vote 0 7 true ∷ [])
+abbrev pub sole_seven_votes : Histories
+sole_seven_votes = these (vote 0 7 true ∷ [])
 
 abbrev pub events : List Event
 events =
@@ -35,16 +35,16 @@ abbrev pub ProposedForGood : Type 0
 ProposedForGood = (few : 1 ≤ 8) → report (single few 1) (no_objects 1) events ≡ record {
   config = single few 1;
   steps =
-      done (Opened (ballot 0 1 1 seven)) 0 1
+      done (Opened (ballot 0 1 1 seven_votes)) 0 1
       ∷ done (Answered Yes) 1 1
-      ∷ done (learnt_then 2 (ballot 0 1 1 seven) (ballot 0 2 1 sole_seven)) 2 1
+      ∷ done (learnt_then 2 (ballot 0 1 1 seven_votes) (ballot 0 2 1 sole_seven_votes)) 2 1
       ∷ done (Answered Yes) 3 1
-      ∷ done (learnt_last 4 (ballot 0 2 1 sole_seven) (Commit 7)) 4 0
+      ∷ done (learnt_last 4 (ballot 0 2 1 sole_seven_votes) (Commit 7)) 4 0
       ∷ Refused AlreadyProposed
       ∷ Refused AlreadyProposed
       ∷ [];
-  learnt = learning 2 (ballot 0 1 1 seven)
-      ∷ learning 4 (ballot 0 2 1 sole_seven)
+  learnt = learning 2 (ballot 0 1 1 seven_votes)
+      ∷ learning 4 (ballot 0 2 1 sole_seven_votes)
       ∷ [];
   views = these ([] ∷ []) ∷ [];
   outcomes = decision_of 0 0 (Commit 7)

@@ -12,11 +12,11 @@ use Rattle.worked_runs.specs.Words.{three, no_objects, object_op, these, nothing
 abbrev pub increment : Histories
 increment = these ((object_op 1 (Inc 5) ∷ []) ∷ [] ∷ [] ∷ [])
 
-abbrev pub decrement : Histories
-decrement = these ([] ∷ (object_op 1 (Dec 2) ∷ []) ∷ [] ∷ [])
+abbrev pub one_less : Histories
+one_less = these ([] ∷ (object_op 1 (Dec 2) ∷ []) ∷ [] ∷ [])
 
-abbrev pub both : Histories
-both = these ((object_op 1 (Inc 5) ∷ []) ∷ (object_op 1 (Dec 2) ∷ []) ∷ [] ∷ [])
+abbrev pub both_updates : Histories
+both_updates = these ((object_op 1 (Inc 5) ∷ []) ∷ (object_op 1 (Dec 2) ∷ []) ∷ [] ∷ [])
 
 abbrev pub events : List Event
 events =
@@ -34,12 +34,12 @@ RefusalAndRefinement = (few : 3 ≤ 8) → report (three few 0) (no_objects 3) e
   config = three few 0;
   steps =
       done (Opened (ballot 0 0 1 increment)) 0 3
-      ∷ done (Opened (ballot 1 0 1 decrement)) 3 3
+      ∷ done (Opened (ballot 1 0 1 one_less)) 3 3
       ∷ done (Answered Yes) 6 1
-      ∷ done (Answered (No both)) 7 1
+      ∷ done (Answered (No both_updates)) 7 1
       ∷ done (Answered Yes) 8 1
       ∷ done Counted 9 0
-      ∷ done (Refined (ballot 1 0 2 both)) 9 3
+      ∷ done (Refined (ballot 1 0 2 both_updates)) 9 3
       ∷ [];
   learnt = [];
   views = nothing ∷ nothing ∷ nothing ∷ [];

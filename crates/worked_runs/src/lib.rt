@@ -23,7 +23,7 @@ ghost use Rattle.worked_runs.specs.RemoveOfALearntAdd.{RemoveOfALearntAdd, add, 
 ghost use Rattle.std.specs.Prelude.{IsSome};
 ghost use Rattle.la_set.specs.Histories.{get};
 ghost use Rattle.la_set.specs.Inclusion.{IsSubset};
-ghost use Rattle.la_world.specs.Views.{view};
+ghost use Rattle.la_world.specs.Views.{trace_view};
 
 use la_world::laws;
 
@@ -106,7 +106,7 @@ pub fn late_dissenter_by_replicas()
 pub fn order_around_a_removal()
     ensures by_place { IsSubset first.updates second.updates }
     ensures by_submission { IsSubset first.updates second.updates }
-    ensures shown { IsSome (get (view t 0) add) }
+    ensures shown { IsSome (get (trace_view t 0) add) }
 {
     laws::learnt_sets_are_in_order();
     laws::learnt_sets_hold_what_was_learnt_before();

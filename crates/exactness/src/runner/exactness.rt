@@ -1,7 +1,7 @@
 // Callers that know nothing but the contracts. Each makes a call twice and promises equal answers.
 ghost use Rattle.std.specs.Prelude.{◌≡◌, false, None, Ok, IfOk};
 ghost use Rattle.std.specs.Option.{option_copied};
-ghost use Rattle.la_runner.specs.Members.{IsOf, is_asking_in, view};
+ghost use Rattle.la_runner.specs.Members.{IsOfGroup, is_asking_in, member_view};
 ghost use Rattle.la_runner.specs.Notes.{IsNoteOf, doings};
 
 use la_commit::Outcome;
@@ -56,7 +56,7 @@ fn note_is_exact(
     group: &Group,
     member: &mut Member,
 ) -> Result<(MemberNote, MemberNote), RunnerError>
-    requires { IsOf group.now member.old }
+    requires { IsOfGroup group.now member.old }
     ensures giver { member.new ≡ member.old }
     ensures same { IfOk result (λ both. both.0 ≡ both.1) }
 {
@@ -73,11 +73,11 @@ fn a_meeting_is_exact(
     other: &mut Member,
     again: MemberNote,
 )
-    requires one { IsOf group.now one.old }
+    requires one { IsOfGroup group.now one.old }
     requires other { other.old ≡ one.old }
     requires note { IsNoteOf group.now note }
     requires again { again ≡ note }
-    ensures view { view one.new ≡ view other.new }
+    ensures view { member_view one.new ≡ member_view other.new }
     ensures doings { doings one.new ≡ doings other.new }
 {
     group.meet(one, note);
@@ -89,7 +89,7 @@ fn an_idle_member_resumes_nothing<R: Wait>(
     group: &Group,
     member: &mut Member,
 ) -> Result<Option<Learned>, RunnerError>
-    requires of { IsOf group.now member.old }
+    requires of { IsOfGroup group.now member.old }
     requires idle { is_asking_in member.old 0 ≡ false }
     ensures { result ≡ Ok None }
 {

@@ -3,7 +3,7 @@
 ghost use Rattle.std.specs.Prelude.{◌≡◌, ◌<◌, ◌≤◌, ◌^◌, length, IfOk, IfSome, IsTrue, OnOk};
 ghost use Rattle.la_proposer.specs.Majority.{votes_of};
 ghost use Rattle.la_script.specs.Scripts.{said_by};
-ghost use Rattle.la_script.specs.Walks.{bytes_of};
+ghost use Rattle.la_script.specs.Walks.{piece_bytes};
 ghost use Rattle.la_world.specs.Printable.{IsPrintableLine, IsPrintableReport};
 
 use la_script::{

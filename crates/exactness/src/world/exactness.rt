@@ -10,8 +10,8 @@ ghost use Rattle.la_world.specs.declared.error.WorldError.TheVariants.{TooManyTa
 ghost use Rattle.la_world.specs.Events.{Past};
 ghost use Rattle.la_world.specs.Report.{Run};
 ghost use Rattle.la_world.specs.StandsFor.{StandsFor};
-ghost use Rattle.la_world.specs.Calls.{IsGroup, IsFollowing};
-ghost use Rattle.exactness.specs.Alike.{AreAlike, AreOfOneGroup};
+ghost use Rattle.la_world.specs.Calls.{IsWorldGroup, IsFollowing};
+ghost use Rattle.exactness.specs.Alike.{AreAlikeWorlds, AreOfOneGroup};
 
 use la_commit::Outcome;
 use la_object::{Replicated, Shelf};
@@ -52,7 +52,7 @@ fn new_worlds_are_one<B: Replicated>(
     requires { shelves.items ≡ same.items }
     ensures worlds { IfOk result.0 (λ a. IfOk result.1 (λ b. a ≡ b)) }
     ensures alike { IfErr result.0 (λ d. IfErr result.1 (λ e. d ≡ e)) }
-    ensures group { OnOk result.0 (IsGroup config shelves.items) }
+    ensures group { OnOk result.0 (IsWorldGroup config shelves.items) }
 {
     (
         World::new(alloc, config, shelves),
@@ -71,11 +71,11 @@ fn play_is_exact<B: Replicated>(
     ensures steps { (events : Past) → StandsFor one.old events → StandsFor other.old events
         → IfOk result.0 (λ a. IfOk result.1 (λ b. a ≡ b)) }
     ensures worlds { (events : Past) → StandsFor one.old events → StandsFor other.old events
-        → IfOk result.0 (λ _. IfOk result.1 (λ _. AreAlike one.new other.new)) }
+        → IfOk result.0 (λ _. IfOk result.1 (λ _. AreAlikeWorlds one.new other.new)) }
     ensures alike { (events : Past) → StandsFor one.old events → StandsFor other.old events
         → IfErr result.0 (λ d. IfErr result.1 (λ e. d ≡ e)) }
     ensures unchanged { (events : Past) → StandsFor one.old events → StandsFor other.old events
-        → IfErr result.0 (λ _. IfErr result.1 (λ _. AreAlike one.new other.new)) }
+        → IfErr result.0 (λ _. IfErr result.1 (λ _. AreAlikeWorlds one.new other.new)) }
 {
     (one.play(event), other.play(event))
 }
@@ -91,9 +91,9 @@ fn play_line_is_exact<B: Replicated>(
     ensures lines { (ran : Run) → StandsFor one.old ran.accepted → StandsFor other.old ran.accepted
         → IfOk result.0 (λ a. IfOk result.1 (λ b. a ≡ b)) }
     ensures worlds { (ran : Run) → StandsFor one.old ran.accepted → StandsFor other.old ran.accepted
-        → IfOk result.0 (λ _. IfOk result.1 (λ _. AreAlike one.new other.new)) }
+        → IfOk result.0 (λ _. IfOk result.1 (λ _. AreAlikeWorlds one.new other.new)) }
     ensures unchanged { (events : Past) → StandsFor one.old events → StandsFor other.old events
-        → IfErr result.0 (λ _. IfErr result.1 (λ _. AreAlike one.new other.new)) }
+        → IfErr result.0 (λ _. IfErr result.1 (λ _. AreAlikeWorlds one.new other.new)) }
 {
     (one.play_line(event), other.play_line(event))
 }
@@ -122,7 +122,7 @@ fn observed_is_exact<B: Replicated>(
     ensures alike { (events : Past) → StandsFor one.old events → StandsFor other.old events
         → IfErr result.0 (λ d. IfErr result.1 (λ e. d ≢ MemoryIs → e ≢ MemoryIs → d ≡ e)) }
     ensures worlds { (events : Past) → StandsFor one.old events → StandsFor other.old events
-        → AreAlike one.new other.new }
+        → AreAlikeWorlds one.new other.new }
 {
     (
         one.observed(replica, object, element),
@@ -156,7 +156,7 @@ fn runs_are_one<B: Replicated>(
     requires { shelves.items ≡ same.items }
     ensures reports { IfOk result.0 (λ a. IfOk result.1 (λ b. a ≡ b)) }
     ensures alike { IfErr result.0 (λ d. IfErr result.1 (λ e. d ≡ e)) }
-    ensures group { OnOk result.0 (IsGroup config shelves.items) }
+    ensures group { OnOk result.0 (IsWorldGroup config shelves.items) }
 {
     (
         run(alloc, config, shelves, events),

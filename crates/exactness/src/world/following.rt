@@ -11,13 +11,13 @@ ghost use Rattle.la_replica.specs.Refusals.{IsSubmitRefusal, IsReceiptRefusal};
 ghost use Rattle.la_world.specs.Groups.{Group, replicas, instances};
 ghost use Rattle.la_world.specs.Events.{Past, Event as Occurrence, Submit, Decide, Deliver};
 ghost use Rattle.la_world.specs.Sent.{sent};
-ghost use Rattle.la_world.specs.Views.{view};
-ghost use Rattle.la_world.specs.Playing.{entry, trace};
+ghost use Rattle.la_world.specs.Views.{trace_view};
+ghost use Rattle.la_world.specs.Playing.{event_entry, trace};
 ghost use Rattle.la_world.specs.Outcomes.{decisions};
 ghost use Rattle.la_world.specs.Report.{refused};
 ghost use Rattle.la_world.specs.ReplicaStates.{replica_state};
-ghost use Rattle.la_world.specs.StandsFor.{IsLegal};
-ghost use Rattle.la_world.specs.Told.{told};
+ghost use Rattle.la_world.specs.StandsFor.{IsLegalTrace};
+ghost use Rattle.la_world.specs.Told.{told_messages};
 ghost use Rattle.la_world.specs.Laws.{ReturnsAreProposed};
 
 use la_world::laws;
@@ -26,19 +26,19 @@ use la_world::laws;
 // the delivery of a message that was sent.
 fn other_replicas_stay()
     ensures submissions { (g : Group) (events : Past) (r q : ℕ) (object_op : ObjectOp)
-        → replicas g ≤ 8 → IsLegal g events
+        → replicas g ≤ 8 → IsLegalTrace g events
         → refused g (trace g events) (Submit r object_op) ≡ None → q ≢ r
-        → replica_state g (entry g (trace g events) (Submit r object_op) ∷ trace g events) q
+        → replica_state g (event_entry g (trace g events) (Submit r object_op) ∷ trace g events) q
         ≡ replica_state g (trace g events) q }
     ensures proposals { (g : Group) (events : Past) (r q k value : ℕ)
-        → replicas g ≤ 8 → IsLegal g events
+        → replicas g ≤ 8 → IsLegalTrace g events
         → refused g (trace g events) (Decide r k value) ≡ None → q ≢ r
-        → replica_state g (entry g (trace g events) (Decide r k value) ∷ trace g events) q
+        → replica_state g (event_entry g (trace g events) (Decide r k value) ∷ trace g events) q
         ≡ replica_state g (trace g events) q }
     ensures deliveries { (g : Group) (events : Past) (k q : ℕ) (m : Message)
-        → replicas g ≤ 8 → IsLegal g events
+        → replicas g ≤ 8 → IsLegalTrace g events
         → slice_get (sent (replicas g) (trace g events)) k ≡ Some m → q ≢ m.to
-        → replica_state g (entry g (trace g events) (Deliver k) ∷ trace g events) q
+        → replica_state g (event_entry g (trace g events) (Deliver k) ∷ trace g events) q
         ≡ replica_state g (trace g events) q }
 {
     laws::submissions_follow_the_trace();
@@ -50,11 +50,11 @@ fn other_replicas_stay()
 // its receiver has.
 fn ballots_suffice_and_nothing_clashes()
     ensures submissions { (g : Group) (events : Past) (r i : ℕ)
-        → replicas g ≤ 8 → g.cap ≤ MAX_CAP → IsLegal g events → r < replicas g → i < instances g
+        → replicas g ≤ 8 → g.cap ≤ MAX_CAP → IsLegalTrace g events → r < replicas g → i < instances g
         → ¬ IsSubmitRefusal (replica_state g (trace g events) r) i BallotsSpent }
     ensures deliveries { (g : Group) (events : Past) (k : ℕ) (m : CodeMessage)
-        → replicas g ≤ 8 → g.cap ≤ MAX_CAP → IsLegal g events
-        → slice_get (told (replicas g) (trace g events)) k ≡ Some m
+        → replicas g ≤ 8 → g.cap ≤ MAX_CAP → IsLegalTrace g events
+        → slice_get (told_messages (replicas g) (trace g events)) k ≡ Some m
         → (id : UpdateId)
         → ¬ IsReceiptRefusal (replica_state g (trace g events) m.to) m (Clash id) }
 {
@@ -65,7 +65,7 @@ fn ballots_suffice_and_nothing_clashes()
 // A view and what any replica shows one event later are comparable.
 fn views_one_event_apart_are_comparable()
     ensures { (g : Group) (events : Past) (e : Occurrence) (r q : ℕ)
-        → AreComparable (view (trace g events) r) (view (trace g (e ∷ events)) q) }
+        → AreComparable (trace_view (trace g events) r) (trace_view (trace g (e ∷ events)) q) }
 {
     laws::views_are_comparable();
 }
@@ -73,7 +73,7 @@ fn views_one_event_apart_are_comparable()
 // What is returned after events of which none was refused was proposed in one of them.
 fn what_is_returned_was_proposed()
     ensures { (g : Group) (events : Past)
-        → replicas g ≤ 8 → IsLegal g events
+        → replicas g ≤ 8 → IsLegalTrace g events
         → ReturnsAreProposed events (decisions g (trace g events)) }
 {
     laws::adopt_commit_is_safe();

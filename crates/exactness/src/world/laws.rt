@@ -17,14 +17,14 @@ ghost use Rattle.la_world.specs.Promises.{AreAllComparable, NoViewShrinks, IsLea
 ghost use Rattle.la_world.specs.Events.{Past, Event as Occurrence, event_of, Decide};
 ghost use Rattle.la_world.specs.Learnings.{learnt};
 ghost use Rattle.la_world.specs.Sent.{sent};
-ghost use Rattle.la_world.specs.Acceptors.{accepted};
+ghost use Rattle.la_world.specs.Acceptors.{accepted_there};
 ghost use Rattle.la_world.specs.Ballots.{ballots};
 ghost use Rattle.la_world.specs.Submissions.{taken, whole};
-ghost use Rattle.la_world.specs.Views.{seen, view};
+ghost use Rattle.la_world.specs.Views.{seen, trace_view};
 ghost use Rattle.la_world.specs.Playing.{trace};
 ghost use Rattle.la_world.specs.Report.{refused, trace_of};
-ghost use Rattle.la_world.specs.Report.{lines};
-ghost use Rattle.la_world.specs.Laws.{IsAnswered, view_at_place};
+ghost use Rattle.la_world.specs.Report.{report_lines};
+ghost use Rattle.la_world.specs.Laws.{IsAnsweredLine, view_at_place};
 
 use la_object::{Replicated, Shelf};
 use la_world::{Config, Event, Report, Step, World, WorldError, laws, run};
@@ -58,7 +58,7 @@ fn an_acknowledged_ballot_is_one()
     ensures { (g : Group) (events : Past) (m : Message) (b : Opening)
         → Contains (sent (replicas g) (trace g events)) m → m.body ≡ Yes
         → Contains (ballots (trace g events) m.instance m.to) b → b.ballot ≡ m.ballot
-        → (later : ℕ) × (accepted (trace g (drop later events)) m.instance m.from ≡ b.updates) }
+        → (later : ℕ) × (accepted_there (trace g (drop later events)) m.instance m.from ≡ b.updates) }
 {
     laws::acknowledgements_have_places();
     laws::a_number_names_one_ballot();
@@ -99,7 +99,7 @@ fn later_ballots_contain_earlier()
 // What a view is: it contains each set that was seen.
 fn views_contain_what_is_seen()
     ensures { (g : Group) (events : Past) (r : ℕ) (s : Histories)
-        → Contains (seen (trace g events) r) s → IsSubset s (view (trace g events) r) }
+        → Contains (seen (trace g events) r) s → IsSubset s (trace_view (trace g events) r) }
 {
     laws::views_are_largest();
 }
@@ -122,7 +122,7 @@ fn learnt_sets_of_a_run_grow<B: Replicated>(
 // No view shrinks over two further events.
 fn a_view_stays_over_two_events()
     ensures { (g : Group) (events : Past) (e f : Occurrence) (r : ℕ)
-        → IsSubset (view (trace g events) r) (view (trace g (f ∷ e ∷ events)) r) }
+        → IsSubset (trace_view (trace g events) r) (trace_view (trace g (f ∷ e ∷ events)) r) }
 {
     laws::views_grow();
     la_set::laws::inclusion_is_an_order();
@@ -141,8 +141,8 @@ fn a_learnt_set_has_only_what_was_submitted()
 // came between two such places, where it left the view the second answer is the first one.
 fn answers_stay_with_the_view()
     ensures { (g : Group) (events : List Occurrence) (j k r object : ℕ) (query : Query)
-        (a b : Answer) → IsAnswered events (lines g events) j r object query a
-        → IsAnswered events (lines g events) k r object query b
+        (a b : Answer) → IsAnsweredLine events (report_lines g events) j r object query a
+        → IsAnsweredLine events (report_lines g events) k r object query b
         → view_at_place g events j r ≡ view_at_place g events k r → a ≡ b }
 {
     laws::answers_are_values();
@@ -166,7 +166,7 @@ fn a_step_keeps_learnt_sets_comparable<B: Replicated>(
 // What is learnt at one place of a list has one place among the accepted events.
 fn learnt_at_one_place()
     ensures { (g : Group) (events : List Occurrence) (place : ℕ) (x y : Learnt)
-        → IsLearntAt (lines g events) place x → IsLearntAt (lines g events) place y
+        → IsLearntAt (report_lines g events) place x → IsLearntAt (report_lines g events) place y
         → x.place ≡ y.place }
 {
     laws::places_count_accepted_events();

@@ -8,7 +8,7 @@ use Rattle.clap.specs.Matches.{ReadsOne}
 use Rattle.clap.specs.Words.{Text, one_text, rows_of}
 use Rattle.clap.proofs.CallerReads.{signed_reads}
 use Rattle.clap.proofs.WalkLemmas.{one_text-rows}
-use Rattle.la_cli.specs.Calls.{IsGiven, IsTaken}
+use Rattle.la_cli.specs.Calls.{IsGiven, IsNumberTaken}
 
 pub some≢none : {X : Type 0} (x : X) → Some x ≡ None → ⊥
 some≢none x e = true≢false (ap (λ o. Rattle.std.specs.Option.is_some o) e)
@@ -37,7 +37,7 @@ read_is_given k {E} G f name r n is none value parses = go (one_text f name) ref
 
 -- where a text stands for a number, the number is read, and is in its range
 number_read : (k : ℕ) {E : Type 0} (G : List ℕ → Result ℕ E → Type 0) (f : Found) (name : Text) (least most : ℕ)
-    (r : Option ℕ) → IsTaken (rows_of f) name least most → most < 2 ^ k
+    (r : Option ℕ) → IsNumberTaken (rows_of f) name least most → most < 2 ^ k
     → ((t : List ℕ) → one_text f name ≡ Some t → ReadsOne G t r)
     → ((u : List ℕ) (x : Result ℕ E) → G u x → ParsesUnsigned {E = E} k 10 u x)
     → (n : ℕ) × (r ≡ Some n) × (least ≤ n) × (n ≤ most)
@@ -46,7 +46,7 @@ number_read k {E} G f name least most r taken fits value parses =
     parses fits taken.passed
 
 pub some_number : (k : ℕ) {E : Type 0} (G : List ℕ → Result ℕ E → Type 0) (f : Found) (name : Text) (least most : ℕ)
-    (r : Option ℕ) → IsTaken (rows_of f) name least most → most < 2 ^ k
+    (r : Option ℕ) → IsNumberTaken (rows_of f) name least most → most < 2 ^ k
     → ((t : List ℕ) → one_text f name ≡ Some t → ReadsOne G t r)
     → ((u : List ℕ) (x : Result ℕ E) → G u x → ParsesUnsigned {E = E} k 10 u x) → IsSome r
 some_number k {E} G f name least most r taken fits value parses =
@@ -54,7 +54,7 @@ some_number k {E} G f name least most r taken fits value parses =
     subst (λ (o : Option ℕ). IsSome o) (sym read.1) refl
 
 pub taken_is_given : (k : ℕ) {E : Type 0} (G : List ℕ → Result ℕ E → Type 0) (f : Found) (name : Text) (least most : ℕ)
-    (r : Option ℕ) (n : ℕ) → IsTaken (rows_of f) name least most → most < 2 ^ k → r ≡ Some n
+    (r : Option ℕ) (n : ℕ) → IsNumberTaken (rows_of f) name least most → most < 2 ^ k → r ≡ Some n
     → (one_text f name ≡ None → r ≡ None) → ((t : List ℕ) → one_text f name ≡ Some t → ReadsOne G t r)
     → ((u : List ℕ) (x : Result ℕ E) → G u x → ParsesUnsigned {E = E} k 10 u x)
     → IsGiven (rows_of f) name n × (least ≤ n) × (n ≤ most)

@@ -4,7 +4,7 @@ use Rattle.std.specs.Io.KnownBytes.{Consumes, IsAtEnd, prepend_known}
 use Rattle.std.proofs.KnownBytes.{Consumes-trans}
 use Rattle.std.proofs.lemmas.List.Elements.{All-nil, All-cons, All-append}
 use Rattle.la_journal.specs.Lines.{file_of}
-use Rattle.la_io.specs.Streams.{IsOneLine, ReadSo, TakesSome, ReadsFront, ReadsAll}
+use Rattle.la_io.specs.Streams.{IsOneLine, ReadSo, TakesSome, ReadsFront, ReadsLines}
 
 file_push : (lines : List (List ℕ)) (line : List ℕ) → file_of (lines ++ line ∷ []) ≡ file_of lines ++ (line ++ 10 ∷ [])
 file_push [] line = refl
@@ -47,7 +47,7 @@ all_read (Some xs) (Some ys) p bytes c e =
 
 -- no line more
 pub reads_all : (a b c : Option (List ℕ)) (p : List ℕ) (lines : List (List ℕ)) (rest : List ℕ) → ReadSo a b lines
-    → IsOneLine rest → Consumes b (prepend_known p c) rest → IsAtEnd (prepend_known p c) → ReadsAll a c lines rest
+    → IsOneLine rest → Consumes b (prepend_known p c) rest → IsAtEnd (prepend_known p c) → ReadsLines a c lines rest
 reads_all a b c p lines rest so one more end =
     let it =
     all_read a c p (file_of lines ++ rest) (Consumes-trans a b (prepend_known p c) (file_of lines) rest so.1 more) end

@@ -4,7 +4,7 @@ ghost use Rattle.la_world.specs.declared.error.WorldError.TheVariants.{Memory};
 ghost use Rattle.la_world.specs.Events.{Past, Deliver};
 ghost use Rattle.la_world.specs.Printable.{IsPrintable};
 ghost use Rattle.la_world.specs.StandsFor.{StandsFor};
-ghost use Rattle.la_world.specs.Calls.{Plays, Refuses};
+ghost use Rattle.la_world.specs.Calls.{PlaysEvent, RefusesEvent};
 
 use super::World;
 use crate::participant::outcome_by;
@@ -17,10 +17,10 @@ impl<B: Replicated> World<B> {
     pub(super) fn deliver(&mut self, number: u64) -> Result<Step, WorldError>
         requires { self.old.count + 1 < 2 ^ 64 }
         ensures step { (events : Past) → StandsFor self.old events →
-            IfOk result (λ step. Plays self.old events (Deliver number) step self.new) }
+            IfOk result (λ step. PlaysEvent self.old events (Deliver number) step self.new) }
         ensures printable { IfOk result IsPrintable }
         ensures error { (events : Past) → StandsFor self.old events →
-            IfErr result (Refuses self.old events (Deliver number)) }
+            IfErr result (RefusesEvent self.old events (Deliver number)) }
         ensures err { OnErr result (self.new ≡ self.old) }
     {
         if number >= self.sent() {
@@ -35,7 +35,7 @@ impl<B: Replicated> World<B> {
         requires count { self.old.count + 1 < 2 ^ 64 }
         requires known { number < length self.old.messages }
         ensures step { (events : Past) → StandsFor self.old events →
-            IfOk result (λ step. Plays self.old events (Deliver number) step self.new) }
+            IfOk result (λ step. PlaysEvent self.old events (Deliver number) step self.new) }
         ensures printable { IfOk result IsPrintable }
         ensures error { IfErr result (λ e. e ≡ Memory) }
         ensures err { OnErr result (self.new ≡ self.old) }

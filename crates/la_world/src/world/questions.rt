@@ -3,9 +3,9 @@ ghost use Rattle.std.specs.Prelude.{◌≡◌, ◌+◌, ◌<◌, ◌^◌, Some, 
 ghost use Rattle.la_world.specs.Events.{Past, Ask};
 ghost use Rattle.la_world.specs.Printable.{IsPrintable};
 ghost use Rattle.la_world.specs.StandsFor.{StandsFor, group_in, trace_in};
-ghost use Rattle.la_world.specs.Calls.{Keeps, may_absorb, IsSameUnless, tags_of, IsTagsRefusal};
-ghost use Rattle.la_world.specs.Calls.{HasObject, IsObjectRefusal, Plays, Refuses};
-ghost use Rattle.la_world.specs.Calls.{IsFollowing, LeftUntold};
+ghost use Rattle.la_world.specs.Calls.{Keeps, may_absorb, IsSameUnless, world_tags, IsWorldTagsRefusal};
+ghost use Rattle.la_world.specs.Calls.{HasObject, IsObjectRefusal, PlaysEvent, RefusesEvent};
+ghost use Rattle.la_world.specs.Calls.{IsFollowing, LeftUntoldWorld};
 
 use super::World;
 use crate::{Step, WorldError};
@@ -21,10 +21,10 @@ impl<B: Replicated> World<B> {
     ) -> Result<Step, WorldError>
         requires { self.old.count + 1 < 2 ^ 64 }
         ensures step { (events : Past) → StandsFor self.old events → IfOk result (λ step.
-            Plays self.old events (Ask replica object query.now) step self.new) }
+            PlaysEvent self.old events (Ask replica object query.now) step self.new) }
         ensures printable { IfOk result IsPrintable }
         ensures error { (events : Past) → StandsFor self.old events →
-            IfErr result (Refuses self.old events (Ask replica object query.now)) }
+            IfErr result (RefusesEvent self.old events (Ask replica object query.now)) }
         ensures keeps { OnErr result (Keeps self.old self.new) }
         ensures err { IfErr result (λ e.
             IsSameUnless (may_absorb (Ask replica object query.now) e) self.old self.new) }
@@ -47,12 +47,12 @@ impl<B: Replicated> World<B> {
     /// whole view. The cost is that of a question.
     pub fn observed(&mut self, replica: u8, object: u16, element: u64) -> Result<Tags, WorldError>
         ensures tags { (events : Past) → StandsFor self.old events → IfOk result (λ tags.
-            tags_of (group_in self.old) (trace_in self.old events) replica object element
+            world_tags (group_in self.old) (trace_in self.old events) replica object element
             ≡ Some tags) }
         ensures error { (events : Past) → StandsFor self.old events → IfErr result
-            (IsTagsRefusal (group_in self.old) (trace_in self.old events) replica object element) }
+            (IsWorldTagsRefusal (group_in self.old) (trace_in self.old events) replica object element) }
         ensures follows { OnOk result (IsFollowing self.new replica) }
-        ensures err { IfErr result (λ e. LeftUntold e replica self.old self.new) }
+        ensures err { IfErr result (λ e. LeftUntoldWorld e replica self.old self.new) }
         ensures keeps { Keeps self.old self.new }
     {
         self.admit_question(replica, object)?;

@@ -9,8 +9,8 @@ ghost use Rattle.la_world.specs.Nodes.{replicas_of};
 ghost use Rattle.la_world.specs.Events.{Past, Submit, Decide, submission_of};
 ghost use Rattle.la_world.specs.Printable.{IsPrintable};
 ghost use Rattle.la_world.specs.StandsFor.{StandsFor, refused_in};
-ghost use Rattle.la_world.specs.Calls.{Plays, IsAllowed, Refuses, submitted_at};
-ghost use Rattle.la_world.specs.Shown.{HasRoomToSend, HasRoomToLearn, step_by, submitter};
+ghost use Rattle.la_world.specs.Calls.{PlaysEvent, IsAllowed, RefusesEvent, submitted_at};
+ghost use Rattle.la_world.specs.Shown.{HasRoomToSend, HasRoomToLearn, shown_step, submitter};
 ghost use Rattle.la_world.specs.Shown.{submitted_so};
 
 use super::World;
@@ -28,10 +28,10 @@ impl<B: Replicated> World<B> {
     pub(super) fn submit(&mut self, replica: u8, object: u16, op: &Op) -> Result<Step, WorldError>
         requires { self.old.count + 1 < 2 ^ 64 }
         ensures step { (events : Past) → StandsFor self.old events → IfOk result (λ step.
-            Plays self.old events (submission_of replica object op.now) step self.new) }
+            PlaysEvent self.old events (submission_of replica object op.now) step self.new) }
         ensures printable { IfOk result IsPrintable }
         ensures error { (events : Past) → StandsFor self.old events →
-            IfErr result (Refuses self.old events (submission_of replica object op.now)) }
+            IfErr result (RefusesEvent self.old events (submission_of replica object op.now)) }
         ensures err { OnErr result (self.new ≡ self.old) }
     {
         self.admit_submission(replica)?;
@@ -48,7 +48,7 @@ impl<B: Replicated> World<B> {
             refused_in self.now events (Submit replica object_op) ≡ None) }
         ensures error { (events : Past) → StandsFor self.now events →
             IfErr result (λ e. (object_op : ObjectOp) →
-            Refuses self.now events (Submit replica object_op) e) }
+            RefusesEvent self.now events (Submit replica object_op) e) }
     {
         match submitted_among(&self.nodes, 0, replica) {
             None => Err(WorldError::NoSuchReplica),
@@ -60,10 +60,10 @@ impl<B: Replicated> World<B> {
     pub(super) fn decide(&mut self, replica: u8, commit: u8, value: u64) -> Result<Step, WorldError>
         requires { self.old.count + 1 < 2 ^ 64 }
         ensures step { (events : Past) → StandsFor self.old events →
-            IfOk result (λ step. Plays self.old events (Decide replica commit value) step self.new) }
+            IfOk result (λ step. PlaysEvent self.old events (Decide replica commit value) step self.new) }
         ensures printable { IfOk result IsPrintable }
         ensures error { (events : Past) → StandsFor self.old events →
-            IfErr result (Refuses self.old events (Decide replica commit value)) }
+            IfErr result (RefusesEvent self.old events (Decide replica commit value)) }
         ensures err { OnErr result (self.new ≡ self.old) }
     {
         self.admit_proposal(replica, commit)?;
@@ -80,7 +80,7 @@ impl<B: Replicated> World<B> {
             refused_in self.now events (Decide replica commit value) ≡ None) }
         ensures error { (events : Past) → StandsFor self.now events →
             IfErr result (λ e. (value : ℕ) →
-            Refuses self.now events (Decide replica commit value) e) }
+            RefusesEvent self.now events (Decide replica commit value) e) }
     {
         if replica >= self.config.replicas {
             return Err(WorldError::NoSuchReplica);
@@ -100,7 +100,7 @@ impl<B: Replicated> World<B> {
         requires known { replica < length self.old.replica_states }
         requires allowed { IsAllowed self.old (Submit replica (op_on object op)) }
         ensures step { (events : Past) → StandsFor self.old events → IfOk result (λ step.
-            Plays self.old events (Submit replica (op_on object op)) step self.new) }
+            PlaysEvent self.old events (Submit replica (op_on object op)) step self.new) }
         ensures printable { IfOk result IsPrintable }
         ensures err { OnErr result (self.new ≡ self.old) }
     {
@@ -119,7 +119,7 @@ impl<B: Replicated> World<B> {
         requires object { commit < MAX_COMMITS }
         requires allowed { IsAllowed self.old (Decide replica commit value) }
         ensures step { (events : Past) → StandsFor self.old events →
-            IfOk result (λ step. Plays self.old events (Decide replica commit value) step self.new) }
+            IfOk result (λ step. PlaysEvent self.old events (Decide replica commit value) step self.new) }
         ensures printable { IfOk result IsPrintable }
         ensures err { OnErr result (self.new ≡ self.old) }
     {
@@ -146,7 +146,7 @@ fn note_submission(journal: &mut Journal, replicas: u8, instance: u8, replica: u
     requires messages_room { HasRoomToSend journal.old replicas }
     requires learnt_room { HasRoomToLearn journal.old }
     ensures step { result
-        ≡ step_by (submitter replicas instance replica) journal.old (submitted_so out) }
+        ≡ shown_step (submitter replicas instance replica) journal.old (submitted_so out) }
     ensures messages { journal.new.messages.items ≡ journal.old.messages.items ++ out.mail }
     ensures learnt { journal.new.learnt.items ≡ journal.old.learnt.items ++ [] }
     ensures count { journal.new.count ≡ journal.old.count + 1 }

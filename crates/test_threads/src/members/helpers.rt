@@ -1,7 +1,7 @@
 // Members' calls. What memory was refused for goes on: so the tests pass with every single allocation
 // failing too.
 ghost use Rattle.std.specs.Prelude.{◌≡◌, ◌+◌, ℕ, List};
-ghost use Rattle.la_runner.specs.Members.{IsOf, GroupState};
+ghost use Rattle.la_runner.specs.Members.{IsOfGroup, GroupState};
 ghost use Rattle.la_runner.specs.Starting.{AreMembersFrom, IsNewMember};
 
 use la_commit::Outcome;
@@ -24,9 +24,9 @@ fn next(rt: &impl Abort, members: &mut Members) -> Member
 
 /// A group of three with these votes, an adopt-commit object and a cap of 10, and its members.
 pub fn three(rt: &impl Abort, alloc: Global, votes: &[u16]) -> (Group, Member, Member, Member)
-    ensures zero { IsOf result.0 result.1 }
-    ensures one { IsOf result.0 result.2 }
-    ensures two { IsOf result.0 result.3 }
+    ensures zero { IsOfGroup result.0 result.1 }
+    ensures one { IsOfGroup result.0 result.2 }
+    ensures two { IsOfGroup result.0 result.3 }
 {
     let votes = Votes::new(votes).expect(rt, "they are votes");
     let (group, mut members) = match Group::new(alloc, 3, 1, 10, votes) {
@@ -57,8 +57,8 @@ pub fn add<R: Wait, G: Gate>(
     rounds: u32,
     gate: &G,
 ) -> Result<Learned, RunnerError>
-    requires { IsOf group.now member.old }
-    ensures { IsOf group.now member.new }
+    requires { IsOfGroup group.now member.old }
+    ensures { IsOfGroup group.now member.new }
 {
     let before = member.submitted();
     match group.update(rt, member, 1, change(by), rounds, gate) {
@@ -83,8 +83,8 @@ pub fn resume<R: Wait, G: Gate>(
     rounds: u32,
     gate: &G,
 ) -> Result<Option<Learned>, RunnerError>
-    requires { IsOf group.now member.old }
-    ensures { IsOf group.now member.new }
+    requires { IsOfGroup group.now member.old }
+    ensures { IsOfGroup group.now member.new }
 {
     match group.resume(rt, member, rounds, gate) {
         Err(RunnerError::Memory) => group.resume(rt, member, rounds, gate),
@@ -102,8 +102,8 @@ pub fn decide<R: Wait, G: Gate>(
     rounds: u32,
     gate: &G,
 ) -> Result<Outcome, RunnerError>
-    requires { IsOf group.now member.old }
-    ensures { IsOf group.now member.new }
+    requires { IsOfGroup group.now member.old }
+    ensures { IsOfGroup group.now member.new }
 {
     match group.decide(rt, member, commit, value, rounds, gate) {
         Err(RunnerError::Memory) => group.decide(rt, member, commit, value, rounds, gate),
@@ -113,10 +113,10 @@ pub fn decide<R: Wait, G: Gate>(
 
 /// One member tells another one what it has seen.
 pub fn tell(rt: &impl Abort, alloc: Global, group: &Group, from: &mut Member, to: &mut Member)
-    requires from { IsOf group.now from.old }
-    requires to { IsOf group.now to.old }
-    ensures from { IsOf group.now from.new }
-    ensures to { IsOf group.now to.new }
+    requires from { IsOfGroup group.now from.old }
+    requires to { IsOfGroup group.now to.old }
+    ensures from { IsOfGroup group.now from.new }
+    ensures to { IsOfGroup group.now to.new }
 {
     let note = match group.note(alloc, from) {
         Ok(note) => note,

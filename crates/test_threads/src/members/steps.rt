@@ -1,6 +1,6 @@
 // Plays a table of what the members of one group do, in one thread. A step is taken by reference, and
 // one function owns the members.
-ghost use Rattle.la_runner.specs.Members.{IsOf};
+ghost use Rattle.la_runner.specs.Members.{IsOfGroup};
 
 use super::helpers::{add, counts, decide, resume, tell, three};
 use la_commit::Outcome;
@@ -87,7 +87,7 @@ impl Model for Three {
 
     ghost view = { λ _. tt };
 
-    ghost invariant = { λ t. IsOf t.group t.zero × IsOf t.group t.one × IsOf t.group t.two };
+    ghost invariant = { λ t. IsOfGroup t.group t.zero × IsOfGroup t.group t.one × IsOfGroup t.group t.two };
 }
 
 fn is_added(end: &Result<Learned, RunnerError>, comes: Comes) -> bool {
@@ -121,8 +121,8 @@ fn is_decided(end: Result<Outcome, RunnerError>, comes: Comes) -> bool {
 
 // Whether a member's call comes to what the step says.
 fn calls<R: Wait>(rt: &R, group: &Group, member: &mut Member, step: &Step) -> bool
-    requires { IsOf group.now member.old }
-    ensures { IsOf group.now member.new }
+    requires { IsOfGroup group.now member.old }
+    ensures { IsOfGroup group.now member.new }
 {
     match step.1 {
         Does::Adds(by, rounds) => is_added(&add(rt, group, member, by, rounds, &step.2), step.3),
@@ -152,8 +152,8 @@ fn stands(member: &Member, at: &Has) -> bool {
 }
 
 fn goes_so<R: Wait>(rt: &R, group: &Group, member: &mut Member, step: &Step) -> bool
-    requires { IsOf group.now member.old }
-    ensures { IsOf group.now member.new }
+    requires { IsOfGroup group.now member.old }
+    ensures { IsOfGroup group.now member.new }
 {
     calls(rt, group, member, step) && stands(member, &step.4)
 }

@@ -1,5 +1,5 @@
 // Members in threads of their own.
-ghost use Rattle.la_runner.specs.Members.{IsOf};
+ghost use Rattle.la_runner.specs.Members.{IsOfGroup};
 
 use super::helpers::{add, counts, tell, three};
 use la_runner::{Group, Member};
@@ -10,8 +10,8 @@ use std::thread::Threads;
 
 // Adds so often, each time in as many rounds as it takes; whether all was learnt.
 fn add_often<R: Wait>(rt: &R, group: &Group, mut member: Member) -> (Member, bool)
-    requires { IsOf group.now member }
-    ensures { IsOf group.now result.0 }
+    requires { IsOfGroup group.now member }
+    ensures { IsOfGroup group.now result.0 }
 {
     let mut all = true;
     for _ in 0..9 {
@@ -27,20 +27,20 @@ fn both_add<R: Threads + Wait + Sync>(
     zero: Member,
     one: Member,
 ) -> ((Member, bool), (Member, bool))
-    requires zero { IsOf group.now zero }
-    requires one { IsOf group.now one }
-    ensures zero { IsOf group.now result.0.0 }
-    ensures one { IsOf group.now result.1.0 }
+    requires zero { IsOfGroup group.now zero }
+    requires one { IsOfGroup group.now one }
+    ensures zero { IsOfGroup group.now result.0.0 }
+    ensures one { IsOfGroup group.now result.1.0 }
 {
     thread::join(
         rt,
         || -> (Member, bool)
-            requires { IsOf group.now zero }
-            ensures { IsOf group.entry.now result.0 }
+            requires { IsOfGroup group.now zero }
+            ensures { IsOfGroup group.entry.now result.0 }
         { add_often(rt, group, zero) },
         || -> (Member, bool)
-            requires { IsOf group.now one }
-            ensures { IsOf group.entry.now result.0 }
+            requires { IsOfGroup group.now one }
+            ensures { IsOfGroup group.entry.now result.0 }
         { add_often(rt, group, one) },
     )
 }

@@ -1,6 +1,6 @@
 // What runs are given, and what their logs are asked.
 ghost use Rattle.std.specs.Prelude.{◌≡◌, ◌+◌, ℕ, List, All};
-ghost use Rattle.la_runner.specs.Members.{IsOf, GroupState};
+ghost use Rattle.la_runner.specs.Members.{IsOfGroup, GroupState};
 ghost use Rattle.la_runner.specs.Starting.{AreMembersFrom, IsNewMember};
 
 use la_object::{Answer, Counter, Query, Replicated, Shelf};
@@ -32,7 +32,7 @@ fn all_of(
     count: usize,
 ) -> Vec<Member>
     requires { AreMembersFrom group.now cap 0 members }
-    ensures { All (IsOf group.now) result.items }
+    ensures { All (IsOfGroup group.now) result.items }
 {
     let mut left = members;
     let mut all = Vec::new(alloc);
@@ -52,7 +52,7 @@ pub fn group_of(
     cap: u32,
     count: usize,
 ) -> (Group, Vec<Member>)
-    ensures { All (IsOf result.0) result.1.items }
+    ensures { All (IsOfGroup result.0) result.1.items }
 {
     let replicas = u8::try_from(votes.len()).expect(rt, "they are few");
     let votes = Votes::new(votes).expect(rt, "they are votes");

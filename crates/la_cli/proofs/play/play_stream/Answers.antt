@@ -1,7 +1,7 @@
 use Rattle.std.proofs.Common.{rules, Err, ap, subst, sym, refl}
 use Rattle.std.proofs.lemmas.Result.{IfErr-weaker, on_ok_weaker, err_from_is_err_and}
 use Rattle.la_cli.specs.declared.error.PlayFault.{PlayFault}
-use Rattle.la_cli.specs.Play.{FitAnyGroup, ReadsInput, IsPlayRefusal}
+use Rattle.la_cli.specs.Play.{FitAnyGroup, ReadsInput, IsPlayedRefusal}
 use Rattle.la_cli.proofs.Playing.{input_is_refused, answer_is_refused}
 use Rattle.la_cli.proofs.Written.{plays, plays_prefix}
 use Rattle.la_cli.proofs.play.play_stream.Goals as goal
@@ -50,7 +50,7 @@ returns-clause-error g c =
     let new = g.W.Write.contents c.write_out.new.writer in
     let read : ReadsInput left left_after c.in_ok-input.input.items = record { all = c.in_ok-input.ensures.all; short = c.in_ok-input.ensures.short } in
     IfErr-weaker c.write_out.result _ _
-    (λ f w. subst (λ (e : PlayFault). IsPlayRefusal c.args.shelves.items left left_after old new e) (sym w.0)
+    (λ f w. subst (λ (e : PlayFault). IsPlayedRefusal c.args.shelves.items left left_after old new e) (sym w.0)
     (plays_prefix c.args.shelves.items fit left left_after old new _ _ c.in_ok-text.text read refl c.in_ok-text.ensures.ok w.1))
     c.write_out.ensures.error
 

@@ -2,9 +2,9 @@ use Rattle.std.proofs.Common.{◌≡◌, reverse, refl, sym, ap, subst, ◌∙�
 use Rattle.la_world.specs.Events.{event_of}
 use Rattle.la_world.specs.Groups.{group_of}
 use Rattle.la_world.specs.StandsFor.{kinds_of}
-use Rattle.la_world.specs.Calls.{GoesOn, report_after}
+use Rattle.la_world.specs.Calls.{RunGoesOn, report_after}
 use Rattle.la_world.proofs.lemmas.Playback.{ran}
-use Rattle.la_cli.specs.Play.{shelves_of}
+use Rattle.la_cli.specs.Play.{group_shelves}
 use Rattle.la_cli.proofs.Putting.{put_none, put_more, put_all}
 use Rattle.la_cli.proofs.UsedUp.{all_left, taken_within, taken_is, one_taken}
 use Rattle.la_cli.proofs.play.text_of.Goals as goal
@@ -12,7 +12,7 @@ use Rattle.la_cli.proofs.play.text_of.Goals as goal
 pub loop-index-init : goal.loop-index-init
 loop-index-init g c = record {
   put =
-      put_none c.args.version c.args.config (shelves_of c.args.config c.args.shelves.items) c.args.events
+      put_none c.args.version c.args.config (group_shelves c.args.config c.args.shelves.items) c.args.events
       c.in_ok-world.world c.new-text.result c.put_header.new.out
       c.in_ok-world.ensures.config c.in_ok-world.ensures.shelves c.in_ok-world.ensures.stands c.new-text.ensures
       c.in_ok-put_header.ensures;
@@ -33,12 +33,12 @@ loop-index-preserved g c =
     let rest = c.take_last-event.new.left.items in
     let event = c.take_last-event.result in
     let before =
-    ran (group_of c.args.config (kinds_of (shelves_of c.args.config c.args.shelves.items))) c.args.events i in record {
+    ran (group_of c.args.config (kinds_of (group_shelves c.args.config c.args.shelves.items))) c.args.events i in record {
       put =
-          put_more c.args.version c.args.config (shelves_of c.args.config c.args.shelves.items) c.args.events i
+          put_more c.args.version c.args.config (group_shelves c.args.config c.args.shelves.items) c.args.events i
           c.loop-index.world c.loop-index.text h event c.in_ok-line.line c.play_line.new.self c.put_numbered.new.out
           (taken_within c.args.events c.loop-index.left.items rest event i left c.take_last-event.ensures)
-          (subst (λ e. GoesOn c.loop-index.world before (event_of e) c.in_ok-line.line c.play_line.new.self)
+          (subst (λ e. RunGoesOn c.loop-index.world before (event_of e) c.in_ok-line.line c.play_line.new.self)
           (sym (taken_is c.args.events c.loop-index.left.items rest event i left c.take_last-event.ensures event))
           (c.in_ok-line.ensures.line before h.played.stands))
           c.in_ok-line.ensures.printable c.in_ok-put_numbered.ensures;
@@ -50,8 +50,8 @@ returns g c =
     let i = c.loop-index.index in
     let h = c.loop-index.invariant.put in
     let before =
-    ran (group_of c.args.config (kinds_of (shelves_of c.args.config c.args.shelves.items))) c.args.events i in
-    put_all c.args.version c.args.config (shelves_of c.args.config c.args.shelves.items) c.args.events i
+    ran (group_of c.args.config (kinds_of (group_shelves c.args.config c.args.shelves.items))) c.args.events i in
+    put_all c.args.version c.args.config (group_shelves c.args.config c.args.shelves.items) c.args.events i
     c.loop-index.world c.loop-index.text h c.args.shelves.items c.in_ok-report.report c.put_ending.new.out refl
     (let all = c.len-count.ensures in omega arith)
     (subst (λ lines. c.in_ok-report.report ≡ report_after c.loop-index.world before.accepted lines) c.new.ensures

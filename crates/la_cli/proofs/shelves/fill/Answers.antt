@@ -1,5 +1,5 @@
 use Rattle.std.proofs.Common.{rules, length, map, All, sym, ap, ◌∙◌, subst, arith, inl, inr}
-use Rattle.la_cli.specs.Shelves.{all_states_of, shelf_of, CanStand, IsFillRefusal}
+use Rattle.la_cli.specs.Shelves.{all_states_of, new_shelf, CanStand, IsFillRefusal}
 use Rattle.la_cli.proofs.Standing.{none_shelved, one_shelved, all_shelved, has_unfit, is_fill_refusal}
 use Rattle.la_cli.proofs.shelves.fill.Goals as goal
 
@@ -32,7 +32,7 @@ pub returns-clause-ok : goal.returns-clause-ok
 returns-clause-ok g c =
     let i = c.loop-objects.invariant in
     i.0.are
-    ∙ ap (λ os. map shelf_of (all_states_of g.B.Replicated.state os))
+    ∙ ap (λ os. map new_shelf (all_states_of g.B.Replicated.state os))
     (all_shelved g.B.Replicated.state _ _ _ _ i.0 (sym i.1 ∙ c.in-None.ensures.steps.0))
 
 pub returns-clause-stand : goal.returns-clause-stand

@@ -1,6 +1,6 @@
 use Rattle.std.proofs.Common.{rules, ◌≡◌, ◌⊎◌, length, sym, ap, ◌∙◌, subst, arith, inr}
 use Rattle.la_object.specs.declared.error.ShelfError.TheVariants.{Memory}
-use Rattle.la_cli.specs.Shelves.{states_of, shelf_of, CanStand, IsUnfit}
+use Rattle.la_cli.specs.Shelves.{states_of, new_shelf, CanStand, IsUnfit}
 use Rattle.la_cli.proofs.Standing.{nothing_put, one_put, all_put, is_unfit}
 use Rattle.la_cli.proofs.shelves.shelf_with.Goals as goal
 
@@ -33,7 +33,7 @@ pub returns-clause-ok : goal.returns-clause-ok
 returns-clause-ok g c =
     let i = c.loop-number.invariant in
     i.0.is
-    ∙ ap (λ os. shelf_of (states_of g.B.Replicated.state os))
+    ∙ ap (λ os. new_shelf (states_of g.B.Replicated.state os))
     (all_put g.B.Replicated.state _ _ _ _ i.0 (sym i.1 ∙ c.in-None.ensures.steps.0))
 
 pub returns-clause-stand : goal.returns-clause-stand

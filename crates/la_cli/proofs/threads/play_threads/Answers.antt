@@ -3,7 +3,7 @@ use Rattle.la_runner.specs.Runs.{Back, back_of}
 use Rattle.la_cli.specs.declared.error.PlayFault.{PlayFault}
 use Rattle.la_cli.specs.Play.{FitAnyGroup}
 use Rattle.la_cli.specs.Streams.{AppendsPrefix}
-use Rattle.la_cli.specs.Threads.{AreLogs, Agree, IsThreadsRefusal, threads_text}
+use Rattle.la_cli.specs.Threads.{AreLogs, LogsAgree, IsThreadsRefusal, threads_text}
 use Rattle.la_cli.proofs.threads.play_threads.Goals as goal
 
 pub returns-in_err-write_out-clause-error : goal.returns-in_err-write_out-clause-error
@@ -13,7 +13,7 @@ returns-in_err-write_out-clause-error g c =
     let old = g.W.Write.contents c.args.writer.now in
     let new = g.W.Write.contents c.write_out.new.writer in
     let are : AreLogs c.args.shelves.items c.args.replicas c.args.each logs = c.in_ok-logs.ensures.ok in
-    let verdict : IsTrue c.agree-agreed.result ↔ Agree logs = c.agree-agreed.ensures in
+    let verdict : IsTrue c.agree-agreed.result ↔ LogsAgree logs = c.agree-agreed.ensures in
     let wrote : AppendsPrefix old new (threads_text c.args.replicas c.args.each logs c.agree-agreed.result) =
     subst (AppendsPrefix old new) c.in_ok-text.ensures c.in_err-write_out.ensures.error.1 in
     let refused : IsThreadsRefusal c.args.shelves.items c.args.replicas c.args.each old new c.in_err-write_out.field-0.0

@@ -3,7 +3,7 @@ use Rattle.la_journal.specs.Disk.{Only}
 use Rattle.la_journal.specs.Lines.{lines, file_of}
 use Rattle.la_journal.specs.Durable.{IsSameOr}
 use Rattle.la_journal.proofs.Moments.{started, goes_on}
-use Rattle.la_journal.specs.Machine.{after}
+use Rattle.la_journal.specs.Machine.{state_after}
 use Rattle.la_journal.proofs.Leading.{same_lines}
 use Rattle.la_journal.proofs.Whole.{front, lines_alone}
 use Rattle.la_journal.proofs.recovery.recover.Goals as goal
@@ -43,7 +43,7 @@ returns-in-Ok-replace-clause-leads g c =
     let read_are = c.deref.ensures.value ∙ c.in-Ok.ensures.bytes in
     same_lines g.M.Machine.named_state g.M.Machine.named g.M.Machine.step (g.M.Machine.state c.args.start)
     (g.D.Disk.seen c.args.disk) (g.D.Disk.seen c.replace.new.self) (returns-in-Ok-replace-clause-same g c)
-    ∙ ap (after g.M.Machine.named_state g.M.Machine.named g.M.Machine.step (g.M.Machine.state c.args.start))
+    ∙ ap (state_after g.M.Machine.named_state g.M.Machine.named g.M.Machine.step (g.M.Machine.state c.args.start))
     (sym read_are)
     ∙ c.in-Ok-play.ensures.state
 

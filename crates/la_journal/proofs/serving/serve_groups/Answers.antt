@@ -3,8 +3,8 @@ use Rattle.std.specs.Global.{Vec}
 use Rattle.std.proofs.lemmas.List.{length-map, take_all}
 use Rattle.la_journal.specs.declared.outlet.Unserved.TheVariants.{Refused}
 use Rattle.la_journal.specs.Lines.{lines}
-use Rattle.la_journal.specs.Machine.{calls, group_calls, after, steps}
-use Rattle.la_journal.specs.Served.{Said, together, unless_none, answers_of, answered, given_since, KeepsAll}
+use Rattle.la_journal.specs.Machine.{calls, group_calls, state_after, steps}
+use Rattle.la_journal.specs.Served.{SaidAt, together, unless_none, answers_of, answers_since, given_since, KeepsAnswers}
 use Rattle.la_journal.proofs.GroupCalls.{next_group, split_groups}
 use Rattle.la_journal.proofs.Given.{since_more}
 use Rattle.la_journal.proofs.Parts.{SoFar, front, long, state_more, lines_more, leaves_more, keeps_more, answered_is, answers_go, so_more, cause_more, stopped, not_closed, answers_given, keeps_given}
@@ -26,7 +26,7 @@ returns-in-Err-clause-answers g c =
     let said_so = c.take_group-taken.ensures in
     let items = c.take_group-taken.new.answers.items in
     let n = length items in
-    let s : Said (Vec g.row.M-Output.Denot) = record { moment = g.D.Disk.moment c.take_group-taken.new.durable.disk; item = c.take_group-taken.new.answers } in
+    let s : SaidAt (Vec g.row.M-Output.Denot) = record { moment = g.D.Disk.moment c.take_group-taken.new.durable.disk; item = c.take_group-taken.new.answers } in
     let more = unless_none items s in
     let old = g.O.Outlet.said c.args.outlet.now in
     let before = g.O.Outlet.said c.loop-group.outlet in
@@ -53,11 +53,11 @@ returns-in-Err-clause-keeps g c start was =
     let between = g.M.Machine.state c.loop-group.durable.machine in
     let split : all ≡ done ++ (group ++ rest) =
     split_groups g.M.Machine.call c.args.groups.now k item c.loop-group-test.true c.group-item.is in
-    let leads = after g.M.Machine.named_state g.M.Machine.named g.M.Machine.step start in
+    let leads = state_after g.M.Machine.named_state g.M.Machine.named g.M.Machine.step start in
     let said_so = c.take_group-taken.ensures in
     let items = c.take_group-taken.new.answers.items in
     let n = length items in
-    let s : Said (Vec g.row.M-Output.Denot) = record { moment = g.D.Disk.moment c.take_group-taken.new.durable.disk; item = c.take_group-taken.new.answers } in
+    let s : SaidAt (Vec g.row.M-Output.Denot) = record { moment = g.D.Disk.moment c.take_group-taken.new.durable.disk; item = c.take_group-taken.new.answers } in
     let more = unless_none items s in
     let old = g.O.Outlet.said c.args.outlet.now in
     let before = g.O.Outlet.said c.loop-group.outlet in
@@ -69,7 +69,7 @@ returns-in-Err-clause-keeps g c start was =
     let many : length (answers_of (together g.M.Machine.answer) more) ≡ n =
     ap length given ∙ length-map items g.M.Machine.answer in
     subst
-    (KeepsAll (together g.M.Machine.answer) (g.D.Disk.moment c.take_group-taken.new.durable.disk)
+    (KeepsAnswers (together g.M.Machine.answer) (g.D.Disk.moment c.take_group-taken.new.durable.disk)
     (g.D.Disk.left_since c.take_group-taken.new.durable.disk) leads g.M.Machine.step all first)
     (sym (since_more more old before now inv.so.behind c.give_out.ensures.said))
     (keeps_more g.M.Machine.step all done group rest split first between inv.led leads g.D.Disk.moment g.D.Disk.left_since (together g.M.Machine.answer) c.loop-group.durable.disk c.take_group-taken.new.durable.disk (given_since old before) more inv.so.many
@@ -91,7 +91,7 @@ returns-in-Err-clause-any_moment g c start was =
     let between = g.M.Machine.state c.loop-group.durable.machine in
     let split : all ≡ done ++ (group ++ rest) =
     split_groups g.M.Machine.call c.args.groups.now k item c.loop-group-test.true c.group-item.is in
-    let leads = after g.M.Machine.named_state g.M.Machine.named g.M.Machine.step start in
+    let leads = state_after g.M.Machine.named_state g.M.Machine.named g.M.Machine.step start in
     let said_so = c.take_group-taken.ensures in
     leaves_more g.M.Machine.step all done group rest split first between inv.led leads g.D.Disk.moment
     g.D.Disk.left_since c.args.durable.now.disk c.loop-group.durable.disk c.take_group-taken.new.durable.disk
@@ -113,7 +113,7 @@ returns-in-Err-clause-state g c is_open =
     let said_so = c.take_group-taken.ensures in
     let items = c.take_group-taken.new.answers.items in
     let n = length items in
-    let s : Said (Vec g.row.M-Output.Denot) = record { moment = g.D.Disk.moment c.take_group-taken.new.durable.disk; item = c.take_group-taken.new.answers } in
+    let s : SaidAt (Vec g.row.M-Output.Denot) = record { moment = g.D.Disk.moment c.take_group-taken.new.durable.disk; item = c.take_group-taken.new.answers } in
     let more = unless_none items s in
     let old = g.O.Outlet.said c.args.outlet.now in
     let before = g.O.Outlet.said c.loop-group.outlet in
@@ -146,7 +146,7 @@ returns-in-Err-clause-lines g c is_open =
     let said_so = c.take_group-taken.ensures in
     let items = c.take_group-taken.new.answers.items in
     let n = length items in
-    let s : Said (Vec g.row.M-Output.Denot) = record { moment = g.D.Disk.moment c.take_group-taken.new.durable.disk; item = c.take_group-taken.new.answers } in
+    let s : SaidAt (Vec g.row.M-Output.Denot) = record { moment = g.D.Disk.moment c.take_group-taken.new.durable.disk; item = c.take_group-taken.new.answers } in
     let more = unless_none items s in
     let old = g.O.Outlet.said c.args.outlet.now in
     let before = g.O.Outlet.said c.loop-group.outlet in
@@ -180,7 +180,7 @@ returns-in-Err-taken-clause-answers g c =
     let said_so = c.take_group-taken.ensures in
     let items = c.take_group-taken.new.answers.items in
     let n = length items in
-    let s : Said (Vec g.row.M-Output.Denot) = record { moment = g.D.Disk.moment c.take_group-taken.new.durable.disk; item = c.take_group-taken.new.answers } in
+    let s : SaidAt (Vec g.row.M-Output.Denot) = record { moment = g.D.Disk.moment c.take_group-taken.new.durable.disk; item = c.take_group-taken.new.answers } in
     let more = unless_none items s in
     let old = g.O.Outlet.said c.args.outlet.now in
     let before = g.O.Outlet.said c.loop-group.outlet in
@@ -207,11 +207,11 @@ returns-in-Err-taken-clause-keeps g c start was =
     let between = g.M.Machine.state c.loop-group.durable.machine in
     let split : all ≡ done ++ (group ++ rest) =
     split_groups g.M.Machine.call c.args.groups.now k item c.loop-group-test.true c.group-item.is in
-    let leads = after g.M.Machine.named_state g.M.Machine.named g.M.Machine.step start in
+    let leads = state_after g.M.Machine.named_state g.M.Machine.named g.M.Machine.step start in
     let said_so = c.take_group-taken.ensures in
     let items = c.take_group-taken.new.answers.items in
     let n = length items in
-    let s : Said (Vec g.row.M-Output.Denot) = record { moment = g.D.Disk.moment c.take_group-taken.new.durable.disk; item = c.take_group-taken.new.answers } in
+    let s : SaidAt (Vec g.row.M-Output.Denot) = record { moment = g.D.Disk.moment c.take_group-taken.new.durable.disk; item = c.take_group-taken.new.answers } in
     let more = unless_none items s in
     let old = g.O.Outlet.said c.args.outlet.now in
     let before = g.O.Outlet.said c.loop-group.outlet in
@@ -223,7 +223,7 @@ returns-in-Err-taken-clause-keeps g c start was =
     let many : length (answers_of (together g.M.Machine.answer) more) ≡ n =
     ap length given ∙ length-map items g.M.Machine.answer in
     subst
-    (KeepsAll (together g.M.Machine.answer) (g.D.Disk.moment c.take_group-taken.new.durable.disk)
+    (KeepsAnswers (together g.M.Machine.answer) (g.D.Disk.moment c.take_group-taken.new.durable.disk)
     (g.D.Disk.left_since c.take_group-taken.new.durable.disk) leads g.M.Machine.step all first)
     (sym (since_more more old before now inv.so.behind c.give_out.ensures.said))
     (keeps_more g.M.Machine.step all done group rest split first between inv.led leads g.D.Disk.moment g.D.Disk.left_since (together g.M.Machine.answer) c.loop-group.durable.disk c.take_group-taken.new.durable.disk (given_since old before) more inv.so.many
@@ -245,7 +245,7 @@ returns-in-Err-taken-clause-any_moment g c start was =
     let between = g.M.Machine.state c.loop-group.durable.machine in
     let split : all ≡ done ++ (group ++ rest) =
     split_groups g.M.Machine.call c.args.groups.now k item c.loop-group-test.true c.group-item.is in
-    let leads = after g.M.Machine.named_state g.M.Machine.named g.M.Machine.step start in
+    let leads = state_after g.M.Machine.named_state g.M.Machine.named g.M.Machine.step start in
     let said_so = c.take_group-taken.ensures in
     leaves_more g.M.Machine.step all done group rest split first between inv.led leads g.D.Disk.moment
     g.D.Disk.left_since c.args.durable.now.disk c.loop-group.durable.disk c.take_group-taken.new.durable.disk
@@ -267,7 +267,7 @@ returns-in-Err-taken-clause-state g c is_open =
     let said_so = c.take_group-taken.ensures in
     let items = c.take_group-taken.new.answers.items in
     let n = length items in
-    let s : Said (Vec g.row.M-Output.Denot) = record { moment = g.D.Disk.moment c.take_group-taken.new.durable.disk; item = c.take_group-taken.new.answers } in
+    let s : SaidAt (Vec g.row.M-Output.Denot) = record { moment = g.D.Disk.moment c.take_group-taken.new.durable.disk; item = c.take_group-taken.new.answers } in
     let more = unless_none items s in
     let old = g.O.Outlet.said c.args.outlet.now in
     let before = g.O.Outlet.said c.loop-group.outlet in
@@ -300,7 +300,7 @@ returns-in-Err-taken-clause-lines g c is_open =
     let said_so = c.take_group-taken.ensures in
     let items = c.take_group-taken.new.answers.items in
     let n = length items in
-    let s : Said (Vec g.row.M-Output.Denot) = record { moment = g.D.Disk.moment c.take_group-taken.new.durable.disk; item = c.take_group-taken.new.answers } in
+    let s : SaidAt (Vec g.row.M-Output.Denot) = record { moment = g.D.Disk.moment c.take_group-taken.new.durable.disk; item = c.take_group-taken.new.answers } in
     let more = unless_none items s in
     let old = g.O.Outlet.said c.args.outlet.now in
     let before = g.O.Outlet.said c.loop-group.outlet in
@@ -334,7 +334,7 @@ returns-in-Err-taken-clause-cause g c =
     let said_so = c.take_group-taken.ensures in
     let items = c.take_group-taken.new.answers.items in
     let n = length items in
-    let s : Said (Vec g.row.M-Output.Denot) = record { moment = g.D.Disk.moment c.take_group-taken.new.durable.disk; item = c.take_group-taken.new.answers } in
+    let s : SaidAt (Vec g.row.M-Output.Denot) = record { moment = g.D.Disk.moment c.take_group-taken.new.durable.disk; item = c.take_group-taken.new.answers } in
     let more = unless_none items s in
     let old = g.O.Outlet.said c.args.outlet.now in
     let before = g.O.Outlet.said c.loop-group.outlet in
@@ -349,7 +349,7 @@ returns-in-Err-taken-clause-cause g c =
     let f' = g.D.Disk.faults c.take_group-taken.new.durable.disk in
     let o = g.O.Outlet.faults c.loop-group.outlet in
     let o' = g.O.Outlet.faults c.give_out.new.outlet in
-    let taken = answered (together g.M.Machine.answer) old now in
+    let taken = answers_since (together g.M.Machine.answer) old now in
     let is : taken ≡ length done + n =
     answered_is g.M.Machine.step all done group rest split first between inv.led (together g.M.Machine.answer)
     g.M.Machine.answers old before now more inv.so c.give_out.ensures.said n within many in
@@ -383,7 +383,7 @@ loop-group-preserved g c =
     let said_so = c.take_group-taken.ensures in
     let items = c.take_group-taken.new.answers.items in
     let n = length items in
-    let s : Said (Vec g.row.M-Output.Denot) = record { moment = g.D.Disk.moment c.take_group-taken.new.durable.disk; item = c.take_group-taken.new.answers } in
+    let s : SaidAt (Vec g.row.M-Output.Denot) = record { moment = g.D.Disk.moment c.take_group-taken.new.durable.disk; item = c.take_group-taken.new.answers } in
     let more = unless_none items s in
     let old = g.O.Outlet.said c.args.outlet.now in
     let before = g.O.Outlet.said c.loop-group.outlet in
@@ -422,9 +422,9 @@ loop-group-preserved g c =
           (given ∙ said_so.answers));
       leads = λ start was. said_so.leads whole.0 start (inv.leads start was);
       keeps = λ start was.
-          let leads = after g.M.Machine.named_state g.M.Machine.named g.M.Machine.step start in
+          let leads = state_after g.M.Machine.named_state g.M.Machine.named g.M.Machine.step start in
           subst
-          (KeepsAll (together g.M.Machine.answer) (g.D.Disk.moment c.take_group-taken.new.durable.disk)
+          (KeepsAnswers (together g.M.Machine.answer) (g.D.Disk.moment c.take_group-taken.new.durable.disk)
           (g.D.Disk.left_since c.take_group-taken.new.durable.disk) leads g.M.Machine.step all first)
           (sym (since_more more old before now inv.so.behind c.give_out.ensures.said))
           (keeps_more g.M.Machine.step all done group rest split first between inv.led leads g.D.Disk.moment g.D.Disk.left_since (together g.M.Machine.answer) c.loop-group.durable.disk c.take_group-taken.new.durable.disk (given_since old before) more inv.so.many
@@ -433,7 +433,7 @@ loop-group-preserved g c =
           (λ some f left. let is_open = not_closed c.take_group-taken.new.durable.closed n said_so.closed some in
           ap leads ((said_so.open is_open).durable f (g.met.D.Disk.only_now c.take_group-taken.new.durable.disk f left)) ∙ said_so.leads is_open start (inv.leads start was) ∙ sym (said_so.state is_open))));
       any_moment = λ start was.
-          let leads = after g.M.Machine.named_state g.M.Machine.named g.M.Machine.step start in
+          let leads = state_after g.M.Machine.named_state g.M.Machine.named g.M.Machine.step start in
           leaves_more g.M.Machine.step all done group rest split first between inv.led leads g.D.Disk.moment
           g.D.Disk.left_since c.args.durable.now.disk c.loop-group.durable.disk c.take_group-taken.new.durable.disk
           (inv.any_moment start was) (said_so.any_moment start (inv.leads start was));

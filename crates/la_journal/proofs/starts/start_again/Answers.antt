@@ -1,6 +1,6 @@
 use Rattle.std.proofs.Common.{ℕ, List, ⊎_elim, sym, ◌∙◌, ap, arith}
-use Rattle.la_journal.specs.Machine.{after}
-use Rattle.la_journal.specs.Held.{bytes_of, may_leave_of, counts_now_of}
+use Rattle.la_journal.specs.Machine.{state_after}
+use Rattle.la_journal.specs.Held.{held_bytes, may_leave_of, counts_now_of}
 use Rattle.la_journal.proofs.Leading.{same_lines}
 use Rattle.la_journal.proofs.starts.start_again.Goals as goal
 
@@ -13,13 +13,13 @@ returns-in-Ok-recover-clause-keeps g c t k first calls le known =
     let or_now =
     λ (f : List ℕ) (left_now : may_leave_of found f).
     known f (counts_now_of dead t f le (c.in-Ok.ensures.crash f left_now)) in
-    let there = known (bytes_of found) (c.in-Ok.ensures.start t le).read in (
+    let there = known (held_bytes found) (c.in-Ok.ensures.start t le).read in (
       (
         there.0,
         there.1,
         there.2,
         same_lines g.M.Machine.named_state g.M.Machine.named g.M.Machine.step start
-            (bytes_of found) (bytes_of c.in-Ok-recover.node.disk.contents) c.in-Ok-recover.ensures.same ∙ there.3,
+            (held_bytes found) (held_bytes c.in-Ok-recover.node.disk.contents) c.in-Ok-recover.ensures.same ∙ there.3,
       ),
       λ f left. ⊎_elim
           (λ was. ⊎_elim (λ had. known f had) (or_now f) (time.nothing_else t f le was))
@@ -29,7 +29,7 @@ returns-in-Ok-recover-clause-keeps g c t k first calls le known =
             there.1,
             there.2,
             same_lines g.M.Machine.named_state g.M.Machine.named g.M.Machine.step start
-                (bytes_of found) f is ∙ there.3,
+                (held_bytes found) f is ∙ there.3,
           ))
           same)
           (c.in-Ok-recover.ensures.any_moment.before t f (omega (arith, le, time.later)) left),
@@ -37,5 +37,5 @@ returns-in-Ok-recover-clause-keeps g c t k first calls le known =
 
 pub returns-in-Ok-recover-clause-state : goal.returns-in-Ok-recover-clause-state
 returns-in-Ok-recover-clause-state g c =
-    ap (after g.M.Machine.named_state g.M.Machine.named g.M.Machine.step (g.M.Machine.state c.args.start))
+    ap (state_after g.M.Machine.named_state g.M.Machine.named g.M.Machine.step (g.M.Machine.state c.args.start))
     (sym c.in-Ok.ensures.bytes) ∙ c.in-Ok-recover.ensures.state

@@ -1,12 +1,12 @@
 use Rattle.std.proofs.lemmas.Result.{IfOk-weaker}
-use Rattle.la_runner.specs.Runs.{IsWorked, IsReady, IsWorkOf}
+use Rattle.la_runner.specs.Runs.{IsWorked, IsReadyMember, IsWorkOf}
 use Rattle.la_runner.proofs.Threading.{zip_along, all_over, ready_of, worked_of}
 use Rattle.la_runner.proofs.running.run_in.Goals as goal
 
 pub run_all-requires-clause-ready : goal.run_all-requires-clause-ready
 run_all-requires-clause-ready g c κs within =
     all_over (λ s w. IsWorkOf s.member s.shelf s.jobs.items w.member w.shelf w.jobs.items)
-    (λ s. IsReady c.args.group.now s.member s.shelf) (λ w. IsReady c.args.group.now w.member w.shelf)
+    (λ s. IsReadyMember c.args.group.now s.member s.shelf) (λ w. IsReadyMember c.args.group.now w.member w.shelf)
     (λ s w is ready. ready_of c.args.group.now s.member s.shelf s.jobs.items w.member w.shelf w.jobs.items is ready)
     c.args.starts.items c.in-Ok.works.items c.in-Ok.ensures c.requires.ready
 

@@ -1,6 +1,6 @@
 use Rattle.std.specs.Vec.{vec_items}
 use Rattle.std.specs.Vec.Iter.{into_iter_items}
-use Rattle.la_runner.specs.Runs.{IsReady}
+use Rattle.la_runner.specs.Runs.{IsReadyMember}
 use Rattle.la_runner.proofs.Threading.{one_started, all_rest}
 use Rattle.la_runner.proofs.running.start_all.Goals as goal
 
@@ -13,6 +13,6 @@ loop-work-preserved g c = record {
       c.reserve.ensures.items c.push_reserved.ensures.items c.in-Some-start_one.ensures c.in-Some.ensures.steps.0
       c.loop-work.invariant.started;
   ready =
-      all_rest (λ w. IsReady c.args.group.now w.member w.shelf) c.in-Some.work (into_iter_items c.loop-work.work-iterator)
+      all_rest (λ w. IsReadyMember c.args.group.now w.member w.shelf) c.in-Some.work (into_iter_items c.loop-work.work-iterator)
       (into_iter_items c.next.new.self) c.in-Some.ensures.steps.0 c.loop-work.invariant.ready;
 }

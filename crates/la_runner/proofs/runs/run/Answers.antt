@@ -1,8 +1,8 @@
 use Rattle.std.proofs.Common.{◌≡◌, map, length, subst, sym, arith}
 use Rattle.std.specs.List.{All, AllZip}
-use Rattle.la_runner.specs.Members.{IsOf}
+use Rattle.la_runner.specs.Members.{IsOfGroup}
 use Rattle.la_runner.specs.Invariant.{IsMember}
-use Rattle.la_runner.specs.Runs.{Place, IsReady, IsWorked, IsBackOf, place_of, places, back_of}
+use Rattle.la_runner.specs.Runs.{Place, IsReadyMember, IsWorked, IsBackOf, place_of, places, back_of}
 use Rattle.la_runner.proofs.Agreeing.{decisions_compare, decisions_agree, decisions_are_theirs}
 use Rattle.la_runner.proofs.Keeping.{long_map}
 use Rattle.la_runner.proofs.Noted.{views_of, notes_hold, notes_agree}
@@ -25,9 +25,9 @@ starts-requires-clause-jobs g c =
 pub run_in-requires-clause-ready : goal.run_in-requires-clause-ready
 run_in-requires-clause-ready g c κs within =
     let f = c.is_run.ensures.config.0 c.if-not-is_run.false in
-    all_of_map (λ (p : Place). IsReady c.args.group.now p.member p.shelf) (λ s. place_of s.member s.shelf s.jobs.items)
+    all_of_map (λ (p : Place). IsReadyMember c.args.group.now p.member p.shelf) (λ s. place_of s.member s.shelf s.jobs.items)
     c.in-Ok.begun.items
-    (subst (All (λ (p : Place). IsReady c.args.group.now p.member p.shelf)) (sym c.in-Ok.ensures)
+    (subst (All (λ (p : Place). IsReadyMember c.args.group.now p.member p.shelf)) (sym c.in-Ok.ensures)
     (ready_all c.args.group.now c.args.members.items c.args.shelves.items c.args.jobs.items c.requires f.unused))
 
 pub returns-in-Ok-run_in-clause-config : goal.returns-in-Ok-run_in-clause-config
@@ -109,9 +109,9 @@ pub finish-requires-clause-of : goal.finish-requires-clause-of
 finish-requires-clause-of g c κs within =
     let f = c.is_run.ensures.config.0 c.if-not-is_run.false in
     all_over (λ s b. IsWorked s.member s.shelf s.jobs.items b.replica b.member b.shelf b.entries b.stopped)
-    (λ s. IsReady c.args.group.now s.member s.shelf) (λ b. IsOf c.args.group.now b.member × IsMember b.member)
+    (λ s. IsReadyMember c.args.group.now s.member s.shelf) (λ b. IsOfGroup c.args.group.now b.member × IsMember b.member)
     (λ s b h r. (of_goes c.args.group.now s.member b.member h.goes r.of, h.is)) c.in-Ok.begun.items
     c.in-Ok-run_in.done.items c.in-Ok-run_in.ensures
-    (all_of_map (λ (p : Place). IsReady c.args.group.now p.member p.shelf) (λ s. place_of s.member s.shelf s.jobs.items) c.in-Ok.begun.items
-    (subst (All (λ (p : Place). IsReady c.args.group.now p.member p.shelf)) (sym c.in-Ok.ensures)
+    (all_of_map (λ (p : Place). IsReadyMember c.args.group.now p.member p.shelf) (λ s. place_of s.member s.shelf s.jobs.items) c.in-Ok.begun.items
+    (subst (All (λ (p : Place). IsReadyMember c.args.group.now p.member p.shelf)) (sym c.in-Ok.ensures)
     (ready_all c.args.group.now c.args.members.items c.args.shelves.items c.args.jobs.items c.requires f.unused)))

@@ -1,7 +1,7 @@
 use Rattle.std.proofs.Common.{[], ◌∷◌, ◌++◌, map, refl, subst, sym, inr}
 use Rattle.std.specs.List.{All, AllZip}
 use Rattle.la_runner.specs.Invariant.{IsMember}
-use Rattle.la_runner.specs.Members.{IsOf}
+use Rattle.la_runner.specs.Members.{IsOfGroup}
 use Rattle.la_runner.specs.Runs.{back_of}
 use Rattle.la_runner.specs.Together.{HasSeen, IsSameLog}
 use Rattle.la_runner.proofs.Sharing.{all_front, all_last, same_all, seen_all, seen_self}
@@ -9,18 +9,18 @@ use Rattle.la_runner.proofs.showing.show_all.Goals as goal
 
 pub show_last-requires-clause-of : goal.show_last-requires-clause-of
 show_last-requires-clause-of g c κs within k d lt =
-    (all_front (λ l. IsOf c.args.group.now l.member × IsMember l.member) c.in-Some.others.now c.in-Some.last.now
-    (subst (All (λ l. IsOf c.args.group.now l.member × IsMember l.member)) c.in-Some.ensures.cases.0 c.requires) k d lt).0
+    (all_front (λ l. IsOfGroup c.args.group.now l.member × IsMember l.member) c.in-Some.others.now c.in-Some.last.now
+    (subst (All (λ l. IsOfGroup c.args.group.now l.member × IsMember l.member)) c.in-Some.ensures.cases.0 c.requires) k d lt).0
 
 pub show_last-requires-clause-last : goal.show_last-requires-clause-last
 show_last-requires-clause-last g c κs within =
-    (all_last (λ l. IsOf c.args.group.now l.member × IsMember l.member) c.in-Some.others.now c.in-Some.last.now
-    (subst (All (λ l. IsOf c.args.group.now l.member × IsMember l.member)) c.in-Some.ensures.cases.0 c.requires)).0
+    (all_last (λ l. IsOfGroup c.args.group.now l.member × IsMember l.member) c.in-Some.others.now c.in-Some.last.now
+    (subst (All (λ l. IsOfGroup c.args.group.now l.member × IsMember l.member)) c.in-Some.ensures.cases.0 c.requires)).0
 
 pub returns-clause-same : goal.returns-clause-same
 returns-clause-same g c =
     let all =
-    subst (All (λ l. IsOf c.args.group.now l.member × IsMember l.member)) c.in-Some.ensures.cases.0 c.requires in
+    subst (All (λ l. IsOfGroup c.args.group.now l.member × IsMember l.member)) c.in-Some.ensures.cases.0 c.requires in
     subst
     (λ l.
     AllZip IsSameLog (map (λ x. back_of x.replica x.member x.shelf x.entries x.stopped) l)
@@ -30,7 +30,7 @@ returns-clause-same g c =
     (subst (λ l. AllZip IsSameLog (map (λ x. back_of x.replica x.member x.shelf x.entries x.stopped) (c.in-Some.others.now ++ c.in-Some.last.now ∷ [])) (map (λ x. back_of x.replica x.member x.shelf x.entries x.stopped) (l ++ record c.in-Some.last.now { member = c.show_last.new.last } ∷ []))) (sym c.show_last.ensures.same)
     (same_all (λ x. back_of x.replica x.member x.shelf x.entries x.stopped) c.in-Some.others.now c.in-Some.last.now (record c.in-Some.last.now { member = c.show_last.new.last })
     (λ k d lt.
-    (all_front (λ l. IsOf c.args.group.now l.member × IsMember l.member) c.in-Some.others.now c.in-Some.last.now all
+    (all_front (λ l. IsOfGroup c.args.group.now l.member × IsMember l.member) c.in-Some.others.now c.in-Some.last.now all
     k d lt).1)
     (record { same_replica = refl; sees = c.show_last.ensures.more; same_shelf = refl; same_entries = refl; same_stopped = refl })))
 

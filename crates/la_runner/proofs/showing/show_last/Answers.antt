@@ -1,6 +1,6 @@
 use Rattle.std.proofs.Common.{◌≡◌, ◌<◌, ◌+◌, length, refl, subst, sym, ap, ◌∙◌, arith}
 use Rattle.std.specs.List.{AllWithin, slice_index_or}
-use Rattle.la_runner.specs.Members.{IsOf}
+use Rattle.la_runner.specs.Members.{IsOfGroup}
 use Rattle.la_runner.specs.Together.{HasSeen}
 use Rattle.la_runner.proofs.Keeping.{put_back}
 use Rattle.la_runner.proofs.Sharing.{sees_self, sees_then, one_shown, here_of}
@@ -12,8 +12,8 @@ loop-at-init g c = record { same = refl; more = sees_self c.args.last.now c.repl
 
 pub show-requires-clause-from : goal.show-requires-clause-from
 show-requires-clause-from g c =
-    subst (λ l. IsOf c.args.group.now l.member) c.index-others-at.is
-    (here_of (λ l. IsOf c.args.group.now l.member) c.args.others.now c.loop-at.others c.loop-at.at
+    subst (λ l. IsOfGroup c.args.group.now l.member) c.index-others-at.is
+    (here_of (λ l. IsOfGroup c.args.group.now l.member) c.args.others.now c.loop-at.others c.loop-at.at
     c.index-others-at.result c.loop-at.invariant.same c.loop-at-test.true c.index-others-at.is c.requires.of)
 
 pub show-requires-clause-to : goal.show-requires-clause-to

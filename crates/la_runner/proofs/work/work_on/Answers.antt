@@ -1,5 +1,5 @@
 use Rattle.std.proofs.Common.{◌≡◌, subst, sym, vec_len}
-use Rattle.la_runner.specs.Members.{IsOf, GoesOn}
+use Rattle.la_runner.specs.Members.{IsOfGroup, MemberGoesOn}
 use Rattle.la_runner.specs.Notes.{doings}
 use Rattle.la_runner.specs.Runs.{IsWorked}
 use Rattle.la_runner.proofs.Ending.{worked}
@@ -19,7 +19,7 @@ send_all-is_sent-requires-clause-of g c =
 
 pub take_all-taken-requires-clause-of : goal.take_all-taken-requires-clause-of
 take_all-taken-requires-clause-of g c =
-    subst (IsOf c.args.group.now) (sym c.send_all-is_sent.ensures)
+    subst (IsOfGroup c.args.group.now) (sym c.send_all-is_sent.ensures)
     (of_goes c.args.group.now c.args.work.member c.do_all-ended.new.member c.do_all-ended.ensures.goes_on
     c.requires.ready.of)
 
@@ -34,7 +34,7 @@ returns g c =
     c.do_all-ended.ensures.done c.do_all-ended.ensures.goes_on (vec_len c.do_all-ended.new.entries)
     c.do_all-ended.new.entries.ok.0 (vec_len c.args.work.jobs) c.args.work.jobs.ok.0 c.do_all-ended.ensures.all
     c.do_all-ended.ensures.stop
-    (subst (λ m. GoesOn m c.take_all-taken.new.member) c.send_all-is_sent.ensures c.take_all-taken.ensures.goes_on)
+    (subst (λ m. MemberGoesOn m c.take_all-taken.new.member) c.send_all-is_sent.ensures c.take_all-taken.ensures.goes_on)
     (subst (λ m. doings c.take_all-taken.new.member ≡ doings m) c.send_all-is_sent.ensures
     c.take_all-taken.ensures.same)
     c.replica-replica.ensures.is c.replica-replica.result c.replica-replica.ensures.replica

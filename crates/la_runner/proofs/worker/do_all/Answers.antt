@@ -3,8 +3,8 @@ use Rattle.std.specs.Vec.Iter.{into_iter_items}
 use Rattle.la_object.specs.declared.kind.Kind.{Kind}
 use Rattle.la_runner.specs.declared.jobs.Entry.{Entry}
 use Rattle.la_runner.specs.declared.jobs.Stopped.TheVariants.{Memory}
-use Rattle.la_runner.specs.Entries.{Answers}
-use Rattle.la_runner.specs.Members.{submitted_in}
+use Rattle.la_runner.specs.Entries.{AnswersJob}
+use Rattle.la_runner.specs.Members.{member_submitted}
 use Rattle.la_runner.specs.Stops.{StopFits}
 use Rattle.la_runner.proofs.Keeping.{goes_on_then}
 use Rattle.la_runner.proofs.UnderWay.{UnderWay, begins, turn, goes_on_more, keeps_done, stops_here, memory_fits, of_goes}
@@ -35,7 +35,7 @@ loop-job-preserved g c =
     let fits =
     subst
     (λ (os : List (ℕ × Kind)).
-    Answers c.do_job.new.member (length (submitted_in c.loop-job.member 0) + 1) os c.in-Some.job c.in-Ok.entry)
+    AnswersJob c.do_job.new.member (length (member_submitted c.loop-job.member 0) + 1) os c.in-Some.job c.in-Ok.entry)
     w.same c.in-Ok.ensures.answers in
     let more =
     goes_on_more first objects all es c.loop-job.member c.loop-job.shelf c.in-Some.job rest w c.in-Ok.entry

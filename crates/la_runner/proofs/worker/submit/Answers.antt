@@ -1,6 +1,6 @@
 use Rattle.std.proofs.Common.{Some, ap, sym, subst}
 use Rattle.la_proposer.specs.ProposerState.{op_on}
-use Rattle.la_runner.specs.Members.{submitted_in}
+use Rattle.la_runner.specs.Members.{member_submitted}
 use Rattle.la_runner.specs.Stops.{StopsUpdate}
 use Rattle.la_runner.proofs.Answering.{update_answers, one_longer}
 use Rattle.la_runner.proofs.Stopping.{update_error, update_stops}
@@ -21,7 +21,7 @@ returns-in-Ok-clause-names g c = ap Some (sym c.in-Ok.ensures.updated.view)
 
 pub returns-in-Ok-clause-submitted : goal.returns-in-Ok-clause-submitted
 returns-in-Ok-clause-submitted g c =
-    one_longer (submitted_in c.args.member.now 0) (submitted_in c.update.new.member 0) (op_on c.args.object c.args.op)
+    one_longer (member_submitted c.args.member.now 0) (member_submitted c.update.new.member 0) (op_on c.args.object c.args.op)
     c.in-Ok.ensures.submitted
 
 pub returns-in-Err-clause-error : goal.returns-in-Err-clause-error

@@ -6,7 +6,7 @@ use Rattle.clap.specs.declared.builder.command.Command.{Command}
 use Rattle.clap.specs.declared.builder.command.Command.TheOpen.{Command-F}
 use Rattle.clap.specs.declared.builder.command.Command.TheViews.{out-Command}
 use Rattle.la_cli.specs.Calls.{option}
-use Rattle.la_serve.specs.Options.{journal, node_named, own, votes}
+use Rattle.la_serve.specs.Options.{journal_option, node_named, own, votes_option}
 use Rattle.la_serve.proofs.OptionLines.{versioned}
 use Rattle.la_serve.proofs.options.node_command.Goals as goal
 
@@ -27,8 +27,8 @@ returns-clause-app c =
     c.in_ok-capped.ensures.app 1 1000000
     (rw (c.value_parser-3.ensures, c.new-4.ensures.start, c.new-4.ensures.end) at c.range-caps.ensures)
     ∙ ap (λ (a : App). with_rule a (option (codes "cap") 1 1000000 (codes "1000000"))) shared in
-    let voted = c.in_ok-voted.ensures.app ∙ ap (λ (a : App). with_rule a votes) capped in
-    IfOk-weaker c.with_journal.result _ _ (λ made h. h ∙ ap (λ (a : App). with_rule a journal) voted)
+    let voted = c.in_ok-voted.ensures.app ∙ ap (λ (a : App). with_rule a votes_option) capped in
+    IfOk-weaker c.with_journal.result _ _ (λ made h. h ∙ ap (λ (a : App). with_rule a journal_option) voted)
     c.with_journal.ensures.app
 
 pub returns-clause-local : goal.returns-clause-local

@@ -1,13 +1,13 @@
 use Rattle.std.proofs.Common.{rules, ◌≡◌, ◌∙◌, ap, false}
 use Rattle.std.proofs.lemmas.Result.{IfOk-weaker}
 use Rattle.clap.specs.Words.{app_of, rule_of, with_rule}
-use Rattle.la_serve.specs.Options.{journal}
+use Rattle.la_serve.specs.Options.{journal_option}
 use Rattle.la_serve.proofs.OptionLines.{stays_local}
 use Rattle.la_serve.proofs.options.with_journal.Goals as goal
 
 pub returns-clause-app : goal.returns-clause-app
 returns-clause-app c =
-    let whole : rule_of c.required.result ≡ journal = search rules in
+    let whole : rule_of c.required.result ≡ journal_option = search rules in
     let local : c.required.result.global ≡ false = search rules in
     IfOk-weaker c.arg.result _ _ (λ made h. h.shape local ∙ ap (with_rule (app_of c.args.command)) whole) c.arg.ensures
 

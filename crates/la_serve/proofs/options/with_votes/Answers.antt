@@ -3,7 +3,7 @@ use Rattle.std.specs.Prelude.{IsSomeAnd}
 use Rattle.std.proofs.lemmas.Result.{IfOk-weaker}
 use Rattle.clap.specs.Words.{Rule, app_of, rule_of, with_rule}
 use Rattle.clap.specs.declared.builder.range.ValueRange.{ValueRange}
-use Rattle.la_serve.specs.Options.{number}
+use Rattle.la_serve.specs.Options.{number_option}
 use Rattle.la_serve.proofs.OptionLines.{stays_local}
 use Rattle.la_serve.proofs.options.with_votes.Goals as goal
 
@@ -21,7 +21,7 @@ returns-clause-app c =
     let range = some_range c.num_args.result.num_vals (record { start_inclusive = 1; end_inclusive = 8 }) (rw (c.new-2.ensures.start, c.new-2.ensures.end) at c.num_args.ensures.1) in
     let whole = ap rule_of c.num_args.ensures.0
     ∙ ap (λ (r : Rule). record r { range = c.num_args.result.num_vals }) rule
-    ∙ ap (λ (o : Option ValueRange). record (number (codes "votes") 1 1000) { range = o }) range in
+    ∙ ap (λ (o : Option ValueRange). record (number_option (codes "votes") 1 1000) { range = o }) range in
     IfOk-weaker c.arg.result _ _ (λ made h. h.shape local ∙ ap (with_rule (app_of c.args.command)) whole) c.arg.ensures
 
 pub returns-clause-local : goal.returns-clause-local

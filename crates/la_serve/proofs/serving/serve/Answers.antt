@@ -11,7 +11,7 @@ use Rattle.la_durable.specs.Restarts.{kept_state}
 use Rattle.la_io.specs.Streams.{ahead, pending, TellsAll}
 use Rattle.la_serve.specs.declared.error.NodeFault.TheVariants as fault
 use Rattle.la_serve.specs.Crashes.{Leaves, Commits, CommitsSome, Flushes}
-use Rattle.la_serve.specs.Serving.{Steps, IsStepRefusal, Unflushed, of_step, Serves, IsServeRefusal}
+use Rattle.la_serve.specs.Serving.{TurnSteps, IsStepRefusal, Unflushed, of_step, ServesLines, IsServeRefusal}
 use Rattle.la_serve.proofs.Taking.{if_err_same}
 use Rattle.la_serve.proofs.Groups.{So, so_none, so_more, so_prepared, so_unflushed, so_stops, so_ends, so_end_refused, so_step_unflushed, so_step_refused}
 use Rattle.la_serve.proofs.serving.serve.Goals as goal
@@ -71,7 +71,7 @@ returns-in-Ok-false-clause-ok g c =
     subst
     (λ (m : NodeMachine).
     OnOk c.flush.result
-    (Serves c.args.filter.now.shelf.objects (state c.args.filter.now.node.durable.machine)
+    (ServesLines c.args.filter.now.shelf.objects (state c.args.filter.now.node.durable.machine)
     (TellsAll g.E.Write.contents g.E.Listener.refuses c.args.errors.now c.step.new.errors)
     (Leaves g.D.Disk.seen g.D.Disk.may_leave g.D.Disk.moment g.D.Disk.left_since
     (state c.args.filter.now.node.durable.machine) c.args.filter.now.node.durable.disk
@@ -91,7 +91,7 @@ returns-in-Ok-false-clause-ok g c =
     (λ d.
     CommitsSome g.D.Disk.seen g.D.Disk.moment g.D.Disk.left_since c.step.new.filter.node.text.items d
     c.flush.new.filter.node.durable.disk) c.step.ensures.disk c.flush.ensures.any_moment)
-    (subst (λ (os : List (ℕ × Kind)). Steps os (state c.prepare.new.filter.node.durable.machine) c.loop-number.number (TellsAll g.E.Write.contents g.E.Listener.refuses c.loop-number.errors c.step.new.errors) (ahead c.loop-number.source (g.R.Read.remaining c.loop-number.input)) (ahead c.step.new.source (g.R.Read.remaining c.step.new.input)) (Some c.prepare.new.held.items) (Some c.step.new.output.items) (lines c.prepare.new.filter.node.text.items) (lines c.step.new.filter.node.text.items) (state c.step.new.filter.node.durable.machine) false) objects (subst (λ (b : Bool). Steps c.prepare.new.filter.shelf.objects (state c.prepare.new.filter.node.durable.machine) c.loop-number.number (TellsAll g.E.Write.contents g.E.Listener.refuses c.loop-number.errors c.step.new.errors) (ahead c.loop-number.source (g.R.Read.remaining c.loop-number.input)) (ahead c.step.new.source (g.R.Read.remaining c.step.new.input)) (Some c.prepare.new.held.items) (Some c.step.new.output.items) (lines c.prepare.new.filter.node.text.items) (lines c.step.new.filter.node.text.items) (state c.step.new.filter.node.durable.machine) b) c.in-Ok-false.field-0-test c.in-Ok-false.ensures.ok)) c.flush.new.held.items c.flush.new.filter.node.text.items c.flush.result (subst (λ d. OnOk c.flush.result (Flushes g.D.Disk.seen g.D.Disk.may_leave g.D.Disk.moment g.D.Disk.left_since (g.W.Write.contents c.prepare.new.output) (g.W.Write.contents c.flush.new.output) c.step.new.output.items c.flush.new.held.items c.step.new.filter.node.text.items c.flush.new.filter.node.text.items d c.flush.new.filter.node.durable.disk)) c.step.ensures.disk c.flush.ensures.ok))
+    (subst (λ (os : List (ℕ × Kind)). TurnSteps os (state c.prepare.new.filter.node.durable.machine) c.loop-number.number (TellsAll g.E.Write.contents g.E.Listener.refuses c.loop-number.errors c.step.new.errors) (ahead c.loop-number.source (g.R.Read.remaining c.loop-number.input)) (ahead c.step.new.source (g.R.Read.remaining c.step.new.input)) (Some c.prepare.new.held.items) (Some c.step.new.output.items) (lines c.prepare.new.filter.node.text.items) (lines c.step.new.filter.node.text.items) (state c.step.new.filter.node.durable.machine) false) objects (subst (λ (b : Bool). TurnSteps c.prepare.new.filter.shelf.objects (state c.prepare.new.filter.node.durable.machine) c.loop-number.number (TellsAll g.E.Write.contents g.E.Listener.refuses c.loop-number.errors c.step.new.errors) (ahead c.loop-number.source (g.R.Read.remaining c.loop-number.input)) (ahead c.step.new.source (g.R.Read.remaining c.step.new.input)) (Some c.prepare.new.held.items) (Some c.step.new.output.items) (lines c.prepare.new.filter.node.text.items) (lines c.step.new.filter.node.text.items) (state c.step.new.filter.node.durable.machine) b) c.in-Ok-false.field-0-test c.in-Ok-false.ensures.ok)) c.flush.new.held.items c.flush.new.filter.node.text.items c.flush.result (subst (λ d. OnOk c.flush.result (Flushes g.D.Disk.seen g.D.Disk.may_leave g.D.Disk.moment g.D.Disk.left_since (g.W.Write.contents c.prepare.new.output) (g.W.Write.contents c.flush.new.output) c.step.new.output.items c.flush.new.held.items c.step.new.filter.node.text.items c.flush.new.filter.node.text.items d c.flush.new.filter.node.durable.disk)) c.step.ensures.disk c.flush.ensures.ok))
 
 pub returns-in-Ok-false-clause-err : goal.returns-in-Ok-false-clause-err
 returns-in-Ok-false-clause-err g c =
@@ -131,7 +131,7 @@ returns-in-Ok-false-clause-err g c =
     (λ d.
     CommitsSome g.D.Disk.seen g.D.Disk.moment g.D.Disk.left_since c.step.new.filter.node.text.items d
     c.flush.new.filter.node.durable.disk) c.step.ensures.disk c.flush.ensures.any_moment)
-    (subst (λ (os : List (ℕ × Kind)). Steps os (state c.prepare.new.filter.node.durable.machine) c.loop-number.number (TellsAll g.E.Write.contents g.E.Listener.refuses c.loop-number.errors c.step.new.errors) (ahead c.loop-number.source (g.R.Read.remaining c.loop-number.input)) (ahead c.step.new.source (g.R.Read.remaining c.step.new.input)) (Some c.prepare.new.held.items) (Some c.step.new.output.items) (lines c.prepare.new.filter.node.text.items) (lines c.step.new.filter.node.text.items) (state c.step.new.filter.node.durable.machine) false) objects (subst (λ (b : Bool). Steps c.prepare.new.filter.shelf.objects (state c.prepare.new.filter.node.durable.machine) c.loop-number.number (TellsAll g.E.Write.contents g.E.Listener.refuses c.loop-number.errors c.step.new.errors) (ahead c.loop-number.source (g.R.Read.remaining c.loop-number.input)) (ahead c.step.new.source (g.R.Read.remaining c.step.new.input)) (Some c.prepare.new.held.items) (Some c.step.new.output.items) (lines c.prepare.new.filter.node.text.items) (lines c.step.new.filter.node.text.items) (state c.step.new.filter.node.durable.machine) b) c.in-Ok-false.field-0-test c.in-Ok-false.ensures.ok)) c.flush.result (subst (λ d. IfErr c.flush.result (Unflushed (Keeps (g.W.Write.contents c.prepare.new.output) (g.W.Write.contents c.flush.new.output)) (AppendsPrefix (g.W.Write.contents c.prepare.new.output) (g.W.Write.contents c.flush.new.output) c.step.new.output.items × Commits g.D.Disk.seen g.D.Disk.may_leave c.step.new.filter.node.text.items d c.flush.new.filter.node.durable.disk))) c.step.ensures.disk c.flush.ensures.err))
+    (subst (λ (os : List (ℕ × Kind)). TurnSteps os (state c.prepare.new.filter.node.durable.machine) c.loop-number.number (TellsAll g.E.Write.contents g.E.Listener.refuses c.loop-number.errors c.step.new.errors) (ahead c.loop-number.source (g.R.Read.remaining c.loop-number.input)) (ahead c.step.new.source (g.R.Read.remaining c.step.new.input)) (Some c.prepare.new.held.items) (Some c.step.new.output.items) (lines c.prepare.new.filter.node.text.items) (lines c.step.new.filter.node.text.items) (state c.step.new.filter.node.durable.machine) false) objects (subst (λ (b : Bool). TurnSteps c.prepare.new.filter.shelf.objects (state c.prepare.new.filter.node.durable.machine) c.loop-number.number (TellsAll g.E.Write.contents g.E.Listener.refuses c.loop-number.errors c.step.new.errors) (ahead c.loop-number.source (g.R.Read.remaining c.loop-number.input)) (ahead c.step.new.source (g.R.Read.remaining c.step.new.input)) (Some c.prepare.new.held.items) (Some c.step.new.output.items) (lines c.prepare.new.filter.node.text.items) (lines c.step.new.filter.node.text.items) (state c.step.new.filter.node.durable.machine) b) c.in-Ok-false.field-0-test c.in-Ok-false.ensures.ok)) c.flush.result (subst (λ d. IfErr c.flush.result (Unflushed (Keeps (g.W.Write.contents c.prepare.new.output) (g.W.Write.contents c.flush.new.output)) (AppendsPrefix (g.W.Write.contents c.prepare.new.output) (g.W.Write.contents c.flush.new.output) c.step.new.output.items × Commits g.D.Disk.seen g.D.Disk.may_leave c.step.new.filter.node.text.items d c.flush.new.filter.node.durable.disk))) c.step.ensures.disk c.flush.ensures.err))
 
 pub returns-in_err-flush-in-Err-clause-err : goal.returns-in_err-flush-in-Err-clause-err
 returns-in_err-flush-in-Err-clause-err g c =
@@ -249,7 +249,7 @@ loop-number-preserved g c =
           c.loop-number.number so
           (ahead c.step.new.source (g.R.Read.remaining c.step.new.input)) c.step.new.output.items
           c.step.new.filter.node.text.items (state c.step.new.filter.node.durable.machine) c.step.new.errors
-          (subst (λ (os : List (ℕ × Kind)). Steps os (state c.prepare.new.filter.node.durable.machine) c.loop-number.number (TellsAll g.E.Write.contents g.E.Listener.refuses c.loop-number.errors c.step.new.errors) (ahead c.loop-number.source (g.R.Read.remaining c.loop-number.input)) (ahead c.step.new.source (g.R.Read.remaining c.step.new.input)) (Some c.prepare.new.held.items) (Some c.step.new.output.items) (lines c.prepare.new.filter.node.text.items) (lines c.step.new.filter.node.text.items) (state c.step.new.filter.node.durable.machine) true) objects (subst (λ (b : Bool). Steps c.prepare.new.filter.shelf.objects (state c.prepare.new.filter.node.durable.machine) c.loop-number.number (TellsAll g.E.Write.contents g.E.Listener.refuses c.loop-number.errors c.step.new.errors) (ahead c.loop-number.source (g.R.Read.remaining c.loop-number.input)) (ahead c.step.new.source (g.R.Read.remaining c.step.new.input)) (Some c.prepare.new.held.items) (Some c.step.new.output.items) (lines c.prepare.new.filter.node.text.items) (lines c.step.new.filter.node.text.items) (state c.step.new.filter.node.durable.machine) b) c.in-Ok-true.field-0-test c.in-Ok-true.ensures.ok)));
+          (subst (λ (os : List (ℕ × Kind)). TurnSteps os (state c.prepare.new.filter.node.durable.machine) c.loop-number.number (TellsAll g.E.Write.contents g.E.Listener.refuses c.loop-number.errors c.step.new.errors) (ahead c.loop-number.source (g.R.Read.remaining c.loop-number.input)) (ahead c.step.new.source (g.R.Read.remaining c.step.new.input)) (Some c.prepare.new.held.items) (Some c.step.new.output.items) (lines c.prepare.new.filter.node.text.items) (lines c.step.new.filter.node.text.items) (state c.step.new.filter.node.durable.machine) true) objects (subst (λ (b : Bool). TurnSteps c.prepare.new.filter.shelf.objects (state c.prepare.new.filter.node.durable.machine) c.loop-number.number (TellsAll g.E.Write.contents g.E.Listener.refuses c.loop-number.errors c.step.new.errors) (ahead c.loop-number.source (g.R.Read.remaining c.loop-number.input)) (ahead c.step.new.source (g.R.Read.remaining c.step.new.input)) (Some c.prepare.new.held.items) (Some c.step.new.output.items) (lines c.prepare.new.filter.node.text.items) (lines c.step.new.filter.node.text.items) (state c.step.new.filter.node.durable.machine) b) c.in-Ok-true.field-0-test c.in-Ok-true.ensures.ok)));
       over = c.step.ensures.over;
       settled =
           subst (λ d. IsSettled g.D.Disk.seen g.D.Disk.may_leave d) (sym c.step.ensures.disk)

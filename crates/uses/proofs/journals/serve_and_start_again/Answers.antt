@@ -1,6 +1,6 @@
 use Rattle.la_journal.specs.Held.{moment_of, left_since_of}
-use Rattle.la_journal.specs.Machine.{after, calls}
-use Rattle.la_journal.specs.Served.{alone, answered, given_since}
+use Rattle.la_journal.specs.Machine.{state_after, calls}
+use Rattle.la_journal.specs.Served.{answer_alone, answers_since, given_since}
 use Rattle.uses.proofs.Newest.{newest}
 use Rattle.uses.proofs.journals.serve_and_start_again.Goals as goal
 
@@ -9,14 +9,14 @@ returns-in-Ok g c =
     let served = c.serve_all-all_or_some.ensures in
     let dead = c.serve_all-all_or_some.new.durable.disk.contents in
     let start = g.M.Machine.state c.args.anew in
-    let leads = after g.M.Machine.named_state g.M.Machine.named g.M.Machine.step start in
+    let leads = state_after g.M.Machine.named_state g.M.Machine.named g.M.Machine.step start in
     let all = calls g.M.Machine.call c.args.inputs.now in
     let first = g.M.Machine.state c.args.node.machine in
     let old = g.O.Outlet.said c.args.outlet.now in
     let new = g.O.Outlet.said c.serve_all-all_or_some.new.outlet in
     let any = served.any_moment start c.requires.leads in
     let last =
-    newest (alone g.M.Machine.answer) (moment_of dead) (left_since_of dead) leads g.M.Machine.step all first
+    newest (answer_alone g.M.Machine.answer) (moment_of dead) (left_since_of dead) leads g.M.Machine.step all first
     (given_since old new) (served.keeps start c.requires.leads)
     (moment_of c.args.node.disk.contents) any.later any.each in
-    (c.in-Ok.ensures.keeps last.0 (answered (alone g.M.Machine.answer) old new) first all last.1 last.2).0
+    (c.in-Ok.ensures.keeps last.0 (answers_since (answer_alone g.M.Machine.answer) old new) first all last.1 last.2).0

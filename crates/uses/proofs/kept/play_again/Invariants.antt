@@ -1,9 +1,9 @@
 use Rattle.std.specs.Prelude.{◌≡◌, map, take, Some}
 use Rattle.la_world.specs.Kept.{after_calls}
-use Rattle.uses.specs.Kept.{call_of}
+use Rattle.uses.specs.Kept.{kept_call}
 use Rattle.uses.proofs.kept.play_again.Given as goal
 
 -- the node has come as far as the calls so far
 abbrev pub invariant-loop-call : goal.invariant-loop-call
 invariant-loop-call g l =
-    after_calls l.initial.node.replica (map call_of (take l.call-index l.kept)) ≡ Some l.node.replica
+    after_calls l.initial.node.replica (map kept_call (take l.call-index l.kept)) ≡ Some l.node.replica

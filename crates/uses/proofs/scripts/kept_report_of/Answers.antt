@@ -2,11 +2,11 @@ use Rattle.std.specs.Prelude.{ℕ, List, [], map, replicate, Result, Ok, Err, If
 use Rattle.la_world.specs.Events.{event_of}
 use Rattle.la_world.specs.Reported.{ReportsKeepPromises}
 use Rattle.la_world.specs.Report.{report}
-use Rattle.uses.specs.Scripts.{IsReportOf, IsTextOfKept}
+use Rattle.uses.specs.Scripts.{IsReportOf, IsPlayedText}
 use Rattle.uses.proofs.scripts.kept_report_of.Goals as goal
 
 keeps : {E : Type 0} → ReportsKeepPromises → (bytes : List ℕ) (r : Result (List ℕ) E) → IfOk r (IsReportOf bytes)
-    → IfOk r (IsTextOfKept bytes)
+    → IfOk r (IsPlayedText bytes)
 keeps law bytes (Ok text) is =
     let script = is.script in
     let kinds = replicate script.config.replicas [] in

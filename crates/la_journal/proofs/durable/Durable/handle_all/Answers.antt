@@ -1,7 +1,7 @@
 use Rattle.std.proofs.Common.{◌≡◌, ◌++◌, ◌-◌, ◌≤◌, List, ℕ, Some, length, take, sym, ◌∙◌, ap, subst, arith, rules}
 use Rattle.std.proofs.lemmas.List.{length-map}
 use Rattle.la_journal.specs.Lines.{lines, file_of}
-use Rattle.la_journal.specs.Machine.{texts, calls, after, steps_from, LeadsToSome}
+use Rattle.la_journal.specs.Machine.{call_texts, calls, state_after, steps_from, LeadsToSome}
 use Rattle.la_journal.proofs.Whole.{IsSomeOf}
 use Rattle.la_journal.proofs.Groups.{lines_of, clean_texts, clean_take, group_lines, group_settled, group_torn, none_of}
 use Rattle.la_journal.proofs.Leading.{some_lead, leads_on, texts_are}
@@ -12,7 +12,7 @@ use Rattle.la_journal.proofs.durable.Durable.handle_all.Goals as goal
 
 pub end_of-end-requires : goal.end_of-end-requires
 end_of-end-requires g c =
-    let more = texts g.M.Machine.call g.M.Machine.text c.args.inputs.now in
+    let more = call_texts g.M.Machine.call g.M.Machine.text c.args.inputs.now in
     let clean =
     clean_texts g.M.Machine.call g.M.Machine.text (λ (a : g.M.Machine.Call). (g.met.M.Machine.clean a).0)
     c.args.inputs.now in
@@ -28,7 +28,7 @@ pub returns-in-Ok-keep-clause-lines : goal.returns-in-Ok-keep-clause-lines
 returns-in-Ok-keep-clause-lines g c is_open =
     let old = c.args.self.now.disk in
     let mid = c.reserve-2.new.self in
-    let more = texts g.M.Machine.call g.M.Machine.text c.args.inputs.now in
+    let more = call_texts g.M.Machine.call g.M.Machine.text c.args.inputs.now in
     let clean =
     clean_texts g.M.Machine.call g.M.Machine.text (λ (a : g.M.Machine.Call). (g.met.M.Machine.clean a).0)
     c.args.inputs.now in
@@ -67,7 +67,7 @@ returns-in-Ok-keep-clause-leads g c is_open start was =
 pub returns-in_default-reserve-2-clause-any_moment : goal.returns-in_default-reserve-2-clause-any_moment
 returns-in_default-reserve-2-clause-any_moment g c is_open start was =
     let old = c.args.self.now.disk in
-    let leads = after g.M.Machine.named_state g.M.Machine.named g.M.Machine.step start in
+    let leads = state_after g.M.Machine.named_state g.M.Machine.named g.M.Machine.step start in
     let P =
     LeadsToSome leads g.M.Machine.step (calls g.M.Machine.call c.args.inputs.now)
     (g.M.Machine.state c.args.self.now.machine) in
@@ -79,7 +79,7 @@ pub returns-in-Ok-keep-clause-open : goal.returns-in-Ok-keep-clause-open
 returns-in-Ok-keep-clause-open g c is_open =
     let old = c.args.self.now.disk in
     let mid = c.reserve-2.new.self in
-    let more = texts g.M.Machine.call g.M.Machine.text c.args.inputs.now in
+    let more = call_texts g.M.Machine.call g.M.Machine.text c.args.inputs.now in
     let clean =
     clean_texts g.M.Machine.call g.M.Machine.text (λ (a : g.M.Machine.Call). (g.met.M.Machine.clean a).0)
     c.args.inputs.now in
@@ -102,7 +102,7 @@ pub returns-in-Ok-keep-clause-any_moment : goal.returns-in-Ok-keep-clause-any_mo
 returns-in-Ok-keep-clause-any_moment g c is_open start was =
     let old = c.args.self.now.disk in
     let mid = c.reserve-2.new.self in
-    let more = texts g.M.Machine.call g.M.Machine.text c.args.inputs.now in
+    let more = call_texts g.M.Machine.call g.M.Machine.text c.args.inputs.now in
     let clean =
     clean_texts g.M.Machine.call g.M.Machine.text (λ (a : g.M.Machine.Call). (g.met.M.Machine.clean a).0)
     c.args.inputs.now in
@@ -135,7 +135,7 @@ pub returns-clause-any_moment : goal.returns-clause-any_moment
 returns-clause-any_moment g c is_open start was =
     let old = c.args.self.now.disk in
     let mid = c.reserve-2.new.self in
-    let more = texts g.M.Machine.call g.M.Machine.text c.args.inputs.now in
+    let more = call_texts g.M.Machine.call g.M.Machine.text c.args.inputs.now in
     let clean =
     clean_texts g.M.Machine.call g.M.Machine.text (λ (a : g.M.Machine.Call). (g.met.M.Machine.clean a).0)
     c.args.inputs.now in

@@ -1,7 +1,7 @@
 use Rattle.std.proofs.Common.{◌≡◌, ◌++◌, List, ℕ, length, vec_len, sym, ◌∙◌, ap, arith, rules}
 use Rattle.std.proofs.lemmas.List.{append-nil}
 use Rattle.la_journal.specs.Lines.{lines}
-use Rattle.la_journal.specs.Machine.{after, steps, LeadsToSome}
+use Rattle.la_journal.specs.Machine.{state_after, steps, LeadsToSome}
 use Rattle.la_journal.proofs.Moments.{joined}
 use Rattle.la_journal.proofs.Reserved.{settled_there, nothing_left}
 use Rattle.la_journal.proofs.Together.{commit_lines, commit_settled, commit_leads, commit_leaves, so_long, no_bytes, no_calls}
@@ -59,7 +59,7 @@ returns-in-Ok-keep-clause-leads g c start before calls was are =
     c.deref.result.now c.args.self.now.whole c.deref.ensures.value
     g.M.Machine.named_state g.M.Machine.named g.M.Machine.step g.M.Machine.text g.met.M.Machine.round_trip
     g.met.M.Machine.clean start before calls
-    (ap (after g.M.Machine.named_state g.M.Machine.named g.M.Machine.step start) c.reserve.ensures.seen ∙ was) are
+    (ap (state_after g.M.Machine.named_state g.M.Machine.named g.M.Machine.step start) c.reserve.ensures.seen ∙ was) are
     c.keep.new.disk c.in-Ok-keep.ensures.written
 
 pub returns-in-Ok-keep-clause-any_moment : goal.returns-in-Ok-keep-clause-any_moment
@@ -72,10 +72,10 @@ returns-in-Ok-keep-clause-any_moment g c is_open start before calls was are =
     (nothing_left g.D.Disk.seen g.D.Disk.may_leave c.args.self.now.durable.disk c.reserve.new.self
     c.reserve.ensures.seen c.reserve.ensures.crash g.D.Disk.moment g.D.Disk.left_since unsettled
     (g.met.D.Disk.only_now c.args.self.now.durable.disk) c.reserve.ensures.time
-    (LeadsToSome (after g.M.Machine.named_state g.M.Machine.named g.M.Machine.step start) g.M.Machine.step calls
+    (LeadsToSome (state_after g.M.Machine.named_state g.M.Machine.named g.M.Machine.step start) g.M.Machine.step calls
     before) (0, omega arith, was))
     (commit_leaves g.D.Disk.seen g.D.Disk.may_leave c.reserve.new.self settled c.args.self.now.text.items c.deref.result.now c.args.self.now.whole c.deref.ensures.value
-    g.M.Machine.named_state g.M.Machine.named g.M.Machine.step g.M.Machine.text g.met.M.Machine.round_trip g.met.M.Machine.clean start before calls (ap (after g.M.Machine.named_state g.M.Machine.named g.M.Machine.step start) c.reserve.ensures.seen ∙ was) are g.D.Disk.moment g.D.Disk.left_since c.keep.new.disk c.keep.ensures.any_moment)
+    g.M.Machine.named_state g.M.Machine.named g.M.Machine.step g.M.Machine.text g.met.M.Machine.round_trip g.met.M.Machine.clean start before calls (ap (state_after g.M.Machine.named_state g.M.Machine.named g.M.Machine.step start) c.reserve.ensures.seen ∙ was) are g.D.Disk.moment g.D.Disk.left_since c.keep.new.disk c.keep.ensures.any_moment)
 
 pub returns-in-Err-clause-any_moment : goal.returns-in-Err-clause-any_moment
 returns-in-Err-clause-any_moment g c is_open start before calls was are =
@@ -87,7 +87,7 @@ returns-in-Err-clause-any_moment g c is_open start before calls was are =
     (nothing_left g.D.Disk.seen g.D.Disk.may_leave c.args.self.now.durable.disk c.reserve.new.self
     c.reserve.ensures.seen c.reserve.ensures.crash g.D.Disk.moment g.D.Disk.left_since unsettled
     (g.met.D.Disk.only_now c.args.self.now.durable.disk) c.reserve.ensures.time
-    (LeadsToSome (after g.M.Machine.named_state g.M.Machine.named g.M.Machine.step start) g.M.Machine.step calls
+    (LeadsToSome (state_after g.M.Machine.named_state g.M.Machine.named g.M.Machine.step start) g.M.Machine.step calls
     before) (0, omega arith, was))
     (commit_leaves g.D.Disk.seen g.D.Disk.may_leave c.reserve.new.self settled c.args.self.now.text.items c.deref.result.now c.args.self.now.whole c.deref.ensures.value
-    g.M.Machine.named_state g.M.Machine.named g.M.Machine.step g.M.Machine.text g.met.M.Machine.round_trip g.met.M.Machine.clean start before calls (ap (after g.M.Machine.named_state g.M.Machine.named g.M.Machine.step start) c.reserve.ensures.seen ∙ was) are g.D.Disk.moment g.D.Disk.left_since c.keep.new.disk c.keep.ensures.any_moment)
+    g.M.Machine.named_state g.M.Machine.named g.M.Machine.step g.M.Machine.text g.met.M.Machine.round_trip g.met.M.Machine.clean start before calls (ap (state_after g.M.Machine.named_state g.M.Machine.named g.M.Machine.step start) c.reserve.ensures.seen ∙ was) are g.D.Disk.moment g.D.Disk.left_since c.keep.new.disk c.keep.ensures.any_moment)

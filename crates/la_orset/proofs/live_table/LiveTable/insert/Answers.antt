@@ -7,7 +7,7 @@ use Rattle.std.specs.FinMap as map
 use Rattle.std.specs.FinMap.{nat_cmp-IsAntisymmetric}
 use Rattle.std.specs.Cmp.{nat_cmp_total}
 use Rattle.la_object.specs.IdOrder.{id_cmp}
-use Rattle.la_orset.specs.Index.{has_any, tags_or, tags_at, HasTags}
+use Rattle.la_orset.specs.Index.{has_any, tags_or, index_tags, HasTags}
 use Rattle.la_orset.proofs.Hashed.{nat_found, nat_changed, nat_changed_same}
 use Rattle.la_orset.proofs.LiveTags.{has_tags, still_whole, whole-put, put_again, on_err}
 use Rattle.la_orset.proofs.live_table.LiveTable.insert.Goals as goal
@@ -53,7 +53,7 @@ returns-in-Some-clause-ok c =
     let changed =
     nat_changed es new x (Some w) ((c.get_mut.follows.holds w).3 (subst IsSome c.in-Some.ensures.value refl)).0 in
     let there = nat_found es x ∙ sym c.in-Some.ensures.value in
-    subst (λ m. HasTags m x (map.insert (tags_at m x) c.args.id tt) (map.from_entries new)) c.self.view_is
+    subst (λ m. HasTags m x (map.insert (index_tags m x) c.args.id tt) (map.from_entries new)) c.self.view_is
     (has_tags (map.from_entries es) (map.from_entries new) x (Some w) changed _
     (c.in_ok-insert.ensures.ok ∙ ap (λ g. map.insert (tags_or g) c.args.id tt) (sym there)))
 
@@ -79,7 +79,7 @@ returns-clause-ok c =
     (λ m. (q : ℕ) → lookup (eqb q) put ≡ cond (eqb x q) (Some c.insert-2.new.self) (lookup (eqb q) m.entries))
     c.get_mut.follows.holds-at-none c.in_ok-insert-3.ensures.updates.0) c.trim.ensures in
     let none = nat_found es x ∙ sym c.in_default.ensures.value in
-    subst (λ m. HasTags m x (map.insert (tags_at m x) c.args.id tt) (map.from_entries new)) c.self.view_is
+    subst (λ m. HasTags m x (map.insert (index_tags m x) c.args.id tt) (map.from_entries new)) c.self.view_is
     (has_tags (map.from_entries es) (map.from_entries new) x (Some c.insert-2.new.self) changed _
     (c.in_ok-insert-2.ensures.ok ∙ ap (λ t. map.insert t c.args.id tt) (c.new-tags.ensures ∙ sym (ap tags_or none))))
 

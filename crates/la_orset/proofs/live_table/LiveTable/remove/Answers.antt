@@ -4,7 +4,7 @@ use Rattle.std.specs.BTreeMap.{is_at}
 use Rattle.std.specs.Ordering.{nat_cmp}
 use Rattle.std.specs.FinMap as map
 use Rattle.la_object.proofs.lemmas.IdOrder.{id_cmp_total, id_cmp-IsAntisymmetric}
-use Rattle.la_orset.specs.Index.{tags_or, tags_at, HasTags}
+use Rattle.la_orset.specs.Index.{tags_or, index_tags, HasTags}
 use Rattle.la_orset.proofs.Hashed.{nat_found, nat_changed, nat_changed_same}
 use Rattle.la_orset.proofs.Sets.{nothing_in}
 use Rattle.la_orset.proofs.LiveTags.{has_tags, still_whole, whole-none, put_again, twice, taken-empty}
@@ -17,9 +17,9 @@ returns-in_default c =
     let same = ap (λ m. map.from_entries {R = nat_cmp} m.entries) (sym c.get_mut.follows.holds-at-none) in
     subst
     (λ m.
-    HasTags m x (map.remove (tags_at m x) c.args.id) (map.from_entries (c.get_mut.follows.lender-at-none).entries))
+    HasTags m x (map.remove (index_tags m x) c.args.id) (map.from_entries (c.get_mut.follows.lender-at-none).entries))
     c.self.view_is
-    (subst (λ n. HasTags (map.from_entries es) x (map.remove (tags_at (map.from_entries es) x) c.args.id) n) same
+    (subst (λ n. HasTags (map.from_entries es) x (map.remove (index_tags (map.from_entries es) x) c.args.id) n) same
     (has_tags (map.from_entries es) (map.from_entries es) x None (λ y. sym (put_again (map.from_entries es) x None none y)) _
     (taken-empty c.args.id ∙ ap (λ g. map.remove (tags_or g) c.args.id) (sym none))))
 
@@ -43,7 +43,7 @@ returns-then-not-has_any c =
     let second = nat_changed_same mid c.remove.new.self.entries new x None c.remove.ensures.updates.0 c.trim.ensures in
     let there = nat_found es x ∙ sym c.in-Some.ensures.value in
     let nothing = nothing_in id_cmp_total id_cmp-IsAntisymmetric w (sym c.has_any.ensures ∙ c.if-not-has_any.true) in
-    subst (λ m. HasTags m x (map.remove (tags_at m x) c.args.id) (map.from_entries new)) c.self.view_is
+    subst (λ m. HasTags m x (map.remove (index_tags m x) c.args.id) (map.from_entries new)) c.self.view_is
     (has_tags (map.from_entries es) (map.from_entries new) x None
     (λ y. second y ∙ ap (cond (is_at (nat_cmp x) y) None) (first y) ∙ twice (is_at (nat_cmp x) y) None (Some w) _) _
     (sym nothing ∙ c.remove-there.ensures ∙ ap (λ g. map.remove (tags_or g) c.args.id) (sym there)))
@@ -64,6 +64,6 @@ returns-else-not-has_any c =
     let changed =
     nat_changed es new x (Some w) ((c.get_mut.follows.holds w).3 (subst IsSome c.in-Some.ensures.value refl)).0 in
     let there = nat_found es x ∙ sym c.in-Some.ensures.value in
-    subst (λ m. HasTags m x (map.remove (tags_at m x) c.args.id) (map.from_entries new)) c.self.view_is
+    subst (λ m. HasTags m x (map.remove (index_tags m x) c.args.id) (map.from_entries new)) c.self.view_is
     (has_tags (map.from_entries es) (map.from_entries new) x (Some w) changed _
     (c.remove-there.ensures ∙ ap (λ g. map.remove (tags_or g) c.args.id) (sym there)))

@@ -5,7 +5,7 @@ use Rattle.std.specs.Ordering.{nat_cmp}
 use Rattle.std.specs.FinMap as map
 use Rattle.std.specs.Cmp.{nat_cmp_total}
 use Rattle.la_object.proofs.lemmas.IdOrder.{id_cmp_total, id_cmp-IsAntisymmetric}
-use Rattle.la_orset.specs.Index.{tags_or, tags_at, HasTags}
+use Rattle.la_orset.specs.Index.{tags_or, index_tags, HasTags}
 use Rattle.la_object.proofs.lemmas.Sorted.{get-lookup}
 use Rattle.la_orset.proofs.Sets.{nothing_in}
 use Rattle.la_orset.proofs.LiveTags.{has_tags, still_whole, whole-none, changed_from, put_again, twice, taken-empty}
@@ -18,9 +18,9 @@ returns-in_default c =
     let same = ap (λ m. map.from_entries {R = nat_cmp} m.entries) (sym c.get_mut.follows.holds-at-none) in
     subst
     (λ m.
-    HasTags m x (map.remove (tags_at m x) c.args.id) (map.from_entries (c.get_mut.follows.lender-at-none).entries))
+    HasTags m x (map.remove (index_tags m x) c.args.id) (map.from_entries (c.get_mut.follows.lender-at-none).entries))
     c.self.view_is
-    (subst (λ n. HasTags (map.from_entries es) x (map.remove (tags_at (map.from_entries es) x) c.args.id) n) same
+    (subst (λ n. HasTags (map.from_entries es) x (map.remove (index_tags (map.from_entries es) x) c.args.id) n) same
     (has_tags (map.from_entries es) (map.from_entries es) x None (λ y. sym (put_again (map.from_entries es) x None none y)) _
     (taken-empty c.args.id ∙ ap (λ g. map.remove (tags_or g) c.args.id) (sym none))))
 
@@ -56,8 +56,8 @@ returns-then-not-has_any c =
     let there = get-lookup nat_cmp_total es x ∙ sym c.in-Some.ensures.value in
     let nothing = nothing_in id_cmp_total id_cmp-IsAntisymmetric w (sym c.has_any.ensures ∙ c.if-not-has_any.true) in
     let is : c.match-remove.self ≡ map.from_entries {R = nat_cmp} new = search rules in
-    subst (λ n. HasTags c.args.self.now x (map.remove (tags_at c.args.self.now x) c.args.id) n) (sym is)
-    (subst (λ m. HasTags m x (map.remove (tags_at m x) c.args.id) (map.from_entries new)) c.self.view_is
+    subst (λ n. HasTags c.args.self.now x (map.remove (index_tags c.args.self.now x) c.args.id) n) (sym is)
+    (subst (λ m. HasTags m x (map.remove (index_tags m x) c.args.id) (map.from_entries new)) c.self.view_is
     (has_tags (map.from_entries es) (map.from_entries new) x None
     (λ y. second y ∙ ap (cond (is_at (nat_cmp x) y) None) (first y) ∙ twice (is_at (nat_cmp x) y) None (Some w) _) _
     (sym nothing ∙ c.remove-there.ensures ∙ ap (λ g. map.remove (tags_or g) c.args.id) (sym there))))
@@ -78,6 +78,6 @@ returns-else-not-has_any c =
     let changed =
     changed_from es new x (Some w) ((c.get_mut.follows.holds w).3 (subst IsSome c.in-Some.ensures.value refl)).0 in
     let there = get-lookup nat_cmp_total es x ∙ sym c.in-Some.ensures.value in
-    subst (λ m. HasTags m x (map.remove (tags_at m x) c.args.id) (map.from_entries new)) c.self.view_is
+    subst (λ m. HasTags m x (map.remove (index_tags m x) c.args.id) (map.from_entries new)) c.self.view_is
     (has_tags (map.from_entries es) (map.from_entries new) x (Some w) changed _
     (c.remove-there.ensures ∙ ap (λ g. map.remove (tags_or g) c.args.id) (sym there)))

@@ -1,6 +1,6 @@
 use Rattle.std.proofs.Common.{true, false, refl, ap, sym, ◌∙◌, subst}
 use Rattle.la_orset.specs.Index.{IsIndex}
-use Rattle.la_orset.specs.Rows.{known}
+use Rattle.la_orset.specs.Rows.{known_row}
 use Rattle.la_orset.specs.Puts.{adds_of, gone_of}
 use Rattle.la_orset.proofs.LiveTags.{either_way}
 use Rattle.la_orset.proofs.Absorbed.{there_adds, adds_none, put_adds, put_gone_same, put_gone_early, index_early, index_live, index_back, no_tag}
@@ -12,7 +12,7 @@ returns-then-has-clause-puts c =
 
 pub invariant_of-self : goal.invariant_of-self
 invariant_of-self c =
-    let s = c.args.self.now in let id = c.args.id in let k = known (record { number = id.number; gone = true; element = c.args.element }) in
+    let s = c.args.self.now in let id = c.args.id in let k = known_row (record { number = id.number; gone = true; element = c.args.element }) in
     let new = sym c.has.ensures ∙ c.if-has.false in
     record {
       indexed =
@@ -26,12 +26,12 @@ invariant_of-self c =
 
 pub returns-then-has-2-clause-puts : goal.returns-then-has-2-clause-puts
 returns-then-has-2-clause-puts c =
-    let s = c.args.self.now in let id = c.args.id in let k = known (record { number = id.number; gone = true; element = c.args.element }) in
+    let s = c.args.self.now in let id = c.args.id in let k = known_row (record { number = id.number; gone = true; element = c.args.element }) in
     ap adds_of c.in_ok-insert.ensures.ok ∙ put_adds s.puts id k (sym c.has.ensures ∙ c.if-has.false)
 
 pub returns-then-has-2-clause-gone : goal.returns-then-has-2-clause-gone
 returns-then-has-2-clause-gone c =
-    let s = c.args.self.now in let id = c.args.id in let k = known (record { number = id.number; gone = true; element = c.args.element }) in
+    let s = c.args.self.now in let id = c.args.id in let k = known_row (record { number = id.number; gone = true; element = c.args.element }) in
     ap (gone_of s.early) c.in_ok-insert.ensures.ok
     ∙ put_gone_early s.puts id k (sym c.has.ensures ∙ c.if-has.false) s.early (sym c.has-2.ensures ∙ c.if-has-2.true)
 
@@ -52,7 +52,7 @@ invariant_of-self-in-Err c =
 
 pub invariant_of-self-in_default : goal.invariant_of-self-in_default
 invariant_of-self-in_default c =
-    let s = c.args.self.now in let id = c.args.id in let k = known (record { number = id.number; gone = false; element = c.args.element }) in
+    let s = c.args.self.now in let id = c.args.id in let k = known_row (record { number = id.number; gone = false; element = c.args.element }) in
     let new = sym c.has.ensures ∙ c.if-has.false in
     record {
       indexed = subst (λ p. IsIndex (adds_of p) (gone_of s.early p) c.insert-2.new.self) (sym c.in_default.ensures.ok)
@@ -62,11 +62,11 @@ invariant_of-self-in_default c =
 
 pub returns-clause-puts : goal.returns-clause-puts
 returns-clause-puts c =
-    let s = c.args.self.now in let id = c.args.id in let k = known (record { number = id.number; gone = false; element = c.args.element }) in
+    let s = c.args.self.now in let id = c.args.id in let k = known_row (record { number = id.number; gone = false; element = c.args.element }) in
     ap adds_of c.in_default.ensures.ok ∙ put_adds s.puts id k (sym c.has.ensures ∙ c.if-has.false)
 
 pub returns-clause-gone : goal.returns-clause-gone
 returns-clause-gone c =
-    let s = c.args.self.now in let id = c.args.id in let k = known (record { number = id.number; gone = false; element = c.args.element }) in
+    let s = c.args.self.now in let id = c.args.id in let k = known_row (record { number = id.number; gone = false; element = c.args.element }) in
     ap (gone_of s.early) c.in_default.ensures.ok
     ∙ put_gone_same s.puts id k (sym c.has.ensures ∙ c.if-has.false) s.early refl

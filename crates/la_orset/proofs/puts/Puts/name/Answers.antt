@@ -1,7 +1,7 @@
 use Rattle.std.proofs.Common.{◌<◌, [], length, sym, ap, ◌∙◌, subst, arith}
 use Rattle.std.specs.FinMap as map
 use Rattle.std.proofs.lemmas.List.{get_or_default}
-use Rattle.la_orset.specs.Rows.{at_number, live_element, named, IsPut}
+use Rattle.la_orset.specs.Rows.{at_number, live_element, named_known, IsPut}
 use Rattle.la_orset.specs.Puts.{named_at, with_named}
 use Rattle.la_orset.proofs.ById.{get-column, column-read, column-beyond, named_columns}
 use Rattle.la_orset.proofs.puts.Puts.name.Goals as goal
@@ -36,5 +36,5 @@ returns-clause-named c =
     omega (arith, c.if-replica-len.false, c.len.ensures, c.self.inside.by_replica.ok) in
     let here = c.index_mut.ensures.value ∙ get_or_default columns id.replica c.index_mut.result.now [] lt in
     named_columns columns id c.name.new.self lt
-    (subst (λ rows. IsPut rows id.number (named (at_number rows id.number)) c.name.new.self) here c.name.ensures.named)
+    (subst (λ rows. IsPut rows id.number (named_known (at_number rows id.number)) c.name.new.self) here c.name.ensures.named)
     ∙ ap (λ m. with_named m id) c.self.view_is

@@ -4,7 +4,7 @@ use Rattle.std.specs.FinMap as map
 use Rattle.std.proofs.lemmas.Bool.{cases_lt, false≢true}
 use Rattle.std.proofs.lemmas.List.{take_all, length-take}
 use Rattle.std.proofs.lemmas.Result.{err_from_is_err_and}
-use Rattle.la_orset.specs.Index.{id_eq}
+use Rattle.la_orset.specs.Index.{same_id}
 use Rattle.la_orset.proofs.Lists.{length-list, pushed_at, no_more, ascending-list}
 use Rattle.la_orset.proofs.tag_list.TagList.tags.Goals as goal
 
@@ -59,5 +59,5 @@ returns-clause-ok c =
     let ids = c.self.inside.ids.items in let shown = c.as_slice-id-items.result.now in let i = c.loop-id.id-index in
     let all : take i shown ≡ shown = take_all i shown (omega (arith, c.loop-id-test.false)) in
     ascending-list c.loop-id.tags ids c.len-ascending-2.ensures.tags.ascending
-    (λ q. c.loop-id.invariant q ∙ ap (list_any (id_eq q)) (all ∙ c.as_slice-id-items.ensures.value))
+    (λ q. c.loop-id.invariant q ∙ ap (list_any (same_id q)) (all ∙ c.as_slice-id-items.ensures.value))
     ∙ ap map.keys c.self.view_is

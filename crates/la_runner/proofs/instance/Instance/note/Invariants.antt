@@ -1,5 +1,5 @@
 use Rattle.std.proofs.Common.{◌≡◌, map, take}
-use Rattle.la_runner.specs.Notes.{told_by}
+use Rattle.la_runner.specs.Notes.{pass_told}
 use Rattle.la_runner.proofs.instance.Instance.note.Given as goal
 
 abbrev pub invariant-loop-at : goal.invariant-loop-at
@@ -8,4 +8,4 @@ invariant-loop-at l =
     × (l.self.proposer ≡ l.initial.self.proposer)
     × (l.self.learnt ≡ l.initial.self.learnt)
     × (l.self.view ≡ l.initial.self.view)
-    × (l.notes.items ≡ map told_by (take l.at l.initial.self.passes.items))
+    × (l.notes.items ≡ map pass_told (take l.at l.initial.self.passes.items))

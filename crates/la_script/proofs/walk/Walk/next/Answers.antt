@@ -1,7 +1,7 @@
 use Rattle.std.proofs.Common.{◌≡◌, length, ap, subst, arith}
 use Rattle.la_script.specs.Marks.{mark_text}
 use Rattle.la_script.specs.Laid.{AreReady}
-use Rattle.la_script.specs.Walks.{bytes_of}
+use Rattle.la_script.specs.Walks.{piece_bytes}
 use Rattle.la_script.proofs.Laying.{mark_some}
 use Rattle.la_script.proofs.walk.Walk.next.Goals as goal
 
@@ -10,7 +10,7 @@ returns-clause-bytes c =
     let each =
     subst (λ ms. AreReady c.self.inside.ids.now ms c.self.inside.words.now c.self.inside.numbers.now)
     c.in-Some.ensures.cases.0 c.self.invariant.each in
-    let is : length (bytes_of c.take_piece-piece.result.piece) ≡ length (mark_text c.in-Some.mark.now c.self.inside.words.now c.self.inside.numbers.now) =
+    let is : length (piece_bytes c.take_piece-piece.result.piece) ≡ length (mark_text c.in-Some.mark.now c.self.inside.words.now c.self.inside.numbers.now) =
     ap length c.take_piece-piece.ensures.piece in
     omega (
       arith,

@@ -2,9 +2,9 @@ use Rattle.std.proofs.Common.{rules, ◌≡◌, ◌<◌, length, slice_set, Some
 use Rattle.la_set.specs.declared.tags.TheConstants.{MAX_TAGS}
 use Rattle.la_object.specs.Shelves.{tags_at}
 use Rattle.la_world.specs.declared.error.WorldError.{WorldError}
-use Rattle.la_world.specs.Nodes.{followed, IsObservedRefusal, LeftUntold as LeftAtNode}
+use Rattle.la_world.specs.Nodes.{followed, IsObservedRefusal, LeftUntoldNode as LeftAtNode}
 use Rattle.la_world.specs.StandsFor.{StandsFor, group_in, trace_in}
-use Rattle.la_world.specs.Calls.{HasObject, IsFollowing, tags_of, IsTagsRefusal, LeftUntold}
+use Rattle.la_world.specs.Calls.{HasObject, IsFollowing, world_tags, IsWorldTagsRefusal, LeftUntoldWorld}
 use Rattle.la_world.proofs.Worlds.{found_at}
 use Rattle.la_world.proofs.WorldNodes.{world_of_nodes, asked_known}
 use Rattle.la_world.proofs.Questions.{looked_holds, looked_keeps, look_follows, tags_told, tags_known}
@@ -43,15 +43,15 @@ returns-clause-tags g c events stands =
     let element = c.args.element in
     let n = c.index_mut.result.now in
     let then = subst (λ v. StandsFor v events) (sym c.self.view_is) stands in
-    let same : tags_of (group_in old) (trace_in old events) r object element ≡ tags_at (followed n) object element =
-    subst (λ v. tags_of (group_in v) (trace_in v events) r object element ≡ tags_at (followed n) object element)
+    let same : world_tags (group_in old) (trace_in old events) r object element ≡ tags_at (followed n) object element =
+    subst (λ v. world_tags (group_in v) (trace_in v events) r object element ≡ tags_at (followed n) object element)
     c.self.view_is
     (tags_told c.self.inside.config c.self.inside.nodes.items c.self.inside.journal c.self.invariant r n found
     events then object element) in
     elim c.match-observed.branch [
-      | in-Ok w ↦ subst (λ z. IfOk z (λ tags. tags_of (group_in old) (trace_in old events) r object element ≡ Some tags)) (sym w.result-is) (same ∙ w.in-Ok.ensures.ok)
-      | in-Err-TooManyTags w ↦ subst (λ z. IfOk z (λ tags. tags_of (group_in old) (trace_in old events) r object element ≡ Some tags)) (sym w.result-is) tt
-      | in-Err w ↦ subst (λ z. IfOk z (λ tags. tags_of (group_in old) (trace_in old events) r object element ≡ Some tags)) (sym w.result-is) tt
+      | in-Ok w ↦ subst (λ z. IfOk z (λ tags. world_tags (group_in old) (trace_in old events) r object element ≡ Some tags)) (sym w.result-is) (same ∙ w.in-Ok.ensures.ok)
+      | in-Err-TooManyTags w ↦ subst (λ z. IfOk z (λ tags. world_tags (group_in old) (trace_in old events) r object element ≡ Some tags)) (sym w.result-is) tt
+      | in-Err w ↦ subst (λ z. IfOk z (λ tags. world_tags (group_in old) (trace_in old events) r object element ≡ Some tags)) (sym w.result-is) tt
     ]
 
 pub returns-clause-error : goal.returns-clause-error
@@ -66,19 +66,19 @@ returns-clause-error g c events stands =
     let element = c.args.element in
     let n = c.index_mut.result.now in
     let then = subst (λ v. StandsFor v events) (sym c.self.view_is) stands in
-    let same : tags_of (group_in old) (trace_in old events) r object element ≡ tags_at (followed n) object element =
-    subst (λ v. tags_of (group_in v) (trace_in v events) r object element ≡ tags_at (followed n) object element)
+    let same : world_tags (group_in old) (trace_in old events) r object element ≡ tags_at (followed n) object element =
+    subst (λ v. world_tags (group_in v) (trace_in v events) r object element ≡ tags_at (followed n) object element)
     c.self.view_is
     (tags_told c.self.inside.config c.self.inside.nodes.items c.self.inside.journal c.self.invariant r n found
     events then object element) in
     elim c.match-observed.branch [
-      | in-Ok w ↦ subst (λ z. IfErr z (IsTagsRefusal (group_in old) (trace_in old events) r object element)) (sym w.result-is) tt
-      | in-Err-TooManyTags w ↦ subst (λ z. IfErr z (IsTagsRefusal (group_in old) (trace_in old events) r object element)) (sym w.result-is)
+      | in-Ok w ↦ subst (λ z. IfErr z (IsWorldTagsRefusal (group_in old) (trace_in old events) r object element)) (sym w.result-is) tt
+      | in-Err-TooManyTags w ↦ subst (λ z. IfErr z (IsWorldTagsRefusal (group_in old) (trace_in old events) r object element)) (sym w.result-is)
           (subst (λ o. IsSomeAnd o (λ ids. MAX_TAGS < length ids)) (sym same)
           (subst (IsObservedRefusal (tags_at (followed n) object element)) w.in-Err-TooManyTags.field-0-is
           w.in-Err-TooManyTags.ensures.error))
-      | in-Err w ↦ subst (λ z. IfErr z (IsTagsRefusal (group_in old) (trace_in old events) r object element)) (sym w.result-is)
-          (subst (λ v. IsSome (tags_of (group_in v) (trace_in v events) r object element)) c.self.view_is
+      | in-Err w ↦ subst (λ z. IfErr z (IsWorldTagsRefusal (group_in old) (trace_in old events) r object element)) (sym w.result-is)
+          (subst (λ v. IsSome (world_tags (group_in v) (trace_in v events) r object element)) c.self.view_is
           (tags_known c.self.inside.config c.self.inside.nodes.items c.self.inside.journal c.self.invariant r n found
           events then object element has))
     ]
@@ -117,7 +117,7 @@ returns-clause-err g c =
     found_at nodes r c.index_mut.result.now (asked_known nodes r c.args.object has) c.index_mut.ensures.value in
     let n = c.index_mut.result.now in
     let after = world_of_nodes c.self.inside.config (slice_set nodes r c.observed.new.self) c.self.inside.journal in
-    let left : WorldError → Type 0 = λ e. LeftUntold e r c.args.self.now after in
+    let left : WorldError → Type 0 = λ e. LeftUntoldWorld e r c.args.self.now after in
     elim c.match-observed.branch [
       | in-Ok w ↦ subst (λ z. IfErr z left) (sym w.result-is) tt
       | in-Err-TooManyTags w ↦ subst (λ z. IfErr z left) (sym w.result-is)

@@ -2,7 +2,7 @@ use Rattle.std.proofs.Common.{rules, ◌<◌, ◌∙◌, length, option_and_then
 use Rattle.la_commit.specs.Outcomes.{outcome_in}
 use Rattle.la_world.specs.Events.{Deliver}
 use Rattle.la_world.specs.StandsFor.{StandsFor}
-use Rattle.la_world.specs.Calls.{HoldsInvariant, Plays}
+use Rattle.la_world.specs.Calls.{HoldsWorldInvariant, PlaysEvent}
 use Rattle.la_world.proofs.Worlds.{receiver_known, message_fits, message_stands, message_agrees, delivery_known, delivery_few, delivery_is_named, delivery_played, delivery_invariant}
 use Rattle.la_world.proofs.ToldMail.{told_made}
 use Rattle.la_world.proofs.WorldNodes.{node_known, read_node, receiver_at, stepped, unchanged}
@@ -59,7 +59,7 @@ invariant_of-self-in_default g c =
     let found =
     read_node c.self.inside.nodes.items to (receiver_known c.self.invariant c.args.number is)
     c.index_mut.ensures.value in
-    subst HoldsInvariant
+    subst HoldsWorldInvariant
     (sym
     (unchanged c.self.inside.nodes.items to c.index_mut.result.now found c.self.inside.config c.take.new.self
     c.reserve.new.self c.in_default.ensures.err))
@@ -106,7 +106,7 @@ invariant_of-self-2 g c =
     c.reserve.new.self c.note.new.self c.in-Ok.done
     c.reserve.ensures.messages c.reserve.ensures.learnt c.reserve.ensures.count c.note.ensures.step
     c.note.ensures.messages c.note.ensures.learnt c.note.ensures.count c.note.ensures.numbers in
-    subst HoldsInvariant
+    subst HoldsWorldInvariant
     (sym
     (stepped c.self.inside.nodes.items message.to c.index_mut.result.now found c.self.inside.config made
     c.note.new.self c.in-Ok.ensures.shelf))
@@ -130,7 +130,7 @@ returns-clause-step g c events stands =
     c.reserve.new.self c.note.new.self c.in-Ok.done
     c.reserve.ensures.messages c.reserve.ensures.learnt c.reserve.ensures.count c.note.ensures.step
     c.note.ensures.messages c.note.ensures.learnt c.note.ensures.count c.note.ensures.numbers in
-    subst (Plays c.args.self.now events (Deliver c.args.number) c.note.result)
+    subst (PlaysEvent c.args.self.now events (Deliver c.args.number) c.note.result)
     (sym
     (stepped c.self.inside.nodes.items message.to c.index_mut.result.now found c.self.inside.config made
     c.note.new.self c.in-Ok.ensures.shelf))

@@ -6,7 +6,7 @@ use Rattle.la_set.specs.declared.counts.Counts.{Counts}
 use Rattle.la_replica.specs.Bases.{AreToldFrom}
 use Rattle.la_world.specs.Events.{Decide}
 use Rattle.la_world.specs.StandsFor.{StandsFor, refused_in}
-use Rattle.la_world.specs.Calls.{HoldsInvariant, IsSubmission, Plays}
+use Rattle.la_world.specs.Calls.{HoldsWorldInvariant, IsEventSubmission, PlaysEvent}
 use Rattle.la_set.specs.Counts.{zero_counts}
 use Rattle.la_world.proofs.ToldMail.{told_of, told_made}
 use Rattle.la_world.proofs.Worlds.{submission_known, submission_few, submission_is_named, done_by, submission_played, submission_invariant}
@@ -32,7 +32,7 @@ invariant_of-self-in_default g c =
     let found =
     read_node c.self.inside.nodes.items r
     (subst (λ v. r < length v.replica_states) (sym c.self.view_is) c.requires.known) c.index_mut.ensures.value in
-    subst HoldsInvariant
+    subst HoldsWorldInvariant
     (sym
     (unchanged c.self.inside.nodes.items r c.index_mut.result.now found c.self.inside.config c.propose.new.self
     c.reserve.new.self c.in_default.ensures.err))
@@ -46,7 +46,7 @@ note_submission-requires-clause-known g c =
     let made = c.propose.new.self in
     let known = subst (λ v. r < length v.replica_states) (sym c.self.view_is) c.requires.known in
     let found = read_node c.self.inside.nodes.items r known c.index_mut.ensures.value in
-    let event : IsSubmission e c.first_instance.result r (first_vote c.args.commit c.args.value) = λ did. ap (λ i. Some (record { instance = i; replica = r; object_op = first_vote c.args.commit c.args.value })) (sym c.first_instance.ensures) in
+    let event : IsEventSubmission e c.first_instance.result r (first_vote c.args.commit c.args.value) = λ did. ap (λ i. Some (record { instance = i; replica = r; object_op = first_vote c.args.commit c.args.value })) (sym c.first_instance.ensures) in
     let s =
     submitter_at c.self.inside.config c.self.inside.nodes.items c.self.inside.journal c.self.invariant c.self.view_is
     e c.first_instance.result r (first_vote c.args.commit c.args.value) event c.requires.allowed found in
@@ -68,7 +68,7 @@ note_submission-requires-clause-few g c =
     let made = c.propose.new.self in
     let known = subst (λ v. r < length v.replica_states) (sym c.self.view_is) c.requires.known in
     let found = read_node c.self.inside.nodes.items r known c.index_mut.ensures.value in
-    let event : IsSubmission e c.first_instance.result r (first_vote c.args.commit c.args.value) = λ did. ap (λ i. Some (record { instance = i; replica = r; object_op = first_vote c.args.commit c.args.value })) (sym c.first_instance.ensures) in
+    let event : IsEventSubmission e c.first_instance.result r (first_vote c.args.commit c.args.value) = λ did. ap (λ i. Some (record { instance = i; replica = r; object_op = first_vote c.args.commit c.args.value })) (sym c.first_instance.ensures) in
     let s =
     submitter_at c.self.inside.config c.self.inside.nodes.items c.self.inside.journal c.self.invariant c.self.view_is
     e c.first_instance.result r (first_vote c.args.commit c.args.value) event c.requires.allowed found in
@@ -95,7 +95,7 @@ invariant_of-self-2 g c =
     let made = c.propose.new.self in
     let known = subst (λ v. r < length v.replica_states) (sym c.self.view_is) c.requires.known in
     let found = read_node c.self.inside.nodes.items r known c.index_mut.ensures.value in
-    let event : IsSubmission e c.first_instance.result r (first_vote c.args.commit c.args.value) = λ did. ap (λ i. Some (record { instance = i; replica = r; object_op = first_vote c.args.commit c.args.value })) (sym c.first_instance.ensures) in
+    let event : IsEventSubmission e c.first_instance.result r (first_vote c.args.commit c.args.value) = λ did. ap (λ i. Some (record { instance = i; replica = r; object_op = first_vote c.args.commit c.args.value })) (sym c.first_instance.ensures) in
     let s =
     submitter_at c.self.inside.config c.self.inside.nodes.items c.self.inside.journal c.self.invariant c.self.view_is
     e c.first_instance.result r (first_vote c.args.commit c.args.value) event c.requires.allowed found in
@@ -114,7 +114,7 @@ invariant_of-self-2 g c =
     c.reserve.ensures.messages c.reserve.ensures.learnt c.reserve.ensures.count c.note_submission.ensures.step
     c.note_submission.ensures.messages c.note_submission.ensures.learnt c.note_submission.ensures.count
     c.note_submission.ensures.numbers in
-    subst HoldsInvariant
+    subst HoldsWorldInvariant
     (sym
     (stepped c.self.inside.nodes.items r c.index_mut.result.now found c.self.inside.config made
     c.note_submission.new.journal c.in-Ok.ensures.shelf))
@@ -127,7 +127,7 @@ returns-clause-step g c events stands =
     let made = c.propose.new.self in
     let known = subst (λ v. r < length v.replica_states) (sym c.self.view_is) c.requires.known in
     let found = read_node c.self.inside.nodes.items r known c.index_mut.ensures.value in
-    let event : IsSubmission e c.first_instance.result r (first_vote c.args.commit c.args.value) = λ did. ap (λ i. Some (record { instance = i; replica = r; object_op = first_vote c.args.commit c.args.value })) (sym c.first_instance.ensures) in
+    let event : IsEventSubmission e c.first_instance.result r (first_vote c.args.commit c.args.value) = λ did. ap (λ i. Some (record { instance = i; replica = r; object_op = first_vote c.args.commit c.args.value })) (sym c.first_instance.ensures) in
     let s =
     submitter_at c.self.inside.config c.self.inside.nodes.items c.self.inside.journal c.self.invariant c.self.view_is
     e c.first_instance.result r (first_vote c.args.commit c.args.value) event c.requires.allowed found in
@@ -146,7 +146,7 @@ returns-clause-step g c events stands =
     c.reserve.ensures.messages c.reserve.ensures.learnt c.reserve.ensures.count c.note_submission.ensures.step
     c.note_submission.ensures.messages c.note_submission.ensures.learnt c.note_submission.ensures.count
     c.note_submission.ensures.numbers in
-    subst (Plays c.args.self.now events e c.note_submission.result)
+    subst (PlaysEvent c.args.self.now events e c.note_submission.result)
     (sym
     (stepped c.self.inside.nodes.items r c.index_mut.result.now found c.self.inside.config made
     c.note_submission.new.journal c.in-Ok.ensures.shelf))
@@ -160,7 +160,7 @@ returns-clause-printable g c =
     let made = c.propose.new.self in
     let known = subst (λ v. r < length v.replica_states) (sym c.self.view_is) c.requires.known in
     let found = read_node c.self.inside.nodes.items r known c.index_mut.ensures.value in
-    let event : IsSubmission e c.first_instance.result r (first_vote c.args.commit c.args.value) = λ did. ap (λ i. Some (record { instance = i; replica = r; object_op = first_vote c.args.commit c.args.value })) (sym c.first_instance.ensures) in
+    let event : IsEventSubmission e c.first_instance.result r (first_vote c.args.commit c.args.value) = λ did. ap (λ i. Some (record { instance = i; replica = r; object_op = first_vote c.args.commit c.args.value })) (sym c.first_instance.ensures) in
     let s =
     submitter_at c.self.inside.config c.self.inside.nodes.items c.self.inside.journal c.self.invariant c.self.view_is
     e c.first_instance.result r (first_vote c.args.commit c.args.value) event c.requires.allowed found in

@@ -2,7 +2,7 @@ use Rattle.std.proofs.Common.{rules, ◌≡◌, ◌<◌, length, None, refl, sub
 use Rattle.la_proposer.specs.ProposerState.{op_on}
 use Rattle.la_world.specs.Events.{Submit}
 use Rattle.la_world.specs.StandsFor.{StandsFor, refused_in}
-use Rattle.la_world.specs.Calls.{HoldsInvariant, IsSubmission, Plays}
+use Rattle.la_world.specs.Calls.{HoldsWorldInvariant, IsEventSubmission, PlaysEvent}
 use Rattle.la_set.specs.Counts.{zero_counts}
 use Rattle.la_world.proofs.ToldMail.{told_of, told_made}
 use Rattle.la_world.proofs.Worlds.{submission_known, submission_few, submission_is_named, done_by, submission_played, submission_invariant}
@@ -28,7 +28,7 @@ invariant_of-self-in_default g c =
     let found =
     read_node c.self.inside.nodes.items r
     (subst (λ v. r < length v.replica_states) (sym c.self.view_is) c.requires.known) c.index_mut.ensures.value in
-    subst HoldsInvariant
+    subst HoldsWorldInvariant
     (sym
     (unchanged c.self.inside.nodes.items r c.index_mut.result.now found c.self.inside.config c.submit.new.self
     c.reserve.new.self c.in_default.ensures.err))
@@ -42,7 +42,7 @@ note_submission-requires-clause-known g c =
     let made = c.submit.new.self in
     let known = subst (λ v. r < length v.replica_states) (sym c.self.view_is) c.requires.known in
     let found = read_node c.self.inside.nodes.items r known c.index_mut.ensures.value in
-    let event : IsSubmission e 0 r (op_on c.args.object c.args.op) = λ did. refl in
+    let event : IsEventSubmission e 0 r (op_on c.args.object c.args.op) = λ did. refl in
     let s =
     submitter_at c.self.inside.config c.self.inside.nodes.items c.self.inside.journal c.self.invariant c.self.view_is
     e 0 r (op_on c.args.object c.args.op) event c.requires.allowed found in
@@ -56,7 +56,7 @@ note_submission-requires-clause-few g c =
     let made = c.submit.new.self in
     let known = subst (λ v. r < length v.replica_states) (sym c.self.view_is) c.requires.known in
     let found = read_node c.self.inside.nodes.items r known c.index_mut.ensures.value in
-    let event : IsSubmission e 0 r (op_on c.args.object c.args.op) = λ did. refl in
+    let event : IsEventSubmission e 0 r (op_on c.args.object c.args.op) = λ did. refl in
     let s =
     submitter_at c.self.inside.config c.self.inside.nodes.items c.self.inside.journal c.self.invariant c.self.view_is
     e 0 r (op_on c.args.object c.args.op) event c.requires.allowed found in
@@ -75,7 +75,7 @@ invariant_of-self-2 g c =
     let made = c.submit.new.self in
     let known = subst (λ v. r < length v.replica_states) (sym c.self.view_is) c.requires.known in
     let found = read_node c.self.inside.nodes.items r known c.index_mut.ensures.value in
-    let event : IsSubmission e 0 r (op_on c.args.object c.args.op) = λ did. refl in
+    let event : IsEventSubmission e 0 r (op_on c.args.object c.args.op) = λ did. refl in
     let s =
     submitter_at c.self.inside.config c.self.inside.nodes.items c.self.inside.journal c.self.invariant c.self.view_is
     e 0 r (op_on c.args.object c.args.op) event c.requires.allowed found in
@@ -86,7 +86,7 @@ invariant_of-self-2 g c =
     c.reserve.ensures.messages c.reserve.ensures.learnt c.reserve.ensures.count c.note_submission.ensures.step
     c.note_submission.ensures.messages c.note_submission.ensures.learnt c.note_submission.ensures.count
     c.note_submission.ensures.numbers in
-    subst HoldsInvariant
+    subst HoldsWorldInvariant
     (sym
     (stepped c.self.inside.nodes.items r c.index_mut.result.now found c.self.inside.config made
     c.note_submission.new.journal c.in-Ok.ensures.shelf))
@@ -99,7 +99,7 @@ returns-clause-step g c events stands =
     let made = c.submit.new.self in
     let known = subst (λ v. r < length v.replica_states) (sym c.self.view_is) c.requires.known in
     let found = read_node c.self.inside.nodes.items r known c.index_mut.ensures.value in
-    let event : IsSubmission e 0 r (op_on c.args.object c.args.op) = λ did. refl in
+    let event : IsEventSubmission e 0 r (op_on c.args.object c.args.op) = λ did. refl in
     let s =
     submitter_at c.self.inside.config c.self.inside.nodes.items c.self.inside.journal c.self.invariant c.self.view_is
     e 0 r (op_on c.args.object c.args.op) event c.requires.allowed found in
@@ -110,7 +110,7 @@ returns-clause-step g c events stands =
     c.reserve.ensures.messages c.reserve.ensures.learnt c.reserve.ensures.count c.note_submission.ensures.step
     c.note_submission.ensures.messages c.note_submission.ensures.learnt c.note_submission.ensures.count
     c.note_submission.ensures.numbers in
-    subst (Plays c.args.self.now events e c.note_submission.result)
+    subst (PlaysEvent c.args.self.now events e c.note_submission.result)
     (sym
     (stepped c.self.inside.nodes.items r c.index_mut.result.now found c.self.inside.config made
     c.note_submission.new.journal c.in-Ok.ensures.shelf))
@@ -124,7 +124,7 @@ returns-clause-printable g c =
     let made = c.submit.new.self in
     let known = subst (λ v. r < length v.replica_states) (sym c.self.view_is) c.requires.known in
     let found = read_node c.self.inside.nodes.items r known c.index_mut.ensures.value in
-    let event : IsSubmission e 0 r (op_on c.args.object c.args.op) = λ did. refl in
+    let event : IsEventSubmission e 0 r (op_on c.args.object c.args.op) = λ did. refl in
     let s =
     submitter_at c.self.inside.config c.self.inside.nodes.items c.self.inside.journal c.self.invariant c.self.view_is
     e 0 r (op_on c.args.object c.args.op) event c.requires.allowed found in
