@@ -15,7 +15,7 @@ from typing import NamedTuple
 BENCH = Path(__file__).resolve().parent
 TOP = BENCH.parent
 MEBIBYTE = 2**20
-REPLICA = ("la_set", "la_acceptor", "la_proposer", "la_commit", "la_replica", "la_object", "la_world")
+REPLICA = ("la_set", "la_acceptor", "la_proposer", "la_commit", "la_replica", "la_object", "la_node", "la_world")
 # The Rattle programs, and which of our crates each stands on.
 PROGRAMS = {
     "deltas": REPLICA,

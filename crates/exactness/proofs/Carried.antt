@@ -5,6 +5,7 @@ use Rattle.std.proofs.lemmas.Option.{same_Some}
 use Rattle.std.specs.Prelude.{Result, Ok, Err, IfOk, OnOk}
 use Rattle.la_set.specs.declared.counts.Counts.{Counts}
 use Rattle.la_set.specs.Counts.{counts_of}
+use Rattle.la_set.specs.Histories.{Histories}
 use Rattle.la_set.specs.Deltas.{delta_over}
 use Rattle.la_proposer.specs.ProposerState.{reported}
 use Rattle.la_replica.specs.declared.instance.Instance.{Instance}
@@ -15,11 +16,12 @@ use Rattle.la_commit.specs.declared.outcome.Outcome.{Outcome}
 use Rattle.la_replica.specs.declared.out.Out as code_out
 use Rattle.la_replica.specs.declared.out.Said.{Said}
 use Rattle.la_replica.specs.ReplicaState.{ReplicaState}
+use Rattle.la_replica.specs.Steps.{learnt_in}
 use Rattle.la_replica.specs.Bases.{smaller, IsToldBody, IsToldIn, AreToldIn, AreToldFrom}
 use Rattle.la_replica.specs.Whole.{Message, Out, set_of, whole_body, whole_of, whole_mail, whole_out}
-use Rattle.la_world.specs.declared.done.Done.{Done}
-use Rattle.la_world.specs.declared.node.Received.{Received}
-use Rattle.la_world.specs.Following.{Taken, whole_done}
+use Rattle.la_node.specs.declared.done.Done.{Done}
+use Rattle.la_node.specs.declared.node.Received.{Received}
+use Rattle.la_node.specs.Taking.{Taken, whole_done}
 
 body_once : (reported offered : Counts) (b c : code_body.Body) → IsToldBody reported offered b
     → IsToldBody reported offered c → whole_body b ≡ whole_body c → b ≡ c
@@ -130,6 +132,24 @@ receipts_agree offered x y (Ok r) (Ok s) m n same h k told also =
     dones_agree offered x y r.done s.done m n same h k told also
 receipts_agree offered x y (Ok r) (Err e) m n same h k told also = tt
 receipts_agree offered x y (Err d) b m n same h k told also = tt
+
+-- also where one answers a copy of what is learnt
+pub takings_agree : {D E : Type 0} (offered : Counts) (x y : Option (Taken × ReplicaState))
+    (a : Result (Done × Option Histories) D) (b : Result Received E) (m n : ReplicaState) → x ≡ y
+    → IfOk a (λ t. x ≡ Some (whole_done t.0, m)) → IfOk b (λ r. y ≡ Some (whole_done r.done, n))
+    → IfOk a (λ t. AreToldIn m offered t.0.mail) → IfOk b (λ r. AreToldIn n offered r.done.mail)
+    → IfOk a (λ t. IfOk b (λ s. t.0 ≡ s.done))
+takings_agree offered x y (Ok t) (Ok s) m n same h k told also =
+    dones_agree offered x y t.0 s.done m n same h k told also
+takings_agree offered x y (Ok t) (Err e) m n same h k told also = tt
+takings_agree offered x y (Err d) b m n same h k told also = tt
+
+pub learnt_agree : {D E : Type 0} (a : Result (Done × Option Histories) D) (b : Result Received E)
+    → IfOk a (λ t. t.1 ≡ learnt_in t.0.said) → IfOk a (λ t. IfOk b (λ s. t.0 ≡ s.done))
+    → IfOk a (λ t. IfOk b (λ s. t.1 ≡ learnt_in s.done.said))
+learnt_agree (Ok t) (Ok s) h same = h ∙ ap (λ (d : Done). learnt_in d.said) same
+learnt_agree (Ok t) (Err e) h same = tt
+learnt_agree (Err d) b h same = tt
 
 -- and show one outcome, where that is told by what they say
 pub outcomes_agree : {D E : Type 0} (f g : Said → Option Outcome) (a : Result Received D) (b : Result Received E)

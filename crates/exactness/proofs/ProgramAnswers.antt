@@ -8,7 +8,7 @@ use Rattle.clap.specs.declared.error.kind.ErrorKind.TheVariants.{OutOfMemory}
 use Rattle.la_object.specs.Shelves.{ShelfState}
 use Rattle.la_cli.specs.Calls.{Calls, lattice}
 use Rattle.la_cli.specs.Play.{AnswersScript}
-use Rattle.la_cli.specs.Streams.{RefusesBytes}
+use Rattle.la_io.specs.Streams.{RefusesBytes}
 use Rattle.la_cli.specs.declared.call.Task.{Task}
 
 -- what two calls answer is the same

@@ -10,9 +10,9 @@ use Rattle.la_object.specs.declared.kind.Kind.{Kind}
 use Rattle.la_object.specs.Objects.{tags_by}
 use Rattle.la_object.specs.Shelves.{ShelfState, kind_at, tags_at, updates_at}
 use Rattle.la_replica.specs.declared.message.Message as code
-use Rattle.la_world.specs.declared.config.Config.{Config}
-use Rattle.la_world.specs.declared.error.WorldError.{WorldError}
-use Rattle.la_world.specs.declared.error.WorldError.TheVariants.{BadConfig, NoSuchReplica, Full, NoSuchMessage, NoSuchCommit, AlreadyProposed, NoSuchObject, TooManyTags, Memory}
+use Rattle.la_node.specs.declared.config.Config.{Config}
+use Rattle.la_node.specs.declared.error.WorldError.{WorldError}
+use Rattle.la_node.specs.declared.error.WorldError.TheVariants.{BadConfig, NoSuchReplica, Full, NoSuchMessage, NoSuchCommit, AlreadyProposed, NoSuchObject, TooManyTags, Memory}
 use Rattle.la_world.specs.declared.error.Refusal.{Refusal}
 use Rattle.la_world.specs.declared.error.Refusal.TheVariants as named
 use Rattle.la_world.specs.declared.report.Line.{Line}

@@ -5,9 +5,9 @@ use Rattle.la_set.specs.declared.update.UpdateId.{UpdateId}
 use Rattle.la_object.specs.declared.error.ShelfError.{ShelfError}
 use Rattle.la_object.specs.declared.error.ShelfError.TheVariants.{Taken, NotFresh, NoSuchObject, TooManyTags, Memory}
 use Rattle.la_object.specs.Shelves.{tags_at}
-use Rattle.la_world.specs.Nodes.{NodeState, followed, IsObservedRefusal, LeftUntoldNode}
-use Rattle.la_world.specs.declared.error.WorldError as world
-use Rattle.la_world.specs.declared.error.WorldError.TheVariants as named
+use Rattle.la_node.specs.Nodes.{NodeState, followed, IsObservedRefusal, LeftUntoldNode}
+use Rattle.la_node.specs.declared.error.WorldError as world
+use Rattle.la_node.specs.declared.error.WorldError.TheVariants as named
 use Rattle.la_world.specs.StandsFor.{World}
 use Rattle.la_world.specs.Calls as calls
 use Rattle.la_world.specs.Calls.{IsFollowing}

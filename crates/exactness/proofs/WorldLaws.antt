@@ -9,13 +9,14 @@ use Rattle.la_object.specs.declared.query.Query.{Query}
 use Rattle.la_object.specs.declared.query.Answer.{Answer}
 use Rattle.la_object.specs.Shelves.{answer_at}
 use Rattle.la_replica.specs.Whole.{Message, Yes}
-use Rattle.la_world.specs.declared.config.Config.{Config}
-use Rattle.la_world.specs.declared.error.WorldError.{WorldError}
+use Rattle.la_node.specs.declared.config.Config.{Config}
+use Rattle.la_node.specs.declared.error.WorldError.{WorldError}
 use Rattle.la_world.specs.declared.error.Refusal.TheVariants.{AlreadyProposed}
 use Rattle.la_world.specs.declared.report.Report.{Report}
 use Rattle.la_world.specs.declared.step.Opening.{Opening}
 use Rattle.la_world.specs.declared.step.Learnt.{Learnt}
-use Rattle.la_world.specs.Groups.{Group, group_of, replicas, kinds_on, IsConfig}
+use Rattle.la_node.specs.Configs.{IsConfig}
+use Rattle.la_world.specs.Groups.{Group, group_of, replicas, kinds_on}
 use Rattle.la_world.specs.Events.{Event, Decide}
 use Rattle.la_world.specs.Sent.{sent}
 use Rattle.la_world.specs.Acceptors.{accepted_there}
@@ -23,8 +24,9 @@ use Rattle.la_world.specs.Ballots.{ballots}
 use Rattle.la_world.specs.Submissions.{submitted_ops, taken}
 use Rattle.la_world.specs.Playing.{trace}
 use Rattle.la_world.specs.Report.{report, refused, runs, report_lines, trace_of}
-use Rattle.la_world.specs.Promises.{IsLearntAt, PlacesCountAccepted}
-use Rattle.la_world.specs.Laws.{LearntAreComparable, AcknowledgementsHavePlaces, LearntHoldWhatWasTaken, NumbersNameBallots, BallotsGrow, LearntGrow, SecondProposalsAreRefused, ProposalsAreTestedInOrder, LimitsAre, ReportedAnswersAreValues, IsAnsweredLine, view_at_place}
+use Rattle.la_world.specs.Reading.{IsLearntAt, IsAnsweredLine, view_at_place}
+use Rattle.la_world.specs.Promises.{PlacesCountAccepted}
+use Rattle.la_world.specs.Laws.{LearntAreComparable, AcknowledgementsHavePlaces, LearntHoldWhatWasTaken, NumbersNameBallots, BallotsGrow, LearntGrow, SecondProposalsAreRefused, ProposalsAreTestedInOrder, LimitsAre, ReportedAnswersAreValues}
 
 -- ## Of a run
 

@@ -71,8 +71,9 @@ impl Acceptor {
         self.offer_beyond(offered, Counts::zero())
     }
 
-    /// The same of an offer that is known to have within these counts what is accepted: only what both
-    /// have beyond them is compared. It is [`Acceptor::admit_offer_beyond`],
+    /// Answers an offer as [`Acceptor::offer`] does, with its replies and its refusals, and what
+    /// stands after them, where the offer is known to have within these counts what is accepted:
+    /// only what both have beyond them is compared. It is [`Acceptor::admit_offer_beyond`],
     /// [`Acceptor::prepare_offer`] and [`Acceptor::commit`], at the cost of the three.
     pub fn offer_beyond(
         &mut self,
@@ -104,9 +105,11 @@ impl Acceptor {
         self.admit_offer_beyond(offered, Counts::zero())
     }
 
-    /// The same of an offer that is known to have within these counts what is accepted, as one that
-    /// was rebuilt over the accepted set has within its delta's base: only what both have beyond them
-    /// is compared. The cost is that of [`UpdateSet::first_clash_beyond`].
+    /// Whether an offer would be answered, memory apart, where it is known to have within these
+    /// counts what is accepted, as one that was rebuilt over the accepted set has within its
+    /// delta's base: only what both have beyond them is compared. `Clash` comes exactly where an id
+    /// has two different updates, and names the least such id. It takes no memory, and `Memory`
+    /// never comes. The cost is that of [`UpdateSet::first_clash_beyond`].
     pub fn admit_offer_beyond(&self, offered: &UpdateSet, base: Counts) -> Result<(), AcceptorError>
         requires { within self.now base ≡ within offered.now base }
         ensures compatible { OnOk result (IsCompatible self.now offered.now) }

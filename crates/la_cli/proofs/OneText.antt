@@ -3,7 +3,8 @@ use Rattle.std.proofs.Common.{◌≡◌, ℕ, ◌∙◌, ap, sym, List, ◌++◌
 use Rattle.std.specs.Fmt.{decimal}
 use Rattle.la_object.specs.declared.kind.Kind.{Kind}
 use Rattle.la_object.specs.Shelves.{ShelfState}
-use Rattle.la_world.specs.Groups.{Group, IsConfig}
+use Rattle.la_node.specs.Configs.{IsConfig}
+use Rattle.la_world.specs.Groups.{Group}
 use Rattle.la_world.specs.Events.{event_of}
 use Rattle.la_world.specs.Outcomes.{decisions}
 use Rattle.la_world.specs.Report.{report_lines, views, trace_of}

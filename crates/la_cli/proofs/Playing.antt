@@ -2,18 +2,18 @@
 use Rattle.std.proofs.Common.{◌≡◌, ◌∙◌, ◌+◌, ℕ, List, Option, refl, ap, arith}
 use Rattle.std.proofs.KnownBytes.{Keeps-refl}
 use Rattle.la_object.specs.Shelves.{ShelfState}
-use Rattle.la_world.specs.declared.config.Config.{Config}
+use Rattle.la_node.specs.declared.config.Config.{Config}
 use Rattle.la_world.specs.declared.event.Event.{Event}
 use Rattle.la_script.specs.declared.script.Version.TheVariants.{One}
 use Rattle.la_script.specs.RandomEvents.{random_events}
 use Rattle.la_cli.specs.Faults.{of_input}
 use Rattle.la_cli.specs.Play.{FitAnyGroup, text_by, IsRandomGroup, AnswersDraw, ReadsInput, IsScriptRefusal, IsPlayedRefusal}
-use Rattle.la_cli.specs.Streams.{TakesBytes, TakesAtMost}
+use Rattle.la_io.specs.Streams.{TakesBytes, TakesAtMost}
 use Rattle.la_cli.specs.declared.error.PlayFault.{PlayFault}
 use Rattle.la_cli.specs.declared.error.PlayFault.TheVariants as fault
-use Rattle.la_cli.specs.declared.streams.InputFault.{InputFault}
-use Rattle.la_cli.specs.declared.streams.InputFault.TheVariants as input
-use Rattle.la_cli.specs.declared.streams.TheConstants.{LIMIT}
+use Rattle.la_io.specs.declared.streams.InputFault.{InputFault}
+use Rattle.la_io.specs.declared.streams.InputFault.TheVariants as input
+use Rattle.la_io.specs.declared.streams.TheConstants.{LIMIT}
 
 -- the text of the report of events that were drawn
 pub draw_is_answered : (shelves : List ShelfState) (seed replicas count : ℕ) (c : Config) (events : List Event)

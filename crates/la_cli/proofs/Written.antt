@@ -1,20 +1,13 @@
--- What is written part by part.
-use Rattle.std.proofs.Common.{◌≡◌, ℕ, ◌+◌, ◌-◌, arith, append_assoc, Some, [], List, ◌++◌, length, take, drop, Option, None, Bool, false, cond, refl, ap, sym, ◌∙◌, subst}
-use Rattle.std.specs.Io.KnownBytes.{Appends, Keeps}
-use Rattle.std.proofs.Math.Seq.{take-add}
-use Rattle.std.proofs.lemmas.List.{take_rest, take_all, append-nil}
-use Rattle.std.proofs.KnownBytes.{Appends-trans, Appends-kept}
+-- What is written piece by piece.
+use Rattle.std.proofs.Common.{◌≡◌, ℕ, append_assoc, [], List, ◌++◌, Option, Bool, false, cond, refl, ap, sym, ◌∙◌, subst}
+use Rattle.std.specs.Io.KnownBytes.{Appends}
+use Rattle.std.proofs.lemmas.List.{append-nil}
+use Rattle.std.proofs.KnownBytes.{Appends-trans}
 use Rattle.la_object.specs.Shelves.{ShelfState}
-use Rattle.la_cli.specs.Streams.{AppendsPrefix, AppendsAllBut}
-use Rattle.la_cli.proofs.lemmas.Fronts.{prefix_more, prefix_behind}
+use Rattle.la_io.specs.Streams.{AppendsPrefix}
+use Rattle.la_cli.specs.Pieces.{AppendsAllBut}
+use Rattle.la_io.proofs.lemmas.Fronts.{prefix_more, prefix_behind}
 use Rattle.la_cli.specs.Play.{FitAnyGroup, ReadsInput, AnswersScript, PlaysBytes, PlaysPrefix}
-
--- what is written after the first d bytes
-pub written_more : (a b c : Option (List ℕ)) (bytes : List ℕ) (d n : ℕ) → Appends a b (take d bytes)
-    → Appends b c (take n (take (length bytes - d) (drop d bytes))) → Appends a c (take (d + n) bytes)
-written_more a b c bytes d n p q =
-    subst (Appends a c) (ap (λ l. take d bytes ++ take n l) (take_rest bytes d) ∙ sym (take-add d n bytes))
-    (Appends-trans a b c _ _ p q)
 
 -- a text that was made of what was read, and then written
 pub plays : (shelves : List ShelfState) → FitAnyGroup shelves
@@ -42,20 +35,7 @@ plays_prefix shelves fit a b old new input given text r is made w = record {
   wrote = w;
 }
 
--- no byte was written
-pub kept_by_none : (a b : Option (List ℕ)) (xs : List ℕ) → Appends a b (take 0 xs) → Keeps a b
-kept_by_none None b xs p = tt
-kept_by_none (Some x) None xs p = absurd p
-kept_by_none (Some x) (Some y) xs p = p ∙ append-nil x
-
 -- ## Piece by piece
-
--- all of the bytes are a front of them
-pub prefix_all : (a b : Option (List ℕ)) (xs : List ℕ) → Appends a b xs → AppendsPrefix a b xs
-prefix_all a b xs p = (length xs, subst (Appends a b) (sym (take_all (length xs) xs (omega arith))) p)
-
-pub kept_all : (a b c : Option (List ℕ)) (xs : List ℕ) → Appends a b xs → Keeps b c → Appends a c xs
-kept_all = Appends-kept
 
 -- bytes that are written but for what is held, and what is written or held behind them
 module _ (a b c : Option (List ℕ)) (held bytes : List ℕ) (before : AppendsAllBut a b held bytes) where

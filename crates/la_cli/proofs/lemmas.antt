@@ -1,5 +1,3 @@
-pub mod Always
-pub mod Fronts
 pub mod GivenNumbers
 pub mod Faultless
 pub mod Entered

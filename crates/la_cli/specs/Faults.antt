@@ -4,8 +4,8 @@ use Rattle.la_script.specs.declared.error.ReadError.{ReadError}
 use Rattle.la_script.specs.declared.error.ReadError.TheVariants as read
 use Rattle.la_cli.specs.declared.error.PlayFault.{PlayFault}
 use Rattle.la_cli.specs.declared.error.PlayFault.TheVariants.{Script, ReadFault, TooLong, BadConfig, WriteFault, NoThread, Memory}
-use Rattle.la_cli.specs.declared.streams.InputFault.{InputFault}
-use Rattle.la_cli.specs.declared.streams.InputFault.TheVariants as input
+use Rattle.la_io.specs.declared.streams.InputFault.{InputFault}
+use Rattle.la_io.specs.declared.streams.InputFault.TheVariants as input
 
 abbrev pub of_input : InputFault → PlayFault
 of_input input.ReadFault = ReadFault

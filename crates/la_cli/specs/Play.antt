@@ -4,13 +4,14 @@ use Rattle.std.specs.Io.KnownBytes.{Appends, Keeps}
 use Rattle.la_set.specs.Histories.{empty}
 use Rattle.la_object.specs.Shelves.{ShelfState}
 use Rattle.la_proposer.specs.Majority.{votes_of}
-use Rattle.la_world.specs.declared.config.Config.{Config}
+use Rattle.la_node.specs.declared.config.Config.{Config}
 use Rattle.la_world.specs.declared.event.Event.{Event}
 use Rattle.la_world.specs.declared.report.Report.{Report}
-use Rattle.la_world.specs.Groups.{group_of, IsConfig}
+use Rattle.la_node.specs.Configs.{IsConfig}
+use Rattle.la_world.specs.Groups.{group_of}
 use Rattle.la_world.specs.Events.{event_of}
 use Rattle.la_world.specs.Report.{report}
-use Rattle.la_world.specs.Reported.{ReportKeeps}
+use Rattle.la_world.specs.Headline.{KeepsAll}
 use Rattle.la_world.specs.StandsFor.{kinds_of}
 use Rattle.la_script.specs.declared.error.ScriptFault.{ScriptFault}
 use Rattle.la_script.specs.declared.script.Script.{Script}
@@ -21,8 +22,8 @@ use Rattle.la_script.specs.Scripts.{script_of, said_by}
 use Rattle.la_script.specs.Text.{text_of}
 use Rattle.la_cli.specs.declared.error.PlayFault.{PlayFault}
 use Rattle.la_cli.specs.declared.error.PlayFault.TheVariants as fault
-use Rattle.la_cli.specs.declared.streams.TheConstants.{LIMIT}
-use Rattle.la_cli.specs.Streams.{ReadsAll, TakesBytes, TakesAtMost, AppendsPrefix}
+use Rattle.la_io.specs.declared.streams.TheConstants.{LIMIT}
+use Rattle.la_io.specs.Streams.{ReadsLines, TakesBytes, TakesAtMost, AppendsPrefix}
 
 -- ## Shelves
 
@@ -65,8 +66,8 @@ pub record IsTextOfKept (shelves : List ShelfState) (input text : List ℕ) : Ty
   pub says : SaysScript input script
   pub made : Report
   pub is_text : text ≡ text_of script.version made
-  pub keeps :
-      ReportKeeps (group_of script.config (kinds_of (group_shelves script.config shelves)))
+  pub keeps_all :
+      KeepsAll (group_of script.config (kinds_of (group_shelves script.config shelves)))
       (map event_of script.events) made
 
 -- of every text that bytes are answered with
@@ -104,7 +105,7 @@ pub record AnswersDraw
 
 -- all was read, and it is within the limit
 pub record ReadsInput (left left_after : Option (List ℕ)) (input : List ℕ) : Type 0 where
-  pub all : ReadsAll left left_after input
+  pub all : ReadsLines left left_after input
   pub short : length input ≤ LIMIT
 
 -- all was read, and it is a script; the text of its report was written

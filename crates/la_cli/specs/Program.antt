@@ -10,7 +10,7 @@ use Rattle.la_cli.specs.declared.error.PlayFault.TheVariants.{Memory, WriteFault
 use Rattle.la_cli.specs.declared.call.Task.{Task}
 use Rattle.la_cli.specs.declared.call.Task.TheVariants as task
 use Rattle.la_cli.specs.declared.program.Ended.{Ended}
-use Rattle.la_cli.specs.Streams.{AppendsPrefix, RefusesBytes}
+use Rattle.la_io.specs.Streams.{AppendsPrefix, RefusesBytes}
 use Rattle.la_cli.specs.Faults.{play_status}
 use Rattle.la_cli.specs.Play.{PlaysBytes, IsPlayedRefusal, PlaysDraw, IsDrawRefusal}
 use Rattle.la_cli.specs.Threads.{RunsThreads, IsThreadsRefusal}

@@ -20,7 +20,7 @@ use Rattle.la_script.specs.Text.{answer_text}
 use Rattle.la_cli.specs.declared.error.PlayFault.{PlayFault}
 use Rattle.la_cli.specs.declared.error.PlayFault.TheVariants as fault
 use Rattle.la_cli.specs.Play.{FitAnyGroup}
-use Rattle.la_cli.specs.Streams.{AppendsPrefix}
+use Rattle.la_io.specs.Streams.{AppendsPrefix}
 
 -- ## The run
 

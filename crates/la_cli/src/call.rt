@@ -71,8 +71,8 @@ fn play_command<'a>(alloc: Global) -> Command<'a>
     Command::new(alloc, "play").about("Plays the script on standard input: lattice play <script")
 }
 
-// The command with one more option with a number.
-fn with_number<'a>(
+/// The command with one more option with a number, which may be left out.
+pub fn with_number<'a>(
     alloc: Global,
     command: Command<'a>,
     name: &'a str,
@@ -167,7 +167,7 @@ fn with_threads<'a>(alloc: Global, command: Command<'a>) -> Result<Command<'a>, 
 
 fn with_node<'a>(alloc: Global, command: Command<'a>) -> Result<Command<'a>, AllocError>
     ensures { IfOk result (λ made.
-        app_of made ≡ with_subcommand (app_of command.entry) node.top) }
+        app_of made ≡ with_subcommand (app_of command.entry) node_app.top) }
 {
     command.subcommand(node_command(alloc))
 }

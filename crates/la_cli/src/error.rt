@@ -3,8 +3,8 @@ ghost use Rattle.la_cli.specs.Faults.{of_input, of_script};
 ghost use Rattle.la_cli.specs.Texts.{fault_text};
 ghost use Rattle.la_cli.specs.declared.error.PlayFault.TheVariants.{Memory};
 
-use crate::streams::InputFault;
 use crate::telling::text_of;
+use la_io::InputFault;
 use la_script::{ReadError, ScriptFault};
 use std::alloc::AllocError;
 use std::fmt;

@@ -7,7 +7,7 @@ ghost use Rattle.la_cli.specs.Play.{FitAnyGroup, TextsKeepPromises};
 ghost use Rattle.la_cli.specs.Shelves.{standard_shelves};
 ghost use Rattle.la_cli.specs.declared.call.Task.{Task};
 
-use crate::LIMIT;
+use la_io::LIMIT;
 use la_world::laws;
 
 /// An input may have 16,777,216 bytes.

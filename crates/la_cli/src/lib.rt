@@ -25,24 +25,20 @@ mod call;
 mod error;
 mod held;
 pub mod laws;
-mod listener;
 mod objects;
+mod pieces;
 mod play;
 mod program;
 mod shelves;
-mod streams;
 mod telling;
 mod threads;
 
-pub use call::{ABOUT_NODE, Task, VERSION, command};
+pub use call::{ABOUT_NODE, Task, VERSION, command, with_number};
 pub use error::PlayFault;
-pub use listener::{Listener, tell_all};
 pub use objects::run_boxed;
+pub use pieces::write_pieces;
 pub use play::{answer_to, fit_any_group, play_random, play_stream};
 pub use program::{Ended, carry_out, end_without_call, end_without_words, run_words, status_of};
 pub use shelves::{Numbered, fill};
-pub use streams::{
-    InputFault, LIMIT, WriteFailed, flush, read_all, write_all, write_pieces, write_some,
-};
 pub use telling::{tell, tell_no_text};
 pub use threads::{agree, play_threads, text_of_logs};

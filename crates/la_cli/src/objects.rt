@@ -8,9 +8,9 @@ ghost use Rattle.la_object.specs.Objects.{start};
 ghost use Rattle.la_cli.specs.Program.{ProgramEnds, ProgramEndsWell, heard, standard};
 ghost use Rattle.la_cli.specs.Shelves.{states_of, standard_objects, standard_shelves};
 
-use crate::listener::Listener;
 use crate::program::{end_without_words, run_words};
 use crate::shelves::{Numbered, fill};
+use la_io::Listener;
 use la_object::{Counter, MaxRegister, Replicated, Shelf, ShelfError};
 use la_orset::OrSet;
 use la_set::REPLICAS;

@@ -1,22 +1,24 @@
 ghost use Rattle.std.specs.Prelude.{◌≡◌, ◌↔◌, ◌+◌, ◌<◌, ◌≤◌, ◌^◌, [], ◌∷◌, ◌++◌, length};
 ghost use Rattle.std.specs.Prelude.{IsTrue, IfOk, IfErr, OnOk};
-ghost use Rattle.la_world.specs.Groups.{IsConfig};
+ghost use Rattle.la_node.specs.Configs.{IsConfig};
 ghost use Rattle.la_world.specs.StandsFor.{StandsFor};
 ghost use Rattle.la_cli.specs.declared.error.PlayFault.TheVariants.{WriteFault};
-ghost use Rattle.la_cli.specs.Streams.{TakesAtMost, Writes, WritesPrefix};
+ghost use Rattle.la_io.specs.Streams.{TakesAtMost, Writes, WritesPrefix};
 ghost use Rattle.la_cli.specs.Play.{FitAnyGroup, group_shelves, text_by, IsRandomGroup};
 ghost use Rattle.la_cli.specs.Play.{AnswersScript, IsScriptRefusal, PlaysBytes, IsPlayedRefusal};
 ghost use Rattle.la_cli.specs.Play.{PlaysDraw, IsDrawRefusal};
 
 use crate::PlayFault;
-use crate::streams::{LIMIT, read_all, write_pieces};
+use crate::pieces::write_pieces;
+use la_io::{LIMIT, read_all};
+use la_node::{Config, WorldError};
 use la_object::{Replicated, Shelf};
 use la_proposer::{MAX_CAP, Votes};
 use la_script::{
     Events, Pieces, Version, put_ending, put_header, put_numbered, random_events, read,
 };
 use la_set::REPLICAS;
-use la_world::{Config, Event, Steps, World, WorldError, are_unused};
+use la_world::{Event, Steps, World, are_unused};
 use std::alloc::{AllocError, Global};
 use std::io::{Read, Write};
 

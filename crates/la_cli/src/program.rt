@@ -8,12 +8,11 @@ ghost use Rattle.la_cli.specs.Program.{ProgramEnds, ProgramEndsWell, EndsWithout
 ghost use Rattle.la_cli.specs.Program.{TellsFault, TellsNoText, heard, standard};
 
 use crate::call::{Task, command};
-use crate::listener::{Listener, tell_all};
-use crate::streams::{WriteFailed, write_all};
 use crate::telling::{tell, tell_no_text};
 use crate::threads::play_threads;
 use crate::{PlayFault, play_random, play_stream};
 use clap::Error;
+use la_io::{Listener, WriteFailed, tell_all, write_all};
 use la_object::{Replicated, Shelf};
 use std::alloc::Global;
 use std::io::{ErrorKind, Read, Write};

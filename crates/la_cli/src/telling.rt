@@ -1,13 +1,12 @@
 // What is told on standard error. Telling takes no memory.
 ghost use Rattle.std.specs.Prelude.{◌≡◌, ◌≤◌, OnOk, OnErr, length};
-ghost use Rattle.la_cli.specs.Streams.{Writes, RefusesBytes};
+ghost use Rattle.la_io.specs.Streams.{Writes, RefusesBytes};
 ghost use Rattle.la_cli.specs.Texts.{name_of, fault_text, fault_line, no_text_line};
 
 use crate::PlayFault;
-use crate::listener::{Listener, tell_all};
-use crate::streams::WriteFailed;
 use arrayvec::ArrayString;
 use itoa::Buffer;
+use la_io::{Listener, WriteFailed, tell_all};
 use la_script::FaultName;
 
 // A line with a number of 32 bits has at most 27 bytes.

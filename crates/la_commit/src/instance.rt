@@ -29,14 +29,15 @@ pub fn is_first_instance(instance: u8) -> bool
     instance % 2 == 1
 }
 
-/// The same of a second agreement. Instance 0 is of neither.
+/// Whether an instance is of some object's second agreement, whatever number the object has.
+/// Instance 0 is of neither agreement.
 pub fn is_second_instance(instance: u8) -> bool
     ensures { result ≡ is_second_instance instance }
 {
     instance % 2 == 0 && instance != 0
 }
 
-/// The object of which this is the first instance.
+/// The number of the adopt-commit object whose first agreement uses this instance.
 pub fn commit_of(instance: u8) -> u8
     ensures { result ≡ commit_of instance }
 {

@@ -7,7 +7,7 @@ ghost use Rattle.la_commit.specs.Laws.{UnanimousCommit, OutcomesAreVoted};
 
 use crate::MAX_COMMITS;
 
-/// The limit as a number.
+/// The most adopt-commit objects that a group may have, as a number.
 pub fn limits()
     ensures { MAX_COMMITS ≡ 16 }
 {}

@@ -133,7 +133,7 @@ impl First {
 }
 
 impl Second {
-    /// A participant whose vote in the second agreement is known goes on.
+    /// A participant whose vote in the second agreement is known goes on: it has cast this vote.
     pub fn resume(participant: u8, vote: Vote) -> Second
         ensures { result ≡ record { participant = participant; vote = vote } }
     {
@@ -188,8 +188,9 @@ pub fn second_vote(participant: u8, learnt: &UpdateSet) -> Option<Vote>
     Some(second)
 }
 
-/// The outcome to which a set of the second agreement leads, in the same way. `None` where the set
-/// lacks the participant's vote. The cost is linear in the set's length.
+/// The outcome to which a set of the second agreement leads, without a state that was kept: the
+/// participant's own vote there tells its value. `None` where the set lacks that vote. The cost is
+/// linear in the set's length.
 pub fn outcome_of(participant: u8, learnt: &UpdateSet) -> Option<Outcome>
     ensures { result ≡ outcome_of learnt.now participant }
 {

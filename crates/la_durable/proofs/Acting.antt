@@ -27,12 +27,12 @@ use Rattle.la_replica.specs.Bases.{offered_by, IsToldIn, AreToldIn, AreToldFrom}
 use Rattle.la_replica.specs.ReplicaState.{ReplicaState, submits, submitted_in}
 use Rattle.la_replica.specs.Refusals.{HasRoom, SubmittingSpares, IsSubmitRefusal, IsReceivable, ReceivingSpares, IsReceiptRefusal}
 use Rattle.la_replica.proofs.lemmas.Alike.{alike_received}
-use Rattle.la_world.specs.declared.error.WorldError.{WorldError}
-use Rattle.la_world.specs.declared.error.WorldError.TheVariants as world
-use Rattle.la_world.specs.declared.node.Received as code_received
-use Rattle.la_world.specs.Following.{Taken, takes, whole_done}
-use Rattle.la_world.specs.Nodes.{IsProposeRefusal, outcome_due}
-use Rattle.la_world.specs.Kept.{KeptCall, Submitted, Proposed, Received}
+use Rattle.la_node.specs.declared.error.WorldError.{WorldError}
+use Rattle.la_node.specs.declared.error.WorldError.TheVariants as world
+use Rattle.la_node.specs.declared.node.Received as code_received
+use Rattle.la_node.specs.Taking.{Taken, takes, whole_done}
+use Rattle.la_node.specs.Nodes.{IsProposeRefusal, outcome_due}
+use Rattle.la_node.specs.Kept.{KeptCall, Submitted, Proposed, Received}
 use Rattle.la_wire.specs.declared.letter.Letter.{Letter}
 use Rattle.la_wire.specs.Messages.{letter_message, said_body}
 use Rattle.la_wire.specs.Calls.{WireCall, Submit, Decide, Ask, Tick, Receive}

@@ -35,7 +35,7 @@ use Rattle.la_replica.specs.Whole.{Message, Body, Offer, Yes, No, Tell}
 use Rattle.la_replica.specs.Received.{Told, told_at, rebuilt_at, received_at, message_with, received_in, StandsAt, StandsIn}
 use Rattle.la_replica.specs.ReplicaState.{ReplicaState, submitted_in}
 use Rattle.la_replica.specs.Refusals.{HasRoom, SubmittingSpares, FitsBody, SparesBody, FitsMessage, SparesMessage, IsFor, IsReceivable, ReceivingSpares}
-use Rattle.la_world.specs.Kept.{KeptCall, Submitted, Proposed, Received}
+use Rattle.la_node.specs.Kept.{KeptCall, Submitted, Proposed, Received}
 use Rattle.la_commit.specs.Instances.{first_instance}
 use Rattle.la_durable.specs.Accepting.{submission_spends, takes_submission, is_first, has_counts, is_next, are_next, is_over_base}
 use Rattle.la_durable.specs.Accepting.{is_none_but, is_compatible, fits_reply, fits_tally, is_own_known, fits_refusal, is_fitting_reply, spares, hears_reply, takes_body, takes_message, is_for, accepts}

@@ -4,10 +4,10 @@ use Rattle.std.specs.Option.{is_some}
 use Rattle.std.proofs.lemmas.Bool.{false≢true}
 use Rattle.la_journal.specs.Machine.{IsNamed}
 use Rattle.la_wire.specs.Calls.{WireCall}
-use Rattle.la_wire.specs.CallLines.{named_call}
-use Rattle.la_world.specs.declared.node.Received as code_received
+use Rattle.la_wire.specs.CallLines.{named_call, may_stand}
+use Rattle.la_node.specs.declared.node.Received as code_received
 use Rattle.la_durable.specs.declared.error.NodeError.{NodeError}
-use Rattle.la_durable.specs.CallLines.{CallLine, is_line, may_stand, call_line, call_line_where, or_tick, call_round_trip}
+use Rattle.la_durable.specs.CallLines.{CallLine, is_line, call_line, call_line_where, or_tick, call_round_trip}
 use Rattle.la_durable.specs.Errors.{IsForMemory}
 use Rattle.la_durable.specs.Given.{Given, given_of}
 use Rattle.la_durable.specs.Inputs.{InputState}

@@ -1,8 +1,8 @@
 -- Which refusal a call gets.
 use Rattle.la_replica.specs.declared.error.ReplicaError.{ReplicaError}
 use Rattle.la_replica.specs.declared.error.ReplicaError.TheVariants as replica
-use Rattle.la_world.specs.declared.error.WorldError.{WorldError}
-use Rattle.la_world.specs.declared.error.WorldError.TheVariants as world
+use Rattle.la_node.specs.declared.error.WorldError.{WorldError}
+use Rattle.la_node.specs.declared.error.WorldError.TheVariants as world
 use Rattle.la_durable.specs.Errors.{by_replica, by_proposal, OfReplica, OfProposal, OfCopied, IfHere}
 
 pub named_by_replica : (Is : ReplicaError → Type 0) (here : Type 0) (e : ReplicaError) → here → Is e

@@ -13,10 +13,10 @@ use Rattle.la_replica.specs.Received.{received_in}
 use Rattle.la_replica.specs.ReplicaState as acting
 use Rattle.la_replica.specs.ReplicaState.{ReplicaState}
 use Rattle.la_replica.proofs.lemmas.Growing.{receives_grows, submits_grows}
-use Rattle.la_world.specs.Following.{Taken, takes, then_votes, vote_due}
-use Rattle.la_world.specs.Votes.{Submission}
-use Rattle.la_world.specs.Nodes.{NodeState}
-use Rattle.la_world.specs.Kept.{KeptCall, Submitted, Proposed, Received, after_call}
+use Rattle.la_node.specs.Taking.{Taken, takes, then_votes, vote_due}
+use Rattle.la_node.specs.SecondVotes.{Submission}
+use Rattle.la_node.specs.Nodes.{NodeState}
+use Rattle.la_node.specs.Kept.{KeptCall, Submitted, Proposed, Received, after_call}
 use Rattle.la_world.specs.LiveGroups.{AreLive, IsAmong, LooksKeepLive}
 use Rattle.la_world.specs.Unheard.{MayKeep, UnheardCallsKeepLive}
 use Rattle.la_wire.specs.Calls.{WireCall, Submit, Decide, Ask, Tick, Receive}

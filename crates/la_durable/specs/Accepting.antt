@@ -22,7 +22,7 @@ use Rattle.la_replica.specs.declared.message.Message as code
 use Rattle.la_replica.specs.Whole.{Message, Body, Offer, Yes, No, Tell}
 use Rattle.la_replica.specs.Received.{Told, told_at, received_at}
 use Rattle.la_replica.specs.ReplicaState.{ReplicaState, submitted_in}
-use Rattle.la_world.specs.Kept.{KeptCall, Submitted, Proposed, Received}
+use Rattle.la_node.specs.Kept.{KeptCall, Submitted, Proposed, Received}
 
 -- ## A submission
 

@@ -7,19 +7,7 @@ use Rattle.std.proofs.Math.Bool.{Bool-set}
 use Rattle.std.proofs.lemmas.Bool.{false≢true, and_parts, not-true, eqb-false}
 use Rattle.la_journal.specs.Lines.{IsClean}
 use Rattle.la_journal.specs.Journal.{IsCallLine, state_in}
-use Rattle.la_wire.specs.CallLines.{call_of, named_call, tick_word}
-
--- no byte is 0 or a line's end
-abbrev pub is_clean_byte : ℕ → Bool
-is_clean_byte b = not (b == 0) && not (b == 10)
-
--- and it does not begin as a state's line
-abbrev pub is_no_state : List ℕ → Bool
-is_no_state [] = true
-is_no_state (b ∷ bytes) = not (b == 61)
-
-abbrev pub may_stand : List ℕ → Bool
-may_stand line = list_all is_clean_byte line && is_no_state line
+use Rattle.la_wire.specs.CallLines.{call_of, named_call, tick_word, is_clean_byte, is_no_state, may_stand}
 
 abbrev pub is_line : List ℕ → Bool
 is_line line = may_stand line && is_some (named_call line)

@@ -2,12 +2,12 @@
 use Rattle.std.specs.Prelude.{◌≡◌, ℕ}
 use Rattle.la_replica.specs.declared.error.ReplicaError.{ReplicaError}
 use Rattle.la_replica.specs.declared.error.ReplicaError.TheVariants as replica
-use Rattle.la_world.specs.declared.error.WorldError.{WorldError}
-use Rattle.la_world.specs.declared.error.WorldError.TheVariants as world
+use Rattle.la_node.specs.declared.error.WorldError.{WorldError}
+use Rattle.la_node.specs.declared.error.WorldError.TheVariants as world
 use Rattle.la_durable.specs.declared.error.NodeError.{NodeError}
 use Rattle.la_durable.specs.declared.error.NodeError.TheVariants.{Elsewhere, Unkept, Replica, Proposal, Memory}
 use Rattle.la_replica.specs.Refusals.{IsSubmitRefusal, IsReceiptRefusal}
-use Rattle.la_world.specs.Nodes.{IsProposeRefusal}
+use Rattle.la_node.specs.Nodes.{IsProposeRefusal}
 use Rattle.la_replica.specs.ReplicaState.{ReplicaState}
 use Rattle.la_wire.specs.declared.letter.Letter.{Letter}
 use Rattle.la_wire.specs.declared.calls.Call as code

@@ -13,12 +13,12 @@ use Rattle.la_replica.specs.Whole.{Message, Out}
 use Rattle.la_replica.specs.Received.{received_in}
 use Rattle.la_replica.specs.Bases.{offered_by}
 use Rattle.la_replica.specs.ReplicaState.{ReplicaState, submits}
-use Rattle.la_world.specs.declared.done.Voted.{Voted}
-use Rattle.la_world.specs.declared.node.Received.{Received as Given_by_code}
+use Rattle.la_node.specs.declared.done.Voted.{Voted}
+use Rattle.la_node.specs.declared.node.Received.{Received as Given_by_code}
 use Rattle.la_world.specs.Told.{told_over, base_told}
-use Rattle.la_world.specs.Following.{Taken, takes}
-use Rattle.la_world.specs.Nodes.{outcome_due}
-use Rattle.la_world.specs.Kept.{KeptCall, Submitted, Proposed, Received}
+use Rattle.la_node.specs.Taking.{Taken, takes}
+use Rattle.la_node.specs.Nodes.{outcome_due}
+use Rattle.la_node.specs.Kept.{KeptCall, Submitted, Proposed, Received}
 use Rattle.la_durable.specs.Accepting.{accepts}
 
 pub record Given : Type 0 where

@@ -5,8 +5,8 @@ use Rattle.la_wire.specs.declared.error.LineError.{LineError}
 use Rattle.la_wire.specs.declared.error.LineError.TheVariants.{Fault, Memory}
 use Rattle.la_wire.specs.declared.error.LineFault.TheVariants.{BadLine}
 use Rattle.la_wire.specs.Calls.{called}
-use Rattle.la_wire.specs.CallLines.{named_call, bounded_call_of}
-use Rattle.la_durable.specs.CallLines.{is_line, may_stand}
+use Rattle.la_wire.specs.CallLines.{named_call, bounded_call_of, may_stand}
+use Rattle.la_durable.specs.CallLines.{is_line}
 
 pub record InputState : Type 0 where
   pub line : List ℕ

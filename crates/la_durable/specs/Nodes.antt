@@ -8,10 +8,11 @@ use Rattle.la_replica.specs.declared.message.Message as code
 use Rattle.la_replica.specs.declared.message.Body as code_body
 use Rattle.la_replica.specs.declared.message.Body.TheVariants as body
 use Rattle.la_replica.specs.ReplicaState.{ReplicaState}
-use Rattle.la_world.specs.Kept.{KeptCall, Submitted, Proposed, Received}
+use Rattle.la_node.specs.Kept.{KeptCall, Submitted, Proposed, Received}
 use Rattle.la_wire.specs.Messages.{WireMessage, WireBody, Offer, Yes, No, Tell}
 use Rattle.la_wire.specs.Calls.{WireCall, Submit, Decide, Ask, Tick, Receive}
 use Rattle.la_wire.specs.CallLines.{named_call}
+use Rattle.la_durable.specs.declared.machine.NodeMachine.{NodeMachine}
 use Rattle.la_durable.specs.Given.{Given, makes}
 use Rattle.la_durable.specs.CallLines.{CallLine}
 
@@ -19,6 +20,10 @@ use Rattle.la_durable.specs.CallLines.{CallLine}
 pub record KeptState : Type 0 where
   pub replicas : ℕ
   pub replica : ReplicaState
+
+-- the same of a machine
+abbrev pub kept_by : NodeMachine → KeptState
+kept_by m = record { replicas = m.replicas; replica = m.node.replica }
 
 -- a shelf without objects
 abbrev pub empty_shelf : ShelfState

@@ -3,7 +3,7 @@ use Rattle.std.specs.Prelude.{◌≡◌, ℕ, List, slice_get, slice_set, Option
 use Rattle.la_journal.specs.Machine.{LeadsToSome}
 use Rattle.la_journal.specs.Machine as journal
 use Rattle.la_replica.specs.declared.message.Message as code
-use Rattle.la_world.specs.Nodes.{NodeState}
+use Rattle.la_node.specs.Nodes.{NodeState}
 use Rattle.la_world.specs.LiveGroups.{AreLive, IsAmong}
 use Rattle.la_wire.specs.Messages.{WireMessage}
 use Rattle.la_wire.specs.Calls.{Receive}

@@ -1,10 +1,10 @@
 ghost use Rattle.std.specs.Prelude.{◌≡◌};
 ghost use Rattle.la_replica.specs.declared.error.ReplicaError.TheVariants.{Memory as ReplicaMemory};
-ghost use Rattle.la_world.specs.declared.error.WorldError.TheVariants.{Memory as WorldMemory};
+ghost use Rattle.la_node.specs.declared.error.WorldError.TheVariants.{Memory as WorldMemory};
 ghost use Rattle.la_durable.specs.Errors.{by_replica, by_proposal};
 
+use la_node::WorldError;
 use la_replica::ReplicaError;
-use la_world::WorldError;
 use std::alloc::AllocError;
 use thiserror::Error;
 

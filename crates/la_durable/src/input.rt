@@ -1,7 +1,7 @@
 ghost use Rattle.std.specs.Prelude.{◌≡◌, true, false, IfOk, IfErr, IfSome, Some, None};
 ghost use Rattle.la_wire.specs.Calls.{called};
-ghost use Rattle.la_wire.specs.CallLines.{named_call};
-ghost use Rattle.la_durable.specs.CallLines.{is_line, may_stand, is_clean_byte, is_no_state};
+ghost use Rattle.la_wire.specs.CallLines.{named_call, may_stand, is_clean_byte, is_no_state};
+ghost use Rattle.la_durable.specs.CallLines.{is_line};
 ghost use Rattle.std.specs.List.{list_all};
 ghost use Rattle.la_durable.specs.Inputs.{IsInputRefusal};
 

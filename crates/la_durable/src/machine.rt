@@ -1,20 +1,20 @@
 ghost use Rattle.std.specs.Prelude.{◌≡◌, ◌⊎◌, Some, None, IfOk, IfErr, OnOk, OnErr};
 ghost use Rattle.la_wire.specs.Calls.{called, Submit, Decide, Receive};
 ghost use Rattle.la_wire.specs.Messages.{letter_message};
-ghost use Rattle.la_world.specs.Groups.{IsConfig};
-ghost use Rattle.la_world.specs.Nodes.{node_at_start, IsStartRefusal};
+ghost use Rattle.la_node.specs.Configs.{IsConfig};
+ghost use Rattle.la_node.specs.Nodes.{node_at_start, IsStartRefusal};
 ghost use Rattle.la_durable.specs.Given.{given_of};
-ghost use Rattle.la_durable.specs.Nodes.{KeptState, empty_shelf, acts};
+ghost use Rattle.la_durable.specs.Nodes.{KeptState, empty_shelf, kept_by, acts};
 ghost use Rattle.la_durable.specs.Errors.{IsForMemory, IsActRefusal};
 ghost use Rattle.la_durable.specs.Errors.{RefusesSubmission, RefusesProposal, RefusesLetter};
 
 use crate::{Input, NodeError};
 use la_journal::Machine;
+use la_node::{Config, Done, Node, Received, WorldError};
 use la_object::{Counter, Shelf};
 use la_replica::Out;
 use la_set::Op;
 use la_wire::{Call, Letter};
-use la_world::{Config, Done, Node, Received, WorldError};
 use std::alloc::{AllocError, Global};
 
 /// A node without objects as a machine. Questions are for a shelf of the caller's, of whatever objects,
@@ -46,13 +46,9 @@ impl NodeMachine {
     /// submission's operation is copied first, so that `Memory` may come before the cap is looked at.
     pub fn act(&mut self, call: &Call) -> Result<Received, NodeError>
         ensures ok { IfOk result (λ given.
-            acts (record { replicas = self.old.replicas; replica = self.old.node.replica }) (called call.now)
-            ≡ Some (given_of given, record { replicas = self.new.replicas; replica = self.new.node.replica })) }
-        ensures error { IfErr result (λ e. IsForMemory e
-            ⊎ (acts (record { replicas = self.old.replicas; replica = self.old.node.replica }) (called call.now)
-            ≡ None)) }
-        ensures refusal { IfErr result (IsActRefusal
-            (record { replicas = self.old.replicas; replica = self.old.node.replica }) call.now) }
+            acts (kept_by self.old) (called call.now) ≡ Some (given_of given, kept_by self.new)) }
+        ensures error { IfErr result (λ e. IsForMemory e ⊎ (acts (kept_by self.old) (called call.now) ≡ None)) }
+        ensures refusal { IfErr result (IsActRefusal (kept_by self.old) call.now) }
         ensures err { OnErr result (self.new ≡ self.old) }
     {
         match call {
@@ -79,11 +75,10 @@ impl NodeMachine {
     #[tactic(auto, using(crate::proofs::Acting::submitted_acts, crate::proofs::Acting::submission_elsewhere, crate::proofs::Acting::refusal_of_submission, crate::proofs::Naming::named_of_copied))]
     fn submit(&mut self, replica: u8, object: u16, op: &Op) -> Result<Received, NodeError>
         ensures ok { IfOk result (λ given.
-            acts (record { replicas = self.old.replicas; replica = self.old.node.replica }) (Submit replica object op.now)
-            ≡ Some (given_of given, record { replicas = self.new.replicas; replica = self.new.node.replica })) }
+            acts (kept_by self.old) (Submit replica object op.now)
+            ≡ Some (given_of given, kept_by self.new)) }
         ensures error { IfErr result (λ e. IsForMemory e
-            ⊎ (acts (record { replicas = self.old.replicas; replica = self.old.node.replica }) (Submit replica object op.now)
-            ≡ None)) }
+            ⊎ (acts (kept_by self.old) (Submit replica object op.now) ≡ None)) }
         ensures refusal { IfErr result (RefusesSubmission self.old.node.replica replica) }
         ensures err { OnErr result (self.new ≡ self.old) }
     {
@@ -99,11 +94,10 @@ impl NodeMachine {
     #[tactic(auto, using(crate::proofs::Acting::proposed_acts, crate::proofs::Acting::proposal_elsewhere, crate::proofs::Acting::refusal_of_proposal, crate::proofs::Naming::named_by_proposal))]
     fn propose(&mut self, replica: u8, commit: u8, value: u64) -> Result<Received, NodeError>
         ensures ok { IfOk result (λ given.
-            acts (record { replicas = self.old.replicas; replica = self.old.node.replica }) (Decide replica commit value)
-            ≡ Some (given_of given, record { replicas = self.new.replicas; replica = self.new.node.replica })) }
+            acts (kept_by self.old) (Decide replica commit value)
+            ≡ Some (given_of given, kept_by self.new)) }
         ensures error { IfErr result (λ e. IsForMemory e
-            ⊎ (acts (record { replicas = self.old.replicas; replica = self.old.node.replica }) (Decide replica commit value)
-            ≡ None)) }
+            ⊎ (acts (kept_by self.old) (Decide replica commit value) ≡ None)) }
         ensures refusal { IfErr result (RefusesProposal self.old.node.replica replica commit) }
         ensures err { OnErr result (self.new ≡ self.old) }
     {
@@ -119,11 +113,10 @@ impl NodeMachine {
     #[tactic(auto, using(crate::proofs::Acting::received_acts, crate::proofs::Acting::message_elsewhere, crate::proofs::Acting::refusal_of_message, crate::proofs::Naming::named_by_replica))]
     fn receive(&mut self, letter: &Letter) -> Result<Received, NodeError>
         ensures ok { IfOk result (λ given.
-            acts (record { replicas = self.old.replicas; replica = self.old.node.replica }) (Receive (letter_message letter.now))
-            ≡ Some (given_of given, record { replicas = self.new.replicas; replica = self.new.node.replica })) }
+            acts (kept_by self.old) (Receive (letter_message letter.now))
+            ≡ Some (given_of given, kept_by self.new)) }
         ensures error { IfErr result (λ e. IsForMemory e
-            ⊎ (acts (record { replicas = self.old.replicas; replica = self.old.node.replica }) (Receive (letter_message letter.now))
-            ≡ None)) }
+            ⊎ (acts (kept_by self.old) (Receive (letter_message letter.now)) ≡ None)) }
         ensures refusal { IfErr result (RefusesLetter self.old.node.replica self.old.replicas letter.now) }
         ensures err { OnErr result (self.new ≡ self.old) }
     {
@@ -168,7 +161,7 @@ impl Machine for NodeMachine {
 
     ghost State = { KeptState };
 
-    ghost state = { λ m. record { replicas = m.replicas; replica = m.node.replica } };
+    ghost state = { kept_by };
 
     ghost Call = { CallLine };
 

@@ -1,25 +1,14 @@
--- Texts that are put one behind another.
+-- Lines that are written one behind another, and bytes of a line.
 use Rattle.std.proofs.Common.{◌≡◌, ◌≢◌, ℕ, ◌+◌, ◌-◌, ◌<◌, ◌==◌, false, List, [], ◌∷◌, ◌++◌, length, take, drop, get_or, Option, ap, sym, subst, ◌∙◌, append_assoc, take-append-drop, arith}
 use Rattle.std.specs.Io.KnownBytes.{Appends}
 use Rattle.std.proofs.KnownBytes.{Appends-trans}
 use Rattle.std.proofs.Math.Seq.{take-add}
 use Rattle.std.proofs.lemmas.Bool.Decides.{nat_tests}
 use Rattle.std.proofs.lemmas.List.Elements.{All-nil, All-cons, All-append}
-use Rattle.la_cli.specs.Streams.{AppendsPrefix}
-use Rattle.la_cli.proofs.lemmas.Fronts.{prefix_more, prefix_behind}
-use Rattle.la_io.specs.Streams.{IsOneLine}
-use Rattle.std.specs.List.{flat_map}
-use Rattle.std.proofs.lemmas.List.{flat_map_more, take_more}
-
--- the next of them
-pub next_text : {X : Type 0} (f : X → List ℕ) (xs : List X) (i : ℕ) (x : X) (bs : List ℕ) → i < length xs
-    → get_or xs i x ≡ x → (bs ++ flat_map f (take i xs)) ++ f x ≡ bs ++ flat_map f (take (i + 1) xs)
-next_text f xs i x bs lt is =
-    flat_map_more f bs (take i xs) x
-    ∙ ap (λ z. bs ++ flat_map f (take i xs ++ z ∷ [])) (sym is)
-    ∙ ap (λ ys. bs ++ flat_map f ys) (sym (take_more xs i x lt))
-
--- ## Line by line
+use Rattle.la_io.specs.Streams.{AppendsPrefix}
+use Rattle.la_io.proofs.lemmas.Fronts.{prefix_more, prefix_behind}
+use Rattle.la_io.specs.Sources.{IsOneLine}
+use Rattle.std.proofs.lemmas.List.{take_more}
 
 module _ (a b c : Option (List ℕ)) (text : List ℕ) (d n : ℕ) (so_far : Appends a b (take d text)) where
   rest_of : take (d + n - d) (drop d text) ≡ take n (drop d text)

@@ -1,4 +1,6 @@
 pub mod lemmas
+pub mod Taken
+pub mod Told
 pub mod Adding
 pub mod Parts
 pub mod Sources

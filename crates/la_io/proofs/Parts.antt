@@ -1,7 +1,7 @@
 -- Parts of what is pending.
 use Rattle.std.proofs.Common.{◌≡◌, ℕ, zero, suc, ◌+◌, ◌-◌, ◌≤◌, ◌<◌, Bool, true, false, List, [], ◌∷◌, ◌++◌, length, take, drop, get_or, refl, sym, subst, ap, ◌∙◌, arith, append-nil, take-append-drop, take_all, drop_of_length-le}
 use Rattle.std.proofs.lemmas.List.{drop-take, take_more}
-use Rattle.la_io.specs.Streams.{IsOneLine, IsPart}
+use Rattle.la_io.specs.Sources.{IsOneLine, IsPart}
 
 drop-none : (n : ℕ) → drop {A = ℕ} n [] ≡ []
 drop-none zero = refl

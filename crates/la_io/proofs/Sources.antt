@@ -4,7 +4,7 @@ use Rattle.std.specs.Io.KnownBytes.{Consumes, IsAtEnd, prepend_known}
 use Rattle.std.proofs.KnownBytes.{Consumes-trans}
 use Rattle.std.proofs.lemmas.List.Elements.{All-append}
 use Rattle.la_io.specs.declared.source.Next.{Next}
-use Rattle.la_io.specs.Streams.{IsOneLine, IsHeld, IsPart, IsNextLine, of_line, last_kind}
+use Rattle.la_io.specs.Sources.{IsOneLine, IsHeld, IsPart, IsNextLine, of_line, last_kind}
 
 -- bytes in front of what is ahead are taken
 pub takes_front : (p q : List ℕ) (left : Option (List ℕ)) (bytes : List ℕ) → p ≡ bytes ++ q

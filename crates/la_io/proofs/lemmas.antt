@@ -1,2 +1,4 @@
-pub mod Reading
+pub mod Always
+pub mod Fronts
+pub mod Written
 pub mod TellingOn

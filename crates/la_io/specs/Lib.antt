@@ -1,2 +1,2 @@
-pub mod Notes
 pub mod Streams
+pub mod Sources

@@ -1,90 +1,43 @@
--- What is read line by line, and what is told line by line.
-use Rattle.std.specs.Prelude.{◌≡◌, ◌⊎◌, ℕ, ◌<◌, ◌==◌, Bool, true, false, List, [], ◌∷◌, ◌++◌, length, take, drop, All, Option}
-use Rattle.std.specs.List.{list_any}
-use Rattle.std.specs.Io.KnownBytes.{Consumes, IsAtEnd, prepend_known}
-use Rattle.la_wire.specs.declared.calls.TheConstants.{MAX_LINE}
-use Rattle.la_journal.specs.Lines.{file_of}
-use Rattle.la_cli.specs.Streams.{Writes, RefusesBytes}
-use Rattle.la_io.specs.declared.source.Next.{Next}
-use Rattle.la_io.specs.declared.source.Next.TheVariants as next
-use Rattle.la_io.specs.declared.source.Source.{Source}
+-- What is taken from a reader and given to a writer, where their bytes are known.
+use Rattle.std.specs.Prelude.{◌≡◌, ◌⊎◌, ℕ, ◌≤◌, List, [], ◌∷◌, length, take, drop, Option}
+use Rattle.std.specs.Io.KnownBytes.{Appends, Keeps, Consumes, IsAtEnd}
 
--- ## Lines
+-- these bytes were read, and they are all that there was
+abbrev pub ReadsLines : (before after : Option (List ℕ)) → List ℕ → Type 0
+ReadsLines before after bytes = Consumes before after bytes × IsAtEnd after
 
--- no byte ends a line
-abbrev pub IsOneLine : List ℕ → Type 0
-IsOneLine line = All (λ b. (b == 10) ≡ false) line
+-- so many bytes were read
+abbrev pub TakesBytes : ℕ → (before after : Option (List ℕ)) → Type 0
+TakesBytes n before after = (bytes : List ℕ) × Consumes before after bytes × (length bytes ≡ n)
 
--- ## A source
+-- so many bytes were read, or fewer
+abbrev pub TakesAtMost : ℕ → (before after : Option (List ℕ)) → Type 0
+TakesAtMost n before after = (bytes : List ℕ) × Consumes before after bytes × (length bytes ≤ n)
 
--- the bytes that were read and are not taken
-abbrev pub pending : Source → List ℕ
-pending s = drop s.start (take s.end s.chunk)
+-- the first of the bytes were written, some, all or none
+abbrev pub AppendsPrefix : (before after : Option (List ℕ)) → List ℕ → Type 0
+AppendsPrefix before after bytes = (n : ℕ) × Appends before after (take n bytes)
 
--- one of them ends a line
-abbrev pub has_line : Source → Bool
-has_line s = list_any (λ b. b == 10) (pending s)
+-- a writer took these bytes, by what it holds before and after
+abbrev pub Writes :
+    {W : Type 0} → (contents : W → Option (List ℕ)) → (old new : W) → List ℕ → Type 0
+Writes contents old new bytes = Appends (contents old) (contents new) bytes
 
--- what is ahead: those, and what the reader has left
-abbrev pub ahead : Source → Option (List ℕ) → Option (List ℕ)
-ahead s left = prepend_known (pending s) left
+-- a writer took the first of these bytes, some, all or none
+abbrev pub WritesPrefix :
+    {W : Type 0} → (contents : W → Option (List ℕ)) → (old new : W) → List ℕ → Type 0
+WritesPrefix contents old new bytes = AppendsPrefix (contents old) (contents new) bytes
 
--- some bytes were taken
-abbrev pub TakesSome : (before after : Option (List ℕ)) → Type 0
-TakesSome before after = (bytes : List ℕ) × Consumes before after bytes
-
--- the bytes up to a line's end, with it, or all there were
-abbrev pub end_of : (ended : Bool) → List ℕ
-end_of true = 10 ∷ []
-end_of false = []
-
--- the line is kept while it is short
-abbrev pub IsHeld : (is_long : Bool) → (got line : List ℕ) → Type 0
-IsHeld true got line = MAX_LINE < length got
-IsHeld false got line = line ≡ got
-
--- a part of a line was taken
-pub record IsPart (before after : List ℕ) (ended : Bool) (part : List ℕ) : Type 0 where
-  pub one : IsOneLine part
-  pub taken : before ≡ part ++ end_of ended ++ after
-  pub all : ended ≡ false → after ≡ []
-
--- what an ended line is
-abbrev pub of_line : (is_long : Bool) → Next
-of_line true = next.Long
-of_line false = next.Line
-
--- what the end of an input ends
-abbrev pub last_kind : (is_long : Bool) → (line : List ℕ) → Next
-last_kind true line = next.Cut
-last_kind false [] = next.End
-last_kind false (b ∷ line) = next.Cut
-
--- what stands next
-abbrev pub IsNextLine : (before after : Option (List ℕ)) → (line : List ℕ) → Next → Type 0
-IsNextLine before after line next.Line = IsOneLine line × Consumes before after (line ++ 10 ∷ [])
-IsNextLine before after line next.Long =
-    (long : List ℕ) × IsOneLine long × (MAX_LINE < length long) × Consumes before after (long ++ 10 ∷ [])
-IsNextLine before after line next.Cut =
-    (rest : List ℕ) × (0 < length rest) × IsOneLine rest × Consumes before after rest × IsAtEnd after
-IsNextLine before after line next.End = Consumes before after [] × IsAtEnd after
-
--- so far these lines were read, each with its end
-abbrev pub ReadSo : (before after : Option (List ℕ)) → (lines : List (List ℕ)) → Type 0
-ReadSo before after lines = All IsOneLine lines × Consumes before after (file_of lines)
-
--- bytes were read, which are these lines, each with its end, and something behind them
-pub record ReadsFront (left_before left_after : Option (List ℕ)) (lines : List (List ℕ)) : Type 0 where
-  pub rest : List ℕ
-  pub each : All IsOneLine lines
-  pub consumed : Consumes left_before left_after (file_of lines ++ rest)
-
--- all that there was to read, which is these lines, each with its end, and bytes behind them that no end follows
-pub record ReadsLines (left_before left_after : Option (List ℕ)) (lines : List (List ℕ)) (rest : List ℕ) : Type 0 where
-  pub each : All IsOneLine lines
-  pub no_line : IsOneLine rest
-  pub consumed : Consumes left_before left_after (file_of lines ++ rest)
-  pub at_end : IsAtEnd left_after
+-- a writer took the first of these bytes, some, all or none, and then it refused the others, by what
+-- is stated of its refusals
+pub record RefusesBytes
+    {W : Type 0} (contents : W → Option (List ℕ)) (refuses : W → List ℕ → W → Type 0)
+    (old new : W) (bytes : List ℕ) : Type 0 where
+  pub count : ℕ
+  pub between : W
+  pub took : Appends (contents old) (contents between) (take count bytes)
+  pub kept : Keeps (contents between) (contents new)
+  pub refused : refuses between (drop count bytes) new
 
 -- ## What is told
 

@@ -1,16 +1,17 @@
-//! Lines of streams, as a node takes and gives them: each is taken whole from a reader, and put on a writer by one
-//! write. Beside messages a node writes notes, which begin with `#`.
+//! Bytes and lines of streams: each line is taken whole from a reader, and put on a writer by one write.
 //!
-//! `specs/Notes.antt` has the notes, `specs/Streams.antt` what is read and told.
+//! `specs/Streams.antt` has what is read and written, `specs/Sources.antt` what is read line by line.
 #![tactic(auto)]
 
-mod notes;
+mod listener;
 mod source;
+mod streams;
 mod taking;
 mod writing;
 
-pub use notes::{
-    put_answered, put_learnt, put_mail, put_outcome, put_proposed, put_submitted, put_view,
+pub use listener::{Listener, tell_all};
+pub use source::{MAX_LINE, Next, Source, SourceFault};
+pub use streams::{
+    InputFault, LIMIT, WriteFailed, flush, put_bytes, read_all, write_all, write_some,
 };
-pub use source::{Next, Source, SourceFault};
-pub use writing::{refuse, tell_fault, write_lines};
+pub use writing::write_lines;

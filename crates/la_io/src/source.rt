@@ -1,8 +1,11 @@
 // The type alone: the calls on it stand in taking.rt, since what they cite names it.
 ghost use Rattle.std.specs.Prelude.{◌≡◌, ◌≤◌, true, length};
-ghost use Rattle.la_wire.specs.declared.calls.TheConstants.{MAX_LINE};
+ghost use Rattle.la_io.specs.declared.source.TheConstants.{MAX_LINE};
 
 use thiserror::Error;
+
+/// How many bytes a line may have that comes from outside.
+pub const MAX_LINE: usize = 16_777_216;
 
 /// Why no line was taken.
 #[derive(Clone, Copy, Debug, PartialEq, Eq, Error)]

@@ -2,10 +2,9 @@
 ghost use Rattle.std.specs.Prelude.{◌≡◌, ◌+◌, ◌≤◌, ◌<◌, ◌++◌, ◌∷◌, List, ℕ, true, false, [], length, take, drop};
 ghost use Rattle.std.specs.Prelude.{Ok, IfOk, OnOk, OnErr};
 ghost use Rattle.std.specs.Io.KnownBytes.{Consumes, IsAtEnd};
-ghost use Rattle.la_io.specs.Streams.{IsOneLine, IsHeld, IsPart, IsNextLine, TakesSome, pending, ahead, has_line, of_line, last_kind};
+ghost use Rattle.la_io.specs.Sources.{IsOneLine, IsHeld, IsPart, IsNextLine, TakesSome, pending, ahead, has_line, of_line, last_kind};
 
-use crate::{Next, Source, SourceFault};
-use la_wire::MAX_LINE;
+use crate::{MAX_LINE, Next, Source, SourceFault};
 use std::alloc::{AllocError, Global};
 use std::io::Read;
 

@@ -60,7 +60,7 @@ pub trait Disk: Drop {
     /// How many bytes can be put behind the file without memory.
     ghost room: { Self → ℕ };
 
-    /// All the bytes.
+    /// Reads all bytes of the file.
     fn read(&mut self, alloc: Global) -> Result<Vec<u8>, DiskError>
         ensures bytes { IfOk result (λ bytes. bytes.items ≡ seen self.old) }
         ensures seen { seen self.new ≡ seen self.old }
@@ -87,7 +87,7 @@ pub trait Disk: Drop {
         ensures later { faults self.old ≤ faults self.new }
         ensures failed { OnErr result (faults self.old < faults self.new) };
 
-    /// After it, a crash leaves what a read returns.
+    /// Brings all bytes of the file onto the disk: after it, a crash leaves what a read returns.
     fn sync(&mut self) -> Result<(), DiskFault>
         ensures durable { OnOk result (Only (seen self.old) (may_leave self.new)) }
         ensures seen { seen self.new ≡ seen self.old }

@@ -87,7 +87,8 @@ impl Contents {
         self.bytes.reserve(more)
     }
 
-    /// Bytes were put behind the others, or some of them were: none of them is on the disk for sure.
+    /// Notes that bytes were put behind the others, or some of them were: none of them is on the
+    /// disk for sure.
     pub fn append(&mut self, bytes: &[u8])
         requires { length bytes.now ≤ room_of self.old }
         ensures bytes { held_bytes self.new ≡ held_bytes self.old ++ bytes.now }
@@ -101,7 +102,7 @@ impl Contents {
         let _there_is_room = self.bytes.extend_from_slice(bytes);
     }
 
-    /// All the bytes are on the disk.
+    /// Notes that all the bytes are on the disk.
     pub fn sync(&mut self)
         ensures bytes { held_bytes self.new ≡ held_bytes self.old }
         ensures kept { synced_count self.new ≡ length (held_bytes self.old) }
@@ -115,7 +116,7 @@ impl Contents {
         self.past.note(&[self.kept as u64], &self.bytes);
     }
 
-    /// Other bytes stand in the place of these, all of them on the disk.
+    /// Notes that other bytes stand in the place of these, all of them on the disk.
     pub fn replace(&mut self, bytes: Vec<u8>)
         ensures bytes { held_bytes self.new ≡ bytes.items }
         ensures kept { synced_count self.new ≡ length bytes.items }
@@ -129,7 +130,7 @@ impl Contents {
         self.bytes = bytes;
     }
 
-    /// The disk failed once more.
+    /// Notes that the disk failed once more.
     pub fn fail(&mut self)
         ensures bytes { held_bytes self.new ≡ held_bytes self.old }
         ensures kept { synced_count self.new ≡ synced_count self.old }

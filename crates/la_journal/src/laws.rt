@@ -62,8 +62,10 @@ pub fn reading_gives_groups()
     ensures { ReadingGivesGroups }
 {}
 
-/// And that premise holds where a crash keeps the first some of the bytes, each as it was written or as 0, and no such
-/// group but the one that was written has its record.
+/// What a crash leaves of a group whose record repeats it is the whole group, or has no record that
+/// matches what stands before it, as [`reading_gives_groups`] asks: where a crash keeps the first
+/// some of the bytes, each as it was written or as 0, and no such group but the one that was
+/// written has its record.
 #[tactic(auto, using(crate::proofs::TornRecords::torn_groups_are_not_read))]
 pub fn torn_groups_are_not_read()
     ensures { TornGroupsAreNotRead }

@@ -7,14 +7,14 @@ ghost use Rattle.la_journal.specs.Machine.{IsNamed, IsStateTaken};
 use std::alloc::{AllocError, Global};
 
 pub trait Machine: Drop {
-    /// What it is given.
+    /// What the machine is given.
     type Input: Drop;
     /// What a call answers.
     type Output: Drop;
-    /// Why it takes no step, want of memory among it.
+    /// Why the machine takes no step, want of memory among it.
     type Refusal: Drop;
 
-    /// What it keeps.
+    /// What the machine keeps.
     ghost State: { Type 0 };
 
     ghost state: { Self → State };

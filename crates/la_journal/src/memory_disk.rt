@@ -39,15 +39,15 @@ impl MemoryDisk {
         }
     }
 
-    /// It is full once its file has so many bytes: of an append it takes what fits, and fails; a
-    /// replacement that does not fit it refuses whole.
+    /// Makes the disk full once its file has so many bytes: of an append it takes what fits, and
+    /// fails; a replacement that does not fit it refuses whole.
     pub fn full_at(&mut self, most: usize)
         ensures { self.new.contents ≡ self.old.contents }
     {
         self.most = most;
     }
 
-    /// It fails at each sync after so many, of appends and of replacements.
+    /// Makes the disk fail at each sync after so many, of appends and of replacements.
     pub fn fail_after(&mut self, syncs: u32)
         ensures { self.new.contents ≡ self.old.contents }
     {
@@ -61,7 +61,7 @@ impl MemoryDisk {
         self.contents.bytes()
     }
 
-    /// The moment, by its clock.
+    /// The moment by the disk's clock, which each append, sync and replacement moves on by one.
     pub fn moment(&self) -> u64
         ensures { result ≡ moment_of self.now.contents }
     {

@@ -52,7 +52,7 @@ pub struct Staged<M: Machine, D: Disk> {
 }
 
 impl<M: Machine, D: Disk> Staged<M, D> {
-    /// Nothing staged.
+    /// A durable machine with no line staged.
     pub fn new(alloc: Global, durable: Durable<M, D>) -> Staged<M, D>
         ensures durable { result.durable ≡ durable }
         ensures nothing { result.text.items ≡ [] }

@@ -10,3 +10,4 @@ pub mod OwnOperations
 pub mod Views
 pub mod NewUpdates
 pub mod Runs
+pub mod FreshShelves

@@ -1,48 +1,25 @@
 -- What a set has beyond one that lies in it: for each replica the end of its history, and the first so many of these.
-use Rattle.std.proofs.Common.{◌≡◌, ◌≢◌, ℕ, zero, suc, ◌+◌, ◌-◌, ◌<◌, ◌≤◌, Bool, true, false, cond, List, [], ◌∷◌, ◌++◌, length, take, drop, filter, fold, Contains, Some, refl, ap, sym, ◌∙◌, subst, append_assoc, arith, inl, inr}
-use Rattle.std.specs.List.{slice_get}
+use Rattle.std.proofs.Common.{◌≡◌, ◌≢◌, ℕ, zero, suc, ◌+◌, ◌-◌, ◌<◌, ◌≤◌, Bool, true, false, cond, List, [], ◌∷◌, ◌++◌, length, take, drop, filter, fold, Contains, refl, ap, sym, ◌∙◌, subst, append_assoc, arith, inl, inr}
 use Rattle.std.proofs.lemmas.List.{take-append-drop, take-append-le, drop-append-le, append-nil, length-append, length-drop, length-take, drop_all}
 use Rattle.std.proofs.lemmas.List.Sums.{fold-append}
 use Rattle.std.proofs.Math.Seq.{take-add}
 use Rattle.std.proofs.lemmas.List.Elements.{filter-append}
-use Rattle.std.proofs.lemmas.Bool.{not_from_true, not_from_false, cases_eq, cases_Bool}
+use Rattle.std.proofs.lemmas.Bool.{not_from_false, cases_eq, cases_Bool}
 use Rattle.la_set.specs.declared.update.Update.{Update}
-use Rattle.la_set.specs.ObjectOps.{ObjectOp, update_of}
-use Rattle.la_set.specs.Histories.{Histories, history, with_history, object_op_number, has_update, is_update, count, numbered, updates_from, updates, push}
+use Rattle.la_set.specs.ObjectOps.{ObjectOp}
+use Rattle.la_set.specs.Histories.{Histories, history, with_history, object_op_number, has_update, count, numbered, updates_from, updates, push}
 use Rattle.la_set.specs.Inclusion.{IsSubset}
 use Rattle.la_set.specs.Difference.{lacks, beyond}
 use Rattle.la_set.specs.Deltas.{AreNext}
+use Rattle.la_set.proofs.lemmas.Differences.{lacks_none, lacks_all}
 use Rattle.la_set.proofs.lemmas.NumberedLists.{numbered-append, length-numbered, take-numbered, drop-numbered}
 use Rattle.la_set.proofs.lemmas.SetHistories.{history-with_same, history-with_other, with_history-history, with_history-with_history}
 use Rattle.la_set.proofs.lemmas.Prefixes.{IsPrefix}
-use Rattle.la_set.proofs.lemmas.Inclusions.{subset-prefix, prefix-subset, subset-refl, subset-antisym, contains-object_op}
+use Rattle.la_set.proofs.lemmas.Inclusions.{subset-prefix, prefix-subset, subset-refl, subset-antisym}
 use Rattle.la_set.proofs.lemmas.Filters.{Contains-none, contains-filter}
 use Rattle.la_set.proofs.lemmas.Membership.{contains-listed}
-use Rattle.la_set.proofs.lemmas.Places.{get_past}
 use Rattle.la_set.proofs.lemmas.Decisions.{has_update-Decides}
 use Rattle.la_object.specs.Shelves.{IsFirstMore, after_first}
-
--- of one replica, the updates that the set has are passed over, and those past its count are kept
-passed_over : (a : Histories) (r n : ℕ) (ds : List ObjectOp)
-    → ((k : ℕ) (d : ObjectOp) → slice_get ds k ≡ Some d → object_op_number (history a r) (n + k) ≡ Some d)
-    → filter (lacks a) (numbered r n ds) ≡ []
-passed_over a r n [] same = refl
-passed_over a r n (d ∷ ds) same =
-    let u = update_of r n d in
-    let here : object_op_number (history a r) n ≡ Some d =
-    ap (object_op_number (history a r)) {x = n} {y = n + 0} (omega arith) ∙ same 0 d refl in
-    rw (not_from_true (has_update a u) ((has_update-Decides a u).1 (contains-object_op a u here)))
-    (passed_over a r (suc n) ds
-    (λ k e got.
-    ap (object_op_number (history a r)) {x = suc n + k} {y = n + suc k} (omega arith) ∙ same (suc k) e got))
-
-all_kept : (a : Histories) (r n : ℕ) (ds : List ObjectOp) → count a r < n
-    → filter (lacks a) (numbered r n ds) ≡ numbered r n ds
-all_kept a r n [] past = refl
-all_kept a r n (d ∷ ds) past =
-    let u = update_of r n d in
-    rw (not_from_false (has_update a u) (ap (λ o. is_update o u) (get_past a u.id past)))
-    (ap (λ us. u ∷ us) (all_kept a r (suc n) ds (omega arith)))
 
 -- what b has of one replica beyond a's count
 abbrev pub new_of : Histories → Histories → ℕ → List Update
@@ -63,9 +40,9 @@ module _ (a b : Histories) (sub : IsSubset a b) where
       ∙ ap (filter (lacks a)) (numbered-append r 1 (history a r) rest)
       ∙ filter-append (lacks a) (numbered r 1 (history a r)) (numbered r (1 + count a r) rest)
       ∙ ap (λ us. us ++ filter (lacks a) (numbered r (1 + count a r) rest))
-      (passed_over a r 1 (history a r)
+      (lacks_none a r 1 (history a r)
       (λ k d got. ap (object_op_number (history a r)) {x = 1 + k} {y = suc k} (omega arith) ∙ got))
-      ∙ all_kept a r (1 + count a r) rest (omega arith)
+      ∙ lacks_all a r (1 + count a r) rest (omega arith)
 
   some_replicas : (r k : ℕ) → filter (lacks a) (updates_from (history b) r k) ≡ new_from a b r k
   some_replicas r zero = refl

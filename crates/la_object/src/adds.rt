@@ -26,7 +26,7 @@ impl Model for Adds {
 }
 
 impl Adds {
-    /// No element.
+    /// A map without elements, which takes no memory.
     pub fn new(alloc: Global) -> Adds
         ensures { result ≡ map.empty }
     {

@@ -25,7 +25,7 @@ impl Model for Ids {
 }
 
 impl Ids {
-    /// No id.
+    /// A set without ids, which takes no memory.
     pub fn new(alloc: Global) -> Ids
         ensures { result ≡ set.empty }
     {
@@ -41,7 +41,7 @@ impl Ids {
         self.ids.is_empty()
     }
 
-    /// Whether the id is one of them, at logarithmic cost.
+    /// Whether the id is in the set, at logarithmic cost.
     pub fn has(&self, id: UpdateId) -> bool
         ensures { result ≡ set.contains self.now id }
     {
@@ -65,7 +65,7 @@ impl Ids {
         self.ids.remove(&id);
     }
 
-    /// Puts all that a `Remove` names in, at logarithmic cost each. After a refusal nothing has
+    /// Puts in all ids that a `Remove` names, at logarithmic cost each. After a refusal nothing has
     /// changed.
     pub fn insert_all(&mut self, ids: &Tags) -> Result<(), AllocError>
         ensures ok { OnOk result (self.new ≡ with_ids self.old ids.now) }

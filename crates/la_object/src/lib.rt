@@ -22,6 +22,7 @@ mod query;
 mod replicated;
 mod shelf;
 mod state;
+mod unused;
 
 pub use adds::Adds;
 pub use counter::{Counter, MAX_SUM};
@@ -33,3 +34,4 @@ pub use query::{Answer, Items, Query};
 pub use replicated::Replicated;
 pub use shelf::Shelf;
 pub use state::State;
+pub use unused::are_unused;

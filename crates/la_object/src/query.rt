@@ -23,18 +23,18 @@ pub type Items = Sequence<u64>;
 /// What an object answers.
 #[derive(Drop)]
 pub enum Answer {
-    /// To [`Query::Total`].
+    /// The answer to [`Query::Total`]: the increments less the decrements.
     Total(i64),
-    /// To [`Query::AtLeast`].
+    /// The answer to [`Query::AtLeast`]: whether the total is at least that number.
     Reached(bool),
-    /// To [`Query::Largest`].
+    /// The answer to [`Query::Largest`]: the largest value, or 0 where there is none.
     Largest(u64),
-    /// To [`Query::Has`].
+    /// The answer to [`Query::Has`]: whether the element is there.
     Has(bool),
-    /// To [`Query::Size`].
+    /// The answer to [`Query::Size`]: how many elements there are.
     Size(u64),
-    /// To [`Query::Items`].
+    /// The answer to [`Query::Items`]: the elements, in ascending order.
     Items(Items),
-    /// To a query that is not one of the kind's.
+    /// The answer to a query that is not one of the object's kind.
     Foreign,
 }

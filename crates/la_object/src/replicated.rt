@@ -14,18 +14,18 @@ pub trait Replicated: Drop + Send {
     ghost use Rattle.la_object.specs.Objects.{IsFresh, HasRoom};
     ghost use Rattle.la_object.specs.Refusals.{IsObserveRefusal};
 
-    /// What it keeps of the updates that it absorbed.
+    /// What the object keeps of the updates that it absorbed.
     ghost state: { Self → State };
 
-    /// Its kind, which never changes.
+    /// The object's kind, which never changes.
     fn kind(&self) -> Kind
         ensures { result ≡ kind_of (state self.now) };
 
-    /// Whether it is in its kind's start state, as where it has absorbed nothing.
+    /// Whether the object is in its kind's start state, as where it has absorbed nothing.
     fn fresh(&self) -> bool
         ensures { IsTrue result ↔ IsFresh (state self.now) };
 
-    /// Whether it may absorb one more update: of a counter, whether both sums are at most
+    /// Whether the object may absorb one more update: of a counter, whether both sums are at most
     /// [`MAX_SUM`]. The other kinds always have room.
     ///
     /// [`MAX_SUM`]: crate::MAX_SUM
@@ -55,7 +55,7 @@ pub trait Replicated: Drop + Send {
         ensures ok { IfOk result (λ tags. tags ≡ tags_of (state self.now) element) }
         ensures error { IfErr result (IsObserveRefusal (tags_of (state self.now) element)) };
 
-    /// A copy of the state.
+    /// A copy of the object's state.
     fn state(&self) -> Result<State, AllocError>
         ensures { IfOk result (λ copy. copy ≡ state self.now) };
 }

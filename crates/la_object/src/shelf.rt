@@ -57,7 +57,7 @@ impl<B: Replicated> Shelf<B> {
         }
     }
 
-    /// What was absorbed.
+    /// The view: the set of all updates that the shelf has absorbed.
     pub fn view(&self) -> &UpdateSet
         ensures { result.now ≡ self.now.view }
     {
@@ -71,8 +71,8 @@ impl<B: Replicated> Shelf<B> {
         self.objects.contains_key(&number)
     }
 
-    /// The number of the object at a place, from 0, in the order of addition. A retirement closes
-    /// up.
+    /// The number of the object at a place, from 0, in the order of addition. Where an object is
+    /// retired those behind it move up.
     pub fn at(&self, place: usize) -> Option<u16>
         ensures { result ≡ slice_get (map (λ o. o.0) self.now.objects) place }
     {
@@ -203,9 +203,11 @@ impl<B: Replicated> Shelf<B> {
         self.absorb_new(set)
     }
 
-    /// The same of a set that has no other update than the view under any id, as learnt sets of one
-    /// instance: then the inclusion test compares counts alone, so that an absorption costs what is
-    /// new and nothing for what both have.
+    /// Lets each object absorb what the set has of its number beyond the view, as [`Shelf::absorb`]
+    /// does, with its answer and its refusals, and what stands after them, where no id has two
+    /// updates in the set and the view, as in learnt sets of one instance: then the inclusion test
+    /// compares counts alone, so that an absorption costs what is new and nothing for what both
+    /// have.
     pub fn absorb_compatible(&mut self, set: &UpdateSet) -> Result<u64, AbsorbError>
         requires { IsCompatible set.now self.old.view }
         ensures ok { OnOk result (self.new ≡ record self.old { view = set.now }) }
@@ -304,7 +306,8 @@ impl<B: Replicated> Shelf<B> {
     }
 }
 
-// The numbers in an update are a program's.
+// The numbers in an update are a program's. A hint to the prover, which does nothing: of a number that is
+// read it knows the type's range.
 fn tell_small(update: &Update)
     ensures { IsSmall update.now }
 {

@@ -51,7 +51,7 @@ impl<T: Drop> Drop for Chain<T> {
 }
 
 impl<T> Chain<T> {
-    /// No value.
+    /// A chain without values, which takes no memory.
     pub fn new() -> Self
         ensures { result ≡ [] }
     {

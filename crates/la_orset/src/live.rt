@@ -38,7 +38,7 @@ impl Model for Live {
 }
 
 impl Live {
-    /// No tag.
+    /// No tag of any element, which takes no memory.
     pub fn new(alloc: Global) -> Live
         ensures { result ≡ map.empty }
     {

@@ -32,7 +32,7 @@ impl Model for LiveTable {
 }
 
 impl LiveTable {
-    /// No tag.
+    /// A table without tags, which takes no memory.
     pub fn new(alloc: Global) -> LiveTable
         ensures { result ≡ map.empty }
     {
@@ -42,7 +42,7 @@ impl LiveTable {
         }
     }
 
-    /// The tags that a map has, each of whose elements has one.
+    /// A table of the tags that a map has, in which each element has one.
     pub fn of(alloc: Global, by_element: HashMap<u64, TagSet>) -> LiveTable
         requires { IsWhole (map.from_entries by_element.entries) }
         ensures { result ≡ map.from_entries by_element.entries }

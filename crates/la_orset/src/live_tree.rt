@@ -33,7 +33,7 @@ impl Model for LiveTree {
 }
 
 impl LiveTree {
-    /// No tag.
+    /// A tree without tags, which takes no memory.
     pub fn new(alloc: Global) -> LiveTree
         ensures { result ≡ map.empty }
     {
@@ -116,7 +116,8 @@ impl LiveTree {
         there
     }
 
-    /// The same tags by hash, with a copy of each element's.
+    /// A table of the tree's tags, in which elements are found by hash, with a copy of each
+    /// element's tags.
     pub fn table(&self) -> Result<LiveTable, AllocError>
         ensures { IfOk result (λ table. table ≡ self.now) }
     {

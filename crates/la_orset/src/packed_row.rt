@@ -3,7 +3,7 @@ ghost use Rattle.std.specs.Prelude.{◌≡◌};
 use crate::rows::Row;
 use std::marker::Model;
 
-/// A row, in 13 bytes.
+/// A [`Row`] in 13 bytes.
 #[derive(Drop)]
 pub struct PackedRow {
     number: [u8; 4],
@@ -36,14 +36,14 @@ impl PackedRow {
         }
     }
 
-    /// Its number.
+    /// The row's number among its replica's updates.
     pub fn number(&self) -> u32
         ensures { result ≡ self.now.number }
     {
         u32::from_le_bytes(self.number)
     }
 
-    /// The row.
+    /// The row, unpacked.
     pub fn row(&self) -> Row
         ensures { result ≡ self.now }
     {

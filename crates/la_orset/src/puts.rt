@@ -34,7 +34,7 @@ impl Model for Puts {
 }
 
 impl Puts {
-    /// Nothing.
+    /// A record of no Puts, which takes no memory.
     pub fn new(alloc: Global) -> Puts
         ensures { result ≡ map.empty }
     {

@@ -46,7 +46,7 @@ impl Model for Rows {
 }
 
 impl Rows {
-    /// Nothing.
+    /// No rows, which take no memory.
     pub fn new(alloc: Global) -> Rows
         ensures { result ≡ [] }
     {
@@ -91,7 +91,8 @@ impl Rows {
         }
     }
 
-    /// Notes that a `Remove` named the id, and answers what stood there, where none had named it.
+    /// Notes that a `Remove` named the id with this number, and answers what was put under it,
+    /// where none had named it.
     pub fn name(&mut self, number: u32) -> Option<Named>
         ensures answer { option_map (λ named. named.element) result
             ≡ live_element (at_number self.old number) }
@@ -117,7 +118,7 @@ impl Rows {
         }
     }
 
-    /// Notes where a tag stands now.
+    /// Notes where the tag of the id with this number stands now.
     pub fn set_place(&mut self, number: u32, place: u32)
         ensures { self.new ≡ self.old }
     {

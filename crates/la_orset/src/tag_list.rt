@@ -31,7 +31,7 @@ impl Model for TagList {
 }
 
 impl TagList {
-    /// No tag.
+    /// A list without tags, which takes no memory.
     pub fn new(alloc: Global) -> TagList
         ensures { result ≡ map.empty }
     {
@@ -81,7 +81,7 @@ impl TagList {
         self.ids.as_slice().get(hint).copied()
     }
 
-    /// A copy.
+    /// A copy of the list, refused for want of memory alone.
     pub fn copy(&self, alloc: Global) -> Result<TagList, AllocError>
         ensures { IfOk result (λ copy. copy ≡ self.now) }
     {
@@ -106,6 +106,7 @@ impl TagList {
                 return Err(ObserveError::Memory);
             };
         }
+        // a hint to the prover: tags are in ascending order
         let _ascending = tags.len();
         Ok(tags)
     }

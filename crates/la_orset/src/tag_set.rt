@@ -36,7 +36,7 @@ impl Model for TagSet {
 }
 
 impl TagSet {
-    /// No tag.
+    /// A set without tags, which takes no memory.
     pub fn new(alloc: Global) -> TagSet
         ensures { result ≡ map.empty }
     {
@@ -88,7 +88,7 @@ impl TagSet {
         there
     }
 
-    /// A copy.
+    /// A copy of the set, refused for want of memory alone.
     pub fn copy(&self) -> Result<TagSet, AllocError>
         ensures { IfOk result (λ copy. copy ≡ self.now) }
     {

@@ -10,17 +10,17 @@ use la_set::{Counts, UpdateSet};
 /// What a prepared step is to change in the proposer that it was prepared from.
 #[derive(Drop)]
 pub enum Change {
-    /// Nothing.
+    /// The step changes nothing.
     Nothing,
-    /// One more submission waits: these are all of its own now.
+    /// One more submission waits. The set has all of the proposer's own submissions now.
     Holds(UpdateSet),
-    /// A submission opens this ballot: these are all of its own now.
+    /// A submission opens this ballot. The set has all of the proposer's own submissions now.
     Submits(Ballot, UpdateSet),
-    /// This reply counts.
+    /// This reply counts, and the ballot stays open.
     Counts(Counted),
-    /// By a reply that tells this, this ballot opens in the place of the open one.
+    /// A reply that tells this ends the open ballot, and this ballot opens in its place.
     Opens(Ballot, Told),
-    /// By a reply that tells this, the open ballot ends, and none opens.
+    /// A reply that tells this ends the open ballot, and none opens.
     Closes(Told),
 }
 
@@ -28,7 +28,7 @@ pub enum Change {
 #[derive(Clone, Copy)]
 pub struct Told {
     pub from: u8,
-    /// How many updates it has: of each replica so many, or more.
+    /// How many updates of each replica the acceptor has accepted: so many, or more.
     pub counts: Counts,
 }
 

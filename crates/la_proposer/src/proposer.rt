@@ -161,7 +161,8 @@ impl Proposer {
         }
     }
 
-    /// The same of the proposer that a prepared change leads to, at constant cost.
+    /// What [`Proposer::reported`] answers of an acceptor once a change that was prepared from this
+    /// proposer is committed. The cost is constant.
     pub fn reported_after(&self, change: &Change, from: u8) -> Counts
         requires { IsPreparedFrom self.now change.now }
         ensures { result ≡ reported (after_commit self.now change.now) from }
@@ -246,9 +247,10 @@ impl Proposer {
         self.hear(from, ballot, reply, Counts::zero())
     }
 
-    /// The same of a reply whose refused set, if it has one, contains the last ballot's set, as that
-    /// of an acceptor does to which it was offered: only what the refused set has beyond the ballot's
-    /// is compared, and the cost is that.
+    /// Hears a reply as [`Proposer::reply`] does, with its answers and its refusals, and what
+    /// stands after them, where the refused set, if the reply has one, contains the last ballot's
+    /// set, as that of an acceptor does to which it was offered: only what the refused set has
+    /// beyond the ballot's is compared, and the cost is that.
     pub fn reply_grown(
         &mut self,
         from: u8,
@@ -321,10 +323,11 @@ impl Proposer {
         self.admit_reply_beyond(from, ballot, refusal, Counts::zero())
     }
 
-    /// The same of a refused set that is known to have within these counts what the last ballot's set
-    /// has, as one that was rebuilt over that has within its delta's base: only what comes beyond them
-    /// is compared, with the ballot's set and with each refused set that has counted, and the cost is
-    /// that.
+    /// Whether a reply would be heard, memory apart, as [`Proposer::admit_reply`] says it and with
+    /// its errors, where the refused set is known to have within these counts what the last
+    /// ballot's set has, as one that was rebuilt over that has within its delta's base: only what
+    /// comes beyond them is compared, with the ballot's set and with each refused set that has
+    /// counted, and the cost is that. It takes no memory, and `Memory` never comes.
     pub fn admit_reply_beyond(
         &self,
         from: u8,

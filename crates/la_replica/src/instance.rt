@@ -96,6 +96,7 @@ impl Instance {
         ensures spares { IfOk result (λ _. ¬ SubmissionSpends self.now.proposer) }
         ensures error { IfErr result (IsSubmissionRefusal self.now.proposer) }
     {
+        // a hint to the prover, which costs no more than a look: its contract tells what holds of every proposer
         let _state = self.proposer.status();
         let (opened, change) = self.proposer.prepare_submission(object, op)?;
         let mut mail = Mail::new(alloc);

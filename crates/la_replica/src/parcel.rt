@@ -34,7 +34,7 @@ pub struct Parcel {
     pub to: u8,
     /// The number of the ballot that is offered, that a reply answers, or that was learnt.
     pub ballot: u32,
-    /// What it says.
+    /// What the parcel says.
     pub content: Content,
 }
 
@@ -97,7 +97,7 @@ impl Parcel {
         })
     }
 
-    /// The base of a told set; of what tells none no counts at all.
+    /// The counts over which the parcel tells a learnt set; no counts at all where it tells none.
     pub fn base_of_told(&self) -> Counts
         ensures { result ≡ base_of_told self.now.content }
     {

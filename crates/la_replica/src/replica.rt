@@ -261,9 +261,10 @@ impl Replica {
         self.prepare_beyond(message, Counts::zero())
     }
 
-    /// The same, where it is known within which counts a told set of instance 0 has what the view has:
-    /// it is compared with the view beyond these alone, and where it has no more than the view by its
-    /// counts, not at all. Which counts are known changes no answer.
+    /// Prepares to receive a message as [`Replica::prepare`] does, with its errors, where it is
+    /// known within which counts a told set of instance 0 has what the view has: it is compared
+    /// with the view beyond these alone, and where it has no more than the view by its counts, not
+    /// at all. Which counts are known changes no answer.
     pub fn prepare_beyond(
         &self,
         message: &Message,

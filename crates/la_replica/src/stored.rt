@@ -63,14 +63,14 @@ impl StoredMessage {
         }
     }
 
-    /// The instance that it belongs to, from 0.
+    /// The instance that the message belongs to, from 0.
     pub fn instance(&self) -> u8
         ensures { result ≡ self.now.instance }
     {
         self.instance
     }
 
-    /// The replica that it goes to.
+    /// The replica that the message goes to.
     pub fn to(&self) -> u8
         ensures { result ≡ self.now.to }
     {

@@ -24,7 +24,7 @@ pub struct Whole<'a> {
     pub body: WholeBody<'a>,
 }
 
-/// What it says.
+/// What a message says, with its set whole.
 #[derive(Clone, Copy)]
 pub enum WholeBody<'a> {
     Offer(&'a UpdateSet),

@@ -1,13 +1,12 @@
 -- What is counted and known once the workers are back, in plain variables.
-use Rattle.std.proofs.Common.{◌≡◌, inl, inr, ℕ, suc, ◌+◌, ◌<◌, ◌≤◌, Bool, true, false, List, [], ◌∷◌, ◌++◌, map, length, get_or, Option, Some, refl, ap, sym, ◌∙◌, subst, arith}
-use Rattle.std.specs.List.{All, AllZip, AllWithin, slice_get, slice_set, slice_index_or}
+use Rattle.std.proofs.Common.{◌≡◌, inl, inr, ℕ, suc, ◌+◌, ◌<◌, ◌≤◌, Bool, true, false, List, [], ◌∷◌, ◌++◌, map, length, Option, Some, refl, ap, sym, ◌∙◌, subst, arith}
+use Rattle.std.specs.List.{All, AllZip, slice_get, slice_set, slice_index_or}
 use Rattle.std.specs.Prelude.{not, ◌&&◌, if◌then◌else◌}
 use Rattle.std.proofs.lemmas.Bool.{cases_eq, cases_lt, eq-eqb, ne_eqb}
 use Rattle.std.proofs.lemmas.List.Elements.{All-nil, All-cons}
 use Rattle.std.proofs.lemmas.Option.{slice_get_within, get_or_from_slice_get, slice_get-get_or}
-use Rattle.la_set.specs.Histories.{Histories, empty, history, from_histories, updates}
+use Rattle.la_set.specs.Histories.{Histories, empty}
 use Rattle.la_set.specs.Inclusion.{IsSubset}
-use Rattle.la_set.proofs.lemmas.Differences.{same_length}
 use Rattle.la_object.specs.Shelves.{ShelfState}
 use Rattle.la_runner.specs.declared.jobs.Job.{Job}
 use Rattle.la_proposer.specs.Majority.{how_many}
@@ -19,27 +18,6 @@ use Rattle.la_runner.proofs.Passing.{get-set_same, get-set_other, map-set_other}
 use Rattle.la_runner.proofs.Proposing.{some_same}
 use Rattle.la_runner.proofs.Threading.{all_rest}
 use Rattle.la_runner.proofs.Viewing.{empty_within}
-
--- ## Shelves that were not used
-
-pub empty_has_none : length (updates empty) ≡ 0
-unfolding empty updates history from_histories
-empty_has_none = refl
-
-pub none_empty : (s : Histories) → length (updates s) ≡ 0 → s ≡ empty
-none_empty s none = sym (same_length empty s (empty_within s) (empty_has_none ∙ sym none))
-
--- of the shelves so far, and one more
-pub unused_more : (shelves : List ShelfState) (i : ℕ) (s : ShelfState)
-    → AllWithin (λ (z : ShelfState). z.view ≡ empty) shelves 0 i → i < length shelves → s ≡ get_or shelves i s
-    → s.view ≡ empty → AllWithin (λ (z : ShelfState). z.view ≡ empty) shelves 0 (i + 1)
-unused_more shelves i s so_far lt at unused k d le more = elim (cases_lt k i) [
-  | inl before ↦ so_far k d le before
-  | inr after ↦
-      let here : i ≡ k = omega (arith, more) in
-      let same : get_or shelves i d ≡ s = get_or_from_slice_get shelves i s d (item_at shelves i s lt at) in
-      subst (λ j. (get_or shelves j d).view ≡ empty) here (ap (λ (z : ShelfState). z.view) same ∙ unused)
-]
 
 -- ## What the workers begin with
 

@@ -11,7 +11,7 @@ use Rattle.la_set.specs.Histories.{history, object_op_number, empty}
 use Rattle.la_set.proofs.lemmas.Theorems.{contains-object_op}
 use Rattle.la_commit.specs.Instances.{first_instance, second_instance}
 use Rattle.la_proposer.specs.Inputs.{all_submitted}
-use Rattle.la_acceptor.proofs.lemmas.Theorems.{contains-empty}
+use Rattle.la_set.proofs.lemmas.Inclusions.{contains-empty}
 use Rattle.la_proposer.specs.ProposerState.{ProposerState, start}
 use Rattle.la_proposer.proofs.lemmas.Theorems.{start_is}
 use Rattle.la_shared.specs.History.{HasEntry}

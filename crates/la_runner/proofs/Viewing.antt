@@ -5,7 +5,7 @@ use Rattle.std.specs.Prelude.{Ok, IfSome}
 use Rattle.la_set.specs.Histories.{Histories, empty}
 use Rattle.la_set.specs.Inclusion.{IsSubset, AreComparable, is_larger, larger_of}
 use Rattle.la_set.proofs.lemmas.Theorems.{subset-trans, subset-antisym}
-use Rattle.la_acceptor.proofs.lemmas.Theorems.{contains-empty}
+use Rattle.la_set.proofs.lemmas.Inclusions.{contains-empty}
 use Rattle.la_shared.specs.Passes.{Known}
 use Rattle.la_acceptor.specs.declared.reply.Reply.TheVariants.{Yes}
 use Rattle.la_proposer.proofs.lemmas.Theorems.{majorities_meet}

@@ -39,7 +39,8 @@ pub enum RunnerError {
     #[error("no majority answered")]
     NoMajority,
 
-    /// The rounds are used up otherwise.
+    /// The rounds are used up, and the last one ended its ballot, or there were no rounds. What was under
+    /// way stays so.
     #[error("try again")]
     TryAgain,
 

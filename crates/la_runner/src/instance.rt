@@ -20,11 +20,11 @@ use std::sync::Wait;
 #[derive(Drop)]
 pub(crate) struct Instance {
     pub proposer: Proposer,
-    /// One for each acceptor of the instance.
+    /// The member's passes, one for each acceptor of the instance.
     pub passes: Vec<Pass>,
-    /// The set that was learnt last.
+    /// The set that the member learnt last in the instance.
     pub learnt: Option<UpdateSet>,
-    /// The largest of the sets that were learnt, or told by others; empty at first.
+    /// The largest of the sets that the member learnt here, or was told by others; empty at first.
     pub view: UpdateSet,
 }
 

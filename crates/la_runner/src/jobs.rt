@@ -28,17 +28,18 @@ pub type Jobs = Sequence<Job>;
 /// answers by it.
 #[derive(Drop)]
 pub enum Entry {
-    /// To [`Job::Update`].
+    /// The answer to [`Job::Update`]: the set that was learnt.
     Learned(Learned),
 
-    /// To [`Job::Decide`].
+    /// The answer to [`Job::Decide`]: the sets that were learnt in the object's two instances, and
+    /// the outcome.
     Decided {
         first: UpdateSet,
         second: UpdateSet,
         outcome: Outcome,
     },
 
-    /// To [`Job::Ask`].
+    /// The answer to [`Job::Ask`]: the view, and what the object answers by it.
     Answer {
         view: UpdateSet,
         answer: Answer,
@@ -79,7 +80,8 @@ pub enum Stopped {
     #[error("no majority answered")]
     NoMajority,
 
-    /// The rounds are used up otherwise.
+    /// The rounds are used up, and the last one ended its ballot, or there were no rounds. What was under
+    /// way stays so.
     #[error("try again")]
     TryAgain,
 

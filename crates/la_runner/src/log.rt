@@ -13,20 +13,21 @@ pub struct Log<B: Replicated> {
     /// The member, as far as it has gone on.
     pub member: Member,
 
-    /// How its first jobs were answered, in order.
+    /// How the member's first jobs were answered, in order.
     pub entries: Entries,
 
-    /// Why its jobs ended before the last one, or its shelf has not the final view; `None` where all
-    /// jobs are answered and the shelf's view is the final view.
+    /// Why the member's jobs ended before the last one, or its shelf has not the final view; `None`
+    /// where all jobs are answered and the shelf's view is the final view.
     pub stopped: Option<Stopped>,
 
-    /// How many peers there are of which it took a note and whose final view its own contains.
+    /// How many peers there are of which the member took a note and whose final view its own
+    /// contains.
     pub notes: u8,
 
-    /// Of which replicas, by number, it took a note.
+    /// Of which replicas, by number, the member took a note.
     pub taken: [bool; 8],
 
-    /// Its shelf.
+    /// The member's shelf.
     pub shelf: Shelf<B>,
 }
 

@@ -32,7 +32,8 @@ impl Model for Member {
 }
 
 impl Member {
-    /// Which replica of its group it is. What is true of every member is told here too.
+    /// Which replica of its group the member is. The contract also tells what is true of every
+    /// member.
     pub fn replica(&self) -> u8
         ensures replica { result ≡ self.now.replica }
         ensures is { IsMember self.now }
@@ -40,31 +41,32 @@ impl Member {
         self.replica
     }
 
-    /// What it answers questions from: the largest of the sets of instance 0 that it learnt or met;
-    /// empty at first.
+    /// The view, from which the member answers questions: the largest of the sets of instance 0
+    /// that it learnt or met; empty at first.
     pub fn view(&self) -> &UpdateSet
         ensures { result.now ≡ member_view self.now }
     {
         &self.instances[0].view
     }
 
-    /// How many updates it has submitted in instance 0.
+    /// How many updates the member has submitted in instance 0.
     pub fn submitted(&self) -> u32
         ensures { result ≡ length (member_submitted self.now 0) }
     {
         self.instances[0].proposer.submitted()
     }
 
-    /// The set that it learnt last in an instance; `None` where it learnt none there, or there is no
-    /// such instance.
+    /// The set that the member learnt last in an instance; `None` where it learnt none there, or
+    /// there is no such instance.
     pub fn last_learnt(&self, instance: u8) -> Option<&UpdateSet>
         ensures { option_copied result ≡ member_learnt self.now instance }
     {
         self.instances.get(instance as usize)?.learnt.as_ref()
     }
 
-    /// What it has come to at an adopt-commit object; `None` before it has, and where the group has
-    /// no such object. The cost is linear in the set's length, of one vote a replica.
+    /// The outcome to which the member has come at an adopt-commit object; `None` before it has,
+    /// and where the group has no such object. The cost is linear in the set's length, of one vote
+    /// a replica.
     pub fn outcome(&self, commit: u8) -> Option<Outcome>
         ensures { result ≡ member_outcome self.now commit }
     {

@@ -38,7 +38,7 @@ impl Model for MemberNote {
 }
 
 impl MemberNote {
-    /// Which replica gave it. What is true of every note is told here too.
+    /// Which replica gave the note. The contract also tells what is true of every note.
     pub fn giver(&self) -> u8
         ensures giver { result ≡ self.now.giver }
         ensures is { IsNote self.now }
@@ -150,9 +150,9 @@ impl Group {
         })
     }
 
-    /// The member has then seen what the note's giver had: each of its passes what the giver's pass
-    /// of the same acceptor had, and its view is the larger of the two. What it made, submitted and
-    /// learnt is as before. It takes no memory and waits for nothing.
+    /// Gives a member what a note's giver had seen: each of its passes has then seen what the
+    /// giver's pass of the same acceptor had, and its view is the larger of the two. What it made,
+    /// submitted and learnt is as before. It takes no memory and waits for nothing.
     ///
     /// The cost is that of a pass for each acceptor.
     pub fn meet(&self, member: &mut Member, note: MemberNote)

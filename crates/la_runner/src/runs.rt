@@ -1,13 +1,11 @@
 // A whole run: its workers in threads, and what is counted once they are joined.
-ghost use Rattle.std.specs.Prelude.{◌≡◌, ◌<◌, ◌≤◌, ◌+◌, ◌↔◌, ℕ, true, false, All, map, length, slice_index_or, vec_len, IfOk, IfErr, IsTrue};
+ghost use Rattle.std.specs.Prelude.{◌≡◌, ◌<◌, ◌≤◌, ◌+◌, ◌↔◌, true, false, All, map, length, slice_index_or, vec_len, IfOk, IfErr, IsTrue};
 ghost use Rattle.std.specs.List.{AllZip};
-ghost use Rattle.la_set.specs.Histories.{empty};
 ghost use Rattle.la_set.specs.Inclusion.{IsSubset};
 ghost use Rattle.la_proposer.specs.Majority.{how_many};
 ghost use Rattle.la_runner.specs.Counted.{taker, has_met, counts_peer, NotesCount};
 ghost use Rattle.la_runner.specs.Invariant.{IsMember};
 ghost use Rattle.la_runner.specs.Members.{IsOfGroup, member_view};
-ghost use Rattle.la_object.specs.Shelves.{ShelfState};
 ghost use Rattle.la_runner.specs.Runs.{IsBackOf, back_of, places, place_of, ViewsHold, ContainsAll, IsRunConfig, IsRunRefusal};
 ghost use Rattle.la_runner.specs.Together.{IsSameLog, AreSeen, AllComparable, IsHonest};
 ghost use Rattle.la_runner.specs.Together.{DecisionsCompare, DecisionsAgree, DecisionsAreTheirs, NotesHold, NotesAgree};
@@ -16,24 +14,12 @@ use crate::jobs::Jobs;
 use crate::running::{Start, run_in};
 use crate::showing::show_all;
 use crate::{Group, Log, Logs, Member, RunError};
-use la_object::{Replicated, Shelf};
+use la_object::{Replicated, Shelf, are_unused};
 use la_shared::Gate;
 use std::alloc::{AllocError, Global};
 use std::marker::Brand;
 use std::sync::Wait;
 use std::thread::Threads;
-
-// Whether no shelf has absorbed anything.
-fn are_unused<B: Replicated>(shelves: &[Shelf<B>]) -> bool
-    ensures { IsTrue result ↔ All (λ (s : ShelfState). s.view ≡ empty) shelves.now }
-{
-    for shelf in shelves {
-        if shelf.view().len() != 0 {
-            return false;
-        }
-    }
-    true
-}
 
 // Whether a run may begin: as many of each as the group has replicas, and no shelf was used.
 fn is_run<B: Replicated>(

@@ -1,7 +1,7 @@
 // The lines before the events.
 ghost use Rattle.std.specs.Prelude.{◌≡◌, ◌≤◌, length, option_map, IfOk, IfSome, IsSome};
 ghost use Rattle.la_proposer.specs.Majority.{votes_of};
-ghost use Rattle.la_world.specs.Groups.{IsConfig};
+ghost use Rattle.la_node.specs.Configs.{IsConfig};
 ghost use Rattle.la_script.specs.Words.{bytes_of, each_word};
 ghost use Rattle.la_script.specs.Headers.{version_of, header_of, vote_word, votes_said};
 ghost use Rattle.la_script.specs.Values.{header_group};
@@ -11,8 +11,8 @@ use crate::forms::{Keyword, fits, header};
 use crate::lines::words_of;
 use crate::numbers::number;
 use crate::values::Values;
+use la_node::Config;
 use la_proposer::{MAX_VOTES, Votes};
-use la_world::Config;
 use std::alloc::{AllocError, Global};
 
 /// The version that a first line says, or `None` where it says none.

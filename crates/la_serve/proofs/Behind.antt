@@ -1,61 +1,50 @@
 -- Lines that are taken one after another, what they come to held back, and then written.
-use Rattle.std.proofs.Common.{◌≡◌, ℕ, ◌+◌, List, [], ◌∷◌, ◌++◌, length, take, drop, refl, sym, subst, ap, ◌∙◌, arith, append_assoc, append-nil, take-append-drop, length-append, Option, Some, None, inl, inr}
-use Rattle.std.specs.Prelude.{⊤}
+use Rattle.std.proofs.Common.{◌≡◌, ℕ, ◌+◌, ◌≤◌, List, [], ◌∷◌, ◌++◌, length, take, drop, refl, sym, subst, ap, ◌∙◌, arith, append_assoc, append-nil, take-append-drop, length-append, Option, Some, None, inl, inr}
+use Rattle.std.specs.Prelude.{⊤, ◌⊎◌}
 use Rattle.std.specs.Io.KnownBytes.{Appends, Keeps, Consumes, IsAtEnd, prepend_known}
 use Rattle.std.proofs.KnownBytes.{Appends-nil, Appends-trans, Appends-kept, Consumes-nil}
 use Rattle.std.proofs.lemmas.List.{map-append, take_all}
 use Rattle.std.proofs.lemmas.List.Elements.{All-nil}
 use Rattle.std.proofs.lemmas.Grind.{flat_map-append}
 use Rattle.la_object.specs.declared.kind.Kind.{Kind}
-use Rattle.la_cli.specs.Streams.{AppendsPrefix}
-use Rattle.la_cli.proofs.lemmas.Fronts.{prefix_more, prefix_behind}
-use Rattle.la_durable.specs.Nodes.{KeptState}
-use Rattle.la_io.specs.Streams.{IsOneLine, ReadSo, ReadsFront, TakesSome, TellsAll}
-use Rattle.la_io.proofs.lemmas.Reading.{reads_line, reads_all, reads_front}
+use Rattle.la_io.specs.Streams.{AppendsPrefix}
+use Rattle.la_io.proofs.lemmas.Fronts.{prefix_more, prefix_behind}
+use Rattle.la_journal.specs.Disk.{LeavesOnly}
+use Rattle.la_journal.specs.Durable.{IsSettled}
+use Rattle.la_journal.specs.Lines.{lines}
+use Rattle.la_journal.specs.Machine.{steps, LeadsToSome}
+use Rattle.la_durable.specs.CallLines.{CallLine}
+use Rattle.la_durable.specs.Nodes.{KeptState, step}
+use Rattle.la_durable.specs.Restarts.{leads_from}
+use Rattle.la_io.specs.Sources.{IsOneLine, TakesSome}
+use Rattle.la_serve.specs.Reading.{ReadSo, ReadsFront, ReadsAll}
+use Rattle.la_io.specs.Streams.{TellsAll}
+use Rattle.la_serve.proofs.Reading.{reads_line, reads_all, reads_front}
 use Rattle.la_io.proofs.lemmas.TellingOn.{tells_on}
 use Rattle.la_serve.specs.declared.error.NodeFault.{NodeFault}
 use Rattle.la_serve.specs.declared.error.NodeFault.TheVariants as fault
+use Rattle.la_serve.specs.Io.{Io, Facts}
 use Rattle.la_serve.specs.Turns.{Turn, IsTurn}
-use Rattle.la_serve.specs.Serving.{AreTurns, IsTurnStep, TakesLine, TakesCut, TakesNone, InputEnds, IsStepRefusal, Unflushed, of_step, ServesLines, ServesSome, ServesClosed, IsServeRefusal, turn_lines, written, kept_lines, turns_told, cut_told}
+use Rattle.la_serve.specs.Serving.{AreTurns, IsTurnStep, TakesLine, TakesCut, TakesNone, InputEnds, IsStepRefusal, Unflushed, of_step, ServesAll, ServesSome, ServesClosed, IsServeRefusal, turn_lines, written, kept_lines, turns_told, cut_told}
+use Rattle.la_serve.specs.Crashes.{Leaves, Commits, CommitsSome}
 use Rattle.la_serve.proofs.Turning.{turns_snoc, turns_join}
+use Rattle.la_serve.proofs.Leading.{Led, turns_lead}
+use Rattle.la_serve.proofs.Crashing.{CrashSo, crash_none, crash_more, crash_some, crash_all}
 
--- the turns so far: what the first ones came to was written, and what the others came to is held back
-pub record ServedSo (objects : List (ℕ × Kind)) (n : KeptState) (Told : List (List ℕ) → Type 0)
-    (Crash : (between : KeptState) (done : List Turn) → Type 0) (left ahead out_before out_now : Option (List ℕ))
-    (held : List ℕ) (journal_before journal_now staged : List (List ℕ)) (now : KeptState) (number : ℕ) : Type 0 where
-  pub done : List Turn
-  pub group : List Turn
-  -- the state after the first ones
-  pub between : KeptState
-  pub are_done : AreTurns objects n 1 done between
-  pub are_group : AreTurns objects between (1 + length done) group now
-  pub count : number ≡ 1 + length (done ++ group)
-  pub read : ReadSo left ahead (turn_lines (done ++ group))
-  pub wrote : Appends out_before out_now (written done)
-  pub holds : held ≡ written group
-  pub journal : journal_now ≡ journal_before ++ kept_lines done
-  pub stages : staged ≡ kept_lines group
-  pub tells : Told (turns_told (done ++ group))
-  pub crash : Crash between done
+-- where the loop stands: what is ahead and in the output, what is held back and staged
+pub record Point (D E : Type 0) : Type 0 where
+  pub objects : List (ℕ × Kind)
+  pub state : KeptState
+  pub ahead : Option (List ℕ)
+  pub out : Option (List ℕ)
+  pub held : List ℕ
+  pub disk : D
+  pub text : List ℕ
+  pub errors : E
 
--- the same when no more is read: of what the others came to a front is held back
-pub record CutSo (objects : List (ℕ × Kind)) (n : KeptState) (Told : List (List ℕ) → Type 0)
-    (Crash : (between : KeptState) (done : List Turn) → Type 0)
-    (left_before left_after out_before out_now : Option (List ℕ)) (held : List ℕ)
-    (journal_before journal_now staged : List (List ℕ)) (now : KeptState) (more : List ℕ) : Type 0 where
-  pub done : List Turn
-  pub group : List Turn
-  pub between : KeptState
-  pub are_done : AreTurns objects n 1 done between
-  pub are_group : AreTurns objects between (1 + length done) group now
-  pub read : ReadsFront left_before left_after (turn_lines (done ++ group))
-  pub wrote : Appends out_before out_now (written done)
-  pub holds : held ++ more ≡ written group
-  pub journal : journal_now ≡ journal_before ++ kept_lines done
-  pub stages : staged ≡ kept_lines group
-  pub rest : List ℕ
-  pub tells : Told (turns_told (done ++ group) ++ cut_told (1 + length (done ++ group)) rest)
-  pub crash : Crash between done
+-- as a step has it
+abbrev pub held_io : {D E : Type 0} → Point D E → Io
+held_io p = record { objects = p.objects; state = p.state; left = p.ahead; out = Some p.held; journal = lines p.text }
 
 -- what may be missing of what is held back, by why no more is read
 abbrev pub Missing : NodeFault → (more : List ℕ) → Type 0
@@ -81,121 +70,149 @@ told_on turns t =
 lines_on : (turns : List Turn) (t : Turn) → turn_lines turns ++ t.line ∷ [] ≡ turn_lines (turns ++ t ∷ [])
 lines_on turns t = sym (map-append (λ (t : Turn). t.line) turns (t ∷ []))
 
-module _ {E : Type 0} (contents : E → Option (List ℕ)) (refuses : E → List ℕ → E → Type 0) (objects : List (ℕ × Kind))
-    (n : KeptState) (left out : Option (List ℕ)) (journal : List (List ℕ)) (e0 : E)
-    (Left : (turns last : List Turn) → Type 0) (Crash : (between : KeptState) (done : List Turn) → Type 0) where
-  pub served_none : Crash n []
-      → ServedSo objects n (TellsAll contents refuses e0 e0) Crash left (prepend_known [] left) out out [] journal journal
-      [] n 1
-  served_none crash = record {
+none_read : (left : Option (List ℕ)) → Consumes left (prepend_known [] left) []
+none_read None = tt
+none_read (Some xs) = refl
+
+module _ {D R W E : Type 0} (f : Facts D R W E) (first : Point D E) where
+  -- the journal and the streams at a point, where this is left to read
+  abbrev pub run_io : (left : Option (List ℕ)) → Point D E → Io
+  run_io left p =
+      record { objects = p.objects; state = p.state; left = left; out = p.out; journal = lines (f.seen p.disk) }
+
+  abbrev pub Left : D → (turns last : List Turn) → Type 0
+  Left d = Leaves f.seen f.may_leave f.moment f.left_since first.state first.disk d
+
+  abbrev Crash : (between : KeptState) (d : D) (done : List Turn) → Type 0
+  Crash between d done = CrashSo f.seen f.may_leave f.moment f.left_since first.state between first.disk d done
+
+  abbrev pub Flushed : (p q : Point D E) → Type 0
+  Flushed p q =
+      Appends p.out q.out p.held × (q.held ≡ []) × (q.text ≡ []) × Commits f.seen f.may_leave p.text p.disk q.disk
+      × CommitsSome f.seen f.moment f.left_since p.text p.disk q.disk
+
+  -- the turns so far: what the first ones came to was written, and what the others came to is held back
+  pub record So (p : Point D E) (number : ℕ) : Type 0 where
+    pub done : List Turn
+    pub group : List Turn
+    -- the state after the first ones
+    pub between : KeptState
+    pub are_done : AreTurns first.objects first.state 1 done between
+    pub are_group : AreTurns first.objects between (1 + length done) group p.state
+    pub count : number ≡ 1 + length (done ++ group)
+    pub read : ReadSo first.ahead p.ahead (turn_lines (done ++ group))
+    pub wrote : Appends first.out p.out (written done)
+    pub holds : p.held ≡ written group
+    pub journal : lines (f.seen p.disk) ≡ lines (f.seen first.disk) ++ kept_lines done
+    pub stages : lines p.text ≡ kept_lines group
+    pub tells : TellsAll f.heard f.refuses first.errors p.errors (turns_told (done ++ group))
+    pub crash : Crash between p.disk done
+
+  -- the same when no more is read: of what the others came to a front is held back
+  pub record CutSo (left : Option (List ℕ)) (p : Point D E) (more : List ℕ) : Type 0 where
+    pub done : List Turn
+    pub group : List Turn
+    pub between : KeptState
+    pub are_done : AreTurns first.objects first.state 1 done between
+    pub are_group : AreTurns first.objects between (1 + length done) group p.state
+    pub read : ReadsFront first.ahead left (turn_lines (done ++ group))
+    pub wrote : Appends first.out p.out (written done)
+    pub holds : p.held ++ more ≡ written group
+    pub journal : lines (f.seen p.disk) ≡ lines (f.seen first.disk) ++ kept_lines done
+    pub stages : lines p.text ≡ kept_lines group
+    pub rest : List ℕ
+    pub tells : TellsAll f.heard f.refuses first.errors p.errors
+        (turns_told (done ++ group) ++ cut_told (1 + length (done ++ group)) rest)
+    pub crash : Crash between p.disk done
+
+  pub so_none : IsSettled f.seen f.may_leave first.disk
+      → ((c : List ℕ) → f.left_since first.disk (f.moment first.disk) c → f.may_leave first.disk c)
+      → (pending held text : List ℕ) → pending ≡ [] → held ≡ [] → text ≡ []
+      → So (record first { ahead = prepend_known pending first.ahead; held = held; text = text }) 1
+  so_none settled only_now pending held text none empty unstaged = record {
     done = [];
     group = [];
-    between = n;
+    between = first.state;
     are_done = refl;
     are_group = refl;
     count = refl;
-    read = (All-nil IsOneLine, none_read left);
-    wrote = Appends-nil out;
-    holds = refl;
-    journal = sym (append-nil journal);
-    stages = refl;
+    read = (
+      All-nil IsOneLine,
+      subst (λ p. Consumes first.ahead (prepend_known p first.ahead) []) (sym none) (none_read first.ahead),
+    );
+    wrote = Appends-nil first.out;
+    holds = empty;
+    journal = sym (append-nil (lines (f.seen first.disk)));
+    stages = ap lines unstaged;
     tells = refl;
-    crash = crash;
+    crash = crash_none f.seen f.may_leave f.moment f.left_since first.state first.disk settled only_now;
   }
-    where
-      none_read : (left : Option (List ℕ)) → Consumes left (prepend_known [] left) []
-      none_read None = tt
-      none_read (Some xs) = refl
 
-  module _ (ahead1 out1 : Option (List ℕ)) (held1 : List ℕ) (journal1 staged1 : List (List ℕ)) (n1 : KeptState) (e1 : E)
-      (number : ℕ)
-      (so : ServedSo objects n (TellsAll contents refuses e0 e1) Crash left ahead1 out out1 held1 journal journal1
-      staged1 n1 number) where
-    -- it was written, and is in the journal
-    pub flushed : (Crash2 : (between : KeptState) (done : List Turn) → Type 0) (out2 : Option (List ℕ)) (held2 : List ℕ)
-        (journal2 staged2 : List (List ℕ)) → Crash2 n1 (so.done ++ so.group) → Appends out1 out2 held1 → held2 ≡ []
-        → journal2 ≡ journal1 ++ staged1 → staged2 ≡ []
-        → ServedSo objects n (TellsAll contents refuses e0 e1) Crash2 left ahead1 out out2 held2 journal journal2 staged2
-        n1 number
-    flushed Crash2 out2 held2 journal2 staged2 crash wrote none behind unstaged =
-        let same : (so.done ++ so.group) ++ [] ≡ so.done ++ so.group = append-nil (so.done ++ so.group) in
-        record {
-          done = so.done ++ so.group;
-          group = [];
-          between = n1;
-          are_done = turns_join objects n 1 so.done so.between so.group n1 so.are_done so.are_group;
-          are_group = refl;
-          count = so.count ∙ ap (λ (ts : List Turn). 1 + length ts) (sym same);
-          read = subst (λ ts. ReadSo left ahead1 (turn_lines ts)) (sym same) so.read;
-          wrote =
-              subst (Appends out out2)
-              (ap (λ h. written so.done ++ h) so.holds ∙ sym (flat_map-append (λ (t : Turn). t.text) so.done so.group))
-              (Appends-trans out out1 out2 (written so.done) held1 so.wrote wrote);
-          holds = none;
-          journal =
-              behind ∙ (λ i. so.journal i ++ so.stages i) ∙ append_assoc journal (kept_lines so.done) (kept_lines so.group)
-              ∙ ap (λ k. journal ++ k) (sym (flat_map-append (λ (t : Turn). t.kept) so.done so.group));
-          stages = unstaged;
-          tells = subst (λ ts. TellsAll contents refuses e0 e1 (turns_told ts)) (sym same) so.tells;
-          crash = crash;
-        }
+  -- ## A step
 
+  module _ (p : Point D E) (number : ℕ) (so : So p number) where
     -- no more is read
-    pub stopped : (p : List ℕ) (left1 : Option (List ℕ)) → ahead1 ≡ prepend_known p left1
-        → CutSo objects n (TellsAll contents refuses e0 e1) Crash left left1 out out1 held1 journal journal1 staged1 n1 []
-    stopped p left1 is = record {
+    pub stopped : (pending : List ℕ) (left : Option (List ℕ)) → p.ahead ≡ prepend_known pending left → CutSo left p []
+    stopped pending left is = record {
       done = so.done;
       group = so.group;
       between = so.between;
       are_done = so.are_done;
       are_group = so.are_group;
       read =
-          reads_front left ahead1 left1 p (turn_lines (so.done ++ so.group)) so.read
-          ([], subst (λ a. Consumes ahead1 a []) is (Consumes-nil ahead1));
+          reads_front first.ahead p.ahead left pending (turn_lines (so.done ++ so.group)) so.read
+          ([], subst (λ a. Consumes p.ahead a []) is (Consumes-nil p.ahead));
       wrote = so.wrote;
-      holds = append-nil held1 ∙ so.holds;
+      holds = append-nil p.held ∙ so.holds;
       journal = so.journal;
       stages = so.stages;
       rest = [];
-      tells = subst (TellsAll contents refuses e0 e1) (sym (append-nil (turns_told (so.done ++ so.group)))) so.tells;
+      tells =
+          subst (TellsAll f.heard f.refuses first.errors p.errors) (sym (append-nil (turns_told (so.done ++ so.group))))
+          so.tells;
       crash = so.crash;
     }
 
-    module _ (ahead2 : Option (List ℕ)) (held2 : List ℕ) (staged2 : List (List ℕ)) (n2 : KeptState) (e2 : E) where
+    module _ (q : Point D E) (objects : p.objects ≡ first.objects) (same : q.disk ≡ p.disk) (out : q.out ≡ p.out) where
+      pub journal_now : lines (f.seen q.disk) ≡ lines (f.seen first.disk) ++ kept_lines so.done
+      journal_now = ap (λ d. lines (f.seen d)) same ∙ so.journal
+
+      pub wrote_now : Appends first.out q.out (written so.done)
+      wrote_now = subst (λ o. Appends first.out o (written so.done)) (sym out) so.wrote
+
+      pub crash_now : Crash so.between q.disk so.done
+      crash_now = subst (λ d. Crash so.between d so.done) (sym same) so.crash
+
       grown : (t : Turn) → so.done ++ (so.group ++ t ∷ []) ≡ (so.done ++ so.group) ++ t ∷ []
       grown t = sym (append_assoc so.done so.group (t ∷ []))
 
-      last_is : (t : Turn) → IsTurn objects n1 number t → IsTurn objects n1 (1 + length so.done + length so.group) t
-      last_is t is =
+      are_on : (t : Turn) → IsTurn p.objects p.state number t → t.after ≡ q.state
+          → AreTurns first.objects so.between (1 + length so.done) (so.group ++ t ∷ []) q.state
+      are_on t is now =
           let here : number ≡ 1 + length so.done + length so.group =
           omega (arith, so.count, length-append so.done so.group) in
-          subst (λ k. IsTurn objects n1 k t) here is
+          subst (AreTurns first.objects so.between (1 + length so.done) (so.group ++ t ∷ [])) now
+          (turns_snoc first.objects so.between (1 + length so.done) so.group p.state t so.are_group
+          (subst (λ k. IsTurn first.objects p.state k t) here (subst (λ os. IsTurn os p.state number t) objects is)))
 
-      are_on : (t : Turn) → IsTurn objects n1 number t → t.after ≡ n2
-          → AreTurns objects so.between (1 + length so.done) (so.group ++ t ∷ []) n2
-      are_on t is now =
-          subst (AreTurns objects so.between (1 + length so.done) (so.group ++ t ∷ [])) now
-          (turns_snoc objects so.between (1 + length so.done) so.group n1 t so.are_group (last_is t is))
-
-      read_on : (t : Turn) → IsOneLine t.line → Consumes ahead1 ahead2 (t.line ++ 10 ∷ [])
-          → ReadSo left ahead2 (turn_lines (so.done ++ (so.group ++ t ∷ [])))
+      read_on : (t : Turn) → IsOneLine t.line → Consumes p.ahead q.ahead (t.line ++ 10 ∷ [])
+          → ReadSo first.ahead q.ahead (turn_lines (so.done ++ (so.group ++ t ∷ [])))
       read_on t one read =
-          subst (λ ts. ReadSo left ahead2 (turn_lines ts)) (sym (grown t))
-          (subst (ReadSo left ahead2) (lines_on (so.done ++ so.group) t)
-          (reads_line left ahead1 ahead2 (turn_lines (so.done ++ so.group)) t.line so.read one read))
+          subst (λ ts. ReadSo first.ahead q.ahead (turn_lines ts)) (sym (grown t))
+          (subst (ReadSo first.ahead q.ahead) (lines_on (so.done ++ so.group) t)
+          (reads_line first.ahead p.ahead q.ahead (turn_lines (so.done ++ so.group)) t.line so.read one read))
 
-      tells_more : (t : Turn) → TellsAll contents refuses e1 e2 t.told
-          → TellsAll contents refuses e0 e2 (turns_told (so.done ++ (so.group ++ t ∷ [])))
+      tells_more : (t : Turn) → TellsAll f.heard f.refuses p.errors q.errors t.told
+          → TellsAll f.heard f.refuses first.errors q.errors (turns_told (so.done ++ (so.group ++ t ∷ [])))
       tells_more t tells =
-          subst (λ ts. TellsAll contents refuses e0 e2 (turns_told ts)) (sym (grown t))
-          (subst (TellsAll contents refuses e0 e2) (told_on (so.done ++ so.group) t)
-          (tells_on contents refuses e0 e1 e2 (turns_told (so.done ++ so.group)) t.told so.tells tells))
+          subst (λ ts. TellsAll f.heard f.refuses first.errors q.errors (turns_told ts)) (sym (grown t))
+          (subst (TellsAll f.heard f.refuses first.errors q.errors) (told_on (so.done ++ so.group) t)
+          (tells_on f.heard f.refuses first.errors p.errors q.errors (turns_told (so.done ++ so.group)) t.told so.tells
+          tells))
 
-      pub served_more : TakesLine (IsTurnStep objects n1 number ahead1 ahead2) (TellsAll contents refuses e1 e2) (Some held1)
-          (Some held2) staged1 staged2 n2
-          → ServedSo objects n (TellsAll contents refuses e0 e2) Crash left ahead2 out out1 held2 journal journal1 staged2
-          n2 (number + 1)
-      served_more t = record {
+      pub so_more : TakesLine (IsTurnStep number) (TellsAll f.heard f.refuses p.errors q.errors) (held_io p) (held_io q)
+          → So q (number + 1)
+      so_more t = record {
         done = so.done;
         group = so.group ++ t.turn ∷ [];
         between = so.between;
@@ -203,101 +220,76 @@ module _ {E : Type 0} (contents : E → Option (List ℕ)) (refuses : E → List
         are_group = are_on t.turn t.is.is t.now_is;
         count = omega (arith, so.count, ap length (grown t.turn), length-append (so.done ++ so.group) (t.turn ∷ []));
         read = read_on t.turn t.is.one t.is.read;
-        wrote = so.wrote;
+        wrote = wrote_now;
         holds = t.wrote ∙ ap (λ h. h ++ t.turn.text) so.holds ∙ text_on so.group t.turn;
-        journal = so.journal;
+        journal = journal_now;
         stages = t.journal ∙ ap (λ s. s ++ t.turn.kept) so.stages ∙ kept_on so.group t.turn;
         tells = tells_more t.turn t.tells;
-        crash = so.crash;
+        crash = crash_now;
       }
 
-      -- the input is at its end
-      module _ (p : List ℕ) (left2 : Option (List ℕ)) (is : ahead2 ≡ prepend_known p left2) where
-        pub ended : InputEnds number (TellsAll contents refuses e1 e2) ahead1 ahead2 (Some held1) (Some held2) staged1
-            staged2 n1 n2
-            → CutSo objects n (TellsAll contents refuses e0 e2) Crash left left2 out out1 held2 journal journal1 staged2
-            n2 []
+      -- no more is read
+      module _ (pending : List ℕ) (left : Option (List ℕ)) (is : q.ahead ≡ prepend_known pending left) where
+        -- the input is at its end
+        unfoldable pub ended : InputEnds number (TellsAll f.heard f.refuses p.errors q.errors) (held_io p) (held_io q)
+            → CutSo left q []
         ended s = record {
           done = so.done;
           group = so.group;
           between = so.between;
           are_done = so.are_done;
-          are_group = subst (AreTurns objects so.between (1 + length so.done) so.group) (sym s.now_is) so.are_group;
+          are_group =
+              subst (AreTurns first.objects so.between (1 + length so.done) so.group) (sym s.now_is) so.are_group;
           read =
-              reads_front left ahead1 left2 p (turn_lines (so.done ++ so.group)) so.read
-              (s.rest, subst (λ a. Consumes ahead1 a s.rest) is s.read);
-          wrote = so.wrote;
-          holds = append-nil held2 ∙ s.out ∙ so.holds;
-          journal = so.journal;
+              reads_front first.ahead p.ahead left pending (turn_lines (so.done ++ so.group)) so.read
+              (s.rest, subst (λ a. Consumes p.ahead a s.rest) is s.read);
+          wrote = wrote_now;
+          holds = append-nil q.held ∙ s.out ∙ so.holds;
+          journal = journal_now;
           stages = s.journal ∙ so.stages;
           rest = s.rest;
           tells =
-              tells_on contents refuses e0 e1 e2 (turns_told (so.done ++ so.group))
+              tells_on f.heard f.refuses first.errors p.errors q.errors (turns_told (so.done ++ so.group))
               (cut_told (1 + length (so.done ++ so.group)) s.rest) so.tells
-              (subst (λ k. TellsAll contents refuses e1 e2 (cut_told k s.rest)) so.count s.tells);
-          crash = so.crash;
+              (subst (λ k. TellsAll f.heard f.refuses p.errors q.errors (cut_told k s.rest)) so.count s.tells);
+          crash = crash_now;
         }
 
-        pub served_all : InputEnds number (TellsAll contents refuses e1 e2) ahead1 ahead2 (Some held1) (Some held2) staged1
-            staged2 n1 n2 → (out3 : Option (List ℕ)) (journal3 : List (List ℕ)) → Appends out1 out3 held2
-            → journal3 ≡ journal1 ++ staged2 → Left (so.done ++ so.group) []
-            → ServesLines objects n (TellsAll contents refuses e0 e2) Left left left2 out out3 journal journal3 n2
-        served_all s out3 journal3 wrote behind remains = record {
-          turns = so.done ++ so.group;
-          rest = s.rest;
-          are =
-              subst (AreTurns objects n 1 (so.done ++ so.group)) (sym s.now_is)
-              (turns_join objects n 1 so.done so.between so.group n1 so.are_done so.are_group);
-          read =
-              reads_all left ahead1 left2 p (turn_lines (so.done ++ so.group)) s.rest so.read s.one
-              (subst (λ a. Consumes ahead1 a s.rest) is s.read) (subst IsAtEnd is s.at_end);
-          wrote =
-              subst (Appends out out3)
-              (ap (λ h. written so.done ++ h) (s.out ∙ so.holds)
-              ∙ sym (flat_map-append (λ (t : Turn). t.text) so.done so.group))
-              (Appends-trans out out1 out3 (written so.done) held2 so.wrote wrote);
-          journal =
-              behind ∙ (λ i. so.journal i ++ (s.journal ∙ so.stages) i)
-              ∙ append_assoc journal (kept_lines so.done) (kept_lines so.group)
-              ∙ ap (λ k. journal ++ k) (sym (flat_map-append (λ (t : Turn). t.kept) so.done so.group));
-          tells =
-              tells_on contents refuses e0 e1 e2 (turns_told (so.done ++ so.group))
-              (cut_told (1 + length (so.done ++ so.group)) s.rest) so.tells
-              (subst (λ k. TellsAll contents refuses e1 e2 (cut_told k s.rest)) so.count s.tells);
-          left = remains;
-        }
+        pub all_read : (s : InputEnds number (TellsAll f.heard f.refuses p.errors q.errors) (held_io p) (held_io q))
+            → ReadsAll first.ahead left (turn_lines (so.done ++ so.group)) s.rest
+        all_read s =
+            reads_all first.ahead p.ahead left pending (turn_lines (so.done ++ so.group)) s.rest so.read s.one
+            (subst (λ a. Consumes p.ahead a s.rest) is s.read) (subst IsAtEnd is s.at_end)
 
         -- a line was not taken
-        none_cut : TakesSome ahead1 ahead2
-            → TakesNone (TellsAll contents refuses e1 e2) (Some held1) (Some held2) staged1 staged2 n1 n2
-            → CutSo objects n (TellsAll contents refuses e0 e2) Crash left left2 out out1 held2 journal journal1 staged2
-            n2 []
+        none_cut : TakesSome p.ahead q.ahead
+            → TakesNone (TellsAll f.heard f.refuses p.errors q.errors) (held_io p) (held_io q) → CutSo left q []
         none_cut some none = record {
           done = so.done;
           group = so.group;
           between = so.between;
           are_done = so.are_done;
-          are_group = subst (AreTurns objects so.between (1 + length so.done) so.group) (sym none.now_is) so.are_group;
+          are_group =
+              subst (AreTurns first.objects so.between (1 + length so.done) so.group) (sym none.now_is) so.are_group;
           read =
-              reads_front left ahead1 left2 p (turn_lines (so.done ++ so.group)) so.read (subst (TakesSome ahead1) is some);
-          wrote = so.wrote;
-          holds = append-nil held2 ∙ none.out ∙ so.holds;
-          journal = so.journal;
+              reads_front first.ahead p.ahead left pending (turn_lines (so.done ++ so.group)) so.read
+              (subst (TakesSome p.ahead) is some);
+          wrote = wrote_now;
+          holds = append-nil q.held ∙ none.out ∙ so.holds;
+          journal = journal_now;
           stages = none.journal ∙ so.stages;
           rest = [];
           tells =
-              subst (TellsAll contents refuses e0 e2) (sym (append-nil (turns_told (so.done ++ so.group))))
-              (subst (λ e. TellsAll contents refuses e0 e (turns_told (so.done ++ so.group))) (sym none.tells) so.tells);
-          crash = so.crash;
+              subst (TellsAll f.heard f.refuses first.errors q.errors)
+              (sym (append-nil (turns_told (so.done ++ so.group))))
+              (subst (λ e. TellsAll f.heard f.refuses first.errors e (turns_told (so.done ++ so.group))) (sym none.tells)
+              so.tells);
+          crash = crash_now;
         }
 
         -- or it was, but of what it comes to only a front is held back
-        one_cut :
-            (t : TakesCut (IsTurnStep objects n1 number ahead1 ahead2) (TellsAll contents refuses e1 e2) (Some held1)
-            (Some held2) staged1 staged2 n2)
-            → (more : List ℕ)
-            × CutSo objects n (TellsAll contents refuses e0 e2) Crash left left2 out out1 held2 journal journal1
-            staged2 n2 more
+        one_cut : TakesCut (IsTurnStep number) (TellsAll f.heard f.refuses p.errors q.errors) (held_io p) (held_io q)
+            → (more : List ℕ) × CutSo left q more
         one_cut t =
             let many = t.wrote.0 in
             let more = drop many t.turn.text in (
@@ -309,30 +301,27 @@ module _ {E : Type 0} (contents : E → Option (List ℕ)) (refuses : E → List
                 are_done = so.are_done;
                 are_group = are_on t.turn t.is.is t.now_is;
                 read =
-                    reads_front left ahead2 left2 p (turn_lines (so.done ++ (so.group ++ t.turn ∷ [])))
+                    reads_front first.ahead q.ahead left pending (turn_lines (so.done ++ (so.group ++ t.turn ∷ [])))
                     (read_on t.turn t.is.one t.is.read)
-                    ([], subst (λ a. Consumes ahead2 a []) is (Consumes-nil ahead2));
-                wrote = so.wrote;
+                    ([], subst (λ a. Consumes q.ahead a []) is (Consumes-nil q.ahead));
+                wrote = wrote_now;
                 holds =
-                    ap (λ h. h ++ more) t.wrote.1 ∙ append_assoc held1 (take many t.turn.text) more
-                    ∙ ap (λ x. held1 ++ x) (take-append-drop many t.turn.text) ∙ ap (λ h. h ++ t.turn.text) so.holds
+                    ap (λ h. h ++ more) t.wrote.1 ∙ append_assoc p.held (take many t.turn.text) more
+                    ∙ ap (λ x. p.held ++ x) (take-append-drop many t.turn.text) ∙ ap (λ h. h ++ t.turn.text) so.holds
                     ∙ text_on so.group t.turn;
-                journal = so.journal;
+                journal = journal_now;
                 stages = t.journal ∙ ap (λ s. s ++ t.turn.kept) so.stages ∙ kept_on so.group t.turn;
                 rest = [];
                 tells =
-                    subst (TellsAll contents refuses e0 e2)
+                    subst (TellsAll f.heard f.refuses first.errors q.errors)
                     (sym (append-nil (turns_told (so.done ++ (so.group ++ t.turn ∷ []))))) (tells_more t.turn t.tells);
-                crash = so.crash;
+                crash = crash_now;
               },
             )
 
-        pub step_cut : (f : NodeFault)
-            → IsStepRefusal objects n1 number (TellsAll contents refuses e1 e2) ahead1 ahead2 (Some held1) (Some held2)
-            staged1 staged2 n2 f
-            → (more : List ℕ)
-            × CutSo objects n (TellsAll contents refuses e0 e2) Crash left left2 out out1 held2 journal journal1
-            staged2 n2 more × Missing f more
+        pub step_cut : (why : NodeFault)
+            → IsStepRefusal number (TellsAll f.heard f.refuses p.errors q.errors) (held_io p) (held_io q) why
+            → (more : List ℕ) × CutSo left q more × Missing why more
         step_cut fault.ReadFault r = ([], none_cut r.0 r.1, refl)
         step_cut fault.WriteFault r = ((one_cut r).0, (one_cut r).1, tt)
         step_cut fault.Memory (inl r) = ([], none_cut r.0 r.1, tt)
@@ -344,84 +333,191 @@ module _ {E : Type 0} (contents : E → Option (List ℕ)) (refuses : E → List
 
   -- ## What is held back is written, or is not
 
-  module _ (left2 out1 out2 : Option (List ℕ)) (held : List ℕ) (journal1 journal2 staged : List (List ℕ))
-      (now : KeptState) (e : E) (more : List ℕ)
-      (so : CutSo objects n (TellsAll contents refuses e0 e) Crash left left2 out out1 held journal journal1 staged now
-      more) where
-    closed : Keeps out1 out2 → Left so.done so.group
-        → ServesClosed objects n (TellsAll contents refuses e0 e) Left left left2 out out2
-    closed keeps remains = record {
-      turns = so.done;
-      last = so.group;
-      after = now;
-      are = turns_join objects n 1 so.done so.between so.group now so.are_done so.are_group;
-      read = so.read;
-      wrote = Appends-kept out out1 out2 (written so.done) so.wrote keeps;
-      rest = so.rest;
-      tells = so.tells;
-      left = remains;
+  module _ (follow : (old mid new : D) (start first next : KeptState) (taken later : List CallLine)
+      → LeavesOnly f.moment f.left_since old mid (LeadsToSome (leads_from start) step taken first)
+      → steps step taken first ≡ Some next
+      → LeavesOnly f.moment f.left_since mid new (LeadsToSome (leads_from start) step later next)
+      → LeavesOnly f.moment f.left_since old new (LeadsToSome (leads_from start) step (taken ++ later) first)) where
+    -- before a line is read
+    pub so_prepared : (p q : Point D E) (number : ℕ) → So p number → q.ahead ≡ p.ahead → q.errors ≡ p.errors
+        → q.state ≡ p.state
+        → (((q.out ≡ p.out) × (q.held ≡ p.held) × (q.text ≡ p.text) × (q.disk ≡ p.disk)) ⊎ Flushed p q) → So q number
+    so_prepared p q number so ahead errors state (inl same) = record {
+      done = so.done;
+      group = so.group;
+      between = so.between;
+      are_done = so.are_done;
+      are_group = subst (AreTurns first.objects so.between (1 + length so.done) so.group) (sym state) so.are_group;
+      count = so.count;
+      read = subst (λ a. ReadSo first.ahead a (turn_lines (so.done ++ so.group))) (sym ahead) so.read;
+      wrote = subst (λ o. Appends first.out o (written so.done)) (sym same.0) so.wrote;
+      holds = same.1 ∙ so.holds;
+      journal = ap (λ d. lines (f.seen d)) same.3 ∙ so.journal;
+      stages = ap lines same.2 ∙ so.stages;
+      tells =
+          subst (λ e. TellsAll f.heard f.refuses first.errors e (turns_told (so.done ++ so.group))) (sym errors)
+          so.tells;
+      crash = subst (λ d. Crash so.between d so.done) (sym same.3) so.crash;
     }
+    so_prepared p q number so ahead errors state (inr w) =
+        let nil : (so.done ++ so.group) ++ [] ≡ so.done ++ so.group = append-nil (so.done ++ so.group) in
+        record {
+          done = so.done ++ so.group;
+          group = [];
+          between = p.state;
+          are_done =
+              turns_join first.objects first.state 1 so.done so.between so.group p.state so.are_done so.are_group;
+          are_group = state;
+          count = so.count ∙ ap (λ (ts : List Turn). 1 + length ts) (sym nil);
+          read =
+              subst (λ a. ReadSo first.ahead a (turn_lines ((so.done ++ so.group) ++ []))) (sym ahead)
+              (subst (λ ts. ReadSo first.ahead p.ahead (turn_lines ts)) (sym nil) so.read);
+          wrote =
+              subst (Appends first.out q.out)
+              (ap (λ h. written so.done ++ h) so.holds ∙ sym (flat_map-append (λ (t : Turn). t.text) so.done so.group))
+              (Appends-trans first.out p.out q.out (written so.done) p.held so.wrote w.0);
+          holds = w.1;
+          journal =
+              w.3.lines ∙ (λ i. so.journal i ++ so.stages i)
+              ∙ append_assoc (lines (f.seen first.disk)) (kept_lines so.done) (kept_lines so.group)
+              ∙ ap (λ k. lines (f.seen first.disk) ++ k)
+              (sym (flat_map-append (λ (t : Turn). t.kept) so.done so.group));
+          stages = ap lines w.2;
+          tells =
+              subst (λ e. TellsAll f.heard f.refuses first.errors e (turns_told ((so.done ++ so.group) ++ [])))
+              (sym errors)
+              (subst (λ ts. TellsAll f.heard f.refuses first.errors p.errors (turns_told ts)) (sym nil) so.tells);
+          crash =
+              crash_more f.seen f.may_leave f.moment f.left_since follow first.state so.between p.state first.disk
+              p.disk
+              q.disk so.done so.group p.text so.crash
+              (turns_lead first.objects so.between (1 + length so.done) so.group p.state so.are_group) so.stages w.4
+              w.3;
+        }
 
-    journal_is : journal2 ≡ journal1 ++ staged → journal2 ≡ journal ++ kept_lines (so.done ++ so.group)
-    journal_is behind =
-        behind ∙ (λ i. so.journal i ++ so.stages i) ∙ append_assoc journal (kept_lines so.done) (kept_lines so.group)
-        ∙ ap (λ k. journal ++ k) (sym (flat_map-append (λ (t : Turn). t.kept) so.done so.group))
+    -- where no more is read
+    module _ (left : Option (List ℕ)) (p q : Point D E) (more : List ℕ) (so : CutSo left p more)
+        (state : q.state ≡ p.state) (some : CommitsSome f.seen f.moment f.left_since p.text p.disk q.disk) where
+      abbrev Told : List (List ℕ) → Type 0
+      Told = TellsAll f.heard f.refuses first.errors p.errors
 
-    pub some : (Wrote : List ℕ → Type 0) → Wrote (written (so.done ++ so.group)) → journal2 ≡ journal1 ++ staged
-        → Left (so.done ++ so.group) []
-        → ServesSome objects n (TellsAll contents refuses e0 e) Left left left2 Wrote journal journal2 now
-    some Wrote wrote behind remains = record {
-      turns = so.done ++ so.group;
-      are = turns_join objects n 1 so.done so.between so.group now so.are_done so.are_group;
-      read = so.read;
-      wrote = wrote;
-      journal = journal_is behind;
-      rest = so.rest;
-      tells = so.tells;
-      left = remains;
-    }
+      led : Led so.between p.state so.group
+      led = turns_lead first.objects so.between (1 + length so.done) so.group p.state so.are_group
 
-    text_is : (written so.done ++ held) ++ more ≡ written (so.done ++ so.group)
-    text_is =
-        append_assoc (written so.done) held more ∙ ap (λ h. written so.done ++ h) so.holds
-        ∙ sym (flat_map-append (λ (t : Turn). t.text) so.done so.group)
+      are_all : AreTurns first.objects first.state 1 (so.done ++ so.group) p.state
+      are_all = turns_join first.objects first.state 1 so.done so.between so.group p.state so.are_done so.are_group
 
-    pub front : AppendsPrefix out1 out2 held → AppendsPrefix out out2 (written (so.done ++ so.group))
-    front cut =
-        subst (AppendsPrefix out out2) text_is
-        (prefix_more out out2 (written so.done ++ held) more
-        (prefix_behind out out1 out2 (written so.done) held so.wrote cut))
+      pub are_now : AreTurns first.objects first.state 1 (so.done ++ so.group) q.state
+      are_now = subst (AreTurns first.objects first.state 1 (so.done ++ so.group)) (sym state) are_all
 
-    pub whole : more ≡ [] → Appends out1 out2 held → Appends out out2 (written (so.done ++ so.group))
-    whole none wrote =
-        subst (Appends out out2)
-        (sym (append-nil (written so.done ++ held)) ∙ ap (λ m. (written so.done ++ held) ++ m) (sym none) ∙ text_is)
-        (Appends-trans out out1 out2 (written so.done) held so.wrote wrote)
+      pub safe : Commits f.seen f.may_leave p.text p.disk q.disk → Left q.disk (so.done ++ so.group) []
+      safe all =
+          crash_all f.seen f.may_leave f.moment f.left_since first.state p.state first.disk q.disk (so.done ++ so.group)
+          (crash_more f.seen f.may_leave f.moment f.left_since follow first.state so.between p.state first.disk p.disk
+          q.disk so.done so.group p.text so.crash led so.stages some all) all.settled
 
-    all_front : Appends out1 out2 held → AppendsPrefix out1 out2 held
-    all_front wrote = (length held, subst (Appends out1 out2) (sym (take_all (length held) held (omega arith))) wrote)
+      pub journal_is : Commits f.seen f.may_leave p.text p.disk q.disk
+          → lines (f.seen q.disk) ≡ lines (f.seen first.disk) ++ kept_lines (so.done ++ so.group)
+      journal_is all =
+          all.lines ∙ (λ i. so.journal i ++ so.stages i)
+          ∙ append_assoc (lines (f.seen first.disk)) (kept_lines so.done) (kept_lines so.group)
+          ∙ ap (λ k. lines (f.seen first.disk) ++ k) (sym (flat_map-append (λ (t : Turn). t.kept) so.done so.group))
 
-    pub unflushed : (f : NodeFault) → Unflushed (Keeps out1 out2) (AppendsPrefix out1 out2 held) f
-        → Unflushed (Left so.done so.group) (Left (so.done ++ so.group) [] × (journal2 ≡ journal1 ++ staged)) f
-        → IsServeRefusal objects n (TellsAll contents refuses e0 e) Left left left2 out out2 journal journal2 now f
-    unflushed fault.DiskFault r l = closed r l
-    unflushed fault.Memory r l = inr (closed r l)
-    unflushed fault.WriteFault r l = some (AppendsPrefix out out2) (front r) l.1 l.0
-    unflushed fault.ReadFault r l = absurd r
-    unflushed fault.BadConfig r l = absurd r
-    unflushed fault.NoJournal r l = absurd r
-    unflushed fault.BadJournal r l = absurd r
+      text_is : (written so.done ++ p.held) ++ more ≡ written (so.done ++ so.group)
+      text_is =
+          append_assoc (written so.done) p.held more ∙ ap (λ h. written so.done ++ h) so.holds
+          ∙ sym (flat_map-append (λ (t : Turn). t.text) so.done so.group)
 
-    -- and why no more is read
-    pub then_refused : (f : NodeFault) → Missing f more → Appends out1 out2 held → journal2 ≡ journal1 ++ staged
-        → Left (so.done ++ so.group) []
-        → IsServeRefusal objects n (TellsAll contents refuses e0 e) Left left left2 out out2 journal journal2 now
-        (of_step f)
-    then_refused fault.ReadFault none wrote behind l = some (Appends out out2) (whole none wrote) behind l
-    then_refused fault.WriteFault m wrote behind l =
-        inl (some (AppendsPrefix out out2) (front (all_front wrote)) behind l)
-    then_refused fault.Memory m wrote behind l = inl (some (AppendsPrefix out out2) (front (all_front wrote)) behind l)
-    then_refused fault.BadConfig m wrote behind l = absurd m
-    then_refused fault.NoJournal m wrote behind l = absurd m
-    then_refused fault.BadJournal m wrote behind l = absurd m
-    then_refused fault.DiskFault m wrote behind l = absurd m
+      front : AppendsPrefix p.out q.out p.held → AppendsPrefix first.out q.out (written (so.done ++ so.group))
+      front cut =
+          subst (AppendsPrefix first.out q.out) text_is
+          (prefix_more first.out q.out (written so.done ++ p.held) more
+          (prefix_behind first.out p.out q.out (written so.done) p.held so.wrote cut))
+
+      pub whole : more ≡ [] → Appends p.out q.out p.held → Appends first.out q.out (written (so.done ++ so.group))
+      whole none wrote =
+          subst (Appends first.out q.out)
+          (sym (append-nil (written so.done ++ p.held)) ∙ ap (λ m. (written so.done ++ p.held) ++ m) (sym none)
+          ∙ text_is)
+          (Appends-trans first.out p.out q.out (written so.done) p.held so.wrote wrote)
+
+      all_front : Appends p.out q.out p.held → AppendsPrefix p.out q.out p.held
+      all_front wrote =
+          (length p.held, subst (Appends p.out q.out) (sym (take_all (length p.held) p.held (omega arith))) wrote)
+
+      serves_some : (Wrote : (before after : Option (List ℕ)) → List ℕ → Type 0)
+          → Wrote first.out q.out (written (so.done ++ so.group)) → Commits f.seen f.may_leave p.text p.disk q.disk
+          → ServesSome Told (Left q.disk) Wrote (run_io first.ahead first) (run_io left q)
+      serves_some Wrote wrote all = record {
+        turns = so.done ++ so.group;
+        are = are_now;
+        read = so.read;
+        wrote = wrote;
+        journal = journal_is all;
+        rest = so.rest;
+        tells = so.tells;
+        left = safe all;
+      }
+
+      module _ (counts_now : (t : ℕ) (c : List ℕ) → t ≤ f.moment q.disk → f.may_leave q.disk c
+          → f.left_since q.disk t c) where
+        closed : Keeps p.out q.out → ServesClosed Told (Left q.disk) (run_io first.ahead first) (run_io left q)
+        closed keeps = record {
+          turns = so.done;
+          last = so.group;
+          now = p.state;
+          are = are_all;
+          read = so.read;
+          wrote = Appends-kept first.out p.out q.out (written so.done) so.wrote keeps;
+          rest = so.rest;
+          tells = so.tells;
+          left =
+              crash_some f.seen f.may_leave f.moment f.left_since follow first.state so.between p.state first.disk
+              p.disk
+              q.disk so.done so.group p.text so.crash led so.stages some counts_now;
+        }
+
+        pub unflushed : (why : NodeFault)
+            → Unflushed (Keeps p.out q.out)
+            (AppendsPrefix p.out q.out p.held × Commits f.seen f.may_leave p.text p.disk q.disk) why
+            → IsServeRefusal Told (Left q.disk) (run_io first.ahead first) (run_io left q) why
+        unflushed fault.DiskFault r = closed r
+        unflushed fault.Memory r = inr (closed r)
+        unflushed fault.WriteFault r = serves_some AppendsPrefix (front r.0) r.1
+        unflushed fault.ReadFault r = absurd r
+        unflushed fault.BadConfig r = absurd r
+        unflushed fault.NoJournal r = absurd r
+        unflushed fault.BadJournal r = absurd r
+
+      -- and why no more is read
+      pub then_refused : (why : NodeFault) → Missing why more → Appends p.out q.out p.held
+          → Commits f.seen f.may_leave p.text p.disk q.disk
+          → IsServeRefusal Told (Left q.disk) (run_io first.ahead first) (run_io left q) (of_step why)
+      then_refused fault.ReadFault none wrote all = serves_some Appends (whole none wrote) all
+      then_refused fault.WriteFault m wrote all = inl (serves_some AppendsPrefix (front (all_front wrote)) all)
+      then_refused fault.Memory m wrote all = inl (serves_some AppendsPrefix (front (all_front wrote)) all)
+      then_refused fault.BadConfig m wrote all = absurd m
+      then_refused fault.NoJournal m wrote all = absurd m
+      then_refused fault.BadJournal m wrote all = absurd m
+      then_refused fault.DiskFault m wrote all = absurd m
+
+    -- all was read and written
+    pub serves_all : (p q r : Point D E) (number : ℕ) (so : So p number) (objects : p.objects ≡ first.objects)
+        (same : q.disk ≡ p.disk) (out : q.out ≡ p.out) (pending : List ℕ) (left : Option (List ℕ))
+        (is : q.ahead ≡ prepend_known pending left) (state : r.state ≡ q.state)
+        → InputEnds number (TellsAll f.heard f.refuses p.errors q.errors) (held_io p) (held_io q) → Flushed q r
+        → ServesAll (TellsAll f.heard f.refuses first.errors q.errors) (Left r.disk) (run_io first.ahead first)
+        (run_io left r)
+    unfolding ended
+    serves_all p q r number so objects same out pending left is state s w =
+        let cut : CutSo left q [] = ended p number so q objects same out pending left is s in
+        record {
+          turns = so.done ++ so.group;
+          rest = s.rest;
+          are = are_now left q r [] cut state w.4;
+          read = all_read p number so q objects same out pending left is s;
+          wrote = whole left q r [] cut state w.4 refl w.0;
+          journal = journal_is left q r [] cut state w.4 w.3;
+          tells = cut.tells;
+          left = safe left q r [] cut state w.4 w.3;
+        }

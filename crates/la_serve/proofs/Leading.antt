@@ -2,9 +2,8 @@
 use Rattle.std.proofs.Common.{◌≡◌, ◌⊎◌, inl, inr, ℕ, ◌+◌, ◌||◌, Bool, true, false, List, [], ◌∷◌, ◌++◌, length, map, refl, sym, ap, subst, ◌∙◌, Option, Some, None, option_map, nat_lt}
 use Rattle.la_object.specs.declared.kind.Kind.{Kind}
 use Rattle.la_object.specs.declared.query.Answer.{Answer}
-use Rattle.la_object.specs.Shelves.{answer_at}
 use Rattle.la_journal.specs.Machine.{steps, steps_from}
-use Rattle.la_wire.specs.declared.calls.TheConstants.{MAX_LINE}
+use Rattle.la_io.specs.declared.source.TheConstants.{MAX_LINE}
 use Rattle.la_wire.specs.declared.error.LineFault.TheVariants.{TooLong}
 use Rattle.la_wire.specs.Calls.{WireCall, Submit, Decide, Ask, Tick, Receive}
 use Rattle.la_wire.specs.CallLines.{named_call}
@@ -13,6 +12,7 @@ use Rattle.la_durable.specs.Given.{Given}
 use Rattle.la_durable.specs.Nodes.{KeptState, acts_by, step}
 use Rattle.la_durable.specs.CallLines.{CallLine, is_line}
 use Rattle.la_serve.specs.Turns.{Turn, only_writes, turn_refused, faulty, question_answered, question, is_note, is_elsewhere, is_stale, OneOf, IsCallTaken, IsStarved, IsKeptTurn, IsTurnHere, SaysCall, IsShortTurn, IsTurn}
+use Rattle.la_serve.specs.Said.{answer_by}
 use Rattle.la_serve.specs.Serving.{AreTurns, kept_lines}
 
 -- a turn by which the journal gains nothing, and nothing changes
@@ -60,7 +60,8 @@ module _ (objects : List (ℕ × Kind)) (n : KeptState) (k : ℕ) (t : Turn) whe
   here_goes (Submit replica object op) stands says is = kept_goes (Submit replica object op) stands says is
   here_goes (Decide replica commit value) stands says is = kept_goes (Decide replica commit value) stands says is
   here_goes (Ask replica object query) stands says (inl is) =
-      inl (still n t (question objects n k object query t.line) is (answered_still n k object t.line (answer_at (record { view = n.replica.view; objects = objects }) object query)))
+      inl (still n t (question objects n k object query t.line) is
+      (answered_still n k object t.line (answer_by objects n object query)))
   here_goes (Ask replica object query) stands says (inr is) = starved_goes is
   here_goes Tick stands says (inl again) = inl (still n t _ again.turn (refl, refl))
   here_goes Tick stands says (inr is) = starved_goes is

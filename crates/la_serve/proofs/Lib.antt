@@ -5,10 +5,11 @@ pub mod Acting
 pub mod Turns
 pub mod Taking
 pub mod Saying
+pub mod Reading
 pub mod Behind
+pub mod Points
 pub mod OneLine
 pub mod Stepping
 pub mod Starts
 pub mod Leading
 pub mod Crashing
-pub mod Groups

@@ -2,86 +2,29 @@
 use Rattle.std.proofs.Common.{◌≡◌, ℕ, ◌≤◌, ◌||◌, Bool, true, false, List, [], length, codes, refl, sym, subst, ap, ◌∙◌, append-nil, Option, Some, Result, OnOk, IfErr}
 use Rattle.std.specs.Io.KnownBytes.{Appends}
 use Rattle.std.proofs.KnownBytes.{Appends-nil}
-use Rattle.la_object.specs.declared.kind.Kind.{Kind}
-use Rattle.la_object.specs.declared.query.Query.{Query}
-use Rattle.la_cli.specs.Streams.{AppendsPrefix}
-use Rattle.la_wire.specs.declared.calls.TheConstants.{MAX_LINE}
+use Rattle.la_io.specs.declared.source.TheConstants.{MAX_LINE}
 use Rattle.la_wire.specs.declared.error.LineFault.{LineFault}
 use Rattle.la_wire.specs.declared.error.LineError.TheVariants.{Fault}
-use Rattle.la_wire.specs.Calls.{WireCall, Ask, Tick}
+use Rattle.la_wire.specs.Calls.{called}
 use Rattle.la_wire.specs.CallLines.{named_call}
-use Rattle.la_durable.specs.Nodes.{KeptState}
 use Rattle.la_durable.specs.CallLines.{is_line}
-use Rattle.la_durable.specs.Inputs.{IsInputRefusal}
-use Rattle.la_io.specs.Notes.{refused_note, line_fault_line}
+use Rattle.la_durable.specs.Inputs.{InputState, IsInputRefusal}
+use Rattle.la_wire.specs.Notes.{refused_note, line_fault_line}
 use Rattle.la_io.specs.Streams.{TellsLine, TellsAll}
 use Rattle.la_serve.specs.declared.error.NodeFault.{NodeFault}
-use Rattle.la_serve.specs.Turns.{Turn, faulty, own_of, is_note, is_elsewhere, is_stale, IsAnsweredTurn, IsTicked, IsTurnHere, IsCallTurn, IsTurn}
-use Rattle.la_serve.specs.Serving.{Of, TakesLine, TakesCut, Breaks, TellsNoLine}
-use Rattle.la_serve.proofs.Taking.{takes_only, cut_only, takes_more, cut_more, on_ok_more, if_err_more}
+use Rattle.la_serve.specs.Io.{Io}
+use Rattle.la_serve.specs.Turns.{Turn, faulty, own_of, is_note, is_elsewhere, is_stale, IsCallTurn}
+use Rattle.la_serve.specs.Serving.{OfLine, OfCall, TakesBy, TakesLine, Breaks, TellsNoLine}
+use Rattle.la_serve.proofs.Taking.{takes_only, takes_more, on_ok_more, if_err_more}
 use Rattle.la_serve.proofs.Turns.{note_turn, fault_turn, starved_turn, call_turn, passed_turn}
 
--- ## A call
-
-module _ (objects : List (ℕ × Kind)) (n : KeptState) (k : ℕ) (line : List ℕ) (out1 out2 : Option (List ℕ))
-    (journal1 journal2 : List (List ℕ)) (now : KeptState) {T : Type 0} where
-  -- of one kind
-  pub ok_here : (call call2 : WireCall) (Is : Turn → Type 0) → call ≡ call2
-      → ((t : Turn) → Is t → IsTurnHere objects n k call2 t) → (r : Result T NodeFault)
-      → OnOk r (TakesLine (Of line Is) TellsNoLine out1 out2 journal1 journal2 now)
-      → OnOk r (TakesLine (Of line (IsTurnHere objects n k call)) TellsNoLine out1 out2 journal1 journal2 now)
-  ok_here call call2 Is e more r x =
-      subst
-      (λ (c : WireCall). OnOk r (TakesLine (Of line (IsTurnHere objects n k c)) TellsNoLine out1 out2 journal1 journal2 now))
-      (sym e)
-      (on_ok_more out1 out2 journal1 journal2 now (λ (t : Turn) (is : Of line Is t). (is.0, more t is.1))
-      (λ (told : List (List ℕ)) (is : TellsNoLine told). is) r x)
-
-  pub err_here : (call call2 : WireCall) (Is : Turn → Type 0) → call ≡ call2
-      → ((t : Turn) → Is t → IsTurnHere objects n k call2 t) → (r : Result T NodeFault)
-      → IfErr r (Breaks (Of line Is) TellsNoLine out1 out2 journal1 journal2 now)
-      → IfErr r (Breaks (Of line (IsTurnHere objects n k call)) TellsNoLine out1 out2 journal1 journal2 now)
-  err_here call call2 Is e more r x =
-      subst
-      (λ (c : WireCall).
-      IfErr r (Breaks (Of line (IsTurnHere objects n k c)) TellsNoLine out1 out2 journal1 journal2 now)) (sym e)
-      (if_err_more out1 out2 journal1 journal2 now (λ (t : Turn) (is : Of line Is t). (is.0, more t is.1))
-      (λ (told : List (List ℕ)) (is : TellsNoLine told). is) r x)
-
-  -- a question, and the timer
-  pub ok_ask : (call : WireCall) (replica object : ℕ) (query : Query) → call ≡ Ask replica object query
-      → (r : Result T NodeFault)
-      → OnOk r (TakesLine (Of line (IsAnsweredTurn objects n k object query)) TellsNoLine out1 out2 journal1 journal2 now)
-      → OnOk r (TakesLine (Of line (IsTurnHere objects n k call)) TellsNoLine out1 out2 journal1 journal2 now)
-  ok_ask call replica object query e r x =
-      ok_here call (Ask replica object query) (IsAnsweredTurn objects n k object query) e
-      (λ (t : Turn) (is : IsAnsweredTurn objects n k object query t). is) r x
-
-  pub err_ask : (call : WireCall) (replica object : ℕ) (query : Query) → call ≡ Ask replica object query
-      → (r : Result T NodeFault)
-      → IfErr r (Breaks (Of line (IsAnsweredTurn objects n k object query)) TellsNoLine out1 out2 journal1 journal2 now)
-      → IfErr r (Breaks (Of line (IsTurnHere objects n k call)) TellsNoLine out1 out2 journal1 journal2 now)
-  err_ask call replica object query e r x =
-      err_here call (Ask replica object query) (IsAnsweredTurn objects n k object query) e
-      (λ (t : Turn) (is : IsAnsweredTurn objects n k object query t). is) r x
-
-  pub ok_tick : (call : WireCall) → call ≡ Tick → (r : Result T NodeFault)
-      → OnOk r (TakesLine (Of line (IsTicked n k)) TellsNoLine out1 out2 journal1 journal2 now)
-      → OnOk r (TakesLine (Of line (IsTurnHere objects n k call)) TellsNoLine out1 out2 journal1 journal2 now)
-  ok_tick call e r x = ok_here call Tick (IsTicked n k) e (λ (t : Turn) (is : IsTicked n k t). is) r x
-
-  pub err_tick : (call : WireCall) → call ≡ Tick → (r : Result T NodeFault)
-      → IfErr r (Breaks (Of line (IsTicked n k)) TellsNoLine out1 out2 journal1 journal2 now)
-      → IfErr r (Breaks (Of line (IsTurnHere objects n k call)) TellsNoLine out1 out2 journal1 journal2 now)
-  err_tick call e r x = err_here call Tick (IsTicked n k) e (λ (t : Turn) (is : IsTicked n k t). is) r x
-
--- passed over
-pub call_passed : (objects : List (ℕ × Kind)) (n : KeptState) (k : ℕ) (line : List ℕ) (out : Option (List ℕ))
-    (journal : List (List ℕ)) (call : WireCall) → (is_elsewhere n call || is_stale n call) ≡ true
-    → TakesLine (Of line (IsCallTurn objects n k call)) TellsNoLine out out journal journal n
-call_passed objects n k line out journal call is =
-    takes_only (IsCallTurn objects n k call) n line [] out out journal (passed_turn objects n k line call true refl is)
-    (Appends-nil out)
+-- a call that is passed over
+pub call_passed : (input : InputState) (k : ℕ) (io : Io)
+    → (is_elsewhere io.state (called input.call) || is_stale io.state (called input.call)) ≡ true
+    → TakesLine (OfCall input IsCallTurn k) TellsNoLine io io
+call_passed input k io is =
+    takes_only Appends (OfCall input IsCallTurn k) io io input.line []
+    (refl, passed_turn io.objects io.state k input.line (called input.call) true refl is) refl refl (Appends-nil io.out)
 
 pub first_of : (a b : Bool) → a ≡ true → (a || b) ≡ true
 first_of true b e = refl
@@ -93,61 +36,60 @@ second_of false b e = e
 
 -- ## A line
 
-module _ {E : Type 0} (contents : E → Option (List ℕ)) (refuses : E → List ℕ → E → Type 0) where
-  pub tells_none : (e : E) (told : List (List ℕ)) → told ≡ [] → TellsAll contents refuses e e told
-  tells_none e told is = subst (TellsAll contents refuses e e) (sym is) refl
+module _ {E : Type 0} (heard : E → Option (List ℕ)) (refuses : E → List ℕ → E → Type 0) (k : ℕ) (line : List ℕ)
+    (le : length line ≤ MAX_LINE) (before : Io) (e1 : E) where
+  tells_none : (told : List (List ℕ)) → told ≡ [] → TellsAll heard refuses e1 e1 told
+  tells_none told is = subst (TellsAll heard refuses e1 e1) (sym is) refl
 
-  module _ (objects : List (ℕ × Kind)) (n : KeptState) (k : ℕ) (line : List ℕ) (le : length line ≤ MAX_LINE) (e1 : E)
-      (out1 : Option (List ℕ)) (journal1 : List (List ℕ)) where
-    pub note_taken : is_note line ≡ true
-        → TakesLine (Of line (IsTurn objects n k)) (TellsAll contents refuses e1 e1) out1 out1 journal1 journal1 n
-    note_taken is =
-        takes_more out1 out1 journal1 journal1 n (λ (t : Turn) (i : Of line (IsTurn objects n k) t). i) (tells_none e1)
-        (takes_only (IsTurn objects n k) n line [] out1 out1 journal1 (note_turn objects n k line le is)
-        (Appends-nil out1))
+  -- nothing is told
+  silent : (Wrote : (before after : Option (List ℕ)) → List ℕ → Type 0) (after : Io)
+      → TakesBy Wrote (OfLine line k) TellsNoLine before after
+      → TakesBy Wrote (OfLine line k) (TellsAll heard refuses e1 e1) before after
+  silent Wrote after =
+      takes_more (OfLine line k) (OfLine line k) before after (λ (t : Turn) (i : OfLine line k before after t). i)
+      tells_none Wrote
 
-    module _ (is : is_note line ≡ false) where
-      pub fault_taken : (e2 : E) (f : LineFault) → IsInputRefusal line (Fault f)
-          → TellsLine contents refuses e1 e2 (line_fault_line k f)
-          → TakesLine (Of line (IsTurn objects n k)) (TellsAll contents refuses e1 e2) out1 out1 journal1 journal1 n
-      fault_taken e2 f refusal t = record {
-        turn = faulty n k line f;
-        is = (refl, fault_turn objects n k line f le is refusal);
-        now_is = refl;
-        wrote = Appends-nil out1;
-        journal = sym (append-nil journal1);
-        tells = (e2, t, refl);
-      }
+  pub note_taken : is_note line ≡ true → TakesLine (OfLine line k) (TellsAll heard refuses e1 e1) before before
+  note_taken is =
+      silent Appends before
+      (takes_only Appends (OfLine line k) before before line []
+      (refl, note_turn before.objects before.state k line le is) refl refl (Appends-nil before.out))
 
-      pub starved_taken : (out2 : Option (List ℕ)) → Appends out1 out2 (refused_note (own_of n) k (codes "Memory"))
-          → TakesLine (Of line (IsTurn objects n k)) (TellsAll contents refuses e1 e1) out1 out2 journal1 journal1 n
-      starved_taken out2 w =
-          takes_more out1 out2 journal1 journal1 n (λ (t : Turn) (i : Of line (IsTurn objects n k) t). i) (tells_none e1)
-          (takes_only (IsTurn objects n k) n line (refused_note (own_of n) k (codes "Memory")) out1 out2 journal1
-          (starved_turn objects n k line le is) w)
+  module _ (is : is_note line ≡ false) where
+    pub fault_taken : (e2 : E) (f : LineFault) → IsInputRefusal line (Fault f)
+        → TellsLine heard refuses e1 e2 (line_fault_line k f)
+        → TakesLine (OfLine line k) (TellsAll heard refuses e1 e2) before before
+    fault_taken e2 f refusal t = record {
+      turn = faulty before.state k line f;
+      is = (refl, fault_turn before.objects before.state k line f le is refusal);
+      now_is = refl;
+      wrote = Appends-nil before.out;
+      journal = sym (append-nil before.journal);
+      tells = (e2, t, refl);
+    }
 
-      pub starved_cut : (out2 : Option (List ℕ)) → AppendsPrefix out1 out2 (refused_note (own_of n) k (codes "Memory"))
-          → TakesCut (Of line (IsTurn objects n k)) (TellsAll contents refuses e1 e1) out1 out2 journal1 journal1 n
-      starved_cut out2 w =
-          cut_more out1 out2 journal1 journal1 n (λ (t : Turn) (i : Of line (IsTurn objects n k) t). i) (tells_none e1)
-          (cut_only (IsTurn objects n k) n line (refused_note (own_of n) k (codes "Memory")) out1 out2 journal1
-          (starved_turn objects n k line le is) w)
+    pub starved : (Wrote : (before after : Option (List ℕ)) → List ℕ → Type 0) (out : Option (List ℕ))
+        → Wrote before.out out (refused_note (own_of before.state) k (codes "Memory"))
+        → TakesBy Wrote (OfLine line k) (TellsAll heard refuses e1 e1) before (record before { out = out })
+    starved Wrote out w =
+        silent Wrote (record before { out = out })
+        (takes_only Wrote (OfLine line k) before (record before { out = out }) line
+        (refused_note (own_of before.state) k (codes "Memory"))
+        (refl, starved_turn before.objects before.state k line le is) refl refl w)
 
-      module _ (out2 : Option (List ℕ)) (journal2 : List (List ℕ)) (now : KeptState) (l : List ℕ) (call : WireCall)
-          (same : l ≡ line) (says : named_call l ≡ Some call) (stands : is_line l ≡ true) where
-        of_call : (t : Turn) → Of l (IsCallTurn objects n k call) t → Of line (IsTurn objects n k) t
-        of_call t i =
-            call_turn objects n k line call le is (ap named_call (sym same) ∙ says) (ap is_line (sym same) ∙ stands) t
-            (i.0 ∙ same, i.1)
+    module _ (after : Io) (input : InputState) (same : input.line ≡ line)
+        (says : named_call input.line ≡ Some (called input.call)) (stands : is_line input.line ≡ true) where
+      of_call : (t : Turn) → OfCall input IsCallTurn k before after t → OfLine line k before after t
+      of_call t i =
+          call_turn before.objects before.state k line (called input.call) le is (ap named_call (sym same) ∙ says)
+          (ap is_line (sym same) ∙ stands) t (i.0 ∙ same, i.1)
 
-        pub ok_line : {T : Type 0} (r : Result T NodeFault)
-            → OnOk r (TakesLine (Of l (IsCallTurn objects n k call)) TellsNoLine out1 out2 journal1 journal2 now)
-            → OnOk r
-            (TakesLine (Of line (IsTurn objects n k)) (TellsAll contents refuses e1 e1) out1 out2 journal1 journal2 now)
-        ok_line r x = on_ok_more out1 out2 journal1 journal2 now of_call (tells_none e1) r x
+      pub ok_line : {T : Type 0} (r : Result T NodeFault)
+          → OnOk r (TakesLine (OfCall input IsCallTurn k) TellsNoLine before after)
+          → OnOk r (TakesLine (OfLine line k) (TellsAll heard refuses e1 e1) before after)
+      ok_line r x = on_ok_more (OfCall input IsCallTurn k) (OfLine line k) before after of_call tells_none r x
 
-        pub err_line : {T : Type 0} (r : Result T NodeFault)
-            → IfErr r (Breaks (Of l (IsCallTurn objects n k call)) TellsNoLine out1 out2 journal1 journal2 now)
-            → IfErr r
-            (Breaks (Of line (IsTurn objects n k)) (TellsAll contents refuses e1 e1) out1 out2 journal1 journal2 now)
-        err_line r x = if_err_more out1 out2 journal1 journal2 now of_call (tells_none e1) r x
+      pub err_line : {T : Type 0} (r : Result T NodeFault)
+          → IfErr r (Breaks (OfCall input IsCallTurn k) TellsNoLine before after)
+          → IfErr r (Breaks (OfLine line k) (TellsAll heard refuses e1 e1) before after)
+      err_line r x = if_err_more (OfCall input IsCallTurn k) (OfLine line k) before after of_call tells_none r x

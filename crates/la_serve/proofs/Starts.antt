@@ -1,22 +1,27 @@
 -- What a start leads to.
-use Rattle.std.proofs.Common.{◌≡◌, ℕ, zero, suc, List, [], refl, sym, subst, ap, ◌∙◌, Option, Some, None, option_map, Result, Ok, Err, OnOk, IfErr, inl, inr}
+use Rattle.std.proofs.Common.{◌≡◌, ℕ, zero, suc, List, [], ◌++◌, refl, sym, ap, ◌∙◌, Option, Some, None, option_map, Result, Ok, Err, OnOk, IfErr, inl, inr}
 use Rattle.std.proofs.lemmas.Option.{none-some}
 use Rattle.std.specs.Io.KnownBytes.{Appends}
-use Rattle.la_cli.specs.Streams.{AppendsPrefix}
+use Rattle.la_io.specs.Streams.{AppendsPrefix}
 use Rattle.la_set.specs.ObjectOps.{ObjectOp, update_of}
 use Rattle.la_set.specs.Histories.{Histories, empty, object_op_number}
 use Rattle.la_set.specs.Inclusion.{IsSubset}
 use Rattle.la_set.proofs.lemmas.SetHistories.{history-empty}
 use Rattle.la_object.specs.declared.kind.Kind.{Kind}
+use Rattle.la_journal.specs.Disk.{LeavesOnly}
+use Rattle.la_journal.specs.Durable.{IsSameOr}
 use Rattle.la_journal.specs.Lines.{lines}
-use Rattle.la_world.specs.declared.config.Config.{Config}
 use Rattle.la_durable.specs.Nodes.{KeptState}
 use Rattle.la_durable.specs.Restarts.{leads_from}
+use Rattle.la_io.specs.Streams.{TellsAll}
 use Rattle.la_serve.specs.declared.error.NodeFault.{NodeFault}
 use Rattle.la_serve.specs.declared.error.NodeFault.TheVariants as fault
+use Rattle.la_serve.specs.declared.options.Options.{Options}
+use Rattle.la_serve.specs.Io.{Io, Streams, Facts, io_with}
 use Rattle.la_serve.specs.Turns.{Turn}
-use Rattle.la_serve.specs.Serving.{ServesLines, ServesSome, ServesClosed, IsServeRefusal}
-use Rattle.la_serve.specs.Starting.{at_start, Runs, RunsNot, IsServerStartRefusal}
+use Rattle.la_serve.specs.Serving.{ServesAll, ServesSome, ServesClosed, IsServeRefusal, kept_lines}
+use Rattle.la_serve.specs.Crashes.{Leaves, LeftBy, at_start}
+use Rattle.la_serve.specs.Starting.{RunsAll, RunsCut, IsServerStartRefusal}
 
 -- nothing lies in every set
 pub nothing_within : (s : Histories) → IsSubset empty s
@@ -29,75 +34,129 @@ nothing_within s u is =
     nothing_at zero = refl
     nothing_at (suc k) = refl
 
--- ## What a crash leaves, in other words
+-- ## What a crash leaves, in other words, and the journal by other bytes
 
-module _ (objects : List (ℕ × Kind)) (n : KeptState) (Told : List (List ℕ) → Type 0)
-    (Left Left2 : (turns last : List Turn) → Type 0) (to : (turns last : List Turn) → Left turns last → Left2 turns last)
-    (left1 left2 out1 out2 : Option (List ℕ)) (journal1 journal2 : List (List ℕ)) (now : KeptState) where
-  serves_to : ServesLines objects n Told Left left1 left2 out1 out2 journal1 journal2 now
-      → ServesLines objects n Told Left2 left1 left2 out1 out2 journal1 journal2 now
-  serves_to s = record { turns = s.turns; rest = s.rest; are = s.are; read = s.read; wrote = s.wrote; journal = s.journal; tells = s.tells; left = to s.turns [] s.left }
+module _ (Told : List (List ℕ) → Type 0) (Left Left2 : (turns last : List Turn) → Type 0)
+    (to : (turns last : List Turn) → Left turns last → Left2 turns last) (before after : Io) (journal : List (List ℕ))
+    (same : before.journal ≡ journal) (objects : List (ℕ × Kind)) where
+  abbrev from : Io
+  from = record before { journal = journal }
 
-  some_to : (Wrote : List ℕ → Type 0) → ServesSome objects n Told Left left1 left2 Wrote journal1 journal2 now
-      → ServesSome objects n Told Left2 left1 left2 Wrote journal1 journal2 now
-  some_to Wrote s = record { turns = s.turns; are = s.are; read = s.read; wrote = s.wrote; journal = s.journal; rest = s.rest; tells = s.tells; left = to s.turns [] s.left }
+  abbrev till : Io
+  till = record after { objects = objects }
 
-  closed_to : ServesClosed objects n Told Left left1 left2 out1 out2
-      → ServesClosed objects n Told Left2 left1 left2 out1 out2
-  closed_to s = record { turns = s.turns; last = s.last; after = s.after; are = s.are; read = s.read; wrote = s.wrote; rest = s.rest; tells = s.tells; left = to s.turns s.last s.left }
+  behind : (turns : List Turn) → after.journal ≡ before.journal ++ kept_lines turns → after.journal ≡ journal ++ kept_lines turns
+  behind turns is = is ∙ ap (λ (ls : List (List ℕ)). ls ++ kept_lines turns) same
 
-  refusal_to : (f : NodeFault) → IsServeRefusal objects n Told Left left1 left2 out1 out2 journal1 journal2 now f
-      → IsServeRefusal objects n Told Left2 left1 left2 out1 out2 journal1 journal2 now f
+  pub serves_to : ServesAll Told Left before after → ServesAll Told Left2 from till
+  serves_to s = record {
+    turns = s.turns;
+    rest = s.rest;
+    are = s.are;
+    read = s.read;
+    wrote = s.wrote;
+    journal = behind s.turns s.journal;
+    tells = s.tells;
+    left = to s.turns [] s.left;
+  }
+
+  some_to : (Wrote : (before after : Option (List ℕ)) → List ℕ → Type 0) → ServesSome Told Left Wrote before after
+      → ServesSome Told Left2 Wrote from till
+  some_to Wrote s = record {
+    turns = s.turns;
+    are = s.are;
+    read = s.read;
+    wrote = s.wrote;
+    journal = behind s.turns s.journal;
+    rest = s.rest;
+    tells = s.tells;
+    left = to s.turns [] s.left;
+  }
+
+  closed_to : ServesClosed Told Left before after → ServesClosed Told Left2 from till
+  closed_to s = record {
+    turns = s.turns;
+    last = s.last;
+    now = s.now;
+    are = s.are;
+    read = s.read;
+    wrote = s.wrote;
+    rest = s.rest;
+    tells = s.tells;
+    left = to s.turns s.last s.left;
+  }
+
+  pub refusal_to : (f : NodeFault) → IsServeRefusal Told Left before after f → IsServeRefusal Told Left2 from till f
   refusal_to fault.DiskFault s = closed_to s
-  refusal_to fault.ReadFault s = some_to (Appends out1 out2) s
-  refusal_to fault.WriteFault s = some_to (AppendsPrefix out1 out2) s
-  refusal_to fault.Memory (inl s) = inl (some_to (AppendsPrefix out1 out2) s)
+  refusal_to fault.ReadFault s = some_to Appends s
+  refusal_to fault.WriteFault s = some_to AppendsPrefix s
+  refusal_to fault.Memory (inl s) = inl (some_to AppendsPrefix s)
   refusal_to fault.Memory (inr s) = inr (closed_to s)
   refusal_to fault.BadConfig s = s
   refusal_to fault.NoJournal s = s
   refusal_to fault.BadJournal s = s
 
-module _ (objects : List (ℕ × Kind)) (config : Config) (own : ℕ) (file file2 : List ℕ) (Told : List (List ℕ) → Type 0)
-    (Left : KeptState → (turns last : List Turn) → Type 0) (left1 left2 out1 out2 : Option (List ℕ))
-    (journal : List (List ℕ)) (before now : KeptState)
-    (plays : leads_from (at_start config own) file ≡ Some before) (same : lines file2 ≡ lines file)
-    (LeftHere : (turns last : List Turn) → Type 0)
-    (to : (turns last : List Turn) → LeftHere turns last → Left before turns last) where
-  pub runs : {T : Type 0} (r : Result T NodeFault)
-      → OnOk r (ServesLines objects before Told LeftHere left1 left2 out1 out2 (lines file2) journal now)
-      → OnOk r (Runs objects config own file Told Left left1 left2 out1 out2)
-  runs (Ok x) s = record {
-    before = before;
-    plays = plays;
-    journal = journal;
-    now = now;
-    serves =
-        subst (λ (ls : List (List ℕ)). ServesLines objects before Told (Left before) left1 left2 out1 out2 ls journal now) same
-        (serves_to objects before Told LeftHere (Left before) to left1 left2 out1 out2 (lines file2) journal now s);
-  }
-  runs (Err e) s = tt
+-- ## A run, by what was served behind its recovery
 
-  run_stops : (f : NodeFault)
-      → IsServeRefusal objects before Told (Left before) left1 left2 out1 out2 (lines file) journal now f
-      → IsServerStartRefusal objects config own file Told Left left1 left2 out1 out2 f
-  run_stops fault.ReadFault s = inr (record { before = before; plays = plays; journal = journal; now = now; stops = s })
-  run_stops fault.WriteFault s = inr (record { before = before; plays = plays; journal = journal; now = now; stops = s })
-  run_stops fault.Memory s = inr (record { before = before; plays = plays; journal = journal; now = now; stops = s })
-  run_stops fault.DiskFault s = inr (record { before = before; plays = plays; journal = journal; now = now; stops = s })
-  run_stops fault.BadConfig s = absurd s
-  run_stops fault.NoJournal s = absurd s
-  run_stops fault.BadJournal s = absurd s
+module _ {D R W E : Type 0} (f : Facts D R W E) (objects objects2 : List (ℕ × Kind)) (options : Options)
+    (disk recovered final : D) (old new : Streams R W E) (before now : KeptState)
+    (plays : leads_from (at_start options.config options.own) (f.seen disk) ≡ Some before)
+    (leads : leads_from (at_start options.config options.own) (f.seen recovered) ≡ Some before)
+    (same : lines (f.seen recovered) ≡ lines (f.seen disk))
+    (recovery : LeavesOnly f.moment f.left_since disk recovered (IsSameOr (f.may_leave disk) (lines (f.seen disk))))
+  where
+    abbrev Told : List (List ℕ) → Type 0
+    Told = TellsAll f.heard f.refuses old.errors new.errors
 
-  pub stops : {T : Type 0} (r : Result T NodeFault)
-      → IfErr r (IsServeRefusal objects before Told LeftHere left1 left2 out1 out2 (lines file2) journal now)
-      → IfErr r (IsServerStartRefusal objects config own file Told Left left1 left2 out1 out2)
-  stops (Ok x) s = tt
-  stops (Err f) s =
-      run_stops f
-      (subst
-      (λ (ls : List (List ℕ)).
-      IsServeRefusal objects before Told (Left before) left1 left2 out1 out2 ls journal now f) same
-      (refusal_to objects before Told LeftHere (Left before) to left1 left2 out1 out2 (lines file2) journal now f s))
+    abbrev Here : (turns last : List Turn) → Type 0
+    Here = Leaves f.seen f.may_leave f.moment f.left_since before recovered final
 
-nothing : (Told : List (List ℕ) → Type 0) (left out : Option (List ℕ)) → Told [] → RunsNot Told left left out out
-nothing Told left out untold = record { unread = refl; unwritten = refl; untold = untold }
+    abbrev at_first : Io
+    at_first = io_with f old objects before (lines (f.seen recovered))
+
+    abbrev at_last : Io
+    at_last = io_with f new objects2 now (lines (f.seen final))
+
+    of_run : (turns last : List Turn) → Here turns last → LeftBy f options disk before turns last
+    of_run turns last left =
+        record { recovered = recovered; recovery = recovery; leads = leads; final = final; left = left }
+
+    pub runs : {T : Type 0} (r : Result T NodeFault) → OnOk r (ServesAll Told Here at_first at_last)
+        → OnOk r (RunsAll f objects options disk old new)
+    runs (Ok x) s = record {
+      before = before;
+      plays = plays;
+      journal = lines (f.seen final);
+      now = now;
+      serves =
+          serves_to Told Here (LeftBy f options disk before) of_run at_first at_last (lines (f.seen disk)) same objects
+          s;
+    }
+    runs (Err e) s = tt
+
+    cut : (why : NodeFault) → IsServeRefusal Told Here at_first at_last why
+        → RunsCut f objects options disk old new why
+    cut why s = record {
+      before = before;
+      plays = plays;
+      journal = lines (f.seen final);
+      now = now;
+      stops =
+          refusal_to Told Here (LeftBy f options disk before) of_run at_first at_last (lines (f.seen disk)) same objects
+          why s;
+    }
+
+    run_stops : (why : NodeFault) → IsServeRefusal Told Here at_first at_last why
+        → IsServerStartRefusal f objects options disk old new why
+    run_stops fault.ReadFault s = inr (cut fault.ReadFault s)
+    run_stops fault.WriteFault s = inr (cut fault.WriteFault s)
+    run_stops fault.Memory s = inr (cut fault.Memory s)
+    run_stops fault.DiskFault s = inr (cut fault.DiskFault s)
+    run_stops fault.BadConfig s = absurd s
+    run_stops fault.NoJournal s = absurd s
+    run_stops fault.BadJournal s = absurd s
+
+    pub stops : {T : Type 0} (r : Result T NodeFault) → IfErr r (IsServeRefusal Told Here at_first at_last)
+        → IfErr r (IsServerStartRefusal f objects options disk old new)
+    stops (Ok x) s = tt
+    stops (Err why) s = run_stops why s

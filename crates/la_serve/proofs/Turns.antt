@@ -1,28 +1,26 @@
 -- What makes a turn.
 use Rattle.std.proofs.Common.{◌≡◌, ◌⊎◌, ℕ, ◌<◌, ◌≤◌, nat_lt, ◌||◌, Bool, true, false, List, [], ◌∷◌, ◌++◌, length, refl, sym, subst, ap, ◌∙◌, append-nil, Option, Some, None, inl, inr, arith}
-use Rattle.std.specs.Io.KnownBytes.{Appends}
-use Rattle.std.proofs.KnownBytes.{Appends-nil}
 use Rattle.std.proofs.lemmas.Bool.Decides.{nat_tests}
 use Rattle.la_set.specs.Histories.{updates}
 use Rattle.la_object.specs.declared.kind.Kind.{Kind}
-use Rattle.la_cli.specs.Streams.{AppendsPrefix}
-use Rattle.la_wire.specs.declared.calls.TheConstants.{MAX_LINE}
+use Rattle.la_io.specs.declared.source.TheConstants.{MAX_LINE}
 use Rattle.la_wire.specs.declared.error.LineFault.{LineFault}
 use Rattle.la_wire.specs.declared.error.LineFault.TheVariants.{TooLong}
 use Rattle.la_wire.specs.declared.error.LineError.TheVariants.{Fault}
-use Rattle.la_wire.specs.Calls.{WireCall}
+use Rattle.la_wire.specs.Calls.{WireCall, called}
 use Rattle.la_wire.specs.CallLines.{named_call}
 use Rattle.la_durable.specs.declared.error.NodeError.{NodeError}
 use Rattle.la_durable.specs.declared.error.NodeError.TheVariants.{Memory}
 use Rattle.la_durable.specs.Given.{Given}
 use Rattle.la_durable.specs.Nodes.{KeptState, acts}
 use Rattle.la_durable.specs.Errors.{IsForMemory}
-use Rattle.la_durable.specs.Inputs.{IsInputRefusal}
-use Rattle.la_io.specs.Notes.{refused_note}
+use Rattle.la_durable.specs.Inputs.{InputState, IsInputRefusal}
+use Rattle.la_wire.specs.Notes.{refused_note}
 use Rattle.la_durable.specs.CallLines.{is_line}
 use Rattle.la_serve.specs.Names.{refusal_name}
 use Rattle.la_serve.specs.Turns.{Turn, only_writes, turn_refused, faulty, call_text, own_of, is_note, OneOf, SaysCall, HasFault, IsStarved, IsTurnHere, IsCallTurn, IsShortTurn, IsTurn, IsKeptTurn, is_elsewhere, is_stale}
-use Rattle.la_serve.specs.Serving.{Of, TakesLine, TakesCut, TellsNoLine}
+use Rattle.la_serve.specs.Io.{Io}
+use Rattle.la_serve.specs.Serving.{OfCall, TakesBy, TellsNoLine}
 
 short : (line : List ℕ) → length line ≤ MAX_LINE → nat_lt MAX_LINE (length line) ≡ false
 short line le = grind (arith, nat_tests)
@@ -60,7 +58,8 @@ module _ (objects : List (ℕ × Kind)) (n : KeptState) (k : ℕ) where
       (subst (λ b. OneOf b (t ≡ only_writes n t.line []) (SaysCall objects n k t ⊎ (HasFault n k t ⊎ IsStarved n k t))) (sym is) s)
 
   pub call_turn : (line : List ℕ) (call : WireCall) → length line ≤ MAX_LINE → is_note line ≡ false → named_call line ≡ Some call
-      → is_line line ≡ true → (t : Turn) → Of line (IsCallTurn objects n k call) t → Of line (IsTurn objects n k) t
+      → is_line line ≡ true → (t : Turn)
+      → (t.line ≡ line) × IsCallTurn objects n k call t → (t.line ≡ line) × IsTurn objects n k t
   call_turn line call le is says stands t (same, turn) = (
     same,
     other_turn t (subst (λ l. length l ≤ MAX_LINE) (sym same) le) (ap is_note same ∙ is)
@@ -69,7 +68,8 @@ module _ (objects : List (ℕ × Kind)) (n : KeptState) (k : ℕ) where
 
   pub fault_turn : (line : List ℕ) (f : LineFault) → length line ≤ MAX_LINE → is_note line ≡ false
       → IsInputRefusal line (Fault f) → IsTurn objects n k (faulty n k line f)
-  fault_turn line f le is refusal = other_turn (faulty n k line f) le is (inr (inl (record { fault = f; is = refusal; turn = refl })))
+  fault_turn line f le is refusal =
+      other_turn (faulty n k line f) le is (inr (inl (record { fault = f; is = refusal; turn = refl })))
 
   pub starved_turn : (line : List ℕ) → length line ≤ MAX_LINE → is_note line ≡ false
       → IsTurn objects n k (turn_refused n k line Memory)
@@ -84,41 +84,39 @@ module _ (objects : List (ℕ × Kind)) (n : KeptState) (k : ℕ) where
 
 -- ## A call that is kept
 
-module _ (n after : KeptState) (k : ℕ) (call : WireCall) (line : List ℕ) (out1 out2 : Option (List ℕ))
-    (journal1 journal2 : List (List ℕ)) where
-  module _ (given : Given) (acted : acts n call ≡ Some (given, after)) (journal : journal2 ≡ journal1 ++ line ∷ [])
-    where
-      abbrev turn_of : Turn
-      turn_of = record { line = line; text = call_text (length (updates n.replica.view)) after call given; kept = line ∷ []; told = []; after = after }
+abbrev pub OfKept : InputState → (k : ℕ) → (before after : Io) → Turn → Type 0
+OfKept input k = OfCall input (λ _. IsKeptTurn) k
 
-      is_kept : IsKeptTurn n k call turn_of
-      is_kept = inl (record { given = given; acted = acted; written = refl; journal = refl; silent = refl })
+module _ (Wrote : (before after : Option (List ℕ)) → List ℕ → Type 0) (k : ℕ) (input : InputState) (before after : Io)
+  where
+    pub take_taken : (given : Given) → acts before.state (called input.call) ≡ Some (given, after.state)
+        → after.journal ≡ before.journal ++ input.line ∷ [] → (text : List ℕ)
+        → text ≡ call_text (length (updates before.state.replica.view)) after.state (called input.call) given
+        → Wrote before.out after.out text → TakesBy Wrote (OfKept input k) TellsNoLine before after
+    take_taken given acted journal text is w = record {
+      turn = record { line = input.line; text = text; kept = input.line ∷ []; told = []; after = after.state };
+      is = (
+        refl,
+        inl (record { given = given; acted = acted; written = is; journal = refl; silent = refl }),
+      );
+      now_is = refl;
+      wrote = w;
+      journal = journal;
+      tells = refl;
+    }
 
-      pub take_taken : (text : List ℕ) → text ≡ call_text (length (updates n.replica.view)) after call given
-          → Appends out1 out2 text → TakesLine (Of line (IsKeptTurn n k call)) TellsNoLine out1 out2 journal1 journal2 after
-      take_taken text is w = record { turn = turn_of; is = (refl, is_kept); now_is = refl; wrote = subst (Appends out1 out2) is w; journal = journal; tells = refl }
-
-      pub take_cut : (text : List ℕ) → text ≡ call_text (length (updates n.replica.view)) after call given
-          → AppendsPrefix out1 out2 text
-          → TakesCut (Of line (IsKeptTurn n k call)) TellsNoLine out1 out2 journal1 journal2 after
-      take_cut text is w = record { turn = turn_of; is = (refl, is_kept); now_is = refl; wrote = subst (AppendsPrefix out1 out2) is w; journal = journal; tells = refl }
-
-      pub take_unwritten : out2 ≡ out1
-          → TakesCut (Of line (IsKeptTurn n k call)) TellsNoLine out1 out2 journal1 journal2 after
-      take_unwritten same = record { turn = turn_of; is = (refl, is_kept); now_is = refl; wrote = (0, subst (λ o. Appends out1 o []) (sym same) (Appends-nil out1)); journal = journal; tells = refl }
-
-  module _ (why : NodeError) (cause : IsForMemory why ⊎ (acts n call ≡ None)) (same : after ≡ n)
-      (still : journal2 ≡ journal1) where
-    is_refused : IsKeptTurn n k call (turn_refused n k line why)
-    is_refused = inr (record { why = why; cause = cause; turn = refl })
-
-    pub take_refused : Appends out1 out2 (refused_note (own_of n) k (refusal_name why))
-        → TakesLine (Of line (IsKeptTurn n k call)) TellsNoLine out1 out2 journal1 journal2 after
-    take_refused w = record { turn = turn_refused n k line why; is = (refl, is_refused); now_is = sym same; wrote = w; journal = still ∙ sym (append-nil journal1); tells = refl }
-
-    pub refused_cut : AppendsPrefix out1 out2 (refused_note (own_of n) k (refusal_name why))
-        → TakesCut (Of line (IsKeptTurn n k call)) TellsNoLine out1 out2 journal1 journal2 after
-    refused_cut w = record { turn = turn_refused n k line why; is = (refl, is_refused); now_is = sym same; wrote = w; journal = still ∙ sym (append-nil journal1); tells = refl }
+    pub take_refused : (why : NodeError) → (IsForMemory why ⊎ (acts before.state (called input.call) ≡ None))
+        → after.state ≡ before.state → after.journal ≡ before.journal
+        → Wrote before.out after.out (refused_note (own_of before.state) k (refusal_name why))
+        → TakesBy Wrote (OfKept input k) TellsNoLine before after
+    take_refused why cause same still w = record {
+      turn = turn_refused before.state k input.line why;
+      is = (refl, inr (record { why = why; cause = cause; turn = refl }));
+      now_is = sym same;
+      wrote = w;
+      journal = still ∙ sym (append-nil before.journal);
+      tells = refl;
+    }
 
 pub same_text : (text : List ℕ) (before b : ℕ) (after : KeptState) (call call2 : WireCall) (given : Given)
     → text ≡ call_text before after call given → before ≡ b → call ≡ call2 → text ≡ call_text b after call2 given

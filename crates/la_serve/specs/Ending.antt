@@ -4,13 +4,12 @@ use Rattle.la_object.specs.declared.kind.Kind.{Kind}
 use Rattle.la_object.specs.declared.kind.Kind.TheVariants.{Counter, MaxRegister, OrSet}
 use Rattle.la_object.specs.declared.state.State.{State}
 use Rattle.la_object.specs.Objects.{start}
-use Rattle.la_world.specs.declared.config.Config.{Config}
-use Rattle.la_io.specs.Streams.{TellsLine, TellsAll}
+use Rattle.la_io.specs.Streams.{TellsLine}
 use Rattle.la_serve.specs.declared.error.NodeFault.{NodeFault}
 use Rattle.la_serve.specs.declared.error.NodeFault.TheVariants as fault
-use Rattle.la_durable.specs.Nodes.{KeptState}
-use Rattle.la_serve.specs.Turns.{Turn}
-use Rattle.la_serve.specs.Starting.{Runs, IsServerStartRefusal}
+use Rattle.la_serve.specs.declared.options.Options.{Options}
+use Rattle.la_serve.specs.Io.{Streams, Facts, facts, io}
+use Rattle.la_serve.specs.Starting.{RunsAll, IsServerStartRefusal}
 
 -- the objects on a node's shelf
 abbrev pub node_objects : List (ℕ × Kind)
@@ -45,31 +44,24 @@ abbrev pub end_line : NodeFault → List ℕ
 end_line f = end_name f ++ 10 ∷ []
 
 -- it took all lines of its input
-pub record ServerEndsWell {E : Type 0} (contents : E → Option (List ℕ)) (refuses : E → List ℕ → E → Type 0)
-    (Left : KeptState → (turns last : List Turn) → Type 0) (config : Config) (own : ℕ) (file : List ℕ)
-    (left_before left_after out_before out_after : Option (List ℕ)) (told_before told_after : E) (status : ℕ) : Type 0
-  where
-    pub well : status ≡ 0
-    pub runs : Runs node_objects config own file (TellsAll contents refuses told_before told_after) Left left_before
-        left_after out_before out_after
+pub record ServerEndsWell {D R W E : Type 0} (f : Facts D R W E) (options : Options) (disk : D) (old new : Streams R W E)
+    (status : ℕ) : Type 0 where
+  pub well : status ≡ 0
+  pub runs : RunsAll f node_objects options disk old new
 
 -- or ended by a fault, which is told last
-pub record EndsBadly {E : Type 0} (contents : E → Option (List ℕ)) (refuses : E → List ℕ → E → Type 0)
-    (Left : KeptState → (turns last : List Turn) → Type 0) (config : Config) (own : ℕ) (file : List ℕ)
-    (left_before left_after out_before out_after : Option (List ℕ)) (told_before told_after : E) (status : ℕ) : Type 0
-  where
-    pub why : NodeFault
-    pub is : status ≡ node_status why
-    pub between : E
-    pub stops : IsServerStartRefusal node_objects config own file (TellsAll contents refuses told_before between) Left left_before
-        left_after out_before out_after why
-    pub told : TellsLine contents refuses between told_after (end_line why)
+pub record EndsBadly {D R W E : Type 0} (f : Facts D R W E) (options : Options) (disk : D) (old new : Streams R W E)
+    (status : ℕ) : Type 0 where
+  pub why : NodeFault
+  pub is : status ≡ node_status why
+  pub between : E
+  pub stops : IsServerStartRefusal f node_objects options disk old (io new.input new.output between) why
+  pub told : TellsLine f.heard f.refuses between new.errors (end_line why)
 
-abbrev pub ServerEnds : {E : Type 0} (contents : E → Option (List ℕ)) (refuses : E → List ℕ → E → Type 0)
-    (Left : KeptState → (turns last : List Turn) → Type 0) (config : Config) (own : ℕ) (file : List ℕ)
-    (left_before left_after out_before out_after : Option (List ℕ)) (told_before told_after : E) (status : ℕ) → Type 0
-ServerEnds contents refuses Left config own file left_before left_after out_before out_after told_before told_after status =
-    ServerEndsWell contents refuses Left config own file left_before left_after out_before out_after told_before told_after
-    status
-    ⊎ EndsBadly contents refuses Left config own file left_before left_after out_before out_after told_before told_after
-    status
+abbrev pub ServerEnds : {D R W E : Type 0} (seen : D → List ℕ) (may_leave : D → List ℕ → Type 0) (moment : D → ℕ)
+    (left_since : D → ℕ → List ℕ → Type 0) (remaining : R → Option (List ℕ)) (contents : W → Option (List ℕ))
+    (heard : E → Option (List ℕ)) (refuses : E → List ℕ → E → Type 0)
+    → Options → (disk : D) → (old new : Streams R W E) → (status : ℕ) → Type 0
+ServerEnds seen may_leave moment left_since remaining contents heard refuses options disk old new status =
+    let f = facts seen may_leave moment left_since remaining contents heard refuses in
+    ServerEndsWell f options disk old new status ⊎ EndsBadly f options disk old new status

@@ -3,6 +3,8 @@ pub mod Options
 pub mod Faults
 pub mod Turns
 pub mod Said
+pub mod Io
+pub mod Reading
 pub mod Serving
 pub mod Crashes
 pub mod Starting

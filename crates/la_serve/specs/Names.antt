@@ -2,8 +2,8 @@
 use Rattle.std.specs.Prelude.{ℕ, List, codes}
 use Rattle.la_replica.specs.declared.error.ReplicaError.{ReplicaError}
 use Rattle.la_replica.specs.declared.error.ReplicaError.TheVariants as replica
-use Rattle.la_world.specs.declared.error.WorldError.{WorldError}
-use Rattle.la_world.specs.declared.error.WorldError.TheVariants as world
+use Rattle.la_node.specs.declared.error.WorldError.{WorldError}
+use Rattle.la_node.specs.declared.error.WorldError.TheVariants as world
 use Rattle.la_durable.specs.declared.error.NodeError.{NodeError}
 use Rattle.la_durable.specs.declared.error.NodeError.TheVariants as node
 

@@ -10,7 +10,7 @@ use Rattle.la_replica.specs.Whole.{whole_mail}
 use Rattle.la_replica.specs.Again.{again}
 use Rattle.la_replica.specs.Bases.{AreToldIn}
 use Rattle.la_durable.specs.Nodes.{KeptState}
-use Rattle.la_io.specs.Notes.{answered_note, refused_note, letters_text}
+use Rattle.la_wire.specs.Notes.{answered_note, refused_note, letters_text}
 use Rattle.la_serve.specs.declared.said.Said.{Said}
 use Rattle.la_serve.specs.declared.said.Said.TheVariants as said
 

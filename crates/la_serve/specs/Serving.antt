@@ -2,14 +2,20 @@
 use Rattle.std.specs.Prelude.{◌≡◌, ◌⊎◌, ℕ, ◌+◌, Bool, true, false, List, [], ◌∷◌, ◌++◌, length, Option, map}
 use Rattle.std.specs.List.{flat_map}
 use Rattle.std.specs.Io.KnownBytes.{Appends, Keeps, Consumes, IsAtEnd}
-use Rattle.la_cli.specs.Streams.{AppendsPrefix}
+use Rattle.la_io.specs.Streams.{AppendsPrefix}
 use Rattle.la_object.specs.declared.kind.Kind.{Kind}
+use Rattle.la_journal.specs.declared.disk.Disk.{Ghosts}
+use Rattle.la_durable.specs.Inputs.{InputState}
 use Rattle.la_durable.specs.Nodes.{KeptState}
 use Rattle.la_wire.specs.declared.error.LineFault.TheVariants.{BadLine}
-use Rattle.la_io.specs.Notes.{line_fault_line}
-use Rattle.la_io.specs.Streams.{IsOneLine, TakesSome, ReadsFront, ReadsLines}
+use Rattle.la_wire.specs.Calls.{WireCall, called}
+use Rattle.la_wire.specs.Notes.{line_fault_line}
+use Rattle.la_io.specs.Sources.{IsOneLine, TakesSome}
+use Rattle.la_serve.specs.Reading.{ReadsFront, ReadsAll}
+use Rattle.la_io.specs.Streams.{TellsAll}
 use Rattle.la_serve.specs.declared.error.NodeFault.{NodeFault}
 use Rattle.la_serve.specs.declared.error.NodeFault.TheVariants as fault
+use Rattle.la_serve.specs.Io.{Io, StepAt, io_in}
 use Rattle.la_serve.specs.Turns.{Turn, IsTurn}
 
 -- these are the turns of a node from a state on, the first of which is line k's, and this is the state after them
@@ -34,56 +40,58 @@ turns_told turns = flat_map (λ (t : Turn). t.told) turns
 
 -- ## One of them
 
--- of this line
-abbrev pub Of : (line : List ℕ) → (Turn → Type 0) → Turn → Type 0
-Of line Is t = (t.line ≡ line) × Is t
+-- a turn of this line, from this place on
+abbrev pub OfLine : (line : List ℕ) → (k : ℕ) → (before after : Io) → Turn → Type 0
+OfLine line k before after t = (t.line ≡ line) × IsTurn before.objects before.state k t
 
--- a line was taken: all that it comes to was written, and is in the journal
-pub record TakesLine (Is : Turn → Type 0) (Told : List (List ℕ) → Type 0) (out_before out_after : Option (List ℕ))
-    (journal_before journal_after : List (List ℕ)) (now : KeptState) : Type 0 where
+-- of a line that says a call
+abbrev pub OfCall : InputState → (List (ℕ × Kind) → KeptState → (k : ℕ) → WireCall → Turn → Type 0) → (k : ℕ)
+    → (before after : Io) → Turn → Type 0
+OfCall input Is k before after t =
+    (t.line ≡ input.line) × Is before.objects before.state k (called input.call) t
+
+-- a line was taken: what it comes to was written so, and is in the journal
+pub record TakesBy (Wrote : (before after : Option (List ℕ)) → List ℕ → Type 0)
+    (Is : (before after : Io) → Turn → Type 0)
+    (Told : List (List ℕ) → Type 0) (before after : Io) : Type 0 where
   pub turn : Turn
-  pub is : Is turn
-  pub now_is : turn.after ≡ now
-  pub wrote : Appends out_before out_after turn.text
-  pub journal : journal_after ≡ journal_before ++ turn.kept
+  pub is : Is before after turn
+  pub now_is : turn.after ≡ after.state
+  pub wrote : Wrote before.out after.out turn.text
+  pub journal : after.journal ≡ before.journal ++ turn.kept
   pub tells : Told turn.told
 
--- the same, but that only a front of it was written
-pub record TakesCut (Is : Turn → Type 0) (Told : List (List ℕ) → Type 0) (out_before out_after : Option (List ℕ))
-    (journal_before journal_after : List (List ℕ)) (now : KeptState) : Type 0 where
-  pub turn : Turn
-  pub is : Is turn
-  pub now_is : turn.after ≡ now
-  pub wrote : AppendsPrefix out_before out_after turn.text
-  pub journal : journal_after ≡ journal_before ++ turn.kept
-  pub tells : Told turn.told
+-- all of it was written, or only a front
+abbrev pub TakesLine : (Is : (before after : Io) → Turn → Type 0) (Told : List (List ℕ) → Type 0) (before after : Io)
+    → Type 0
+TakesLine Is Told before after = TakesBy Appends Is Told before after
+
+abbrev pub TakesCut : (Is : (before after : Io) → Turn → Type 0) (Told : List (List ℕ) → Type 0) (before after : Io)
+    → Type 0
+TakesCut Is Told before after = TakesBy AppendsPrefix Is Told before after
 
 -- nothing was taken: all is as it was
-pub record TakesNone (Told : List (List ℕ) → Type 0) (out_before out_after : Option (List ℕ))
-    (journal_before journal_after : List (List ℕ)) (before now : KeptState) : Type 0 where
-  pub out : Keeps out_before out_after
-  pub journal : journal_after ≡ journal_before
-  pub now_is : now ≡ before
+pub record TakesNone (Told : List (List ℕ) → Type 0) (before after : Io) : Type 0 where
+  pub out : Keeps before.out after.out
+  pub journal : after.journal ≡ before.journal
+  pub now_is : after.state ≡ before.state
   pub tells : Told []
 
 -- where a write failed, or there was no memory, the line was taken, but only a front of what it comes to was written
-abbrev pub Breaks : (Is : Turn → Type 0) (Told : List (List ℕ) → Type 0) (out_before out_after : Option (List ℕ))
-    (journal_before journal_after : List (List ℕ)) (now : KeptState) → NodeFault → Type 0
-Breaks Is Told out_before out_after journal_before journal_after now fault.WriteFault =
-    TakesCut Is Told out_before out_after journal_before journal_after now
-Breaks Is Told out_before out_after journal_before journal_after now fault.Memory =
-    TakesCut Is Told out_before out_after journal_before journal_after now
-Breaks Is Told out_before out_after journal_before journal_after now _ = ⊥
+abbrev pub Breaks : (Is : (before after : Io) → Turn → Type 0) (Told : List (List ℕ) → Type 0) (before after : Io)
+    → NodeFault → Type 0
+Breaks Is Told before after fault.WriteFault = TakesCut Is Told before after
+Breaks Is Told before after fault.Memory = TakesCut Is Told before after
+Breaks Is Told before after _ = ⊥
 
 abbrev pub TellsNoLine : List (List ℕ) → Type 0
 TellsNoLine turns_told = turns_told ≡ []
 
 -- a turn, and what was read of its line
-pub record IsTurnStep (objects : List (ℕ × Kind)) (n : KeptState) (k : ℕ) (left_before left_after : Option (List ℕ))
-    (t : Turn) : Type 0 where
-  pub is : IsTurn objects n k t
+pub record IsTurnStep (k : ℕ) (before after : Io) (t : Turn) : Type 0 where
+  pub is : IsTurn before.objects before.state k t
   pub one : IsOneLine t.line
-  pub read : Consumes left_before left_after (t.line ++ 10 ∷ [])
+  pub read : Consumes before.left after.left (t.line ++ 10 ∷ [])
 
 -- what is told of bytes behind the last line's end, where there are some
 abbrev pub cut_told : (k : ℕ) → (rest : List ℕ) → List (List ℕ)
@@ -91,43 +99,41 @@ cut_told k [] = []
 cut_told k (b ∷ rest) = line_fault_line k BadLine ∷ []
 
 -- the input is at its end, perhaps behind bytes that no line's end follows, and nothing has changed
-pub record InputEnds (k : ℕ) (Told : List (List ℕ) → Type 0) (left_before left_after out_before out_after : Option (List ℕ))
-    (journal_before journal_after : List (List ℕ)) (before now : KeptState) : Type 0 where
+pub record InputEnds (k : ℕ) (Told : List (List ℕ) → Type 0) (before after : Io) : Type 0 where
   pub rest : List ℕ
   pub one : IsOneLine rest
-  pub read : Consumes left_before left_after rest
-  pub at_end : IsAtEnd left_after
-  pub out : Keeps out_before out_after
-  pub journal : journal_after ≡ journal_before
-  pub now_is : now ≡ before
+  pub read : Consumes before.left after.left rest
+  pub at_end : IsAtEnd after.left
+  pub out : Keeps before.out after.out
+  pub journal : after.journal ≡ before.journal
+  pub now_is : after.state ≡ before.state
   pub tells : Told (cut_told k rest)
 
 -- a turn was taken, or there was none
-abbrev pub TurnSteps : (objects : List (ℕ × Kind)) (n : KeptState) (k : ℕ) (Told : List (List ℕ) → Type 0)
-    (left_before left_after : Option (List ℕ)) (out_before out_after : Option (List ℕ))
-    (journal_before journal_after : List (List ℕ)) (now : KeptState) → (more : Bool) → Type 0
-TurnSteps objects n k Told left_before left_after out_before out_after journal_before journal_after now true =
-    TakesLine (IsTurnStep objects n k left_before left_after) Told out_before out_after journal_before journal_after now
-TurnSteps objects n k Told left_before left_after out_before out_after journal_before journal_after now false =
-    InputEnds k Told left_before left_after out_before out_after journal_before journal_after n now
+abbrev pub TurnSteps : (k : ℕ) (Told : List (List ℕ) → Type 0) (before after : Io) → (more : Bool) → Type 0
+TurnSteps k Told before after true = TakesLine (IsTurnStep k) Told before after
+TurnSteps k Told before after false = InputEnds k Told before after
 
 -- some of a line was read; it was not taken, or of what it comes to only a front was written
-abbrev pub IsStepRefusal : (objects : List (ℕ × Kind)) (n : KeptState) (k : ℕ) (Told : List (List ℕ) → Type 0)
-    (left_before left_after : Option (List ℕ)) (out_before out_after : Option (List ℕ))
-    (journal_before journal_after : List (List ℕ)) (now : KeptState) → NodeFault → Type 0
-IsStepRefusal objects n k Told left_before left_after out_before out_after journal_before journal_after now
-    fault.ReadFault =
-    TakesSome left_before left_after × TakesNone Told out_before out_after journal_before journal_after n now
-IsStepRefusal objects n k Told left_before left_after out_before out_after journal_before journal_after now
-    fault.WriteFault =
-    TakesCut (IsTurnStep objects n k left_before left_after) Told out_before out_after journal_before journal_after now
-IsStepRefusal objects n k Told left_before left_after out_before out_after journal_before journal_after now fault.Memory
-    =
-    (TakesSome left_before left_after × TakesNone Told out_before out_after journal_before journal_after n now)
-    ⊎ TakesCut (IsTurnStep objects n k left_before left_after) Told out_before out_after journal_before journal_after now
-IsStepRefusal objects n k Told left_before left_after out_before out_after journal_before journal_after now _ = ⊥
+abbrev pub IsStepRefusal : (k : ℕ) (Told : List (List ℕ) → Type 0) (before after : Io) → NodeFault → Type 0
+IsStepRefusal k Told before after fault.ReadFault = TakesSome before.left after.left × TakesNone Told before after
+IsStepRefusal k Told before after fault.WriteFault = TakesCut (IsTurnStep k) Told before after
+IsStepRefusal k Told before after fault.Memory =
+    (TakesSome before.left after.left × TakesNone Told before after) ⊎ TakesCut (IsTurnStep k) Told before after
+IsStepRefusal k Told before after _ = ⊥
 
--- what was held back was not written: where a write failed the second holds, and else the first
+-- both of a call's values
+abbrev pub StepsOn : {R E D B : Type 0} {g : Ghosts D} (remaining : R → Option (List ℕ)) (heard : E → Option (List ℕ))
+    (refuses : E → List ℕ → E → Type 0) (k : ℕ) (old new : StepAt R E D B g) → (more : Bool) → Type 0
+StepsOn remaining heard refuses k old new =
+    TurnSteps k (TellsAll heard refuses old.errors new.errors) (io_in remaining old) (io_in remaining new)
+
+abbrev pub StopsOn : {R E D B : Type 0} {g : Ghosts D} (remaining : R → Option (List ℕ)) (heard : E → Option (List ℕ))
+    (refuses : E → List ℕ → E → Type 0) (k : ℕ) (old new : StepAt R E D B g) → NodeFault → Type 0
+StopsOn remaining heard refuses k old new =
+    IsStepRefusal k (TellsAll heard refuses old.errors new.errors) (io_in remaining old) (io_in remaining new)
+
+-- what is held back was not written: where a write failed the second holds, and else the first
 abbrev pub Unflushed : (Kept Cut : Type 0) → NodeFault → Type 0
 Unflushed Kept Cut fault.DiskFault = Kept
 Unflushed Kept Cut fault.Memory = Kept
@@ -147,67 +153,52 @@ of_step fault.DiskFault = fault.DiskFault
 -- ## All of them
 
 -- all lines of an input were taken
-pub record ServesLines (objects : List (ℕ × Kind)) (n : KeptState) (Told : List (List ℕ) → Type 0)
-    (Left : (turns last : List Turn) → Type 0) (left_before left_after out_before out_after : Option (List ℕ))
-    (journal_before journal_after : List (List ℕ)) (now : KeptState) : Type 0 where
+pub record ServesAll (Told : List (List ℕ) → Type 0) (Left : (turns last : List Turn) → Type 0) (before after : Io) :
+    Type 0 where
   pub turns : List Turn
   -- what is behind the last line's end
   pub rest : List ℕ
-  pub are : AreTurns objects n 1 turns now
-  pub read : ReadsLines left_before left_after (turn_lines turns) rest
-  pub wrote : Appends out_before out_after (written turns)
-  pub journal : journal_after ≡ journal_before ++ kept_lines turns
+  pub are : AreTurns before.objects before.state 1 turns after.state
+  pub read : ReadsAll before.left after.left (turn_lines turns) rest
+  pub wrote : Appends before.out after.out (written turns)
+  pub journal : after.journal ≡ before.journal ++ kept_lines turns
   pub tells : Told (turns_told turns ++ cut_told (1 + length turns) rest)
   -- what a crash leaves
   pub left : Left turns []
 
 -- some were, and are in the journal
-pub record ServesSome (objects : List (ℕ × Kind)) (n : KeptState) (Told : List (List ℕ) → Type 0)
-    (Left : (turns last : List Turn) → Type 0) (left_before left_after : Option (List ℕ)) (Wrote : List ℕ → Type 0)
-    (journal_before journal_after : List (List ℕ)) (now : KeptState) : Type 0 where
+pub record ServesSome (Told : List (List ℕ) → Type 0) (Left : (turns last : List Turn) → Type 0)
+    (Wrote : (before after : Option (List ℕ)) → List ℕ → Type 0) (before after : Io) : Type 0 where
   pub turns : List Turn
-  pub are : AreTurns objects n 1 turns now
-  pub read : ReadsFront left_before left_after (turn_lines turns)
-  pub wrote : Wrote (written turns)
-  pub journal : journal_after ≡ journal_before ++ kept_lines turns
+  pub are : AreTurns before.objects before.state 1 turns after.state
+  pub read : ReadsFront before.left after.left (turn_lines turns)
+  pub wrote : Wrote before.out after.out (written turns)
+  pub journal : after.journal ≡ before.journal ++ kept_lines turns
   -- what is behind them, where the input is at its end
   pub rest : List ℕ
   pub tells : Told (turns_told turns ++ cut_told (1 + length turns) rest)
   pub left : Left turns []
 
 -- some were, but of the last ones nothing was written, and the journal may lack them
-pub record ServesClosed (objects : List (ℕ × Kind)) (n : KeptState) (Told : List (List ℕ) → Type 0)
-    (Left : (turns last : List Turn) → Type 0) (left_before left_after out_before out_after : Option (List ℕ)) : Type 0
-  where
-    pub turns : List Turn
-    pub last : List Turn
-    pub after : KeptState
-    pub are : AreTurns objects n 1 (turns ++ last) after
-    pub read : ReadsFront left_before left_after (turn_lines (turns ++ last))
-    pub wrote : Appends out_before out_after (written turns)
-    pub rest : List ℕ
-    pub tells : Told (turns_told (turns ++ last) ++ cut_told (1 + length (turns ++ last)) rest)
-    pub left : Left turns last
+pub record ServesClosed (Told : List (List ℕ) → Type 0) (Left : (turns last : List Turn) → Type 0) (before after : Io) :
+    Type 0 where
+  pub turns : List Turn
+  pub last : List Turn
+  pub now : KeptState
+  pub are : AreTurns before.objects before.state 1 (turns ++ last) now
+  pub read : ReadsFront before.left after.left (turn_lines (turns ++ last))
+  pub wrote : Appends before.out after.out (written turns)
+  pub rest : List ℕ
+  pub tells : Told (turns_told (turns ++ last) ++ cut_told (1 + length (turns ++ last)) rest)
+  pub left : Left turns last
 
 -- Where a read failed all of these was written, and where a write did, or there was no memory, a front of it; but where
 -- the disk failed, or had no memory, nothing of the last ones.
-abbrev pub IsServeRefusal : (objects : List (ℕ × Kind)) (n : KeptState) (Told : List (List ℕ) → Type 0)
-    (Left : (turns last : List Turn) → Type 0) (left_before left_after out_before out_after : Option (List ℕ))
-    (journal_before journal_after : List (List ℕ)) (now : KeptState) → NodeFault → Type 0
-IsServeRefusal objects n Told Left left_before left_after out_before out_after journal_before journal_after now
-    fault.DiskFault =
-    ServesClosed objects n Told Left left_before left_after out_before out_after
-IsServeRefusal objects n Told Left left_before left_after out_before out_after journal_before journal_after now
-    fault.ReadFault =
-    ServesSome objects n Told Left left_before left_after (Appends out_before out_after) journal_before journal_after
-    now
-IsServeRefusal objects n Told Left left_before left_after out_before out_after journal_before journal_after now
-    fault.WriteFault =
-    ServesSome objects n Told Left left_before left_after (AppendsPrefix out_before out_after) journal_before
-    journal_after now
-IsServeRefusal objects n Told Left left_before left_after out_before out_after journal_before journal_after now
-    fault.Memory =
-    ServesSome objects n Told Left left_before left_after (AppendsPrefix out_before out_after) journal_before
-    journal_after now
-    ⊎ ServesClosed objects n Told Left left_before left_after out_before out_after
-IsServeRefusal objects n Told Left left_before left_after out_before out_after journal_before journal_after now _ = ⊥
+abbrev pub IsServeRefusal : (Told : List (List ℕ) → Type 0) (Left : (turns last : List Turn) → Type 0)
+    (before after : Io) → NodeFault → Type 0
+IsServeRefusal Told Left before after fault.DiskFault = ServesClosed Told Left before after
+IsServeRefusal Told Left before after fault.ReadFault = ServesSome Told Left Appends before after
+IsServeRefusal Told Left before after fault.WriteFault = ServesSome Told Left AppendsPrefix before after
+IsServeRefusal Told Left before after fault.Memory =
+    ServesSome Told Left AppendsPrefix before after ⊎ ServesClosed Told Left before after
+IsServeRefusal Told Left before after _ = ⊥

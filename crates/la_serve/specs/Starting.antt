@@ -1,63 +1,73 @@
 -- A node that plays its journal and then takes lines.
 use Rattle.std.specs.Prelude.{◌≡◌, ◌⊎◌, ℕ, List, [], Option, Some, None}
 use Rattle.la_object.specs.declared.kind.Kind.{Kind}
+use Rattle.la_object.specs.Shelves.{ShelfState}
 use Rattle.la_journal.specs.Lines.{lines}
 use Rattle.la_journal.specs.Journal.{IsDamaged}
-use Rattle.la_world.specs.declared.config.Config.{Config}
-use Rattle.la_world.specs.declared.error.WorldError.TheVariants as world
-use Rattle.la_world.specs.Nodes.{node_at_start, IsStartRefusal}
+use Rattle.la_node.specs.declared.error.WorldError.TheVariants as world
+use Rattle.la_node.specs.Nodes.{IsStartRefusal}
 use Rattle.la_durable.specs.Nodes.{KeptState, empty_shelf}
-use Rattle.la_durable.specs.Restarts.{kept_state, leads_from}
+use Rattle.la_durable.specs.Restarts.{leads_from}
+use Rattle.la_io.specs.Streams.{TellsAll}
 use Rattle.la_serve.specs.declared.error.NodeFault.{NodeFault}
 use Rattle.la_serve.specs.declared.error.NodeFault.TheVariants as fault
-use Rattle.la_serve.specs.Turns.{Turn}
-use Rattle.la_serve.specs.Serving.{ServesLines, IsServeRefusal}
-
--- what a new node keeps
-abbrev pub at_start : Config → (own : ℕ) → KeptState
-at_start config own = kept_state config.replicas (node_at_start config own empty_shelf)
+use Rattle.la_serve.specs.declared.options.Options.{Options}
+use Rattle.la_serve.specs.Io.{Streams, Facts, facts, io_with}
+use Rattle.la_serve.specs.Serving.{ServesAll, IsServeRefusal}
+use Rattle.la_serve.specs.Crashes.{at_start, LeftBy}
 
 -- where the journal leads the lines of an input were taken, all of them
-pub record Runs (objects : List (ℕ × Kind)) (config : Config) (own : ℕ) (file : List ℕ) (Told : List (List ℕ) → Type 0)
-    (Left : KeptState → (turns last : List Turn) → Type 0) (left_before left_after out_before out_after : Option (List ℕ))
-    : Type 0 where
+pub record RunsAll {D R W E : Type 0} (f : Facts D R W E) (objects : List (ℕ × Kind)) (options : Options) (disk : D)
+    (old new : Streams R W E) : Type 0 where
   pub before : KeptState
-  pub plays : leads_from (at_start config own) file ≡ Some before
+  pub plays : leads_from (at_start options.config options.own) (f.seen disk) ≡ Some before
   pub journal : List (List ℕ)
   pub now : KeptState
-  pub serves : ServesLines objects before Told (Left before) left_before left_after out_before out_after (lines file) journal
-      now
+  pub serves : ServesAll (TellsAll f.heard f.refuses old.errors new.errors) (LeftBy f options disk before)
+      (io_with f old objects before (lines (f.seen disk))) (io_with f new objects now journal)
 
 -- or some of them
-pub record RunsCut (objects : List (ℕ × Kind)) (config : Config) (own : ℕ) (file : List ℕ)
-    (Told : List (List ℕ) → Type 0) (Left : KeptState → (turns last : List Turn) → Type 0)
-    (left_before left_after out_before out_after : Option (List ℕ)) (f : NodeFault) : Type 0 where
+pub record RunsCut {D R W E : Type 0} (f : Facts D R W E) (objects : List (ℕ × Kind)) (options : Options) (disk : D)
+    (old new : Streams R W E) (why : NodeFault) : Type 0 where
   pub before : KeptState
-  pub plays : leads_from (at_start config own) file ≡ Some before
+  pub plays : leads_from (at_start options.config options.own) (f.seen disk) ≡ Some before
   pub journal : List (List ℕ)
   pub now : KeptState
-  pub stops : IsServeRefusal objects before Told (Left before) left_before left_after out_before out_after (lines file)
-      journal now f
+  pub stops : IsServeRefusal (TellsAll f.heard f.refuses old.errors new.errors) (LeftBy f options disk before)
+      (io_with f old objects before (lines (f.seen disk))) (io_with f new objects now journal) why
 
 -- nothing was read, written or told
-pub record RunsNot (Told : List (List ℕ) → Type 0) (left_before left_after out_before out_after : Option (List ℕ)) :
-    Type 0 where
-  pub unread : left_after ≡ left_before
-  pub unwritten : out_after ≡ out_before
-  pub untold : Told []
+pub record RunsNot {D R W E : Type 0} (f : Facts D R W E) (old new : Streams R W E) : Type 0 where
+  pub unread : f.remaining new.input ≡ f.remaining old.input
+  pub unwritten : f.contents new.output ≡ f.contents old.output
+  pub untold : TellsAll f.heard f.refuses old.errors new.errors []
 
 -- the journal leads nowhere, or is damaged behind where it leads
-abbrev pub IsUnplayable : Config → (own : ℕ) → (file : List ℕ) → Type 0
-IsUnplayable config own file = (leads_from (at_start config own) file ≡ None) ⊎ IsDamaged file
+abbrev pub IsUnplayable : Options → (file : List ℕ) → Type 0
+IsUnplayable options file = (leads_from (at_start options.config options.own) file ≡ None) ⊎ IsDamaged file
 
-abbrev pub IsServerStartRefusal : (objects : List (ℕ × Kind)) (config : Config) (own : ℕ) (file : List ℕ)
-    (Told : List (List ℕ) → Type 0) (Left : KeptState → (turns last : List Turn) → Type 0)
-    (left_before left_after out_before out_after : Option (List ℕ)) → NodeFault → Type 0
-IsServerStartRefusal objects config own file Told Left left_before left_after out_before out_after fault.BadConfig =
-    RunsNot Told left_before left_after out_before out_after
-    × (IsStartRefusal config own empty_shelf world.BadConfig ⊎ IsStartRefusal config own empty_shelf world.NoSuchReplica)
-IsServerStartRefusal objects config own file Told Left left_before left_after out_before out_after fault.BadJournal =
-    RunsNot Told left_before left_after out_before out_after × IsUnplayable config own file
-IsServerStartRefusal objects config own file Told Left left_before left_after out_before out_after f =
-    RunsNot Told left_before left_after out_before out_after
-    ⊎ RunsCut objects config own file Told Left left_before left_after out_before out_after f
+abbrev pub IsServerStartRefusal : {D R W E : Type 0} → Facts D R W E → (objects : List (ℕ × Kind)) → Options → (disk : D)
+    → (old new : Streams R W E) → NodeFault → Type 0
+IsServerStartRefusal f objects options disk old new fault.BadConfig =
+    RunsNot f old new × (IsStartRefusal options.config options.own empty_shelf world.BadConfig
+    ⊎ IsStartRefusal options.config options.own empty_shelf world.NoSuchReplica)
+IsServerStartRefusal f objects options disk old new fault.BadJournal =
+    RunsNot f old new × IsUnplayable options (f.seen disk)
+IsServerStartRefusal f objects options disk old new why =
+    RunsNot f old new ⊎ RunsCut f objects options disk old new why
+
+-- ## By what the traits state
+
+abbrev pub Runs : {D R W E : Type 0} (seen : D → List ℕ) (may_leave : D → List ℕ → Type 0) (moment : D → ℕ)
+    (left_since : D → ℕ → List ℕ → Type 0) (remaining : R → Option (List ℕ)) (contents : W → Option (List ℕ))
+    (heard : E → Option (List ℕ)) (refuses : E → List ℕ → E → Type 0)
+    → ShelfState → Options → (disk : D) → (old new : Streams R W E) → Type 0
+Runs seen may_leave moment left_since remaining contents heard refuses shelf =
+    RunsAll (facts seen may_leave moment left_since remaining contents heard refuses) shelf.objects
+
+abbrev pub Stops : {D R W E : Type 0} (seen : D → List ℕ) (may_leave : D → List ℕ → Type 0) (moment : D → ℕ)
+    (left_since : D → ℕ → List ℕ → Type 0) (remaining : R → Option (List ℕ)) (contents : W → Option (List ℕ))
+    (heard : E → Option (List ℕ)) (refuses : E → List ℕ → E → Type 0)
+    → ShelfState → Options → (disk : D) → (old new : Streams R W E) → NodeFault → Type 0
+Stops seen may_leave moment left_since remaining contents heard refuses shelf =
+    IsServerStartRefusal (facts seen may_leave moment left_since remaining contents heard refuses) shelf.objects

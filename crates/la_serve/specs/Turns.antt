@@ -16,7 +16,7 @@ use Rattle.la_replica.specs.Again.{again}
 use Rattle.la_replica.specs.Bases.{AreToldIn}
 use Rattle.la_replica.specs.Steps.{learnt_in}
 use Rattle.la_replica.specs.ReplicaState.{ReplicaState, submitted_in}
-use Rattle.la_wire.specs.declared.calls.TheConstants.{MAX_LINE}
+use Rattle.la_io.specs.declared.source.TheConstants.{MAX_LINE}
 use Rattle.la_wire.specs.declared.error.LineFault.{LineFault}
 use Rattle.la_wire.specs.declared.error.LineFault.TheVariants.{TooLong}
 use Rattle.la_wire.specs.declared.error.LineError.TheVariants.{Fault}
@@ -33,7 +33,7 @@ use Rattle.la_durable.specs.Inputs.{IsInputRefusal}
 use Rattle.la_serve.specs.declared.keeping.Kept.{Kept}
 use Rattle.la_serve.specs.declared.keeping.Kept.TheVariants as kept
 use Rattle.la_serve.specs.Names.{refusal_name}
-use Rattle.la_io.specs.Notes.{submitted_note, proposed_note, learnt_note, view_note, outcome_note, answered_note, refused_note, line_fault_line, letters_text}
+use Rattle.la_wire.specs.Notes.{submitted_note, proposed_note, learnt_note, view_note, outcome_note, answered_note, refused_note, line_fault_line, letters_text}
 
 abbrev pub own_of : KeptState → ℕ
 own_of n = n.replica.own

@@ -1,35 +1,30 @@
 // What a node does with one line.
-ghost use Rattle.std.specs.Prelude.{List, ℕ, ◌≡◌, ◌⊎◌, ◌≢◌, ◌+◌, ◌<◌, ◌≤◌, ◌++◌, ◌∷◌, [], length, false, true, Some, IfOk, IfErr, OnOk, OnErr};
-ghost use Rattle.std.specs.Io.KnownBytes.{Keeps};
-ghost use Rattle.la_cli.specs.Streams.{Writes, WritesPrefix};
-ghost use Rattle.la_journal.specs.Lines.{lines};
-ghost use Rattle.la_wire.specs.declared.calls.TheConstants.{MAX_LINE};
+ghost use Rattle.std.specs.Prelude.{◌≡◌, ◌≤◌, length, true, IfErr, OnOk, OnErr};
+ghost use Rattle.la_io.specs.Streams.{Writes, WritesPrefix};
+ghost use Rattle.la_io.specs.declared.source.TheConstants.{MAX_LINE};
 ghost use Rattle.la_wire.specs.Calls.{called};
 ghost use Rattle.la_wire.specs.Messages.{said_body};
-ghost use Rattle.la_wire.specs.CallLines.{named_call};
-ghost use Rattle.la_serve.specs.declared.error.NodeFault.TheVariants.{WriteFault};
-ghost use Rattle.la_io.specs.Notes.{refused_note, line_fault_line};
-ghost use Rattle.la_io.specs.Streams.{TellsLine, TellsAll};
-ghost use Rattle.la_durable.specs.Restarts.{kept_state};
+ghost use Rattle.la_io.specs.Streams.{TellsAll};
+ghost use Rattle.la_durable.specs.Nodes.{kept_by};
 ghost use Rattle.la_set.specs.Inclusion.{IsSubset};
-ghost use Rattle.la_serve.specs.Turns.{Turn, is_note, is_elsewhere, IsKeptTurn, IsAnsweredTurn, IsTicked, IsCallTurn, IsTurnHere, IsTurn, is_stale, is_told_known};
+ghost use Rattle.la_serve.specs.Turns.{is_note, is_elsewhere, IsKeptTurn, IsCallTurn, IsTurnHere, is_stale, is_told_known};
 ghost use Rattle.la_object.specs.Shelves.{answer_at};
 ghost use Rattle.la_serve.specs.Said.{said_text, IsSaidAnswer, answer_by, IsSaidAgain};
-ghost use Rattle.la_serve.specs.Serving.{Of, TakesLine, TakesCut, Breaks, TellsNoLine};
+ghost use Rattle.la_serve.specs.Io.{io_of, TakesLines, OnlyStages};
+ghost use Rattle.la_serve.specs.Serving.{OfLine, OfCall, TakesLine, Breaks, TellsNoLine};
 
 use crate::keeping::{Kept, keep};
 use crate::names::refusal_name;
 use crate::said::Said;
 use crate::texts::{answer_text, mail_text, text_of};
-use crate::{Filter, NodeFault};
-use la_cli::{Listener, WriteFailed};
+use crate::{NodeFault, Server};
 use la_durable::{Input, NodeMachine};
-use la_io::{refuse, tell_fault, write_lines};
-use la_journal::{Disk, Staged};
+use la_io::{Listener, WriteFailed, write_lines};
+use la_journal::Disk;
 use la_object::{Query, Replicated, Shelf, ShelfError};
 use la_replica::Body;
 use la_set::UpdateSet;
-use la_wire::{Call, LineError, LineFault};
+use la_wire::{Call, LineError, LineFault, refuse, tell_fault};
 use std::alloc::Global;
 use std::io::Write;
 
@@ -45,7 +40,7 @@ fn is_note(line: &[u8]) -> bool
 
 // Whether a call is for another node.
 fn is_elsewhere(machine: &NodeMachine, call: &Call) -> bool
-    ensures { result ≡ is_elsewhere (kept_state machine.now.replicas machine.now.node) (called call.now) }
+    ensures { result ≡ is_elsewhere (kept_by machine.now) (called call.now) }
 {
     let own = machine.node.own();
     match call {
@@ -59,7 +54,7 @@ fn is_elsewhere(machine: &NodeMachine, call: &Call) -> bool
 
 // Whether a message brings no news.
 fn is_stale(machine: &NodeMachine, call: &Call) -> bool
-    ensures { result ≡ is_stale (kept_state machine.now.replicas machine.now.node) (called call.now) }
+    ensures { result ≡ is_stale (kept_by machine.now) (called call.now) }
 {
     match call {
         Call::Receive(letter) => {
@@ -80,28 +75,24 @@ fn is_known(view: &UpdateSet, body: &Body) -> bool
 }
 
 // A call that is kept: its line is staged.
-fn take<W: Write, D: Disk>(
+fn take<W: Write, D: Disk, B: Replicated>(
     alloc: Global,
-    node: &mut Staged<NodeMachine, D>,
+    server: &mut Server<D, B>,
     number: u64,
     input: &Input,
     output: &mut W,
 ) -> Result<(), NodeFault>
-    requires unclosed { node.old.durable.closed ≡ false }
-    ensures ok { OnOk result (TakesLine (Of input.now.line (IsKeptTurn (kept_state node.old.durable.machine.replicas node.old.durable.machine.node) number (called input.now.call))) TellsNoLine (W.contents output.old) (W.contents output.new)
-        (lines node.old.text.items) (lines node.new.text.items) (kept_state node.new.durable.machine.replicas node.new.durable.machine.node)) }
-    ensures err { IfErr result (Breaks (Of input.now.line (IsKeptTurn (kept_state node.old.durable.machine.replicas node.old.durable.machine.node) number (called input.now.call))) TellsNoLine (W.contents output.old) (W.contents output.new)
-        (lines node.old.text.items) (lines node.new.text.items) (kept_state node.new.durable.machine.replicas node.new.durable.machine.node)) }
-    ensures disk { node.new.durable.disk ≡ node.old.durable.disk }
-    ensures unclosed { node.new.durable.closed ≡ false }
-    ensures grows { IsSubset node.old.durable.machine.node.replica.view node.new.durable.machine.node.replica.view }
+    requires { TakesLines server.old }
+    ensures ok { OnOk result (TakesLine (OfCall input.now (λ _. IsKeptTurn) number) TellsNoLine (io_of (W.contents output.old) server.old) (io_of (W.contents output.new) server.new)) }
+    ensures err { IfErr result (Breaks (OfCall input.now (λ _. IsKeptTurn) number) TellsNoLine (io_of (W.contents output.old) server.old) (io_of (W.contents output.new) server.new)) }
+    ensures stages { OnlyStages server.old server.new }
 {
-    let own = node.durable.machine.node.own();
-    let before = node.durable.machine.node.view().len();
-    match keep(alloc, node, input) {
+    let own = server.node.durable.machine.node.own();
+    let before = server.node.durable.machine.node.view().len();
+    match keep(alloc, &mut server.node, input) {
         Kept::Taken(given) => match text_of(
             alloc,
-            &node.durable.machine,
+            &server.node.durable.machine,
             before,
             input.call(),
             &given,
@@ -159,7 +150,7 @@ fn said_by_view<B: Replicated>(
 ) -> Said
     requires { IsSubset shelf.old.view machine.now.node.replica.view }
     ensures said { IsSaidAnswer machine.now.node.replica.own object
-        (answer_by shelf.old.objects (kept_state machine.now.replicas machine.now.node) object query.now) result }
+        (answer_by shelf.old.objects (kept_by machine.now) object query.now) result }
     ensures objects { shelf.new.objects ≡ shelf.old.objects }
     ensures within { IsSubset shelf.new.view machine.now.node.replica.view }
 {
@@ -171,7 +162,7 @@ fn said_by_view<B: Replicated>(
 
 // What waits for an answer, once more.
 fn said_again(alloc: Global, machine: &NodeMachine) -> Said
-    ensures { IsSaidAgain (kept_state machine.now.replicas machine.now.node) result }
+    ensures { IsSaidAgain (kept_by machine.now) result }
 {
     let Ok(mail) = machine.node.again() else {
         return Said::Memory;
@@ -194,82 +185,35 @@ fn put<W: Write>(output: &mut W, own: u8, number: u64, said: &Said) -> Result<()
     }
 }
 
-// A question: the shelf absorbs the view first.
-fn ask<W: Write, B: Replicated>(
-    alloc: Global,
-    machine: &NodeMachine,
-    shelf: &mut Shelf<B>,
-    number: u64,
-    object: u16,
-    query: &Query,
-    output: &mut W,
-) -> Result<(), NodeFault>
-    requires { IsSubset shelf.old.view machine.now.node.replica.view }
-    ensures ok { (line : List ℕ) (journal : List (List ℕ)) → OnOk result
-        (TakesLine (Of line (IsAnsweredTurn shelf.old.objects (kept_state machine.now.replicas machine.now.node) number object query.now))
-        TellsNoLine (W.contents output.old) (W.contents output.new) journal journal
-        (kept_state machine.now.replicas machine.now.node)) }
-    ensures err { (line : List ℕ) (journal : List (List ℕ)) → IfErr result
-        (Breaks (Of line (IsAnsweredTurn shelf.old.objects (kept_state machine.now.replicas machine.now.node) number object query.now))
-        TellsNoLine (W.contents output.old) (W.contents output.new) journal journal
-        (kept_state machine.now.replicas machine.now.node)) }
-    ensures objects { shelf.new.objects ≡ shelf.old.objects }
-    ensures within { IsSubset shelf.new.view machine.now.node.replica.view }
-{
-    let said = said_by_view(alloc, machine, shelf, object, query);
-    put(output, machine.node.own(), number, &said)?;
-    Ok(())
-}
-
-// The timer.
-fn tick<W: Write>(
-    alloc: Global,
-    machine: &NodeMachine,
-    number: u64,
-    output: &mut W,
-) -> Result<(), NodeFault>
-    ensures ok { (line : List ℕ) (journal : List (List ℕ)) → OnOk result
-        (TakesLine (Of line (IsTicked (kept_state machine.now.replicas machine.now.node) number))
-        TellsNoLine (W.contents output.old) (W.contents output.new) journal journal
-        (kept_state machine.now.replicas machine.now.node)) }
-    ensures err { (line : List ℕ) (journal : List (List ℕ)) → IfErr result
-        (Breaks (Of line (IsTicked (kept_state machine.now.replicas machine.now.node) number))
-        TellsNoLine (W.contents output.old) (W.contents output.new) journal journal
-        (kept_state machine.now.replicas machine.now.node)) }
-{
-    let said = said_again(alloc, machine);
-    put(output, machine.node.own(), number, &said)?;
-    Ok(())
-}
-
 // A call that is not passed over.
 fn call_here<W: Write, D: Disk, B: Replicated>(
     alloc: Global,
-    filter: &mut Filter<D, B>,
+    server: &mut Server<D, B>,
     number: u64,
     input: &Input,
     output: &mut W,
 ) -> Result<(), NodeFault>
-    requires unclosed { filter.old.node.durable.closed ≡ false }
-    requires within { IsSubset filter.old.shelf.view filter.old.node.durable.machine.node.replica.view }
-    ensures ok { OnOk result (TakesLine (Of input.now.line (IsTurnHere filter.old.shelf.objects (kept_state filter.old.node.durable.machine.replicas filter.old.node.durable.machine.node) number (called input.now.call))) TellsNoLine (W.contents output.old) (W.contents output.new)
-        (lines filter.old.node.text.items) (lines filter.new.node.text.items) (kept_state filter.new.node.durable.machine.replicas filter.new.node.durable.machine.node)) }
-    ensures err { IfErr result (Breaks (Of input.now.line (IsTurnHere filter.old.shelf.objects (kept_state filter.old.node.durable.machine.replicas filter.old.node.durable.machine.node) number (called input.now.call))) TellsNoLine (W.contents output.old) (W.contents output.new)
-        (lines filter.old.node.text.items) (lines filter.new.node.text.items) (kept_state filter.new.node.durable.machine.replicas filter.new.node.durable.machine.node)) }
-    ensures disk { filter.new.node.durable.disk ≡ filter.old.node.durable.disk }
-    ensures unclosed { filter.new.node.durable.closed ≡ false }
-    ensures objects { filter.new.shelf.objects ≡ filter.old.shelf.objects }
-    ensures within { IsSubset filter.new.shelf.view filter.new.node.durable.machine.node.replica.view }
+    requires { TakesLines server.old }
+    ensures ok { OnOk result (TakesLine (OfCall input.now IsTurnHere number) TellsNoLine (io_of (W.contents output.old) server.old) (io_of (W.contents output.new) server.new)) }
+    ensures err { IfErr result (Breaks (OfCall input.now IsTurnHere number) TellsNoLine (io_of (W.contents output.old) server.old) (io_of (W.contents output.new) server.new)) }
+    ensures stages { OnlyStages server.old server.new }
 {
     match input.call() {
         Call::Ask { object, query, .. } => {
-            let Filter { node, shelf } = filter;
+            let Server { node, shelf } = server;
             let machine = &node.durable.machine;
-            ask(alloc, machine, shelf, number, *object, query, output)
+            let said = said_by_view(alloc, machine, shelf, *object, query);
+            put(output, machine.node.own(), number, &said)?;
+            Ok(())
         }
-        Call::Tick => tick(alloc, &filter.node.durable.machine, number, output),
+        Call::Tick => {
+            let machine = &server.node.durable.machine;
+            let said = said_again(alloc, machine);
+            put(output, machine.node.own(), number, &said)?;
+            Ok(())
+        }
         Call::Submit { .. } | Call::Decide { .. } | Call::Receive(_) => {
-            take(alloc, &mut filter.node, number, input, output)
+            take(alloc, server, number, input, output)
         }
     }
 }
@@ -277,55 +221,43 @@ fn call_here<W: Write, D: Disk, B: Replicated>(
 // A line that says a call.
 fn call<W: Write, D: Disk, B: Replicated>(
     alloc: Global,
-    filter: &mut Filter<D, B>,
+    server: &mut Server<D, B>,
     number: u64,
     input: &Input,
     output: &mut W,
 ) -> Result<(), NodeFault>
-    requires unclosed { filter.old.node.durable.closed ≡ false }
-    requires within { IsSubset filter.old.shelf.view filter.old.node.durable.machine.node.replica.view }
-    ensures ok { OnOk result (TakesLine (Of input.now.line (IsCallTurn filter.old.shelf.objects (kept_state filter.old.node.durable.machine.replicas filter.old.node.durable.machine.node) number (called input.now.call))) TellsNoLine (W.contents output.old) (W.contents output.new)
-        (lines filter.old.node.text.items) (lines filter.new.node.text.items) (kept_state filter.new.node.durable.machine.replicas filter.new.node.durable.machine.node)) }
-    ensures err { IfErr result (Breaks (Of input.now.line (IsCallTurn filter.old.shelf.objects (kept_state filter.old.node.durable.machine.replicas filter.old.node.durable.machine.node) number (called input.now.call))) TellsNoLine (W.contents output.old) (W.contents output.new)
-        (lines filter.old.node.text.items) (lines filter.new.node.text.items) (kept_state filter.new.node.durable.machine.replicas filter.new.node.durable.machine.node)) }
-    ensures disk { filter.new.node.durable.disk ≡ filter.old.node.durable.disk }
-    ensures unclosed { filter.new.node.durable.closed ≡ false }
-    ensures objects { filter.new.shelf.objects ≡ filter.old.shelf.objects }
-    ensures within { IsSubset filter.new.shelf.view filter.new.node.durable.machine.node.replica.view }
+    requires { TakesLines server.old }
+    ensures ok { OnOk result (TakesLine (OfCall input.now IsCallTurn number) TellsNoLine (io_of (W.contents output.old) server.old) (io_of (W.contents output.new) server.new)) }
+    ensures err { IfErr result (Breaks (OfCall input.now IsCallTurn number) TellsNoLine (io_of (W.contents output.old) server.old) (io_of (W.contents output.new) server.new)) }
+    ensures stages { OnlyStages server.old server.new }
 {
     let call = input.call();
-    if is_elsewhere(&filter.node.durable.machine, call)
-        || is_stale(&filter.node.durable.machine, call)
+    if is_elsewhere(&server.node.durable.machine, call)
+        || is_stale(&server.node.durable.machine, call)
     {
         return Ok(());
     }
-    call_here(alloc, filter, number, input, output)
+    call_here(alloc, server, number, input, output)
 }
 
-/// Takes line `number` of an input, which has at most [`la_wire::MAX_LINE`] bytes, without its end. Where it is
+/// Takes line `number` of an input, which has at most [`la_io::MAX_LINE`] bytes, without its end. Where it is
 /// kept it is staged: what is written of it may go out only once that is committed.
 ///
 /// `WriteFault` comes where a write fails, and `Memory` where the lines find no room: then a front of
 /// them is written, and the call is staged.
 pub fn answer<W: Write, E: Listener, D: Disk, B: Replicated>(
     alloc: Global,
-    filter: &mut Filter<D, B>,
+    server: &mut Server<D, B>,
     number: u64,
     line: &[u8],
     output: &mut W,
     errors: &mut E,
 ) -> Result<(), NodeFault>
     requires short { length line.now ≤ MAX_LINE }
-    requires unclosed { filter.old.node.durable.closed ≡ false }
-    requires within { IsSubset filter.old.shelf.view filter.old.node.durable.machine.node.replica.view }
-    ensures ok { OnOk result (TakesLine (Of line.now (IsTurn filter.old.shelf.objects (kept_state filter.old.node.durable.machine.replicas filter.old.node.durable.machine.node) number)) (TellsAll E.contents E.refuses errors.old errors.new) (W.contents output.old) (W.contents output.new)
-        (lines filter.old.node.text.items) (lines filter.new.node.text.items) (kept_state filter.new.node.durable.machine.replicas filter.new.node.durable.machine.node)) }
-    ensures err { IfErr result (Breaks (Of line.now (IsTurn filter.old.shelf.objects (kept_state filter.old.node.durable.machine.replicas filter.old.node.durable.machine.node) number)) (TellsAll E.contents E.refuses errors.old errors.new) (W.contents output.old) (W.contents output.new)
-        (lines filter.old.node.text.items) (lines filter.new.node.text.items) (kept_state filter.new.node.durable.machine.replicas filter.new.node.durable.machine.node)) }
-    ensures disk { filter.new.node.durable.disk ≡ filter.old.node.durable.disk }
-    ensures unclosed { filter.new.node.durable.closed ≡ false }
-    ensures objects { filter.new.shelf.objects ≡ filter.old.shelf.objects }
-    ensures within { IsSubset filter.new.shelf.view filter.new.node.durable.machine.node.replica.view }
+    requires takes { TakesLines server.old }
+    ensures ok { OnOk result (TakesLine (OfLine line.now number) (TellsAll E.contents E.refuses errors.old errors.new) (io_of (W.contents output.old) server.old) (io_of (W.contents output.new) server.new)) }
+    ensures err { IfErr result (Breaks (OfLine line.now number) (TellsAll E.contents E.refuses errors.old errors.new) (io_of (W.contents output.old) server.old) (io_of (W.contents output.new) server.new)) }
+    ensures stages { OnlyStages server.old server.new }
 {
     if is_note(line) {
         return Ok(());
@@ -334,7 +266,7 @@ pub fn answer<W: Write, E: Listener, D: Disk, B: Replicated>(
         Ok(input) => {
             // a hint to the prover: what the input says
             let _call = input.call();
-            call(alloc, filter, number, &input, output)
+            call(alloc, server, number, &input, output)
         }
         Err(LineError::Fault(fault)) => {
             tell_fault(errors, number, fault);
@@ -343,7 +275,7 @@ pub fn answer<W: Write, E: Listener, D: Disk, B: Replicated>(
         Err(LineError::Memory) => {
             refuse(
                 output,
-                filter.node.durable.machine.node.own(),
+                server.node.durable.machine.node.own(),
                 number,
                 "Memory",
             )?;

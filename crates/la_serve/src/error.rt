@@ -2,8 +2,7 @@ ghost use Rattle.std.specs.Prelude.{◌≡◌};
 ghost use Rattle.la_serve.specs.declared.error.NodeFault.TheVariants.{WriteFault};
 ghost use Rattle.la_serve.specs.Faults.{of_source};
 
-use la_cli::WriteFailed;
-use la_io::SourceFault;
+use la_io::{SourceFault, WriteFailed};
 use thiserror::Error;
 
 /// Why a node ended before its input did. It is shown as the program tells it.

@@ -3,12 +3,12 @@ ghost use Rattle.std.specs.Prelude.{◌≡◌, false};
 ghost use Rattle.la_set.specs.Inclusion.{IsSubset};
 ghost use Rattle.la_journal.specs.Lines.{lines};
 ghost use Rattle.la_wire.specs.Calls.{called};
-ghost use Rattle.la_durable.specs.Restarts.{kept_state};
+ghost use Rattle.la_durable.specs.Nodes.{kept_by};
 ghost use Rattle.la_serve.specs.Turns.{IsOutcome};
 
 use la_durable::{Input, NodeError, NodeMachine, laws};
 use la_journal::{Disk, Staged, Unstaged};
-use la_world::Received;
+use la_node::Received;
 use std::alloc::Global;
 
 /// What became of a call that is to be kept.
@@ -23,9 +23,8 @@ pub enum Kept {
 /// Takes a call and stages its line.
 pub fn keep<D: Disk>(alloc: Global, node: &mut Staged<NodeMachine, D>, input: &Input) -> Kept
     requires unclosed { node.old.durable.closed ≡ false }
-    ensures outcome { IsOutcome (kept_state node.old.durable.machine.replicas node.old.durable.machine.node)
-        (kept_state node.new.durable.machine.replicas node.new.durable.machine.node) (called input.now.call) input.now.line
-        (lines node.old.text.items) (lines node.new.text.items) result }
+    ensures outcome { IsOutcome (kept_by node.old.durable.machine) (kept_by node.new.durable.machine)
+        (called input.now.call) input.now.line (lines node.old.text.items) (lines node.new.text.items) result }
     ensures unclosed { node.new.durable.closed ≡ false }
     ensures disk { node.new.durable.disk ≡ node.old.durable.disk }
     ensures grows { IsSubset node.old.durable.machine.node.replica.view node.new.durable.machine.node.replica.view }

@@ -7,18 +7,18 @@
 
 mod answering;
 mod error;
-mod filter;
 mod keeping;
 mod names;
 mod options;
 mod said;
+mod server;
 mod serving;
 mod shelf;
 mod starting;
 mod texts;
 
 pub use error::NodeFault;
-pub use filter::Filter;
 pub use options::{Options, command};
+pub use server::Server;
 pub use serving::serve;
 pub use starting::{end_with, run};

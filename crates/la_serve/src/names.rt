@@ -5,8 +5,8 @@ ghost use Rattle.la_serve.specs.Ending.{end_name};
 
 use crate::NodeFault;
 use la_durable::NodeError;
+use la_node::WorldError;
 use la_replica::ReplicaError;
-use la_world::WorldError;
 
 fn replica_name(refusal: ReplicaError) -> &'static str
     ensures text { result.now ≡ replica_name refusal }

@@ -4,7 +4,7 @@ ghost use Rattle.clap.specs.Words.{app_of, found_of, rows_of, rule_of, HasKind, 
 ghost use Rattle.clap.specs.Words.{many_of, with_subcommand};
 ghost use Rattle.clap.specs.declared.builder.command.Command.TheViews.{out-Command as fields_of};
 ghost use Rattle.clap.specs.declared.builder.value_parser.ValueParser.TheVariants.{Signed};
-ghost use Rattle.la_cli.specs.Calls.{option, lattice_alone};
+ghost use Rattle.la_cli.specs.Calls.{lattice_alone};
 ghost use Rattle.la_serve.specs.Options.{number_option as number_rule, own as own_rule, votes_option as votes_rule};
 ghost use Rattle.la_serve.specs.Options.{journal_option as journal_rule, node, node_named, lattice_node};
 ghost use Rattle.la_serve.specs.Options.{AreNodeOptions, IsSaid, IsVotes, SaysOptions};
@@ -12,9 +12,9 @@ ghost use Rattle.la_serve.specs.Options.{AreNodeOptions, IsSaid, IsVotes, SaysOp
 use arrayvec::ArrayVec;
 use clap::builder::ValueParser;
 use clap::{Arg, ArgMatches, Command, Error, value_parser};
-use la_cli::{ABOUT_NODE, VERSION};
+use la_cli::{ABOUT_NODE, VERSION, with_number};
+use la_node::Config;
 use la_proposer::Votes;
-use la_world::Config;
 use std::alloc::{AllocError, Global};
 
 /// What a node is called with.
@@ -39,24 +39,6 @@ fn number<'a>(alloc: Global, name: &'a str, parser: ValueParser<'a>, help: &'a s
         .value_name("N")
         .value_parser(parser)
         .help(help)
-}
-
-// The command with one more option with a number, which may be left out.
-fn with_number<'a>(
-    alloc: Global,
-    command: Command<'a>,
-    name: &'a str,
-    parser: ValueParser<'a>,
-    otherwise: &'a str,
-    help: &'a str,
-) -> Result<Command<'a>, AllocError>
-    ensures app { (least most : _) → parser.entry ≡ Signed (pos least) (pos most)
-        → IfOk result (λ made. app_of made ≡ with_rule (app_of command.entry)
-        (option name.entry.now least most otherwise.entry.now)) }
-    ensures local { (fields_of command.entry).has_globals ≡ false
-        → IfOk result (λ made. (fields_of made).has_globals ≡ false) }
-{
-    command.arg(number(alloc, name, parser, help).default_value(otherwise))
 }
 
 fn with_own<'a>(alloc: Global, command: Command<'a>) -> Result<Command<'a>, AllocError>

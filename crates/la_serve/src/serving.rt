@@ -1,22 +1,18 @@
-ghost use Rattle.std.specs.Prelude.{◌≡◌, ◌≤◌, ◌++◌, [], true, false, Ok, Some, IfOk, IfErr, OnOk, OnErr};
-ghost use Rattle.std.specs.Io.KnownBytes.{IsAtEnd, Keeps};
-ghost use Rattle.la_cli.specs.Streams.{WritesPrefix};
-ghost use Rattle.la_journal.specs.Lines.{lines};
+ghost use Rattle.std.specs.Prelude.{◌≡◌, [], true, false, IfOk, IfErr, OnOk, OnErr};
+ghost use Rattle.std.specs.Io.KnownBytes.{IsAtEnd};
 ghost use Rattle.la_journal.specs.Durable.{IsSettled};
-ghost use Rattle.la_io.specs.Streams.{ahead, has_line, TellsAll};
-ghost use Rattle.la_set.specs.Inclusion.{IsSubset};
-ghost use Rattle.la_durable.specs.Restarts.{kept_state};
-ghost use Rattle.la_serve.specs.Crashes.{Leaves, Commits, CommitsSome, Flushes, FlushesOrNot};
-ghost use Rattle.la_serve.specs.Serving.{TurnSteps, IsStepRefusal, Unflushed, of_step, ServesLines, IsServeRefusal};
+ghost use Rattle.la_io.specs.Sources.{ahead, has_line};
+ghost use Rattle.la_serve.specs.Io.{TakesLines, OnlyStages, step_at, held_at, io};
+ghost use Rattle.la_serve.specs.Serving.{StepsOn, StopsOn, of_step};
+ghost use Rattle.la_serve.specs.Crashes.{CommitsSome, Flushes, FlushesOrNot, FlushesNot, ServesLines, Ceases};
 
 use crate::answering::answer;
-use crate::{Filter, NodeFault};
-use la_cli::Listener;
+use crate::{NodeFault, Server};
 use la_durable::NodeMachine;
-use la_io::{Next, Source, tell_fault, write_lines};
+use la_io::{Listener, Next, Source, write_lines};
 use la_journal::{Disk, Uncommitted, laws};
 use la_object::Replicated;
-use la_wire::LineFault;
+use la_wire::{LineFault, tell_fault};
 use std::alloc::Global;
 use std::io::{Read, Write};
 
@@ -25,38 +21,23 @@ use std::io::{Read, Write};
 fn step<R: Read, E: Listener, D: Disk, B: Replicated>(
     alloc: Global,
     source: &mut Source,
-    filter: &mut Filter<D, B>,
+    server: &mut Server<D, B>,
     number: u64,
     input: &mut R,
-    output: &mut Vec<u8>,
+    held: &mut Vec<u8>,
     errors: &mut E,
 ) -> Result<bool, NodeFault>
-    requires unclosed { filter.old.node.durable.closed ≡ false }
-    requires within { IsSubset filter.old.shelf.view filter.old.node.durable.machine.node.replica.view }
-    requires flushed { has_line source.old ≡ false → (output.old.items ≡ []) × (filter.old.node.text.items ≡ []) }
+    requires takes { TakesLines server.old }
+    requires flushed { has_line source.old ≡ false → (held.old.items ≡ []) × (server.old.node.text.items ≡ []) }
     requires over { source.old.over ≡ true → IsAtEnd (ahead source.old (R.remaining input.old)) }
-    ensures ok { IfOk result (TurnSteps filter.old.shelf.objects (kept_state filter.old.node.durable.machine.replicas filter.old.node.durable.machine.node) number (TellsAll E.contents E.refuses errors.old errors.new)
-        (ahead source.old (R.remaining input.old)) (ahead source.new (R.remaining input.new)) (Some output.old.items) (Some output.new.items)
-        (lines filter.old.node.text.items) (lines filter.new.node.text.items) (kept_state filter.new.node.durable.machine.replicas filter.new.node.durable.machine.node)) }
-    ensures err { IfErr result (IsStepRefusal filter.old.shelf.objects (kept_state filter.old.node.durable.machine.replicas filter.old.node.durable.machine.node) number (TellsAll E.contents E.refuses errors.old errors.new)
-        (ahead source.old (R.remaining input.old)) (ahead source.new (R.remaining input.new)) (Some output.old.items) (Some output.new.items)
-        (lines filter.old.node.text.items) (lines filter.new.node.text.items) (kept_state filter.new.node.durable.machine.replicas filter.new.node.durable.machine.node)) }
+    ensures ok { IfOk result (StepsOn R.remaining E.contents E.refuses number (step_at source.old input.old held.old.items errors.old server.old) (step_at source.new input.new held.new.items errors.new server.new)) }
+    ensures err { IfErr result (StopsOn R.remaining E.contents E.refuses number (step_at source.old input.old held.old.items errors.old server.old) (step_at source.new input.new held.new.items errors.new server.new)) }
     ensures over { source.new.over ≡ true → IsAtEnd (ahead source.new (R.remaining input.new)) }
-    ensures disk { filter.new.node.durable.disk ≡ filter.old.node.durable.disk }
-    ensures unclosed { filter.new.node.durable.closed ≡ false }
-    ensures objects { filter.new.shelf.objects ≡ filter.old.shelf.objects }
-    ensures within { IsSubset filter.new.shelf.view filter.new.node.durable.machine.node.replica.view }
+    ensures stages { OnlyStages server.old server.new }
 {
     match source.next(input)? {
         Next::Line => {
-            answer(
-                alloc,
-                filter,
-                number,
-                source.line.as_slice(),
-                output,
-                errors,
-            )?;
+            answer(alloc, server, number, source.line.as_slice(), held, errors)?;
             Ok(true)
         }
         Next::Long => {
@@ -73,24 +54,20 @@ fn step<R: Read, E: Listener, D: Disk, B: Replicated>(
 
 // Puts what was staged on the disk, and then writes what was held back.
 fn flush<W: Write, D: Disk, B: Replicated>(
-    filter: &mut Filter<D, B>,
+    server: &mut Server<D, B>,
     held: &mut Vec<u8>,
     output: &mut W,
 ) -> Result<(), NodeFault>
-    requires settled { IsSettled D.seen D.may_leave filter.old.node.durable.disk }
-    requires unclosed { filter.old.node.durable.closed ≡ false }
-    ensures ok { OnOk result (Flushes D.seen D.may_leave D.moment D.left_since (W.contents output.old) (W.contents output.new)
-        held.old.items held.new.items filter.old.node.text.items filter.new.node.text.items filter.old.node.durable.disk filter.new.node.durable.disk) }
-    ensures err { IfErr result (Unflushed (Keeps (W.contents output.old) (W.contents output.new))
-        (WritesPrefix W.contents output.old output.new held.old.items
-        × Commits D.seen D.may_leave filter.old.node.text.items filter.old.node.durable.disk filter.new.node.durable.disk)) }
-    ensures any_moment { CommitsSome D.seen D.moment D.left_since filter.old.node.text.items filter.old.node.durable.disk filter.new.node.durable.disk }
-    ensures settled { filter.new.node.durable.closed ≡ false → IsSettled D.seen D.may_leave filter.new.node.durable.disk }
-    ensures unclosed { OnOk result (filter.new.node.durable.closed ≡ false) }
-    ensures machine { filter.new.node.durable.machine ≡ filter.old.node.durable.machine }
-    ensures shelf { filter.new.shelf ≡ filter.old.shelf }
+    requires settled { IsSettled D.seen D.may_leave server.old.node.durable.disk }
+    requires unclosed { server.old.node.durable.closed ≡ false }
+    ensures ok { OnOk result (Flushes D.seen D.may_leave D.moment D.left_since W.contents (held_at output.old held.old.items server.old) (held_at output.new held.new.items server.new)) }
+    ensures err { IfErr result (FlushesNot D.seen D.may_leave W.contents (held_at output.old held.old.items server.old) (held_at output.new held.new.items server.new)) }
+    ensures any_moment { CommitsSome D.seen D.moment D.left_since server.old.node.text.items server.old.node.durable.disk server.new.node.durable.disk }
+    ensures settled { server.new.node.durable.closed ≡ false → IsSettled D.seen D.may_leave server.new.node.durable.disk }
+    ensures unclosed { OnOk result (server.new.node.durable.closed ≡ false) }
+    ensures same { (server.new.node.durable.machine ≡ server.old.node.durable.machine) × (server.new.shelf ≡ server.old.shelf) }
 {
-    match filter.node.commit() {
+    match server.node.commit() {
         Ok(()) => {
             write_lines(output, held)?;
             held.clear();
@@ -104,28 +81,24 @@ fn flush<W: Write, D: Disk, B: Replicated>(
 // The same, where the next line has still to be read, so that no answer waits for that.
 fn prepare<W: Write, D: Disk, B: Replicated>(
     source: &Source,
-    filter: &mut Filter<D, B>,
+    server: &mut Server<D, B>,
     held: &mut Vec<u8>,
     output: &mut W,
 ) -> Result<(), NodeFault>
-    requires settled { IsSettled D.seen D.may_leave filter.old.node.durable.disk }
-    requires unclosed { filter.old.node.durable.closed ≡ false }
-    ensures ok { OnOk result (FlushesOrNot D.seen D.may_leave D.moment D.left_since (W.contents output.old) (W.contents output.new)
-        held.old.items held.new.items filter.old.node.text.items filter.new.node.text.items filter.old.node.durable.disk filter.new.node.durable.disk) }
-    ensures err { IfErr result (Unflushed (Keeps (W.contents output.old) (W.contents output.new))
-        (WritesPrefix W.contents output.old output.new held.old.items
-        × Commits D.seen D.may_leave filter.old.node.text.items filter.old.node.durable.disk filter.new.node.durable.disk)) }
-    ensures any_moment { OnErr result (CommitsSome D.seen D.moment D.left_since filter.old.node.text.items filter.old.node.durable.disk filter.new.node.durable.disk) }
-    ensures settled { filter.new.node.durable.closed ≡ false → IsSettled D.seen D.may_leave filter.new.node.durable.disk }
-    ensures unclosed { OnOk result (filter.new.node.durable.closed ≡ false) }
-    ensures flushed { OnOk result (has_line source.now ≡ false → (held.new.items ≡ []) × (filter.new.node.text.items ≡ [])) }
-    ensures machine { filter.new.node.durable.machine ≡ filter.old.node.durable.machine }
-    ensures shelf { filter.new.shelf ≡ filter.old.shelf }
+    requires settled { IsSettled D.seen D.may_leave server.old.node.durable.disk }
+    requires unclosed { server.old.node.durable.closed ≡ false }
+    ensures ok { OnOk result (FlushesOrNot D.seen D.may_leave D.moment D.left_since W.contents (held_at output.old held.old.items server.old) (held_at output.new held.new.items server.new)) }
+    ensures err { IfErr result (FlushesNot D.seen D.may_leave W.contents (held_at output.old held.old.items server.old) (held_at output.new held.new.items server.new)) }
+    ensures any_moment { OnErr result (CommitsSome D.seen D.moment D.left_since server.old.node.text.items server.old.node.durable.disk server.new.node.durable.disk) }
+    ensures settled { server.new.node.durable.closed ≡ false → IsSettled D.seen D.may_leave server.new.node.durable.disk }
+    ensures unclosed { OnOk result (server.new.node.durable.closed ≡ false) }
+    ensures flushed { OnOk result (has_line source.now ≡ false → (held.new.items ≡ []) × (server.new.node.text.items ≡ [])) }
+    ensures same { (server.new.node.durable.machine ≡ server.old.node.durable.machine) × (server.new.shelf ≡ server.old.shelf) }
 {
     if source.has_line() {
         return Ok(());
     }
-    flush(filter, held, output)
+    flush(server, held, output)
 }
 
 // What failed where a line found no room, or what is held back did.
@@ -149,41 +122,34 @@ fn of_step(fault: NodeFault) -> NodeFault
 /// of the last calls, and the journal is to be recovered.
 pub fn serve<R: Read, W: Write, E: Listener, D: Disk, B: Replicated>(
     alloc: Global,
-    filter: &mut Filter<D, B>,
+    server: &mut Server<D, B>,
     input: &mut R,
-    output: &mut W,
+    out: &mut W,
     errors: &mut E,
 ) -> Result<(), NodeFault>
-    requires settled { IsSettled D.seen D.may_leave filter.old.node.durable.disk }
-    requires unclosed { filter.old.node.durable.closed ≡ false }
-    requires unstaged { filter.old.node.text.items ≡ [] }
-    requires within { IsSubset filter.old.shelf.view filter.old.node.durable.machine.node.replica.view }
-    ensures ok { OnOk result (ServesLines filter.old.shelf.objects (kept_state filter.old.node.durable.machine.replicas filter.old.node.durable.machine.node) (TellsAll E.contents E.refuses errors.old errors.new)
-        (Leaves D.seen D.may_leave D.moment D.left_since (kept_state filter.old.node.durable.machine.replicas filter.old.node.durable.machine.node) filter.old.node.durable.disk filter.new.node.durable.disk)
-        (R.remaining input.old) (R.remaining input.new) (W.contents output.old) (W.contents output.new)
-        (lines (D.seen filter.old.node.durable.disk)) (lines (D.seen filter.new.node.durable.disk)) (kept_state filter.new.node.durable.machine.replicas filter.new.node.durable.machine.node)) }
-    ensures err { IfErr result (IsServeRefusal filter.old.shelf.objects (kept_state filter.old.node.durable.machine.replicas filter.old.node.durable.machine.node) (TellsAll E.contents E.refuses errors.old errors.new)
-        (Leaves D.seen D.may_leave D.moment D.left_since (kept_state filter.old.node.durable.machine.replicas filter.old.node.durable.machine.node) filter.old.node.durable.disk filter.new.node.durable.disk)
-        (R.remaining input.old) (R.remaining input.new) (W.contents output.old) (W.contents output.new)
-        (lines (D.seen filter.old.node.durable.disk)) (lines (D.seen filter.new.node.durable.disk)) (kept_state filter.new.node.durable.machine.replicas filter.new.node.durable.machine.node)) }
-    ensures settled { filter.new.node.durable.closed ≡ false → IsSettled D.seen D.may_leave filter.new.node.durable.disk }
-    ensures unclosed { OnOk result (filter.new.node.durable.closed ≡ false) }
+    requires settled { IsSettled D.seen D.may_leave server.old.node.durable.disk }
+    requires takes { TakesLines server.old }
+    requires unstaged { server.old.node.text.items ≡ [] }
+    ensures ok { OnOk result (ServesLines D.seen D.may_leave D.moment D.left_since R.remaining W.contents E.contents E.refuses (io input.old out.old errors.old) (io input.new out.new errors.new) server.old server.new) }
+    ensures err { IfErr result (Ceases D.seen D.may_leave D.moment D.left_since R.remaining W.contents E.contents E.refuses (io input.old out.old errors.old) (io input.new out.new errors.new) server.old server.new) }
+    ensures settled { server.new.node.durable.closed ≡ false → IsSettled D.seen D.may_leave server.new.node.durable.disk }
+    ensures unclosed { OnOk result (server.new.node.durable.closed ≡ false) }
 {
     // a hint to the prover: what is left by one call after another
     laws::calls_follow_one_another::<NodeMachine, D>();
     let mut source = Source::new(alloc);
     let mut held = Vec::new(alloc);
     for number in 1..u64::MAX {
-        prepare(&source, filter, &mut held, output)?;
-        match step(alloc, &mut source, filter, number, input, &mut held, errors) {
+        prepare(&source, server, &mut held, out)?;
+        match step(alloc, &mut source, server, number, input, &mut held, errors) {
             Ok(true) => {}
-            Ok(false) => return flush(filter, &mut held, output),
+            Ok(false) => return flush(server, &mut held, out),
             Err(fault) => {
-                flush(filter, &mut held, output)?;
+                flush(server, &mut held, out)?;
                 return Err(of_step(fault));
             }
         }
     }
-    flush(filter, &mut held, output)?;
+    flush(server, &mut held, out)?;
     Err(NodeFault::ReadFault)
 }

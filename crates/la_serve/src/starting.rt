@@ -4,23 +4,23 @@ ghost use Rattle.la_object.specs.declared.kind.Kind.TheVariants.{Counter as Coun
 ghost use Rattle.la_object.specs.declared.kind.Kind.TheVariants.{MaxRegister as RegisterKind};
 ghost use Rattle.la_object.specs.declared.kind.Kind.TheVariants.{OrSet as SetKind};
 ghost use Rattle.la_object.specs.Objects.{start};
-ghost use Rattle.la_io.specs.Streams.{TellsLine, TellsAll};
+ghost use Rattle.la_io.specs.Streams.{TellsLine};
 ghost use Rattle.la_serve.specs.Faults.{of_journal};
 ghost use Rattle.la_serve.specs.Ending.{node_status, end_line, AreAtStart, ServerEnds};
-ghost use Rattle.la_serve.specs.Crashes.{LeftBy};
-ghost use Rattle.la_serve.specs.Starting.{Runs, IsServerStartRefusal};
+ghost use Rattle.la_serve.specs.Io.{io};
+ghost use Rattle.la_serve.specs.Starting.{Runs, Stops};
 
 use crate::names::end_name;
 use crate::serving::serve;
 use crate::shelf::shelf_of;
-use crate::{Filter, NodeFault, Options};
+use crate::{NodeFault, Options, Server};
 use arrayvec::ArrayString;
-use la_cli::{Listener, tell_all};
 use la_durable::{NodeError, NodeMachine};
+use la_io::{Listener, tell_all};
 use la_journal::{Disk, Staged, Unplayed, recover};
+use la_node::WorldError;
 use la_object::{Counter, MaxRegister, Replicated, Shelf};
 use la_orset::OrSet;
-use la_world::WorldError;
 use std::alloc::{AllocError, Global};
 use std::io::{Read, Write};
 
@@ -71,18 +71,12 @@ fn start<R: Read, W: Write, E: Listener, D: Disk, B: Replicated>(
     shelf: Shelf<B>,
     disk: D,
     input: &mut R,
-    output: &mut W,
+    out: &mut W,
     errors: &mut E,
 ) -> Result<(), NodeFault>
     requires { shelf.view ≡ empty }
-    ensures ok { OnOk result (Runs shelf.objects options.now.config options.now.own (D.seen disk)
-        (TellsAll E.contents E.refuses errors.old errors.new)
-        (LeftBy D.seen D.may_leave D.moment D.left_since options.now disk)
-        (R.remaining input.old) (R.remaining input.new) (W.contents output.old) (W.contents output.new)) }
-    ensures err { IfErr result (IsServerStartRefusal shelf.objects options.now.config options.now.own (D.seen disk)
-        (TellsAll E.contents E.refuses errors.old errors.new)
-        (LeftBy D.seen D.may_leave D.moment D.left_since options.now disk)
-        (R.remaining input.old) (R.remaining input.new) (W.contents output.old) (W.contents output.new)) }
+    ensures ok { OnOk result (Runs D.seen D.may_leave D.moment D.left_since R.remaining W.contents E.contents E.refuses shelf options.now disk (io input.old out.old errors.old) (io input.new out.new errors.new)) }
+    ensures err { IfErr result (Stops D.seen D.may_leave D.moment D.left_since R.remaining W.contents E.contents E.refuses shelf options.now disk (io input.old out.old errors.old) (io input.new out.new errors.new)) }
 {
     let machine = match NodeMachine::new(alloc, options.config, options.own) {
         Ok(machine) => machine,
@@ -91,11 +85,11 @@ fn start<R: Read, W: Write, E: Listener, D: Disk, B: Replicated>(
     };
     match recover(alloc, machine, disk) {
         Ok(durable) => {
-            let mut filter = Filter {
+            let mut server = Server {
                 node: Staged::new(alloc, durable),
                 shelf,
             };
-            serve(alloc, &mut filter, input, output, errors)
+            serve(alloc, &mut server, input, out, errors)
         }
         Err((why, _disk)) => Err(fault_of(why)),
     }
@@ -131,11 +125,8 @@ fn run_with<
     requires callable { F.pre make }
     requires made { (made : _) → F.post make made
         → IfOk made (λ o. AreAtStart B.state o.0 o.1 o.2) }
-    ensures { ServerEnds E.contents E.refuses
-        (LeftBy D.seen D.may_leave D.moment D.left_since options.now disk)
-        options.now.config options.now.own (D.seen disk)
-        (R.remaining input.old) (R.remaining input.new) (W.contents output.old) (W.contents output.new)
-        errors.old errors.new result }
+    ensures { ServerEnds D.seen D.may_leave D.moment D.left_since R.remaining W.contents E.contents E.refuses
+        options.now disk (io input.old output.old errors.old) (io input.new output.new errors.new) result }
 {
     let Ok((counter, register, set)) = make() else {
         return end_with(NodeFault::Memory, errors);
@@ -159,11 +150,8 @@ pub fn run<R: Read, W: Write, E: Listener, D: Disk>(
     output: &mut W,
     errors: &mut E,
 ) -> u8
-    ensures { ServerEnds E.contents E.refuses
-        (LeftBy D.seen D.may_leave D.moment D.left_since options.now disk)
-        options.now.config options.now.own (D.seen disk)
-        (R.remaining input.old) (R.remaining input.new) (W.contents output.old) (W.contents output.new)
-        errors.old errors.new result }
+    ensures { ServerEnds D.seen D.may_leave D.moment D.left_since R.remaining W.contents E.contents E.refuses
+        options.now disk (io input.old output.old errors.old) (io input.new output.new errors.new) result }
 {
     let make = || -> Result<
         (

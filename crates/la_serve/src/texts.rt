@@ -3,20 +3,20 @@ ghost use Rattle.std.specs.Prelude.{◌≡◌, ◌++◌, IfOk, OnOk};
 ghost use Rattle.la_replica.specs.Steps.{learnt_in};
 ghost use Rattle.la_wire.specs.Calls.{called};
 ghost use Rattle.la_durable.specs.Given.{given_of};
-ghost use Rattle.la_io.specs.Notes.{answered_note, letters_text};
-ghost use Rattle.la_durable.specs.Restarts.{kept_state};
+ghost use Rattle.la_wire.specs.Notes.{answered_note, letters_text};
+ghost use Rattle.la_durable.specs.Nodes.{kept_by};
 ghost use Rattle.la_serve.specs.Turns.{taken_text, learnt_line, growth_text, return_text};
 ghost use Rattle.la_serve.specs.Turns.{receipt_text, call_text};
 
 use la_durable::NodeMachine;
-use la_io::{
-    put_answered, put_learnt, put_mail, put_outcome, put_proposed, put_submitted, put_view,
-};
+use la_node::{Node, Received};
 use la_object::{Answer, Counter};
 use la_replica::Mail;
 use la_set::UpdateSet;
-use la_wire::{Call, Letter};
-use la_world::{Node, Received};
+use la_wire::{
+    Call, Letter, put_answered, put_learnt, put_mail, put_outcome, put_proposed, put_submitted,
+    put_view,
+};
 use std::alloc::{AllocError, Global};
 
 // The room that most notes need, in bytes.
@@ -111,7 +111,7 @@ pub fn text_of(
     call: &Call,
     given: &Received,
 ) -> Result<Vec<u8>, AllocError>
-    ensures { IfOk result (λ text. text.items ≡ call_text before (kept_state machine.now.replicas machine.now.node) (called call.now) (given_of given.now)) }
+    ensures { IfOk result (λ text. text.items ≡ call_text before (kept_by machine.now) (called call.now) (given_of given.now)) }
 {
     let mut out = Vec::with_capacity(alloc, LINE)?;
     put_taken(&mut out, call, &machine.node)?;

@@ -83,9 +83,10 @@ impl UpdateSet {
         self.is_larger_beyond(other, Counts::zero())
     }
 
-    /// The same where the two are known to have the same within these counts. The counts of the two are looked
-    /// at first: where this set has no more of any replica, the answer is no, at constant cost. Else what both
-    /// have beyond these counts is compared, and the cost is that.
+    /// Whether this set contains the other and has more, of two sets that are known to have the
+    /// same within these counts. The counts of the two are looked at first: where this set has no
+    /// more of any replica, the answer is no, at constant cost. Else what both have beyond these
+    /// counts is compared, and the cost is that.
     pub fn is_larger_beyond(&self, other: &UpdateSet, base: Counts) -> bool
         requires { within self.now base ≡ within other.now base }
         ensures { result ≡ is_larger other.now self.now }
@@ -93,7 +94,8 @@ impl UpdateSet {
         !self.has_no_more(other) && self.contains_beyond(other, base)
     }
 
-    /// The same where no id has two updates in the two: by the counts alone, at constant cost.
+    /// Whether this set contains the other and has more, of two sets in which no id has two
+    /// updates: by the counts alone, at constant cost.
     pub fn is_larger_compatible(&self, other: &UpdateSet) -> bool
         requires { IsCompatible self.now other.now }
         ensures { result ≡ is_larger other.now self.now }
@@ -188,8 +190,9 @@ impl UpdateSet {
         self.first_clash_beyond(other, Counts::zero())
     }
 
-    /// The same where the two are known to have the same within these counts: only what both have
-    /// beyond them is compared, and the cost is that.
+    /// The least id that has different updates in the two sets, or `None` where no id has, of two
+    /// sets that are known to have the same within these counts: only what both have beyond them is
+    /// compared, and the cost is that.
     pub fn first_clash_beyond(&self, other: &UpdateSet, base: Counts) -> Option<UpdateId>
         requires { within self.now base ≡ within other.now base }
         ensures { MatchOption result (IsCompatible self.now other.now)
@@ -231,10 +234,10 @@ impl UpdateSet {
         Ok(())
     }
 
-    /// The union with a set that has no other update under any id: as [`UpdateSet::join`], but
-    /// nothing is compared and all that is added is shared, at constant cost. After a refusal the
-    /// set is unchanged. Where the other set lies in this one nothing changes, and no memory is
-    /// taken.
+    /// Adds what the other set has beyond this one's counts, where no id has two updates in the
+    /// two: the union. Nothing is compared and all that is added is shared, at constant cost. After
+    /// a refusal the set is unchanged. Where the other set lies in this one nothing changes, and no
+    /// memory is taken.
     pub fn join_compatible(&mut self, other: &UpdateSet) -> Result<(), AllocError>
         requires { IsCompatible self.old other.now }
         ensures ok { OnOk result (self.new ≡ join self.old other.now) }

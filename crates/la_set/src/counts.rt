@@ -13,14 +13,14 @@ pub struct Counts {
 }
 
 impl Counts {
-    /// None of any replica.
+    /// The counts of the empty set: no update of any replica.
     pub fn zero() -> Counts
         ensures { result ≡ zero_counts }
     {
         Counts { of: [0; 8] }
     }
 
-    /// How many of a replica: none of one of 8 or more.
+    /// How many updates of this replica there are: none of a replica of 8 or more.
     pub fn of(&self, replica: u8) -> u32
         ensures { result ≡ count_in self.now replica }
     {
@@ -63,7 +63,7 @@ impl Counts {
         Counts { of }
     }
 
-    /// Of each replica the smaller of the two.
+    /// The counts that have of each replica the smaller of the two numbers.
     pub fn min(self, other: Counts) -> Counts
         ensures { result ≡ from_counts (λ r. min (count_in self r) (count_in other r)) }
     {
@@ -82,7 +82,7 @@ impl Counts {
     }
 }
 
-/// Each replica's count at its place.
+/// The counts with these numbers: that of a replica stands at the replica's place.
 impl From<[u32; 8]> for Counts {
     ghost use Rattle.std.specs.Prelude.{slice_index_or};
     ghost use Rattle.la_set.specs.Counts.{from_counts};

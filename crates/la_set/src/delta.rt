@@ -63,7 +63,7 @@ impl Delta {
         self.base
     }
 
-    /// How many updates come beyond, at constant cost.
+    /// How many updates come beyond the base, at constant cost.
     pub fn len(&self) -> usize
         ensures { result ≡ length self.now.more }
     {
@@ -73,7 +73,7 @@ impl Delta {
         }
     }
 
-    /// The update at a place, from 0, of those that come beyond, at logarithmic cost.
+    /// The update at a place, from 0, of those that come beyond the base, at logarithmic cost.
     pub fn at(&self, place: usize) -> Option<&Update>
         ensures { option_copied result ≡ slice_get self.now.more place }
     {
@@ -83,8 +83,8 @@ impl Delta {
         }
     }
 
-    /// Copies of the updates that come beyond, in order, at linear cost. Where there is none it
-    /// takes no memory.
+    /// Copies of the updates that come beyond the base, in the delta's order, at linear cost. Where
+    /// there is none it takes no memory.
     pub fn more(&self) -> Result<Updates, AllocError>
         ensures room { self.now.more ≡ [] → IsOk result }
         ensures ok { IfOk result (λ updates. updates ≡ self.now.more) }
@@ -153,7 +153,7 @@ impl Delta {
 }
 
 impl UpdateSet {
-    /// Whether there are so many updates of each replica, or more.
+    /// Whether this set has of each replica as many updates as these counts, or more.
     pub fn has_counts(&self, counts: Counts) -> bool
         ensures { IsTrue result ↔ HasCounts self.now counts }
     {
@@ -198,8 +198,11 @@ impl UpdateSet {
         Ok(self.rebuilt(delta)?)
     }
 
-    /// The same, where the set that a delta was made of is known to have within the base what this
-    /// one has: nothing is compared, and the result shares that set, at constant cost.
+    /// What a delta stands for over this set, as by [`UpdateSet::with`], where it is known that
+    /// this set has the base, that the updates beyond it come next, and that the set of which the
+    /// delta was made has within the base what this one has: nothing is compared, and the result
+    /// shares that set, at constant cost. Of a delta that was made from a list the result takes
+    /// that list's updates in, at linear cost. It is refused for want of memory alone.
     pub fn with_agreeing(&self, delta: &Delta) -> Result<UpdateSet, AllocError>
         requires stands { IsOver self.now delta.now }
         requires agrees { AgreesWithin self.now delta.now }
@@ -211,7 +214,9 @@ impl UpdateSet {
         }
     }
 
-    /// The same as it lies in the delta, without a copy: `None` where the delta was made from a list.
+    /// The set that a delta was made of, lent, where it is known to be what the delta stands for
+    /// over this set, as for [`UpdateSet::with_agreeing`]. It takes no memory. `None` where the
+    /// delta was made from a list.
     pub fn lent_by<'a>(&self, delta: &'a Delta) -> Option<&'a UpdateSet>
         requires stands { IsOver self.now delta.now }
         requires agrees { AgreesWithin self.now delta.now }

@@ -14,20 +14,20 @@ use std::sync::Arc;
 /// The most items that a list may have.
 pub const MAX_LEN: usize = 1_000_000_000;
 
-/// What can be told apart.
+/// Values of which any two can be told apart, or are one.
 pub trait Same {
     /// Whether two values are one.
     fn same(&self, other: &Self) -> bool
         ensures { IsTrue result ↔ (self.now ≡ other.now) };
 }
 
-/// What leads to a list: its last item's node, or nothing where it is empty.
+/// What a list is kept by: its last item's node, and nothing where it is empty.
 pub type Link<T> = Option<Arc<Node<T>>>;
 
-/// A link, lent.
+/// A [`Link`] that is lent.
 pub type Lent<'a, T> = Option<&'a Arc<Node<T>>>;
 
-/// An item with all that stands before it.
+/// An item of a list with all items that stand before it.
 #[cycle(node)]
 #[derive(Drop)]
 pub struct Node<T> {
@@ -196,7 +196,7 @@ fn release<T: Drop>(link: Link<T>) {
 }
 
 impl<T> History<T> {
-    /// What leads to the list.
+    /// The list's [`Link`], lent.
     pub fn link(&self) -> Lent<'_, T>
         ensures { lent_items result ≡ self.now }
     {
@@ -206,7 +206,7 @@ impl<T> History<T> {
         }
     }
 
-    /// How many items it has, at constant cost.
+    /// How many items the list has, at constant cost.
     pub fn len(&self) -> u32
         ensures { result ≡ length self.now }
     {
@@ -225,8 +225,8 @@ impl<T> History<T> {
         }
     }
 
-    /// A list of what a link leads to, which shares all items, at constant cost, and is refused as a
-    /// copy of a set is.
+    /// A list of what a link leads to, which shares all items, at constant cost. It is refused for
+    /// a full count of owners alone, at 2^63, and takes no memory.
     pub fn of(link: Lent<'_, T>) -> Result<History<T>, AllocError>
         ensures { IfOk result (λ list. list ≡ lent_items link.entry) }
     {
@@ -238,8 +238,8 @@ impl<T> History<T> {
         })
     }
 
-    /// A list of the first so many items, which it shares, at logarithmic cost; refused as that of
-    /// all is.
+    /// A list of the first `len` items to which a link leads, which it shares, at logarithmic cost.
+    /// It is refused for a full count of owners alone, as [`History::of`] is.
     pub fn front_of(link: Lent<'_, T>, len: usize) -> Result<History<T>, AllocError>
         requires { len ≤ length (lent_items link) }
         ensures { IfOk result (λ front. front ≡ take len (lent_items link.entry)) }
@@ -298,9 +298,9 @@ pub fn first_difference<T: Same>(one: Lent<'_, T>, other: Lent<'_, T>) -> Option
     first_difference_from(one, other, 0)
 }
 
-/// The same of lists that are known to have the same at the places below this one: they are compared
-/// from it on. The cost is linear in what the shorter list has from there on, and logarithmic in how
-/// much longer the other is.
+/// The first place at which both lists have an item and these differ, of lists that are known to
+/// have the same at the places below this one: they are compared from it on. The cost is linear in
+/// what the shorter list has from there on, and logarithmic in how much longer the other is.
 pub fn first_difference_from<T: Same>(
     one: Lent<'_, T>,
     other: Lent<'_, T>,
@@ -374,7 +374,7 @@ pub fn step_back<T>(link: Lent<'_, T>) -> Step<'_, T>
     }
 }
 
-/// The first so many items, at logarithmic cost.
+/// What leads to the first `len` items of a list, at logarithmic cost.
 pub fn first<T>(link: Lent<'_, T>, len: usize) -> Lent<'_, T>
     requires { len ≤ length (lent_items link) }
     ensures { lent_items result ≡ take len (lent_items link.entry) }

@@ -50,7 +50,7 @@ impl SharedDelta {
         }
     }
 
-    /// The set that it was made of.
+    /// The set that the delta was made of.
     #[inline(always)]
     pub fn updates(&self) -> &UpdateSet
         ensures { self.now.made_of ≡ Some result.now }

@@ -5,24 +5,24 @@ use std::collections::LinkedList;
 
 /// Where a seat stands with its ticket. No value of it is made.
 pub enum Stage {
-    /// It has no ticket.
+    /// The seat has no ticket.
     Idle,
-    /// It has drawn this ticket.
+    /// The seat has drawn this ticket.
     Drawn(u64),
-    /// It has the turn of this ticket, and this set is accepted.
+    /// The seat has the turn of this ticket, and this set is accepted.
     Holding(u64, UpdateSet),
 }
 
 /// What a seat knows. No value of it is made.
 pub struct Caller {
-    /// Where it stands with its ticket.
+    /// Where the seat stands with its ticket.
     pub stage: Stage,
-    /// Its number, from its first ticket on.
+    /// The seat's number, from its first ticket on.
     pub number: Option<u64>,
-    /// The history, as far as it has seen it.
+    /// The history, as far as the seat has seen it.
     pub seen: LinkedList<Entry>,
-    /// What a seat that was joined to it had seen.
+    /// The history, as far as a seat that was joined to this one had seen it.
     pub told: LinkedList<Entry>,
-    /// Its own entries.
+    /// The seat's own entries.
     pub mine: LinkedList<Entry>,
 }

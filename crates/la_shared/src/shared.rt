@@ -44,8 +44,8 @@ impl SharedAcceptor {
         Ok((SharedAcceptor { number, core }, pass))
     }
 
-    /// A pass that has seen as much, and has made no offer. It takes no memory and waits for
-    /// nothing.
+    /// A further pass of this acceptor, which has seen what the given pass has seen, and has made
+    /// no offer. It takes no memory and waits for nothing.
     pub fn another(&self, pass: &mut Pass) -> Pass
         requires { pass.old.acceptor ≡ self.now }
         ensures same { pass.new ≡ pass.old }
@@ -168,8 +168,8 @@ impl SharedAcceptor {
         }
     }
 
-    /// The pass has then seen what the note's giver had seen, and perhaps more. It takes no memory
-    /// and waits for nothing.
+    /// Lets a pass see what the note's giver had seen: it has then seen that, and perhaps more. It
+    /// takes no memory and waits for nothing.
     pub fn meet(&self, pass: &mut Pass, note: Note)
         requires pass { pass.old.acceptor ≡ self.now }
         requires note { note.acceptor ≡ self.now }

@@ -1,12 +1,11 @@
 -- Lines of calls have no byte 0 and no line's end, and begin as no state's line does.
-use Rattle.std.proofs.Common.{◌≡◌, ℕ, true, leb, List, [], ◌∷◌, ◌++◌, map, All, None, refl, arith}
+use Rattle.std.proofs.Common.{◌≡◌, ◌≢◌, ℕ, ◌≤◌, ◌==◌, true, false, not, ◌&&◌, leb, List, [], ◌∷◌, ◌++◌, map, All, refl, ap, ◌∙◌, arith}
 use Rattle.std.specs.Fmt.{decimal}
+use Rattle.std.specs.List.{list_all}
 use Rattle.std.proofs.lemmas.Bool.{leb-true}
 use Rattle.std.proofs.lemmas.Bool.Decides.{nat_tests}
 use Rattle.std.proofs.lemmas.List.Elements.{All-nil, All-cons, All-head, All-tail, All-append, All-map, All-weaker}
 use Rattle.std.proofs.lemmas.List.Sums.{AllPass-from_list_all}
-use Rattle.la_journal.specs.Lines.{IsClean}
-use Rattle.la_journal.specs.Journal.{state_in, IsCallLine}
 use Rattle.la_set.specs.declared.update.Update.{Update}
 use Rattle.la_script.specs.declared.forms.Keyword.TheVariants as keyword
 use Rattle.la_script.specs.Forms.{spelling}
@@ -17,7 +16,7 @@ use Rattle.la_wire.specs.Updates.{update_words, update_text, op_words}
 use Rattle.la_wire.specs.Messages.{WireMessage}
 use Rattle.la_wire.specs.MessageLines.{kind_text as kind_word, kind_in, base_words, carried, head_words, message_text}
 use Rattle.la_wire.specs.Calls.{WireCall, Submit, Decide, Ask, Tick, Receive}
-use Rattle.la_wire.specs.CallLines.{query_words, tick_word, call_line_text}
+use Rattle.la_wire.specs.CallLines.{query_words, tick_word, call_line_text, is_clean_byte, is_no_state, may_stand}
 use Rattle.la_wire.specs.Writable.{IsUpdate, IsCall, IsMessage}
 use Rattle.la_wire.proofs.Decimals.{is_plain, IsPlain}
 use Rattle.la_wire.proofs.UpdatesBack.{update-plain, op-plain}
@@ -50,11 +49,19 @@ joined-printed byte (part ∷ parts) own all =
 words-printed : (words : List (List ℕ)) → All IsPlain words → IsPrinted (joined_by 32 words)
 words-printed words all = joined-printed 32 words refl (All-weaker IsPlain IsPrinted plain-printed words all)
 
-clean : (w : List ℕ) → IsPrinted w → IsClean w
-clean [] printed = tt
+is-clean : (b : ℕ) → 32 ≤ b → is_clean_byte b ≡ true
+is-clean b high =
+    ap (λ is. not is && not (b == 10)) (differs b 0 (λ e. omega (arith, e, high)))
+    ∙ ap not (differs b 10 (λ e. omega (arith, e, high)))
+  where
+    differs : (b c : ℕ) → b ≢ c → (b == c) ≡ false
+    differs b c not = grind (arith, nat_tests)
+
+clean : (w : List ℕ) → IsPrinted w → list_all is_clean_byte w ≡ true
+clean [] printed = refl
 clean (b ∷ w) printed =
-    let high = leb-true 32 b (All-head (λ c. leb 32 c ≡ true) b w printed) in
-    ((λ e. omega (arith, e, high)), (λ e. omega (arith, e, high)), clean w (All-tail (λ c. leb 32 c ≡ true) b w printed))
+    ap (λ is. is && list_all is_clean_byte w) (is-clean b (leb-true 32 b (All-head (λ c. leb 32 c ≡ true) b w printed)))
+    ∙ clean w (All-tail (λ c. leb 32 c ≡ true) b w printed)
 
 update-printed : (u : Update) → IsUpdate u → IsPrinted (update_text u)
 update-printed u is = words-printed (update_words u) (update-plain u is)
@@ -85,13 +92,13 @@ text-printed (Ask r o q) is =
 text-printed Tick is = plain-printed tick_word (AllPass-from_list_all is_plain tick_word refl)
 text-printed (Receive m) is = message-printed m is
 
-kind-first : (k : Kind) (a b : List ℕ) → state_in ((kind_word k ++ a) ++ b) ≡ None
+kind-first : (k : Kind) (a b : List ℕ) → is_no_state ((kind_word k ++ a) ++ b) ≡ true
 kind-first kind.Offer a b = refl
 kind-first kind.Yes a b = refl
 kind-first kind.No a b = refl
 kind-first kind.Tell a b = refl
 
-no-state : (c : WireCall) → state_in (call_line_text c) ≡ None
+no-state : (c : WireCall) → is_no_state (call_line_text c) ≡ true
 no-state (Submit r o does) = refl
 no-state (Decide r c v) = refl
 no-state (Ask r o q) = refl
@@ -102,6 +109,6 @@ no-state (Receive m) =
     (decimal m.replicas ∷ decimal m.from ∷ decimal m.to ∷ decimal m.instance ∷ decimal m.ballot ∷ base_words m.body))
     (spaced 59 (map update_text (carried m.body)))
 
--- the line of a call that can be had is one of a journal's calls
-pub call-line : (c : WireCall) → IsCall c → IsCallLine (call_line_text c)
-call-line c is = (clean (call_line_text c) (text-printed c is), no-state c)
+-- the line of a call that can be had may stand in a file of lines
+pub call-stands : (c : WireCall) → IsCall c → may_stand (call_line_text c) ≡ true
+call-stands c is = ap (λ b. b && is_no_state (call_line_text c)) (clean (call_line_text c) (text-printed c is)) ∙ no-state c

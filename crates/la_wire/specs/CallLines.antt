@@ -1,6 +1,6 @@
 -- A call as a line: a message, `tick`, or an event of a script of version 2 that is no delivery.
-use Rattle.std.specs.Prelude.{ℕ, nat_lt, List, [], ◌∷◌, codes, length, Option, Some, None, Result, Ok, Err, ◌==◌, if◌then◌else◌}
-use Rattle.std.specs.List.{before_first}
+use Rattle.std.specs.Prelude.{ℕ, nat_lt, Bool, true, not, ◌&&◌, List, [], ◌∷◌, codes, length, Option, Some, None, Result, Ok, Err, ◌==◌, if◌then◌else◌}
+use Rattle.std.specs.List.{before_first, list_all}
 use Rattle.std.specs.Fmt.{decimal}
 use Rattle.std.specs.Str.{bytes_eq}
 use Rattle.la_object.specs.declared.query.Query.{Query}
@@ -16,7 +16,7 @@ use Rattle.la_script.specs.Lines.{line_event}
 use Rattle.la_wire.specs.declared.error.LineFault.{LineFault}
 use Rattle.la_wire.specs.declared.error.LineFault.TheVariants.{TooLong, BadLine, BadNumber}
 use Rattle.la_wire.specs.declared.messages.Kind.{Kind}
-use Rattle.la_wire.specs.declared.calls.TheConstants.{MAX_LINE}
+use Rattle.la_io.specs.declared.source.TheConstants.{MAX_LINE}
 use Rattle.la_wire.specs.Joined.{joined_by}
 use Rattle.la_wire.specs.Updates.{made, op_words}
 use Rattle.la_wire.specs.MessageLines.{kind_word, message_text, line_message}
@@ -85,3 +85,17 @@ said_ok (Err fault) = None
 -- the call that a line names, if it names one
 abbrev pub named_call : List ℕ → Option WireCall
 named_call line = said_ok (call_of line)
+
+-- ## In a file of lines
+
+-- no byte is 0 or a line's end
+abbrev pub is_clean_byte : ℕ → Bool
+is_clean_byte b = not (b == 0) && not (b == 10)
+
+-- and it does not begin with `=`, as the line of a state
+abbrev pub is_no_state : List ℕ → Bool
+is_no_state [] = true
+is_no_state (b ∷ bytes) = not (b == 61)
+
+abbrev pub may_stand : List ℕ → Bool
+may_stand line = list_all is_clean_byte line && is_no_state line

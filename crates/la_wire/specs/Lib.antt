@@ -7,3 +7,4 @@ pub mod Calls
 pub mod CallLines
 pub mod Writable
 pub mod Tests
+pub mod Notes

@@ -10,6 +10,8 @@ use Rattle.la_set.specs.declared.set.TheConstants.{REPLICAS, MAX_NUMBER}
 use Rattle.la_set.specs.declared.tags.TheConstants.{MAX_TAGS}
 use Rattle.la_set.specs.Histories.{Histories, empty, count, push}
 use Rattle.la_set.specs.Deltas.{pushed}
+use Rattle.la_script.specs.declared.forms.Keyword.TheVariants as keyword
+use Rattle.la_script.specs.Forms.{spelling as word_of}
 use Rattle.la_script.specs.Text.{id_text}
 use Rattle.la_script.specs.Tags.{tag_words}
 use Rattle.la_script.specs.Numbers.{u16_max, u32_max, u64_max}
@@ -26,13 +28,14 @@ use Rattle.la_wire.specs.Readings.{◌>>=◌, or_line_fault, number_on, first_nu
 
 -- ## As it is written
 
+-- the words of a script, but for votes
 abbrev pub verb_spelling : Verb → List ℕ
-verb_spelling verb.Inc = codes "inc"
-verb_spelling verb.Dec = codes "dec"
-verb_spelling verb.Raise = codes "raise"
-verb_spelling verb.Put = codes "put"
-verb_spelling verb.Remove = codes "remove"
-verb_spelling verb.Mark = codes "mark"
+verb_spelling verb.Inc = word_of keyword.Inc
+verb_spelling verb.Dec = word_of keyword.Dec
+verb_spelling verb.Raise = word_of keyword.Raise
+verb_spelling verb.Put = word_of keyword.Put
+verb_spelling verb.Remove = word_of keyword.Remove
+verb_spelling verb.Mark = word_of keyword.Mark
 verb_spelling verb.Vote = codes "vote"
 verb_spelling verb.Sole = codes "sole"
 

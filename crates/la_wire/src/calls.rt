@@ -1,6 +1,5 @@
 // What a node is called for, read from lines.
-ghost use Rattle.std.specs.Prelude.{◌≡◌, ◌==◌, Ok, Some, IfOk};
-ghost use Rattle.la_journal.specs.Machine.{IsNamed};
+ghost use Rattle.std.specs.Prelude.{◌≡◌, ◌==◌, Ok, Some, IfOk, option_map};
 ghost use Rattle.std.specs.List.{before_first};
 ghost use Rattle.la_script.specs.declared.script.Version.TheVariants.{Two};
 ghost use Rattle.la_script.specs.Lines.{line_event};
@@ -11,14 +10,12 @@ ghost use Rattle.la_wire.specs.CallLines.{call_of, bounded_call_of, named_call};
 
 use crate::messages::{Kind, read_message};
 use crate::{Letter, LineError, LineFault};
+use la_io::MAX_LINE;
 use la_object::Query;
 use la_script::{FaultName, ReadError, Version, event_at, split_once};
 use la_set::Op;
 use la_world::Event;
 use std::alloc::{AllocError, Global};
-
-/// How many bytes a line may have that comes from outside.
-pub const MAX_LINE: usize = 16_777_216;
 
 /// What a node is called for.
 #[derive(Drop)]
@@ -142,7 +139,7 @@ pub fn read(alloc: Global, line: &[u8]) -> Result<Call, LineError>
 }
 
 /// The call that a line from outside is, as [`read`] says: `TooLong` comes first, where it has more than
-/// [`MAX_LINE`] bytes, and then it is not looked at. So no line takes more memory than some such lines
+/// [`la_io::MAX_LINE`] bytes, and then it is not looked at. So no line takes more memory than some such lines
 /// have bytes.
 pub fn read_bounded(alloc: Global, line: &[u8]) -> Result<Call, LineError>
     ensures exact { GivesOnLine called (bounded_call_of line.now) result }
@@ -154,10 +151,9 @@ pub fn read_bounded(alloc: Global, line: &[u8]) -> Result<Call, LineError>
     read(alloc, line)
 }
 
-/// The call that a line names, as [`read`] reads it; `None` where it has a fault. It is what a `Machine` of
-/// `la_journal` reads.
+/// The call that a line names, as [`read`] reads it; `None` where it has a fault.
 pub fn named(alloc: Global, line: &[u8]) -> Result<Option<Call>, AllocError>
-    ensures { IfOk result (λ call. IsNamed called (named_call line.now) call) }
+    ensures { IfOk result (λ call. named_call line.now ≡ option_map called call) }
 {
     match read(alloc, line) {
         Ok(call) => Ok(Some(call)),

@@ -1,11 +1,10 @@
 // What the definitions mean: laws over every call, which no code runs.
-ghost use Rattle.std.specs.Prelude.{◌≡◌, ◌↔◌, Some, IsTrue};
-ghost use Rattle.la_journal.specs.Journal.{IsCallLine};
+ghost use Rattle.std.specs.Prelude.{◌≡◌, ◌↔◌, true, Some, IsTrue};
 ghost use Rattle.la_replica.specs.Alike.{AreAlike};
 ghost use Rattle.la_wire.specs.declared.letter.Letter.{Letter};
 ghost use Rattle.la_wire.specs.Messages.{letter_message};
 ghost use Rattle.la_wire.specs.Calls.{WireCall};
-ghost use Rattle.la_wire.specs.CallLines.{call_line_text, named_call};
+ghost use Rattle.la_wire.specs.CallLines.{call_line_text, named_call, may_stand};
 ghost use Rattle.la_wire.specs.Writable.{IsCall};
 ghost use Rattle.la_wire.specs.Tests.{is_call};
 
@@ -14,9 +13,10 @@ pub fn calls_are_read_back()
     ensures { (c : WireCall) → IsCall c → named_call (call_line_text c) ≡ Some c }
 {}
 
-/// What is written of a call may be a line of a journal.
-pub fn calls_are_lines_of_journals()
-    ensures { (c : WireCall) → IsCall c → IsCallLine (call_line_text c) }
+/// What is written of a call may stand in a file of lines: it has no byte 0 and no line's end, and does not begin
+/// with `=`.
+pub fn calls_may_stand_in_files()
+    ensures { (c : WireCall) → IsCall c → may_stand (call_line_text c) ≡ true }
 {}
 
 /// Whether a call can be had is a test.

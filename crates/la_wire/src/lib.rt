@@ -23,11 +23,17 @@ mod error;
 pub mod laws;
 mod letter;
 mod messages;
+mod notes;
+mod telling;
 mod updates;
 mod words;
 mod writing;
 
-pub use calls::{Call, MAX_LINE, named, read, read_bounded};
+pub use calls::{Call, named, read, read_bounded};
 pub use error::{LineError, LineFault};
 pub use letter::Letter;
+pub use notes::{
+    put_answered, put_learnt, put_mail, put_outcome, put_proposed, put_submitted, put_view,
+};
+pub use telling::{refuse, tell_fault};
 pub use writing::{put_message, write};

@@ -22,14 +22,14 @@ use la_replica::{Body, Message};
 use la_set::{Counts, Delta, Op, REPLICAS, Tags, Update, UpdateId, UpdateSet};
 use std::alloc::{AllocError, Global};
 
-fn put_decimal(out: &mut Vec<u8>, number: u64) -> Result<(), AllocError>
+pub(crate) fn put_decimal(out: &mut Vec<u8>, number: u64) -> Result<(), AllocError>
     ensures { OnOk result (out.new.items ≡ out.old.items ++ decimal number) }
 {
     out.extend_from_slice(Buffer::new().format(number).as_bytes())
 }
 
 // Writes a word behind others.
-fn put_word(out: &mut Vec<u8>, word: &[u8]) -> Result<(), AllocError>
+pub(crate) fn put_word(out: &mut Vec<u8>, word: &[u8]) -> Result<(), AllocError>
     ensures { OnOk result (out.new.items ≡ out.old.items ++ 32 ∷ word.now) }
 {
     out.push(b' ')?;
@@ -37,7 +37,7 @@ fn put_word(out: &mut Vec<u8>, word: &[u8]) -> Result<(), AllocError>
 }
 
 // Writes a number behind other words.
-fn put_number(out: &mut Vec<u8>, number: u64) -> Result<(), AllocError>
+pub(crate) fn put_number(out: &mut Vec<u8>, number: u64) -> Result<(), AllocError>
     ensures { OnOk result (out.new.items ≡ out.old.items ++ 32 ∷ decimal number) }
 {
     out.push(b' ')?;
@@ -135,7 +135,7 @@ fn put_set(out: &mut Vec<u8>, set: &UpdateSet) -> Result<(), AllocError>
 }
 
 #[tactic(auto, using(crate::proofs::UpdateLists::next_count))]
-fn put_counts(out: &mut Vec<u8>, counts: Counts) -> Result<(), AllocError>
+pub(crate) fn put_counts(out: &mut Vec<u8>, counts: Counts) -> Result<(), AllocError>
     ensures { OnOk result (out.new.items ≡ out.old.items ++ spaced 32 (count_words counts)) }
 {
     for replica in 0..REPLICAS {

@@ -21,7 +21,8 @@ use Rattle.la_world.specs.Learnings.{learnt}
 use Rattle.la_world.specs.Playing.{trace}
 use Rattle.la_world.specs.StandsFor.{IsLegalTrace}
 use Rattle.la_world.specs.Outcomes.{decisions}
-use Rattle.la_world.specs.Laws.{CommitsAgree, ReturnsAreProposed, UnanimousProposalsCommit, AdoptCommitIsSafe}
+use Rattle.la_world.specs.Headline.{CommitsAgree, ReturnsAreProposed, UnanimousProposalsCommit}
+use Rattle.la_world.specs.Laws.{AdoptCommitIsSafe}
 use Rattle.la_world.proofs.Chains.{learnt_comparable}
 use Rattle.la_world.proofs.SubmittedVotes.{HasVoted}
 use Rattle.la_world.proofs.LearntVotes.{IsSecond, first_votes, second_votes}

@@ -22,7 +22,8 @@ use Rattle.la_world.specs.Events.{Event, Ask}
 use Rattle.la_world.specs.Trace.{Trace}
 use Rattle.la_world.specs.Playing.{answer_of, trace}
 use Rattle.la_world.specs.Report.{refused, refused_object, line_of, runs, runs_on, report_lines, trace_of}
-use Rattle.la_world.specs.Laws.{AnswersAreValues, EqualViewsAnswerAlike, ReportedAnswersAreValues}
+use Rattle.la_world.specs.Laws.{AnswersAreValues, ReportedAnswersAreValues}
+use Rattle.la_world.specs.Headline.{EqualViewsAnswerAlike}
 use Rattle.la_world.proofs.Allowing.{none_from_cond}
 use Rattle.la_world.proofs.Safe.{line_each}
 

@@ -10,7 +10,6 @@ use Rattle.la_set.specs.ObjectOps.{ObjectOp}
 use Rattle.la_set.specs.Inclusion.{IsSubset}
 use Rattle.la_replica.specs.Whole.{Message}
 use Rattle.la_replica.specs.Messages.{group, offer_to}
-use Rattle.la_commit.specs.Votes.{proposed}
 use Rattle.la_commit.specs.Instances.{first_instance, second_instance, is_first_instance, commit_of}
 use Rattle.la_world.specs.declared.step.Opening.{Opening}
 use Rattle.la_world.specs.Groups.{Group, replicas, instances}
@@ -18,7 +17,9 @@ use Rattle.la_world.specs.Events.{Event, Submit, Deliver, Decide, Ask}
 use Rattle.la_world.specs.Trace.{Did, Entry, Trace}
 use Rattle.la_world.specs.Sent.{sender_for, ballot_of, offers_for, offers_for_next, tells_for, sent_by, sent}
 use Rattle.la_world.specs.Ballots.{opened_by, opening_learnt, only, ballots, round}
-use Rattle.la_world.specs.Votes.{Submission, second_vote_of, cast_vote}
+use Rattle.la_node.proofs.lemmas.SecondVotes.{second_vote_in_is}
+use Rattle.la_node.specs.SecondVotes.{Submission}
+use Rattle.la_world.specs.Votes.{cast_vote}
 use Rattle.la_world.specs.Submissions.{submission_by, second_vote_after, object_op_in, submitted_ops, updates_alone}
 use Rattle.la_world.specs.Playing.{counts_reply, event_entry, trace}
 use Rattle.la_world.specs.Report.{refused}
@@ -149,17 +150,7 @@ module _ (g : Group) (t : Trace) (h : Grouped g t) where
 pub second_vote_is : (b : Opening) (s : Submission) → cast_vote b ≡ Some s
     → (is_first_instance b.instance ≡ true) × (s.instance ≡ second_instance (commit_of b.instance))
     × (s.replica ≡ b.replica)
-second_vote_is b s e = go (is_first_instance b.instance) refl (proposed b.updates b.replica) e
-  where
-    go : (v : Bool) → is_first_instance b.instance ≡ v → (o : Option ℕ)
-        → cond v (second_vote_of (commit_of b.instance) b.replica b.updates o) None ≡ Some s
-        → (is_first_instance b.instance ≡ true) × (s.instance ≡ second_instance (commit_of b.instance))
-        × (s.replica ≡ b.replica)
-    go false f o k = absurd (none-some s k)
-    go true f None k = absurd (none-some s k)
-    go true f (Some value) k =
-        let same = same_Some _ s k in
-        (f, ap (λ (z : Submission). z.instance) (sym same), ap (λ (z : Submission). z.replica) (sym same))
+second_vote_is b = second_vote_in_is b.instance b.replica b.updates
 
 -- the second instance of an object is of the group, where the first is
 pub second_within : (g : Group) (i : ℕ) → is_first_instance i ≡ true → i < instances g

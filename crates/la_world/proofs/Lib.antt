@@ -47,7 +47,6 @@ pub mod Proposals
 pub mod WorldSteps
 pub mod SentCounts
 pub mod Receivers
-pub mod Participants
 pub mod Worlds
 pub mod Noted
 pub mod Returned
@@ -72,12 +71,7 @@ pub mod Seeing
 pub mod Reported
 pub mod WorldNodes
 pub mod Questions
-pub mod SubmittingOnce
-pub mod Voters
-pub mod Returning
-pub mod Nodes
 pub mod LiveGroups
 pub mod RebasedReceipts
 pub mod LiveParcels
 mod Repeats
-mod Kept

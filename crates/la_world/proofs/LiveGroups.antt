@@ -30,15 +30,16 @@ use Rattle.la_replica.proofs.lemmas.Rebasing.{rebased_whole, over_one, alike_sta
 use Rattle.la_replica.specs.Stored.{IsMade}
 use Rattle.la_world.specs.Told.{offered_to, sent_as_told, told_messages}
 use Rattle.la_world.proofs.Tellings.{told_are_made}
-use Rattle.la_world.proofs.ToldMail.{told_of, told_as, sent_sides}
+use Rattle.la_node.proofs.lemmas.Telling.{told_of}
+use Rattle.la_world.proofs.ToldMail.{told_as, sent_sides}
 use Rattle.la_world.proofs.Deliverable.{IsDeliverableAt, deliverable_carried}
 use Rattle.la_world.proofs.Delivered.{told_sent, told_deliverable}
 use Rattle.la_replica.specs.Steps.{learnt_in}
 use Rattle.la_replica.specs.Refusals.{HasRoom}
 use Rattle.la_replica.specs.ReplicaState as acting
 use Rattle.la_replica.specs.ReplicaState.{ReplicaState, submitted_in}
-use Rattle.la_world.specs.declared.config.Config.{Config}
-use Rattle.la_world.specs.declared.done.Done.{Done}
+use Rattle.la_node.specs.declared.config.Config.{Config}
+use Rattle.la_node.specs.declared.done.Done.{Done}
 use Rattle.la_world.specs.declared.step.Opening.{Opening}
 use Rattle.la_world.specs.Groups.{Group, replicas, instances}
 use Rattle.la_world.specs.Events.{Event, Past, Submit, Deliver, Decide}
@@ -52,16 +53,15 @@ use Rattle.la_world.specs.Learnings.{learning_of, learnt}
 use Rattle.la_world.specs.Outcomes.{decisions}
 use Rattle.la_world.specs.Report.{refused, views}
 use Rattle.la_world.specs.ReplicaStates.{instance_of, proposer_state, replica_state, replica_states}
-use Rattle.la_world.specs.Following.{Taken, without_vote, vote_due, then_votes, takes, whole_done}
+use Rattle.la_node.specs.Taking.{Taken, without_vote, vote_due, then_votes, takes, whole_done}
 use Rattle.la_world.specs.StandsFor.{EventsLeadTo}
-use Rattle.la_world.specs.Nodes.{NodeState}
+use Rattle.la_node.specs.Nodes.{NodeState}
 use Rattle.la_world.specs.Calls.{views_of, decisions_at}
-use Rattle.la_world.specs.Laws.{IsAdoptCommit}
-use Rattle.la_world.specs.Promises.{KeepsPromises}
-use Rattle.la_world.specs.LiveGroups.{LearntSet, LiveGroup, LiveCall, Submitted, Proposed, Received, Looked, silence, submission, live_makes, MayAccept, learnt_from, learnt_by_call, IsGroupStep, IsGroupStart, Reaches, IsReached, told_by_calls, replicas_of, live_event, events_of, live_group_of, learnt_set_of, StandsForEvents, decisions_of}
-use Rattle.la_world.specs.LiveGroups.{LiveGroupsStandForEvents, LiveGroupsKeepAll, LiveLearntAreComparable, LiveViewsAreComparable, LiveNodesAreOneHistory, NewNodesAreLive, NetworksMayLose, SubmissionsKeepLive, ProposalsKeepLive, ReceiptsKeepLive, LooksKeepLive}
+use Rattle.la_world.specs.Headline.{IsAdoptCommit}
+use Rattle.la_world.specs.Promises.{GroupKeepsAll}
+use Rattle.la_world.specs.LiveGroups.{LearntSet, LiveGroup, LiveCall, Submitted, Proposed, Received, Looked, silence, submission, live_makes, MayAccept, learnt_from, learnt_by_call, IsGroupStep, IsGroupStart, Reaches, IsReached, told_by_calls, replicas_of, live_event, events_of, live_group_of, learnt_set_of, StandsForEvents, decisions_of, LiveGroupsStandForEvents, LiveGroupsKeepAll, LiveLearntAreComparable, LiveViewsAreComparable, LiveNodesAreOneHistory, NewNodesAreLive, NetworksMayLose, SubmissionsKeepLive, ProposalsKeepLive, ReceiptsKeepLive, LooksKeepLive}
 use Rattle.la_world.specs.Rebased.{TellsAs, IsRetold, AreRetold}
-use Rattle.la_world.specs.Kept as kept
+use Rattle.la_node.specs.Kept as kept
 use Rattle.la_world.specs.Unheard.{UnheardCallsKeepLive}
 use Rattle.la_world.proofs.Lists.{AllIn, AllIn_at, IsIn_get, contains_IsIn, IsIn_contains, IsIn_mapped, IsIn_place, get_mapped, made_at}
 use Rattle.la_world.proofs.Openings.{IsOf}
@@ -373,14 +373,11 @@ keeps_all c calls group reached =
     let s = groups_stand c calls group reached in
     let g = live_group_of c in
     let events = events_of calls in
-    record {
-      promises =
-          subst (KeepsPromises g events (learnt (trace g events))) (sym (views_are c group events s))
-          (trace_keeps g events);
-      safe =
-          subst (IsAdoptCommit events) (sym (decisions_are c group events s))
-          (adopt_commit g events (few_of c [] s.config) s.led.legal);
-    }
+    subst (λ views. GroupKeepsAll g events (learnt (trace g events)) views (decisions_of c group.nodes))
+    (sym (views_are c group events s))
+    (trace_keeps g events (decisions_of c group.nodes)
+    (subst (IsAdoptCommit events) (sym (decisions_are c group events s))
+    (adopt_commit g events (few_of c [] s.config) s.led.legal)))
 
 pub learnt_comparable_live : LiveLearntAreComparable
 learnt_comparable_live c calls group reached x y has_x has_y same =

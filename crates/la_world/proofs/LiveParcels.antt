@@ -16,7 +16,7 @@ use Rattle.la_replica.proofs.lemmas.Parcelling.{parcel_unwrapped, parcel_alike, 
 use Rattle.la_world.specs.Events.{Past}
 use Rattle.la_world.specs.LiveGroups.{IsReached, told_by_calls, events_of, live_group_of}
 use Rattle.la_world.specs.LiveParcels.{ParcelReceiptsKeepLive}
-use Rattle.la_world.specs.Nodes.{NodeState}
+use Rattle.la_node.specs.Nodes.{NodeState}
 use Rattle.la_world.specs.Playing.{trace}
 use Rattle.la_world.specs.Rebased.{TellsAs}
 use Rattle.la_world.specs.ReplicaStates.{replica_state}

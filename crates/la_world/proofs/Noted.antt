@@ -6,7 +6,7 @@ use Rattle.la_set.specs.Histories.{Histories}
 use Rattle.la_commit.specs.declared.outcome.Outcome.{Outcome}
 use Rattle.la_replica.specs.declared.message.Message as code
 use Rattle.la_replica.specs.ReplicaState.{ReplicaState}
-use Rattle.la_world.specs.declared.done.Done.{Done}
+use Rattle.la_node.specs.declared.done.Done.{Done}
 use Rattle.la_world.specs.declared.journal.Journal.{Journal}
 use Rattle.la_world.specs.declared.speaker.Speaker.{Speaker}
 use Rattle.la_world.specs.declared.step.Step.{Step}

@@ -19,7 +19,8 @@ use Rattle.la_world.specs.Groups.{Group, cap_of}
 use Rattle.la_world.specs.Events.{Event, Submit, Deliver, Decide, Ask}
 use Rattle.la_world.specs.Trace.{Did, Opened, Held, Answered, Counted, Ignored, Refined, Learnt, Took, Kept, Replied, Entry, Trace}
 use Rattle.la_world.specs.Ballots.{opened_by, opening_learnt, only, round, is_open}
-use Rattle.la_world.specs.Votes.{Submission, second_vote_of, cast_vote}
+use Rattle.la_node.specs.SecondVotes.{Submission, second_vote_of}
+use Rattle.la_world.specs.Votes.{cast_vote}
 use Rattle.la_world.specs.Submissions.{submitted_ops, updates_alone, is_refined}
 use Rattle.la_world.specs.Playing.{event_entry, trace}
 use Rattle.la_world.specs.Report.{refused}

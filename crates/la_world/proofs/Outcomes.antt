@@ -28,7 +28,8 @@ use Rattle.la_world.specs.Trace as did
 use Rattle.la_world.specs.Trace.{Did, Entry, Trace}
 use Rattle.la_world.specs.Sent.{sent}
 use Rattle.la_world.specs.Ballots.{opened_by, opening_learnt, only, round, is_open}
-use Rattle.la_world.specs.Votes.{Submission, second_vote_of, cast_vote}
+use Rattle.la_node.specs.SecondVotes.{Submission, second_vote_of}
+use Rattle.la_world.specs.Votes.{cast_vote}
 use Rattle.la_world.specs.Submissions.{submitted_ops, second_vote_after}
 use Rattle.la_world.specs.Playing.{does_submit, opens_or_waits, opens_for, does_receive, event_entry, trace}
 use Rattle.la_world.specs.Learnings.{learning, learnt}
@@ -36,8 +37,9 @@ use Rattle.la_world.specs.Outcomes.{outcome_learnt, returned, decision_of, decis
 use Rattle.la_world.specs.Report.{shown_as, line_of, report_lines, trace_of}
 use Rattle.la_world.specs.StandsFor.{IsLegalTrace}
 use Rattle.la_world.specs.Laws.{LearningsReturn, LearningsVote}
-use Rattle.la_world.specs.Promises.{learnt_by_did}
-use Rattle.la_world.specs.Returning.{outcome_told, opened_with, ShowsVote, OutcomesAreListed}
+use Rattle.la_world.specs.Reading.{learnt_by_did, outcome_told}
+use Rattle.la_world.specs.Returning.{opened_with, ShowsVote}
+use Rattle.la_world.specs.Headline.{OutcomesAreListed}
 use Rattle.la_world.proofs.Lists.{IsIn, IsIn-left, IsIn-right, IsIn_contains, contains_IsIn}
 use Rattle.la_world.proofs.Openings.{only_of, round_is}
 use Rattle.la_world.proofs.EventCases.{step as event_step}

@@ -25,7 +25,7 @@ use Rattle.la_world.proofs.OwnHistories.{own_all, IsPrefix-trans}
 use Rattle.la_world.proofs.SubmittedBound.{alone_within, submitted_prefix}
 use Rattle.la_world.proofs.Chains.{learning_justified}
 use Rattle.la_world.proofs.Traces.{Holds, always, own}
-use Rattle.la_world.proofs.Voters.{exists}
+use Rattle.la_node.proofs.lemmas.Items.{exists}
 
 abbrev HoldOwn : Trace → Type 0
 HoldOwn t = (i r : ℕ) → AllIn (λ (b : Opening). 1 ≤ count b.updates r) (ballots t i r)

@@ -26,8 +26,8 @@ use Rattle.la_world.specs.Submissions.{submitted_ops, whole, is_refined, taken_a
 use Rattle.la_world.specs.Playing.{event_entry, trace}
 use Rattle.la_world.specs.Learnings.{learning}
 use Rattle.la_world.specs.Report.{shown_as, report_lines, trace_of}
-use Rattle.la_world.specs.Promises.{learnt_by_did, IsLearntAt}
-use Rattle.la_world.specs.Reading.{ops_at, Submits, LearntWereSubmitted, taker_in, IsOpenedAt, LearntHoldTheirOwn}
+use Rattle.la_world.specs.Reading.{learnt_by_did, IsLearntAt, ops_at, Submits, taker_in, IsOpenedAt}
+use Rattle.la_world.specs.Headline.{LearntWereSubmitted, LearntHoldTheirOwn}
 use Rattle.la_world.proofs.Lists.{IsIn, AllIn_at}
 use Rattle.la_world.proofs.EventCases.{step}
 use Rattle.la_world.proofs.Quorum.{ballots_more, opened_in, event_learns}

@@ -6,7 +6,8 @@ use Rattle.std.proofs.lemmas.List.Elements.{Contains-push}
 use Rattle.std.proofs.lemmas.Option.{same_Some, none-some, slice_get_within, get_or_from_slice_get}
 use Rattle.la_set.specs.declared.update.UpdateId.{UpdateId}
 use Rattle.la_set.specs.declared.update.Op.TheVariants.{Remove}
-use Rattle.la_set.specs.Histories.{get}
+use Rattle.la_set.specs.Histories.{Histories, get}
+use Rattle.la_set.specs.Inclusion.{IsSubset}
 use Rattle.la_replica.specs.Messages.{group}
 use Rattle.la_world.specs.declared.error.Refusal.{Refusal}
 use Rattle.la_world.specs.declared.report.Line.{Line}
@@ -20,13 +21,14 @@ use Rattle.la_world.specs.Groups.{Group, replicas}
 use Rattle.la_world.specs.Events.{Event, submission_of}
 use Rattle.la_world.specs.Trace.{Trace}
 use Rattle.la_world.specs.Ballots.{opening_learnt}
-use Rattle.la_world.specs.Submissions.{submitted_ops}
+use Rattle.la_node.specs.SecondVotes.{Submission}
+use Rattle.la_world.specs.Submissions.{submission_by, submitted_ops}
 use Rattle.la_world.specs.Views.{trace_view}
 use Rattle.la_world.specs.Playing.{event_entry, trace}
 use Rattle.la_world.specs.Learnings.{learning_of, learnt}
 use Rattle.la_world.specs.Report.{refused, line_of, runs, runs_on, report_lines, trace_of, views}
-use Rattle.la_world.specs.Laws.{IsSubmittedLater, WasLearnt, next_id}
-use Rattle.la_world.specs.Promises.{learnt_by_did, IsLearntAt, IsSubmittedAt, trace_before, ArePlacesInOrder, WasLearntBefore, RemovedAreShown}
+use Rattle.la_world.specs.Promises.{IsSubmittedLater, WasLearnt, next_id, trace_before}
+use Rattle.la_world.specs.Reading.{learnt_by_did, IsLearntAt, WasLearntBefore}
 use Rattle.la_world.proofs.Asking.{becomes, done_by, line_of_place}
 use Rattle.la_world.proofs.Lists.{contains_IsIn, IsIn_made}
 use Rattle.la_world.proofs.Order.{in_order, learnt_still, learnt_submitted, removed_held}
@@ -122,6 +124,21 @@ handed_in_at g events k line at =
     there (x ∷ xs) zero lt = (x, refl)
     there (x ∷ xs) (suc k) lt = there xs k (omega arith)
 
+-- the event at this place was accepted, and submits the update with this id in instance i
+pub record IsSubmittedAt (g : Group) (events : List Event) (steps : List Line) (place i : ℕ)
+    (id : UpdateId) : Type 0 where
+  pub event : Event
+  pub handed_in : slice_get events place ≡ Some event
+  pub step : Step
+  pub done : slice_get steps place ≡ Some (Done step)
+  pub submission : Submission
+  pub submits : submission_by event (event_entry g (trace_before g events place) event).did
+      ≡ Some submission
+  pub instance : submission.instance ≡ i
+  pub replica : id.replica ≡ submission.replica
+  pub number : id.number
+      ≡ length (submitted_ops (trace_before g events place) i submission.replica) + 1
+
 -- ## A set that was learnt at a place
 
 learnt_listed : (d : step.Did) (x : Learnt) → learnt_by_did d ≡ Some x → learnings_in d ≡ x ∷ []
@@ -193,14 +210,17 @@ module _ (g : Group) (events : List Event) where
       let i = x.instance in
       let p = accepted_between g events (j + 1) k (omega arith) in
       let early = accepted_of g (take (j + 1) events) in
-      let fewer : length (submitted_ops (trace g early) i id.replica) ≤ length (submitted_ops (trace_before g events k) i id.replica) =
+      let fewer : length (submitted_ops (trace g early) i id.replica) ≤ length
+      (submitted_ops (trace_before g events k) i id.replica) =
       subst (λ es. length (submitted_ops (trace g early) i id.replica) ≤ length (submitted_ops (trace g es) i id.replica))
       (sym p.is) (stays_submitted g p.more early i id.replica) in
       let number : id.number ≡ length (submitted_ops (trace_before g events k) i id.replica) + 1 =
       h.number ∙ ap (λ r. length (submitted_ops (trace_before g events k) i r) + 1) (sym h.replica) in
       omega (arith, fewer, number)
 
-  pub learnt_in_order_of_places : ArePlacesInOrder g events (report_lines g events)
+  pub learnt_in_order_of_places : (j k l : ℕ) (x y : Learnt) (id : UpdateId) → IsLearntAt (report_lines g events) j x
+      → IsSubmittedAt g events (report_lines g events) k x.instance id → j < k → IsLearntAt (report_lines g events) l y
+      → x.instance ≡ y.instance → IsSome (get y.updates id) → IsSubset x.updates y.updates
   learnt_in_order_of_places j k l x y id at submitted_at lt was same holds =
       let until = accepted_of g (take (j + 1) events) in
       in_order g (accepted_of g events) until x y id (learnt_at_end j x at) (learnt_at_end l y was) same
@@ -223,7 +243,13 @@ module _ (g : Group) (events : List Event) where
         holds = h.holds;
       }
 
-  pub removed_shown : RemovedAreShown g events (report_lines g events) (views g (trace_of g events))
+  pub removed_shown : (place r object : ℕ) (tags : List UpdateId) (step : Step) (trace_view : Histories)
+      → slice_get events place ≡ Some (submission_of r object (Remove tags))
+      → slice_get (report_lines g events) place ≡ Some (Done step)
+      → ((tag : UpdateId) → Contains tags tag → WasLearntBefore (report_lines g events) place tag)
+      → Contains (views g (trace_of g events)) trace_view
+      → IsSome (get trace_view (next_id (trace_before g events place) r)) → (tag : UpdateId) → Contains tags tag
+      → IsSome (get trace_view tag)
   removed_shown place r object tags step shown at done stood listed holds tag named =
       let e = submission_of r object (Remove tags) in
       let was = was_done g events place e step at done in

@@ -11,7 +11,7 @@ use Rattle.la_world.specs.declared.error.Refusal.TheVariants.{NoSuchReplica, NoS
 use Rattle.la_world.specs.Groups.{Group, replicas}
 use Rattle.la_world.specs.Events.{Event, Decide}
 use Rattle.la_world.specs.Trace.{Trace}
-use Rattle.la_world.specs.Votes.{Submission}
+use Rattle.la_node.specs.SecondVotes.{Submission}
 use Rattle.la_world.specs.Submissions.{submitted_ops}
 use Rattle.la_world.specs.Playing.{event_entry, trace}
 use Rattle.la_world.specs.Report.{refused}

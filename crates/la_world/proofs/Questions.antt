@@ -1,16 +1,13 @@
 -- Questions to a world: a shelf follows its replica's view, and then answers by it.
-use Rattle.std.proofs.Common.{◌≡◌, ℕ, zero, suc, ◌+◌, ◌<◌, ◌≤◌, ◌⊎◌, inl, inr, List, [], ◌∷◌, length, get_or, slice_get, slice_set, unwrap_or, append-nil, Option, Some, None, IsSome, IsSomeAnd, option_map, refl, ap, ap₂, sym, ◌∙◌, subst, subst₂, arith, All}
+use Rattle.std.proofs.Common.{◌≡◌, ℕ, suc, ◌+◌, ◌<◌, ◌≤◌, inl, inr, List, [], ◌∷◌, length, slice_get, slice_set, unwrap_or, append-nil, Option, Some, None, IsSome, IsSomeAnd, option_map, refl, ap, ap₂, sym, ◌∙◌, subst, subst₂, arith, All}
 use Rattle.std.specs.Prelude.{nat_le, nat_lt}
-use Rattle.std.specs.List.{AllWithin}
 use Rattle.std.proofs.Math.Logic.{∥∥₁_map}
 use Rattle.std.proofs.Math.Seq.{map-set_same}
-use Rattle.std.proofs.lemmas.Bool.{cond-true, cond-false, cases_lt, lt-leb, lt-ltb}
+use Rattle.std.proofs.lemmas.Bool.{cond-true, cond-false, lt-leb, lt-ltb}
 use Rattle.std.proofs.lemmas.List.{length-set}
 use Rattle.std.proofs.lemmas.Option.{same_Some, none-some, slice_get-map, slice_get_within, get_or_from_slice_get}
 use Rattle.la_set.specs.declared.update.UpdateId.{UpdateId}
-use Rattle.la_set.specs.Histories.{Histories, empty, history, from_histories, updates}
 use Rattle.la_set.specs.Inclusion.{IsSubset}
-use Rattle.la_set.proofs.lemmas.Differences.{same_length}
 use Rattle.la_object.specs.declared.kind.Kind.{Kind}
 use Rattle.la_object.specs.declared.query.Query.{Query}
 use Rattle.la_object.specs.declared.query.Answer.{Answer}
@@ -24,11 +21,13 @@ use Rattle.la_world.specs.declared.report.Line.TheVariants.{Done}
 use Rattle.la_world.specs.declared.step.Did.TheVariants as shown
 use Rattle.la_world.specs.declared.step.Learnt.{Learnt}
 use Rattle.la_world.specs.declared.step.Step.{Step}
-use Rattle.la_world.specs.declared.config.Config.{Config}
+use Rattle.la_node.specs.declared.config.Config.{Config}
 use Rattle.la_world.specs.declared.journal.Journal.{Journal}
 use Rattle.la_world.specs.Shown.{answer_step}
-use Rattle.la_world.specs.Nodes.{NodeState, replicas_of, shelves_of, followed, with_shelf}
-use Rattle.la_world.specs.Groups.{Group, group_of, replicas, kinds_on, IsConfig}
+use Rattle.la_node.proofs.lemmas.Items.{get_set, get_put}
+use Rattle.la_node.specs.Nodes.{NodeState, replicas_of, shelves_of, followed, with_shelf}
+use Rattle.la_node.specs.Configs.{IsConfig}
+use Rattle.la_world.specs.Groups.{Group, group_of, replicas, kinds_on}
 use Rattle.la_world.specs.Events.{Event, Ask}
 use Rattle.la_world.specs.Trace.{Trace}
 use Rattle.la_world.specs.Sent.{sent}
@@ -45,8 +44,7 @@ use Rattle.la_world.proofs.Lists.{map_same}
 use Rattle.la_world.proofs.GrowingViews.{view_more}
 use Rattle.la_world.proofs.OneReplicaSteps.{replica_state-else}
 use Rattle.la_world.proofs.Unaffected.{Concerns}
-use Rattle.la_world.proofs.LargestViews.{empty_least}
-use Rattle.la_world.proofs.Worlds.{view_is, sent_is, found_at}
+use Rattle.la_world.proofs.Worlds.{view_is, sent_is}
 use Rattle.la_world.proofs.WorldNodes.{world_of_nodes, replica_found, shelf_found, looked}
 
 -- ## What a world keeps
@@ -208,21 +206,6 @@ pub record HasAbsorbed (at : ReplicaState) (s new : ShelfState) : Type 0 where
 
 -- ## A shelf that follows
 
--- what is found in a list in which one thing was put
-pub get_set : {A : Type 0} (xs : List A) (k q : ℕ) (y z : A) → slice_get (slice_set xs k y) q ≡ Some z
-    → ((q ≡ k) × (y ≡ z)) ⊎ (slice_get xs q ≡ Some z)
-get_set [] k q y z e = inr e
-get_set (x ∷ xs) zero zero y z e = inl (refl, same_Some y z e)
-get_set (x ∷ xs) zero (suc q) y z e = inr e
-get_set (x ∷ xs) (suc k) zero y z e = inr e
-get_set (x ∷ xs) (suc k) (suc q) y z e = elim (get_set xs k q y z e) [ inl p ↦ inl (ap suc p.0, p.1) | inr p ↦ inr p ]
-
-pub get_put : {A : Type 0} (xs : List A) (k : ℕ) (x y : A) → slice_get xs k ≡ Some x
-    → slice_get (slice_set xs k y) k ≡ Some y
-get_put [] k x y e = absurd (none-some x e)
-get_put (z ∷ xs) zero x y e = refl
-get_put (z ∷ xs) (suc k) x y e = get_put xs k x y e
-
 -- the world with this shelf in the place of r's
 abbrev pub then : World → (r : ℕ) → ShelfState → World
 then w r new = record w { shelves = slice_set w.shelves r new }
@@ -280,28 +263,6 @@ module _ {w : World} {r : ℕ} {at : ReplicaState} {s : ShelfState} (is : IsShel
             count = stands.count;
           };
     }
-
--- ## A shelf that has absorbed nothing
-
--- a set that has no update is empty
-pub empty_has_none : length (updates empty) ≡ 0
-unfolding empty updates history from_histories
-empty_has_none = refl
-
-pub none_empty : (s : Histories) → length (updates s) ≡ 0 → s ≡ empty
-none_empty s none = sym (same_length empty s (empty_least s) (empty_has_none ∙ sym none))
-
--- of the shelves so far, and one more
-pub unused_more : (shelves : List ShelfState) (i : ℕ) (s : ShelfState)
-    → AllWithin (λ (z : ShelfState). z.view ≡ empty) shelves 0 i → i < length shelves → s ≡ get_or shelves i s
-    → s.view ≡ empty → AllWithin (λ (z : ShelfState). z.view ≡ empty) shelves 0 (i + 1)
-unused_more shelves i s so_far lt at unused k d le more = elim (cases_lt k i) [
-  | inl before ↦ so_far k d le before
-  | inr after ↦
-      let here : i ≡ k = omega (arith, more) in
-      let same : get_or shelves i d ≡ s = get_or_from_slice_get shelves i s d (found_at shelves i s lt at) in
-      subst (λ j. (get_or shelves j d).view ≡ empty) here (ap (λ (z : ShelfState). z.view) same ∙ unused)
-]
 
 -- ## An answer, by what the code has put together
 

@@ -19,13 +19,12 @@ use Rattle.la_world.specs.Ballots.{opening_learnt}
 use Rattle.la_world.specs.Playing.{event_entry, trace}
 use Rattle.la_world.specs.Learnings.{learning_of, learnt}
 use Rattle.la_world.specs.Report.{refused, shown_as, line_of, Run, runs, runs_on, report_lines, trace_of}
-use Rattle.la_world.specs.Laws.{view_at_place}
-use Rattle.la_world.specs.Promises.{learnt_by_did, IsLearntAt, IsSubmittedAt}
-use Rattle.la_world.specs.Reading.{MarksAreRead}
+use Rattle.la_world.specs.Reading.{view_at_place, learnt_by_did, IsLearntAt}
+use Rattle.la_world.specs.Headline.{MarksAreRead}
 use Rattle.la_world.proofs.Lists.{IsIn, in_either}
 use Rattle.la_world.proofs.Asking.{answers_are_values}
 use Rattle.la_world.proofs.Order.{held_within, view_learnt}
-use Rattle.la_world.proofs.Places.{accepted_of, learnt_in_order_of_places}
+use Rattle.la_world.proofs.Places.{accepted_of, IsSubmittedAt, learnt_in_order_of_places}
 use Rattle.la_world.proofs.SubmissionLines.{lines_before, submits_by_trace}
 use Rattle.la_world.proofs.OwnUpdates.{get_taken}
 use Rattle.la_world.proofs.ShownLater.{shown_later}

@@ -1,10 +1,11 @@
 -- What every report keeps: of its lines, of what they show as learnt, and of its views.
-use Rattle.std.proofs.Common.{◌≡◌, ℕ, zero, suc, ◌+◌, ◌<◌, ◌≤◌, List, [], ◌∷◌, ◌++◌, append-nil, length, reverse, slice_get, Option, Some, None, refl, ap, sym, ◌∙◌, subst, arith}
+use Rattle.std.proofs.Common.{◌≡◌, ℕ, zero, suc, ◌+◌, ◌<◌, ◌≤◌, List, [], ◌∷◌, ◌++◌, append-nil, length, reverse, slice_get, Option, Some, None, IsSome, refl, ap, sym, ◌∙◌, subst, arith}
 use Rattle.std.specs.Prelude.{option_and_then}
 use Rattle.std.specs.List.{filter_map, cons_option}
 use Rattle.std.proofs.lemmas.List.{reverse-append}
 use Rattle.std.proofs.lemmas.List.Elements.{filter_map-append}
 use Rattle.std.proofs.lemmas.Option.{none-some}
+use Rattle.la_set.specs.Histories.{get}
 use Rattle.la_world.specs.declared.error.Refusal.{Refusal}
 use Rattle.la_world.specs.declared.report.Line.{Line}
 use Rattle.la_world.specs.declared.report.Line.TheVariants.{Refused}
@@ -17,15 +18,16 @@ use Rattle.la_world.specs.Ballots.{opening_learnt}
 use Rattle.la_world.specs.Playing.{event_entry, trace}
 use Rattle.la_world.specs.Learnings.{learning_of, learnt}
 use Rattle.la_world.specs.Report.{Run, refused, shown_as, line_of, runs, runs_on, report_lines, trace_of}
-use Rattle.la_world.specs.Promises.{learnt_by_did, learnt_on, IsLearntAt, AreListed, LinesAreComparable, LinesGrow}
-use Rattle.la_world.specs.Reported.{ReportsKeepPromises}
+use Rattle.la_world.specs.Reading.{learnt_by_did, learnt_on, IsLearntAt}
+use Rattle.la_world.specs.Headline.{AreListed, LinesAreComparable, LinesGrow, ReportsKeepPromises}
 use Rattle.la_world.proofs.Asking.{answers_are_values, answers_alike}
 use Rattle.la_world.proofs.Chains.{learnt_comparable}
 use Rattle.la_world.proofs.LearntOrder.{learnt_grow}
 use Rattle.la_world.proofs.Places.{accepted_of, learnt_at_end, learnt_in_order_of_places, removed_shown}
+use Rattle.la_world.proofs.SubmissionLines.{ops_before, submits_by_trace}
 use Rattle.la_world.proofs.OwnUpdates.{learnt_were_submitted, learnt_hold_their_own}
 use Rattle.la_world.proofs.ReadsByMarks.{marks_are_read}
-use Rattle.la_world.proofs.Promised.{list_keeps}
+use Rattle.la_world.proofs.Promised.{one_history}
 use Rattle.la_world.proofs.Outcomes.{outcomes_listed}
 use Rattle.la_world.proofs.Safe.{reported}
 use Rattle.la_world.proofs.Seeing.{views_seen}
@@ -140,7 +142,6 @@ module _ (g : Group) (events : List Event) where
 pub reports_keep : ReportsKeepPromises
 reports_keep c kinds events is =
     let g = group_of c kinds in
-    let kept = list_keeps g events in
     record {
       listed = listed g events;
       comparable = lines_comparable g events;
@@ -148,9 +149,13 @@ reports_keep c kinds events is =
       submitted = learnt_were_submitted g events;
       own = learnt_hold_their_own g events (few_of c kinds is);
       largest = views_seen g events;
-      one_history = kept.one_history;
-      order = learnt_in_order_of_places g events;
-      removed = removed_shown g events;
+      one_history = one_history g (accepted_of g events);
+      order = λ j k l x y update at submits lt.
+          learnt_in_order_of_places g events j k l x y update.id at
+          (submits_by_trace g events k x.instance update submits) lt;
+      removed = λ place r object tags step shown at done stood listed holds.
+          removed_shown g events place r object tags step shown at done stood listed
+          (subst (λ ops. IsSome (get shown (record { replica = r; number = length ops + 1 }))) (ops_before g events place 0 r) holds);
       reads = marks_are_read g events;
       answers = answers_alike g events (report_lines g events) (answers_are_values g events);
       outcomes = outcomes_listed g events (few_of c kinds is);

@@ -16,7 +16,8 @@ use Rattle.la_world.specs.Outcomes.{decision_of, returned, decisions_on, decisio
 use Rattle.la_world.specs.Playing.{trace}
 use Rattle.la_world.specs.ReplicaStates.{instance_of, replica_state, replica_states}
 use Rattle.la_world.specs.StandsFor.{World, group_in, StandsFor}
-use Rattle.la_world.specs.Calls.{returned_by, returned_at, returned_in, returned_of, decision_by, decisions_at, decisions_in}
+use Rattle.la_node.specs.Nodes.{returned_by}
+use Rattle.la_world.specs.Calls.{returned_at, returned_in, returned_of, decision_by, decisions_at, decisions_in}
 use Rattle.la_world.proofs.OneReplicaSteps.{get_instance}
 use Rattle.la_world.proofs.Worlds.{replica_state_found}
 

@@ -15,7 +15,8 @@ use Rattle.la_world.specs.Outcomes.{decisions}
 use Rattle.la_world.specs.Report.{refused, line_of, Run, runs, runs_on, accepted_among}
 use Rattle.la_world.specs.StandsFor.{World, kinds_of, group_in, StandsFor, IsLegalTrace}
 use Rattle.la_world.specs.Calls.{decisions_in}
-use Rattle.la_world.specs.Laws.{IsAdoptCommit, ReportedOutcomesAreSafe}
+use Rattle.la_world.specs.Headline.{IsAdoptCommit}
+use Rattle.la_world.specs.Laws.{ReportedOutcomesAreSafe}
 use Rattle.la_world.proofs.Agreement.{adopt_commit}
 use Rattle.la_world.proofs.Returned.{decisions_are}
 use Rattle.la_world.proofs.WorldSteps.{few_of}

@@ -22,7 +22,8 @@ use Rattle.la_world.specs.Groups.{Group, instances}
 use Rattle.la_world.specs.Events.{Event}
 use Rattle.la_world.specs.Trace.{Did, Ignored, Took, Kept, Learnt, Entry, Trace}
 use Rattle.la_world.specs.Ballots.{opened_by, opening_learnt, only, ballots, round, is_open}
-use Rattle.la_world.specs.Votes.{Submission, cast_vote}
+use Rattle.la_node.specs.SecondVotes.{Submission}
+use Rattle.la_world.specs.Votes.{cast_vote}
 use Rattle.la_world.specs.Submissions.{updates_alone, submitted_ops, submission_by, object_op_in, second_vote_after}
 use Rattle.la_world.specs.Views.{trace_view}
 use Rattle.la_world.specs.Playing.{opened_after_learning, ends, counts_reply, counted_with, does_hear, does_answer, does_tell, does_receive_body, does_receive, trace}

@@ -28,13 +28,14 @@ use Rattle.la_world.specs.Views.{told_sets, told_to, opening_sets, seen_at, seen
 use Rattle.la_world.specs.Playing.{delivered, event_entry, trace}
 use Rattle.la_world.specs.Learnings.{learning, learning_of, learnt}
 use Rattle.la_world.specs.Report.{Run, refused, shown_as, line_of, runs, runs_on, report_lines, trace_of, views}
-use Rattle.la_world.specs.Promises.{learnt_by_did, place_beside, IsToldAt, IsSeenAt, WasSeen, AreLargestSeen}
+use Rattle.la_world.specs.Reading.{learnt_by_did, place_beside, IsToldAt, IsSeenAt, WasSeen}
+use Rattle.la_world.specs.Headline.{AreLargestSeen}
 use Rattle.la_world.proofs.Allowing.{none_from_cond}
 use Rattle.la_world.proofs.Asking.{done_by}
 use Rattle.la_world.proofs.Lists.{IsIn, AllIn, AllIn-map, AllIn_at, IsIn_get, IsIn-left, IsIn-right, in_either, IsIn_contains, contains_IsIn}
 use Rattle.la_world.proofs.Openings.{only_is, both_at}
 use Rattle.la_world.proofs.Places.{accepted_of, accepted_before, accepted_between, accepted_next, handed_in_at, was_done, learnt_at_end}
-use Rattle.la_world.proofs.Promised.{trace_keeps}
+use Rattle.la_world.proofs.Promised.{largest}
 use Rattle.la_world.proofs.Safe.{line_each}
 use Rattle.la_world.proofs.TellOrder.{beside_is, beside_only, tell_at, IsTell, tell_is}
 
@@ -551,13 +552,13 @@ pub views_seen : (g : Group) (events : List Event)
     → AreLargestSeen g events (report_lines g events) (views g (trace_of g events))
 views_seen g events r s at =
     let sets = seen (trace_of g events) r in
-    let largest = (trace_keeps g (accepted_of g events)).largest r s at in
+    let all = largest g (accepted_of g events) r s at in
     record {
       contains =
           λ u h.
-          largest.contains u
+          all.contains u
           (IsIn_contains sets u (subst (λ z. IsIn z sets) h.set (was_seen g events h.place r h.learnt_as h.seen)));
-      is_one = elim largest.is_one [
+      is_one = elim all.is_one [
         | inl c ↦ inl (subst (λ xs. WasSeen g xs (report_lines g events) r s) (reverse-reverse events) (seen_from g (reverse events) r s (contains_IsIn sets s c)))
         | inr none ↦ inr ((λ u h. subst (IsIn u) none.0 (subst (λ z. IsIn z sets) h.set (was_seen g events h.place r h.learnt_as h.seen))), none.1)
       ];

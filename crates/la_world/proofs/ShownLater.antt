@@ -11,8 +11,7 @@ use Rattle.la_world.specs.Views.{opening_sets, told_to, seen_at, seen}
 use Rattle.la_world.specs.Playing.{trace}
 use Rattle.la_world.specs.Learnings.{learning_of, learnt}
 use Rattle.la_world.specs.Report.{report_lines}
-use Rattle.la_world.specs.Promises.{IsLearntAt}
-use Rattle.la_world.specs.Laws.{view_at_place}
+use Rattle.la_world.specs.Reading.{IsLearntAt, view_at_place}
 use Rattle.la_world.proofs.Lists.{IsIn, IsIn-left, IsIn-right, IsIn_contains, contains_IsIn, in_either}
 use Rattle.la_world.proofs.Order.{learnt_still}
 use Rattle.la_world.proofs.LargestViews.{views_largest}

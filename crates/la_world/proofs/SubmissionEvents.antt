@@ -5,7 +5,7 @@ use Rattle.la_set.specs.ObjectOps.{ObjectOp}
 use Rattle.la_world.specs.Groups.{Group, replicas, instances}
 use Rattle.la_world.specs.Events.{Event, Submit, Deliver, Decide, Ask}
 use Rattle.la_world.specs.Trace.{Counted, Trace}
-use Rattle.la_world.specs.Votes.{Submission}
+use Rattle.la_node.specs.SecondVotes.{Submission}
 use Rattle.la_world.specs.Playing.{does_submit, event_entry}
 use Rattle.la_world.specs.Report.{refused}
 use Rattle.la_world.specs.Calls.{IsEventSubmission}

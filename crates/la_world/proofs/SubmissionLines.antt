@@ -14,14 +14,13 @@ use Rattle.la_world.specs.Events.{Event, Submit, Deliver, Decide, Ask}
 use Rattle.la_world.specs.Trace as did
 use Rattle.la_world.specs.Trace.{Did, Trace}
 use Rattle.la_world.specs.Ballots.{opening_learnt}
-use Rattle.la_world.specs.Votes.{Submission}
+use Rattle.la_node.specs.SecondVotes.{Submission}
 use Rattle.la_world.specs.Submissions.{submission_by, second_vote_after, object_op_in, submitted_ops}
 use Rattle.la_world.specs.Playing.{event_entry, trace}
 use Rattle.la_world.specs.Report.{refused, shown_as, line_of, Run, runs, runs_on, report_lines, trace_of}
-use Rattle.la_world.specs.Promises.{learnt_by_did, IsSubmittedAt}
-use Rattle.la_world.specs.Reading.{vote_after, submission_at, ops_at, Submits}
+use Rattle.la_world.specs.Reading.{learnt_by_did, vote_after, submission_at, ops_at, Submits}
 use Rattle.la_world.proofs.Safe.{line_each}
-use Rattle.la_world.proofs.Places.{was_done}
+use Rattle.la_world.proofs.Places.{was_done, IsSubmittedAt}
 
 -- ## One line
 

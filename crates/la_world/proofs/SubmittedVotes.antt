@@ -16,7 +16,8 @@ use Rattle.la_world.specs.Groups.{Group}
 use Rattle.la_world.specs.Events.{Event, Submit, Deliver, Decide, Ask}
 use Rattle.la_world.specs.Trace.{Entry, Trace}
 use Rattle.la_world.specs.Ballots.{opening_learnt}
-use Rattle.la_world.specs.Votes.{Submission, second_vote_of, cast_vote}
+use Rattle.la_node.specs.SecondVotes.{Submission, second_vote_of}
+use Rattle.la_world.specs.Votes.{cast_vote}
 use Rattle.la_world.specs.Submissions.{submitted_ops}
 use Rattle.la_world.specs.Learnings.{learning, learning_of, learnt}
 use Rattle.la_world.specs.Playing.{event_entry, trace}

@@ -8,7 +8,7 @@ use Rattle.la_set.specs.Histories.{Histories}
 use Rattle.la_replica.specs.Whole.{Message}
 use Rattle.la_replica.specs.declared.sender.Sender.{Sender}
 use Rattle.la_replica.specs.Messages.{tell_to, is_to_other}
-use Rattle.la_world.specs.Promises.{place_beside}
+use Rattle.la_world.specs.Reading.{place_beside}
 
 -- r is number q of those from a on that are not p
 pub record Beside (p a r q : ℕ) : Type 0 where

@@ -26,12 +26,13 @@ use Rattle.la_world.specs.Acceptors.{offered, accepted_there}
 use Rattle.la_world.specs.Ballots.{is_of, only, round}
 use Rattle.la_world.specs.Counting.{counted_replies}
 use Rattle.la_world.specs.Learnings.{last_learnt_ballot}
-use Rattle.la_world.specs.Votes.{Submission, second_vote_in}
+use Rattle.la_node.specs.SecondVotes.{Submission, second_vote_in}
 use Rattle.la_world.specs.Submissions.{object_op_in, submitted_ops}
 use Rattle.la_world.specs.Views.{trace_view}
 use Rattle.la_world.specs.Playing.{after_vote, opened_after_learning, does_receive}
 use Rattle.la_world.specs.ReplicaStates.{reports, proposer_state, instance_of, replica_state}
-use Rattle.la_world.specs.Following.{opened_there, voted_with, vote_added, vote_due, then_votes, takes, receipt_taken, StepsAs}
+use Rattle.la_node.specs.Taking.{with_vote, vote_due, then_votes, takes}
+use Rattle.la_world.specs.Following.{opened_there, voted_with, receipt_taken, StepsAs}
 use Rattle.la_world.proofs.Lists.{IsIn}
 use Rattle.la_world.proofs.Openings.{IsOf, not_both, IsAway, round_is, round-same, is_open-learnt, only_of}
 use Rattle.la_world.proofs.Reports.{reports-away}
@@ -237,8 +238,8 @@ module _ (g : Group) (t : Trace) (k : ℕ) (m : Message) (there : m.instance < i
   takes_so =
       ap (option_and_then (λ (made : Out × ReplicaState). then_votes made (vote_due i r made.0.said))) receives_so
       ∙ ap (then_votes (learning, middle)) vote_is
-      ∙ ap (option_map (λ (cast : Out × ReplicaState). (vote_added learning j cast.0, cast.1))) submits_so
-      ∙ ap (λ z. Some (vote_added (record { said = said.Learnt last.updates None; mail = z }) j casting, replica_state g (x ∷ t) r)) (append-nil (tells_for (replicas g) last))
+      ∙ ap (option_map (λ (cast : Out × ReplicaState). (with_vote learning j cast.0, cast.1))) submits_so
+      ∙ ap (λ z. Some (with_vote (record { said = said.Learnt last.updates None; mail = z }) j casting, replica_state g (x ∷ t) r)) (append-nil (tells_for (replicas g) last))
       ∙ ap (λ v. Some (record { said = said.Learnt last.updates (opened_there (Some next) v); voted = voted_with (Some next) v; mail = tells_for (replicas g) last ++ offers_for (replicas g) next }, replica_state g (x ∷ t) r)) (sym l.vote)
 
   -- the step is what the trace says

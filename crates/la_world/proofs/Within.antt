@@ -11,7 +11,7 @@ use Rattle.la_set.proofs.lemmas.Joins.{join-least}
 use Rattle.la_acceptor.specs.declared.reply.Reply.{Reply}
 use Rattle.la_acceptor.specs.declared.reply.Reply.TheVariants as replied
 use Rattle.la_acceptor.specs.Answer.{answer}
-use Rattle.la_acceptor.proofs.lemmas.Accepting.{contains-empty}
+use Rattle.la_set.proofs.lemmas.Inclusions.{contains-empty}
 use Rattle.la_proposer.specs.declared.tally.Counted.{Counted}
 use Rattle.la_proposer.specs.Tally.{with_refusal, joined_with_refusals}
 use Rattle.la_replica.specs.Whole.{Message, Body, Offer, Yes, No, Tell}

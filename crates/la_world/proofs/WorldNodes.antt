@@ -8,10 +8,10 @@ use Rattle.la_proposer.specs.Majority.{votes_of}
 use Rattle.la_object.specs.Shelves.{ShelfState, kind_at}
 use Rattle.la_replica.specs.declared.message.Message as code
 use Rattle.la_replica.specs.ReplicaState.{start}
-use Rattle.la_world.specs.declared.config.Config.{Config}
+use Rattle.la_node.specs.declared.config.Config.{Config}
 use Rattle.la_world.specs.declared.journal.Journal.{Journal}
 use Rattle.la_world.specs.Events.{Event}
-use Rattle.la_world.specs.Nodes.{NodeState, node_at_start, replicas_of, shelves_of}
+use Rattle.la_node.specs.Nodes.{NodeState, node_at_start, replicas_of, shelves_of}
 use Rattle.la_world.specs.StandsFor.{World, world_of}
 use Rattle.la_world.specs.Calls.{HoldsWorldInvariant, IsEventSubmission, IsAllowed, HasObject}
 use Rattle.la_world.proofs.Lists.{get_mapped}

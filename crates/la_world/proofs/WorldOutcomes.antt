@@ -12,14 +12,14 @@ use Rattle.la_world.specs.Outcomes.{returned, decision_of}
 use Rattle.la_world.specs.Playing.{trace}
 use Rattle.la_world.specs.ReplicaStates.{replica_state}
 use Rattle.la_world.specs.StandsFor.{World, kinds_of, group_in, StandsFor, IsLegalTrace}
-use Rattle.la_world.specs.Calls.{PlaysEvent, Keeps, returned_by, returned_in, returned_of, decision_by, decisions_in}
-use Rattle.la_world.specs.Laws.{IsAdoptCommit}
-use Rattle.la_world.specs.Returning.{ShowsOutcome, ShowsVote, OutcomesStayThere, AnswersAreListed}
+use Rattle.la_node.specs.Nodes.{returned_by}
+use Rattle.la_world.specs.Calls.{PlaysEvent, Keeps, returned_in, returned_of, decision_by, decisions_in}
+use Rattle.la_world.specs.Headline.{OutcomesStayThere}
+use Rattle.la_world.specs.Returning.{ShowsOutcome, ShowsVote, AnswersAreListed}
 use Rattle.la_world.proofs.Lists.{IsIn_get}
 use Rattle.la_world.proofs.Worlds.{replica_state_found}
 use Rattle.la_world.proofs.WorldSteps.{few_of}
 use Rattle.la_world.proofs.Returned.{returned_found}
-use Rattle.la_world.proofs.Safe.{returns_safely}
 use Rattle.la_world.proofs.Staying.{outcomes_stay}
 use Rattle.la_world.proofs.Outcomes.{listed_by, is_told, shows_vote, did_of_line}
 
@@ -80,9 +80,6 @@ module _ (w : World) (events : Past) (e : Event) (s : Step) (after : World) (sta
           ∙ outcomes_stay g events (e ∷ []) k r o legal h
       go true known false there h = absurd (none-some o h)
       go false known v there h = absurd (none-some o h)
-
-  pub play_safe : IsAdoptCommit (e ∷ events) (decisions_in after)
-  play_safe = returns_safely after (e ∷ events) p.stands
 
 -- where nothing has happened
 pub kept_stays : (w : World) (events : Past) (after : World) → StandsFor w events → Keeps w after

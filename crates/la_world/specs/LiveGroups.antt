@@ -20,23 +20,23 @@ use Rattle.la_replica.specs.Whole.{Message, Out, whole_out}
 use Rattle.la_replica.specs.Steps.{learnt_in}
 use Rattle.la_replica.specs.Refusals.{HasRoom}
 use Rattle.la_replica.specs.ReplicaState.{ReplicaState, submits, submitted_in}
-use Rattle.la_world.specs.declared.config.Config.{Config}
-use Rattle.la_world.specs.declared.done.Done.{Done}
+use Rattle.la_node.specs.declared.config.Config.{Config}
+use Rattle.la_node.specs.declared.done.Done.{Done}
 use Rattle.la_world.specs.declared.report.Decision.{Decision}
 use Rattle.la_world.specs.declared.step.Learnt.{Learnt}
-use Rattle.la_world.specs.Groups.{Group, group_of, replicas, IsConfig}
+use Rattle.la_node.specs.Configs.{IsConfig}
+use Rattle.la_world.specs.Groups.{Group, group_of, replicas}
 use Rattle.la_world.specs.Told.{told_messages}
 use Rattle.la_world.specs.Events.{Event, Past, Submit, Deliver, Decide}
 use Rattle.la_world.specs.Playing.{trace}
 use Rattle.la_world.specs.Learnings.{learnt}
 use Rattle.la_world.specs.StandsFor.{EventsLeadTo}
-use Rattle.la_world.specs.Following.{Taken, without_vote, takes, whole_done}
+use Rattle.la_node.specs.Taking.{Taken, without_vote, takes, whole_done}
 use Rattle.la_world.specs.Rebased.{AreRetold}
-use Rattle.la_world.specs.Nodes.{NodeState}
-pub use Rattle.la_world.specs.Nodes.{replicas_of}
+use Rattle.la_node.specs.Nodes.{NodeState}
+pub use Rattle.la_node.specs.Nodes.{replicas_of}
 use Rattle.la_world.specs.Calls.{replica_states_at_start, views_of, decisions_at}
-use Rattle.la_world.specs.Promises.{KeepsPromises}
-use Rattle.la_world.specs.Laws.{IsAdoptCommit}
+use Rattle.la_world.specs.Promises.{GroupKeepsAll}
 
 -- ## Calls
 
@@ -192,14 +192,11 @@ decisions_of c nodes =
     flat_map (decisions_at (replicas_of nodes)) (range_with_len 0 c.commits)
 
 -- so it keeps what a world promises
-pub record LiveGroupKeepsAll (c : Config) (calls : List (ℕ × LiveCall)) (group : LiveGroup) : Type 0 where
-  pub promises : let g = live_group_of c in let events = events_of calls in
-      KeepsPromises g events (learnt (trace g events)) (views_of (replicas_of group.nodes))
-  pub safe : IsAdoptCommit (events_of calls) (decisions_of c group.nodes)
-
 abbrev pub LiveGroupsKeepAll : Type 0
 LiveGroupsKeepAll = (c : Config) (calls : List (ℕ × LiveCall)) (group : LiveGroup) →
-    Reaches c calls group → LiveGroupKeepsAll c calls group
+    Reaches c calls group → let g = live_group_of c in let events = events_of calls in
+    GroupKeepsAll g events (learnt (trace g events)) (views_of (replicas_of group.nodes))
+    (decisions_of c group.nodes)
 
 -- any two sets that nodes said they learnt in one instance are comparable
 abbrev pub LiveLearntAreComparable : Type 0

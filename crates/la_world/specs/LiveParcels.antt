@@ -5,11 +5,11 @@ use Rattle.la_replica.specs.declared.parcel.Parcel.{Parcel}
 use Rattle.la_replica.specs.Bases.{offered_by, AreToldIn}
 use Rattle.la_replica.specs.Parcels.{IsParcelOf, unwrapped_in, UnwrapsIn}
 use Rattle.la_replica.specs.Received.{received_in, StandsIn}
-use Rattle.la_world.specs.declared.done.Done.{Done}
-use Rattle.la_world.specs.Following.{takes, whole_done}
+use Rattle.la_node.specs.declared.done.Done.{Done}
+use Rattle.la_node.specs.Taking.{takes, whole_done}
 use Rattle.la_world.specs.LiveGroups.{AreLive}
 use Rattle.la_world.specs.Rebased.{AreRetold}
-use Rattle.la_world.specs.Nodes.{NodeState}
+use Rattle.la_node.specs.Nodes.{NodeState}
 
 -- a parcel is of one of these messages, for whatever was believed of its receiver
 abbrev pub IsParcelAmong : Parcel → (messages : List code.Message) → Type 0

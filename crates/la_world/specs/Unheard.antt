@@ -5,8 +5,8 @@ use Rattle.la_replica.specs.declared.message.Message.{Message}
 use Rattle.la_replica.specs.Received.{StandsIn}
 use Rattle.la_replica.specs.Refusals.{HasRoom}
 use Rattle.la_replica.specs.ReplicaState.{ReplicaState, submitted_in}
-use Rattle.la_world.specs.Nodes.{NodeState}
-use Rattle.la_world.specs.Kept.{KeptCall, Submitted, Proposed, Received, after_call}
+use Rattle.la_node.specs.Nodes.{NodeState}
+use Rattle.la_node.specs.Kept.{KeptCall, Submitted, Proposed, Received, after_call}
 use Rattle.la_world.specs.LiveGroups.{AreLive, IsAmong}
 
 -- the calls that node r may accept: an update where its cap leaves room, its first proposal to an object, and a

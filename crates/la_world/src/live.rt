@@ -8,7 +8,8 @@ ghost use Rattle.la_world.specs.LiveGroups.{NetworksMayLose, SubmissionsKeepLive
 ghost use Rattle.la_world.specs.LiveGroups.{ProposalsKeepLive, ReceiptsKeepLive, LooksKeepLive};
 ghost use Rattle.la_world.specs.LiveParcels.{ParcelReceiptsKeepLive};
 ghost use Rattle.la_world.specs.Unheard.{UnheardCallsKeepLive};
-ghost use Rattle.la_world.specs.Kept.{KeptListsLeadOn, KeptListsArePlayedAgain};
+
+pub use la_node::laws::{kept_lists_are_played_again, kept_lists_lead_on};
 
 /// A group that calls lead to stands for the events that these calls are: for the accepted updates,
 /// proposals and receipts, one after another, whatever the network loses, repeats or brings late.
@@ -83,16 +84,4 @@ pub fn looks_keep_live()
 /// such calls led keeps its group live.
 pub fn unheard_calls_keep_live()
     ensures { UnheardCallsKeepLive }
-{}
-
-/// Where a list of accepted calls leads from a new replica to a node's, the list with the next call
-/// that the node accepts leads to its replica then.
-pub fn kept_lists_lead_on()
-    ensures { KeptListsLeadOn }
-{}
-
-/// Where a first part of a list of accepted calls is played into a new node, the rest leads from there to
-/// where it led before.
-pub fn kept_lists_are_played_again()
-    ensures { KeptListsArePlayedAgain }
 {}

@@ -1,9 +1,10 @@
 // What a report tells of a world's replicas and of what they learnt.
 ghost use Rattle.std.specs.Prelude.{◌≡◌, ◌++◌, IfOk, OnOk};
-ghost use Rattle.la_world.specs.Nodes.{replicas_of};
+ghost use Rattle.la_node.specs.Nodes.{replicas_of};
 ghost use Rattle.la_world.specs.Calls.{views_of, decisions_at};
 
-use crate::{Decision, Learnt, Node};
+use crate::{Decision, Learnt};
+use la_node::Node;
 use la_object::Replicated;
 use la_set::UpdateSet;
 use std::alloc::AllocError;

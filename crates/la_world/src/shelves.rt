@@ -1,7 +1,6 @@
 // What a world needs of the shelves that are handed to it.
-ghost use Rattle.std.specs.Prelude.{◌≡◌, ◌↔◌, IsTrue, IfOk, All, [], replicate};
+ghost use Rattle.std.specs.Prelude.{◌≡◌, IfOk, [], replicate};
 ghost use Rattle.la_set.specs.Histories.{empty};
-ghost use Rattle.la_object.specs.Shelves.{ShelfState};
 
 use la_object::{Replicated, Shelf};
 use std::alloc::{AllocError, Global};
@@ -20,17 +19,4 @@ pub fn empty_shelves<B: Replicated>(
         shelves.push(Shelf::new(alloc))?;
     }
     Ok(shelves)
-}
-
-/// Whether none of the shelves has absorbed anything, as a new world asks of them. The cost is a step
-/// for each.
-pub fn are_unused<B: Replicated>(shelves: &[Shelf<B>]) -> bool
-    ensures { IsTrue result ↔ All (λ (s : ShelfState). s.view ≡ empty) shelves.now }
-{
-    for shelf in shelves {
-        if shelf.view().len() != 0 {
-            return false;
-        }
-    }
-    true
 }

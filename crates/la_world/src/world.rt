@@ -4,18 +4,14 @@ ghost use Rattle.std.specs.Option.{option_copied};
 ghost use Rattle.la_world.specs.Events.{Past, event_of};
 ghost use Rattle.la_world.specs.Printable.{IsPrintable};
 ghost use Rattle.la_world.specs.StandsFor.{StandsFor, group_in, trace_in, sent_in, world_told};
-ghost use Rattle.la_world.specs.Nodes.{replicas_of, shelves_of};
+ghost use Rattle.la_node.specs.Nodes.{replicas_of, shelves_of};
 ghost use Rattle.la_world.specs.Calls.{IsWorldGroup, IsMakingRefusal, replica_states_at_start, Keeps};
 ghost use Rattle.la_world.specs.Calls.{may_absorb, IsSameUnless, PlaysEvent, RefusesEvent, StandsForMessage};
-ghost use Rattle.la_world.specs.Calls.{view_at, view_in, known_view, views_of, decisions_in};
+ghost use Rattle.la_world.specs.Calls.{view_at, view_in, known_view, decisions_in};
 ghost use Rattle.la_world.specs.Calls.{returned_in, returned_of, report_with, report_after};
-ghost use Rattle.la_world.specs.Laws.{IsAdoptCommit};
-ghost use Rattle.la_world.specs.Promises.{AreAllComparable, AreGrowing, AreValid, AreLargest};
-ghost use Rattle.la_world.specs.Promises.{AreOneHistory, AreInOrder, RemovedAreInViews};
-ghost use Rattle.la_world.specs.Promises.{AreValidIn, AreLargestIn, AreInOrderIn, RemovedAreIn};
-ghost use Rattle.la_world.specs.Promises.{KeepsPromises, NoViewShrinks};
-ghost use Rattle.la_world.specs.Returning.{ShowsOutcome, ShowsVote, OutcomesStayThere};
-ghost use Rattle.la_world.specs.Returning.{AnswersAreListed};
+ghost use Rattle.la_world.specs.Headline.{IsAdoptCommit, NoViewShrinks, OutcomesStayThere};
+ghost use Rattle.la_world.specs.Promises.{GroupKeepsAll, WorldKeepsAll};
+ghost use Rattle.la_world.specs.Returning.{ShowsOutcome, ShowsVote, AnswersAreListed};
 
 mod deliveries;
 mod questions;
@@ -23,10 +19,10 @@ mod submissions;
 
 use crate::journal::Journal;
 use crate::reporting::{add_decisions, copy_learnings, copy_views};
-use crate::shelves::are_unused;
-use crate::{Config, Decisions, Event, Learnings, Node, Report, Step, Steps, Views, WorldError};
+use crate::{Decisions, Event, Learnings, Report, Step, Steps, Views};
 use la_commit::Outcome;
-use la_object::{Replicated, Shelf};
+use la_node::{Config, Node, WorldError};
+use la_object::{Replicated, Shelf, are_unused};
 use la_replica::StoredMessage;
 use la_set::UpdateSet;
 use std::alloc::{AllocError, Global};
@@ -49,7 +45,7 @@ pub struct World<B: Replicated> {
 impl<B: Replicated> Model for World<B> {
     ghost use Rattle.la_world.specs.StandsFor.{World, world_of};
     ghost use Rattle.la_world.specs.Calls.{HoldsWorldInvariant};
-    ghost use Rattle.la_world.specs.Nodes.{replicas_of, shelves_of};
+    ghost use Rattle.la_node.specs.Nodes.{replicas_of, shelves_of};
 
     ghost Value = { World };
 
@@ -118,20 +114,8 @@ impl<B: Replicated> World<B> {
         requires { self.old.count + 1 < 2 ^ 64 }
         ensures step { (events : Past) → StandsFor self.old events →
             IfOk result (λ step. PlaysEvent self.old events (event_of event.now) step self.new) }
-        ensures comparable { (events : Past) → StandsFor self.old events →
-            OnOk result (AreAllComparable self.new.learnt) }
-        ensures grows { (events : Past) → StandsFor self.old events →
-            OnOk result (AreGrowing self.new.learnt) }
-        ensures valid { (events : Past) → StandsFor self.old events →
-            OnOk result (AreValidIn self.new (event_of event.now ∷ events)) }
-        ensures largest { (events : Past) → StandsFor self.old events →
-            OnOk result (AreLargestIn self.new (event_of event.now ∷ events)) }
-        ensures one_history { (events : Past) → StandsFor self.old events →
-            OnOk result (AreOneHistory (views_of self.new.replica_states)) }
-        ensures order { (events : Past) → StandsFor self.old events →
-            OnOk result (AreInOrderIn self.new (event_of event.now ∷ events)) }
-        ensures removed { (events : Past) → StandsFor self.old events →
-            OnOk result (RemovedAreIn self.new (event_of event.now ∷ events)) }
+        ensures keeps_all { (events : Past) → StandsFor self.old events →
+            OnOk result (WorldKeepsAll self.new (event_of event.now ∷ events)) }
         ensures views { (events : Past) → StandsFor self.old events →
             OnOk result (NoViewShrinks self.old self.new) }
         ensures outcome { (events : Past) → StandsFor self.old events →
@@ -141,8 +125,6 @@ impl<B: Replicated> World<B> {
         ensures stays { (events : Past) → StandsFor self.old events →
             OutcomesStayThere self.old self.new }
         ensures listed { (events : Past) → StandsFor self.old events → AnswersAreListed self.new }
-        ensures safe { (events : Past) → StandsFor self.old events → OnOk result
-            (IsAdoptCommit (event_of event.now ∷ events) (decisions_in self.new)) }
         ensures printable { IfOk result IsPrintable }
         ensures error { (events : Past) → StandsFor self.old events →
             IfErr result (RefusesEvent self.old events (event_of event.now)) }
@@ -275,40 +257,13 @@ impl<B: Replicated> World<B> {
 
     /// A report of these lines, of what was learnt, of the views and of what was returned, at the
     /// cost of an entry for each; their updates are shared. It refuses with want of memory alone.
+    #[tactic(auto, using(crate::proofs::Worlds::views_are, crate::proofs::Returned::decisions_are, crate::proofs::Promised::world_keeps))]
     pub fn report(&self, steps: Steps) -> Result<Report, AllocError>
         ensures value { IfOk result (λ report. report ≡ report_with self.now steps) }
         ensures stands { (events : Past) → StandsFor self.now events →
             IfOk result (λ report. report ≡ report_after self.now events steps) }
-        ensures comparable { (events : Past) → StandsFor self.now events →
-            IfOk result (λ report. AreAllComparable report.learnt) }
-        ensures grows { (events : Past) → StandsFor self.now events →
-            IfOk result (λ report. AreGrowing report.learnt) }
-        ensures valid { (events : Past) → StandsFor self.now events →
-            IfOk result (λ report. AreValid (group_in self.now) events report.learnt) }
-        ensures largest { (events : Past) → StandsFor self.now events →
-            IfOk result (λ report. AreLargest (group_in self.now) events report.views) }
-        ensures one_history { (events : Past) → StandsFor self.now events →
-            IfOk result (λ report. AreOneHistory report.views) }
-        ensures order { (events : Past) → StandsFor self.now events →
-            IfOk result (λ report. AreInOrder (group_in self.now) events report.learnt) }
-        ensures removed { (events : Past) → StandsFor self.now events →
-            IfOk result (λ report. RemovedAreInViews (group_in self.now) events report.views) }
-        ensures safe { (events : Past) → StandsFor self.now events →
-            IfOk result (λ report. IsAdoptCommit events report.outcomes) }
-    {
-        self.gather(steps)
-    }
-
-    // The same, with what is promised of its lists in one.
-    #[tactic(auto, using(crate::proofs::Worlds::views_are, crate::proofs::Returned::decisions_are, crate::proofs::Safe::returns_safely, crate::proofs::Promised::world_keeps))]
-    fn gather(&self, steps: Steps) -> Result<Report, AllocError>
-        ensures value { IfOk result (λ report. report ≡ report_with self.now steps) }
-        ensures stands { (events : Past) → StandsFor self.now events →
-            IfOk result (λ report. report ≡ report_after self.now events steps) }
-        ensures promises { (events : Past) → StandsFor self.now events → IfOk result (λ report.
-            KeepsPromises (group_in self.now) events report.learnt report.views) }
-        ensures safe { (events : Past) → StandsFor self.now events →
-            IfOk result (λ report. IsAdoptCommit events report.outcomes) }
+        ensures keeps_all { (events : Past) → StandsFor self.now events → IfOk result (λ report.
+            GroupKeepsAll (group_in self.now) events report.learnt report.views report.outcomes) }
     {
         Ok(Report {
             config: self.config,
@@ -322,40 +277,13 @@ impl<B: Replicated> World<B> {
     /// The report that [`World::report`] would make, of a world that goes: what was learnt is
     /// handed out, and the views are copied. It refuses with want of memory alone, and then the
     /// world is lost.
+    #[tactic(auto, using(crate::proofs::Worlds::views_are, crate::proofs::Returned::decisions_are, crate::proofs::Promised::world_keeps))]
     pub fn into_report(self, steps: Steps) -> Result<Report, AllocError>
         ensures value { IfOk result (λ report. report ≡ report_with self steps) }
         ensures stands { (events : Past) → StandsFor self events →
             IfOk result (λ report. report ≡ report_after self events steps) }
-        ensures comparable { (events : Past) → StandsFor self events →
-            IfOk result (λ report. AreAllComparable report.learnt) }
-        ensures grows { (events : Past) → StandsFor self events →
-            IfOk result (λ report. AreGrowing report.learnt) }
-        ensures valid { (events : Past) → StandsFor self events →
-            IfOk result (λ report. AreValid (group_in self) events report.learnt) }
-        ensures largest { (events : Past) → StandsFor self events →
-            IfOk result (λ report. AreLargest (group_in self) events report.views) }
-        ensures one_history { (events : Past) → StandsFor self events →
-            IfOk result (λ report. AreOneHistory report.views) }
-        ensures order { (events : Past) → StandsFor self events →
-            IfOk result (λ report. AreInOrder (group_in self) events report.learnt) }
-        ensures removed { (events : Past) → StandsFor self events →
-            IfOk result (λ report. RemovedAreInViews (group_in self) events report.views) }
-        ensures safe { (events : Past) → StandsFor self events →
-            IfOk result (λ report. IsAdoptCommit events report.outcomes) }
-    {
-        self.gather_all(steps)
-    }
-
-    // The same of a world that goes.
-    #[tactic(auto, using(crate::proofs::Worlds::views_are, crate::proofs::Returned::decisions_are, crate::proofs::Safe::returns_safely, crate::proofs::Promised::world_keeps))]
-    fn gather_all(self, steps: Steps) -> Result<Report, AllocError>
-        ensures value { IfOk result (λ report. report ≡ report_with self steps) }
-        ensures stands { (events : Past) → StandsFor self events →
-            IfOk result (λ report. report ≡ report_after self events steps) }
-        ensures promises { (events : Past) → StandsFor self events → IfOk result (λ report.
-            KeepsPromises (group_in self) events report.learnt report.views) }
-        ensures safe { (events : Past) → StandsFor self events →
-            IfOk result (λ report. IsAdoptCommit events report.outcomes) }
+        ensures keeps_all { (events : Past) → StandsFor self events → IfOk result (λ report.
+            GroupKeepsAll (group_in self) events report.learnt report.views report.outcomes) }
     {
         let views = copy_views(&self.nodes)?;
         let outcomes = self.decisions()?;

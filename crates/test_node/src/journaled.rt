@@ -5,10 +5,10 @@ ghost use Rattle.la_journal.specs.Durable.{IsSettled};
 use crate::holds::holds;
 use la_durable::{NodeError, NodeMachine};
 use la_journal::{Disk, Durable, MemoryDisk, Refused, recover};
+use la_node::{Config, WorldError};
 use la_proposer::Votes;
 use la_replica::{Mail, ReplicaError};
 use la_wire::put_message;
-use la_world::{Config, WorldError};
 use std::alloc::Global;
 use uses::restarts::take_line;
 

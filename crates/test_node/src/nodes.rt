@@ -2,12 +2,12 @@
 // once more, and each refusal.
 use crate::holds::holds;
 use la_commit::Outcome;
+use la_node::{Config, Node, WorldError};
 use la_object::{Answer, Counter, Query, Shelf, ShelfError};
 use la_orset::OrSet;
 use la_proposer::Votes;
 use la_replica::{Message, ReplicaError};
 use la_set::{Op, UpdateId};
-use la_world::{Config, Node, WorldError};
 use std::alloc::Global;
 use std::collections::VecDeque;
 use std::process::Abort;

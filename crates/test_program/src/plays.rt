@@ -4,8 +4,9 @@ use crate::helpers::{
     ends_so, fault_on_shelves, fills_so, gives, has_fault, is_told, read_fails_at, takes_reads,
 };
 use crate::streams::End;
+use la_cli::PlayFault;
 use la_cli::laws::the_limit_is_a_number;
-use la_cli::{LIMIT, PlayFault};
+use la_io::LIMIT;
 use std::alloc::Global;
 use test_world::{EMPTY, FAULTS, FIRST_RUN, LONG_SETS, MORE_ROWS, ROWS, Row};
 

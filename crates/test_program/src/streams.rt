@@ -1,5 +1,5 @@
 // Readers and writers that fail.
-use la_cli::{Listener, WriteFailed, flush, write_some};
+use la_io::{Listener, WriteFailed, flush, write_some};
 use std::alloc::Global;
 use std::io;
 use std::io::{Read, Write};

@@ -1,6 +1,6 @@
 // The texts of the errors of reading and writing, against fixed strings.
 use crate::helpers::shows;
-use la_cli::{InputFault, WriteFailed};
+use la_io::{InputFault, WriteFailed};
 
 const OF_READING: [(InputFault, &str); 3] = [
     (InputFault::ReadFault, "ReadFault"),

@@ -2,12 +2,12 @@
 use crate::holds::holds;
 use la_acceptor::AcceptorError;
 use la_commit::NotMine;
+use la_node::WorldError;
 use la_object::{AbsorbError, ObserveError, ShelfError};
 use la_proposer::{BadConfig, ProposerError};
 use la_replica::ReplicaError;
 use la_script::{FaultName, ReadError, ScriptFault};
 use la_set::{SetError, UpdateId};
-use la_world::WorldError;
 use std::alloc::Global;
 use std::fmt::Display;
 

@@ -3,8 +3,6 @@
 #![tactic(auto)]
 
 #[cfg(test)]
-mod filters;
-#[cfg(test)]
 mod holds;
 #[cfg(test)]
 mod lines;
@@ -16,6 +14,8 @@ mod nodes;
 mod programs;
 #[cfg(test)]
 mod scripts;
+#[cfg(test)]
+mod servers;
 #[cfg(test)]
 mod streams;
 #[cfg(test)]

@@ -2,9 +2,9 @@
 use crate::holds::holds;
 use la_durable::{Input, NodeError, NodeMachine};
 use la_journal::Machine;
+use la_node::{Config, WorldError};
 use la_proposer::Votes;
 use la_wire::LineError;
-use la_world::{Config, WorldError};
 use std::alloc::Global;
 use test_memory::{Came, again, refused};
 

@@ -1,12 +1,12 @@
 // la_world: a node of a group of one, from its start to the retirement of its object.
 use crate::holds::holds;
 use crate::texts::{Shelved, shelf_of};
+use la_node::{Config, Node, WorldError};
 use la_object::{Answer, Query, ShelfError, State};
 use la_orset::OrSet;
 use la_proposer::Votes;
 use la_replica::{Body, Message, Parcel, ReplicaError};
 use la_set::{Counts, Op};
-use la_world::{Config, Node, WorldError};
 use std::alloc::{AllocError, Global};
 use std::sync::Arc;
 use test_memory::{Came, Counted, Does, Row, again, are_alive, delta_of, make_counted, refused};

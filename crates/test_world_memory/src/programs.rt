@@ -1,7 +1,8 @@
 // la_cli: what is read and answered; streams and command lines are swept through the program.
 use crate::holds::holds;
 use crate::texts::{ALONE, Row, Shelved, VOTES, is_text, shelves_of};
-use la_cli::{InputFault, Numbered, PlayFault, answer_to, fill, fit_any_group, read_all};
+use la_cli::{Numbered, PlayFault, answer_to, fill, fit_any_group};
+use la_io::{InputFault, read_all};
 use la_object::ShelfError;
 use la_orset::OrSet;
 use std::alloc::Global;

@@ -1,17 +1,17 @@
 // la_io: lines that are taken, and what a node puts.
 ghost use Rattle.std.specs.Prelude.{◌≡◌, true};
 ghost use Rattle.std.specs.Io.KnownBytes.{IsAtEnd};
-ghost use Rattle.la_io.specs.Streams.{ahead};
+ghost use Rattle.la_io.specs.Sources.{ahead};
 
 use crate::holds::holds;
 use la_commit::Outcome;
-use la_io::{
-    Next, Source, SourceFault, put_answered, put_learnt, put_mail, put_outcome, put_proposed,
-    put_submitted, put_view,
-};
+use la_io::{Next, Source, SourceFault};
 use la_object::Answer;
 use la_set::Counts;
-use la_wire::{Call, read};
+use la_wire::{
+    Call, put_answered, put_learnt, put_mail, put_outcome, put_proposed, put_submitted, put_view,
+    read,
+};
 use std::alloc::{AllocError, Global};
 use std::io::Read;
 use test_memory::{Came, Does, Row, again, refused, second, set_of};

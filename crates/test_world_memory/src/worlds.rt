@@ -1,9 +1,10 @@
 // la_world: worlds, runs and reports.
 use crate::holds::holds;
 use crate::texts::{ALONE, Row, VOTES, shelves_of};
+use la_node::WorldError;
 use la_orset::OrSet;
 use la_script::{Script, read};
-use la_world::{Event, Report, Steps, World, WorldError, empty_shelves, run};
+use la_world::{Event, Report, Steps, World, empty_shelves, run};
 use std::alloc::Global;
 use std::sync::Arc;
 use test_memory::{Came, Counted, again, are_alive, refused};

@@ -3,13 +3,13 @@ use Rattle.std.proofs.Common.{◌≡◌, ℕ, zero, suc, ◌<◌, List, [], ◌�
 use Rattle.std.specs.Prelude.{Result, Ok, Err, IfOk, OnOk, unwrap_or, replicate}
 use Rattle.la_set.specs.Histories.{empty}
 use Rattle.la_object.specs.Shelves.{ShelfState, kind_at}
-use Rattle.la_world.specs.declared.config.Config.{Config}
-use Rattle.la_world.specs.declared.error.WorldError.{WorldError}
+use Rattle.la_node.specs.declared.config.Config.{Config}
+use Rattle.la_node.specs.declared.error.WorldError.{WorldError}
 use Rattle.la_world.specs.declared.report.Report.{Report}
 use Rattle.la_world.specs.Groups.{group_of, replicas, kinds_on}
 use Rattle.la_world.specs.Events.{Event}
 use Rattle.la_world.specs.StandsFor.{kinds_of}
-use Rattle.la_world.specs.Laws.{EqualViewsAnswerAlike}
+use Rattle.la_world.specs.Headline.{KeepsAll}
 use Rattle.la_world.specs.Calls.{IsWorldGroup}
 use Rattle.uses.specs.Promises.{HaveOneKind, AnswersAgree}
 
@@ -39,13 +39,13 @@ one_kind c shelves h one r q number lr lq =
     ∙ ap (λ ks. kind_at ks number) (sym b.kinds)
 
 pub run_answers_agree : (c : Config) (shelves : List ShelfState) (events : List Event) (r : Result Report WorldError)
-    → IfOk r (λ (made : Report). EqualViewsAnswerAlike (group_of c (kinds_of shelves)) events made.steps)
+    → IfOk r (KeepsAll (group_of c (kinds_of shelves)) events)
     → OnOk r (IsWorldGroup c shelves) → HaveOneKind shelves
     → IfOk r (λ (made : Report). AnswersAgree (group_of c (kinds_of shelves)) events made.steps)
-run_answers_agree c shelves events (Ok made) alike h one =
+run_answers_agree c shelves events (Ok made) kept h one =
     λ j k r q object query a b lr lq x y views.
-    alike j k r q object query a b x y (one_kind c shelves h one r q object lr lq) views
-run_answers_agree c shelves events (Err d) alike h one = tt
+    kept.answers j k r q object query a b x y (one_kind c shelves h one r q object lr lq) views
+run_answers_agree c shelves events (Err d) kept h one = tt
 
 -- ## Shelves without objects
 

@@ -2,14 +2,14 @@
 use Rattle.std.proofs.Common.{◌≡◌, inl, inr, ℕ, ◌∷◌, Option, Some, None, refl, sym}
 use Rattle.std.specs.Prelude.{Result, Ok, Err, IfOk, OnErr, IfSome}
 use Rattle.la_commit.specs.declared.outcome.Outcome.{Outcome}
-use Rattle.la_world.specs.declared.error.WorldError.{WorldError}
+use Rattle.la_node.specs.declared.error.WorldError.{WorldError}
 use Rattle.la_world.specs.declared.step.Step.{Step}
 use Rattle.la_world.specs.Events.{Event, Past}
 use Rattle.la_world.specs.Outcomes.{decision_of}
 use Rattle.la_world.specs.StandsFor.{World, StandsFor}
 use Rattle.la_world.specs.Calls.{PlaysEvent, Keeps, returned_in, decisions_in}
-use Rattle.la_world.specs.Laws.{IsAdoptCommit}
-use Rattle.la_world.specs.Returning.{OutcomesStayThere, AnswersAreListed}
+use Rattle.la_world.specs.Headline.{IsAdoptCommit, OutcomesStayThere}
+use Rattle.la_world.specs.Returning.{AnswersAreListed}
 use Rattle.uses.specs.Promises.{AgreeWhereCommitted}
 
 -- a world that was played, or refused the event, stands for some events

@@ -6,37 +6,37 @@ use Rattle.la_set.specs.declared.update.Update.{Update}
 use Rattle.la_set.specs.ObjectOps.{object_op_of}
 use Rattle.la_commit.specs.Instances.{is_first_instance, commit_of}
 use Rattle.la_commit.specs.Votes.{proposed}
-use Rattle.la_world.specs.declared.error.WorldError.{WorldError}
+use Rattle.la_node.specs.declared.error.WorldError.{WorldError}
 use Rattle.la_world.specs.declared.report.Line.{Line}
 use Rattle.la_world.specs.declared.report.Line.TheVariants.{Done, Refused}
 use Rattle.la_world.specs.declared.report.Report.{Report}
 use Rattle.la_world.specs.declared.step.Learnt.{Learnt}
 use Rattle.la_world.specs.Groups.{Group}
 use Rattle.la_world.specs.Events.{Event, Submit, Deliver, Decide, Ask}
-use Rattle.la_world.specs.Votes.{Submission, second_vote_of, second_vote_in}
-use Rattle.la_world.specs.Promises.{learnt_by_did}
-use Rattle.la_world.specs.Reading.{vote_after, submission_at, Submits, LearntWereSubmitted, LearntHoldTheirOwn, MarksAreRead}
+use Rattle.la_node.specs.SecondVotes.{Submission, second_vote_of, second_vote_in}
+use Rattle.la_world.specs.Reading.{learnt_by_did, vote_after, submission_at, Submits}
+use Rattle.la_world.specs.Headline.{KeepsAll}
 use Rattle.uses.specs.Promises.{MarksShowWhatWasLearnt, OffersAreLearnt, NothingIsMadeUp}
 
 pub run_counts_by_marks : (g : Group) (events : List Event) (r : Result Report WorldError)
-    → IfOk r (λ (made : Report). MarksAreRead g events made.steps)
+    → IfOk r (KeepsAll g events)
     → IfOk r (λ (made : Report). MarksShowWhatWasLearnt g events made.steps)
-run_counts_by_marks g events (Ok made) reads =
+run_counts_by_marks g events (Ok made) kept =
     λ i m j k object early x update mark query answer at_early of_early held marked before at_x of_x has later asked.
     let h =
-    reads m j k object mark x query answer marked.submitted at_x of_x (subst (λ o. IsSome o) (sym has) refl) later
+    kept.reads m j k object mark x query answer marked.submitted at_x of_x (subst (λ o. IsSome o) (sym has) refl) later
     asked in
     record { set = h.read.updates; value = h.value; holds = h.current i early at_early before of_early update held }
-run_counts_by_marks g events (Err d) reads = tt
+run_counts_by_marks g events (Err d) kept = tt
 
-pub run_learns_offers : (events : List Event) (r : Result Report WorldError)
-    → IfOk r (λ (made : Report). LearntHoldTheirOwn events made.steps)
+pub run_learns_offers : (g : Group) (events : List Event) (r : Result Report WorldError)
+    → IfOk r (KeepsAll g events)
     → IfOk r (λ (made : Report). OffersAreLearnt events made.steps)
-run_learns_offers events (Ok made) own = λ k place update x offered at later of_objects by.
-    own k place k offered.ballot x update offered.opened at later (offered.of_objects ∙ sym of_objects)
+run_learns_offers g events (Ok made) kept = λ k place update x offered at later of_objects by.
+    kept.own k place k offered.ballot x update offered.opened at later (offered.of_objects ∙ sym of_objects)
     (offered.by ∙ sym by)
     (subst (λ i. Submits events made.steps k i update) (sym of_objects) offered.submitted) (sym by) (omega arith)
-run_learns_offers events (Err d) own = tt
+run_learns_offers g events (Err d) kept = tt
 
 -- ## What was submitted in instance 0
 
@@ -64,11 +64,11 @@ by_submission (Deliver n) (Done step) u s = go (learnt_by_did step.did) s
     go None k = absurd (none-some _ k)
     go (Some x) k = absurd (no_vote x _ k refl)
 
-pub run_makes_nothing_up : (events : List Event) (r : Result Report WorldError)
-    → IfOk r (λ (made : Report). LearntWereSubmitted events made.steps)
+pub run_makes_nothing_up : (g : Group) (events : List Event) (r : Result Report WorldError)
+    → IfOk r (KeepsAll g events)
     → IfOk r (λ (made : Report). NothingIsMadeUp events made.steps)
-run_makes_nothing_up events (Ok made) were = λ place x update at of_objects held.
-    let p = were place x update at held in
+run_makes_nothing_up g events (Ok made) kept = λ place x update at of_objects held.
+    let p = kept.submitted place x update at held in
     let s = subst (λ i. Submits events made.steps p.0 i update) of_objects p.2 in
     (p.0, p.1, s.handed_in ∙ ap Some (by_submission s.event s.line update s.submits))
-run_makes_nothing_up events (Err d) were = tt
+run_makes_nothing_up g events (Err d) kept = tt

@@ -6,8 +6,8 @@ use Rattle.std.proofs.lemmas.List.Elements.{Contains-append_left, Contains-appen
 use Rattle.la_set.specs.Inclusion.{IsSubset}
 use Rattle.la_object.specs.declared.kind.Kind.{Kind}
 use Rattle.la_object.specs.Shelves.{ShelfState}
-use Rattle.la_world.specs.declared.config.Config.{Config}
-use Rattle.la_world.specs.declared.error.WorldError.{WorldError}
+use Rattle.la_node.specs.declared.config.Config.{Config}
+use Rattle.la_node.specs.declared.error.WorldError.{WorldError}
 use Rattle.la_world.specs.declared.report.Report.{Report}
 use Rattle.la_world.specs.declared.step.Opening.{Opening}
 use Rattle.la_world.specs.declared.step.Learnt.{Learnt}
@@ -21,7 +21,8 @@ use Rattle.la_world.specs.Learnings.{learning, learning_of, learnt}
 use Rattle.la_world.specs.Report.{report, views, accepted_among}
 use Rattle.la_world.specs.StandsFor.{kinds_of}
 use Rattle.la_world.specs.Calls.{IsWorldGroup}
-use Rattle.la_world.specs.Laws.{ViewsAreLargest, CommitsAgree, ReturnsAreProposed, ReportedOutcomesAreSafe}
+use Rattle.la_world.specs.Laws.{ViewsAreLargest, ReportedOutcomesAreSafe}
+use Rattle.la_world.specs.Headline.{CommitsAgree, ReturnsAreProposed}
 use Rattle.uses.specs.Promises.{ViewsHoldTheirOwn, accepted_events}
 
 -- ## What a replica learnt in instance 0, it saw
@@ -85,6 +86,12 @@ run_shows law c kinds events (Ok made) e =
     subst (λ (m : Report). ViewsHoldTheirOwn m.views m.learnt) (sym e)
     (views_hold law (group_of c kinds) (accepted_events c kinds events))
 run_shows law c kinds events (Err d) e = tt
+
+-- ## One of the promises
+
+pub if_kept : {T E : Type 0} (r : Result T E) (P Q : T → Type 0) → ((made : T) → P made → Q made) → IfOk r P → IfOk r Q
+if_kept (Ok made) P Q f kept = f made kept
+if_kept (Err e) P Q f kept = tt
 
 -- ## Outcomes
 

@@ -11,9 +11,9 @@ use Rattle.la_replica.specs.Bases.{offered_by, AreToldIn, AreToldFrom}
 use Rattle.la_replica.proofs.lemmas.Alike.{alike_refl}
 use Rattle.la_replica.specs.Refusals.{HasRoom}
 use Rattle.la_replica.specs.ReplicaState.{submits}
-use Rattle.la_world.specs.declared.done.Done.{Done}
-use Rattle.la_world.specs.Following.{takes, whole_done}
-use Rattle.la_world.specs.Nodes.{NodeState}
+use Rattle.la_node.specs.declared.done.Done.{Done}
+use Rattle.la_node.specs.Taking.{takes, whole_done}
+use Rattle.la_node.specs.Nodes.{NodeState}
 use Rattle.la_world.proofs.lemmas.Retelling.{as_sent}
 use Rattle.la_world.specs.LiveGroups.{AreLive, IsAmong, NetworksMayLose, SubmissionsKeepLive, ReceiptsKeepLive}
 

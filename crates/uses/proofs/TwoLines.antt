@@ -7,7 +7,8 @@ use Rattle.la_set.specs.Inclusion.{IsSubset}
 use Rattle.la_world.specs.declared.report.Line.{Line}
 use Rattle.la_world.specs.declared.report.Line.TheVariants.{Done, Refused}
 use Rattle.la_world.specs.declared.step.Learnt.{Learnt}
-use Rattle.la_world.specs.Promises.{learnt_on, IsLearntAt, LinesAreComparable}
+use Rattle.la_world.specs.Reading.{learnt_on, IsLearntAt}
+use Rattle.la_world.specs.Headline.{LinesAreComparable}
 use Rattle.uses.specs.Promises.{ContainsBoth}
 
 -- the line at a place shows this set

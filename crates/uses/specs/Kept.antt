@@ -1,7 +1,7 @@
 -- Kept calls, as the definitions have them.
 use Rattle.la_proposer.specs.ProposerState.{op_on}
-use Rattle.la_world.specs.Kept as calls
-use Rattle.la_world.specs.Kept.{KeptCall}
+use Rattle.la_node.specs.Kept as calls
+use Rattle.la_node.specs.Kept.{KeptCall}
 use Rattle.uses.specs.declared.kept.Kept.{Kept}
 use Rattle.uses.specs.declared.kept.Kept.TheVariants.{Update, Proposal, Message}
 

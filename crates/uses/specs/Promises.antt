@@ -11,16 +11,14 @@ use Rattle.la_object.specs.declared.kind.Kind.{Kind}
 use Rattle.la_object.specs.declared.query.Query.{Query}
 use Rattle.la_object.specs.declared.query.Answer.{Answer}
 use Rattle.la_object.specs.Shelves.{ShelfState, kind_at, answer_at}
-use Rattle.la_world.specs.declared.config.Config.{Config}
+use Rattle.la_node.specs.declared.config.Config.{Config}
 use Rattle.la_world.specs.declared.report.Line.{Line}
 use Rattle.la_world.specs.declared.step.Learnt.{Learnt}
 use Rattle.la_world.specs.declared.step.Opening.{Opening}
 use Rattle.la_world.specs.Groups.{Group, group_of, replicas, kinds_on}
 use Rattle.la_world.specs.Events.{Event, Submit, submission_of}
 use Rattle.la_world.specs.Report.{runs}
-use Rattle.la_world.specs.Laws.{IsAnsweredLine, view_at_place}
-use Rattle.la_world.specs.Promises.{IsLearntAt}
-use Rattle.la_world.specs.Reading.{Submits, IsOpenedAt}
+use Rattle.la_world.specs.Reading.{IsAnsweredLine, view_at_place, IsLearntAt, Submits, IsOpenedAt}
 
 -- the view of each replica contains each set that it learnt in instance 0
 abbrev pub ViewsHoldTheirOwn : (views : List Histories) → List Learnt → Type 0

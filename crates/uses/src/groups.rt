@@ -1,14 +1,15 @@
 ghost use Rattle.std.specs.Prelude.{◌≡◌, ◌<◌, [], ◌∷◌, length, Some, IfOk, OnOk, OnErr};
 ghost use Rattle.la_replica.specs.Bases.{offered_by, AreToldIn};
 ghost use Rattle.la_replica.specs.Received.{received_in, StandsIn};
-ghost use Rattle.la_world.specs.declared.done.Done.{Done as DoneOf};
-ghost use Rattle.la_world.specs.Following.{takes, whole_done};
+ghost use Rattle.la_node.specs.declared.done.Done.{Done as DoneOf};
+ghost use Rattle.la_node.specs.Taking.{takes, whole_done};
 ghost use Rattle.la_world.specs.LiveGroups.{AreLive, AllViewsAreComparable};
 
+use la_node::{Config, Node, WorldError};
 use la_object::{Counter, Replicated, Shelf};
 use la_replica::{Mail, Message, ReplicaError};
 use la_set::Op;
-use la_world::{Config, Node, WorldError, live};
+use la_world::live;
 use std::alloc::Global;
 use std::collections::VecDeque;
 

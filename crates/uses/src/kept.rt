@@ -1,12 +1,12 @@
 ghost use Rattle.std.specs.Prelude.{◌≡◌, map, Some, OnOk};
 ghost use Rattle.la_proposer.specs.ProposerState.{op_on};
-ghost use Rattle.la_world.specs.Kept.{Submitted, after_call, after_calls};
+ghost use Rattle.la_node.specs.Kept.{Submitted, after_call, after_calls};
 ghost use Rattle.uses.specs.Kept.{kept_call};
 
+use la_node::{Node, WorldError, laws};
 use la_object::Replicated;
 use la_replica::{Message, ReplicaError};
 use la_set::Op;
-use la_world::{Node, WorldError, live};
 
 /// A call that a node accepted, as a program keeps it.
 #[derive(Drop)]
@@ -34,7 +34,7 @@ pub fn play_again<B: Replicated>(node: &mut Node<B>, kept: &[Kept]) -> Result<()
     ensures { OnOk result (after_calls node.old.replica (map kept_call kept.now)
         ≡ Some node.new.replica) }
 {
-    live::kept_lists_lead_on();
+    laws::kept_lists_lead_on();
     for call in kept {
         play_one(node, call)?;
     }

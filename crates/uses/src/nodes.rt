@@ -5,14 +5,14 @@ ghost use Rattle.la_set.specs.Histories.{empty};
 ghost use Rattle.la_set.specs.Inclusion.{IsSubset};
 ghost use Rattle.la_object.specs.declared.query.Query.TheVariants.{Total};
 ghost use Rattle.la_object.specs.Shelves.{answer_at, tags_at};
-ghost use Rattle.la_world.specs.Nodes.{followed};
+ghost use Rattle.la_node.specs.Nodes.{followed};
 
 use la_commit::Outcome;
+use la_node::{Config, Node, Received, WorldError};
 use la_object::{Answer, Counter, Query, Replicated, Shelf, ShelfError};
 use la_proposer::Votes;
 use la_replica::{Message, ReplicaError};
 use la_set::Op;
-use la_world::{Config, Node, Received, WorldError};
 use std::alloc::Global;
 use std::collections::VecDeque;
 

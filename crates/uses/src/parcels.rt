@@ -6,16 +6,17 @@ ghost use Rattle.la_replica.specs.declared.message.Message.{Message as MessageOf
 ghost use Rattle.la_replica.specs.Bases.{offered_by, AreToldIn};
 ghost use Rattle.la_replica.specs.Parcels.{unwrapped_in, UnwrapsIn};
 ghost use Rattle.la_replica.specs.Received.{received_in, StandsIn};
-ghost use Rattle.la_world.specs.declared.done.Done.{Done as DoneOf};
-ghost use Rattle.la_world.specs.Following.{takes, whole_done};
+ghost use Rattle.la_node.specs.declared.done.Done.{Done as DoneOf};
+ghost use Rattle.la_node.specs.Taking.{takes, whole_done};
 ghost use Rattle.la_world.specs.LiveGroups.{AllViewsAreComparable};
 ghost use Rattle.la_world.specs.LiveParcels.{AreLiveBy, AreParcelsAmong};
 
 use crate::groups::form;
+use la_node::{Config, Node, WorldError};
 use la_object::{Counter, Replicated};
 use la_replica::{Mail, Message, Parcel, ReplicaError};
 use la_set::{Counts, Op};
-use la_world::{Config, Node, WorldError, live};
+use la_world::live;
 use std::alloc::{AllocError, Global};
 use std::collections::VecDeque;
 

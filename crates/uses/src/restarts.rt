@@ -5,7 +5,7 @@ ghost use Rattle.la_journal.specs.Lines.{lines};
 ghost use Rattle.la_journal.specs.Machine.{LeadsToSome};
 ghost use Rattle.la_journal.specs.Durable.{IsSettled};
 ghost use Rattle.la_replica.specs.declared.message.Message.{Message};
-ghost use Rattle.la_world.specs.Nodes.{NodeState};
+ghost use Rattle.la_node.specs.Nodes.{NodeState};
 ghost use Rattle.la_world.specs.LiveGroups.{AreLive};
 ghost use Rattle.la_durable.specs.CallLines.{CallLine};
 ghost use Rattle.la_durable.specs.Nodes.{step};
@@ -13,8 +13,8 @@ ghost use Rattle.la_durable.specs.Restarts.{IsHanded, kept_state, leads_from};
 
 use la_durable::{Input, NodeError, NodeMachine, laws};
 use la_journal::{Disk, Durable, Refused, Unplayed, recover};
+use la_node::Received;
 use la_wire::LineError;
-use la_world::Received;
 use std::alloc::Global;
 
 /// A node as its journal says. Whatever crash left this of the lines that it was handed since it last gave

@@ -3,11 +3,12 @@ ghost use Rattle.la_world.specs.Events.{event_of};
 ghost use Rattle.la_world.specs.Report.{report, accepted_among};
 ghost use Rattle.la_world.specs.Calls.{IsMakingRefusal};
 ghost use Rattle.la_world.specs.StandsFor.{kinds_of};
-ghost use Rattle.la_world.specs.Promises.{LinesAreComparable, AreOneHistory};
+ghost use Rattle.la_world.specs.Headline.{LinesAreComparable, AreOneHistory};
 ghost use Rattle.uses.specs.Promises.{ViewsHoldTheirOwn};
 
+use la_node::{Config, WorldError};
 use la_object::{Replicated, Shelf};
-use la_world::{Config, Event, Report, WorldError, laws, run};
+use la_world::{Event, Report, laws, run};
 use std::alloc::Global;
 
 /// Plays a list of submissions and deliveries. Of any two sets that lines of the report show as learnt
@@ -73,7 +74,7 @@ pub fn shown(made: &Report, replica: u8) -> Option<&UpdateSet>
 }
 
 // ---- adopt-commit
-ghost use Rattle.la_world.specs.Laws.{CommitsAgree, ReturnsAreProposed};
+ghost use Rattle.la_world.specs.Headline.{CommitsAgree, ReturnsAreProposed};
 
 /// Plays a list of events, proposals among them. Where one participant of an adopt-commit object
 /// commits a value, each participant of it that returns has this value; and each value that is
@@ -282,7 +283,7 @@ pub fn answer_at(made: &Report, place: usize) -> Option<&Answer> {
 
 // ---- two lines
 ghost use Rattle.std.specs.Prelude.{IfSome, option_and_then};
-ghost use Rattle.la_world.specs.Promises.{learnt_on};
+ghost use Rattle.la_world.specs.Reading.{learnt_on};
 ghost use Rattle.la_world.specs.Report.{report_lines};
 ghost use Rattle.uses.specs.Promises.{ContainsBoth};
 

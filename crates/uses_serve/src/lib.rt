@@ -2,5 +2,5 @@
 //! proved from the contracts of what it calls.
 #![tactic(auto)]
 
-pub mod filters;
+pub mod servers;
 pub mod streams;

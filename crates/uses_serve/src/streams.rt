@@ -1,11 +1,10 @@
 // Lines of a reader, as a program takes them.
 ghost use Rattle.std.specs.Prelude.{◌≡◌, ◌++◌, ◌∷◌, [], true, Ok};
 ghost use Rattle.std.specs.Io.KnownBytes.{Consumes, IsAtEnd};
-ghost use Rattle.la_io.specs.Streams.{IsOneLine, ahead};
+ghost use Rattle.la_io.specs.Sources.{IsOneLine, ahead};
 
-use la_cli::Listener;
-use la_io::{Next, Source, SourceFault, tell_fault};
-use la_wire::LineFault;
+use la_io::{Listener, Next, Source, SourceFault};
+use la_wire::{LineFault, tell_fault};
 use std::io::Read;
 
 /// Whether the next line, of this number, can be taken: it is in `source.line` then, and it and its end were

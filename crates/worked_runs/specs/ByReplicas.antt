@@ -16,7 +16,8 @@ use Rattle.la_world.specs.declared.step.Opening.{Opening}
 use Rattle.la_world.specs.Groups.{Group, replicas}
 use Rattle.la_world.specs.Events.{Event, Submit, Deliver, Decide, Ask}
 use Rattle.la_world.specs.Sent.{sent}
-use Rattle.la_world.specs.Votes.{Submission, cast_vote}
+use Rattle.la_node.specs.SecondVotes.{Submission}
+use Rattle.la_world.specs.Votes.{cast_vote}
 use Rattle.la_world.specs.Playing.{trace}
 use Rattle.la_world.specs.ReplicaStates.{replica_states}
 use Rattle.worked_runs.specs.Words.{no_objects}

@@ -7,7 +7,7 @@ use Rattle.la_world.specs.declared.step.Did.TheVariants.{Opened, Answered, Count
 use Rattle.la_world.specs.Events.{Event, Submit, Deliver}
 use Rattle.la_world.specs.Learnings.{learning}
 use Rattle.la_world.specs.Report.{report}
-use Rattle.la_world.specs.declared.config.Config.{Config}
+use Rattle.la_node.specs.declared.config.Config.{Config}
 use Rattle.worked_runs.specs.Words.{config, no_objects, object_op, these, nothing, ballot, done}
 
 -- three replicas, of which the last has half of all votes

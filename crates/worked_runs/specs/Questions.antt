@@ -5,7 +5,7 @@ use Rattle.la_set.specs.Histories.{Histories}
 use Rattle.la_acceptor.specs.declared.reply.Reply.TheVariants.{Yes}
 use Rattle.la_object.specs.declared.query.Query.TheVariants.{Total, Largest}
 use Rattle.la_object.specs.declared.query.Answer.TheVariants as answer
-use Rattle.la_world.specs.declared.config.Config.{Config}
+use Rattle.la_node.specs.declared.config.Config.{Config}
 use Rattle.la_world.specs.declared.error.Refusal.TheVariants.{NoSuchReplica, NoSuchObject}
 use Rattle.la_world.specs.declared.report.Line.TheVariants.{Refused}
 use Rattle.la_world.specs.declared.step.Did.TheVariants.{Opened, Held, Answered, Learnt, Replied}

@@ -8,9 +8,8 @@ ghost use Rattle.la_cli.specs.Texts.{fault_line};
 
 use clap::Error;
 use la_cli::laws::words_call_for_one_task;
-use la_cli::{
-    Listener, PlayFault, Task, WriteFailed, answer_to, command, fit_any_group, status_of, tell,
-};
+use la_cli::{PlayFault, Task, answer_to, command, fit_any_group, status_of, tell};
+use la_io::{Listener, WriteFailed};
 use la_object::{Replicated, Shelf};
 use la_script::Pieces;
 use std::alloc::Global;

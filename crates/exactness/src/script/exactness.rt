@@ -6,11 +6,12 @@ ghost use Rattle.la_script.specs.Scripts.{said_by};
 ghost use Rattle.la_script.specs.Walks.{piece_bytes};
 ghost use Rattle.la_world.specs.Printable.{IsPrintableLine, IsPrintableReport};
 
+use la_node::Config;
 use la_script::{
     Events, Piece, Pieces, ReadError, Script, ScriptFault, Text, Version, Walk, pieces_of, print,
     put_ending, put_header, put_numbered, random_events, read,
 };
-use la_world::{Config, Event, Line, Report};
+use la_world::{Event, Line, Report};
 use std::alloc::{AllocError, AllocFailed, Global};
 
 fn scripts_are_one(alloc: Global, bytes: &[u8]) -> Result<(Script, Script), ReadError>

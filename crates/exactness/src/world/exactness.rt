@@ -3,10 +3,10 @@
 // events need not be equal, and are alike afterwards.
 ghost use Rattle.std.specs.Prelude.{◌≡◌, ◌≢◌, ◌+◌, ◌<◌, ◌^◌};
 ghost use Rattle.std.specs.Prelude.{◌↔◌, IsTrue, IfOk, IfErr, OnOk, option_copied};
-ghost use Rattle.la_world.specs.declared.error.WorldError.TheVariants.{Memory as MemoryIs};
-ghost use Rattle.la_world.specs.declared.error.WorldError.TheVariants.{NoSuchReplica as NoReplicaIs};
-ghost use Rattle.la_world.specs.declared.error.WorldError.TheVariants.{NoSuchObject as NoObjectIs};
-ghost use Rattle.la_world.specs.declared.error.WorldError.TheVariants.{TooManyTags as ManyIs};
+ghost use Rattle.la_node.specs.declared.error.WorldError.TheVariants.{Memory as MemoryIs};
+ghost use Rattle.la_node.specs.declared.error.WorldError.TheVariants.{NoSuchReplica as NoReplicaIs};
+ghost use Rattle.la_node.specs.declared.error.WorldError.TheVariants.{NoSuchObject as NoObjectIs};
+ghost use Rattle.la_node.specs.declared.error.WorldError.TheVariants.{TooManyTags as ManyIs};
 ghost use Rattle.la_world.specs.Events.{Past};
 ghost use Rattle.la_world.specs.Report.{Run};
 ghost use Rattle.la_world.specs.StandsFor.{StandsFor};
@@ -14,13 +14,11 @@ ghost use Rattle.la_world.specs.Calls.{IsWorldGroup, IsFollowing};
 ghost use Rattle.exactness.specs.Alike.{AreAlikeWorlds, AreOfOneGroup};
 
 use la_commit::Outcome;
+use la_node::{Config, WorldError};
 use la_object::{Replicated, Shelf};
 use la_replica::StoredMessage;
 use la_set::{Tags, UpdateSet};
-use la_world::{
-    Config, Event, Learnt, Line, Report, Step, Steps, World, WorldError, are_unused, empty_shelves,
-    run,
-};
+use la_world::{Event, Learnt, Line, Report, Step, Steps, World, are_unused, empty_shelves, run};
 use std::alloc::{AllocError, Global};
 
 // ## A world

@@ -18,7 +18,7 @@ ghost use Rattle.la_world.specs.Report.{refused};
 ghost use Rattle.la_world.specs.ReplicaStates.{replica_state};
 ghost use Rattle.la_world.specs.StandsFor.{IsLegalTrace};
 ghost use Rattle.la_world.specs.Told.{told_messages};
-ghost use Rattle.la_world.specs.Laws.{ReturnsAreProposed};
+ghost use Rattle.la_world.specs.Headline.{ReturnsAreProposed};
 
 use la_world::laws;
 

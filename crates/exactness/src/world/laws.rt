@@ -5,15 +5,18 @@ ghost use Rattle.std.specs.Prelude.{ℕ, List, drop, map, slice_get, Some, Conta
 ghost use Rattle.la_set.specs.Histories.{Histories, history};
 ghost use Rattle.la_set.specs.Inclusion.{IsSubset, AreComparable};
 ghost use Rattle.la_replica.specs.Whole.{Message, Yes};
-ghost use Rattle.la_world.specs.declared.config.Config.{Config};
+ghost use Rattle.la_node.specs.declared.config.Config.{Config};
 ghost use Rattle.la_world.specs.declared.error.Refusal.TheVariants.{AlreadyProposed};
 ghost use Rattle.la_world.specs.declared.step.Opening.{Opening};
 ghost use Rattle.la_world.specs.declared.step.Learnt.{Learnt};
 ghost use Rattle.la_object.specs.declared.query.Query.{Query};
 ghost use Rattle.la_object.specs.declared.query.Answer.{Answer};
-ghost use Rattle.la_world.specs.Groups.{Group, group_of, replicas, IsConfig};
+ghost use Rattle.la_node.specs.Configs.{IsConfig};
+ghost use Rattle.la_world.specs.Groups.{Group, group_of, replicas};
 ghost use Rattle.la_world.specs.StandsFor.{StandsFor, kinds_of};
-ghost use Rattle.la_world.specs.Promises.{AreAllComparable, NoViewShrinks, IsLearntAt};
+ghost use Rattle.la_world.specs.Promises.{AreAllComparable};
+ghost use Rattle.la_world.specs.Headline.{NoViewShrinks};
+ghost use Rattle.la_world.specs.Reading.{IsLearntAt};
 ghost use Rattle.la_world.specs.Events.{Past, Event as Occurrence, event_of, Decide};
 ghost use Rattle.la_world.specs.Learnings.{learnt};
 ghost use Rattle.la_world.specs.Sent.{sent};
@@ -24,10 +27,11 @@ ghost use Rattle.la_world.specs.Views.{seen, trace_view};
 ghost use Rattle.la_world.specs.Playing.{trace};
 ghost use Rattle.la_world.specs.Report.{refused, trace_of};
 ghost use Rattle.la_world.specs.Report.{report_lines};
-ghost use Rattle.la_world.specs.Laws.{IsAnsweredLine, view_at_place};
+ghost use Rattle.la_world.specs.Reading.{IsAnsweredLine, view_at_place};
 
+use la_node::{Config, WorldError};
 use la_object::{Replicated, Shelf};
-use la_world::{Config, Event, Report, Step, World, WorldError, laws, run};
+use la_world::{Event, Report, Step, World, laws, run};
 use std::alloc::Global;
 
 // What a run's learnt sets hold of their own replicas is what was taken, and any two of one

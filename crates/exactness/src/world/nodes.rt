@@ -4,12 +4,13 @@ ghost use Rattle.std.specs.Option.{option_copied};
 ghost use Rattle.la_object.specs.declared.error.ShelfError.TheVariants.{Memory as MemoryIs};
 ghost use Rattle.la_replica.specs.Received.{received_in, StandsIn, AgreesIn};
 ghost use Rattle.la_replica.specs.Fitting.{FitsReceiver};
+ghost use Rattle.la_replica.specs.Steps.{learnt_in};
 
 use la_commit::Outcome;
+use la_node::{Config, Done, Node, Received, WorldError, outcome_by};
 use la_object::{Answer, Query, Replicated, Shelf, ShelfError, State};
 use la_replica::{Mail, Message, Out, Parcel, ReplicaError};
 use la_set::{Op, Tags, UpdateSet};
-use la_world::{Config, Node, Received, WorldError};
 use std::alloc::{AllocError, Global};
 
 fn new_nodes_are_one<B: Replicated>(
@@ -166,6 +167,40 @@ fn receive_fitting_is_exact<B: Replicated>(
     ensures stays { OnErr result.0 (one.new ≡ one.old) }
 {
     (one.receive_fitting(message), other.receive(message))
+}
+
+// And with a copy of what is learnt.
+fn take_is_exact<B: Replicated>(
+    one: &mut Node<B>,
+    other: &mut Node<B>,
+    message: &Message,
+) -> (
+    Result<(Done, Option<UpdateSet>), AllocError>,
+    Result<Received, ReplicaError>,
+)
+    requires same { one.old ≡ other.old }
+    requires fits { FitsReceiver one.old.replica (received_in one.old.replica message.now) }
+    requires stands { StandsIn one.old.replica message.now }
+    requires agrees { AgreesIn one.old.replica message.now }
+    ensures said { IfOk result.0 (λ a. IfOk result.1 (λ b. a.0 ≡ b.done)) }
+    ensures learnt { IfOk result.0 (λ a. IfOk result.1 (λ b. a.1 ≡ learnt_in b.done.said)) }
+    ensures steps { OnOk result.0 (OnOk result.1 (one.new ≡ other.new)) }
+    ensures stays { OnErr result.0 (one.new ≡ one.old) }
+{
+    (one.take(message), other.receive(message))
+}
+
+fn outcome_by_is_exact(
+    instance: u8,
+    own: u8,
+    learnt: &UpdateSet,
+) -> (Option<Outcome>, Option<Outcome>)
+    ensures { result.0 ≡ result.1 }
+{
+    (
+        outcome_by(instance, own, Some(learnt)),
+        outcome_by(instance, own, Some(learnt)),
+    )
 }
 
 // Whatever the first call left of its shelf.

@@ -105,7 +105,7 @@ impl Proposer {
         requires { IsPreparedFrom self.old change }
         ensures { self.new ≡ after_commit self.old change }
     {
-        // A hint: of the capacity the prover learns that it is at least `INLINE_TALLY`.
+        // a hint to the prover, which costs no more than a look: the capacity is at least `INLINE_TALLY`
         let _at_least_inline = self.tally.capacity();
         match change {
             Change::Nothing => {}
@@ -139,6 +139,7 @@ impl Proposer {
         ensures ok { after_commit self.now result ≡ self.now }
         ensures from { IsPreparedFrom self.now result }
     {
+        // a hint to the prover, of no cost: of a value that is read the invariant holds
         let _own = self.own;
         Change::Nothing
     }
@@ -178,6 +179,7 @@ impl Proposer {
         ensures ok { after_commit self.now result ≡ with_reply self.now from reply }
         ensures from { IsPreparedFrom self.now result }
     {
+        // a hint to the prover, of no cost: of a value that is read the invariant holds
         let _own = self.own;
         Change::Counts(Counted { from, reply })
     }

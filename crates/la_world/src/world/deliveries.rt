@@ -1,15 +1,15 @@
 // The delivery of a message that was sent.
 ghost use Rattle.std.specs.Prelude.{◌≡◌, ◌+◌, ◌<◌, ◌^◌, length, IfOk, IfErr, OnErr};
-ghost use Rattle.la_world.specs.declared.error.WorldError.TheVariants.{Memory};
+ghost use Rattle.la_node.specs.declared.error.WorldError.TheVariants.{Memory};
 ghost use Rattle.la_world.specs.Events.{Past, Deliver};
 ghost use Rattle.la_world.specs.Printable.{IsPrintable};
 ghost use Rattle.la_world.specs.StandsFor.{StandsFor};
 ghost use Rattle.la_world.specs.Calls.{PlaysEvent, RefusesEvent};
 
 use super::World;
-use crate::participant::outcome_by;
+use crate::Step;
 use crate::speaker::Speaker;
-use crate::{Step, WorldError};
+use la_node::{WorldError, outcome_by};
 use la_object::Replicated;
 
 impl<B: Replicated> World<B> {

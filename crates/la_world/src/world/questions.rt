@@ -8,7 +8,8 @@ ghost use Rattle.la_world.specs.Calls.{HasObject, IsObjectRefusal, PlaysEvent, R
 ghost use Rattle.la_world.specs.Calls.{IsFollowing, LeftUntoldWorld};
 
 use super::World;
-use crate::{Step, WorldError};
+use crate::Step;
+use la_node::WorldError;
 use la_object::{Query, Replicated, ShelfError};
 use la_set::Tags;
 

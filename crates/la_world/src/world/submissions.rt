@@ -5,7 +5,7 @@ ghost use Rattle.la_set.specs.ObjectOps.{ObjectOp};
 ghost use Rattle.la_proposer.specs.ProposerState.{op_on};
 ghost use Rattle.la_commit.specs.declared.instance.TheConstants.{MAX_COMMITS};
 ghost use Rattle.la_replica.specs.Stored.{IsMade};
-ghost use Rattle.la_world.specs.Nodes.{replicas_of};
+ghost use Rattle.la_node.specs.Nodes.{replicas_of};
 ghost use Rattle.la_world.specs.Events.{Past, Submit, Decide, submission_of};
 ghost use Rattle.la_world.specs.Printable.{IsPrintable};
 ghost use Rattle.la_world.specs.StandsFor.{StandsFor, refused_in};
@@ -14,11 +14,11 @@ ghost use Rattle.la_world.specs.Shown.{HasRoomToSend, HasRoomToLearn, shown_step
 ghost use Rattle.la_world.specs.Shown.{submitted_so};
 
 use super::World;
-use crate::done::Done;
+use crate::Step;
 use crate::journal::Journal;
 use crate::speaker::Speaker;
-use crate::{Node, Step, WorldError};
 use la_commit::first_instance;
+use la_node::{Done, Node, WorldError};
 use la_object::Replicated;
 use la_replica::Out;
 use la_set::Op;

@@ -3,12 +3,11 @@ ghost use Rattle.std.specs.Prelude.{All, IfOk};
 ghost use Rattle.la_world.specs.Printable.{IsPrintableLine, IsPrintableReport};
 
 use crate::holds::holds;
+use la_node::Config;
 use la_object::{Answer, Items};
 use la_proposer::Votes;
 use la_script::{Events, Text, Version, print};
-use la_world::{
-    Config, Decisions, Did, Event, Learnings, Line, Refusal, Report, Step, Steps, Views,
-};
+use la_world::{Decisions, Did, Event, Learnings, Line, Refusal, Report, Step, Steps, Views};
 use std::alloc::{AllocError, Global};
 
 // What is answered.

@@ -1,9 +1,10 @@
 // Groups at the ends of the ranges: no world has one out of them, and no run is made of it.
 use super::plays::world_of;
 use crate::holds::holds;
+use la_node::{Config, WorldError};
 use la_object::{Counter, Shelf};
 use la_proposer::Votes;
-use la_world::{Config, World, WorldError, empty_shelves, run};
+use la_world::{World, empty_shelves, run};
 use std::alloc::Global;
 use std::process::Abort;
 

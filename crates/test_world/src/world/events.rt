@@ -1,7 +1,8 @@
 // Short names for events. Where no object is named the operation is on object 1.
+use la_node::WorldError;
 use la_object::Query;
 use la_set::{Op, Tags, UpdateId};
-use la_world::{Event, WorldError};
+use la_world::Event;
 use std::alloc::Global;
 
 #[derive(Clone, Copy)]

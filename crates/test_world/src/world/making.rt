@@ -1,10 +1,11 @@
 // Shelves that don't fit their group: no world has them, and they are dropped. The objects share a
 // count of those that are alive.
 use crate::holds::holds;
+use la_node::{Config, WorldError};
 use la_object::{Counter, Shelf};
 use la_proposer::Votes;
 use la_set::{Op, Update, UpdateId, UpdateSet};
-use la_world::{Config, World, WorldError, run};
+use la_world::{World, run};
 use std::alloc::Global;
 use std::process::Abort;
 use std::sync::Arc;

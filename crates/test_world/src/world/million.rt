@@ -2,8 +2,9 @@
 use super::events::Act;
 use super::plays::{act, voters, world_of};
 use crate::holds::holds;
+use la_node::{Config, WorldError};
 use la_object::Counter;
-use la_world::{Config, Did, Event, Step, World, WorldError};
+use la_world::{Did, Event, Step, World};
 use std::alloc::Global;
 use std::process::Abort;
 

@@ -7,9 +7,10 @@ use super::runs::{EXACT_HALF, HEAVY_VOTER, Run, UNEQUAL_VOTERS};
 use super::shelves::{Numbered, Object, shelves_again};
 use super::shown::{Ballot, Row, Shown, counts_of, learnt_of, row_of};
 use crate::holds::holds;
+use la_node::{Config, WorldError};
 use la_object::{Counter, Replicated};
 use la_proposer::Votes;
-use la_world::{Config, Event, Refusal, Report, Step, Steps, World, WorldError};
+use la_world::{Event, Refusal, Report, Step, Steps, World};
 use std::alloc::Global;
 use std::process::Abort;
 

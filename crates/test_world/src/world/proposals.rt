@@ -5,8 +5,9 @@ use super::plays::{act, end_of, play, voters, world_of};
 use super::shown::{Row, Shown};
 use crate::holds::holds;
 use la_commit::Outcome::{self, Adopt, Commit};
+use la_node::Config;
 use la_object::Counter;
-use la_world::{Config, Refusal, Report, World};
+use la_world::{Refusal, Report, World};
 use std::alloc::Global;
 use std::process::Abort;
 

@@ -2,10 +2,11 @@
 use super::events::Act;
 use super::plays::{act, play, voters, world_of};
 use crate::holds::holds;
+use la_node::{Config, WorldError};
 use la_object::Counter;
 use la_orset::OrSet;
 use la_set::{Tags, UpdateId};
-use la_world::{Config, World, WorldError};
+use la_world::World;
 use std::alloc::Global;
 use std::process::Abort;
 

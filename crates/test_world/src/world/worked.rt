@@ -6,9 +6,10 @@ ghost use Rattle.la_world.specs.Printable.{IsPrintableReport};
 use super::shelves::{Numbered, Object, shelves};
 use crate::holds::holds;
 use crate::{MORE_ROWS, ROWS, Row, SEED_1};
+use la_node::Config;
 use la_proposer::Votes;
 use la_script::{Events, Script, Text, Version, print, random_events, read};
-use la_world::{Config, Event, Report, run};
+use la_world::{Event, Report, run};
 use std::alloc::Global;
 use std::process::Abort;
 

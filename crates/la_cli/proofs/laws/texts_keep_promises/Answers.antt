@@ -15,5 +15,5 @@ returns c shelves input text h =
       says = h.says;
       made = report script.config kinds events;
       is_text = h.is_text;
-      keeps = c.reports_keep_promises.ensures script.config kinds events h.says.config;
+      keeps_all = c.reports_keep_promises.ensures script.config kinds events h.says.config;
     }

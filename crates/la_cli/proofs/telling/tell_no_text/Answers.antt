@@ -1,5 +1,5 @@
 use Rattle.std.proofs.Common.{OnErr, subst}
-use Rattle.la_cli.specs.Streams.{RefusesBytes}
+use Rattle.la_io.specs.Streams.{RefusesBytes}
 use Rattle.la_cli.proofs.telling.tell_no_text.Goals as goal
 
 pub returns-clause-err : goal.returns-clause-err

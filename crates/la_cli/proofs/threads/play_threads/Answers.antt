@@ -2,7 +2,7 @@ use Rattle.std.proofs.Common.{rules, ◌↔◌, map, IsTrue, List, sym, subst}
 use Rattle.la_runner.specs.Runs.{Back, back_of}
 use Rattle.la_cli.specs.declared.error.PlayFault.{PlayFault}
 use Rattle.la_cli.specs.Play.{FitAnyGroup}
-use Rattle.la_cli.specs.Streams.{AppendsPrefix}
+use Rattle.la_io.specs.Streams.{AppendsPrefix}
 use Rattle.la_cli.specs.Threads.{AreLogs, LogsAgree, IsThreadsRefusal, threads_text}
 use Rattle.la_cli.proofs.threads.play_threads.Goals as goal
 

@@ -1,5 +1,5 @@
 use Rattle.std.proofs.Common.{◌≤◌, length, take}
-use Rattle.la_io.specs.Streams.{IsOneLine}
+use Rattle.la_io.specs.Sources.{IsOneLine}
 use Rattle.la_io.proofs.taking.first_end.Given as goal
 
 abbrev pub invariant-loop-n : goal.invariant-loop-n

@@ -1,6 +1,6 @@
 use Rattle.std.proofs.Common.{arith}
 use Rattle.std.proofs.lemmas.List.{length-drop}
-use Rattle.la_cli.proofs.lemmas.Always.{always_err}
+use Rattle.la_io.proofs.lemmas.Always.{always_err}
 use Rattle.la_io.proofs.Adding.{written_on, prefix_on}
 use Rattle.la_io.proofs.writing.write_lines.Goals as goal
 

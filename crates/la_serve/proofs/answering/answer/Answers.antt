@@ -1,71 +1,58 @@
 use Rattle.std.proofs.Common.{◌≡◌, ℕ, codes, IfErr, sym, subst, ◌∙◌, rules}
 use Rattle.std.specs.Io.KnownBytes.{Appends}
-use Rattle.la_cli.specs.Streams.{AppendsPrefix}
-use Rattle.la_journal.specs.Lines.{lines}
+use Rattle.la_io.specs.Streams.{AppendsPrefix}
 use Rattle.la_durable.specs.Inputs.{IsInputRefusal}
-use Rattle.la_durable.specs.Restarts.{kept_state}
-use Rattle.la_io.specs.Notes.{refused_note}
+use Rattle.la_wire.specs.Notes.{refused_note}
 use Rattle.la_serve.specs.declared.error.NodeFault.TheVariants.{WriteFault}
+use Rattle.la_serve.specs.Io.{io_of}
 use Rattle.la_serve.proofs.Taking.{if_err_cut}
-use Rattle.la_serve.proofs.OneLine.{note_taken, fault_taken, starved_taken, starved_cut, ok_line, err_line}
+use Rattle.la_serve.proofs.OneLine.{note_taken, fault_taken, starved, ok_line, err_line}
 use Rattle.la_serve.proofs.answering.answer.Goals as goal
 
 pub returns-then-is_note-clause-ok : goal.returns-then-is_note-clause-ok
 returns-then-is_note-clause-ok g c =
-    note_taken g.E.Write.contents g.E.Listener.refuses c.args.filter.now.shelf.objects
-    (kept_state c.args.filter.now.node.durable.machine.replicas c.args.filter.now.node.durable.machine.node)
-    c.args.number c.args.line.now c.requires.short c.args.errors.now (g.W.Write.contents c.args.output.now)
-    (lines c.args.filter.now.node.text.items) (sym c.is_note.ensures ∙ c.if-is_note.true)
+    note_taken g.E.Write.contents g.E.Listener.refuses c.args.number c.args.line.now c.requires.short _
+    c.args.errors.now
+    (sym c.is_note.ensures ∙ c.if-is_note.true)
 
 pub returns-in-Ok-clause-ok : goal.returns-in-Ok-clause-ok
 returns-in-Ok-clause-ok g c =
-    ok_line g.E.Write.contents g.E.Listener.refuses c.args.filter.now.shelf.objects
-    (kept_state c.args.filter.now.node.durable.machine.replicas c.args.filter.now.node.durable.machine.node)
-    c.args.number c.args.line.now c.requires.short c.args.errors.now (g.W.Write.contents c.args.output.now)
-    (lines c.args.filter.now.node.text.items) (sym c.is_note.ensures ∙ c.if-is_note.false)
-    (g.W.Write.contents c.call.new.output) (lines c.call.new.filter.node.text.items)
-    (kept_state c.call.new.filter.node.durable.machine.replicas c.call.new.filter.node.durable.machine.node)
-    _ _ c.in-Ok.ensures.ok c.call-call.ensures.says c.call-call.ensures.line c.call.result c.call.ensures.ok
+    ok_line g.E.Write.contents g.E.Listener.refuses c.args.number c.args.line.now c.requires.short _ c.args.errors.now
+    (sym c.is_note.ensures ∙ c.if-is_note.false) _ c.in-Ok.input c.in-Ok.ensures.ok c.call-call.ensures.says
+    c.call-call.ensures.line c.call.result c.call.ensures.ok
 
 pub returns-in-Ok-clause-err : goal.returns-in-Ok-clause-err
 returns-in-Ok-clause-err g c =
-    err_line g.E.Write.contents g.E.Listener.refuses c.args.filter.now.shelf.objects
-    (kept_state c.args.filter.now.node.durable.machine.replicas c.args.filter.now.node.durable.machine.node)
-    c.args.number c.args.line.now c.requires.short c.args.errors.now (g.W.Write.contents c.args.output.now)
-    (lines c.args.filter.now.node.text.items) (sym c.is_note.ensures ∙ c.if-is_note.false)
-    (g.W.Write.contents c.call.new.output) (lines c.call.new.filter.node.text.items)
-    (kept_state c.call.new.filter.node.durable.machine.replicas c.call.new.filter.node.durable.machine.node)
-    _ _ c.in-Ok.ensures.ok c.call-call.ensures.says c.call-call.ensures.line c.call.result c.call.ensures.err
+    err_line g.E.Write.contents g.E.Listener.refuses c.args.number c.args.line.now c.requires.short _ c.args.errors.now
+    (sym c.is_note.ensures ∙ c.if-is_note.false) _ c.in-Ok.input c.in-Ok.ensures.ok c.call-call.ensures.says
+    c.call-call.ensures.line c.call.result c.call.ensures.err
 
 pub returns-in-Err-Fault-clause-ok : goal.returns-in-Err-Fault-clause-ok
 returns-in-Err-Fault-clause-ok g c =
     let told = rw c.in-Err-Fault.field-0-is at c.tell_fault.ensures in
-    fault_taken g.E.Write.contents g.E.Listener.refuses c.args.filter.now.shelf.objects
-    (kept_state c.args.filter.now.node.durable.machine.replicas c.args.filter.now.node.durable.machine.node)
-    c.args.number c.args.line.now c.requires.short c.args.errors.now (g.W.Write.contents c.args.output.now)
-    (lines c.args.filter.now.node.text.items) (sym c.is_note.ensures ∙ c.if-is_note.false) c.tell_fault.new.errors
-    c.in-Err-Fault.fault
+    fault_taken g.E.Write.contents g.E.Listener.refuses c.args.number c.args.line.now c.requires.short _
+    c.args.errors.now
+    (sym c.is_note.ensures ∙ c.if-is_note.false) c.tell_fault.new.errors c.in-Err-Fault.fault
     (subst (IsInputRefusal c.args.line.now) c.in-Err-Fault.field-0-is c.in-Err-Fault.ensures.error) told
 
 pub returns-in_ok-refuse-in-Err-Memory-clause-ok :
     goal.returns-in_ok-refuse-in-Err-Memory-clause-ok
 returns-in_ok-refuse-in-Err-Memory-clause-ok g c =
-    starved_taken g.E.Write.contents g.E.Listener.refuses c.args.filter.now.shelf.objects
-    (kept_state c.args.filter.now.node.durable.machine.replicas c.args.filter.now.node.durable.machine.node)
-    c.args.number c.args.line.now c.requires.short c.args.errors.now (g.W.Write.contents c.args.output.now)
-    (lines c.args.filter.now.node.text.items) (sym c.is_note.ensures ∙ c.if-is_note.false)
-    (g.W.Write.contents c.refuse.new.output)
-    (subst
-    (λ (own : ℕ).
-    Appends (g.W.Write.contents c.args.output.now) (g.W.Write.contents c.refuse.new.output)
-    (refused_note own c.args.number (codes "Memory"))) c.own.ensures c.in_ok-refuse-in-Err-Memory.ensures.ok)
+    let before = g.W.Write.contents c.args.output.now in
+    let after = g.W.Write.contents c.refuse.new.output in
+    starved g.E.Write.contents g.E.Listener.refuses c.args.number c.args.line.now c.requires.short
+    (io_of before c.args.server.now) c.args.errors.now (sym c.is_note.ensures ∙ c.if-is_note.false) Appends after
+    (subst (λ (own : ℕ). Appends before after (refused_note own c.args.number (codes "Memory"))) c.own.ensures
+    c.in_ok-refuse-in-Err-Memory.ensures.ok)
 
 pub returns-in_err-refuse-in-Err-Memory-clause-err :
     goal.returns-in_err-refuse-in-Err-Memory-clause-err
 returns-in_err-refuse-in-Err-Memory-clause-err g c =
     let f : IfErr c.from_residual.result (λ e. e ≡ WriteFault) = search rules in
-    if_err_cut _ _ _ _ _ _
-    (kept_state c.args.filter.now.node.durable.machine.replicas c.args.filter.now.node.durable.machine.node)
-    c.from_residual.result f
-    (starved_cut g.E.Write.contents g.E.Listener.refuses c.args.filter.now.shelf.objects (kept_state c.args.filter.now.node.durable.machine.replicas c.args.filter.now.node.durable.machine.node) c.args.number c.args.line.now c.requires.short c.args.errors.now (g.W.Write.contents c.args.output.now) (lines c.args.filter.now.node.text.items) (sym c.is_note.ensures ∙ c.if-is_note.false) (g.W.Write.contents c.refuse.new.output)
-    (subst (λ (own : ℕ). AppendsPrefix (g.W.Write.contents c.args.output.now) (g.W.Write.contents c.refuse.new.output) (refused_note own c.args.number (codes "Memory"))) c.own.ensures c.in_err-refuse-in-Err-Memory.ensures.err))
+    let before = g.W.Write.contents c.args.output.now in
+    let after = g.W.Write.contents c.refuse.new.output in
+    if_err_cut _ _ _ _ c.from_residual.result f
+    (starved g.E.Write.contents g.E.Listener.refuses c.args.number c.args.line.now c.requires.short
+    (io_of before c.args.server.now) c.args.errors.now (sym c.is_note.ensures ∙ c.if-is_note.false) AppendsPrefix after
+    (subst (λ (own : ℕ). AppendsPrefix before after (refused_note own c.args.number (codes "Memory"))) c.own.ensures
+    c.in_err-refuse-in-Err-Memory.ensures.err))

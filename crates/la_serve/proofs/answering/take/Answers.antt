@@ -1,58 +1,57 @@
 use Rattle.std.proofs.Common.{◌≡◌, length, refl, ap, ◌∙◌, rules, IfErr}
 use Rattle.std.specs.Io.KnownBytes.{Appends}
+use Rattle.std.proofs.KnownBytes.{Appends-nil}
 use Rattle.la_set.specs.Histories.{updates}
-use Rattle.la_cli.specs.Streams.{AppendsPrefix}
+use Rattle.la_io.specs.Streams.{AppendsPrefix}
 use Rattle.la_wire.specs.Calls.{called}
 use Rattle.la_durable.specs.Given.{given_of}
-use Rattle.la_durable.specs.Restarts.{kept_state}
+use Rattle.la_durable.specs.Nodes.{kept_by}
 use Rattle.la_serve.specs.declared.error.NodeFault.TheVariants.{WriteFault}
-use Rattle.la_serve.specs.Turns.{call_text}
-use Rattle.la_serve.proofs.Taking.{if_err_cut}
 use Rattle.la_serve.specs.Names.{refusal_name}
-use Rattle.la_serve.proofs.Turns.{take_taken, take_cut, take_unwritten, same_text, take_refused, refused_cut, same_refusal}
+use Rattle.la_serve.proofs.Taking.{if_err_cut}
+use Rattle.la_serve.proofs.Turns.{take_taken, same_text, take_refused, same_refusal}
 use Rattle.la_serve.proofs.answering.take.Goals as goal
 
 pub returns-in-Ok-clause-ok : goal.returns-in-Ok-clause-ok
 returns-in-Ok-clause-ok g c =
     let out = rw c.in-Taken.is at c.keep.ensures.outcome in
-    let is : c.in-Ok.text.items ≡ call_text (length (updates c.args.node.now.durable.machine.node.replica.view)) (kept_state c.keep.new.node.durable.machine.replicas c.keep.new.node.durable.machine.node) (called c.args.input.now.call) (given_of c.in-Taken.given) =
-    same_text _ _ _ (kept_state c.keep.new.node.durable.machine.replicas c.keep.new.node.durable.machine.node) _ _
-    (given_of c.in-Taken.given) c.in-Ok.ensures
-    (c.len-before.ensures.len ∙ ap (λ v. length (updates v)) c.view.ensures) (ap called c.call.ensures.is) in
-    take_taken _ _ c.args.number _ c.args.input.now.line _ _ _ _ _ out.0 out.1 _ (c.deref.ensures.value ∙ is)
+    take_taken Appends c.args.number c.args.input.now _ _ (given_of c.in-Taken.given) out.0 out.1 _
+    (c.deref.ensures.value
+    ∙ same_text _ _ _ (kept_by c.keep.new.node.durable.machine) _ _ (given_of c.in-Taken.given) c.in-Ok.ensures
+    (c.len-before.ensures.len ∙ ap (λ v. length (updates v)) c.view.ensures) (ap called c.call.ensures.is))
     c.in_ok-write_lines-in-Ok.ensures.ok
 
 pub returns-in_err-write_lines-in-Ok-clause-err : goal.returns-in_err-write_lines-in-Ok-clause-err
 returns-in_err-write_lines-in-Ok-clause-err g c =
     let out = rw c.in-Taken.is at c.keep.ensures.outcome in
-    let is : c.in-Ok.text.items ≡ call_text (length (updates c.args.node.now.durable.machine.node.replica.view)) (kept_state c.keep.new.node.durable.machine.replicas c.keep.new.node.durable.machine.node) (called c.args.input.now.call) (given_of c.in-Taken.given) =
-    same_text _ _ _ (kept_state c.keep.new.node.durable.machine.replicas c.keep.new.node.durable.machine.node) _ _
-    (given_of c.in-Taken.given) c.in-Ok.ensures
-    (c.len-before.ensures.len ∙ ap (λ v. length (updates v)) c.view.ensures) (ap called c.call.ensures.is) in
     let f : IfErr c.from_residual.result (λ e. e ≡ WriteFault) = search rules in
-    if_err_cut _ _ _ _ _ _ (kept_state c.keep.new.node.durable.machine.replicas c.keep.new.node.durable.machine.node)
-    c.from_residual.result f
-    (take_cut _ _ c.args.number _ c.args.input.now.line _ _ _ _ _ out.0 out.1 _ (c.deref.ensures.value ∙ is)
+    if_err_cut _ _ _ _ c.from_residual.result f
+    (take_taken AppendsPrefix c.args.number c.args.input.now _ _ (given_of c.in-Taken.given) out.0 out.1 _
+    (c.deref.ensures.value
+    ∙ same_text _ _ _ (kept_by c.keep.new.node.durable.machine) _ _ (given_of c.in-Taken.given) c.in-Ok.ensures
+    (c.len-before.ensures.len ∙ ap (λ v. length (updates v)) c.view.ensures) (ap called c.call.ensures.is))
     c.in_err-write_lines-in-Ok.ensures.err)
 
 pub returns-in-Taken-clause-err : goal.returns-in-Taken-clause-err
 returns-in-Taken-clause-err g c =
     let out = rw c.in-Taken.is at c.keep.ensures.outcome in
-    take_unwritten _ _ c.args.number _ c.args.input.now.line _ _ _ _ _ out.0 out.1 refl
+    take_taken AppendsPrefix c.args.number c.args.input.now _ _ (given_of c.in-Taken.given) out.0 out.1 _ refl
+    (0, Appends-nil (g.W.Write.contents c.args.output.now))
 
 pub returns-clause-ok : goal.returns-clause-ok
 returns-clause-ok g c =
     let out = rw c.in-Refused.is at c.keep.ensures.outcome in
-    take_refused _ _ c.args.number _ c.args.input.now.line _ _ _ _ c.in-Refused.refusal out.0 out.1 out.2
-    (same_refusal (Appends (g.W.Write.contents c.args.output.now) (g.W.Write.contents c.refuse.new.output)) c.own-own.result c.args.node.now.durable.machine.node.replica.own c.args.number c.refusal_name.result.now (refusal_name c.in-Refused.refusal)
+    take_refused Appends c.args.number c.args.input.now _ _ c.in-Refused.refusal out.0 out.1 out.2
+    (same_refusal (Appends (g.W.Write.contents c.args.output.now) (g.W.Write.contents c.refuse.new.output))
+    c.own-own.result _ c.args.number c.refusal_name.result.now (refusal_name c.in-Refused.refusal)
     c.own-own.ensures c.refusal_name.ensures.text c.in_ok-refuse-in-Refused.ensures.ok)
 
 pub returns-in_err-refuse-in-Refused-clause-err : goal.returns-in_err-refuse-in-Refused-clause-err
 returns-in_err-refuse-in-Refused-clause-err g c =
     let out = rw c.in-Refused.is at c.keep.ensures.outcome in
     let f : IfErr c.from_residual-in_err-refuse-in-Refused.result (λ e. e ≡ WriteFault) = search rules in
-    if_err_cut _ _ _ _ _ _ (kept_state c.keep.new.node.durable.machine.replicas c.keep.new.node.durable.machine.node)
-    c.from_residual-in_err-refuse-in-Refused.result f
-    (refused_cut _ _ c.args.number _ c.args.input.now.line _ _ _ _ c.in-Refused.refusal out.0 out.1 out.2
-    (same_refusal (AppendsPrefix (g.W.Write.contents c.args.output.now) (g.W.Write.contents c.refuse.new.output)) c.own-own.result c.args.node.now.durable.machine.node.replica.own c.args.number c.refusal_name.result.now (refusal_name c.in-Refused.refusal)
+    if_err_cut _ _ _ _ c.from_residual-in_err-refuse-in-Refused.result f
+    (take_refused AppendsPrefix c.args.number c.args.input.now _ _ c.in-Refused.refusal out.0 out.1 out.2
+    (same_refusal (AppendsPrefix (g.W.Write.contents c.args.output.now) (g.W.Write.contents c.refuse.new.output))
+    c.own-own.result _ c.args.number c.refusal_name.result.now (refusal_name c.in-Refused.refusal)
     c.own-own.ensures c.refusal_name.ensures.text c.in_err-refuse-in-Refused.ensures.err))

@@ -6,7 +6,7 @@ use Rattle.la_replica.specs.ReplicaState.{ReplicaState}
 use Rattle.la_world.specs.declared.report.Decision.{Decision}
 use Rattle.la_world.specs.Outcomes.{decision_of}
 use Rattle.la_world.specs.Calls.{decision_by}
-use Rattle.la_world.specs.Nodes.{NodeState, replicas_of}
+use Rattle.la_node.specs.Nodes.{NodeState, replicas_of}
 use Rattle.la_world.proofs.Lists.{get_mapped}
 use Rattle.la_world.proofs.Worlds.{found_at}
 use Rattle.la_world.proofs.reporting.add_decisions.Goals as goal

@@ -1,7 +1,7 @@
 use Rattle.std.proofs.Common.{◌≡◌, take, ◌++◌}
 use Rattle.std.specs.Prelude.{filter_map}
 use Rattle.la_world.specs.Calls.{decision_by}
-use Rattle.la_world.specs.Nodes.{replicas_of}
+use Rattle.la_node.specs.Nodes.{replicas_of}
 use Rattle.la_world.proofs.reporting.add_decisions.Given as goal
 
 abbrev pub invariant-loop-node : goal.invariant-loop-node

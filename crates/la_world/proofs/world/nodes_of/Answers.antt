@@ -3,7 +3,7 @@ use Rattle.std.specs.List.{range_with_len}
 use Rattle.std.specs.Vec.Iter.{into_iter_items}
 use Rattle.la_proposer.specs.Majority.{votes_of}
 use Rattle.la_replica.specs.ReplicaState.{start}
-use Rattle.la_world.specs.Nodes.{shelves_of}
+use Rattle.la_node.specs.Nodes.{shelves_of}
 use Rattle.la_world.proofs.WorldNodes.{none_left, replicas_more, shelves_more}
 use Rattle.la_world.proofs.world.nodes_of.Goals as goal
 

@@ -4,7 +4,7 @@ use Rattle.std.specs.List.{range_with_len}
 use Rattle.std.specs.Vec.Iter.{into_iter_items}
 use Rattle.la_proposer.specs.Majority.{votes_of}
 use Rattle.la_replica.specs.ReplicaState.{start}
-use Rattle.la_world.specs.Nodes.{replicas_of, shelves_of}
+use Rattle.la_node.specs.Nodes.{replicas_of, shelves_of}
 use Rattle.la_world.proofs.world.nodes_of.Given as goal
 
 abbrev pub invariant-loop-shelf : goal.invariant-loop-shelf

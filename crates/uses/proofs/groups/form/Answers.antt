@@ -1,7 +1,7 @@
 use Rattle.std.proofs.Common.{[], ◌∷◌, ap, ◌∙◌, rules}
 use Rattle.std.proofs.lemmas.List.{map-append}
 use Rattle.la_world.specs.LiveGroups.{replicas_of}
-use Rattle.la_world.specs.Nodes.{NodeState}
+use Rattle.la_node.specs.Nodes.{NodeState}
 use Rattle.la_world.proofs.lemmas.Starting.{replica_states_more}
 use Rattle.uses.proofs.groups.form.Goals as goal
 

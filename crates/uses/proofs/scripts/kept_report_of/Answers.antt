@@ -1,6 +1,6 @@
 use Rattle.std.specs.Prelude.{ℕ, List, [], map, replicate, Result, Ok, Err, IfOk}
 use Rattle.la_world.specs.Events.{event_of}
-use Rattle.la_world.specs.Reported.{ReportsKeepPromises}
+use Rattle.la_world.specs.Headline.{ReportsKeepPromises}
 use Rattle.la_world.specs.Report.{report}
 use Rattle.uses.specs.Scripts.{IsReportOf, IsPlayedText}
 use Rattle.uses.proofs.scripts.kept_report_of.Goals as goal
@@ -16,7 +16,7 @@ keeps law bytes (Ok text) is =
       said = is.said;
       made = report script.config kinds events;
       is_text = is.is_text;
-      keeps = law script.config kinds events is.config;
+      keeps_all = law script.config kinds events is.config;
     }
 keeps law bytes (Err e) is = tt
 

@@ -6,4 +6,4 @@ use Rattle.uses.proofs.worlds.play_questions.Goals as goal
 pub returns-clause-agree : goal.returns-clause-agree
 returns-clause-agree g c =
     run_answers_agree c.args.config c.args.shelves.items (map event_of c.args.events.now) c.run.result
-    c.run.ensures.answers c.run.ensures.group
+    c.run.ensures.keeps_all c.run.ensures.group

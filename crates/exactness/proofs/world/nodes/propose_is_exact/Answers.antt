@@ -3,7 +3,7 @@ use Rattle.la_set.specs.Counts.{zero_counts}
 use Rattle.la_commit.specs.Instances.{first_instance}
 use Rattle.la_commit.specs.Votes.{first_vote}
 use Rattle.la_replica.specs.ReplicaState.{submits}
-use Rattle.la_world.specs.Nodes.{NodeState}
+use Rattle.la_node.specs.Nodes.{NodeState}
 use Rattle.exactness.proofs.Carried.{told_in, outs_agree}
 use Rattle.exactness.proofs.world.nodes.propose_is_exact.Goals as goal
 

@@ -2,8 +2,8 @@ use Rattle.std.proofs.Common.{ap, sym, subst, IfOk}
 use Rattle.la_replica.specs.Received.{received_in}
 use Rattle.la_replica.specs.Bases.{offered_by, AreToldIn}
 use Rattle.la_set.specs.declared.counts.Counts.{Counts}
-use Rattle.la_world.specs.Following.{takes}
-use Rattle.la_world.specs.Nodes.{NodeState}
+use Rattle.la_node.specs.Taking.{takes}
+use Rattle.la_node.specs.Nodes.{NodeState}
 use Rattle.exactness.proofs.Carried.{receipts_agree}
 use Rattle.exactness.proofs.world.nodes.receive_is_exact.Goals as goal
 

@@ -4,8 +4,8 @@ use Rattle.la_replica.specs.declared.parcel.Parcel.{Parcel}
 use Rattle.la_replica.specs.Received.{received_in}
 use Rattle.la_replica.specs.Bases.{offered_by, AreToldIn}
 use Rattle.la_replica.specs.Parcels.{unwrapped_in}
-use Rattle.la_world.specs.Following.{takes}
-use Rattle.la_world.specs.Nodes.{NodeState, outcome_due}
+use Rattle.la_node.specs.Taking.{takes}
+use Rattle.la_node.specs.Nodes.{NodeState, outcome_due}
 use Rattle.exactness.proofs.Carried.{receipts_agree, outcomes_agree}
 use Rattle.exactness.proofs.world.nodes.receive_parcel_is_exact.Goals as goal
 

@@ -3,7 +3,7 @@ use Rattle.la_set.specs.Counts.{zero_counts}
 use Rattle.la_set.specs.ObjectOps.{ObjectOp}
 use Rattle.la_set.specs.declared.update.Op.TheVariants.{Inc}
 use Rattle.la_replica.specs.ReplicaState.{submits}
-use Rattle.la_world.specs.Nodes.{NodeState}
+use Rattle.la_node.specs.Nodes.{NodeState}
 use Rattle.exactness.proofs.Carried.{told_in, outs_agree}
 use Rattle.exactness.proofs.world.nodes.submit_is_exact.Goals as goal
 

@@ -1,7 +1,7 @@
 use Rattle.std.proofs.Common.{◌≡◌, Bool, true, false, Result, Ok, refl, ap, sym, ◌∙◌, rules}
 use Rattle.std.proofs.lemmas.Bool.{false≢true}
 use Rattle.la_io.specs.declared.source.SourceFault.{SourceFault}
-use Rattle.la_io.specs.Streams.{pending}
+use Rattle.la_io.specs.Sources.{pending}
 use Rattle.la_io.proofs.Sources.{at_end, at_line, goes_on}
 use Rattle.la_io.proofs.source.Source.next.Goals as goal
 

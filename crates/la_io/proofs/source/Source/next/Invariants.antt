@@ -1,6 +1,6 @@
 use Rattle.std.proofs.Common.{◌≡◌, true, false, []}
 use Rattle.std.specs.Io.KnownBytes.{IsAtEnd}
-use Rattle.la_io.specs.Streams.{ahead}
+use Rattle.la_io.specs.Sources.{ahead}
 use Rattle.la_io.proofs.Sources.{Gathers}
 use Rattle.la_io.proofs.source.Source.next.Given as goal
 

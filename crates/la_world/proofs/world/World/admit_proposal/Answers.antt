@@ -1,6 +1,6 @@
 use Rattle.std.proofs.Common.{rules, ◌≡◌, ◌<◌, Some, ap, ap₂, sym, subst, ◌∙◌}
 use Rattle.la_commit.specs.Instances.{first_instance}
-use Rattle.la_world.specs.Nodes.{replicas_of}
+use Rattle.la_node.specs.Nodes.{replicas_of}
 use Rattle.la_world.specs.Calls.{submitted_at}
 use Rattle.la_world.proofs.Worlds.{submitter_known, first_proposal, second_proposal}
 use Rattle.la_world.proofs.world.World.admit_proposal.Goals as goal

@@ -1,5 +1,5 @@
 use Rattle.std.proofs.Common.{rules, ◌<◌, ◌≤◌, ap, subst, ◌∙◌}
-use Rattle.la_world.specs.Nodes.{replicas_of}
+use Rattle.la_node.specs.Nodes.{replicas_of}
 use Rattle.la_world.specs.Calls.{submitted_at}
 use Rattle.la_world.proofs.Worlds.{no_submitter, submitter_full, admit_submission}
 use Rattle.la_world.proofs.world.World.admit_submission.Goals as goal

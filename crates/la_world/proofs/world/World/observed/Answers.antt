@@ -1,8 +1,8 @@
 use Rattle.std.proofs.Common.{rules, ◌≡◌, ◌<◌, length, slice_set, Some, IsSome, IsSomeAnd, IfOk, IfErr, OnOk, subst, sym, ◌∙◌}
 use Rattle.la_set.specs.declared.tags.TheConstants.{MAX_TAGS}
 use Rattle.la_object.specs.Shelves.{tags_at}
-use Rattle.la_world.specs.declared.error.WorldError.{WorldError}
-use Rattle.la_world.specs.Nodes.{followed, IsObservedRefusal, LeftUntoldNode as LeftAtNode}
+use Rattle.la_node.specs.declared.error.WorldError.{WorldError}
+use Rattle.la_node.specs.Nodes.{followed, IsObservedRefusal, LeftUntoldNode as LeftAtNode}
 use Rattle.la_world.specs.StandsFor.{StandsFor, group_in, trace_in}
 use Rattle.la_world.specs.Calls.{HasObject, IsFollowing, world_tags, IsWorldTagsRefusal, LeftUntoldWorld}
 use Rattle.la_world.proofs.Worlds.{found_at}

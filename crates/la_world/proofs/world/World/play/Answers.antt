@@ -1,6 +1,6 @@
 use Rattle.std.proofs.Common.{Result, Ok, Err, IfOk, OnOk, OnErr}
 use Rattle.la_world.proofs.Promised.{play_keeps, no_view_shrinks}
-use Rattle.la_world.proofs.WorldOutcomes.{play_shows, play_votes, play_stays, play_safe, kept_stays, answers_listed}
+use Rattle.la_world.proofs.WorldOutcomes.{play_shows, play_votes, play_stays, kept_stays, answers_listed}
 use Rattle.la_world.proofs.world.World.play.Goals as goal
 
 on_ok : {T E : Type 0} (r : Result T E) (P : T → Type 0) (Q : Type 0) → ((x : T) → P x → Q) → IfOk r P → OnOk r Q
@@ -17,40 +17,9 @@ in_both : {T E : Type 0} (r : Result T E) (P : T → Type 0) (K Q : Type 0) → 
 in_both (Ok x) P K Q f k h e = f x h
 in_both (Err d) P K Q f k h e = k e
 
-pub returns-clause-comparable : goal.returns-clause-comparable
-returns-clause-comparable g c events stands =
-    on_ok c.take_event.result _ _ (λ step p. (play_keeps _ events _ step _ p).comparable)
-    (c.take_event.ensures.step events stands)
-
-pub returns-clause-grows : goal.returns-clause-grows
-returns-clause-grows g c events stands =
-    on_ok c.take_event.result _ _ (λ step p. (play_keeps _ events _ step _ p).grows)
-    (c.take_event.ensures.step events stands)
-
-pub returns-clause-valid : goal.returns-clause-valid
-returns-clause-valid g c events stands =
-    on_ok c.take_event.result _ _ (λ step p. (play_keeps _ events _ step _ p).valid)
-    (c.take_event.ensures.step events stands)
-
-pub returns-clause-largest : goal.returns-clause-largest
-returns-clause-largest g c events stands =
-    on_ok c.take_event.result _ _ (λ step p. (play_keeps _ events _ step _ p).largest)
-    (c.take_event.ensures.step events stands)
-
-pub returns-clause-one_history : goal.returns-clause-one_history
-returns-clause-one_history g c events stands =
-    on_ok c.take_event.result _ _ (λ step p. (play_keeps _ events _ step _ p).one_history)
-    (c.take_event.ensures.step events stands)
-
-pub returns-clause-order : goal.returns-clause-order
-returns-clause-order g c events stands =
-    on_ok c.take_event.result _ _ (λ step p. (play_keeps _ events _ step _ p).order)
-    (c.take_event.ensures.step events stands)
-
-pub returns-clause-removed : goal.returns-clause-removed
-returns-clause-removed g c events stands =
-    on_ok c.take_event.result _ _ (λ step p. (play_keeps _ events _ step _ p).removed)
-    (c.take_event.ensures.step events stands)
+pub returns-clause-keeps_all : goal.returns-clause-keeps_all
+returns-clause-keeps_all g c events stands =
+    on_ok c.take_event.result _ _ (λ step p. play_keeps _ events _ step _ p) (c.take_event.ensures.step events stands)
 
 pub returns-clause-views : goal.returns-clause-views
 returns-clause-views g c events stands =
@@ -71,11 +40,6 @@ pub returns-clause-stays : goal.returns-clause-stays
 returns-clause-stays g c events stands =
     in_both c.take_event.result _ _ _ (λ step p. play_stays _ events _ step _ stands p)
     (λ kept. kept_stays _ events _ stands kept) (c.take_event.ensures.step events stands) c.take_event.ensures.keeps
-
-pub returns-clause-safe : goal.returns-clause-safe
-returns-clause-safe g c events stands =
-    on_ok c.take_event.result _ _ (λ step p. play_safe _ events _ step _ stands p)
-    (c.take_event.ensures.step events stands)
 
 pub returns-clause-listed : goal.returns-clause-listed
 returns-clause-listed g c events stands =

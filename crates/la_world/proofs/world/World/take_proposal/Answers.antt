@@ -8,7 +8,8 @@ use Rattle.la_world.specs.Events.{Decide}
 use Rattle.la_world.specs.StandsFor.{StandsFor, refused_in}
 use Rattle.la_world.specs.Calls.{HoldsWorldInvariant, IsEventSubmission, PlaysEvent}
 use Rattle.la_set.specs.Counts.{zero_counts}
-use Rattle.la_world.proofs.ToldMail.{told_of, told_made}
+use Rattle.la_node.proofs.lemmas.Telling.{told_of}
+use Rattle.la_world.proofs.ToldMail.{told_made}
 use Rattle.la_world.proofs.Worlds.{submission_known, submission_few, submission_is_named, done_by, submission_played, submission_invariant}
 use Rattle.la_world.proofs.WorldNodes.{node_known, read_node, submitter_at, stepped, unchanged}
 use Rattle.la_world.proofs.Noted.{holds_reserved, submission_noted, noted_holds, noted_plays, noted_prints}

@@ -1,0 +1,7 @@
+mod Kept
+mod SubmittingOnce
+mod Participants
+mod Voters
+mod Returning
+pub mod Nodes
+pub mod lemmas

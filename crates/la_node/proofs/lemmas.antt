@@ -1,0 +1,3 @@
+pub mod Items
+pub mod SecondVotes
+pub mod Telling

@@ -1,0 +1,5 @@
+pub mod Configs
+pub mod SecondVotes
+pub mod Taking
+pub mod Nodes
+pub mod Kept

@@ -1,0 +1,208 @@
+// What a replica does as a participant of an adopt-commit object, by the sets that it learns. No
+// state is kept of it: its own vote in a set tells how far it is.
+ghost use Rattle.std.specs.Prelude.{◌≡◌, ◌*◌, ◌<◌, ◌≤◌, ◌+◌, List, ◌++◌, Some, option_and_then};
+ghost use Rattle.std.specs.Prelude.{IsSome, IfOk, OnErr};
+ghost use Rattle.std.specs.Option.{option_copied};
+ghost use Rattle.la_commit.specs.declared.instance.TheConstants.{MAX_COMMITS};
+ghost use Rattle.la_commit.specs.Instances.{is_first_instance, is_second_instance, commit_of};
+ghost use Rattle.la_commit.specs.Votes.{casts};
+ghost use Rattle.la_commit.specs.Outcomes.{outcome_of, outcome_in};
+ghost use Rattle.la_replica.specs.Whole.{Message as MessageOf, Out as OutOf};
+ghost use Rattle.la_replica.specs.Whole.{whole_mail, whole_out};
+ghost use Rattle.la_replica.specs.Received.{received_in};
+ghost use Rattle.la_replica.specs.Bases.{offered_by, AreToldIn, AreToldAfter, AreToldThere};
+ghost use Rattle.la_replica.specs.ReplicaState.{ReplicaState, submits, receives};
+ghost use Rattle.la_replica.specs.Steps.{learnt_in};
+ghost use Rattle.la_replica.specs.Changes.{IsPreparedFrom, after_commit, led, LeadsThere};
+ghost use Rattle.la_replica.specs.Refusals.{HasRoom, SubmittingSpares};
+ghost use Rattle.la_node.specs.SecondVotes.{vote_in};
+ghost use Rattle.la_node.specs.Nodes.{returned_by};
+ghost use Rattle.la_node.specs.Taking.{VoteFits, takes, with_vote, whole_done};
+
+use crate::done::{Done, Voted};
+use la_commit::{
+    Outcome, Vote, commit_of, is_first_instance, outcome_in, outcome_of, second_instance,
+    second_vote,
+};
+use la_replica::{Change, Mail, Message, Out, Replica, ReplicaError, Said};
+use la_set::{Counts, Op, UpdateSet};
+use std::alloc::AllocError;
+
+// The vote that a replica gives in an object's second instance, where it learns this set in the
+// first one.
+fn vote_in(instance: u8, own: u8, learnt: Option<&UpdateSet>) -> Option<Vote>
+    ensures { result ≡ option_and_then (vote_in instance own) (option_copied learnt.entry) }
+{
+    match learnt {
+        Some(learnt) if is_first_instance(instance) => second_vote(own, learnt),
+        _ => None,
+    }
+}
+
+/// What replica `own` returns, where it learns this set in this instance, if that is the second one of an
+/// adopt-commit object.
+pub fn outcome_by(instance: u8, own: u8, learnt: Option<&UpdateSet>) -> Option<Outcome>
+    ensures { result ≡ option_and_then (outcome_in instance own) (option_copied learnt.entry) }
+{
+    match learnt {
+        Some(learnt) => outcome_in(instance, own, learnt),
+        None => None,
+    }
+}
+
+// What a replica returned from an object, if it has.
+pub fn returned(replica: &Replica, commit: u8) -> Option<Outcome>
+    requires { commit < MAX_COMMITS }
+    ensures { result ≡ returned_by commit replica.now }
+{
+    let second = replica.last_learnt(second_instance(commit))?;
+    outcome_of(replica.own(), second)
+}
+
+// Commits what was prepared for a message; and where the replica learns a set by it that leads to a
+// second vote, it casts this in the same step: both are prepared from what stands, and then both
+// are committed. A copy of what is learnt is answered too. It is refused for want of memory alone,
+// and only where a set would be learnt.
+#[inline(always)]
+pub fn take_prepared(
+    receiver: &mut Replica,
+    message: &Message,
+    out: Out,
+    change: Change,
+) -> Result<(Done, Option<UpdateSet>), AllocError>
+    requires step { receives receiver.old (received_in receiver.old message.now)
+        ≡ led receiver.old (whole_out out) change }
+    requires prepared { IsPreparedFrom receiver.old change }
+    requires told { AreToldAfter receiver.old change
+        (offered_by (received_in receiver.old message.now)) out.mail }
+    requires here { change.instance ≡ message.now.instance }
+    requires few { message.now.instance ≤ 2 * MAX_COMMITS }
+    requires vote { VoteFits receiver.old (received_in receiver.old message.now) }
+    ensures step { IfOk result (λ taken.
+        takes receiver.old (received_in receiver.old message.now) ≡ Some (whole_done taken.0, receiver.new)) }
+    ensures told { IfOk result (λ taken. AreToldIn receiver.new
+        (offered_by (received_in receiver.old message.now)) taken.0.mail) }
+    ensures learnt { IfOk result (λ taken. taken.1 ≡ learnt_in taken.0.said) }
+    ensures learning { OnErr result (IsSome (learnt_in out.said)) }
+    ensures err { OnErr result (receiver.new ≡ receiver.old) }
+{
+    let learnt = learnt_copy(&out.said)?;
+    match vote_in(message.instance, receiver.own(), learnt.as_ref()) {
+        None => {
+            receiver.commit(change);
+            Ok((Done::without_vote(out), learnt))
+        }
+        Some(vote) => {
+            let done = commit_both(receiver, message.instance, vote, out, change)?;
+            Ok((done, learnt))
+        }
+    }
+}
+
+// Commits what a message in this instance led to, and the second vote to which that leads.
+fn commit_both(
+    receiver: &mut Replica,
+    instance: u8,
+    vote: Vote,
+    out: Out,
+    change: Change,
+) -> Result<Done, AllocError>
+    requires few { instance ≤ 2 * MAX_COMMITS }
+    requires here { change.instance ≡ instance }
+    requires prepared { IsPreparedFrom receiver.old change }
+    requires room { HasRoom receiver.old (instance + 1) }
+    requires spares { SubmittingSpares receiver.old (instance + 1) }
+    ensures both { IfOk result (λ done. (then : ReplicaState) × (cast : OutOf)
+        × (after_commit receiver.old change ≡ Some then)
+        × (submits then (instance + 1) (casts (commit_of instance) vote)
+        ≡ Some (cast, receiver.new))
+        × (whole_done done ≡ with_vote (whole_out out) (instance + 1) cast)) }
+    ensures told { (offered : Counts) → AreToldAfter receiver.old change offered out.mail
+        → IfOk result (λ done. AreToldIn receiver.new offered done.mail) }
+    ensures said { IfOk result (λ done. done.said ≡ out.said) }
+    ensures err { OnErr result (receiver.new ≡ receiver.old) }
+{
+    let Out { said, mail } = out;
+    let (voted, mail, cast) = prepare_vote(receiver, instance, vote, mail)?;
+    receiver.commit(change);
+    receiver.commit(cast);
+    Ok(Done {
+        said,
+        voted: Some(voted),
+        mail,
+    })
+}
+
+// A copy of the set that is learnt, if one is.
+#[inline(always)]
+fn learnt_copy(said: &Said) -> Result<Option<UpdateSet>, AllocError>
+    ensures ok { IfOk result (λ learnt. learnt ≡ learnt_in said.now) }
+    ensures err { OnErr result (IsSome (learnt_in said.now)) }
+{
+    match said.learnt() {
+        Some(learnt) => Ok(Some(learnt.copy()?)),
+        None => Ok(None),
+    }
+}
+
+// Prepares the second vote to which a learning in this instance leads, and puts its mail last.
+fn prepare_vote(
+    replica: &Replica,
+    instance: u8,
+    vote: Vote,
+    mail: Mail,
+) -> Result<(Voted, Mail, Change), AllocError>
+    requires few { instance ≤ 2 * MAX_COMMITS }
+    requires room { HasRoom replica.now (instance + 1) }
+    requires spares { SubmittingSpares replica.now (instance + 1) }
+    ensures leads { IfOk result (λ prepared. (sent : List MessageOf)
+        × (whole_mail prepared.1 ≡ whole_mail mail ++ sent)
+        × LeadsThere replica.now (instance + 1) (casts (commit_of instance) vote)
+        (record { said = prepared.0.said; mail = sent }) prepared.2) }
+    ensures told { IfOk result (λ prepared. (added : List Message)
+        × (prepared.1 ≡ mail ++ added)
+        × AreToldThere replica.now (instance + 1) prepared.2 added) }
+    ensures instance { IfOk result (λ prepared. prepared.0.instance ≡ instance + 1) }
+    ensures change { IfOk result (λ prepared. prepared.2.instance ≡ instance + 1) }
+{
+    let (cast, change) = prepare_cast(replica, instance, vote)?;
+    let (voted, sent) = put_last(instance + 1, mail, cast)?;
+    Ok((voted, sent, change))
+}
+
+// Prepares the vote alone.
+fn prepare_cast(replica: &Replica, instance: u8, vote: Vote) -> Result<(Out, Change), AllocError>
+    requires few { instance ≤ 2 * MAX_COMMITS }
+    requires room { HasRoom replica.now (instance + 1) }
+    requires spares { SubmittingSpares replica.now (instance + 1) }
+    ensures leads { IfOk result (λ prepared. LeadsThere replica.now (instance + 1)
+        (casts (commit_of instance) vote) (whole_out prepared.0) prepared.1) }
+    ensures told { IfOk result (λ prepared.
+        AreToldThere replica.now (instance + 1) prepared.1 prepared.0.mail) }
+    ensures change { IfOk result (λ prepared. prepared.1.instance ≡ instance + 1) }
+{
+    let (second, commit) = (instance + 1, commit_of(instance) as u16);
+    match replica.prepare_submission(second, commit, Op::from(vote)) {
+        Ok(prepared) => Ok(prepared),
+        Err(refused) => Err(for_memory(refused)),
+    }
+}
+
+// What was said of a vote in this instance, and its mail behind what is sent before.
+fn put_last(instance: u8, before: Mail, cast: Out) -> Result<(Voted, Mail), AllocError>
+    ensures mail { IfOk result (λ put. put.1 ≡ before ++ cast.mail) }
+    ensures voted { IfOk result (λ put.
+        put.0 ≡ record { instance = instance; said = cast.said }) }
+{
+    let Out { said, mail } = cast;
+    let mut sent = before;
+    sent.append(mail)?;
+    Ok((Voted { instance, said }, sent))
+}
+
+// A refusal for want of memory.
+pub fn for_memory(_refused: ReplicaError) -> AllocError
+    requires { _refused ≡ ReplicaError.Memory }
+{
+    AllocError
+}

@@ -1,0 +1,142 @@
+// Lines that a node writes: messages, and notes, which begin with `#`.
+ghost use Rattle.std.specs.Prelude.{◌≡◌, ◌++◌, ◌∷◌, [], codes, OnOk};
+ghost use Rattle.std.specs.Fmt.{decimal};
+ghost use Rattle.la_wire.specs.Notes.{outcome_word, letters_text};
+ghost use Rattle.la_wire.specs.Notes.{submitted_note, proposed_note, learnt_note, view_note};
+ghost use Rattle.la_wire.specs.Notes.{outcome_note, answered_note};
+
+use crate::writing::{put_counts, put_decimal, put_message, put_number, put_word};
+use la_commit::Outcome;
+use la_object::Answer;
+use la_replica::Message;
+use la_script::{Pieces, put_answer};
+use la_set::Counts;
+use std::alloc::{AllocError, Global};
+
+// Begins a note of a replica's with a word.
+fn put_front(out: &mut Vec<u8>, own: u8, word: &[u8]) -> Result<(), AllocError>
+    ensures { OnOk result (out.new.items ≡ out.old.items ++ codes "# r" ++ decimal own ++ 32 ∷ word.now) }
+{
+    out.extend_from_slice(b"# r")?;
+    put_decimal(out, u64::from(own))?;
+    put_word(out, word)
+}
+
+fn put_end(out: &mut Vec<u8>) -> Result<(), AllocError>
+    ensures { OnOk result (out.new.items ≡ out.old.items ++ 10 ∷ []) }
+{
+    out.push(b'\n')?;
+    Ok(())
+}
+
+/// Notes that an update was submitted, by its number. After a refusal a part of the note may stand there.
+pub fn put_submitted(out: &mut Vec<u8>, own: u8, number: u32) -> Result<(), AllocError>
+    ensures { OnOk result (out.new.items ≡ out.old.items ++ submitted_note own number) }
+{
+    put_front(out, own, b"submitted")?;
+    put_number(out, u64::from(own))?;
+    out.push(b'.')?;
+    put_decimal(out, u64::from(number))?;
+    put_end(out)
+}
+
+/// Notes that a value was proposed to an object. After a refusal a part of the note may stand there.
+pub fn put_proposed(out: &mut Vec<u8>, own: u8, commit: u8) -> Result<(), AllocError>
+    ensures { OnOk result (out.new.items ≡ out.old.items ++ proposed_note own commit) }
+{
+    put_front(out, own, b"proposed")?;
+    put_number(out, u64::from(commit))?;
+    put_end(out)
+}
+
+/// Notes that a ballot's set was learnt. After a refusal a part of the note may stand there.
+pub fn put_learnt(
+    out: &mut Vec<u8>,
+    own: u8,
+    instance: u8,
+    ballot: u32,
+    counts: Counts,
+) -> Result<(), AllocError>
+    ensures { OnOk result (out.new.items ≡ out.old.items ++ learnt_note own instance ballot counts) }
+{
+    put_front(out, own, b"learnt")?;
+    put_number(out, u64::from(instance))?;
+    put_number(out, u64::from(ballot))?;
+    put_counts(out, counts)?;
+    put_end(out)
+}
+
+/// Notes that the view has grown to these counts. After a refusal a part of the note may stand there.
+pub fn put_view(out: &mut Vec<u8>, own: u8, counts: Counts) -> Result<(), AllocError>
+    ensures { OnOk result (out.new.items ≡ out.old.items ++ view_note own counts) }
+{
+    put_front(out, own, b"view")?;
+    put_counts(out, counts)?;
+    put_end(out)
+}
+
+fn outcome_word(outcome: Outcome) -> &'static [u8]
+    ensures { result.now ≡ outcome_word outcome }
+{
+    match outcome {
+        Outcome::Commit(_) => b"commit",
+        Outcome::Adopt(_) => b"adopt",
+    }
+}
+
+/// Notes what was returned from an object. After a refusal a part of the note may stand there.
+pub fn put_outcome(
+    out: &mut Vec<u8>,
+    own: u8,
+    commit: u8,
+    outcome: Outcome,
+) -> Result<(), AllocError>
+    ensures { OnOk result (out.new.items ≡ out.old.items ++ outcome_note own commit outcome) }
+{
+    put_front(out, own, b"outcome")?;
+    put_number(out, u64::from(commit))?;
+    put_word(out, outcome_word(outcome))?;
+    put_number(out, outcome.value())?;
+    put_end(out)
+}
+
+// Writes the pieces of a text.
+fn put_pieces(out: &mut Vec<u8>, pieces: &Pieces) -> Result<(), AllocError>
+    ensures { OnOk result (out.new.items ≡ out.old.items ++ pieces.now) }
+{
+    let mut walk = pieces.walk();
+    while let Some(piece) = walk.next() {
+        out.extend_from_slice(piece.bytes())?;
+    }
+    Ok(())
+}
+
+/// Notes what an object answered. After a refusal a part of the note may stand there.
+pub fn put_answered(
+    alloc: Global,
+    out: &mut Vec<u8>,
+    own: u8,
+    object: u16,
+    answer: &Answer,
+) -> Result<(), AllocError>
+    ensures { OnOk result (out.new.items ≡ out.old.items ++ answered_note own object answer.now) }
+{
+    let mut pieces = Pieces::new(alloc);
+    put_answer(&mut pieces, answer)?;
+    put_front(out, own, b"answered")?;
+    put_number(out, u64::from(object))?;
+    out.push(b' ')?;
+    put_pieces(out, &pieces)?;
+    put_end(out)
+}
+
+/// Writes messages, each as a line. After a refusal a part of them may stand there.
+pub fn put_mail(out: &mut Vec<u8>, replicas: u8, mail: &[Message]) -> Result<(), AllocError>
+    ensures { OnOk result (out.new.items ≡ out.old.items ++ letters_text replicas mail.now) }
+{
+    for message in mail {
+        put_message(out, replicas, message)?;
+        put_end(out)?;
+    }
+    Ok(())
+}

@@ -1,0 +1,395 @@
+// la_serve: a node of a group of one, over a journal and streams in memory.
+ghost use Rattle.std.specs.Prelude.{◌≡◌, [], false, IfSome};
+ghost use Rattle.la_set.specs.Inclusion.{IsSubset};
+ghost use Rattle.la_journal.specs.Durable.{IsSettled};
+
+use crate::holds::holds;
+use clap::Error;
+use clap::error::ErrorKind;
+use la_cli::end_without_call;
+use la_durable::NodeMachine;
+use la_io::{Listener, WriteFailed, flush, write_some};
+use la_journal::{Disk, Durable, MemoryDisk, Staged, recover};
+use la_node::Config;
+use la_object::Shelf;
+use la_orset::OrSet;
+use la_proposer::Votes;
+use la_serve::{NodeFault, Options, Server, command, run, serve};
+use la_set::UpdateSet;
+use std::alloc::Global;
+use std::io;
+use std::io::Write;
+use test_memory::{Came, again, refused, second};
+
+// ## Lines that are served
+
+// What a journal has, a line, whether that is kept, and what is written of it: also where the journal has gained
+// it once already, and nothing was written.
+struct Row {
+    journal: &'static str,
+    line: &'static str,
+    is_kept: bool,
+    text: &'static str,
+    later: &'static str,
+}
+
+const ROWS: [Row; 4] = [
+    Row {
+        journal: "",
+        line: "submit 0 3 put 7\n",
+        is_kept: true,
+        text: "# r0 submitted 0.1\noffer 1 0 0 0 1 base 0 0 0 0 0 0 0 0;0.1 3 put 7\n",
+        later: "# r0 submitted 0.2\n",
+    },
+    Row {
+        journal: "submit 0 3 put 7\n",
+        line: "tick\n",
+        is_kept: false,
+        text: "offer 1 0 0 0 1 base 0 0 0 0 0 0 0 0;0.1 3 put 7\n",
+        later: "",
+    },
+    Row {
+        journal: "submit 0 3 put 7\noffer 1 0 0 0 1 base 0 0 0 0 0 0 0 0;0.1 3 put 7\n",
+        line: "yes 1 0 0 0 1\n",
+        is_kept: true,
+        text: "# r0 learnt 0 1 1 0 0 0 0 0 0 0\n# r0 view 1 0 0 0 0 0 0 0\n",
+        later: "",
+    },
+    Row {
+        journal: ROUND,
+        line: "ask 0 3 items\n",
+        is_kept: false,
+        text: ANSWER,
+        later: "",
+    },
+];
+
+const ROUND: &str = "submit 0 3 put 7\noffer 1 0 0 0 1 base 0 0 0 0 0 0 0 0;0.1 3 put 7\n\
+     yes 1 0 0 0 1\n";
+
+const ANSWER: &str = "# r0 answered 3 items [7]\n";
+
+const REFUSED: &str = "# r0 refused 1 Memory\n";
+
+fn alone() -> Config {
+    Config {
+        replicas: 1,
+        commits: 0,
+        cap: 10,
+        votes: Votes::one_each(1),
+    }
+}
+
+fn disk_of(alloc: Global, journal: &[u8]) -> Option<MemoryDisk> {
+    Some(MemoryDisk::new(alloc, journal.to_vec(alloc).ok()?))
+}
+
+// A shelf with a set under 3 that has absorbed a view.
+fn shelf_over(alloc: Global, view: &UpdateSet) -> Option<Shelf<OrSet>>
+    ensures { IfSome result (λ shelf. shelf.view ≡ view.now) }
+{
+    let mut shelf = Shelf::new(alloc);
+    shelf.add(3, OrSet::new(alloc)).ok()?;
+    shelf.absorb(view).ok()?;
+    Some(shelf)
+}
+
+// A node with its shelf, and nothing staged.
+fn server_of<D: Disk>(
+    alloc: Global,
+    node: Durable<NodeMachine, D>,
+    shelf: Shelf<OrSet>,
+) -> Server<D, OrSet>
+    requires unclosed { node.closed ≡ false }
+    requires settled { IsSettled D.seen D.may_leave node.disk }
+    requires absorbed { shelf.view ≡ node.machine.node.replica.view }
+    ensures unclosed { result.node.durable.closed ≡ false }
+    ensures settled { IsSettled D.seen D.may_leave result.node.durable.disk }
+    ensures unstaged { result.node.text.items ≡ [] }
+    ensures absorbed { result.shelf.view ≡ result.node.durable.machine.node.replica.view }
+{
+    Server {
+        node: Staged::new(alloc, node),
+        shelf,
+    }
+}
+
+// A node as its journal says.
+fn start<D: Disk>(alloc: Global, disk: D) -> Option<Server<D, OrSet>>
+    ensures { IfSome result (λ server. (server.node.durable.closed ≡ false)
+        × IsSettled D.seen D.may_leave server.node.durable.disk
+        × (server.node.text.items ≡ [])
+        × (server.shelf.view ≡ server.node.durable.machine.node.replica.view)) }
+{
+    let machine = NodeMachine::new(alloc, alone(), 0).ok()?;
+    let Ok(node) = recover(alloc, machine, disk) else {
+        return None;
+    };
+    let shelf = shelf_over(alloc, node.machine.node.view())?;
+    Some(server_of(alloc, node, shelf))
+}
+
+// What came of a line: what is to be written was, or a note that there was no memory, or a front of it, and the
+// node ended.
+#[derive(Clone, Copy, PartialEq, Eq)]
+enum Served {
+    Well,
+    Noted,
+    Stopped,
+    Wrong,
+}
+
+fn serve_line<D: Disk>(
+    alloc: Global,
+    server: &mut Server<D, OrSet>,
+    line: &str,
+    text: &str,
+) -> Served
+    requires settled { IsSettled D.seen D.may_leave server.old.node.durable.disk }
+    requires unclosed { server.old.node.durable.closed ≡ false }
+    requires unstaged { server.old.node.text.items ≡ [] }
+    requires within { IsSubset server.old.shelf.view server.old.node.durable.machine.node.replica.view }
+{
+    let Ok(mut output) = Vec::with_capacity(alloc, 400) else {
+        return Served::Stopped;
+    };
+    let mut input = line.as_bytes();
+    match serve(alloc, server, &mut input, &mut output, &mut io::sink()) {
+        Ok(()) if output.as_slice() == text.as_bytes() => Served::Well,
+        Ok(()) if output.as_slice() == REFUSED.as_bytes() => Served::Noted,
+        Err(NodeFault::Memory) if text.as_bytes().starts_with(output.as_slice()) => Served::Stopped,
+        Ok(()) | Err(_) => Served::Wrong,
+    }
+}
+
+// Whether a journal has this line behind what it had.
+fn has_gained(after: &[u8], before: &[u8], line: &str) -> bool {
+    after.starts_with(before)
+        && after.ends_with(line.as_bytes())
+        && after.len() == before.len().saturating_add(line.len())
+}
+
+// Where nothing was written the journal has gained the line or not.
+fn came_of(row: &Row, served: Served, before: &[u8], after: &[u8]) -> Came {
+    let has_line = row.is_kept && has_gained(after, before, row.line);
+    let is_same = after == before;
+    match served {
+        Served::Well => Some(if row.is_kept { has_line } else { is_same }),
+        Served::Noted => refused(is_same),
+        Served::Stopped => refused(is_same || has_line),
+        Served::Wrong => Some(false),
+    }
+}
+
+// The same line, by a node that starts on the journal that the first has left.
+fn serves_again(alloc: Global, row: &Row, journal: &[u8]) -> Came {
+    let is_first = journal == row.journal.as_bytes();
+    let text = if is_first { row.text } else { row.later };
+    let mut server = start(alloc, disk_of(alloc, journal)?)?;
+    let served = serve_line(alloc, &mut server, row.line, text);
+    came_of(row, served, journal, server.node.durable.disk.bytes())
+}
+
+fn serves(alloc: Global, row: &Row) -> Came {
+    let journal = row.journal.as_bytes();
+    let mut server = start(alloc, disk_of(alloc, journal)?)?;
+    let served = serve_line(alloc, &mut server, row.line, row.text);
+    let left = server.node.durable.disk.bytes();
+    match came_of(row, served, journal, left) {
+        Some(well) => Some(well),
+        None => second(alloc, serves_again(alloc, row, left)),
+    }
+}
+
+fn serves_all(alloc: Global) -> Came {
+    for row in &ROWS {
+        let came = serves(alloc, row);
+        if came != Some(true) {
+            return came;
+        }
+    }
+    Some(true)
+}
+
+// ## The command
+
+// What is told.
+#[derive(Drop)]
+struct Told {
+    bytes: Vec<u8>,
+}
+
+impl Write for Told {
+    fn write(&mut self, buf: &[u8]) -> io::Result<usize> {
+        self.bytes.write(buf)
+    }
+
+    fn flush(&mut self) -> io::Result<()> {
+        Ok(())
+    }
+}
+
+impl Listener for Told {
+    ghost refuses = { λ old bytes new. Unit {0} };
+
+    fn hear(&mut self, bytes: &[u8]) -> Result<usize, WriteFailed> {
+        write_some(self, bytes)
+    }
+
+    fn settle(&mut self) -> Result<(), WriteFailed> {
+        flush(self)
+    }
+}
+
+// Room for all that is written or told.
+fn room(alloc: Global) -> Option<Vec<u8>> {
+    Vec::with_capacity(alloc, 2000).ok()
+}
+
+// Whether want of memory was told, and nothing was written.
+fn is_memory(output: &[u8], told: &[u8]) -> bool {
+    output.is_empty() && told == b"Memory\n".as_slice()
+}
+
+// A question to a node that starts on its journal.
+fn runs(alloc: Global) -> Came {
+    let options = Options {
+        config: alone(),
+        own: 0,
+        folder: String::new(alloc),
+    };
+    let disk = disk_of(alloc, ROUND.as_bytes())?;
+    let mut output = room(alloc)?;
+    let mut told = Told {
+        bytes: room(alloc)?,
+    };
+    let mut input = b"ask 0 3 items\n".as_slice();
+    match run(alloc, &options, disk, &mut input, &mut output, &mut told) {
+        0 if output.as_slice() == ANSWER.as_bytes() => Some(told.bytes.is_empty()),
+        0 => refused(output.as_slice() == REFUSED.as_bytes() && told.bytes.is_empty()),
+        3 => refused(is_memory(&output, &told.bytes)),
+        _ => Some(false),
+    }
+}
+
+fn words_of(alloc: Global, words: &[&str]) -> Option<Vec<String>> {
+    let mut all = Vec::new(alloc);
+    for word in words {
+        all.push(String::from_str(alloc, word).ok()?).ok()?;
+    }
+    Some(all)
+}
+
+const WORDS: [&str; 9] = [
+    "lattice",
+    "node",
+    "--replicas",
+    "2",
+    "--own",
+    "1",
+    "--journal",
+    "folder",
+    "--cap=7",
+];
+
+fn are_options(options: &Options) -> bool {
+    let config = options.config;
+    config.replicas == 2
+        && config.commits == 0
+        && config.cap == 7
+        && options.own == 1
+        && options.folder.as_str() == "folder"
+}
+
+fn commands(alloc: Global, words: &[String]) -> Came {
+    match command(alloc, words) {
+        Ok(Some(options)) => Some(are_options(&options)),
+        Ok(None) => Some(false),
+        Err(it) => refused(it.kind() == ErrorKind::OutOfMemory),
+    }
+}
+
+// Words that ask for help, and some with a mistake.
+const HELP: [&str; 3] = ["lattice", "node", "--help"];
+
+const MISTAKE: [&str; 4] = ["lattice", "node", "--own", "8"];
+
+fn ends_with_help(alloc: Global, error: &Error) -> Came {
+    let mut output = room(alloc)?;
+    let mut told = Told {
+        bytes: room(alloc)?,
+    };
+    match end_without_call(alloc, error, &mut output, &mut told).status {
+        0 => Some(output.starts_with(b"Runs one replica") && told.bytes.is_empty()),
+        3 => refused(is_memory(&output, &told.bytes)),
+        _ => Some(false),
+    }
+}
+
+fn ends_with_mistake(alloc: Global, error: &Error) -> Came {
+    let mut output = room(alloc)?;
+    let mut told = Told {
+        bytes: room(alloc)?,
+    };
+    match end_without_call(alloc, error, &mut output, &mut told).status {
+        2 => Some(output.is_empty() && told.bytes.starts_with(b"error:")),
+        3 => refused(is_memory(&output, &told.bytes)),
+        _ => Some(false),
+    }
+}
+
+fn helps(alloc: Global, words: &[String]) -> Came {
+    let error = match command(alloc, words) {
+        Ok(_options) => return Some(false),
+        Err(error) => error,
+    };
+    if error.kind() == ErrorKind::OutOfMemory {
+        return ends_for_memory(alloc, &error);
+    }
+    again!(alloc, ends_with_help(alloc, &error))
+}
+
+fn mistakes(alloc: Global, words: &[String]) -> Came {
+    let error = match command(alloc, words) {
+        Ok(_options) => return Some(false),
+        Err(error) => error,
+    };
+    if error.kind() == ErrorKind::OutOfMemory {
+        return ends_for_memory(alloc, &error);
+    }
+    again!(alloc, ends_with_mistake(alloc, &error))
+}
+
+// Where there was no memory for the words, this is told.
+fn ends_for_memory(alloc: Global, error: &Error) -> Came {
+    let mut output = room(alloc)?;
+    let mut told = Told {
+        bytes: room(alloc)?,
+    };
+    let status = end_without_call(alloc, error, &mut output, &mut told).status;
+    refused(status == 3 && is_memory(&output, &told.bytes))
+}
+
+fn calls(alloc: Global) -> Came {
+    let words = words_of(alloc, &WORDS)?;
+    let help = words_of(alloc, &HELP)?;
+    let mistake = words_of(alloc, &MISTAKE)?;
+    Some(
+        again!(alloc, commands(alloc, &words))?
+            && again!(alloc, helps(alloc, &help))?
+            && again!(alloc, mistakes(alloc, &mistake))?
+            && again!(alloc, runs(alloc))?,
+    )
+}
+
+#[test]
+fn all_of_servers(rt: HostRuntime) {
+    let alloc = rt.alloc();
+    holds(&rt, again!(alloc, serves_all(alloc)));
+}
+
+#[test]
+fn all_of_commands(rt: HostRuntime) {
+    let alloc = rt.alloc();
+    holds(&rt, again!(alloc, calls(alloc)));
+}
