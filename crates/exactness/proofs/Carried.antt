@@ -12,16 +12,14 @@ use Rattle.la_replica.specs.declared.instance.Instance.{Instance}
 use Rattle.la_replica.specs.declared.message.Message as code
 use Rattle.la_replica.specs.declared.message.Body as code_body
 use Rattle.la_replica.specs.declared.message.Body.TheVariants as body
-use Rattle.la_commit.specs.declared.outcome.Outcome.{Outcome}
 use Rattle.la_replica.specs.declared.out.Out as code_out
-use Rattle.la_replica.specs.declared.out.Said.{Said}
 use Rattle.la_replica.specs.ReplicaState.{ReplicaState}
 use Rattle.la_replica.specs.Steps.{learnt_in}
 use Rattle.la_replica.specs.Bases.{smaller, IsToldBody, IsToldIn, AreToldIn, AreToldFrom}
 use Rattle.la_replica.specs.Whole.{Message, Out, set_of, whole_body, whole_of, whole_mail, whole_out}
 use Rattle.la_node.specs.declared.done.Done.{Done}
 use Rattle.la_node.specs.declared.node.Received.{Received}
-use Rattle.la_node.specs.Taking.{Taken, whole_done}
+use Rattle.la_node.specs.Steps.{Given, given_out, given_of, given_due}
 
 body_once : (reported offered : Counts) (b c : code_body.Body) → IsToldBody reported offered b
     → IsToldBody reported offered c → whole_body b ≡ whole_body c → b ≡ c
@@ -79,12 +77,6 @@ module _ (r : ReplicaState) (offered : Counts) where
       let same : a.mail ≡ b.mail = mail_once a.mail b.mail p q (ap (λ (o : Out). o.mail) e) in
       λ j. record { said = (e j).said; mail = same j }
 
-  done_once : (a b : Done) → AreToldIn r offered a.mail → AreToldIn r offered b.mail → whole_done a ≡ whole_done b
-      → a ≡ b
-  done_once a b p q e =
-      let same : a.mail ≡ b.mail = mail_once a.mail b.mail p q (ap (λ (o : Taken). o.mail) e) in
-      λ j. record { said = (e j).said; mail = same j; voted = (e j).voted }
-
 -- what is told in one instance is told
 pub told_in : {E : Type 0} (r : ReplicaState) (i : ℕ) (offered : Counts) (a : Result code_out.Out E)
     → IfOk a (λ o. AreToldFrom r i offered o.mail) → IfOk a (λ o. AreToldIn r offered o.mail)
@@ -115,49 +107,47 @@ states_agree {W = W} {S = S} f g x y (Ok o) (Ok p) m n same h k =
 states_agree f g x y (Ok o) (Err e) m n same h k = tt
 states_agree f g x y (Err d) b m n same h k = tt
 
-dones_agree : (offered : Counts) (x y : Option (Taken × ReplicaState)) (a b : Done) (m n : ReplicaState) → x ≡ y
-    → x ≡ Some (whole_done a, m) → y ≡ Some (whole_done b, n) → AreToldIn m offered a.mail → AreToldIn n offered b.mail
-    → a ≡ b
-dones_agree offered x y a b m n same h k told also =
-    let one = same_Some (whole_done a, m) (whole_done b, n) (sym h ∙ same ∙ k) in
-    done_once m offered a b told
-    (subst (λ s. AreToldIn s offered b.mail) (sym (ap (λ (t : Taken × ReplicaState). t.1) one)) also)
-    (ap (λ (t : Taken × ReplicaState). t.0) one)
+-- two calls that come to one step of a node are answered alike
+pub answers_agree : {A B D E : Type 0} (f : A → Given) (g : B → Given) (x y : Option (Given × ReplicaState))
+    (a : Result A D) (b : Result B E) (m n : ReplicaState) → x ≡ y → IfOk a (λ o. x ≡ Some (f o, m))
+    → IfOk b (λ p. y ≡ Some (g p, n)) → IfOk a (λ o. IfOk b (λ p. f o ≡ g p))
+answers_agree f g x y (Ok o) (Ok p) m n same h k =
+    ap (λ (t : Given × ReplicaState). t.0) (same_Some (f o, m) (g p, n) (sym h ∙ same ∙ k))
+answers_agree f g x y (Ok o) (Err e) m n same h k = tt
+answers_agree f g x y (Err d) b m n same h k = tt
 
-pub receipts_agree : {D E : Type 0} (offered : Counts) (x y : Option (Taken × ReplicaState)) (a : Result Received D)
-    (b : Result Received E) (m n : ReplicaState) → x ≡ y → IfOk a (λ r. x ≡ Some (whole_done r.done, m))
-    → IfOk b (λ r. y ≡ Some (whole_done r.done, n)) → IfOk a (λ r. AreToldIn m offered r.done.mail)
-    → IfOk b (λ r. AreToldIn n offered r.done.mail) → IfOk a (λ r. IfOk b (λ s. r.done ≡ s.done))
-receipts_agree offered x y (Ok r) (Ok s) m n same h k told also =
-    dones_agree offered x y r.done s.done m n same h k told also
-receipts_agree offered x y (Ok r) (Err e) m n same h k told also = tt
-receipts_agree offered x y (Err d) b m n same h k told also = tt
+-- so are two submissions or proposals, two messages, and one of which a copy of what is learnt is answered
+pub outs_alike : {D E : Type 0} (a : Result code_out.Out D) (b : Result code_out.Out E)
+    → IfOk a (λ o. IfOk b (λ p. given_out o ≡ given_out p)) → IfOk a (λ o. IfOk b (λ p. o ≡ p))
+outs_alike (Ok o) (Ok p) e = λ j. record { said = (e j).said; mail = (e j).mail }
+outs_alike (Ok o) (Err e) h = tt
+outs_alike (Err d) b h = tt
 
--- also where one answers a copy of what is learnt
-pub takings_agree : {D E : Type 0} (offered : Counts) (x y : Option (Taken × ReplicaState))
-    (a : Result (Done × Option Histories) D) (b : Result Received E) (m n : ReplicaState) → x ≡ y
-    → IfOk a (λ t. x ≡ Some (whole_done t.0, m)) → IfOk b (λ r. y ≡ Some (whole_done r.done, n))
-    → IfOk a (λ t. AreToldIn m offered t.0.mail) → IfOk b (λ r. AreToldIn n offered r.done.mail)
+pub dones_alike : {D E : Type 0} (a : Result Received D) (b : Result Received E)
+    → IfOk a (λ r. IfOk b (λ s. given_of r ≡ given_of s)) → IfOk a (λ r. IfOk b (λ s. r.done ≡ s.done))
+dones_alike (Ok r) (Ok s) e = λ j. record { said = (e j).said; voted = (e j).voted; mail = (e j).mail }
+dones_alike (Ok r) (Err e) h = tt
+dones_alike (Err d) b h = tt
+
+pub outcomes_alike : {D E : Type 0} (a : Result Received D) (b : Result Received E)
+    → IfOk a (λ r. IfOk b (λ s. given_of r ≡ given_of s)) → IfOk a (λ r. IfOk b (λ s. r.outcome ≡ s.outcome))
+outcomes_alike (Ok r) (Ok s) e = ap (λ (g : Given). g.outcome) e
+outcomes_alike (Ok r) (Err e) h = tt
+outcomes_alike (Err d) b h = tt
+
+pub takings_alike : {D E : Type 0} (r : ReplicaState) (m : code.Message) (a : Result (Done × Option Histories) D)
+    (b : Result Received E) → IfOk a (λ t. IfOk b (λ s. given_due r m t.0 ≡ given_of s))
     → IfOk a (λ t. IfOk b (λ s. t.0 ≡ s.done))
-takings_agree offered x y (Ok t) (Ok s) m n same h k told also =
-    dones_agree offered x y t.0 s.done m n same h k told also
-takings_agree offered x y (Ok t) (Err e) m n same h k told also = tt
-takings_agree offered x y (Err d) b m n same h k told also = tt
+takings_alike r m (Ok t) (Ok s) e = λ j. record { said = (e j).said; voted = (e j).voted; mail = (e j).mail }
+takings_alike r m (Ok t) (Err e) h = tt
+takings_alike r m (Err d) b h = tt
 
-pub learnt_agree : {D E : Type 0} (a : Result (Done × Option Histories) D) (b : Result Received E)
+pub learnt_alike : {D E : Type 0} (a : Result (Done × Option Histories) D) (b : Result Received E)
     → IfOk a (λ t. t.1 ≡ learnt_in t.0.said) → IfOk a (λ t. IfOk b (λ s. t.0 ≡ s.done))
     → IfOk a (λ t. IfOk b (λ s. t.1 ≡ learnt_in s.done.said))
-learnt_agree (Ok t) (Ok s) h same = h ∙ ap (λ (d : Done). learnt_in d.said) same
-learnt_agree (Ok t) (Err e) h same = tt
-learnt_agree (Err d) b h same = tt
-
--- and show one outcome, where that is told by what they say
-pub outcomes_agree : {D E : Type 0} (f g : Said → Option Outcome) (a : Result Received D) (b : Result Received E)
-    → f ≡ g → IfOk a (λ r. r.outcome ≡ f r.done.said) → IfOk b (λ r. r.outcome ≡ g r.done.said)
-    → IfOk a (λ r. IfOk b (λ s. r.done ≡ s.done)) → IfOk a (λ r. IfOk b (λ s. r.outcome ≡ s.outcome))
-outcomes_agree f g (Ok r) (Ok s) one h k same = h ∙ ap (λ (d : Done). f d.said) same ∙ (λ j. one j s.done.said) ∙ sym k
-outcomes_agree f g (Ok r) (Err e) one h k same = tt
-outcomes_agree f g (Err d) b one h k same = tt
+learnt_alike (Ok t) (Ok s) h same = h ∙ ap (λ (d : Done). learnt_in d.said) same
+learnt_alike (Ok t) (Err e) h same = tt
+learnt_alike (Err d) b h same = tt
 
 -- what is sent once more is one
 pub mails_agree : {E : Type 0} (r : ReplicaState) (offered : Counts) (ms : List Message)

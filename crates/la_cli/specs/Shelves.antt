@@ -1,5 +1,5 @@
 -- The shelves that are made of objects, and when they are refused.
-use Rattle.std.specs.Prelude.{◌≡◌, ℕ, nat_eq, List, [], ◌∷◌, ◌++◌, map, replicate, All}
+use Rattle.std.specs.Prelude.{◌≡◌, ℕ, nat_eq, List, [], ◌∷◌, ◌++◌, map, replicate, All, Result, IfOk}
 use Rattle.std.specs.Global.{Vec}
 use Rattle.std.specs.List.{IsDistinct}
 use Rattle.la_set.specs.Histories.{empty}
@@ -63,6 +63,13 @@ IsFillRefusal all TooManyTags = ⊥
 -- a new counter under 1, a new max register under 2 and a new observed-remove set under 3
 abbrev pub standard_objects : List (ℕ × State)
 standard_objects = (1, start Counter) ∷ (2, start MaxRegister) ∷ (3, start OrSet) ∷ []
+
+-- what makes objects may be called, and what it makes are those of the program
+pub record MakesStandard {B F E : Type 0} (state : B → State) (pre : F → Type 0)
+    (post : F → Result (Vec (ℕ × B)) E → Type 0) (make : F) : Type 0 where
+  pub callable : pre make
+  pub made : (objects : Result (Vec (ℕ × B)) E) → post make objects →
+      IfOk objects (λ v. states_of state v.items ≡ standard_objects)
 
 -- eight shelves of such objects, one for each replica that a group may have
 abbrev pub standard_shelves : List ShelfState

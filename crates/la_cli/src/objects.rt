@@ -5,8 +5,8 @@ ghost use Rattle.la_object.specs.declared.kind.Kind.TheVariants.{Counter as Coun
 ghost use Rattle.la_object.specs.declared.kind.Kind.TheVariants.{MaxRegister as RegisterKind};
 ghost use Rattle.la_object.specs.declared.kind.Kind.TheVariants.{OrSet as SetKind};
 ghost use Rattle.la_object.specs.Objects.{start};
-ghost use Rattle.la_cli.specs.Program.{ProgramEnds, ProgramEndsWell, heard, standard};
-ghost use Rattle.la_cli.specs.Shelves.{states_of, standard_objects, standard_shelves};
+ghost use Rattle.la_cli.specs.Program.{IsExitStatus, heard, streamed};
+ghost use Rattle.la_cli.specs.Shelves.{states_of, standard_objects, standard_shelves, MakesStandard};
 
 use crate::program::{end_without_words, run_words};
 use crate::shelves::{Numbered, fill};
@@ -58,14 +58,7 @@ fn shelves_of<B: Replicated, F: Fn() -> Result<Numbered<B>, AllocError>>(
 }
 
 // The program with such objects.
-fn run_with<
-    P: Threads + Wait + Sync,
-    R: Read,
-    W: Write,
-    E: Listener,
-    B: Replicated,
-    F: Fn() -> Result<Numbered<B>, AllocError>,
->(
+fn run_with<P: Threads + Wait + Sync, R: Read, W: Write, E: Listener, B: Replicated, F>(
     rt: &P,
     alloc: Global,
     words: &[String],
@@ -74,19 +67,11 @@ fn run_with<
     errors: &mut E,
     make: F,
 ) -> u8
-    requires callable { F.pre make }
-    requires made { (objects : _) → F.post make objects
-        → IfOk objects (λ v. states_of B.state v.items ≡ standard_objects) }
-    ensures ends { (told : _) × ProgramEnds (map string_bytes words.now) standard_shelves
-        (standard (R.remaining input.old) (W.contents output.old))
-        (standard (R.remaining input.new) (W.contents output.new))
-        (heard E.contents E.refuses errors.old errors.new)
-        (record { status = result; told = told }) }
-    ensures done { result ≡ 0 → (told : _) × ProgramEndsWell (map string_bytes words.now) standard_shelves
-        (standard (R.remaining input.old) (W.contents output.old))
-        (standard (R.remaining input.new) (W.contents output.new))
-        (heard E.contents E.refuses errors.old errors.new)
-        (record { status = result; told = told }) }
+where
+    F: Fn() -> Result<Numbered<B>, AllocError>,
+    requires { MakesStandard B.state F.pre F.post make }
+    ensures { IsExitStatus (map string_bytes words.now) standard_shelves (streamed R.remaining W.contents
+        (input.old, output.old) (input.new, output.new)) (heard E.contents E.refuses errors.old errors.new) result }
 {
     match shelves_of(alloc, make) {
         Ok(shelves) => run_words(rt, alloc, words, input, output, errors, shelves),
@@ -108,16 +93,9 @@ pub fn run_boxed<P: Threads + Wait + Sync, R: Read, W: Write, E: Listener>(
     output: &mut W,
     errors: &mut E,
 ) -> u8
-    ensures ends { (told : _) × ProgramEnds (map string_bytes words.now) standard_shelves
-        (standard (R.remaining input.old) (W.contents output.old))
-        (standard (R.remaining input.new) (W.contents output.new))
-        (heard E.contents E.refuses errors.old errors.new)
-        (record { status = result; told = told }) }
-    ensures done { result ≡ 0 → (told : _) × ProgramEndsWell (map string_bytes words.now) standard_shelves
-        (standard (R.remaining input.old) (W.contents output.old))
-        (standard (R.remaining input.new) (W.contents output.new))
-        (heard E.contents E.refuses errors.old errors.new)
-        (record { status = result; told = told }) }
+    ensures { IsExitStatus (map string_bytes words.now) standard_shelves
+        (streamed R.remaining W.contents (input.old, output.old) (input.new, output.new))
+        (heard E.contents E.refuses errors.old errors.new) result }
 {
     let make = || -> Result<Numbered<Box<dyn Replicated + Send>>, AllocError>
         ensures { IfOk result (λ objects. states_of state objects.items ≡ standard_objects) }

@@ -1,11 +1,10 @@
 // The whole program but for the real streams.
-ghost use Rattle.std.specs.Prelude.{◌≡◌, ◌≢◌, ◌<◌, length, map, string_bytes, IfOk, IfErr, Result};
-ghost use Rattle.clap.specs.Words.{HasKind, fault_of};
+ghost use Rattle.std.specs.Prelude.{◌≡◌, ◌≢◌, ◌<◌, length, map, string_bytes, IfOk, IfErr};
 ghost use Rattle.la_cli.specs.declared.error.PlayFault.TheVariants.{Memory};
-ghost use Rattle.la_cli.specs.Calls.{lattice, IsInRange};
+ghost use Rattle.la_cli.specs.Calls.{IsInRange};
 ghost use Rattle.la_cli.specs.Faults.{play_status};
-ghost use Rattle.la_cli.specs.Program.{ProgramEnds, ProgramEndsWell, EndsWithoutTask, ComesTo, IsTaskRefusal};
-ghost use Rattle.la_cli.specs.Program.{TellsFault, TellsNoText, heard, standard};
+ghost use Rattle.la_cli.specs.Program.{IsProgramEnd, IsExitStatus, EndsByError, ComesTo, IsTaskRefusal};
+ghost use Rattle.la_cli.specs.Program.{TellsFault, TellsNoText, heard, streamed};
 
 use crate::call::{Task, command};
 use crate::telling::{tell, tell_no_text};
@@ -65,11 +64,9 @@ fn perform<P: Threads + Wait + Sync, R: Read, W: Write, B: Replicated>(
 ) -> Result<bool, PlayFault>
     requires { IsInRange task }
     ensures ok { IfOk result (λ well. ComesTo well task shelves.items
-        (R.remaining input.old) (R.remaining input.new)
-        (W.contents output.old) (W.contents output.new)) }
+        (streamed R.remaining W.contents (input.old, output.old) (input.new, output.new))) }
     ensures error { IfErr result (IsTaskRefusal task shelves.items
-        (R.remaining input.old) (R.remaining input.new)
-        (W.contents output.old) (W.contents output.new)) }
+        (streamed R.remaining W.contents (input.old, output.old) (input.new, output.new))) }
 {
     match task {
         Task::Play => match play_stream(alloc, input, output, shelves) {
@@ -113,8 +110,7 @@ pub fn end_without_call<W: Write, E: Listener>(
     output: &mut W,
     errors: &mut E,
 ) -> Ended
-    ensures { (found : _) → HasKind found error.now → (left : _) → EndsWithoutTask found
-        (standard left (W.contents output.old)) (standard left (W.contents output.new))
+    ensures { EndsByError error.now (W.contents output.old) (W.contents output.new)
         (heard E.contents E.refuses errors.old errors.new) result }
 {
     if error.kind() == clap::error::ErrorKind::OutOfMemory {
@@ -153,13 +149,8 @@ pub fn carry_out<P: Threads + Wait + Sync, R: Read, W: Write, E: Listener, B: Re
     errors: &mut E,
     shelves: Vec<Shelf<B>>,
 ) -> Ended
-    ensures ends { ProgramEnds (map string_bytes words.now) shelves.items
-        (standard (R.remaining input.old) (W.contents output.old))
-        (standard (R.remaining input.new) (W.contents output.new))
-        (heard E.contents E.refuses errors.old errors.new) result }
-    ensures done { result.status ≡ 0 → ProgramEndsWell (map string_bytes words.now) shelves.items
-        (standard (R.remaining input.old) (W.contents output.old))
-        (standard (R.remaining input.new) (W.contents output.new))
+    ensures { IsProgramEnd (map string_bytes words.now) shelves.items
+        (streamed R.remaining W.contents (input.old, output.old) (input.new, output.new))
         (heard E.contents E.refuses errors.old errors.new) result }
 {
     match command(alloc, words) {
@@ -186,16 +177,9 @@ pub fn run_words<P: Threads + Wait + Sync, R: Read, W: Write, E: Listener, B: Re
     errors: &mut E,
     shelves: Vec<Shelf<B>>,
 ) -> u8
-    ensures ends { (told : _) × ProgramEnds (map string_bytes words.now) shelves.items
-        (standard (R.remaining input.old) (W.contents output.old))
-        (standard (R.remaining input.new) (W.contents output.new))
-        (heard E.contents E.refuses errors.old errors.new)
-        (record { status = result; told = told }) }
-    ensures done { result ≡ 0 → (told : _) × ProgramEndsWell (map string_bytes words.now) shelves.items
-        (standard (R.remaining input.old) (W.contents output.old))
-        (standard (R.remaining input.new) (W.contents output.new))
-        (heard E.contents E.refuses errors.old errors.new)
-        (record { status = result; told = told }) }
+    ensures { IsExitStatus (map string_bytes words.now) shelves.items
+        (streamed R.remaining W.contents (input.old, output.old) (input.new, output.new))
+        (heard E.contents E.refuses errors.old errors.new) result }
 {
     carry_out(rt, alloc, words, input, output, errors, shelves).status
 }

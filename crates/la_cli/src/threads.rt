@@ -5,6 +5,7 @@ ghost use Rattle.la_runner.specs.Runs.{back_of};
 ghost use Rattle.la_runner.specs.Starting.{AreMembersFrom, IsAcceptorGroup};
 ghost use Rattle.la_script.specs.Pieces.{AddsText};
 ghost use Rattle.la_cli.specs.declared.error.PlayFault.TheVariants.{Memory, NoThread};
+ghost use Rattle.la_cli.specs.Calls.{AreSizes};
 ghost use Rattle.la_cli.specs.Play.{FitAnyGroup};
 ghost use Rattle.la_cli.specs.Threads.{AreLogs, LogsAgree, RunsThreads, IsThreadsRefusal, increments};
 ghost use Rattle.la_cli.specs.Threads.{stop_name, total_text, log_text, logs_text, head_text, verdict_text, threads_text};
@@ -87,10 +88,7 @@ fn logs_of<P: Threads + Wait + Sync, B: Replicated>(
     each: u32,
     shelves: Vec<Shelf<B>>,
 ) -> Result<Logs<B>, PlayFault>
-    requires some { 1 ≤ replicas }
-    requires few { replicas ≤ 8 }
-    requires some_each { 1 ≤ each }
-    requires few_each { each ≤ 1000 }
+    requires sizes { AreSizes replicas each }
     requires shelves { FitAnyGroup shelves.items }
     ensures ok { IfOk result (λ logs. AreLogs shelves.items replicas each
         (map (λ l. back_of l.replica l.member l.shelf l.entries l.stopped) logs)) }
@@ -247,10 +245,7 @@ pub fn play_threads<P: Threads + Wait + Sync, W: Write, B: Replicated>(
     writer: &mut W,
     shelves: Vec<Shelf<B>>,
 ) -> Result<bool, PlayFault>
-    requires some { 1 ≤ replicas }
-    requires few { replicas ≤ 8 }
-    requires some_each { 1 ≤ each }
-    requires few_each { each ≤ 1000 }
+    requires { AreSizes replicas each }
     ensures ok { IfOk result (λ agreed. RunsThreads shelves.items replicas each agreed
         (W.contents writer.old) (W.contents writer.new)) }
     ensures error { IfErr result (IsThreadsRefusal shelves.items replicas each

@@ -9,34 +9,35 @@ use Rattle.la_node.specs.declared.node.Received as code_received
 use Rattle.la_durable.specs.declared.error.NodeError.{NodeError}
 use Rattle.la_durable.specs.CallLines.{CallLine, is_line, call_line, call_line_where, or_tick, call_round_trip}
 use Rattle.la_durable.specs.Errors.{IsForMemory}
-use Rattle.la_durable.specs.Given.{Given, given_of}
+use Rattle.la_node.specs.Steps.{Given, given_of}
+use Rattle.la_replica.specs.ReplicaState.{ReplicaState}
 use Rattle.la_durable.specs.Inputs.{InputState}
 use Rattle.la_durable.proofs.lemmas.OwnLines.{own_line}
-use Rattle.la_durable.specs.Nodes.{KeptState, acts, acts_by, step, given_by}
+use Rattle.la_durable.specs.Nodes.{acts, acts_by, step, given_by}
 
-module _ (n : KeptState) (line : List ℕ) (call : WireCall) (is : is_line line ≡ true) (says : named_call line ≡ Some call) where
+module _ (n : ReplicaState) (line : List ℕ) (call : WireCall) (is : is_line line ≡ true) (says : named_call line ≡ Some call) where
   names : named_call (or_tick (call_line line)).line ≡ Some call
   names = ap named_call (own_line line is) ∙ says
 
   comes_to : acts_by n (named_call (or_tick (call_line line)).line) ≡ acts n call
   comes_to = ap (acts_by n) names
 
-  pub step_taken : (r : Result code_received.Received NodeError) (after : KeptState)
+  pub step_taken : (r : Result code_received.Received NodeError) (after : ReplicaState)
       → IfOk r (λ given. acts n call ≡ Some (given_of given, after))
       → OnOk r (step n (or_tick (call_line line)) ≡ Some after)
-  step_taken (Ok given) after h = ap (option_map (λ (made : Given × KeptState). made.1)) (comes_to ∙ h)
+  step_taken (Ok given) after h = ap (option_map (λ (made : Given × ReplicaState). made.1)) (comes_to ∙ h)
   step_taken (Err e) after h = tt
 
-  pub answer_given : (r : Result code_received.Received NodeError) (after : KeptState)
+  pub answer_given : (r : Result code_received.Received NodeError) (after : ReplicaState)
       → IfOk r (λ given. acts n call ≡ Some (given_of given, after))
       → IfOk r (λ given. Some (given_of given) ≡ given_by n (or_tick (call_line line)))
-  answer_given (Ok given) after h = sym (ap (option_map (λ (made : Given × KeptState). made.0)) (comes_to ∙ h))
+  answer_given (Ok given) after h = sym (ap (option_map (λ (made : Given × ReplicaState). made.0)) (comes_to ∙ h))
   answer_given (Err e) after h = tt
 
   nothing_taken : (e : NodeError) → IsForMemory e ⊎ (acts n call ≡ None)
       → IsForMemory e ⊎ (step n (or_tick (call_line line)) ≡ None)
   nothing_taken e (inl memory) = inl memory
-  nothing_taken e (inr none) = inr (ap (option_map (λ (made : Given × KeptState). made.1)) (comes_to ∙ none))
+  nothing_taken e (inr none) = inr (ap (option_map (λ (made : Given × ReplicaState). made.1)) (comes_to ∙ none))
 
   pub step_refused : (r : Result code_received.Received NodeError) → IfErr r (λ e. IsForMemory e ⊎ (acts n call ≡ None))
       → IfErr r (λ e. IsForMemory e ⊎ (step n (or_tick (call_line line)) ≡ None))

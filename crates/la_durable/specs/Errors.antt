@@ -1,5 +1,5 @@
 -- Refusals of a node, by those of what it calls.
-use Rattle.std.specs.Prelude.{◌≡◌, ℕ}
+use Rattle.std.specs.Prelude.{◌≡◌, ℕ, length}
 use Rattle.la_replica.specs.declared.error.ReplicaError.{ReplicaError}
 use Rattle.la_replica.specs.declared.error.ReplicaError.TheVariants as replica
 use Rattle.la_node.specs.declared.error.WorldError.{WorldError}
@@ -12,7 +12,6 @@ use Rattle.la_replica.specs.ReplicaState.{ReplicaState}
 use Rattle.la_wire.specs.declared.letter.Letter.{Letter}
 use Rattle.la_wire.specs.declared.calls.Call as code
 use Rattle.la_wire.specs.declared.calls.Call.TheVariants as call
-use Rattle.la_durable.specs.Nodes.{KeptState}
 
 abbrev pub by_replica : ReplicaError → NodeError
 by_replica replica.Memory = Memory
@@ -60,13 +59,13 @@ RefusesSubmission r replica = IfHere (replica ≡ r.own) (OfCopied (OfReplica (I
 abbrev pub RefusesProposal : ReplicaState → (replica commit : ℕ) → NodeError → Type 0
 RefusesProposal r replica commit = IfHere (replica ≡ r.own) (OfProposal (IsProposeRefusal r commit))
 
-abbrev pub RefusesLetter : ReplicaState → (replicas : ℕ) → Letter → NodeError → Type 0
-RefusesLetter r replicas letter =
-    IfHere (letter.replicas ≡ replicas) (OfReplica (IsReceiptRefusal r letter.message))
+abbrev pub RefusesLetter : ReplicaState → Letter → NodeError → Type 0
+RefusesLetter r letter =
+    IfHere (letter.replicas ≡ length r.votes) (OfReplica (IsReceiptRefusal r letter.message))
 
-abbrev pub IsActRefusal : KeptState → code.Call → NodeError → Type 0
-IsActRefusal n (call.Submit replica object op) e = RefusesSubmission n.replica replica e
-IsActRefusal n (call.Decide replica commit value) e = RefusesProposal n.replica replica commit e
-IsActRefusal n (call.Ask replica object query) e = IsNeverKept e
-IsActRefusal n call.Tick e = IsNeverKept e
-IsActRefusal n (call.Receive letter) e = RefusesLetter n.replica n.replicas letter e
+abbrev pub IsActRefusal : ReplicaState → code.Call → NodeError → Type 0
+IsActRefusal r (call.Submit replica object op) e = RefusesSubmission r replica e
+IsActRefusal r (call.Decide replica commit value) e = RefusesProposal r replica commit e
+IsActRefusal r (call.Ask replica object query) e = IsNeverKept e
+IsActRefusal r call.Tick e = IsNeverKept e
+IsActRefusal r (call.Receive letter) e = RefusesLetter r letter e

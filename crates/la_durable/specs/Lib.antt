@@ -1,5 +1,3 @@
-pub mod Accepting
-pub mod Given
 pub mod CallLines
 pub mod Nodes
 pub mod Errors

@@ -3,8 +3,9 @@ ghost use Rattle.la_wire.specs.Calls.{called, Submit, Decide, Receive};
 ghost use Rattle.la_wire.specs.Messages.{letter_message};
 ghost use Rattle.la_node.specs.Configs.{IsConfig};
 ghost use Rattle.la_node.specs.Nodes.{node_at_start, IsStartRefusal};
-ghost use Rattle.la_durable.specs.Given.{given_of};
-ghost use Rattle.la_durable.specs.Nodes.{KeptState, empty_shelf, kept_by, acts};
+ghost use Rattle.la_replica.specs.ReplicaState.{ReplicaState};
+ghost use Rattle.la_node.specs.Steps.{given_of};
+ghost use Rattle.la_durable.specs.Nodes.{empty_shelf, kept_by, acts};
 ghost use Rattle.la_durable.specs.Errors.{IsForMemory, IsActRefusal};
 ghost use Rattle.la_durable.specs.Errors.{RefusesSubmission, RefusesProposal, RefusesLetter};
 
@@ -22,21 +23,18 @@ use std::alloc::{AllocError, Global};
 #[derive(Drop)]
 pub struct NodeMachine {
     pub node: Node<Counter>,
-    /// How many replicas its group has.
-    pub replicas: u8,
 }
 
 impl NodeMachine {
     /// Replica `own` of a group, in which nothing has happened, with the errors of [`Node::new`].
     pub fn new(alloc: Global, config: Config, own: u8) -> Result<NodeMachine, WorldError>
-        ensures start { IfOk result (λ machine. machine
-            ≡ record { node = node_at_start config own empty_shelf; replicas = config.replicas }) }
+        ensures start { IfOk result (λ machine.
+            machine ≡ record { node = node_at_start config own empty_shelf }) }
         ensures group { OnOk result (IsConfig config) }
         ensures error { IfErr result (IsStartRefusal config own empty_shelf) }
     {
         Ok(NodeMachine {
             node: Node::new(alloc, config, own, Shelf::new(alloc))?,
-            replicas: config.replicas,
         })
     }
 
@@ -72,7 +70,7 @@ impl NodeMachine {
         }
     }
 
-    #[tactic(auto, using(crate::proofs::Acting::submitted_acts, crate::proofs::Acting::submission_elsewhere, crate::proofs::Acting::refusal_of_submission, crate::proofs::Naming::named_of_copied))]
+    #[tactic(auto, using(crate::proofs::Acting::submission_elsewhere, crate::proofs::Acting::refusal_of_submission, crate::proofs::Naming::named_of_copied))]
     fn submit(&mut self, replica: u8, object: u16, op: &Op) -> Result<Received, NodeError>
         ensures ok { IfOk result (λ given.
             acts (kept_by self.old) (Submit replica object op.now)
@@ -91,7 +89,7 @@ impl NodeMachine {
         }
     }
 
-    #[tactic(auto, using(crate::proofs::Acting::proposed_acts, crate::proofs::Acting::proposal_elsewhere, crate::proofs::Acting::refusal_of_proposal, crate::proofs::Naming::named_by_proposal))]
+    #[tactic(auto, using(crate::proofs::Acting::proposal_elsewhere, crate::proofs::Acting::refusal_of_proposal, crate::proofs::Naming::named_by_proposal))]
     fn propose(&mut self, replica: u8, commit: u8, value: u64) -> Result<Received, NodeError>
         ensures ok { IfOk result (λ given.
             acts (kept_by self.old) (Decide replica commit value)
@@ -110,17 +108,17 @@ impl NodeMachine {
         }
     }
 
-    #[tactic(auto, using(crate::proofs::Acting::received_acts, crate::proofs::Acting::message_elsewhere, crate::proofs::Acting::refusal_of_message, crate::proofs::Naming::named_by_replica))]
+    #[tactic(auto, using(crate::proofs::Acting::message_elsewhere, crate::proofs::Acting::refusal_of_message, crate::proofs::Naming::named_by_replica))]
     fn receive(&mut self, letter: &Letter) -> Result<Received, NodeError>
         ensures ok { IfOk result (λ given.
             acts (kept_by self.old) (Receive (letter_message letter.now))
             ≡ Some (given_of given, kept_by self.new)) }
         ensures error { IfErr result (λ e. IsForMemory e
             ⊎ (acts (kept_by self.old) (Receive (letter_message letter.now)) ≡ None)) }
-        ensures refusal { IfErr result (RefusesLetter self.old.node.replica self.old.replicas letter.now) }
+        ensures refusal { IfErr result (RefusesLetter self.old.node.replica letter.now) }
         ensures err { OnErr result (self.new ≡ self.old) }
     {
-        if letter.replicas != self.replicas {
+        if letter.replicas != self.node.replicas() {
             return Err(NodeError::Elsewhere);
         }
         match self.node.receive(&letter.message) {
@@ -150,7 +148,7 @@ fn answered(out: Out) -> Received
 impl Machine for NodeMachine {
     ghost use Rattle.std.specs.Prelude.{Option};
     ghost use Rattle.la_durable.specs.CallLines.{CallLine, call_line, or_tick, call_round_trip, line_is_clean};
-    ghost use Rattle.la_durable.specs.Given.{Given};
+    ghost use Rattle.la_node.specs.Steps.{Given};
     ghost use Rattle.la_durable.specs.Nodes.{step, given_by};
 
     type Input = Input;
@@ -159,7 +157,7 @@ impl Machine for NodeMachine {
 
     type Refusal = NodeError;
 
-    ghost State = { KeptState };
+    ghost State = { ReplicaState };
 
     ghost state = { kept_by };
 

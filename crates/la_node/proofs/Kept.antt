@@ -1,12 +1,13 @@
 -- A replica is what the calls lead to that its node accepted.
 use Rattle.std.proofs.Common.{◌≡◌, List, [], ◌∷◌, ◌++◌, fold, Option, Some, option_and_then, refl, ap, ◌∙◌}
 use Rattle.la_replica.specs.ReplicaState.{ReplicaState}
-use Rattle.la_node.specs.Kept.{KeptCall, after_call, KeptListsLeadOn, KeptListsArePlayedAgain}
+use Rattle.la_node.specs.Calls.{NodeCall}
+use Rattle.la_node.specs.Steps.{after_call, KeptListsLeadOn, KeptListsArePlayedAgain}
 
-abbrev played : Option ReplicaState → List KeptCall → Option ReplicaState
+abbrev played : Option ReplicaState → List NodeCall → Option ReplicaState
 played o calls = fold (λ o call. option_and_then (λ s. after_call s call) o) o calls
 
-played-append : (o : Option ReplicaState) (calls more : List KeptCall)
+played-append : (o : Option ReplicaState) (calls more : List NodeCall)
     → played o (calls ++ more) ≡ played (played o calls) more
 played-append o [] more = refl
 played-append o (call ∷ calls) more = played-append (option_and_then (λ s. after_call s call) o) calls more

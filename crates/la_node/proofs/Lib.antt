@@ -1,7 +1,10 @@
+pub mod lemmas
+pub mod Deciding
+mod Refusing
+mod Growing
 mod Kept
 mod SubmittingOnce
 mod Participants
 mod Voters
 mod Returning
 pub mod Nodes
-pub mod lemmas

@@ -59,7 +59,7 @@ receipt_keeps n m taken after is e =
 
 -- ## A receipt
 
-within_at : {X : Type 0} (P : X → Type 0) (xs : List X) (i : ℕ) (o : Option X) → slice_get xs i ≡ o → IsSomeAnd o P
+pub within_at : {X : Type 0} (P : X → Type 0) (xs : List X) (i : ℕ) (o : Option X) → slice_get xs i ≡ o → IsSomeAnd o P
     → i < length xs
 within_at P xs i None e some = absurd some
 within_at P xs i (Some x) e some = slice_get_within xs i x e

@@ -1,3 +1,5 @@
 pub mod Items
 pub mod SecondVotes
 pub mod Telling
+pub mod Told
+pub mod Stepping

@@ -1,5 +1,9 @@
 pub mod Configs
 pub mod SecondVotes
 pub mod Taking
+pub mod Preparing
 pub mod Nodes
-pub mod Kept
+pub mod Calls
+pub mod Accepting
+pub mod Telling
+pub mod Steps

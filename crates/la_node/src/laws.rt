@@ -1,5 +1,6 @@
-// What holds of the calls that a node accepted: laws over the definitions, which no code runs.
-ghost use Rattle.la_node.specs.Kept.{KeptListsLeadOn, KeptListsArePlayedAgain};
+// What holds of a node's steps: laws over the definitions, which no code runs.
+ghost use Rattle.la_node.specs.Steps.{KeptListsLeadOn, KeptListsArePlayedAgain, StepViewsGrow};
+ghost use Rattle.la_node.specs.Steps.{RefusedCallsAreNoSteps};
 
 /// Where a list of accepted calls leads from a new replica to a node's, the list with the next call
 /// that the node accepts leads to its replica then.
@@ -11,4 +12,15 @@ pub fn kept_lists_lead_on()
 /// where it led before.
 pub fn kept_lists_are_played_again()
     ensures { KeptListsArePlayedAgain }
+{}
+
+/// No step makes the view smaller.
+pub fn views_grow()
+    ensures { StepViewsGrow }
+{}
+
+/// A call that a node refuses, but for want of memory, has no step: so the calls that it accepts where there is
+/// memory are those that have one.
+pub fn refused_calls_are_no_steps()
+    ensures { RefusedCallsAreNoSteps }
 {}

@@ -1,27 +1,26 @@
-ghost use Rattle.std.specs.Prelude.{◌≡◌, ◌↔◌, ◌++◌, [], ◌∷◌, Some, None, nat_eq};
+ghost use Rattle.std.specs.Prelude.{◌≡◌, ◌↔◌, ◌++◌, [], ◌∷◌, length, Some, None, nat_eq};
 ghost use Rattle.std.specs.Prelude.{IsTrue, IsOk, IfOk, IfErr, OnOk, OnErr};
 ghost use Rattle.std.specs.Map.{remove_entry};
 ghost use Rattle.std.specs.Option.{option_copied, is_some};
 ghost use Rattle.la_set.specs.Inclusion.{IsSubset};
 ghost use Rattle.la_proposer.specs.ProposerState.{op_on};
 ghost use Rattle.la_commit.specs.Instances.{first_instance};
-ghost use Rattle.la_commit.specs.Votes.{first_vote};
 ghost use Rattle.la_object.specs.Objects.{kind_of};
 ghost use Rattle.la_object.specs.Shelves.{kind_at, answer_at, tags_at, state_at};
 ghost use Rattle.la_object.specs.Refusals.{IsAddRefusal, IsAskRefusal};
-ghost use Rattle.la_replica.specs.Whole.{whole_out, whole_mail};
-ghost use Rattle.la_replica.specs.Received.{received_in, StandsIn, AgreesIn, IsSeenWithin};
+ghost use Rattle.la_replica.specs.Whole.{whole_mail};
+ghost use Rattle.la_replica.specs.Received.{IsSeenWithin};
 ghost use Rattle.la_replica.specs.Parcels.{unwrapped_in, UnwrapsIn, IsParcelRefusal};
-ghost use Rattle.la_replica.specs.Bases.{offered_by, AreToldIn, AreToldFrom};
-ghost use Rattle.la_replica.specs.ReplicaState.{submits, last_learnt, submitted_in};
+ghost use Rattle.la_replica.specs.Bases.{AreToldIn};
+ghost use Rattle.la_replica.specs.ReplicaState.{last_learnt, submitted_in};
 ghost use Rattle.la_replica.specs.Refusals.{IsSubmitRefusal, IsReceiptRefusal};
 ghost use Rattle.la_replica.specs.Steps.{learnt_in};
 ghost use Rattle.la_replica.specs.Refusals.{HasRoom, SubmittingSpares};
-ghost use Rattle.la_replica.specs.Refusals.{IsReceivable, ReceivingSpares};
 ghost use Rattle.la_replica.specs.Again.{again};
-ghost use Rattle.la_replica.specs.Fitting.{FitsReceiver};
 ghost use Rattle.la_node.specs.Nodes.{returned_by};
-ghost use Rattle.la_node.specs.Taking.{takes, whole_done};
+ghost use Rattle.la_node.specs.Preparing.{FitsHere};
+ghost use Rattle.la_node.specs.Calls as call;
+ghost use Rattle.la_node.specs.Steps.{node_step, given_out, given_of, given_due};
 ghost use Rattle.la_node.specs.Nodes.{followed, with_shelf, MayStart, node_at_start};
 ghost use Rattle.la_node.specs.Nodes.{IsStartRefusal, IsProposeRefusal, IsObservedRefusal};
 ghost use Rattle.la_node.specs.Nodes.{outcome_due, OutcomesStayIn, ReturnsIn, LeftUntoldNode};
@@ -104,6 +103,13 @@ impl<B: Replicated> Node<B> {
         self.replica.own()
     }
 
+    /// How many replicas its group has: at most 8.
+    pub fn replicas(&self) -> u8
+        ensures { result ≡ length self.now.replica.votes }
+    {
+        self.replica.replicas()
+    }
+
     /// What it answers questions from.
     pub fn view(&self) -> &UpdateSet
         ensures { result.now ≡ self.now.replica.view }
@@ -158,12 +164,8 @@ impl<B: Replicated> Node<B> {
     /// Submits an update for an object, in instance 0, with the errors and the cost of
     /// [`Replica::submit`].
     pub fn submit(&mut self, object: u16, op: Op) -> Result<Out, ReplicaError>
-        ensures step { IfOk result (λ out. submits self.old.replica 0 (op_on object op)
-            ≡ Some (whole_out out, self.new.replica)) }
-        ensures told { (offered : Counts)
-            → IfOk result (λ out. AreToldFrom self.new.replica 0 offered out.mail) }
-        ensures room { OnOk result (HasRoom self.old.replica 0) }
-        ensures spares { OnOk result (SubmittingSpares self.old.replica 0) }
+        ensures step { IfOk result (λ out.
+            node_step self.old.replica (call.Submitted (op_on object op)) ≡ Some (given_out out, self.new.replica)) }
         ensures shelf { self.new.shelf ≡ self.old.shelf }
         ensures grows { IsSubset self.old.replica.view self.new.replica.view }
         ensures stays { OutcomesStayIn self.old.replica self.new.replica }
@@ -180,12 +182,7 @@ impl<B: Replicated> Node<B> {
     /// In this order: `NoSuchCommit`; `AlreadyProposed`; `Memory`. After each the node is as before.
     pub fn propose(&mut self, commit: u8, value: u64) -> Result<Out, WorldError>
         ensures step { IfOk result (λ out.
-            submits self.old.replica (first_instance commit) (first_vote commit value)
-            ≡ Some (whole_out out, self.new.replica)) }
-        ensures told { (offered : Counts) → IfOk result (λ out.
-            AreToldFrom self.new.replica (first_instance commit) offered out.mail) }
-        ensures first { OnOk result
-            (submitted_in self.old.replica (first_instance commit) ≡ Some 0) }
+            node_step self.old.replica (call.Proposed commit value) ≡ Some (given_out out, self.new.replica)) }
         ensures shelf { self.new.shelf ≡ self.old.shelf }
         ensures grows { IsSubset self.old.replica.view self.new.replica.view }
         ensures stays { OutcomesStayIn self.old.replica self.new.replica }
@@ -229,19 +226,9 @@ impl<B: Replicated> Node<B> {
     /// The cost is that of [`Replica::receive`], and of the vote's submission.
     pub fn receive(&mut self, message: &Message) -> Result<Received, ReplicaError>
         ensures step { IfOk result (λ received.
-            takes self.old.replica (received_in self.old.replica message.now)
-            ≡ Some (whole_done received.done, self.new.replica)) }
-        ensures outcome { IfOk result (λ received. received.outcome ≡ outcome_due
-            message.now.instance self.old.replica.own received.done.said) }
+            node_step self.old.replica (call.Received message.now) ≡ Some (given_of received, self.new.replica)) }
         ensures returns { IfOk result (λ received.
             ReturnsIn message.now.instance received.outcome self.new.replica) }
-        ensures told { IfOk result (λ received. AreToldIn self.new.replica
-            (offered_by (received_in self.old.replica message.now)) received.done.mail) }
-        ensures stands { OnOk result (StandsIn self.old.replica message.now) }
-        ensures fits { OnOk result
-            (IsReceivable self.old.replica (received_in self.old.replica message.now)) }
-        ensures spares { OnOk result
-            (ReceivingSpares self.old.replica (received_in self.old.replica message.now)) }
         ensures shelf { self.new.shelf ≡ self.old.shelf }
         ensures grows { IsSubset self.old.replica.view self.new.replica.view }
         ensures stays { OutcomesStayIn self.old.replica self.new.replica }
@@ -256,23 +243,12 @@ impl<B: Replicated> Node<B> {
     /// the node is as before, and the parcel is dropped. The cost is that of
     /// [`Replica::receive_parcel`], and of the vote's submission.
     pub fn receive_parcel(&mut self, parcel: Parcel) -> Result<Received, ReplicaError>
-        ensures step { IfOk result (λ received. takes self.old.replica
-            (received_in self.old.replica (unwrapped_in self.old.replica parcel))
-            ≡ Some (whole_done received.done, self.new.replica)) }
-        ensures outcome { IfOk result (λ received. received.outcome ≡ outcome_due
-            parcel.instance self.old.replica.own received.done.said) }
+        ensures step { IfOk result (λ received.
+            node_step self.old.replica (call.Received (unwrapped_in self.old.replica parcel))
+            ≡ Some (given_of received, self.new.replica)) }
         ensures returns { IfOk result (λ received.
             ReturnsIn parcel.instance received.outcome self.new.replica) }
-        ensures told { IfOk result (λ received. AreToldIn self.new.replica
-            (offered_by (received_in self.old.replica (unwrapped_in self.old.replica parcel)))
-            received.done.mail) }
         ensures unwraps { OnOk result (UnwrapsIn self.old.replica parcel) }
-        ensures stands { OnOk result
-            (StandsIn self.old.replica (unwrapped_in self.old.replica parcel)) }
-        ensures fits { OnOk result (IsReceivable self.old.replica
-            (received_in self.old.replica (unwrapped_in self.old.replica parcel))) }
-        ensures spares { OnOk result (ReceivingSpares self.old.replica
-            (received_in self.old.replica (unwrapped_in self.old.replica parcel))) }
         ensures shelf { self.new.shelf ≡ self.old.shelf }
         ensures grows { IsSubset self.old.replica.view self.new.replica.view }
         ensures stays { OutcomesStayIn self.old.replica self.new.replica }
@@ -289,19 +265,9 @@ impl<B: Replicated> Node<B> {
     fn receive_beyond(&mut self, message: &Message, known: Counts) -> Result<Received, ReplicaError>
         requires seen { IsSeenWithin self.old.replica known message.now }
         ensures step { IfOk result (λ received.
-            takes self.old.replica (received_in self.old.replica message.now)
-            ≡ Some (whole_done received.done, self.new.replica)) }
-        ensures outcome { IfOk result (λ received. received.outcome ≡ outcome_due
-            message.now.instance self.old.replica.own received.done.said) }
+            node_step self.old.replica (call.Received message.now) ≡ Some (given_of received, self.new.replica)) }
         ensures returns { IfOk result (λ received.
             ReturnsIn message.now.instance received.outcome self.new.replica) }
-        ensures told { IfOk result (λ received. AreToldIn self.new.replica
-            (offered_by (received_in self.old.replica message.now)) received.done.mail) }
-        ensures stands { OnOk result (StandsIn self.old.replica message.now) }
-        ensures fits { OnOk result
-            (IsReceivable self.old.replica (received_in self.old.replica message.now)) }
-        ensures spares { OnOk result
-            (ReceivingSpares self.old.replica (received_in self.old.replica message.now)) }
         ensures shelf { self.new.shelf ≡ self.old.shelf }
         ensures grows { IsSubset self.old.replica.view self.new.replica.view }
         ensures stays { OutcomesStayIn self.old.replica self.new.replica }
@@ -319,17 +285,9 @@ impl<B: Replicated> Node<B> {
     /// `la_world`): no updates are compared. It is refused for want of memory alone, and then the node is
     /// as before.
     pub fn receive_fitting(&mut self, message: &Message) -> Result<Received, AllocError>
-        requires fits { FitsReceiver self.old.replica
-            (received_in self.old.replica message.now) }
-        requires stands { StandsIn self.old.replica message.now }
-        requires agrees { AgreesIn self.old.replica message.now }
+        requires { FitsHere self.old.replica message.now }
         ensures step { IfOk result (λ received.
-            takes self.old.replica (received_in self.old.replica message.now)
-            ≡ Some (whole_done received.done, self.new.replica)) }
-        ensures outcome { IfOk result (λ received. received.outcome ≡ outcome_due
-            message.now.instance self.old.replica.own received.done.said) }
-        ensures told { IfOk result (λ received. AreToldIn self.new.replica
-            (offered_by (received_in self.old.replica message.now)) received.done.mail) }
+            node_step self.old.replica (call.Received message.now) ≡ Some (given_of received, self.new.replica)) }
         ensures returns { IfOk result (λ received.
             ReturnsIn message.now.instance received.outcome self.new.replica) }
         ensures shelf { self.new.shelf ≡ self.old.shelf }
@@ -347,15 +305,10 @@ impl<B: Replicated> Node<B> {
     /// the set that the replica learns by it, if it learns one.
     #[inline(always)]
     pub fn take(&mut self, message: &Message) -> Result<(Done, Option<UpdateSet>), AllocError>
-        requires fits { FitsReceiver self.old.replica
-            (received_in self.old.replica message.now) }
-        requires stands { StandsIn self.old.replica message.now }
-        requires agrees { AgreesIn self.old.replica message.now }
+        requires { FitsHere self.old.replica message.now }
         ensures step { IfOk result (λ taken.
-            takes self.old.replica (received_in self.old.replica message.now)
-            ≡ Some (whole_done taken.0, self.new.replica)) }
-        ensures told { IfOk result (λ taken. AreToldIn self.new.replica
-            (offered_by (received_in self.old.replica message.now)) taken.0.mail) }
+            node_step self.old.replica (call.Received message.now)
+            ≡ Some (given_due self.old.replica message.now taken.0, self.new.replica)) }
         ensures learnt { IfOk result (λ taken. taken.1 ≡ learnt_in taken.0.said) }
         ensures returns { IfOk result (λ taken. ReturnsIn message.now.instance
             (outcome_due message.now.instance self.old.replica.own taken.0.said)

@@ -1,23 +1,20 @@
 // What a replica does as a participant of an adopt-commit object, by the sets that it learns. No
 // state is kept of it: its own vote in a set tells how far it is.
-ghost use Rattle.std.specs.Prelude.{◌≡◌, ◌*◌, ◌<◌, ◌≤◌, ◌+◌, List, ◌++◌, Some, option_and_then};
+ghost use Rattle.std.specs.Prelude.{◌≡◌, ◌<◌, ◌+◌, ◌++◌, option_and_then};
 ghost use Rattle.std.specs.Prelude.{IsSome, IfOk, OnErr};
 ghost use Rattle.std.specs.Option.{option_copied};
 ghost use Rattle.la_commit.specs.declared.instance.TheConstants.{MAX_COMMITS};
-ghost use Rattle.la_commit.specs.Instances.{is_first_instance, is_second_instance, commit_of};
+ghost use Rattle.la_commit.specs.Instances.{commit_of};
 ghost use Rattle.la_commit.specs.Votes.{casts};
-ghost use Rattle.la_commit.specs.Outcomes.{outcome_of, outcome_in};
-ghost use Rattle.la_replica.specs.Whole.{Message as MessageOf, Out as OutOf};
-ghost use Rattle.la_replica.specs.Whole.{whole_mail, whole_out};
-ghost use Rattle.la_replica.specs.Received.{received_in};
-ghost use Rattle.la_replica.specs.Bases.{offered_by, AreToldIn, AreToldAfter, AreToldThere};
-ghost use Rattle.la_replica.specs.ReplicaState.{ReplicaState, submits, receives};
+ghost use Rattle.la_commit.specs.Outcomes.{outcome_in};
+ghost use Rattle.la_replica.specs.Whole.{whole_out};
+ghost use Rattle.la_replica.specs.Bases.{AreToldThere};
 ghost use Rattle.la_replica.specs.Steps.{learnt_in};
-ghost use Rattle.la_replica.specs.Changes.{IsPreparedFrom, after_commit, led, LeadsThere};
-ghost use Rattle.la_replica.specs.Refusals.{HasRoom, SubmittingSpares};
+ghost use Rattle.la_replica.specs.Changes.{IsPreparedFrom, LeadsThere};
 ghost use Rattle.la_node.specs.SecondVotes.{vote_in};
 ghost use Rattle.la_node.specs.Nodes.{returned_by};
-ghost use Rattle.la_node.specs.Taking.{VoteFits, takes, with_vote, whole_done};
+ghost use Rattle.la_node.specs.Preparing.{IsPreparedReceipt, TakesAs, VoteMayFollow};
+ghost use Rattle.la_node.specs.Preparing.{PreparesVote, CommitsBoth};
 
 use crate::done::{Done, Voted};
 use la_commit::{
@@ -70,18 +67,8 @@ pub fn take_prepared(
     out: Out,
     change: Change,
 ) -> Result<(Done, Option<UpdateSet>), AllocError>
-    requires step { receives receiver.old (received_in receiver.old message.now)
-        ≡ led receiver.old (whole_out out) change }
-    requires prepared { IsPreparedFrom receiver.old change }
-    requires told { AreToldAfter receiver.old change
-        (offered_by (received_in receiver.old message.now)) out.mail }
-    requires here { change.instance ≡ message.now.instance }
-    requires few { message.now.instance ≤ 2 * MAX_COMMITS }
-    requires vote { VoteFits receiver.old (received_in receiver.old message.now) }
-    ensures step { IfOk result (λ taken.
-        takes receiver.old (received_in receiver.old message.now) ≡ Some (whole_done taken.0, receiver.new)) }
-    ensures told { IfOk result (λ taken. AreToldIn receiver.new
-        (offered_by (received_in receiver.old message.now)) taken.0.mail) }
+    requires { IsPreparedReceipt receiver.old message.now out change }
+    ensures taken { IfOk result (λ taken. TakesAs receiver.old message.now taken.0 receiver.new) }
     ensures learnt { IfOk result (λ taken. taken.1 ≡ learnt_in taken.0.said) }
     ensures learning { OnErr result (IsSome (learnt_in out.said)) }
     ensures err { OnErr result (receiver.new ≡ receiver.old) }
@@ -107,19 +94,10 @@ fn commit_both(
     out: Out,
     change: Change,
 ) -> Result<Done, AllocError>
-    requires few { instance ≤ 2 * MAX_COMMITS }
     requires here { change.instance ≡ instance }
     requires prepared { IsPreparedFrom receiver.old change }
-    requires room { HasRoom receiver.old (instance + 1) }
-    requires spares { SubmittingSpares receiver.old (instance + 1) }
-    ensures both { IfOk result (λ done. (then : ReplicaState) × (cast : OutOf)
-        × (after_commit receiver.old change ≡ Some then)
-        × (submits then (instance + 1) (casts (commit_of instance) vote)
-        ≡ Some (cast, receiver.new))
-        × (whole_done done ≡ with_vote (whole_out out) (instance + 1) cast)) }
-    ensures told { (offered : Counts) → AreToldAfter receiver.old change offered out.mail
-        → IfOk result (λ done. AreToldIn receiver.new offered done.mail) }
-    ensures said { IfOk result (λ done. done.said ≡ out.said) }
+    requires vote { VoteMayFollow receiver.old instance }
+    ensures both { IfOk result (λ done. CommitsBoth receiver.old instance vote out change done receiver.new) }
     ensures err { OnErr result (receiver.new ≡ receiver.old) }
 {
     let Out { said, mail } = out;
@@ -152,18 +130,9 @@ fn prepare_vote(
     vote: Vote,
     mail: Mail,
 ) -> Result<(Voted, Mail, Change), AllocError>
-    requires few { instance ≤ 2 * MAX_COMMITS }
-    requires room { HasRoom replica.now (instance + 1) }
-    requires spares { SubmittingSpares replica.now (instance + 1) }
-    ensures leads { IfOk result (λ prepared. (sent : List MessageOf)
-        × (whole_mail prepared.1 ≡ whole_mail mail ++ sent)
-        × LeadsThere replica.now (instance + 1) (casts (commit_of instance) vote)
-        (record { said = prepared.0.said; mail = sent }) prepared.2) }
-    ensures told { IfOk result (λ prepared. (added : List Message)
-        × (prepared.1 ≡ mail ++ added)
-        × AreToldThere replica.now (instance + 1) prepared.2 added) }
-    ensures instance { IfOk result (λ prepared. prepared.0.instance ≡ instance + 1) }
-    ensures change { IfOk result (λ prepared. prepared.2.instance ≡ instance + 1) }
+    requires { VoteMayFollow replica.now instance }
+    ensures { IfOk result (λ prepared.
+        PreparesVote replica.now instance vote mail prepared.0 prepared.1 prepared.2) }
 {
     let (cast, change) = prepare_cast(replica, instance, vote)?;
     let (voted, sent) = put_last(instance + 1, mail, cast)?;
@@ -172,9 +141,7 @@ fn prepare_vote(
 
 // Prepares the vote alone.
 fn prepare_cast(replica: &Replica, instance: u8, vote: Vote) -> Result<(Out, Change), AllocError>
-    requires few { instance ≤ 2 * MAX_COMMITS }
-    requires room { HasRoom replica.now (instance + 1) }
-    requires spares { SubmittingSpares replica.now (instance + 1) }
+    requires { VoteMayFollow replica.now instance }
     ensures leads { IfOk result (λ prepared. LeadsThere replica.now (instance + 1)
         (casts (commit_of instance) vote) (whole_out prepared.0) prepared.1) }
     ensures told { IfOk result (λ prepared.

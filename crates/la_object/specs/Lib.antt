@@ -5,3 +5,4 @@ pub mod OrSet
 pub mod Objects
 pub mod Shelves
 pub mod Refusals
+pub mod Laws

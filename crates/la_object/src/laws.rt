@@ -1,17 +1,16 @@
 // What the definitions mean: laws over all updates, sets and shelves, which no code runs.
 ghost use Rattle.std.specs.Prelude.{◌≡◌, ◌≢◌, ℕ, ◌^◌, true, false, List, Contains, filter};
-ghost use Rattle.std.specs.Prelude.{IsPermutation};
 ghost use Rattle.la_set.specs.declared.update.Update.{Update};
 ghost use Rattle.la_set.specs.declared.update.Op.TheVariants.{Put};
-ghost use Rattle.la_set.specs.Histories.{Histories};
 ghost use Rattle.la_object.specs.declared.kind.Kind.{Kind};
 ghost use Rattle.la_object.specs.declared.query.Query.{Query};
 ghost use Rattle.la_object.specs.declared.query.Query.TheVariants.{Has};
 ghost use Rattle.la_object.specs.declared.query.Answer.TheVariants.{Has as HasIs};
 ghost use Rattle.la_object.specs.declared.state.State.{State};
-ghost use Rattle.la_object.specs.Objects.{after, steps, start, reply, value, tags_of, tags_by};
+ghost use Rattle.la_object.specs.Laws.{OrderLeavesAnswers, OrderLeavesTags};
+ghost use Rattle.la_object.specs.Objects.{after, steps, value, tags_by};
 ghost use Rattle.la_object.specs.Objects.{is_of_kind, kind_of, without_marks_and_votes};
-ghost use Rattle.la_object.specs.Shelves.{ShelfState, updates_at, kind_at, answer_at, tags_at};
+ghost use Rattle.la_object.specs.Shelves.{ShelfState, kind_at, answer_at, tags_at};
 ghost use Rattle.la_object.specs.Shelves.{state_at, IsOneObject};
 ghost use Rattle.la_object.specs.OrSet.{is_removed, set_value};
 
@@ -28,12 +27,8 @@ pub fn limits()
 pub fn order_does_not_matter()
     ensures commute { (s : State) (u v : Update)
         → u.id ≢ v.id → after (after s u) v ≡ after (after s v) u }
-    ensures answers { (kind : Kind) (set : Histories) (number : ℕ) (order : List Update)
-        (query : Query) → IsPermutation (updates_at set number) order
-        → reply (steps (start kind) order) query ≡ value kind (updates_at set number) query }
-    ensures tags { (kind : Kind) (set : Histories) (number : ℕ) (order : List Update) (x : ℕ)
-        → IsPermutation (updates_at set number) order
-        → tags_of (steps (start kind) order) x ≡ tags_by kind (updates_at set number) x }
+    ensures answers { OrderLeavesAnswers }
+    ensures tags { OrderLeavesTags }
 {}
 
 /// Only the operations of an object's own kind count: the answers, the live tags and the state over

@@ -6,8 +6,9 @@
 //! objects of any kind under numbers, and lets them absorb sets of updates that grow.
 //!
 //! `specs/` has the definitions: a file a kind (`Counter`, `MaxRegister`, `OrSet`), `Objects` for
-//! all kinds, `Shelves`, and `Refusals`; [`laws`] has what they mean. The observed-remove set is
-//! defined here like the other kinds, and its type stands in a crate of its own.
+//! all kinds, `Shelves`, and `Refusals`; [`laws`] has what they mean, in part by `Laws`. The
+//! observed-remove set is defined here like the other kinds, and its type stands in a crate of its
+//! own.
 #![tactic(auto)]
 
 mod adds;

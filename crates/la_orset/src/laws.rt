@@ -1,14 +1,11 @@
 // What the definitions mean for an observed-remove set: laws over all updates and sets, which no code
 // runs.
-ghost use Rattle.std.specs.Prelude.{◌≡◌, ℕ, List, IsPermutation};
+ghost use Rattle.std.specs.Prelude.{◌≡◌, ℕ, List};
 ghost use Rattle.la_set.specs.declared.update.Update.{Update};
-ghost use Rattle.la_set.specs.Histories.{Histories, updates};
-ghost use Rattle.la_object.specs.declared.kind.Kind.TheVariants.{OrSet as OrSetKind};
 ghost use Rattle.la_object.specs.declared.query.Query.{Query};
 ghost use Rattle.la_object.specs.OrSet.{set_value, live_tags};
-ghost use Rattle.la_object.specs.Objects.{start, steps, reply, tags_of, of_object};
-ghost use Rattle.la_object.specs.Objects.{without_marks_and_votes};
-ghost use Rattle.la_object.specs.Shelves.{updates_at};
+ghost use Rattle.la_object.specs.Objects.{steps, of_object, without_marks_and_votes};
+ghost use Rattle.la_orset.specs.Laws.{AnswersPassOverMarks, TagsPassOverMarks};
 
 use crate::OrSet;
 use la_object::Replicated;
@@ -34,16 +31,8 @@ pub fn sets_pass_over_marks_and_votes()
     ensures steps { (set : OrSet) (us : List Update)
         → steps (⟦<OrSet as Replicated>⟧.state set) (without_marks_and_votes us)
         ≡ steps (⟦<OrSet as Replicated>⟧.state set) us }
-    ensures answers { (set : OrSet) (view : Histories) (number : ℕ) (order : List Update)
-        (query : Query) → IsPermutation (updates_at view number) order
-        → ⟦<OrSet as Replicated>⟧.state set ≡ steps (start OrSetKind) order
-        → reply (⟦<OrSet as Replicated>⟧.state set) query
-        ≡ set_value (of_object number (without_marks_and_votes (updates view))) query }
-    ensures tags { (set : OrSet) (view : Histories) (number : ℕ) (order : List Update) (x : ℕ)
-        → IsPermutation (updates_at view number) order
-        → ⟦<OrSet as Replicated>⟧.state set ≡ steps (start OrSetKind) order
-        → tags_of (⟦<OrSet as Replicated>⟧.state set) x
-        ≡ live_tags (of_object number (without_marks_and_votes (updates view))) x }
+    ensures answers { AnswersPassOverMarks ⟦<OrSet as Replicated>⟧.state }
+    ensures tags { TagsPassOverMarks ⟦<OrSet as Replicated>⟧.state }
 {
     la_object::laws::only_own_operations_count();
     la_object::laws::order_does_not_matter();

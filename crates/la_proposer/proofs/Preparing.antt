@@ -23,16 +23,11 @@ use Rattle.la_proposer.specs.Invariant.{KnowsNoMore}
 use Rattle.la_proposer.specs.declared.proposer.Proposer.TheInside.{Inside}
 use Rattle.la_proposer.specs.Majority.{votes_of}
 use Rattle.la_proposer.specs.Fields.{alone, proposer_state_of, IsRepresented, stands_for}
-use Rattle.la_proposer.specs.Changes.{last_of, last_after, asking_after, tally_after, submissions_after, reported_after, after_commit, IsPreparedFrom}
+use Rattle.la_proposer.specs.Changes.{last_of, last_after, asking_after, tally_after, submissions_after, reported_after, after_commit, IsPreparedFrom, Leads}
 use Rattle.la_proposer.proofs.Keeping.{taking_is, submissions_fit, stands, stands-represented, holding_represented, opening_represented, refinement_represented, counting_represented, noting_represented}
 use Rattle.la_proposer.proofs.Once.{few_counted}
 use Rattle.la_proposer.proofs.OneEach.{one_each-none, one_each-push, agrees-joined}
 use Rattle.la_proposer.proofs.Refusing.{joined-append}
-
--- it leads there, and comes from here
-pub record Leads (p : ProposerState) (c : Change) (after : ProposerState) : Type 0 where
-  pub to : after_commit p c ≡ after
-  pub from : IsPreparedFrom p c
 
 module _ (p : ProposerState) (t : Histories) (is : IsRepresented p t) where
   -- the same, with the submissions as they are written down

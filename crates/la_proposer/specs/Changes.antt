@@ -1,14 +1,19 @@
 -- What a prepared change is to a proposer: what stands once it is committed, and when it was
 -- prepared from this very proposer.
-use Rattle.std.specs.Prelude.{◌<◌, Bool, true, false, List, [], ◌∷◌, ◌++◌, length, slice_set, Option, Some, None}
+use Rattle.std.specs.Prelude.{◌≡◌, ℕ, ◌<◌, Bool, true, false, List, [], ◌∷◌, ◌++◌, length, slice_set}
+use Rattle.std.specs.Prelude.{Option, Some, None}
 use Rattle.la_set.specs.declared.counts.Counts as numbers
+use Rattle.la_acceptor.specs.declared.reply.Reply.{Reply}
+use Rattle.la_set.specs.ObjectOps.{ObjectOp}
 use Rattle.la_set.specs.Histories.{Histories}
 use Rattle.la_proposer.specs.declared.ballot.Ballot.{Ballot}
 use Rattle.la_proposer.specs.declared.change.Change.{Change}
 use Rattle.la_proposer.specs.declared.change.Change.TheVariants.{Nothing, Holds, Submits, Counts, Opens, Closes}
 use Rattle.la_proposer.specs.declared.change.Told.{Told}
+use Rattle.la_proposer.specs.declared.heard.Heard.{Heard}
 use Rattle.la_proposer.specs.declared.tally.Counted.{Counted}
-use Rattle.la_proposer.specs.ProposerState.{ProposerState, told_by}
+use Rattle.la_proposer.specs.ProposerState.{ProposerState, told_by, submission_opens, after_submission}
+use Rattle.la_proposer.specs.ProposerState.{heard_of, after_reply}
 use Rattle.la_proposer.specs.Inputs.{all_submitted}
 use Rattle.la_proposer.specs.Fields.{alone, proposer_state_of, IsRepresented}
 
@@ -88,3 +93,24 @@ EndsByOneOf p (Counts c) = Unit {0}
 -- it was prepared from this proposer: the fields that it leads to are a proposer's
 unfoldable pub IsPreparedFrom : ProposerState → Change → Type 0
 IsPreparedFrom p c = IsRepresented (after_commit p c) (submissions_after p c) × EndsByOneOf p c
+
+-- it was prepared from this proposer, and leads there once it is committed
+pub record Leads (p : ProposerState) (c : Change) (after : ProposerState) : Type 0 where
+  pub to : after_commit p c ≡ after
+  pub from : IsPreparedFrom p c
+
+-- what is prepared of a submission: the ballot that is to open, if one is, and the change
+pub record PreparesSubmission (p : ProposerState) (d : ObjectOp) (prepared : Option Ballot × Change) : Type 0 where
+  pub opened : prepared.0 ≡ submission_opens p d
+  pub leads : Leads p prepared.1 (after_submission p d)
+
+-- what is prepared of a reply: what is heard of it, which is this, and the change, which leads there
+pub record PreparesHearing (p : ProposerState) (this : Heard) (after : ProposerState) (prepared : Heard × Change)
+    : Type 0 where
+  pub heard : prepared.0 ≡ this
+  pub leads : Leads p prepared.1 after
+
+-- the same of a reply to a ballot: as it comes to
+abbrev pub PreparesReply : ProposerState → (from ballot : ℕ) → Reply → Heard × Change → Type 0
+PreparesReply p from ballot reply prepared =
+    PreparesHearing p (heard_of p from ballot reply) (after_reply p from ballot reply) prepared

@@ -1,17 +1,16 @@
 ghost use Rattle.std.specs.Prelude.{◌≡◌, ◌≢◌, true, false, ◌<◌, ◌≤◌, length, IfOk, IfErr, OnOk};
-ghost use Rattle.std.specs.Prelude.{OnErr, IfSome, option_copied};
+ghost use Rattle.std.specs.Prelude.{OnErr, option_copied};
 ghost use Rattle.la_set.specs.Histories.{Histories, empty};
 ghost use Rattle.la_set.specs.Inclusion.{IsSubset};
-ghost use Rattle.la_set.specs.Counts.{within};
 ghost use Rattle.la_proposer.specs.Majority.{votes_of};
 ghost use Rattle.la_proposer.specs.Tally.{reply_carrying, has_counted};
 ghost use Rattle.la_proposer.specs.ProposerState.{start, submitted, op_on, status_of};
 ghost use Rattle.la_proposer.specs.ProposerState.{submission_opens, after_submission, counts};
-ghost use Rattle.la_proposer.specs.ProposerState.{heard_of, after_reply, reported};
+ghost use Rattle.la_proposer.specs.ProposerState.{reported};
 ghost use Rattle.la_proposer.specs.Changes.{after_commit, IsPreparedFrom};
 ghost use Rattle.la_proposer.specs.Refusals.{SubmissionSpends, IsSubmitRefusal, IsReplyRefusal};
-ghost use Rattle.la_proposer.specs.Refusals.{ReplySpares, IsVerdictOf, IsIgnored, OnlyCounts};
-ghost use Rattle.la_proposer.specs.Clashes.{ReplyFits};
+ghost use Rattle.la_proposer.specs.Refusals.{IsHearable, HearsReply, IsVerdictOf, IsFreeAnswer};
+ghost use Rattle.la_proposer.specs.Refusals.{IsKnownRefused, IsKnownReply};
 ghost use Rattle.la_proposer.specs.Invariant.{IsProposerState};
 
 mod admitting;
@@ -234,13 +233,8 @@ impl Proposer {
     /// It is [`Proposer::admit_reply`], [`Proposer::prepare_reply`] and [`Proposer::commit`], at the
     /// cost of the three.
     pub fn reply(&mut self, from: u8, ballot: u32, reply: Reply) -> Result<Heard, ProposerError>
-        ensures in_group { IfOk result (λ _. from < length self.old.votes) }
-        ensures fits { IfOk result (λ _. ReplyFits self.old from ballot reply) }
-        ensures spares { IfOk result (λ _. ReplySpares self.old from ballot reply) }
-        ensures ignored { IsIgnored self.old from ballot → result ≡ Ok Heard.Ignored }
-        ensures counted { OnlyCounts self.old from ballot reply → result ≡ Ok Heard.Counted }
-        ensures heard { IfOk result (λ heard. heard ≡ heard_of self.old from ballot reply) }
-        ensures ok { OnOk result (self.new ≡ after_reply self.old from ballot reply) }
+        ensures ok { IfOk result (λ heard. HearsReply self.old from ballot reply heard self.new) }
+        ensures free { IsFreeAnswer self.old from ballot reply result }
         ensures error { IfErr result (IsReplyRefusal self.old from ballot reply) }
         ensures err { OnErr result (self.new ≡ self.old) }
     {
@@ -257,15 +251,9 @@ impl Proposer {
         ballot: u32,
         reply: Reply,
     ) -> Result<Heard, ProposerError>
-        requires grown { (refused : Histories)
-            → reply ≡ Reply.No refused → IsSubset self.old.updates refused }
-        ensures in_group { IfOk result (λ _. from < length self.old.votes) }
-        ensures fits { IfOk result (λ _. ReplyFits self.old from ballot reply) }
-        ensures spares { IfOk result (λ _. ReplySpares self.old from ballot reply) }
-        ensures ignored { IsIgnored self.old from ballot → result ≡ Ok Heard.Ignored }
-        ensures counted { OnlyCounts self.old from ballot reply → result ≡ Ok Heard.Counted }
-        ensures heard { IfOk result (λ heard. heard ≡ heard_of self.old from ballot reply) }
-        ensures ok { OnOk result (self.new ≡ after_reply self.old from ballot reply) }
+        requires grown { (refused : Histories) → reply ≡ Reply.No refused → IsSubset self.old.updates refused }
+        ensures ok { IfOk result (λ heard. HearsReply self.old from ballot reply heard self.new) }
+        ensures free { IsFreeAnswer self.old from ballot reply result }
         ensures error { IfErr result (IsReplyRefusal self.old from ballot reply) }
         ensures err { OnErr result (self.new ≡ self.old) }
     {
@@ -282,15 +270,9 @@ impl Proposer {
         reply: Reply,
         base: Counts,
     ) -> Result<Heard, ProposerError>
-        requires known { (refused : Histories) → reply ≡ Reply.No refused
-            → within self.old.updates base ≡ within refused base }
-        ensures in_group { IfOk result (λ _. from < length self.old.votes) }
-        ensures fits { IfOk result (λ _. ReplyFits self.old from ballot reply) }
-        ensures spares { IfOk result (λ _. ReplySpares self.old from ballot reply) }
-        ensures ignored { IsIgnored self.old from ballot → result ≡ Ok Heard.Ignored }
-        ensures counted { OnlyCounts self.old from ballot reply → result ≡ Ok Heard.Counted }
-        ensures heard { IfOk result (λ heard. heard ≡ heard_of self.old from ballot reply) }
-        ensures ok { OnOk result (self.new ≡ after_reply self.old from ballot reply) }
+        requires known { IsKnownReply base self.old.updates reply }
+        ensures ok { IfOk result (λ heard. HearsReply self.old from ballot reply heard self.new) }
+        ensures free { IsFreeAnswer self.old from ballot reply result }
         ensures error { IfErr result (IsReplyRefusal self.old from ballot reply) }
         ensures err { OnErr result (self.new ≡ self.old) }
     {
@@ -310,14 +292,9 @@ impl Proposer {
         ballot: u32,
         refusal: Option<&UpdateSet>,
     ) -> Result<Option<Verdict>, ProposerError>
-        ensures verdict { IfOk result
-            (IsVerdictOf self.now from ballot (reply_carrying refusal.entry)) }
-        ensures in_group { OnOk result (from < length self.now.votes) }
-        ensures fits { OnOk result (ReplyFits self.now from ballot (reply_carrying refusal.entry)) }
-        ensures spares { OnOk result
-            (ReplySpares self.now from ballot (reply_carrying refusal.entry)) }
-        ensures error { IfErr result
-            (IsReplyRefusal self.now from ballot (reply_carrying refusal.entry)) }
+        ensures verdict { IfOk result (IsVerdictOf self.now from ballot (reply_carrying refusal.entry)) }
+        ensures hearable { OnOk result (IsHearable self.now from ballot (reply_carrying refusal.entry)) }
+        ensures error { IfErr result (IsReplyRefusal self.now from ballot (reply_carrying refusal.entry)) }
         ensures memory { result ≢ Err ProposerError.Memory }
     {
         self.admit_reply_beyond(from, ballot, refusal, Counts::zero())
@@ -335,16 +312,10 @@ impl Proposer {
         refusal: Option<&UpdateSet>,
         base: Counts,
     ) -> Result<Option<Verdict>, ProposerError>
-        requires { IfSome (option_copied refusal) (λ refused.
-            within self.now.updates base ≡ within refused base) }
-        ensures verdict { IfOk result
-            (IsVerdictOf self.now from ballot (reply_carrying refusal.entry)) }
-        ensures in_group { OnOk result (from < length self.now.votes) }
-        ensures fits { OnOk result (ReplyFits self.now from ballot (reply_carrying refusal.entry)) }
-        ensures spares { OnOk result
-            (ReplySpares self.now from ballot (reply_carrying refusal.entry)) }
-        ensures error { IfErr result
-            (IsReplyRefusal self.now from ballot (reply_carrying refusal.entry)) }
+        requires { IsKnownRefused base self.now.updates (option_copied refusal) }
+        ensures verdict { IfOk result (IsVerdictOf self.now from ballot (reply_carrying refusal.entry)) }
+        ensures hearable { OnOk result (IsHearable self.now from ballot (reply_carrying refusal.entry)) }
+        ensures error { IfErr result (IsReplyRefusal self.now from ballot (reply_carrying refusal.entry)) }
         ensures memory { result ≢ Err ProposerError.Memory }
     {
         if from as usize >= self.votes.len() {

@@ -1,5 +1,5 @@
 -- From what an instance is told to what its replica is.
-use Rattle.std.proofs.Common.{◌≡◌, ℕ, ◌<◌, length, get_or, slice_get, Some, None, IsSomeAnd, option_map, Result, Ok, Err, IfOk, IfErr, refl, sym, ap, subst, ◌∙◌, arith}
+use Rattle.std.proofs.Common.{◌≡◌, ℕ, ◌<◌, length, get_or, slice_get, Bool, Option, Some, None, IsSomeAnd, option_map, Result, Ok, Err, IfOk, IfErr, refl, sym, ap, subst, ◌∙◌, arith}
 use Rattle.std.proofs.lemmas.Option.{slice_get_read, slice_get_within, get_or_from_slice_get, same_Some}
 use Rattle.std.proofs.lemmas.List.Elements.{All-append, All-weaker}
 use Rattle.std.specs.Prelude.{List}
@@ -17,15 +17,18 @@ use Rattle.la_replica.specs.declared.sender.Sender.{Sender}
 use Rattle.la_replica.specs.Whole as out_of
 use Rattle.la_replica.specs.Whole.{Message, whole_out}
 use Rattle.la_replica.specs.Steps as steps
-use Rattle.la_replica.specs.Steps.{receives}
 use Rattle.la_replica.specs.Invariant.{IsOf, IsReplicaState}
-use Rattle.la_replica.specs.ReplicaState.{ReplicaState, InInstance, with_instance, sender_of, after_step, submits}
+use Rattle.la_replica.specs.ReplicaState.{ReplicaState, InInstance, with_instance, sender_of, after_step, submits, receives}
 use Rattle.la_replica.specs.Refusals.{IsSubmissionRefusal, IsSubmitRefusal}
-use Rattle.la_replica.specs.Changes.{proposer_after, at_after, view_next, step_by, IsProposerFrom, LeavesAgreeing, SaysWhatIsLearnt, IsPreparedFrom, AreSameIn, LeadsThere, led}
+use Rattle.la_replica.specs.Changes.{proposer_after, at_after, view_next, step_by, IsProposerFrom, LeavesAgreeing}
+use Rattle.la_replica.specs.Changes.{IsPreparedFrom, AreSameIn, LeadsThere, led, candidate, is_taken}
+use Rattle.la_replica.specs.Prepared.{PreparesMessageAt, PreparesSubmissionAt, AreToldNext, PreparesReceiptIn}
+use Rattle.la_replica.specs.Prepared.{PreparesSubmissionIn}
+use Rattle.la_proposer.specs.declared.tally.Verdict.{Verdict}
 use Rattle.la_replica.proofs.Agreeing.{message_leaves, submission_leaves}
 use Rattle.la_replica.proofs.Beside.{get_put}
 use Rattle.la_replica.proofs.Calls.{at_within}
-use Rattle.la_replica.specs.Bases.{IsToldBody, IsToldBy, AreToldBy, AddsTold, IsToldIn, AreToldIn, AreToldFrom, AreToldAfter, AreToldThere}
+use Rattle.la_replica.specs.Bases.{IsToldBody, IsToldBy, AreToldBy, AddsTold, IsToldIn, AreToldIn, AreToldFrom, AreToldAfter, offered_by}
 
 -- what a list has at a place is there
 pub there_now : (m r : ReplicaState) → m ≡ r → (i : ℕ) (x : Instance) → i < length m.instances
@@ -92,28 +95,16 @@ told_after s x c offered mail there told after e =
     (All-weaker (IsToldBy (proposer_after x.proposer c.proposer) c.instance offered) (λ m. (m.instance ≡ c.instance) × IsToldIn put offered m)
     (λ m t. (t.0, told_there put c.instance (at_after x c) offered stands m t)) mail told)
 
-pub submission_told : {E : Type 0} (r : ReplicaState) (i : ℕ) (x : Instance) → slice_get r.instances i ≡ Some x
-    → (result : Result (Out × Change) E) → IfOk result (λ prepared. prepared.1.instance ≡ i)
-    → ((offered : Counts)
-    → IfOk result (λ prepared. AreToldBy (proposer_after x.proposer prepared.1.proposer) i offered prepared.0.mail))
-    → IfOk result (λ prepared. AreToldThere r i prepared.1 prepared.0.mail)
-submission_told r i x there (Ok prepared) here told = λ s offered same.
-    told_after s x prepared.1 offered prepared.0.mail (ap (slice_get s.instances) here ∙ same.there ∙ there)
-    (subst (λ j. AreToldBy (proposer_after x.proposer prepared.1.proposer) j offered prepared.0.mail) (sym here)
-    (told offered))
-submission_told r i x there (Err e) here told = here
-
-pub message_told : {E : Type 0} (r : ReplicaState) (i : ℕ) (x : Instance) (offered : Counts)
-    → slice_get r.instances i ≡ Some x → (result : Result (Out × Change) E)
-    → IfOk result (λ prepared. prepared.1.instance ≡ i)
-    → IfOk result (λ prepared. AreToldBy (proposer_after x.proposer prepared.1.proposer) i offered prepared.0.mail)
-    → IfOk result (λ prepared. AreToldAfter r prepared.1 offered prepared.0.mail)
-message_told r i x offered there (Ok prepared) here told =
-    told_after r x prepared.1 offered prepared.0.mail (ap (slice_get r.instances) here ∙ there)
-    (subst (λ j. AreToldBy (proposer_after x.proposer prepared.1.proposer) j offered prepared.0.mail) (sym here) told)
-message_told r i x offered there (Err e) here told = here
-
 -- ## What is prepared leaves the view and the ballots in agreement
+
+-- what stands in this instance, once this is committed there, with what is answered
+abbrev led_at : ReplicaState → Out → Change → (instance : ℕ) → Instance → out_of.Out × ReplicaState
+led_at r out c i x = (whole_out out, with_instance r i (at_after x c) (view_next r.view c.view))
+
+abbrev led_from : ReplicaState → Out → Change → Option Instance → Option (out_of.Out × ReplicaState)
+led_from r out c o =
+    option_map {U = out_of.Out × ReplicaState} (λ (after : ReplicaState). (whole_out out, after))
+    (option_map (λ x. with_instance r c.instance (at_after x c) (view_next r.view c.view)) o)
 
 -- an instance's proposer is one of eight
 one_of_eight : (r : ReplicaState) (i : ℕ) (x : Instance) → IsReplicaState r → slice_get r.instances i ≡ Some x
@@ -124,18 +115,42 @@ one_of_eight r i x state there =
     (state.alike i x (slice_get_within r.instances i x there)) in
     omega (arith, of.1, state.known, state.few)
 
-pub prepared_from : {E : Type 0} (r : ReplicaState) (i : ℕ) (x : Instance) (s : Sender) (m : Message) → IsReplicaState r
-    → slice_get r.instances i ≡ Some x → (result : Result (Out × Change) E)
-    → IfOk result (λ prepared. prepared.1.instance ≡ i)
-    → IfOk result (λ prepared. receives s x r.view m ≡ step_by x r.view (whole_out prepared.0) prepared.1)
-    → IfOk result (λ prepared. IsProposerFrom x.proposer prepared.1.proposer)
-    → IfOk result (λ prepared. SaysWhatIsLearnt x.proposer prepared.1)
-    → IfOk result (λ prepared. IsPreparedFrom r prepared.1)
-prepared_from r i x s m state there (Ok prepared) here step from says =
-    subst (λ o. IsSomeAnd o (λ z. IsProposerFrom z.proposer prepared.1.proposer × LeavesAgreeing r.view z prepared.1))
-    (sym (ap (slice_get r.instances) here ∙ there))
-    (from, message_leaves x r.view prepared.0 prepared.1 s m (one_of_eight r i x state there) step says)
-prepared_from r i x s m state there (Err e) here step from says = here
+-- what an instance's step leads to is what the replica's does
+leads_in : (r : ReplicaState) (x : Instance) (m : Message) (s : Sender) (out : Out) (c : Change)
+    → slice_get r.instances m.instance ≡ Some x → s ≡ sender_of r m.instance → c.instance ≡ m.instance
+    → steps.receives s x r.view m ≡ step_by x r.view (whole_out out) c → receives r m ≡ led r (whole_out out) c
+leads_in r x m s out c there is here step =
+    let i = m.instance in
+    ap (option_map (λ z. after_step r i (steps.receives (sender_of r i) z r.view m))) there
+    ∙ ap (λ q. Some (after_step r i (steps.receives q x r.view m))) (sym is)
+    ∙ ap (λ z. Some (after_step r i z)) step
+    ∙ sym (ap (led_from r out c) (ap (slice_get r.instances) here ∙ there) ∙ ap (λ j. Some (led_at r out c j x)) here)
+
+pub message_prepared : {E : Type 0} (r : ReplicaState) (x : Instance) (m : Message) → IsReplicaState r
+    → slice_get r.instances m.instance ≡ Some x → (s : Sender) → s ≡ sender_of r m.instance
+    → (v : Option Verdict) (taken : Bool) → taken ≡ is_taken r.view (candidate x v m)
+    → (result : Result (Out × Change) E) → IfOk result (PreparesMessageAt s x v taken m)
+    → IfOk result (AreToldNext x m.instance (offered_by m)) → IfOk result (PreparesReceiptIn r m)
+message_prepared r x m state there s is v taken decided (Ok prepared) at told =
+    let step = at.step r.view decided in
+    let here = ap (slice_get r.instances) at.instance ∙ there in
+    record {
+      step = leads_in r x m s prepared.0 prepared.1 there is at.instance step;
+      from =
+          subst
+          (λ o. IsSomeAnd o (λ z. IsProposerFrom z.proposer prepared.1.proposer × LeavesAgreeing r.view z prepared.1))
+          (sym here) (
+            at.from,
+            message_leaves x r.view prepared.0 prepared.1 s m (one_of_eight r m.instance x state there) step at.agreed,
+          );
+      told =
+          told_after r x prepared.1 (offered_by m) prepared.0.mail here
+          (subst
+          (λ j. AreToldBy (proposer_after x.proposer prepared.1.proposer) j (offered_by m) prepared.0.mail)
+          (sym at.instance) told);
+      instance = at.instance;
+    }
+message_prepared r x m state there s is v taken decided (Err e) at told = at
 
 module _ (r : ReplicaState) (i : ℕ) (x : Instance) (d : ObjectOp) (known : x.proposer.own < 8)
     (there : slice_get r.instances i ≡ Some x) (out : Out) (c : Change) (here : c.instance ≡ i)
@@ -155,21 +170,28 @@ module _ (r : ReplicaState) (i : ℕ) (x : Instance) (d : ObjectOp) (known : x.p
       ap (option_map (λ z. after_step s i (steps.submits (sender_of s i) z s.view d))) (same.there ∙ there)
       ∙ ap (λ q. Some (after_step s i (steps.submits q x s.view d))) (same_sender s same)
       ∙ ap (λ z. Some (after_step s i z)) (step s.view)
-      ∙ sym (ap (λ j. option_map {U = out_of.Out × ReplicaState} (λ (after : ReplicaState). (whole_out out, after)) (option_map (λ z. with_instance s j (at_after z c) (view_next s.view c.view)) (slice_get s.instances j))) here
-      ∙ ap (λ o. option_map {U = out_of.Out × ReplicaState} (λ (after : ReplicaState). (whole_out out, after)) (option_map (λ z. with_instance s i (at_after z c) (view_next s.view c.view)) o)) (same.there ∙ there))
+      ∙ sym
+      (ap (led_from s out c) (ap (slice_get s.instances) here ∙ same.there ∙ there)
+      ∙ ap (λ j. Some (led_at s out c j x)) here)
 
   leads_there : LeadsThere r i d (whole_out out) c
   leads_there s same = (stays_prepared s same, stays_step s same)
 
-pub submission_leads : {E : Type 0} (r : ReplicaState) (i : ℕ) (x : Instance) (d : ObjectOp) → IsReplicaState r
-    → slice_get r.instances i ≡ Some x → (result : Result (Out × Change) E)
-    → IfOk result (λ prepared. prepared.1.instance ≡ i)
-    → IfOk result (λ prepared. IsProposerFrom x.proposer prepared.1.proposer)
-    → IfOk result (λ prepared. prepared.1.agreed ≡ None)
-    → IfOk result
-    (λ prepared.
-    (view : Histories) → steps.submits (sender_of r i) x view d ≡ step_by x view (whole_out prepared.0) prepared.1)
-    → IfOk result (λ prepared. LeadsThere r i d (whole_out prepared.0) prepared.1)
-submission_leads r i x d state there (Ok prepared) here from none step =
-    leads_there r i x d (one_of_eight r i x state there) there prepared.0 prepared.1 here from none step
-submission_leads r i x d state there (Err e) here from none step = here
+pub submission_prepared : {E : Type 0} (r : ReplicaState) (i : ℕ) (x : Instance) (d : ObjectOp) → IsReplicaState r
+    → slice_get r.instances i ≡ Some x → (s : Sender) → s ≡ sender_of r i → (result : Result (Out × Change) E)
+    → IfOk result (PreparesSubmissionAt s x d) → IfOk result (PreparesSubmissionIn r i d)
+submission_prepared r i x d state there s is (Ok prepared) of_sender =
+    let at = subst (λ q. PreparesSubmissionAt q x d prepared) is of_sender in
+    record {
+      leads =
+          leads_there r i x d (one_of_eight r i x state there) there prepared.0 prepared.1 at.instance at.from at.agreed
+          at.step;
+      told =
+          λ t offered same.
+          told_after t x prepared.1 offered prepared.0.mail
+          (ap (slice_get t.instances) at.instance ∙ same.there ∙ there)
+          (subst (λ j. AreToldBy (proposer_after x.proposer prepared.1.proposer) j offered prepared.0.mail)
+          (sym at.instance) (at.told offered));
+      instance = at.instance;
+    }
+submission_prepared r i x d state there s is (Err e) of_sender = of_sender

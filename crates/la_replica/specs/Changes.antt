@@ -137,3 +137,12 @@ IsVerdictOn x m verdict (Tell told) = verdict ≡ None
 IsVerdictOn x m verdict Yes = IsVerdictOf x.proposer m.from m.ballot replied.Yes verdict
 IsVerdictOn x m verdict (No accepted) =
     IsVerdictOf x.proposer m.from m.ballot (replied.No accepted) verdict
+
+-- the same in the message's instance of a replica
+abbrev pub IsVerdictIn : ReplicaState → Message → Option Verdict → Type 0
+IsVerdictIn r m verdict = InInstance r m.instance (λ x. IsVerdictOn x m verdict m.body)
+
+-- whether the view is taken by a message on which this is the verdict, as it was decided
+abbrev pub IsDecidedIn : ReplicaState → Message → Option Verdict → (taken : Bool) → Type 0
+IsDecidedIn r m verdict taken =
+    InInstance r m.instance (λ x. taken ≡ is_taken r.view (candidate x verdict m))

@@ -119,6 +119,10 @@ IsKnownWithin x b Yes = Unit {0}
 IsKnownWithin x b (No s) = within x.proposer.updates b ≡ within s b
 IsKnownWithin x b (Tell s) = Unit {0}
 
+-- the same in an instance of a replica
+abbrev pub IsKnownIn : ReplicaState → (instance : ℕ) → Counts → Body → Type 0
+IsKnownIn r i b body = InInstance r i (λ x. IsKnownWithin x b body)
+
 -- within these counts a told set has what the view has
 abbrev pub IsToldWithin : (view : Histories) → Counts → Body → Type 0
 IsToldWithin view b (Offer s) = Unit {0}

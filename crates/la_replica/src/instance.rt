@@ -9,7 +9,7 @@ ghost use Rattle.la_acceptor.specs.Answer.{accepted_next};
 ghost use Rattle.la_proposer.specs.declared.proposer.TheConstants.{MAX_CAP};
 ghost use Rattle.la_proposer.specs.Majority.{votes_of};
 ghost use Rattle.la_proposer.specs.ProposerState.{ProposerState, submitted, op_on};
-ghost use Rattle.la_proposer.specs.Refusals.{SubmissionSpends, IsVerdictOf};
+ghost use Rattle.la_proposer.specs.Refusals.{SubmissionSpends};
 ghost use Rattle.la_replica.specs.declared.instance.Instance.{Instance as InstanceOf};
 ghost use Rattle.la_replica.specs.declared.out.Said.TheVariants.{Answered};
 ghost use Rattle.la_replica.specs.Whole.{lent_message, lent_body, whole_out, Adds};
@@ -17,15 +17,15 @@ ghost use Rattle.la_replica.specs.Received.{lent_told, told_at, rebuilt_at, made
 ghost use Rattle.la_replica.specs.Received.{StandsAt, AgreesAt, IsUnbuilt, IsLentAt, IsKnownWithin};
 ghost use Rattle.la_replica.specs.Bases.{offered_by, AreToldBy, AddsTold};
 ghost use Rattle.la_replica.specs.Messages.{reply_of, reply_to};
-ghost use Rattle.la_replica.specs.Steps.{fresh, submits, answers, hears, is_told, receives};
+ghost use Rattle.la_replica.specs.Steps.{fresh, answers};
 ghost use Rattle.la_replica.specs.Steps.{last_learnt_after};
-ghost use Rattle.la_replica.specs.Refusals.{IsSubmissionRefusal, HearingFits, HearingSpares};
-ghost use Rattle.la_replica.specs.Refusals.{IsHearingRefusal, IsMessageRefusal, FitsMessage};
-ghost use Rattle.la_replica.specs.Refusals.{SparesMessage};
-ghost use Rattle.la_replica.specs.Memory.{IsFreeReply, IsFreeMessage};
+ghost use Rattle.la_replica.specs.Refusals.{IsSubmissionRefusal, IsHearingRefusal, IsMessageRefusal};
+ghost use Rattle.la_replica.specs.Memory.{IsFreeHearing, IsFreeMessage};
 ghost use Rattle.la_replica.specs.Changes.{proposer_after, IsProposerFrom, learnt_next, step_by};
-ghost use Rattle.la_replica.specs.Changes.{candidate, is_taken, learnt_in_view, told_in_view};
-ghost use Rattle.la_replica.specs.Changes.{IsVerdictOn, SaysWhatIsLearnt};
+ghost use Rattle.la_replica.specs.Changes.{candidate, learnt_in_view, IsVerdictOn};
+ghost use Rattle.la_replica.specs.Prepared.{IsAdmittedAt, AdmitsReply, WhereDecided, KeepsProposer};
+ghost use Rattle.la_replica.specs.Prepared.{PreparesMessageAt, PreparesReplyAt, PreparesTellAt};
+ghost use Rattle.la_replica.specs.Prepared.{PreparesSubmissionAt, AreToldNext};
 ghost use Rattle.la_replica.specs.Again.{again_in};
 
 use crate::sender::Sender;
@@ -82,16 +82,7 @@ impl Instance {
         op: Op,
     ) -> Result<(Out, Change), ReplicaError>
         requires own { self.now.proposer.own ≡ sender.now.from }
-        ensures step { IfOk result (λ prepared. (view : Histories)
-            → submits sender.now self.now view (op_on object op)
-            ≡ step_by self.now view (whole_out prepared.0) prepared.1) }
-        ensures from { IfOk result (λ prepared.
-            IsProposerFrom self.now.proposer prepared.1.proposer) }
-        ensures told { (offered : Counts) → IfOk result (λ prepared. AreToldBy
-            (proposer_after self.now.proposer prepared.1.proposer) sender.now.instance offered
-            prepared.0.mail) }
-        ensures instance { IfOk result (λ prepared. prepared.1.instance ≡ sender.now.instance) }
-        ensures agreed { IfOk result (λ prepared. prepared.1.agreed ≡ None) }
+        ensures ok { IfOk result (PreparesSubmissionAt sender.now self.now (op_on object op)) }
         ensures room { IfOk result (λ _. submitted self.now.proposer < self.now.proposer.cap) }
         ensures spares { IfOk result (λ _. ¬ SubmissionSpends self.now.proposer) }
         ensures error { IfErr result (IsSubmissionRefusal self.now.proposer) }
@@ -193,10 +184,7 @@ impl Instance {
     ) -> Result<Option<Verdict>, ReplicaError>
         requires group { message.from < length self.now.proposer.votes }
         requires known { IsKnownWithin self.now known (lent_body message.body) }
-        ensures verdict { IfOk result (λ verdict. IsVerdictOn self.now (lent_message message.entry)
-            verdict (lent_body message.entry.body)) }
-        ensures fits { IfOk result (λ _. FitsMessage self.now (lent_message message.entry)) }
-        ensures spares { IfOk result (λ _. SparesMessage self.now (lent_message message.entry)) }
+        ensures ok { IfOk result (IsAdmittedAt self.now (lent_message message.entry)) }
         ensures error { (view : Histories)
             → IfErr result (IsMessageRefusal self.now view (lent_message message.entry)) }
         ensures memory { result ≢ Err ReplicaError.Memory }
@@ -219,12 +207,7 @@ impl Instance {
     ) -> Result<Option<Verdict>, ReplicaError>
         requires group { message.from < length self.now.proposer.votes }
         requires known { IsKnownWithin self.now known (lent_body message.body) }
-        ensures verdict { IfOk result (IsVerdictOf self.now.proposer message.entry.from
-            message.entry.ballot (reply_of (lent_message message.entry))) }
-        ensures fits { IfOk result (λ _.
-            HearingFits self.now.proposer (lent_message message.entry)) }
-        ensures spares { IfOk result (λ _.
-            HearingSpares self.now.proposer (lent_message message.entry)) }
+        ensures ok { IfOk result (AdmitsReply self.now.proposer (lent_message message.entry)) }
         ensures error { IfErr result (IsHearingRefusal self.now.proposer (lent_message message.entry)
             (reply_of (lent_message message.entry))) }
         ensures memory { result ≢ Err ReplicaError.Memory }
@@ -283,28 +266,12 @@ impl Instance {
         verdict: Option<Verdict>,
         taken: bool,
     ) -> Result<(Out, Change), AllocError>
-        requires known { message.from < length self.now.proposer.votes }
+        requires admitted { IsAdmittedAt self.now (lent_message message) verdict }
         requires instance { sender.now.instance ≡ message.instance }
-        requires verdict { IsVerdictOn self.now (lent_message message) verdict
-            (lent_body message.body) }
-        requires fits { FitsMessage self.now (lent_message message) }
-        requires spares { SparesMessage self.now (lent_message message) }
-        ensures step { IfOk result (λ prepared. (view : Histories)
-            → taken ≡ is_taken view (candidate self.now verdict (lent_message message.entry))
-            → receives sender.now self.now view (lent_message message.entry)
-            ≡ step_by self.now view (whole_out prepared.0) prepared.1) }
-        ensures from { IfOk result (λ prepared.
-            IsProposerFrom self.now.proposer prepared.1.proposer) }
-        ensures told { IfOk result (λ prepared. AreToldBy
-            (proposer_after self.now.proposer prepared.1.proposer) message.entry.instance
-            (offered_by (lent_message message.entry)) prepared.0.mail) }
-        ensures instance { IfOk result (λ prepared.
-            prepared.1.instance ≡ message.entry.instance) }
-        ensures agreed { IfOk result (λ prepared.
-            SaysWhatIsLearnt self.now.proposer prepared.1) }
-        ensures free { (view : Histories)
-            → taken ≡ is_taken view (candidate self.now verdict (lent_message message.entry))
-            → IsFreeMessage self.now view (lent_message message.entry) → IsOk result }
+        ensures ok { IfOk result (PreparesMessageAt sender.now self.now verdict taken (lent_message message.entry)) }
+        ensures told { IfOk result (AreToldNext self.now message.entry.instance (offered_by (lent_message message.entry))) }
+        ensures free { WhereDecided taken (candidate self.now verdict (lent_message message.entry))
+            (λ view. IsFreeMessage self.now view (lent_message message.entry) → IsOk result) }
     {
         match message.body {
             WholeBody::Offer(offered) => self.prepare_answer(alloc, message, offered),
@@ -324,15 +291,11 @@ impl Instance {
         offered: &UpdateSet,
     ) -> Result<(Out, Change), AllocError>
         requires { IsCompatible self.now.acceptor offered.now }
-        ensures step { IfOk result (λ prepared. (view : Histories)
-            → answers self.now view (lent_message message.entry) offered.now
-            ≡ step_by self.now view (whole_out prepared.0) prepared.1) }
-        ensures from { IfOk result (λ prepared. prepared.1.proposer ≡ None) }
+        ensures step { IfOk result (λ prepared. (view : Histories) → answers self.now view
+            (lent_message message.entry) offered.now ≡ step_by self.now view (whole_out prepared.0) prepared.1) }
+        ensures keeps { IfOk result (λ prepared. KeepsProposer message.entry.instance prepared.1) }
         ensures told { (p : ProposerState) → IfOk result (λ prepared.
             AreToldBy p message.entry.instance (counts_of offered.now) prepared.0.mail) }
-        ensures instance { IfOk result (λ prepared.
-            prepared.1.instance ≡ message.entry.instance) }
-        ensures agreed { IfOk result (λ prepared. prepared.1.agreed ≡ None) }
         ensures free { offered.now ≡ self.now.acceptor → IsOk result }
     {
         let (reply, accepted) = self.acceptor.prepare_offer(offered)?;
@@ -357,28 +320,11 @@ impl Instance {
         verdict: Option<Verdict>,
         taken: bool,
     ) -> Result<(Out, Change), AllocError>
-        requires known { message.from < length self.now.proposer.votes }
-        requires verdict { IsVerdictOf self.now.proposer message.from
-            message.ballot (reply_of (lent_message message)) verdict }
-        requires fits { HearingFits self.now.proposer (lent_message message) }
-        requires spares { HearingSpares self.now.proposer (lent_message message) }
-        ensures step { IfOk result (λ prepared. (view : Histories)
-            → taken ≡ is_taken view (learnt_in_view sender.now.instance self.now.proposer verdict)
-            → hears sender.now self.now view (lent_message message.entry)
-            (reply_of (lent_message message.entry))
-            ≡ step_by self.now view (whole_out prepared.0) prepared.1) }
-        ensures from { IfOk result (λ prepared.
-            IsProposerFrom self.now.proposer prepared.1.proposer) }
-        ensures told { (offered : Counts) → IfOk result (λ prepared. AreToldBy
-            (proposer_after self.now.proposer prepared.1.proposer) sender.now.instance offered
-            prepared.0.mail) }
-        ensures instance { IfOk result (λ prepared. prepared.1.instance ≡ sender.now.instance) }
-        ensures agreed { IfOk result (λ prepared.
-            SaysWhatIsLearnt self.now.proposer prepared.1) }
-        ensures free { (view : Histories)
-            → taken ≡ is_taken view (learnt_in_view sender.now.instance self.now.proposer verdict)
-            → IsFreeReply self.now.proposer (lent_message message.entry)
-            (reply_of (lent_message message.entry)) → IsOk result }
+        requires { AdmitsReply self.now.proposer (lent_message message) verdict }
+        ensures ok { IfOk result (PreparesReplyAt sender.now self.now verdict taken (lent_message message.entry)) }
+        ensures told { (offered : Counts) → IfOk result (AreToldNext self.now sender.now.instance offered) }
+        ensures free { WhereDecided taken (learnt_in_view sender.now.instance self.now.proposer verdict)
+            (λ _. IsFreeHearing self.now.proposer (lent_message message.entry) → IsOk result) }
     {
         if verdict.is_none() {
             let silent = Out::silent(alloc, Said::Ignored);
@@ -473,8 +419,7 @@ fn answered(
     offered: &UpdateSet,
     reply: Reply,
 ) -> Result<Out, AllocError>
-    requires { (accepted : Histories) → reply ≡ replied.No accepted
-        → HasCounts accepted (counts_of offered.now) }
+    requires { (accepted : Histories) → reply ≡ replied.No accepted → HasCounts accepted (counts_of offered.now) }
     ensures ok { IfOk result (λ out. whole_out out
         ≡ record { said = Answered reply; mail = reply_to (lent_message message.entry) reply ∷ [] }) }
     ensures told { (p : ProposerState) → IfOk result (λ out.
@@ -496,14 +441,9 @@ fn prepare_tell(
     told: &UpdateSet,
     taken: bool,
 ) -> Result<(Out, Change), AllocError>
-    ensures step { IfOk result (λ prepared. (x : InstanceOf) (view : Histories)
-        → taken ≡ is_taken view (told_in_view sender.now.instance told.now)
-        → is_told sender.now x view told.now
-        ≡ step_by x view (whole_out prepared.0) prepared.1) }
-    ensures from { IfOk result (λ prepared. prepared.1.proposer ≡ None) }
+    ensures ok { (x : InstanceOf) → IfOk result (PreparesTellAt sender.now x taken told.now) }
+    ensures keeps { IfOk result (λ prepared. KeepsProposer sender.now.instance prepared.1) }
     ensures told { IfOk result (λ prepared. prepared.0.mail ≡ []) }
-    ensures instance { IfOk result (λ prepared. prepared.1.instance ≡ sender.now.instance) }
-    ensures agreed { IfOk result (λ prepared. prepared.1.agreed ≡ None) }
     ensures free { taken ≡ false → IsOk result }
 {
     if !taken {

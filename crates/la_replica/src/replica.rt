@@ -9,20 +9,20 @@ ghost use Rattle.la_proposer.specs.Majority.{votes_of};
 ghost use Rattle.la_proposer.specs.ProposerState.{op_on};
 ghost use Rattle.la_replica.specs.Whole.{lent_message, lent_body, whole_out, whole_mail};
 ghost use Rattle.la_replica.specs.Received.{received_in, rebuilt_in, StandsIn, AgreesIn};
-ghost use Rattle.la_replica.specs.Received.{made_at, IsLentIn, IsNotToldIn, IsKnownWithin};
+ghost use Rattle.la_replica.specs.Received.{made_at, IsLentIn, IsNotToldIn, IsKnownIn};
 ghost use Rattle.la_replica.specs.Received.{IsToldWithin, IsSeenWithin};
-ghost use Rattle.la_replica.specs.Bases.{offered_by, AreToldIn, AreToldFrom, AreToldAfter};
-ghost use Rattle.la_replica.specs.Bases.{AreToldThere};
+ghost use Rattle.la_replica.specs.Bases.{offered_by, AreToldIn, AreToldFrom};
 ghost use Rattle.la_replica.specs.ReplicaState.{ReplicaState, start, submits, receives, sender_of};
 ghost use Rattle.la_replica.specs.ReplicaState.{last_learnt, submitted_in, InInstance};
 ghost use Rattle.la_replica.specs.Invariant.{IsReplicaState};
 ghost use Rattle.la_replica.specs.Refusals.{IsSubmitRefusal, IsReceiveRefusal, IsReceiptRefusal};
-ghost use Rattle.la_replica.specs.Refusals.{IsFor, IsReceivable};
-ghost use Rattle.la_replica.specs.Refusals.{HasRoom, SubmittingSpares, ReceivingSpares};
+ghost use Rattle.la_replica.specs.Refusals.{IsFor, MayReceive, TakesMessage};
+ghost use Rattle.la_replica.specs.Refusals.{HasRoom, SubmittingSpares};
 ghost use Rattle.la_replica.specs.Fitting.{FitsReceiver};
 ghost use Rattle.la_replica.specs.Memory.{IsFree};
-ghost use Rattle.la_replica.specs.Changes.{IsPreparedFrom, after_commit, led, AreSameIn, LeadsThere};
-ghost use Rattle.la_replica.specs.Changes.{IsVerdictOn, candidate, is_taken};
+ghost use Rattle.la_replica.specs.Changes.{IsPreparedFrom, after_commit, AreSameIn};
+ghost use Rattle.la_replica.specs.Changes.{IsVerdictIn, IsDecidedIn, candidate};
+ghost use Rattle.la_replica.specs.Prepared.{PreparesReceiptIn, PreparesSubmissionIn};
 ghost use Rattle.la_replica.specs.Again.{again};
 ghost use Rattle.la_replica.specs.Parcels.{view_of, unwrapped_in, UnwrapsIn, base_of_told, TellsNothing};
 ghost use Rattle.la_replica.specs.Parcels.{IsUnwrapRefusal, IsParcelRefusal};
@@ -120,6 +120,13 @@ impl Replica {
         self.own
     }
 
+    /// How many replicas its group has: at most 8.
+    pub fn replicas(&self) -> u8
+        ensures { result ≡ length self.now.votes }
+    {
+        self.votes.len() as u8
+    }
+
     /// What the replica answers questions from: of the sets of instance 0 that it learnt or was
     /// told, one after the other, each that was strictly larger than what it had; empty at first.
     pub fn view(&self) -> &UpdateSet
@@ -178,11 +185,7 @@ impl Replica {
         object: u16,
         op: Op,
     ) -> Result<(Out, Change), ReplicaError>
-        ensures leads { IfOk result (λ prepared. LeadsThere self.now instance
-            (op_on object op) (whole_out prepared.0) prepared.1) }
-        ensures told { IfOk result (λ prepared.
-            AreToldThere self.now instance prepared.1 prepared.0.mail) }
-        ensures instance { IfOk result (λ prepared. prepared.1.instance ≡ instance) }
+        ensures ok { IfOk result (PreparesSubmissionIn self.now instance (op_on object op)) }
         ensures room { IfOk result (λ _. HasRoom self.now instance) }
         ensures spares { IfOk result (λ _. SubmittingSpares self.now instance) }
         ensures error { IfErr result (IsSubmitRefusal self.now instance) }
@@ -220,11 +223,7 @@ impl Replica {
     pub fn receive(&mut self, message: &Message) -> Result<Out, ReplicaError>
         ensures step { IfOk result (λ out. receives self.old (received_in self.old message.now)
             ≡ Some (whole_out out, self.new)) }
-        ensures stands { IfOk result (λ _. StandsIn self.old message.now) }
-        ensures fits { IfOk result (λ _.
-            IsReceivable self.old (received_in self.old message.now)) }
-        ensures spares { IfOk result (λ _.
-            ReceivingSpares self.old (received_in self.old message.now)) }
+        ensures takes { IfOk result (λ _. TakesMessage self.old message.now) }
         ensures told { IfOk result (λ out. AreToldFrom self.new message.now.instance
             (offered_by (received_in self.old message.now)) out.mail) }
         ensures free { IsNotToldIn self.old message.now
@@ -242,18 +241,8 @@ impl Replica {
     /// said and sent, and the change. A caller reads what is said, and may prepare a submission in
     /// another instance beside it, before either is committed.
     pub fn prepare(&self, message: &Message) -> Result<(Out, Change), ReplicaError>
-        ensures step { IfOk result (λ prepared. receives self.now (received_in self.now message.now)
-            ≡ led self.now (whole_out prepared.0) prepared.1) }
-        ensures from { IfOk result (λ prepared. IsPreparedFrom self.now prepared.1) }
-        ensures told { IfOk result (λ prepared. AreToldAfter self.now prepared.1
-            (offered_by (received_in self.now message.now)) prepared.0.mail) }
-        ensures instance { IfOk result (λ prepared.
-            prepared.1.instance ≡ message.now.instance) }
-        ensures stands { IfOk result (λ _. StandsIn self.now message.now) }
-        ensures fits { IfOk result (λ _.
-            IsReceivable self.now (received_in self.now message.now)) }
-        ensures spares { IfOk result (λ _.
-            ReceivingSpares self.now (received_in self.now message.now)) }
+        ensures ok { IfOk result (PreparesReceiptIn self.now (received_in self.now message.now)) }
+        ensures takes { IfOk result (λ _. TakesMessage self.now message.now) }
         ensures free { IsNotToldIn self.now message.now
             → IsFree self.now (received_in self.now message.now) → IsOk result }
         ensures error { IfErr result (IsReceiptRefusal self.now message.now) }
@@ -271,18 +260,8 @@ impl Replica {
         known: Counts,
     ) -> Result<(Out, Change), ReplicaError>
         requires { IsSeenWithin self.now known message.now }
-        ensures step { IfOk result (λ prepared. receives self.now (received_in self.now message.now)
-            ≡ led self.now (whole_out prepared.0) prepared.1) }
-        ensures from { IfOk result (λ prepared. IsPreparedFrom self.now prepared.1) }
-        ensures told { IfOk result (λ prepared. AreToldAfter self.now prepared.1
-            (offered_by (received_in self.now message.now)) prepared.0.mail) }
-        ensures instance { IfOk result (λ prepared.
-            prepared.1.instance ≡ message.now.instance) }
-        ensures stands { IfOk result (λ _. StandsIn self.now message.now) }
-        ensures fits { IfOk result (λ _.
-            IsReceivable self.now (received_in self.now message.now)) }
-        ensures spares { IfOk result (λ _.
-            ReceivingSpares self.now (received_in self.now message.now)) }
+        ensures ok { IfOk result (PreparesReceiptIn self.now (received_in self.now message.now)) }
+        ensures takes { IfOk result (λ _. TakesMessage self.now message.now) }
         ensures free { IsNotToldIn self.now message.now
             → IsFree self.now (received_in self.now message.now) → IsOk result }
         ensures error { IfErr result (IsReceiptRefusal self.now message.now) }
@@ -308,13 +287,7 @@ impl Replica {
         requires fits { FitsReceiver self.now (received_in self.now message.now) }
         requires stands { StandsIn self.now message.now }
         requires agrees { AgreesIn self.now message.now }
-        ensures step { IfOk result (λ prepared. receives self.now (received_in self.now message.now)
-            ≡ led self.now (whole_out prepared.0) prepared.1) }
-        ensures from { IfOk result (λ prepared. IsPreparedFrom self.now prepared.1) }
-        ensures told { IfOk result (λ prepared. AreToldAfter self.now prepared.1
-            (offered_by (received_in self.now message.now)) prepared.0.mail) }
-        ensures instance { IfOk result (λ prepared.
-            prepared.1.instance ≡ message.now.instance) }
+        ensures ok { IfOk result (PreparesReceiptIn self.now (received_in self.now message.now)) }
         ensures free { IsLentIn self.now message.now
             → IsFree self.now (received_in self.now message.now) → IsOk result }
     {
@@ -412,15 +385,10 @@ impl Replica {
     /// The cost is that of what the parcel carries: a told set is compared with the view beyond its base
     /// alone, and one that has no more than the view not at all.
     pub fn receive_parcel(&mut self, parcel: Parcel) -> Result<Out, ReplicaError>
-        ensures step { IfOk result (λ out.
-            receives self.old (received_in self.old (unwrapped_in self.old parcel))
-            ≡ Some (whole_out out, self.new)) }
+        ensures step { IfOk result (λ out. receives self.old
+            (received_in self.old (unwrapped_in self.old parcel)) ≡ Some (whole_out out, self.new)) }
         ensures unwraps { IfOk result (λ _. UnwrapsIn self.old parcel) }
-        ensures stands { IfOk result (λ _. StandsIn self.old (unwrapped_in self.old parcel)) }
-        ensures fits { IfOk result (λ _.
-            IsReceivable self.old (received_in self.old (unwrapped_in self.old parcel))) }
-        ensures spares { IfOk result (λ _.
-            ReceivingSpares self.old (received_in self.old (unwrapped_in self.old parcel))) }
+        ensures takes { IfOk result (λ _. TakesMessage self.old (unwrapped_in self.old parcel)) }
         ensures told { IfOk result (λ out. AreToldFrom self.new parcel.instance
             (offered_by (received_in self.old (unwrapped_in self.old parcel))) out.mail) }
         ensures free { TellsNothing parcel.content → IsNotToldIn self.old (unwrapped_in self.old parcel)
@@ -438,20 +406,10 @@ impl Replica {
     /// [`Replica::prepare`] does a message.
     #[tactic(auto, using(crate::proofs::lemmas::Parcelling::unwraps_free))]
     pub fn prepare_parcel(&self, parcel: Parcel) -> Result<(Out, Change), ReplicaError>
-        ensures step { IfOk result (λ prepared.
-            receives self.now (received_in self.now (unwrapped_in self.now parcel))
-            ≡ led self.now (whole_out prepared.0) prepared.1) }
-        ensures from { IfOk result (λ prepared. IsPreparedFrom self.now prepared.1) }
-        ensures told { IfOk result (λ prepared. AreToldAfter self.now prepared.1
-            (offered_by (received_in self.now (unwrapped_in self.now parcel)))
-            prepared.0.mail) }
-        ensures instance { IfOk result (λ prepared. prepared.1.instance ≡ parcel.instance) }
+        ensures ok { IfOk result
+            (PreparesReceiptIn self.now (received_in self.now (unwrapped_in self.now parcel))) }
         ensures unwraps { IfOk result (λ _. UnwrapsIn self.now parcel) }
-        ensures stands { IfOk result (λ _. StandsIn self.now (unwrapped_in self.now parcel)) }
-        ensures fits { IfOk result (λ _.
-            IsReceivable self.now (received_in self.now (unwrapped_in self.now parcel))) }
-        ensures spares { IfOk result (λ _.
-            ReceivingSpares self.now (received_in self.now (unwrapped_in self.now parcel))) }
+        ensures takes { IfOk result (λ _. TakesMessage self.now (unwrapped_in self.now parcel)) }
         ensures free { TellsNothing parcel.content → IsNotToldIn self.now (unwrapped_in self.now parcel)
             → IsFree self.now (received_in self.now (unwrapped_in self.now parcel)) → IsOk result }
         ensures error { IfErr result (IsParcelRefusal self.now parcel) }
@@ -502,14 +460,9 @@ impl Replica {
     ) -> Result<Option<Verdict>, ReplicaError>
         requires addressed { IsFor self.now (lent_message message) }
         requires there { message.instance < length self.now.instances }
-        requires known { InInstance self.now message.instance
-            (λ x. IsKnownWithin x known (lent_body message.body)) }
-        ensures verdict { IfOk result (λ verdict. InInstance self.now message.entry.instance
-            (λ x. IsVerdictOn x (lent_message message.entry) verdict
-            (lent_body message.entry.body))) }
-        ensures receivable { IfOk result (λ _.
-            IsReceivable self.now (lent_message message.entry)) }
-        ensures spares { IfOk result (λ _. ReceivingSpares self.now (lent_message message.entry)) }
+        requires known { IsKnownIn self.now message.instance known (lent_body message.body) }
+        ensures verdict { IfOk result (IsVerdictIn self.now (lent_message message.entry)) }
+        ensures received { IfOk result (λ _. MayReceive self.now (lent_message message.entry)) }
         ensures error { IfErr result (IsReceiveRefusal self.now (lent_message message.entry)) }
         ensures memory { result ≢ Err ReplicaError.Memory }
     {
@@ -520,13 +473,7 @@ impl Replica {
     #[inline(always)]
     fn prepare_whole(&self, message: Whole<'_>) -> Result<(Out, Change), AllocError>
         requires { FitsReceiver self.now (lent_message message) }
-        ensures step { IfOk result (λ prepared. receives self.now (lent_message message.entry)
-            ≡ led self.now (whole_out prepared.0) prepared.1) }
-        ensures from { IfOk result (λ prepared. IsPreparedFrom self.now prepared.1) }
-        ensures told { IfOk result (λ prepared. AreToldAfter self.now prepared.1
-            (offered_by (lent_message message.entry)) prepared.0.mail) }
-        ensures instance { IfOk result (λ prepared.
-            prepared.1.instance ≡ message.entry.instance) }
+        ensures ok { IfOk result (PreparesReceiptIn self.now (lent_message message.entry)) }
         ensures free { IsFree self.now (lent_message message.entry) → IsOk result }
     {
         let verdict = self.verdict(message);
@@ -537,8 +484,7 @@ impl Replica {
     // The verdict on a message, where it is a reply.
     fn verdict(&self, message: Whole<'_>) -> Option<Verdict>
         requires { message.instance < length self.now.instances }
-        ensures { InInstance self.now message.entry.instance (λ x.
-            IsVerdictOn x (lent_message message.entry) result (lent_body message.entry.body)) }
+        ensures { IsVerdictIn self.now (lent_message message.entry) result }
     {
         self.instances[message.instance as usize].verdict(message)
     }
@@ -582,19 +528,10 @@ impl Replica {
         verdict: Option<Verdict>,
         taken: bool,
     ) -> Result<(Out, Change), AllocError>
-        requires receivable { IsReceivable self.now (lent_message message) }
-        requires spares { ReceivingSpares self.now (lent_message message) }
-        requires verdict { InInstance self.now message.instance
-            (λ x. IsVerdictOn x (lent_message message) verdict (lent_body message.body)) }
-        requires taken { InInstance self.now message.instance
-            (λ x. taken ≡ is_taken self.now.view (candidate x verdict (lent_message message))) }
-        ensures step { IfOk result (λ prepared. receives self.now (lent_message message.entry)
-            ≡ led self.now (whole_out prepared.0) prepared.1) }
-        ensures from { IfOk result (λ prepared. IsPreparedFrom self.now prepared.1) }
-        ensures told { IfOk result (λ prepared. AreToldAfter self.now prepared.1
-            (offered_by (lent_message message.entry)) prepared.0.mail) }
-        ensures instance { IfOk result (λ prepared.
-            prepared.1.instance ≡ message.entry.instance) }
+        requires received { MayReceive self.now (lent_message message) }
+        requires verdict { IsVerdictIn self.now (lent_message message) verdict }
+        requires taken { IsDecidedIn self.now (lent_message message) verdict taken }
+        ensures ok { IfOk result (PreparesReceiptIn self.now (lent_message message.entry)) }
         ensures free { IsFree self.now (lent_message message.entry) → IsOk result }
     {
         let alloc = *self.instances.allocator();

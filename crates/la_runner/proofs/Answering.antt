@@ -42,12 +42,12 @@ holds_last s r before d e =
     ∙ ap (λ n. Some (update_of r n d)) (sym (one_more (length before)))
 
 -- an update that was learnt answers its job
-pub update_answers : (old new : MemberState) (object : ℕ) (op : Op) (l : Learned) → IsUpdateOf old new l.updates
-    → member_submitted new 0 ≡ member_submitted old 0 ++ op_on object op ∷ []
+pub update_answers : (old new : MemberState) (object : ℕ) (op : Op) (l : Learned)
+    → IsUpdateOf (op_on object op) old new l.updates
     → AnswersUpdate new (length (member_submitted old 0) + 1) object op (entry.Learned l)
-update_answers old new object op l up submitted = (
+update_answers old new object op l up = (
   up.learnt.own,
-  holds_last l.updates new.replica (member_submitted old 0) (op_on object op) (up.learnt.holds ∙ submitted),
+  holds_last l.updates new.replica (member_submitted old 0) (op_on object op) (up.learnt.holds ∙ up.submitted),
 )
 
 long_snoc : {A : Type 0} (zs : List A) (d : A) → length (zs ++ d ∷ []) ≡ length zs + 1

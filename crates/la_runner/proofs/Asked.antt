@@ -1,8 +1,8 @@
 -- What one offer to one acceptor leaves of a member.
-use Rattle.std.proofs.Common.{◌≡◌, inl, inr, ℕ, zero, suc, ◌<◌, Bool, true, false, List, [], ◌∷◌, ◌++◌, length, map, Some, refl, ap, sym, ◌∙◌, subst, arith, ◌&&◌, ◌==◌, not}
+use Rattle.std.proofs.Common.{◌≡◌, inl, inr, ℕ, ◌<◌, Bool, true, false, List, [], ◌∷◌, ◌++◌, length, Some, refl, ap, sym, ◌∙◌, subst, arith, ◌&&◌, ◌==◌, not}
 use Rattle.std.specs.Prelude.{Result, Ok, Err, OnOk, OnErr, IfOk}
 use Rattle.std.specs.List.{slice_get, slice_set, slice_index_or}
-use Rattle.std.proofs.lemmas.Option.{slice_get-get_or}
+use Rattle.std.proofs.lemmas.Option.{slice_get-get_or, get_or_from_slice_get}
 use Rattle.std.proofs.lemmas.Bool.{and_parts}
 use Rattle.la_proposer.specs.declared.heard.Heard.{Heard}
 use Rattle.la_proposer.specs.Tally.{has_counted}
@@ -14,12 +14,13 @@ use Rattle.la_shared.specs.History.{entry}
 use Rattle.la_shared.specs.Passes.{Known, IsPass, AcceptorName, Extends}
 use Rattle.la_runner.specs.Asking.{Asks, AsksInVain}
 use Rattle.la_runner.specs.Sound.{IsSound}
-use Rattle.la_runner.specs.Following.{Goes, IsLearnt, IfLearnt, StaysOpen}
+use Rattle.la_runner.specs.Following.{acceptors_of, Goes, IsLearnt, IfLearnt, StaysOpen}
 use Rattle.la_runner.specs.Heard.{Hears, HearsMost}
 use Rattle.la_runner.proofs.Remembering.{one_recorded, none_recorded}
 use Rattle.la_runner.proofs.Passing.{Grown, grown_same, grown_more, has_new, beyond_new}
 use Rattle.la_runner.proofs.Going.{sound_grown, follows_refl, follows_trans}
 use Rattle.la_runner.proofs.Hearing.{hears}
+use Rattle.la_runner.proofs.Keeping.{get_map}
 
 not_true : (b : Bool) → not b ≡ true → b ≡ false
 not_true true e = sym e
@@ -117,9 +118,11 @@ pub at_place : (ps : List Known) (a : ℕ) (k : Known) → a < length ps → k �
     → slice_get ps a ≡ Some k
 at_place ps a k lt e = slice_get-get_or ps a k lt ∙ ap Some (sym e)
 
--- and its table is that of the acceptor there
-pub acceptor_of : (ps : List Known) (a : ℕ) (k w : Known) (t d : AcceptorName) → slice_get ps a ≡ Some k
-    → w.acceptor ≡ slice_index_or (map (λ z. z.acceptor) ps) a d → w.acceptor ≡ k.acceptor
-acceptor_of [] a k w t d at e = absurd (cc)
-acceptor_of (x ∷ ps) zero k w t d at e = let same : x ≡ k = cc in e ∙ ap (λ z. z.acceptor) same
-acceptor_of (x ∷ ps) (suc a) k w t d at e = acceptor_of ps a k w t d at e
+-- and the acceptor there is its own
+pub acceptor_there : (ps : List Known) (row : List AcceptorName) (a : ℕ) (k : Known) (n : AcceptorName)
+    → acceptors_of ps ≡ row → slice_get ps a ≡ Some k → n ≡ slice_index_or row a n → k.acceptor ≡ n
+acceptor_there ps row a k n names at is =
+    sym
+    (is
+    ∙ get_or_from_slice_get row a k.acceptor n
+    (ap (λ l. slice_get l a) (sym names) ∙ get_map (λ (z : Known). z.acceptor) ps a k at))

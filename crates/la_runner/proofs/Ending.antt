@@ -14,13 +14,13 @@ use Rattle.la_runner.specs.declared.jobs.Job.{Job}
 use Rattle.la_runner.specs.declared.jobs.Job.TheVariants.{Update, Decide, Ask}
 use Rattle.la_runner.specs.declared.jobs.Stopped.{Stopped}
 use Rattle.la_runner.specs.declared.jobs.Stopped.TheVariants as cause
-use Rattle.la_runner.specs.Entries.{HasDone, StopsAt}
+use Rattle.la_runner.specs.Entries.{StopsAt, EndsJobs}
 use Rattle.la_runner.specs.Instances.{InstanceState}
 use Rattle.la_runner.specs.Invariant.{IsMember}
 use Rattle.la_runner.specs.Members.{MemberState, MemberGoesOn, submitted_of, member_submitted, instance_learnt, member_learnt, member_view}
 use Rattle.la_runner.specs.Notes.{doings}
 use Rattle.la_runner.specs.Participants.{HasCommit, HasOther}
-use Rattle.la_runner.specs.Runs.{IsWorked}
+use Rattle.la_runner.specs.Runs.{IsWorked, HasWorked}
 use Rattle.la_runner.specs.Stops.{StopFits}
 use Rattle.la_runner.proofs.Keeping.{long_map, goes_on_then}
 use Rattle.la_runner.proofs.UnderWay.{keeps_done}
@@ -112,20 +112,19 @@ module _ (old new : MemberState) (same : doings new ≡ doings old) where
 
 -- a worker that has done its jobs, sent its notes and taken those of its peers
 pub worked : (first ended last : MemberState) (shelf between absorbed : ShelfState) (jobs : List Job)
-    (entries : List Entry) (why stopped : Option Stopped) → HasDone first shelf.objects jobs entries ended
-    → MemberGoesOn first ended → (n : ℕ) → n ≡ length entries → (m : ℕ) → m ≡ length jobs → IfNone why (n ≡ m)
-    → IfSome why (StopsAt shelf.objects ended jobs n) → MemberGoesOn ended last → doings last ≡ doings ended → IsMember last
-    → (replica : ℕ) → replica ≡ last.replica → between.objects ≡ shelf.objects → absorbed.objects ≡ between.objects
-    → (stopped ≡ None → (why ≡ None) × (absorbed.view ≡ member_view last))
+    (entries : List Entry) (why stopped : Option Stopped) → HasWorked first shelf jobs entries ended between
+    → (n : ℕ) → n ≡ length entries → EndsJobs why shelf.objects ended jobs n → MemberGoesOn ended last
+    → doings last ≡ doings ended → IsMember last → (replica : ℕ) → replica ≡ last.replica
+    → absorbed.objects ≡ between.objects → (stopped ≡ None → (why ≡ None) × (absorbed.view ≡ member_view last))
     → IfSome stopped (λ w. (w ≡ cause.Memory) ⊎ (why ≡ Some w))
     → IsWorked first shelf jobs replica last absorbed entries stopped
-worked first ended last shelf between absorbed jobs entries why stopped done goes n n_is m m_is all stop then same is replica named kept kept_too none some = record {
+worked first ended last shelf between absorbed jobs entries why stopped so_far n n_is ends then same is replica named kept none some = record {
   is = is;
   named = named;
-  goes = goes_on_then first ended last goes then;
-  done = keeps_done first shelf.objects jobs entries ended last done then;
-  objects = kept_too ∙ kept;
-  all = λ e. sym n_is ∙ subst (λ (o : Option Stopped). IfNone o (n ≡ m)) (none e).0 all ∙ m_is;
+  goes = goes_on_then first ended last so_far.goes then;
+  done = keeps_done first shelf.objects jobs entries ended last so_far.done then;
+  objects = kept ∙ so_far.objects;
+  all = λ e. sym n_is ∙ subst (λ (o : Option Stopped). IfNone o (n ≡ length jobs)) (none e).0 ends.all;
   shown = λ e. (none e).1;
   stop = reason stopped some;
 }
@@ -135,5 +134,5 @@ worked first ended last shelf between absorbed jobs entries why stopped done goe
     reason None h = h
     reason (Some w) (inl e) = inl e
     reason (Some w) (inr e) =
-        let at = subst (λ (o : Option Stopped). IfSome o (StopsAt shelf.objects ended jobs n)) e stop in
+        let at = subst (λ (o : Option Stopped). IfSome o (StopsAt shelf.objects ended jobs n)) e ends.stop in
         inr (at.0, ap (slice_get jobs) (sym n_is) ∙ at.1, fits_still ended last same shelf.objects at.0 w at.2)

@@ -22,12 +22,14 @@ use Rattle.la_runner.specs.declared.member.Member.TheInside.{Inside}
 use Rattle.la_runner.specs.Certificates.{passes_seen_at, mine_at, HasCertificate, HasOwnCertificate}
 use Rattle.la_runner.specs.Fields.{stands_for}
 use Rattle.la_runner.specs.Following.{acceptors_of}
-use Rattle.la_runner.specs.Instances.{InstanceState, state_of, with_update, InstanceSteps, IsComplete, IsUpdated}
+use Rattle.la_runner.specs.Instances.{InstanceState, state_of, with_update, InstanceSteps, IsComplete}
+use Rattle.la_runner.specs.InstanceCalls.{IsLearntNow, LearnsUpdate}
 use Rattle.la_runner.specs.Invariant.{IsIn, IsMember}
-use Rattle.la_runner.specs.Members.{MemberState, InMemberInstance, passes_of, passes_in, submitted_of, member_submitted, is_asking_of, number_of, instance_learnt, member_learnt, instance_view, MemberGoesOn, IsOnlyIn, IsLearntIn, IsUpdateOf}
+use Rattle.la_runner.specs.Members.{MemberState, InMemberInstance, passes_of, passes_in, submitted_of, member_submitted, is_asking_of, is_asking_in, number_of, instance_learnt, member_learnt, instance_view, member_view, MemberGoesOn, IsOnlyIn, IsLearntIn, IsUpdateOf}
 use Rattle.la_runner.specs.Participants.{IsMemberParticipant}
 use Rattle.la_runner.specs.declared.error.RunnerError.{RunnerError}
 use Rattle.la_runner.specs.Refusals.{IsRoundsRefusal, KeepsCounted, IsInstanceRefusal, IsMemberSubmissionRefusal, IsUpdateRefusal, IsRefusedRounds, IsRefusedUpdate, IsRefusedResume}
+use Rattle.la_runner.specs.Rounds.{IsLarger}
 use Rattle.la_runner.proofs.Passing.{get-set_same, get-set_other, map-set_other, prefix_trans}
 
 -- ## One item of a list goes on
@@ -216,16 +218,21 @@ module _ (m : MemberState) (i : ℕ) (x y : InstanceState) (at : slice_get m.ins
       (sym at) (refused_rounds rounds (start x) e h)
 
 module _ (m : MemberState) (x y : InstanceState) (at : slice_get m.instances 0 ≡ Some x)
-    (votes : x.proposer.votes ≡ m.votes) (own : x.proposer.own ≡ m.replica) (s : Histories) where
-  pub update_of : IsUpdated x y s → y.learnt ≡ Some s → y.view ≡ s → IsUpdateOf m (with_instance m 0 y) s
-  update_of u last seen = record {
-    learnt = learnt_in m 0 x y at votes own s u.complete last;
-    contains =
-        λ t h.
-        u.contains t
-        (subst (λ (z : List ℕ × List Known). HasCertificate z.0 z.1 t) (λ k. (sym votes k, ap passes_of at k)) h);
-    view = ap instance_view (get-set_same m.instances 0 y (slice_get_within m.instances 0 x at)) ∙ seen;
-  }
+    (votes : x.proposer.votes ≡ m.votes) (own : x.proposer.own ≡ m.replica) where
+  pub update_of : (rounds : ℕ) (d : ObjectOp) (end : Learned × ℕ)
+      → all_submitted y.proposer ≡ all_submitted x.proposer ++ d ∷ [] → LearnsUpdate rounds x y end
+      → IsUpdateOf d m (with_instance m 0 y) end.0.updates
+  update_of rounds d end submitted u =
+      let now = get-set_same m.instances 0 y (slice_get_within m.instances 0 x at) in
+      record {
+        submitted = ap submitted_of now ∙ submitted ∙ ap (λ l. l ++ d ∷ []) (sym (ap submitted_of at));
+        learnt = learnt_in m 0 x y at votes own end.0.updates u.updated.complete u.last;
+        contains =
+            λ t h.
+            u.updated.contains t
+            (subst (λ (z : List ℕ × List Known). HasCertificate z.0 z.1 t) (λ k. (sym votes k, ap passes_of at k)) h);
+        view = ap instance_view now ∙ u.view;
+      }
 
 -- ## The same of a member's fields
 
@@ -309,7 +316,7 @@ module _ (m : Inside) (x y : Instance) (at : slice_get m.instances.items 0 ≡ S
       ap (λ l. slice_get l 0) (map_set state_of m.instances.items 0 y)
       ∙ there (stands_for m) 0 (state_of x) (state_of y) (state_at m 0 x y at)
 
-  pub submitted_after : (d : ObjectOp) (n : MemberState) → stands_for m ≡ n
+  submitted_after : (d : ObjectOp) (n : MemberState) → stands_for m ≡ n
       → all_submitted y.proposer ≡ all_submitted x.proposer ++ d ∷ []
       → member_submitted (with_state m 0 y) 0 ≡ member_submitted n 0 ++ d ∷ []
   submitted_after d n e h =
@@ -346,13 +353,30 @@ module _ (m : Inside) (x y : Instance) (at : slice_get m.instances.items 0 ≡ S
       → IsInstanceRefusal rounds (state_of x) (state_of y) e → IsRefusedResume rounds n (with_state m 0 y) e
   refused_resume rounds n same e h = refused_first (λ z. z) rounds n same e h
 
+  -- whether a ballot is open
+  pub asking_first : (n : MemberState) → stands_for m ≡ n → is_asking_in n 0 ≡ x.proposer.is_asking
+  asking_first n same = ap (λ z. is_asking_in z 0) (sym same) ∙ ap is_asking_of (state_at m 0 x y at)
+
   -- what a resumption gives, if it gives a learning
   pub resumed_of : (n : MemberState) → stands_for m ≡ n → IsMember (stands_for m) → (end : Option Learned)
-      → IfSome end (λ l. IsComplete (state_of x) (state_of y) l.updates) → IfSome end (λ l. y.learnt ≡ Some l.updates)
+      → IfSome end (λ l. IsLearntNow (state_of x) (state_of y) l.updates)
       → IfSome end (λ l. IsLearntIn 0 n (with_state m 0 y) l.updates)
-  resumed_of n same is None complete last = tt
-  resumed_of n same is (Some l) complete last =
+  resumed_of n same is None now = tt
+  resumed_of n same is (Some l) now =
       let of = is_in m 0 x y at is in
       subst (λ (z : MemberState × MemberState). IsLearntIn 0 z.0 z.1 l.updates)
       (λ k. (same k, sym (with_state_is m 0 x y at) k))
-      (learnt_in (stands_for m) 0 (state_of x) (state_of y) (state_at m 0 x y at) of.1 of.2 l.updates complete last)
+      (learnt_in (stands_for m) 0 (state_of x) (state_of y) (state_at m 0 x y at) of.1 of.2 l.updates now.complete
+      now.last)
+
+  -- and the view is then the larger one
+  pub resumed_view : (n : MemberState) → stands_for m ≡ n → (end : Option Learned)
+      → IfSome end (λ l. IsLearntNow (state_of x) (state_of y) l.updates)
+      → IfSome end (λ l. IsLarger l.updates (member_view n) (member_view (with_state m 0 y)))
+  resumed_view n same None now = tt
+  resumed_view n same (Some l) now =
+      subst (λ (z : Histories × Histories). IsLarger l.updates z.0 z.1)
+      (λ k. (
+        (sym (ap instance_view (state_at m 0 x y at)) ∙ ap member_view same) k,
+        sym (ap instance_view there_now) k,
+      )) now.larger

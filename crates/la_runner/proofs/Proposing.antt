@@ -66,6 +66,15 @@ acceptors_at m n group rows i x r same of rows_are at r_is lt =
     acceptors_there (map state_of m.instances.items) rows names i (state_of x) r
     (get_map state_of m.instances.items i x at) (item_at rows i r (omega (arith, long, within, lt)) r_is)
 
+-- of the first instance
+pub acceptors_first : (m : Inside) (n : MemberState) (group : GroupState) (rows : List Row) (x : Instance) (r : Row)
+    → stands_for m ≡ n → IsMember (stands_for m) → IsOfGroup group n
+    → map (λ r. r.acceptors.items) rows ≡ group.acceptors → slice_get m.instances.items 0 ≡ Some x
+    → r ≡ slice_index_or rows 0 r → acceptors_of x.passes.items ≡ r.acceptors.items
+acceptors_first m n group rows x r same is of rows_are at r_is =
+    acceptors_at m n group rows 0 x r same of rows_are at r_is
+    (subst (λ (z : MemberState). 0 < length z.instances) same (let some = is.some in omega (arith, some)))
+
 pub of_after : (group : GroupState) (old new : MemberState) → IsOfGroup group old → MemberGoesOn old new → IsOfGroup group new
 of_after group old new of go = record { votes = go.votes ∙ of.votes; acceptors = go.acceptors ∙ of.acceptors }
 

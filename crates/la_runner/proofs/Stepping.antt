@@ -18,6 +18,7 @@ use Rattle.la_runner.specs.Sound.{IsSound, IsView}
 use Rattle.la_runner.specs.Heard.{Answered, Hears, HearsMost}
 use Rattle.la_runner.specs.Following.{FollowsProposer, Goes, SubmitsNothing, IsLearnt}
 use Rattle.la_runner.specs.Instances.{InstanceState, IsLearntSet, IsInstance, InstanceSteps, IsComplete, IsUpdated}
+use Rattle.la_runner.specs.InstanceCalls.{LearnsIn, LearnsUpdate}
 use Rattle.la_runner.specs.Rounds.{IsLarger}
 use Rattle.la_runner.specs.Refusals.{IsRoundOfferRefusal, IsRoundsRefusal, MayMiss, IsInstanceRefusal, IsUpdateRefusal}
 use Rattle.la_runner.specs.declared.error.RunnerError.{RunnerError}
@@ -218,28 +219,18 @@ module _ (x : InstanceState) (q : ProposerState) (d : ObjectOp) (is : IsInstance
 
   module _ (y : InstanceState) (rounds : ℕ) (result : Result (Learned × ℕ) RunnerError)
       (steps : InstanceSteps submitted_instance y) (nothing : SubmitsNothing q y.proposer) where
-    pub updated_of : IfOk result (λ end. IsLearnt q x.passes y.passes end.0.ballot end.0.updates)
-        → IfOk result (λ end. IsComplete submitted_instance y end.0.updates)
-        → IfOk result (λ end. IsUpdated x y end.0.updates)
-    updated_of learnt complete = go result learnt complete
+    pub learns_update : IfOk result (LearnsIn rounds submitted_instance y) → IfOk result (LearnsUpdate rounds x y)
+    learns_update learns = go result learns
       where
-        go : (r : Result (Learned × ℕ) RunnerError)
-            → IfOk r (λ end. IsLearnt q x.passes y.passes end.0.ballot end.0.updates)
-            → IfOk r (λ end. IsComplete submitted_instance y end.0.updates) → IfOk r (λ end. IsUpdated x y end.0.updates)
-        go (Ok end) l c = updated y end.0.ballot end.0.updates steps nothing l c
-        go (Err e) l c = tt
-
-    pub view_of : IfOk result (λ end. IsLearnt q x.passes y.passes end.0.ballot end.0.updates)
-        → IfOk result (λ end. IsComplete submitted_instance y end.0.updates)
-        → IfOk result (λ end. IsLarger end.0.updates x.view y.view) → IfOk result (λ end. y.view ≡ end.0.updates)
-    view_of learnt complete larger = go result learnt complete larger
-      where
-        go : (r : Result (Learned × ℕ) RunnerError)
-            → IfOk r (λ end. IsLearnt q x.passes y.passes end.0.ballot end.0.updates)
-            → IfOk r (λ end. IsComplete submitted_instance y end.0.updates)
-            → IfOk r (λ end. IsLarger end.0.updates x.view y.view) → IfOk r (λ end. y.view ≡ end.0.updates)
-        go (Ok end) l c g = updated_view y end.0.ballot end.0.updates steps nothing l c g
-        go (Err e) l c g = tt
+        go : (r : Result (Learned × ℕ) RunnerError) → IfOk r (LearnsIn rounds submitted_instance y)
+            → IfOk r (LearnsUpdate rounds x y)
+        go (Ok end) l = record {
+          updated = updated y end.0.ballot end.0.updates steps nothing l.learnt l.now.complete;
+          view = updated_view y end.0.ballot end.0.updates steps nothing l.learnt l.now.complete l.now.larger;
+          last = l.now.last;
+          left = l.left;
+        }
+        go (Err e) l = tt
 
     pub refused_of : IfErr result (IsInstanceRefusal rounds submitted_instance y)
         → IfErr result (IsUpdateRefusal rounds d x y)

@@ -12,10 +12,10 @@ use Rattle.la_proposer.proofs.lemmas.Theorems.{majorities_meet}
 use Rattle.la_proposer.specs.ProposerState.{ProposerState}
 use Rattle.la_runner.specs.Certificates.{HasCertificate}
 use Rattle.la_runner.specs.Sound.{IsView, IsPassAt}
-use Rattle.la_runner.specs.Following.{Goes, IsLearnt}
+use Rattle.la_runner.specs.Following.{Goes, IsLearnt, IsOpenOrWhole}
 use Rattle.la_runner.specs.declared.instance.Learning.{Learning}
 use Rattle.la_runner.specs.declared.learned.Learned.{Learned}
-use Rattle.la_runner.specs.Rounds.{IsLarger, IsOpenAfter, IsViewOf, IsLastAfter}
+use Rattle.la_runner.specs.Rounds.{IsLarger, IsOpenAfter, IsViewOf, IsLastAfter, IsLastLearned}
 use Rattle.la_runner.proofs.Certified.{own_certificate, certificates_compare}
 use Rattle.la_runner.proofs.Going.{view_stays}
 
@@ -115,3 +115,13 @@ larger_then end l v w e h = subst (λ z. IsViewOf z v w) e h
 pub last_then : (end : Option Learning) (l : Learning) (old new : Option Histories) → end ≡ Some l
     → IsLastAfter end old new → new ≡ Some l.updates
 last_then end l old new e h = subst (λ z. IsLastAfter z old new) e h
+
+-- the same of a round that did, by what a caller is told
+pub answer_last : (end : Option Learned) (l : Learned) (old new : Option Histories) → end ≡ Some l
+    → IsLastLearned end old new → new ≡ Some l.updates
+answer_last end l old new e h = subst (λ z. IsLastLearned z old new) e h
+
+-- what a round that learnt left open
+pub some_open : (end : Option Learning) (l : Learning) (A : Type 0) (q : ProposerState) → end ≡ Some l
+    → (A → IsOpenAfter (Ok end) q) → A → IsOpenOrWhole q l.updates
+some_open end l A q e h a = subst (λ z. IsOpenAfter (Ok z) q) e (h a)

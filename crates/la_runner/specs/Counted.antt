@@ -3,6 +3,8 @@ use Rattle.std.specs.Prelude.{◌≡◌, ℕ, ◌==◌, Bool, false, not, ◌&&�
 use Rattle.la_proposer.specs.Majority.{how_many}
 use Rattle.la_set.specs.Histories.{Histories}
 use Rattle.la_set.specs.Inclusion.{is_subset}
+use Rattle.la_runner.specs.declared.log.Log.{Log}
+use Rattle.la_runner.specs.Members.{member_view}
 
 -- what of a log counts: which replica it is, of which replicas, by number, it took a note, and its
 -- final view
@@ -13,6 +15,10 @@ pub record Taker : Type 0 where
 
 abbrev pub taker : ℕ → List Bool → Histories → Taker
 taker r taken v = record { replica = r; taken = taken; view = v }
+
+-- of a log as the code has it
+abbrev pub log_taker : {B : Type 0} → Log B → Taker
+log_taker l = taker l.replica l.taken (member_view l.member)
 
 -- the first took a note of the second, and its view contains the other's
 abbrev pub has_met : Taker → Taker → Bool

@@ -1,5 +1,5 @@
 -- What the entries of a log say of the jobs that they answer.
-use Rattle.std.specs.Prelude.{◌≡◌, ◌⊎◌, ℕ, ◌+◌, ◌<◌, Bool, true, false, List, length, take, count_by, slice_get, Option, Some, None}
+use Rattle.std.specs.Prelude.{◌≡◌, ◌⊎◌, ℕ, ◌+◌, ◌<◌, Bool, true, false, List, length, take, count_by, slice_get, cond, Option, Some, None, IfSome, IfNone}
 use Rattle.la_commit.specs.declared.outcome.Outcome.{Outcome}
 use Rattle.la_commit.specs.Instances.{first_instance, second_instance}
 use Rattle.la_commit.specs.Outcomes.{outcome}
@@ -103,3 +103,25 @@ pub record HasDone (first : MemberState) (objects : List (ℕ × Kind)) (jobs : 
 abbrev pub StopsAt : List (ℕ × Kind) → MemberState → List Job → (done : ℕ) → Stopped → Type 0
 StopsAt objects m jobs done why =
     (j : Job) × (slice_get jobs done ≡ Some j) × StopFits objects m j why
+
+-- ## One job, and all of them
+
+-- an update was submitted, and its entry answers it: the set that the entry names is the view
+pub record DoesUpdate (old new : MemberState) (object : ℕ) (op : Op) (e : Entry) : Type 0 where
+  pub answers : AnswersUpdate new (length (member_submitted old 0) + 1) object op e
+  pub names : entry_set e ≡ Some (member_view new)
+  pub submitted : length (member_submitted new 0) ≡ length (member_submitted old 0) + 1
+
+-- an entry answers a job: the set that it names, if any, is the view, and only an update was submitted
+pub record DoesJob (old : MemberState) (objects : List (ℕ × Kind)) (job : Job) (new : MemberState) (e : Entry) :
+    Type 0 where
+  pub answers : AnswersJob new (length (member_submitted old 0) + 1) objects job e
+  pub names : IfSome (entry_set e) (λ s. s ≡ member_view new)
+  pub submitted :
+      length (member_submitted new 0) ≡ length (member_submitted old 0) + cond (is_update_job job) 1 0
+
+-- where nothing stopped them, as many entries answer the jobs as there are; else the reason fits the next job
+pub record EndsJobs (stopped : Option Stopped) (objects : List (ℕ × Kind)) (m : MemberState) (jobs : List Job)
+    (done : ℕ) : Type 0 where
+  pub all : IfNone stopped (done ≡ length jobs)
+  pub stop : IfSome stopped (StopsAt objects m jobs done)

@@ -1,5 +1,4 @@
 pub mod Certificates
-pub mod Asking
 pub mod Sound
 pub mod Heard
 pub mod Following
@@ -9,6 +8,9 @@ pub mod Members
 pub mod Participants
 pub mod Invariant
 pub mod Refusals
+pub mod Asking
+pub mod InstanceCalls
+pub mod MemberCalls
 pub mod Notes
 pub mod Fields
 pub mod Starting

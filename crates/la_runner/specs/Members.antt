@@ -1,5 +1,5 @@
 -- What a contract sees of a group and of its members.
-use Rattle.std.specs.Prelude.{◌≡◌, ◌≢◌, ℕ, Bool, false, List, [], map, slice_get, Option, Some, None, IsSomeAnd}
+use Rattle.std.specs.Prelude.{◌≡◌, ◌≢◌, ℕ, Bool, false, List, [], ◌∷◌, ◌++◌, map, slice_get, Option, Some, None, IsSomeAnd}
 use mathlib.Core.List.{IsPrefix}
 use Rattle.la_set.specs.ObjectOps.{ObjectOp}
 use Rattle.la_set.specs.Histories.{Histories, history, empty}
@@ -120,8 +120,9 @@ pub record IsLearntIn (instance : ℕ) (old new : MemberState) (s : Histories) :
   pub contains_own : (t : Histories) → IsOwnCertified old instance t → IsSubset t s
   pub last : member_learnt new instance ≡ Some s
 
--- of an update: it contains each set that had a certificate at the call
-pub record IsUpdateOf (old new : MemberState) (s : Histories) : Type 0 where
+-- of an update: it is submitted, and the set contains each one that had a certificate at the call, and is the view
+pub record IsUpdateOf (update : ObjectOp) (old new : MemberState) (s : Histories) : Type 0 where
+  pub submitted : member_submitted new 0 ≡ member_submitted old 0 ++ update ∷ []
   pub learnt : IsLearntIn 0 old new s
   pub contains : (t : Histories) → IsCertified old 0 t → IsSubset t s
   pub view : member_view new ≡ s

@@ -7,7 +7,10 @@ use Rattle.la_runner.specs.declared.jobs.Entry.{Entry}
 use Rattle.la_runner.specs.declared.jobs.Job.{Job}
 use Rattle.la_runner.specs.declared.jobs.Stopped.{Stopped}
 use Rattle.la_runner.specs.declared.jobs.Stopped.TheVariants.{Memory}
+use Rattle.la_runner.specs.declared.letter.Naming as letter
+use Rattle.la_runner.specs.declared.log.Log.{Log}
 use Rattle.la_runner.specs.declared.log.RunError.{RunError}
+use Rattle.la_runner.specs.declared.work.Work.{Work}
 use Rattle.la_runner.specs.declared.log.RunError.TheVariants.{BadConfig, NoThread, Memory as RunMemory}
 use Rattle.la_runner.specs.Entries.{HasDone, StopsAt}
 use Rattle.la_runner.specs.Invariant.{IsMember}
@@ -17,6 +20,20 @@ use Rattle.la_runner.specs.Members.{MemberState, GroupState, IsOfGroup, MemberGo
 pub record IsReadyMember (group : GroupState) (m : MemberState) (shelf : ShelfState) : Type 0 where
   pub of : IsOfGroup group m
   pub behind : IsSubset shelf.view (member_view m)
+
+-- the member goes on beside its shelf, which keeps its objects and absorbs no more than the member's view
+pub record GoesOnBeside (m : MemberState) (shelf : ShelfState) (n : MemberState) (last : ShelfState) : Type 0 where
+  pub goes : MemberGoesOn m n
+  pub objects : last.objects ≡ shelf.objects
+  pub within : IsSubset last.view (member_view n)
+
+-- it has gone on so, and the entries answer the first jobs
+pub record HasWorked (first : MemberState) (shelf : ShelfState) (jobs : List Job) (entries : List Entry)
+    (m : MemberState) (last : ShelfState) : Type 0 where
+  pub goes : MemberGoesOn first m
+  pub objects : last.objects ≡ shelf.objects
+  pub within : IsSubset last.view (member_view m)
+  pub done : HasDone first shelf.objects jobs entries m
 
 -- what comes back of a member, its shelf and its jobs: the member has gone on, the entries answer the
 -- first jobs in order; without a reason to stop they answer all, and the shelf's view is the
@@ -70,6 +87,14 @@ pub record Back : Type 0 where
 abbrev pub back_of : (replica : ℕ) → MemberState → ShelfState → List Entry → Option Stopped → Back
 back_of r m s es why = record { replica = r; member = m; shelf = s; entries = es; stopped = why }
 
+-- of a log as the code has it
+abbrev pub log_back : {B : Type 0} → Log B → Back
+log_back l = back_of l.replica l.member l.shelf l.entries l.stopped
+
+-- the log that a worker hands back of its work
+abbrev pub IsLogOf : {J B : Type 0} {named : letter.Ghosts J} → Work J B named → Log B → Type 0
+IsLogOf w l = IsWorked w.member w.shelf w.jobs.items l.replica l.member l.shelf l.entries l.stopped
+
 -- the log of a member, a shelf and jobs
 abbrev pub IsBackOf : Place → Back → Type 0
 IsBackOf p b = IsWorked p.member p.shelf p.jobs b.replica b.member b.shelf b.entries b.stopped
@@ -89,6 +114,10 @@ pub record IsRunConfig (replicas members jobs : ℕ) (shelves : List ShelfState)
   pub each_jobs : jobs ≡ replicas
   pub each_shelf : length shelves ≡ replicas
   pub unused : All (λ (s : ShelfState). s.view ≡ empty) shelves
+
+-- these are of a run of the group
+abbrev pub IsRunOf : GroupState → List MemberState → List ShelfState → (jobs : List (List Job)) → Type 0
+IsRunOf group members shelves jobs = IsRunConfig (length group.votes) (length members) (length jobs) shelves
 
 abbrev pub IsRunRefusal : (config : Type 0) → RunError → Type 0
 IsRunRefusal config BadConfig = ¬ config

@@ -1,12 +1,15 @@
 -- Groups and members in which nothing has happened.
-use Rattle.std.specs.Prelude.{◌≡◌, ℕ, ◌+◌, ◌*◌, ◌≤◌, List, [], ◌∷◌, All, map, length, slice_get, Some, None, ◌==◌, if◌then◌else◌}
+use Rattle.std.specs.Prelude.{◌≡◌, ℕ, ◌+◌, ◌*◌, ◌≤◌, List, [], ◌∷◌, All, map, length, reverse, slice_get, Some, None, ◌==◌, if◌then◌else◌}
 use Rattle.la_set.specs.Histories.{empty}
 use Rattle.la_commit.specs.declared.instance.TheConstants.{MAX_COMMITS}
+use Rattle.la_proposer.specs.declared.proposer.TheConstants.{MAX_CAP}
 use Rattle.la_proposer.specs.Groups.{IsGroupOf}
 use Rattle.la_proposer.specs.ProposerState.{start}
 use Rattle.la_shared.specs.Passes.{Known, AcceptorName}
 use Rattle.la_runner.specs.declared.error.RunnerError.{RunnerError}
 use Rattle.la_runner.specs.declared.error.RunnerError.TheVariants.{BadConfig, NoSuchCommit, AlreadyProposed, Clash, Full, BallotsSpent, NoMajority, TryAgain, Memory}
+use Rattle.la_runner.specs.declared.group.Row.{Row}
+use Rattle.la_runner.specs.declared.starting.Firsts.{Firsts}
 use Rattle.la_runner.specs.Instances.{InstanceState}
 use Rattle.la_runner.specs.Members.{MemberState, GroupState, IsOfGroup}
 
@@ -38,6 +41,28 @@ abbrev pub AreMembersFrom : GroupState → (cap replica : ℕ) → List MemberSt
 AreMembersFrom group cap r [] = Unit {0}
 AreMembersFrom group cap r (m ∷ ms) =
     IsNewMember group cap r m × AreMembersFrom group cap (r + 1) ms
+
+-- a group of these rows of acceptors
+abbrev pub group_of_rows : (votes : List ℕ) → List Row → GroupState
+group_of_rows votes rows = record { votes = votes; acceptors = map (λ r. r.acceptors.items) rows }
+
+-- first passes of all acceptors, in rows, which have seen nothing and made no offer
+abbrev pub AreFirsts : List Firsts → List Row → Type 0
+AreFirsts firsts rows = map (λ f. f.passes.items) firsts ≡ map (λ r. map newcomer r.acceptors.items) rows
+
+-- members with these votes and this cap may be made over these rows, by these first passes
+pub record MayMakeMembers (votes : List ℕ) (cap : ℕ) (rows : List Row) (firsts : List Firsts) : Type 0 where
+  pub few : length votes ≤ 8
+  pub some : 1 ≤ cap
+  pub most : cap ≤ MAX_CAP
+  pub one : 1 ≤ length rows
+  pub instances : length rows ≤ 2 * MAX_COMMITS + 1
+  pub sizes : All (λ r. length r.acceptors.items ≡ length votes) rows
+  pub firsts_are : AreFirsts firsts rows
+
+-- the members of the group of these rows, the last one first
+abbrev pub AreMembersOf : (votes : List ℕ) → (cap : ℕ) → List Row → List MemberState → Type 0
+AreMembersOf votes cap rows made = AreMembersFrom (group_of_rows votes rows) cap 0 (reverse made)
 
 -- the values of a group are in their ranges
 abbrev pub IsRunnerConfig : (replicas commits cap : ℕ) → (votes : List ℕ) → Type 0

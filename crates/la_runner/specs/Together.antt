@@ -1,5 +1,6 @@
 -- What the members of a run know together, once all have come back.
-use Rattle.std.specs.Prelude.{◌≡◌, ◌⊎◌, ℕ, ◌+◌, true, List, [], All, length, slice_get, Some, None, IsSome}
+use Rattle.std.specs.Prelude.{◌≡◌, ◌⊎◌, ℕ, ◌+◌, true, List, [], All, map, length, slice_get, Some, None, IsSome}
+use Rattle.std.specs.List.{AllZip}
 use mathlib.Core.List.{IsPrefix}
 use Rattle.la_commit.specs.declared.outcome.Outcome.{Outcome}
 use Rattle.la_commit.specs.declared.outcome.Outcome.TheVariants.{Commit}
@@ -15,14 +16,16 @@ use Rattle.la_set.specs.Inclusion.{IsSubset, AreComparable}
 use Rattle.la_runner.specs.declared.jobs.Entry.{Entry}
 use Rattle.la_runner.specs.declared.jobs.Entry.TheVariants.{Decided}
 use Rattle.la_runner.specs.declared.jobs.Job.TheVariants.{Decide}
+use Rattle.la_runner.specs.declared.log.Log.{Log}
 use Rattle.la_runner.specs.Certificates.{passes_seen_at}
+use Rattle.la_runner.specs.Counted.{log_taker, NotesCount}
 use Rattle.la_runner.specs.Entries.{entry_set, IsKnownTo}
 use Rattle.la_runner.specs.Invariant.{IsMember}
 use Rattle.la_runner.specs.Laws.{InventsNothing}
 use Rattle.la_runner.specs.Members.{MemberState, MemberGoesOn, passes_in, member_submitted, member_view}
 use Rattle.la_runner.specs.Notes.{doings}
 use Rattle.la_runner.specs.Participants.{HasProposed}
-use Rattle.la_runner.specs.Runs.{Back, Place}
+use Rattle.la_runner.specs.Runs.{Back, Place, IsBackOf, log_back}
 use Rattle.la_runner.specs.Sound.{IsMemberSubmission}
 
 -- the second is of the first's group, and has seen what the first has
@@ -195,3 +198,17 @@ abbrev pub DecisionsAreTheirs : List Place → List Back → Type 0
 DecisionsAreTheirs given logs =
     (k : ℕ) → ((d : Decision) → IsMadeAt given logs k d → HasTheirVotes given logs k d.second)
     → IsTheirs given logs k
+
+-- ## All of it
+
+-- what the logs of a run keep, whatever the threads did: of members, shelves and jobs that were given place by place
+pub record KeepsRun {B : Type 0} (given : List Place) (logs : List (Log B)) : Type 0 where
+  pub each : AllZip IsBackOf given (map log_back logs)
+  pub comparable : AllComparable (map log_back logs)
+  pub honest : All (λ l. IsHonest l.member) logs
+  pub decisions : DecisionsCompare given (map log_back logs)
+  pub agreed : DecisionsAgree given (map log_back logs)
+  pub theirs : DecisionsAreTheirs given (map log_back logs)
+  pub counted : NotesCount (map (λ l. l.notes) logs) (map log_taker logs)
+  pub notes : NotesHold (map (λ l. l.notes) logs) (map log_back logs)
+  pub alike : NotesAgree (map (λ l. l.notes) logs) (map log_back logs)

@@ -1,15 +1,16 @@
 // A member as a participant of adopt-commit objects: it votes in the one instance of an object, and
 // then in the other, as the set that it learnt in the first leads to.
-ghost use Rattle.std.specs.Prelude.{◌≡◌, ◌<◌, ◌≤◌, Some, length, IfOk, IfErr, IsSome, IfSome, option_and_then};
+ghost use Rattle.std.specs.Prelude.{◌≡◌, ◌<◌, Some, IfOk, IfErr, option_and_then};
 ghost use Rattle.la_commit.specs.declared.instance.TheConstants.{MAX_COMMITS};
 ghost use Rattle.la_commit.specs.Instances.{first_instance};
 ghost use Rattle.la_commit.specs.Votes.{second_vote};
-ghost use Rattle.la_runner.specs.Following.{acceptors_of};
-ghost use Rattle.la_runner.specs.Instances.{state_of, IsInstance, InstanceSteps, MayCast, HasCast};
+ghost use Rattle.la_runner.specs.InstanceCalls.{IsVoterInstanceOf, VotesIn};
+ghost use Rattle.la_runner.specs.Instances.{state_of};
 ghost use Rattle.la_runner.specs.Invariant.{IsMember};
-ghost use Rattle.la_runner.specs.Members.{IsOfGroup, MemberGoesOn, IsOnlyIn, member_learnt};
-ghost use Rattle.la_runner.specs.Participants.{HasCommit, HasOther, HasVotedSet, IsDecision, MayVote, member_outcome, IsOnlyAt};
-ghost use Rattle.la_runner.specs.Refusals.{IsVoteRefusal, IsVoteError, IsRefusedVote, IsProposalRefusal, IsRefusedDecision};
+ghost use Rattle.la_runner.specs.MemberCalls.{GoesOnAt, MayVoteIn, VotesAt};
+ghost use Rattle.la_runner.specs.Members.{IsOfGroup, member_learnt};
+ghost use Rattle.la_runner.specs.Participants.{HasCommit, HasOther, IsDecision, member_outcome};
+ghost use Rattle.la_runner.specs.Refusals.{IsProposalRefusal, IsRefusedDecision};
 
 use crate::instance::Instance;
 use crate::{Group, Member, RunnerError};
@@ -34,18 +35,8 @@ impl Instance {
         rounds: u32,
         gate: &G,
     ) -> Result<u32, RunnerError>
-        requires is { IsInstance (state_of self.old) }
-        requires acceptors { acceptors_of self.old.passes.items ≡ acceptors.now }
-        requires own { own ≡ self.old.proposer.own }
-        requires may { MayCast commit vote (state_of self.old) }
-        ensures steps { InstanceSteps (state_of self.old) (state_of self.new) }
-        ensures cast { IfOk result (λ left. HasCast commit vote (state_of self.new)) }
-        ensures once { MayCast commit vote (state_of self.new) }
-        ensures stays { IsSome self.old.learnt → state_of self.new ≡ state_of self.old }
-        ensures left { IfOk result (λ left. left ≤ rounds) }
-        ensures error { IfErr result
-            (IsVoteRefusal rounds commit vote (state_of self.old) (state_of self.new)) }
-        ensures kind { IfErr result IsVoteError }
+        requires { IsVoterInstanceOf acceptors.now own commit vote (state_of self.old) }
+        ensures { VotesIn rounds commit vote result (state_of self.old) (state_of self.new) }
     {
         if self.learnt.is_some() {
             return Ok(rounds);
@@ -112,17 +103,8 @@ impl Group {
         rounds: u32,
         gate: &G,
     ) -> Result<u32, RunnerError>
-        requires of { IsOfGroup self.now member.old }
-        requires within { instance < length member.old.instances }
-        requires may { MayVote commit vote instance member.old }
-        ensures of { IsOfGroup self.now member.new }
-        ensures goes_on { MemberGoesOn member.old member.new }
-        ensures only { IsOnlyIn instance member.old member.new }
-        ensures voted { IfOk result (λ left. HasVotedSet member.new instance vote) }
-        ensures left { IfOk result (λ left. left ≤ rounds) }
-        ensures error { IfErr result
-            (IsRefusedVote rounds commit vote instance member.old member.new) }
-        ensures kind { IfErr result IsVoteError }
+        requires { MayVoteIn self.now commit vote instance member.old }
+        ensures { VotesAt self.now rounds commit vote instance result member.old member.new }
     {
         let own = member.replica;
         let at = &mut member.instances[instance as usize];
@@ -156,9 +138,7 @@ impl Group {
         gate: &G,
     ) -> Result<Outcome, RunnerError>
         requires { IsOfGroup self.now member.old }
-        ensures of { IsOfGroup self.now member.new }
-        ensures goes_on { MemberGoesOn member.old member.new }
-        ensures only { IsOnlyAt commit member.old member.new }
+        ensures goes_on { GoesOnAt self.now commit member.old member.new }
         ensures decided { IfOk result (IsDecision commit value member.new) }
         ensures outcome { IfOk result (λ reached. member_outcome member.new commit ≡ Some reached) }
         ensures error { IfErr result (IsRefusedDecision rounds commit value member.old member.new) }

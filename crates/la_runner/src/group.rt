@@ -1,10 +1,10 @@
-ghost use Rattle.std.specs.Prelude.{◌≡◌, ◌<◌, ◌≤◌, ◌∷◌, [], ◌++◌, true, false, Some, None, Ok, Err, ℕ, ◌+◌, List, length, IfOk, OnOk, IfErr, IfSome, IsSome};
+ghost use Rattle.std.specs.Prelude.{◌≡◌, [], ◌++◌, None, ℕ, ◌+◌, length, IfOk, IfErr, IfSome};
 ghost use Rattle.std.specs.Option.{option_to_list};
 ghost use Rattle.la_proposer.specs.Majority.{votes_of};
 ghost use Rattle.la_proposer.specs.ProposerState.{op_on};
-ghost use Rattle.la_runner.specs.Members.{GroupState, IsOfGroup, MemberGoesOn, IsOnlyIn, IsLearntIn, IsUpdateOf, member_submitted, is_asking_in, member_view};
+ghost use Rattle.la_runner.specs.MemberCalls.{GoesOnIn, IsResumption};
+ghost use Rattle.la_runner.specs.Members.{GroupState, IsOfGroup, IsUpdateOf, member_submitted};
 ghost use Rattle.la_runner.specs.Refusals.{IsRefusedResume, IsRefusedUpdate};
-ghost use Rattle.la_runner.specs.Rounds.{IsLarger};
 ghost use Rattle.la_runner.specs.Starting.{IsRunnerConfig, IsAcceptorGroup, IsNewMember, AreMembersFrom, IsNewRefusal};
 
 use crate::{Learned, Member, RunnerError, starting};
@@ -106,14 +106,9 @@ impl Group {
         gate: &G,
     ) -> Result<Learned, RunnerError>
         requires { IsOfGroup self.now member.old }
-        ensures of { IsOfGroup self.now member.new }
-        ensures goes_on { MemberGoesOn member.old member.new }
-        ensures only { IsOnlyIn 0 member.old member.new }
-        ensures submitted { OnOk result
-            (member_submitted member.new 0 ≡ member_submitted member.old 0 ++ op_on object op ∷ []) }
-        ensures updated { IfOk result (λ l. IsUpdateOf member.old member.new l.updates) }
-        ensures error { IfErr result
-            (IsRefusedUpdate rounds (op_on object op) member.old member.new) }
+        ensures goes_on { GoesOnIn self.now 0 member.old member.new }
+        ensures updated { IfOk result (λ l. IsUpdateOf (op_on object op) member.old member.new l.updates) }
+        ensures error { IfErr result (IsRefusedUpdate rounds (op_on object op) member.old member.new) }
     {
         let own = member.replica;
         let at = &mut member.instances[0];
@@ -140,18 +135,10 @@ impl Group {
         gate: &G,
     ) -> Result<Option<Learned>, RunnerError>
         requires { IsOfGroup self.now member.old }
-        ensures of { IsOfGroup self.now member.new }
-        ensures goes_on { MemberGoesOn member.old member.new }
-        ensures only { IsOnlyIn 0 member.old member.new }
+        ensures goes_on { GoesOnIn self.now 0 member.old member.new }
         ensures submitted { member_submitted member.new 0 ≡ member_submitted member.old 0 }
-        ensures idle { is_asking_in member.old 0 ≡ false → result ≡ Ok None }
-        ensures asking { is_asking_in member.old 0 ≡ true → IfOk result IsSome }
-        ensures learnt { IfOk result (λ end. IfSome end (λ l.
-            IsLearntIn 0 member.old member.new l.updates)) }
-        ensures view { IfOk result (λ end. IfSome end (λ l.
-            IsLarger l.updates (member_view member.old) (member_view member.new))) }
-        ensures error { IfErr result
-            (IsRefusedResume rounds member.old member.new) }
+        ensures resumed { IsResumption result member.old member.new }
+        ensures error { IfErr result (IsRefusedResume rounds member.old member.new) }
     {
         let own = member.replica;
         let at = &mut member.instances[0];

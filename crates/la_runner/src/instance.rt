@@ -1,14 +1,6 @@
-ghost use Rattle.std.specs.Prelude.{◌≡◌, ◌≢◌, true, ◌<◌, ◌≤◌, [], length, IfOk, OnOk, OnErr, IfErr, IfSome};
-ghost use Rattle.la_proposer.specs.ProposerState.{counts};
-ghost use Rattle.la_proposer.specs.Invariant.{IsProposerState};
-ghost use Rattle.la_runner.specs.Refusals.{IsRoundOfferRefusal};
-ghost use Rattle.la_runner.specs.Asking.{Asks, AsksInVain};
-ghost use Rattle.la_runner.specs.Heard.{Hears, HearsMost};
-ghost use Rattle.la_runner.specs.Sound.{IsSound};
-ghost use Rattle.la_runner.specs.Following.{acceptors_of, Goes, IsLearnt, IfLearnt, StaysOpen};
-ghost use Rattle.la_runner.specs.Rounds.{IsLast, IsOpenAfter};
-ghost use Rattle.la_shared.specs.Passes.{IsPass};
-ghost use Rattle.la_shared.specs.Bases.{HasOffers};
+ghost use Rattle.la_runner.specs.Asking.{IsAwaited, IsPassTo, StaysPass, OffersOnce};
+ghost use Rattle.la_runner.specs.InstanceCalls.{HasAcceptors, GoesOnAsking, LeavesOffer, EndsRound};
+ghost use Rattle.la_runner.specs.Instances.{state_of};
 
 use crate::RunnerError;
 use la_proposer::{Heard, Proposer, Status};
@@ -37,22 +29,10 @@ impl Instance {
         from: u8,
         gate: &G,
     ) -> Result<Heard, RunnerError>
-        requires sound { IsSound self.old.proposer self.old.passes.items }
-        requires acceptors { acceptors_of self.old.passes.items ≡ acceptors.now }
-        requires known { from < length self.old.proposer.votes }
-        requires open { counts self.old.proposer from self.old.proposer.number ≡ true }
-        ensures goes { Goes self.old.proposer self.old.passes.items self.new.proposer self.new.passes.items }
-        ensures heard { OnOk result (Hears self.old.proposer self.new.proposer
-            self.old.passes.items self.new.passes.items []) }
-        ensures missed { OnErr result (HearsMost self.old.proposer self.new.proposer
-            self.old.passes.items self.new.passes.items) }
-        ensures learnt { IfOk result (λ heard. IfLearnt heard
-            (IsLearnt self.old.proposer self.old.passes.items self.new.passes.items self.old.proposer.number)) }
-        ensures stays { IfOk result (λ heard. StaysOpen heard self.old.proposer self.new.proposer) }
-        ensures error { IfErr result IsRoundOfferRefusal }
-        ensures vain { OnErr result (self.new.proposer ≡ self.old.proposer) }
-        ensures kept { self.new.learnt ≡ self.old.learnt }
-        ensures view { self.new.view ≡ self.old.view }
+        requires of { HasAcceptors acceptors.now (state_of self.old) }
+        requires awaited { IsAwaited from self.old.proposer }
+        ensures asks { GoesOnAsking result (state_of self.old) (state_of self.new) }
+        ensures leaves { LeavesOffer result (state_of self.old) (state_of self.new) }
     {
         ask_one(
             rt,
@@ -74,21 +54,9 @@ impl Instance {
         instance: u8,
         gate: &G,
     ) -> Result<Option<Learning>, RunnerError>
-        requires sound { IsSound self.old.proposer self.old.passes.items }
-        requires acceptors { acceptors_of self.old.passes.items ≡ acceptors.now }
-        ensures goes { Goes self.old.proposer self.old.passes.items self.new.proposer self.new.passes.items }
-        ensures heard { OnOk result (Hears self.old.proposer self.new.proposer
-            self.old.passes.items self.new.passes.items []) }
-        ensures missed { OnErr result (HearsMost self.old.proposer self.new.proposer
-            self.old.passes.items self.new.passes.items) }
-        ensures learnt { IfOk result (λ end. IfSome end (λ l.
-            IsLearnt self.old.proposer self.old.passes.items self.new.passes.items l.ballot l.updates)) }
-        ensures again { IfOk result (λ end. IfSome end (λ l. l.again ≡ l.updates)) }
-        ensures last { IsLast result self.old.learnt self.new.learnt }
-        ensures open { self.old.proposer.is_asking ≡ true
-            → IsOpenAfter result self.new.proposer }
-        ensures view { self.new.view ≡ self.old.view }
-        ensures error { IfErr result IsRoundOfferRefusal }
+        requires { HasAcceptors acceptors.now (state_of self.old) }
+        ensures asks { GoesOnAsking result (state_of self.old) (state_of self.new) }
+        ensures ends { EndsRound result (state_of self.old) (state_of self.new) }
     {
         let Status::Asking(number) = self.proposer.status() else {
             return Ok(None);
@@ -134,16 +102,10 @@ fn ask_one<R: Wait, G: Gate>(
     from: u8,
     gate: &G,
 ) -> Result<Heard, RunnerError>
-    requires acceptor { pass.old.acceptor ≡ acceptor.now }
-    requires grown { HasOffers pass.old.mine proposer.old.updates }
-    requires known { from < length proposer.old.votes }
-    requires open { counts proposer.old from proposer.old.number ≡ true }
-    ensures acceptor { pass.new.acceptor ≡ pass.old.acceptor }
-    ensures pass { IsPass pass.new }
-    ensures state { OnOk result (IsProposerState proposer.new) }
-    ensures ok { IfOk result (λ heard. Asks proposer.old from pass.old heard proposer.new pass.new) }
-    ensures err { OnErr result (AsksInVain proposer.old pass.old proposer.new pass.new) }
-    ensures error { IfErr result IsRoundOfferRefusal }
+    requires pass { IsPassTo acceptor.now proposer.old pass.old }
+    requires awaited { IsAwaited from proposer.old }
+    ensures pass { StaysPass pass.old pass.new }
+    ensures offers { OffersOnce result proposer.old from pass.old proposer.new pass.new }
 {
     let Status::Asking(number) = proposer.status() else {
         return Ok(Heard::Ignored);

@@ -10,7 +10,7 @@ use std::marker::{Brand, PhantomData};
 use std::sync::Wait;
 
 // Which group it is. Each run picks it.
-pub(crate) trait Naming {
+pub(crate) trait Naming: Send + Sync {
     ghost group: { GroupState };
 }
 

@@ -1,15 +1,10 @@
 // What a member does in one instance: rounds of offers, until a set with all that it submitted is
 // learnt.
-ghost use Rattle.std.specs.Prelude.{◌≡◌, ◌⊎◌, ◌<◌, ◌∷◌, [], ◌++◌, true, false, Some, None, Ok, IfOk, OnOk, OnErr, IfErr, IfSome, IsSome};
-ghost use Rattle.la_set.specs.Histories.{history};
-ghost use Rattle.la_set.specs.Inclusion.{IsSubset};
+ghost use Rattle.std.specs.Prelude.{IfOk};
 ghost use Rattle.la_proposer.specs.ProposerState.{op_on};
-ghost use Rattle.la_proposer.specs.Inputs.{all_submitted};
-ghost use Rattle.la_runner.specs.Heard.{Hears, HearsMost};
-ghost use Rattle.la_runner.specs.Following.{acceptors_of, IsLearnt, SubmitsNothing};
-ghost use Rattle.la_runner.specs.Instances.{state_of, IsInstance, InstanceSteps, IsComplete, IsUpdated};
-ghost use Rattle.la_runner.specs.Refusals.{IsRoundOfferRefusal, IsInstanceRefusal, IsUpdateRefusal};
-ghost use Rattle.la_runner.specs.Rounds.{IsLarger, IsViewAfter, IsLastAnswer, IsOpenAnswer};
+ghost use Rattle.la_runner.specs.InstanceCalls.{IsInstanceOf, IsOwnInstanceOf, IsOpenInstanceOf};
+ghost use Rattle.la_runner.specs.InstanceCalls.{GoesOnAsking, EndsInView, RunsRounds, LearnsIn, ResumesIn, UpdatesIn};
+ghost use Rattle.la_runner.specs.Instances.{state_of, InstanceSteps};
 
 use crate::instance::Instance;
 use crate::{Learned, RunnerError};
@@ -28,23 +23,10 @@ impl Instance {
         instance: u8,
         gate: &G,
     ) -> Result<Option<Learned>, RunnerError>
-        requires is { IsInstance (state_of self.old) }
-        requires acceptors { acceptors_of self.old.passes.items ≡ acceptors.now }
+        requires { IsInstanceOf acceptors.now (state_of self.old) }
         ensures steps { InstanceSteps (state_of self.old) (state_of self.new) }
-        ensures nothing { SubmitsNothing self.old.proposer self.new.proposer }
-        ensures heard { OnOk result (Hears self.old.proposer self.new.proposer
-            self.old.passes.items self.new.passes.items []) }
-        ensures missed { OnErr result (HearsMost self.old.proposer self.new.proposer
-            self.old.passes.items self.new.passes.items) }
-        ensures learnt { IfOk result (λ end. IfSome end (λ l. IsLearnt self.old.proposer
-            self.old.passes.items self.new.passes.items l.ballot l.updates)) }
-        ensures step { (self.new.view ≡ self.old.view)
-            ⊎ IsSubset self.new.view self.new.proposer.updates }
-        ensures after { IsViewAfter result self.old.view self.new.view }
-        ensures last { IsLastAnswer result self.old.learnt self.new.learnt }
-        ensures open { self.old.proposer.is_asking ≡ true
-            → IsOpenAnswer result self.new.proposer }
-        ensures error { IfErr result IsRoundOfferRefusal }
+        ensures asks { GoesOnAsking result (state_of self.old) (state_of self.new) }
+        ensures ends { EndsInView result (state_of self.old) (state_of self.new) }
     {
         match self.round(rt, acceptors, own, instance, gate)? {
             None => Ok(None),
@@ -69,21 +51,9 @@ impl Instance {
         rounds: u32,
         gate: &G,
     ) -> Result<(Learned, u32), RunnerError>
-        requires is { IsInstance (state_of self.old) }
-        requires acceptors { acceptors_of self.old.passes.items ≡ acceptors.now }
-        requires own { own ≡ self.old.proposer.own }
-        requires asks { self.old.proposer.is_asking ≡ true }
-        ensures steps { InstanceSteps (state_of self.old) (state_of self.new) }
-        ensures nothing { SubmitsNothing self.old.proposer self.new.proposer }
-        ensures learnt { IfOk result (λ end. IsLearnt self.old.proposer
-            self.old.passes.items self.new.passes.items end.0.ballot end.0.updates) }
-        ensures complete { IfOk result (λ end. IsComplete (state_of self.old) (state_of self.new) end.0.updates) }
-        ensures larger { IfOk result (λ end.
-            IsLarger end.0.updates self.old.view self.new.view) }
-        ensures last { IfOk result (λ end. self.new.learnt ≡ Some end.0.updates) }
-        ensures left { IfOk result (λ end. end.1 < rounds) }
-        ensures error { IfErr result
-            (IsInstanceRefusal rounds (state_of self.old) (state_of self.new)) }
+        requires { IsOpenInstanceOf acceptors.now own (state_of self.old) }
+        ensures runs { RunsRounds rounds result (state_of self.old) (state_of self.new) }
+        ensures learns { IfOk result (LearnsIn rounds (state_of self.old) (state_of self.new)) }
     {
         let mine = self.proposer.submitted();
         let mut is_unended = false;
@@ -115,18 +85,8 @@ impl Instance {
         rounds: u32,
         gate: &G,
     ) -> Result<(Learned, u32), RunnerError>
-        requires is { IsInstance (state_of self.old) }
-        requires acceptors { acceptors_of self.old.passes.items ≡ acceptors.now }
-        requires own { own ≡ self.old.proposer.own }
-        ensures steps { InstanceSteps (state_of self.old) (state_of self.new) }
-        ensures submitted { OnOk result (all_submitted self.new.proposer
-            ≡ all_submitted self.old.proposer ++ op_on object op ∷ []) }
-        ensures updated { IfOk result (λ end. IsUpdated (state_of self.old) (state_of self.new) end.0.updates) }
-        ensures view { IfOk result (λ end. self.new.view ≡ end.0.updates) }
-        ensures last { IfOk result (λ end. self.new.learnt ≡ Some end.0.updates) }
-        ensures left { IfOk result (λ end. end.1 < rounds) }
-        ensures error { IfErr result
-            (IsUpdateRefusal rounds (op_on object op) (state_of self.old) (state_of self.new)) }
+        requires { IsOwnInstanceOf acceptors.now own (state_of self.old) }
+        ensures { UpdatesIn rounds (op_on object op) result (state_of self.old) (state_of self.new) }
     {
         self.proposer.submit(object, op)?;
         // a hint to the prover: its contract tells what holds of every proposer
@@ -144,21 +104,9 @@ impl Instance {
         rounds: u32,
         gate: &G,
     ) -> Result<Option<Learned>, RunnerError>
-        requires is { IsInstance (state_of self.old) }
-        requires acceptors { acceptors_of self.old.passes.items ≡ acceptors.now }
-        requires own { own ≡ self.old.proposer.own }
-        ensures steps { InstanceSteps (state_of self.old) (state_of self.new) }
-        ensures nothing { SubmitsNothing self.old.proposer self.new.proposer }
-        ensures idle { self.old.proposer.is_asking ≡ false
-            → (result ≡ Ok None) × (state_of self.new ≡ state_of self.old) }
-        ensures asking { self.old.proposer.is_asking ≡ true → IfOk result IsSome }
-        ensures complete { IfOk result (λ end. IfSome end (λ l.
-            IsComplete (state_of self.old) (state_of self.new) l.updates)) }
-        ensures larger { IfOk result (λ end. IfSome end (λ l.
-            IsLarger l.updates self.old.view self.new.view)) }
-        ensures last { IfOk result (λ end. IfSome end (λ l. self.new.learnt ≡ Some l.updates)) }
-        ensures error { IfErr result
-            (IsInstanceRefusal rounds (state_of self.old) (state_of self.new)) }
+        requires { IsOwnInstanceOf acceptors.now own (state_of self.old) }
+        ensures runs { RunsRounds rounds result (state_of self.old) (state_of self.new) }
+        ensures resumes { ResumesIn result (state_of self.old) (state_of self.new) }
     {
         if self.proposer.status() == Status::Idle {
             return Ok(None);

@@ -1,7 +1,7 @@
 // One thread a member: channels, starting, joining.
 ghost use Rattle.std.specs.Prelude.{◌≡◌, [], All, map, IfOk, IfSome, OnOk};
 ghost use Rattle.std.specs.List.{AllZip};
-ghost use Rattle.la_runner.specs.Runs.{IsReadyMember, IsWorked, IsWorkOf};
+ghost use Rattle.la_runner.specs.Runs.{IsReadyMember, IsWorked, IsWorkOf, IsLogOf};
 
 use crate::jobs::Job;
 use crate::letter::{Letter, Naming};
@@ -21,19 +21,11 @@ use std::thread::{Promise, PromisedHandle, Scope, Threads};
 pub(crate) struct WorkedOf<J: Naming, B: Replicated>(Snapshot<Work<J, B>>);
 
 impl<J: Naming, B: Replicated> Promise<Log<B>> for WorkedOf<J, B> {
-    ghost kept_by = { λ p r. IsWorked p.0.value.member p.0.value.shelf p.0.value.jobs.items
-        r.replica r.member r.shelf r.entries r.stopped };
+    ghost kept_by = { λ p r. IsLogOf p.0.value r };
 }
 
 // Starts a worker in a thread.
-fn start_one<
-    's,
-    E,
-    J: Naming + Send + Sync + 's,
-    R: Threads + Wait + Sync + 's,
-    G: Gate + 's,
-    B: Replicated + 's,
->(
+fn start_one<'s, E, J: Naming + 's, R: Threads + Wait + Sync, G: Gate, B: Replicated + 's>(
     scope: &Scope<'s, E>,
     rt: &'s R,
     alloc: Global,
@@ -58,14 +50,7 @@ fn start_one<
 }
 
 // Starts a thread for each, until one can't be started.
-fn start_all<
-    's,
-    E,
-    J: Naming + Send + Sync + 's,
-    R: Threads + Wait + Sync + 's,
-    G: Gate + 's,
-    B: Replicated + 's,
->(
+fn start_all<'s, E, J: Naming + 's, R: Threads + Wait + Sync, G: Gate, B: Replicated + 's>(
     scope: &Scope<'s, E>,
     rt: &'s R,
     alloc: Global,
@@ -97,9 +82,7 @@ fn join_all<J: Naming, R: Threads, B: Replicated>(
     rt: &R,
     handles: Vec<PromisedHandle<Log<B>, WorkedOf<J, B>>>,
 ) -> Option<Vec<Log<B>>>
-    ensures { IfSome result (λ done. AllZip (λ h b. IsWorked
-        h.promise.0.value.member h.promise.0.value.shelf h.promise.0.value.jobs.items
-        b.replica b.member b.shelf b.entries b.stopped) handles.items done.items) }
+    ensures { IfSome result (λ done. AllZip (λ h l. IsLogOf h.promise.0.value l) handles.items done.items) }
 {
     match thread::join_promised(rt, handles) {
         Ok(done) => Some(done),
@@ -113,14 +96,7 @@ fn join_all<J: Naming, R: Threads, B: Replicated>(
 }
 
 // Starts a thread for each, and joins all that were started, also where one could not be.
-fn start_and_join<
-    's,
-    E,
-    J: Naming + Send + Sync + 's,
-    R: Threads + Wait + Sync + 's,
-    G: Gate + 's,
-    B: Replicated + 's,
->(
+fn start_and_join<'s, E, J: Naming + 's, R: Threads + Wait + Sync, G: Gate, B: Replicated + 's>(
     scope: &Scope<'s, E>,
     rt: &'s R,
     alloc: Global,
@@ -131,8 +107,7 @@ fn start_and_join<
 ) -> Result<Vec<Log<B>>, RunError>
     requires named { group.now ≡ J.group }
     requires ready { All (λ w. IsReadyMember group.now w.member w.shelf) works.items }
-    ensures { IfOk result (λ done. AllZip (λ w b. IsWorked w.member w.shelf w.jobs.items
-        b.replica b.member b.shelf b.entries b.stopped) works.items done.items) }
+    ensures { IfOk result (λ done. AllZip IsLogOf works.items done.items) }
 {
     let mut handles = Vec::new(alloc);
     let started = start_all(scope, rt, alloc, group, works, rounds, gate, &mut handles);
@@ -147,7 +122,7 @@ fn start_and_join<
 }
 
 // A thread for each, and what each hands back, in the works' order.
-fn run_all<J: Naming + Send + Sync, R: Threads + Wait + Sync, G: Gate, B: Replicated>(
+fn run_all<J: Naming, R: Threads + Wait + Sync, G: Gate, B: Replicated>(
     rt: &R,
     alloc: Global,
     group: &Group,
@@ -157,8 +132,7 @@ fn run_all<J: Naming + Send + Sync, R: Threads + Wait + Sync, G: Gate, B: Replic
 ) -> Result<Vec<Log<B>>, RunError>
     requires named { group.now ≡ J.group }
     requires ready { All (λ w. IsReadyMember group.now w.member w.shelf) works.items }
-    ensures { IfOk result (λ done. AllZip (λ w b. IsWorked w.member w.shelf w.jobs.items
-        b.replica b.member b.shelf b.entries b.stopped) works.items done.items) }
+    ensures { IfOk result (λ done. AllZip IsLogOf works.items done.items) }
 {
     thread::scope(
         thread::scope_env(),
@@ -166,8 +140,7 @@ fn run_all<J: Naming + Send + Sync, R: Threads + Wait + Sync, G: Gate, B: Replic
         |scope| -> Result<Vec<Log<B>>, RunError>
             requires { (group.now ≡ J.group)
                 × All (λ w. IsReadyMember group.now w.member w.shelf) works.items }
-            ensures { IfOk result (λ done. AllZip (λ w b. IsWorked w.member w.shelf w.jobs.items
-                b.replica b.member b.shelf b.entries b.stopped) works.items done.items) }
+            ensures { IfOk result (λ done. AllZip IsLogOf works.items done.items) }
         { start_and_join(scope, rt, alloc, group, works, rounds, gate) },
     )
 }
@@ -233,7 +206,7 @@ fn prepare<J: Naming, B: Replicated>(
 }
 
 // A run of the group that J names.
-pub(crate) fn run_in<J: Naming + Send + Sync, R: Threads + Wait + Sync, G: Gate, B: Replicated>(
+pub(crate) fn run_in<J: Naming, R: Threads + Wait + Sync, G: Gate, B: Replicated>(
     rt: &R,
     alloc: Global,
     group: &Group,

@@ -3,12 +3,11 @@ ghost use Rattle.std.specs.Prelude.{◌≡◌, ◌<◌, ◌≤◌, ◌+◌, ◌�
 ghost use Rattle.std.specs.List.{AllZip};
 ghost use Rattle.la_set.specs.Inclusion.{IsSubset};
 ghost use Rattle.la_proposer.specs.Majority.{how_many};
-ghost use Rattle.la_runner.specs.Counted.{taker, has_met, counts_peer, NotesCount};
+ghost use Rattle.la_runner.specs.Counted.{log_taker, has_met, counts_peer, NotesCount};
 ghost use Rattle.la_runner.specs.Invariant.{IsMember};
 ghost use Rattle.la_runner.specs.Members.{IsOfGroup, member_view};
-ghost use Rattle.la_runner.specs.Runs.{IsBackOf, back_of, places, place_of, ViewsHold, ContainsAll, IsRunConfig, IsRunRefusal};
-ghost use Rattle.la_runner.specs.Together.{IsSameLog, AreSeen, AllComparable, IsHonest};
-ghost use Rattle.la_runner.specs.Together.{DecisionsCompare, DecisionsAgree, DecisionsAreTheirs, NotesHold, NotesAgree};
+ghost use Rattle.la_runner.specs.Runs.{log_back, places, place_of, ViewsHold, ContainsAll, IsRunOf, IsRunRefusal};
+ghost use Rattle.la_runner.specs.Together.{IsSameLog, AreSeen, KeepsRun};
 
 use crate::jobs::Jobs;
 use crate::running::{Start, run_in};
@@ -28,8 +27,7 @@ fn is_run<B: Replicated>(
     shelves: &Vec<Shelf<B>>,
     jobs: &Vec<Jobs>,
 ) -> bool
-    ensures config { IsTrue result ↔ IsRunConfig (length group.now.votes)
-        (length members.now.items) (length jobs.now.items) shelves.now.items }
+    ensures config { IsTrue result ↔ IsRunOf group.now members.now.items shelves.now.items jobs.now.items }
     ensures few { length group.now.votes ≤ 8 }
 {
     let replicas = group.votes.len();
@@ -85,9 +83,7 @@ fn took(taken: &[bool; 8], replica: u8) -> bool
 
 // Whether a log took the other's note and contains its view.
 fn has_met<B: Replicated>(log: &Log<B>, other: &Log<B>) -> bool
-    ensures value { result ≡ has_met
-        (taker log.now.replica log.now.taken (member_view log.now.member))
-        (taker other.now.replica other.now.taken (member_view other.now.member)) }
+    ensures value { result ≡ has_met (log_taker log.now) (log_taker other.now) }
     ensures contains { result ≡ true → IsSubset (member_view other.now.member) (member_view log.now.member) }
 {
     took(&log.taken, other.replica) && log.member.view().contains_all(other.member.view())
@@ -97,8 +93,7 @@ fn has_met<B: Replicated>(log: &Log<B>, other: &Log<B>) -> bool
 fn count_notes<B: Replicated>(logs: &Vec<Log<B>>, at: usize) -> u8
     requires there { at < vec_len logs.now }
     requires few { vec_len logs.now < 256 }
-    ensures counted { result ≡ how_many (length logs.now.items)
-        (counts_peer (map (λ l. taker l.replica l.taken (member_view l.member)) logs.now.items) at) }
+    ensures counted { result ≡ how_many (length logs.now.items) (counts_peer (map log_taker logs.now.items) at) }
     ensures all { result + 1 ≡ length logs.now.items
         → ContainsAll (map (λ l. member_view l.member) logs.now.items) at }
 {
@@ -114,10 +109,8 @@ fn count_notes<B: Replicated>(logs: &Vec<Log<B>>, at: usize) -> u8
 // Counts each log's notes.
 fn note_all<B: Replicated>(logs: &mut Vec<Log<B>>)
     requires few { vec_len logs.old < 256 }
-    ensures same { map (λ l. back_of l.replica l.member l.shelf l.entries l.stopped) logs.new.items
-        ≡ map (λ l. back_of l.replica l.member l.shelf l.entries l.stopped) logs.old.items }
-    ensures counted { NotesCount (map (λ l. l.notes) logs.new.items)
-        (map (λ l. taker l.replica l.taken (member_view l.member)) logs.new.items) }
+    ensures same { map log_back logs.new.items ≡ map log_back logs.old.items }
+    ensures counted { NotesCount (map (λ l. l.notes) logs.new.items) (map log_taker logs.new.items) }
     ensures all { ViewsHold (map (λ l. l.notes) logs.new.items)
         (map (λ l. member_view l.member) logs.new.items) }
 {
@@ -131,15 +124,10 @@ fn note_all<B: Replicated>(logs: &mut Vec<Log<B>>)
 fn finish<B: Replicated>(group: &Group, done: Vec<Log<B>>) -> Logs<B>
     requires of { All (λ l. IsOfGroup group.now l.member × IsMember l.member) done.items }
     requires few { vec_len done < 256 }
-    ensures same { AllZip IsSameLog
-        (map (λ l. back_of l.replica l.member l.shelf l.entries l.stopped) done.items)
-        (map (λ l. back_of l.replica l.member l.shelf l.entries l.stopped) result) }
-    ensures seen { AreSeen
-        (map (λ l. back_of l.replica l.member l.shelf l.entries l.stopped) result) }
-    ensures counted { NotesCount (map (λ l. l.notes) result)
-        (map (λ l. taker l.replica l.taken (member_view l.member)) result) }
-    ensures notes { ViewsHold (map (λ l. l.notes) result)
-        (map (λ l. member_view l.member) result) }
+    ensures same { AllZip IsSameLog (map log_back done.items) (map log_back result) }
+    ensures seen { AreSeen (map log_back result) }
+    ensures counted { NotesCount (map (λ l. l.notes) result) (map log_taker result) }
+    ensures notes { ViewsHold (map (λ l. l.notes) result) (map (λ l. member_view l.member) result) }
 {
     let mut logs = done;
     show_all(group, &mut logs);
@@ -180,31 +168,9 @@ pub fn run<R: Threads + Wait + Sync, G: Gate, B: Replicated>(
     gate: &G,
 ) -> Result<Logs<B>, RunError>
     requires { All (IsOfGroup group.now) members.items }
-    ensures config { IfOk result (λ _. IsRunConfig (length group.now.votes)
-        (length members.items) (length jobs.items) shelves.items) }
-    ensures each { IfOk result (λ logs. AllZip IsBackOf
-        (places members.items shelves.items jobs.items)
-        (map (λ l. back_of l.replica l.member l.shelf l.entries l.stopped) logs)) }
-    ensures comparable { IfOk result (λ logs. AllComparable
-        (map (λ l. back_of l.replica l.member l.shelf l.entries l.stopped) logs)) }
-    ensures honest { IfOk result (λ logs. All (λ l. IsHonest l.member) logs) }
-    ensures decisions { IfOk result (λ logs. DecisionsCompare
-        (places members.items shelves.items jobs.items)
-        (map (λ l. back_of l.replica l.member l.shelf l.entries l.stopped) logs)) }
-    ensures agreed { IfOk result (λ logs. DecisionsAgree
-        (places members.items shelves.items jobs.items)
-        (map (λ l. back_of l.replica l.member l.shelf l.entries l.stopped) logs)) }
-    ensures theirs { IfOk result (λ logs. DecisionsAreTheirs
-        (places members.items shelves.items jobs.items)
-        (map (λ l. back_of l.replica l.member l.shelf l.entries l.stopped) logs)) }
-    ensures counted { IfOk result (λ logs. NotesCount (map (λ l. l.notes) logs)
-        (map (λ l. taker l.replica l.taken (member_view l.member)) logs)) }
-    ensures notes { IfOk result (λ logs. NotesHold (map (λ l. l.notes) logs)
-        (map (λ l. back_of l.replica l.member l.shelf l.entries l.stopped) logs)) }
-    ensures alike { IfOk result (λ logs. NotesAgree (map (λ l. l.notes) logs)
-        (map (λ l. back_of l.replica l.member l.shelf l.entries l.stopped) logs)) }
-    ensures error { IfErr result (IsRunRefusal (IsRunConfig (length group.now.votes)
-        (length members.items) (length jobs.items) shelves.items)) }
+    ensures config { IfOk result (λ _. IsRunOf group.now members.items shelves.items jobs.items) }
+    ensures keeps { IfOk result (KeepsRun (places members.items shelves.items jobs.items)) }
+    ensures error { IfErr result (IsRunRefusal (IsRunOf group.now members.items shelves.items jobs.items)) }
 {
     if !is_run(group, &members, &shelves, &jobs) {
         return Err(RunError::BadConfig);

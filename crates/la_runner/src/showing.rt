@@ -7,7 +7,7 @@ ghost use Rattle.la_runner.specs.Instances.{InstanceState, state_of};
 ghost use Rattle.la_runner.specs.Invariant.{IsMember};
 ghost use Rattle.la_runner.specs.Members.{IsOfGroup};
 ghost use Rattle.la_runner.specs.Notes.{pass_told, Meets, AllMeet};
-ghost use Rattle.la_runner.specs.Runs.{back_of};
+ghost use Rattle.la_runner.specs.Runs.{log_back};
 ghost use Rattle.la_runner.specs.Sound.{IsSound};
 ghost use Rattle.la_runner.specs.Together.{HasSeen, SeesMore, IsSameLog, AreSeen};
 
@@ -82,11 +82,8 @@ fn show_last<B: Replicated>(group: &Group, others: &mut [Log<B>], last: &mut Mem
 // The last log's member has then seen what all have.
 pub(crate) fn show_all<B: Replicated>(group: &Group, logs: &mut [Log<B>])
     requires { All (λ l. IsOfGroup group.now l.member × IsMember l.member) logs.old }
-    ensures same { AllZip IsSameLog
-        (map (λ l. back_of l.replica l.member l.shelf l.entries l.stopped) logs.old)
-        (map (λ l. back_of l.replica l.member l.shelf l.entries l.stopped) logs.new) }
-    ensures seen { AreSeen
-        (map (λ l. back_of l.replica l.member l.shelf l.entries l.stopped) logs.new) }
+    ensures same { AllZip IsSameLog (map log_back logs.old) (map log_back logs.new) }
+    ensures seen { AreSeen (map log_back logs.new) }
 {
     let Some((last, others)) = logs.split_last_mut() else {
         return;

@@ -1,11 +1,11 @@
 // How a group and its members are made.
-ghost use Rattle.std.specs.Prelude.{◌≡◌, ◌<◌, ◌≤◌, ◌+◌, ◌*◌, List, All, map, length, reverse, IfOk};
+ghost use Rattle.std.specs.Prelude.{◌≡◌, ◌<◌, ◌≤◌, List, All, map, length, IfOk};
 ghost use Rattle.la_shared.specs.Passes.{AcceptorName};
 ghost use Rattle.la_proposer.specs.declared.proposer.TheConstants.{MAX_CAP};
 ghost use Rattle.la_proposer.specs.Majority.{votes_of};
-ghost use Rattle.la_commit.specs.declared.instance.TheConstants.{MAX_COMMITS};
 ghost use Rattle.la_runner.specs.Instances.{state_of};
-ghost use Rattle.la_runner.specs.Starting.{newcomer, member_cap, IsNewInstance, IsNewMember, AreMembersFrom};
+ghost use Rattle.la_runner.specs.Starting.{newcomer, member_cap, IsNewInstance, IsNewMember};
+ghost use Rattle.la_runner.specs.Starting.{group_of_rows, AreFirsts, AreMembersOf, MayMakeMembers};
 
 use crate::Member;
 use crate::group::Row;
@@ -84,8 +84,7 @@ pub fn rows(
     ensures count { IfOk result (λ made. length made.0.items ≡ instances) }
     ensures sizes { IfOk result (λ made.
         All (λ r. length r.acceptors.items ≡ replicas) made.0.items) }
-    ensures firsts { IfOk result (λ made. map (λ f. f.passes.items) made.1.items
-        ≡ map (λ r. map newcomer r.acceptors.items) made.0.items) }
+    ensures firsts { IfOk result (λ made. AreFirsts made.1.items made.0.items) }
 {
     let mut made = Vec::with_capacity(alloc, instances)?;
     let mut firsts = Vec::with_capacity(alloc, instances)?;
@@ -114,20 +113,9 @@ fn member(
     votes: Votes,
 ) -> Result<Member, AllocError>
     requires known { own < length (votes_of votes) }
-    requires few { length (votes_of votes) ≤ 8 }
-    requires some { 1 ≤ cap }
-    requires most { cap ≤ MAX_CAP }
-    requires one { 1 ≤ length rows.now }
-    requires instances { length rows.now ≤ 2 * MAX_COMMITS + 1 }
-    requires sizes { All (λ r. length r.acceptors.items ≡ length (votes_of votes)) rows.now }
-    requires firsts { map (λ f. f.passes.items) firsts.old.items
-        ≡ map (λ r. map newcomer r.acceptors.items) rows.now }
-    ensures firsts { map (λ f. f.passes.items) firsts.new.items
-        ≡ map (λ r. map newcomer r.acceptors.items) rows.now }
-    ensures new { IfOk result (IsNewMember (record {
-      votes = votes_of votes;
-      acceptors = map (λ r. r.acceptors.items) rows.now;
-    }) cap own) }
+    requires may { MayMakeMembers (votes_of votes) cap rows.now firsts.old.items }
+    ensures firsts { AreFirsts firsts.new.items rows.now }
+    ensures new { IfOk result (IsNewMember (group_of_rows (votes_of votes) rows.now) cap own) }
 {
     let mut instances = Vec::with_capacity(alloc, rows.len())?;
     for at in 0..rows.len() {
@@ -153,19 +141,9 @@ pub fn members(
     votes: Votes,
 ) -> Result<Vec<Member>, AllocError>
     requires known { replicas ≡ length (votes_of votes) }
-    requires few { replicas ≤ 8 }
-    requires some { 1 ≤ cap }
-    requires most { cap ≤ MAX_CAP }
-    requires one { 1 ≤ length rows.now }
-    requires instances { length rows.now ≤ 2 * MAX_COMMITS + 1 }
-    requires sizes { All (λ r. length r.acceptors.items ≡ length (votes_of votes)) rows.now }
-    requires firsts { map (λ f. f.passes.items) firsts.old.items
-        ≡ map (λ r. map newcomer r.acceptors.items) rows.now }
+    requires may { MayMakeMembers (votes_of votes) cap rows.now firsts.old.items }
     ensures count { IfOk result (λ made. length made.items ≡ replicas) }
-    ensures new { IfOk result (λ made. AreMembersFrom (record {
-      votes = votes_of votes;
-      acceptors = map (λ r. r.acceptors.items) rows.now;
-    }) cap 0 (reverse made.items)) }
+    ensures new { IfOk result (λ made. AreMembersOf (votes_of votes) cap rows.now made.items) }
 {
     let mut made = Vec::with_capacity(alloc, replicas as usize)?;
     for before in 0..replicas {

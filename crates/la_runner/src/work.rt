@@ -2,7 +2,7 @@
 ghost use Rattle.std.specs.Prelude.{◌≡◌, ◌⊎◌, true, None, Some, IfSome};
 ghost use Rattle.la_runner.specs.declared.jobs.Stopped.TheVariants.{Memory};
 ghost use Rattle.la_runner.specs.Members.{member_view};
-ghost use Rattle.la_runner.specs.Runs.{IsReadyMember, IsWorked};
+ghost use Rattle.la_runner.specs.Runs.{IsReadyMember, IsLogOf};
 
 use crate::jobs::{Entries, Job, Stopped};
 use crate::letter::{Letter, Naming, send_all, take_all};
@@ -63,8 +63,7 @@ pub(crate) fn work_on<J: Naming, R: Wait, G: Gate, B: Replicated>(
 ) -> Log<B>
     requires named { group.now ≡ J.group }
     requires ready { IsReadyMember group.now work.member work.shelf }
-    ensures { IsWorked work.member work.shelf work.jobs.items
-        result.replica result.member result.shelf result.entries result.stopped }
+    ensures { IsLogOf work result }
 {
     let Work {
         mut member,

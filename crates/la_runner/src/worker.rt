@@ -1,11 +1,12 @@
 // What a member does of its jobs.
-ghost use Rattle.std.specs.Prelude.{◌≡◌, ◌+◌, ℕ, [], cond, Some, IsSome, IfOk, IfErr, OnOk, IfNone, IfSome, vec_len, length};
+ghost use Rattle.std.specs.Prelude.{◌≡◌, ℕ, [], Some, IsSome, IfOk, IfErr, vec_len};
 ghost use Rattle.la_set.specs.Inclusion.{IsSubset};
 ghost use Rattle.la_runner.specs.declared.jobs.Stopped.TheVariants.{Memory};
-ghost use Rattle.la_runner.specs.Entries.{AnswersJob, AnswersUpdate, AnswersDecide, AnswersAsk, HasDone, StopsAt, is_update_job, entry_set};
+ghost use Rattle.la_runner.specs.Entries.{AnswersDecide, AnswersAsk, DoesUpdate, DoesJob, EndsJobs, entry_set};
 ghost use Rattle.la_runner.specs.Invariant.{IsMember};
-ghost use Rattle.la_runner.specs.Members.{IsOfGroup, MemberGoesOn, member_submitted, member_learnt, member_view};
+ghost use Rattle.la_runner.specs.Members.{IsOfGroup, MemberGoesOn, member_learnt, member_view};
 ghost use Rattle.la_runner.specs.Participants.{IsDecision, IsOnlyAt};
+ghost use Rattle.la_runner.specs.Runs.{IsReadyMember, GoesOnBeside, HasWorked};
 ghost use Rattle.la_runner.specs.Stops.{StopsUpdate, StopsDecide, StopsAsk, StopFits};
 
 use crate::jobs::{Entry, Job, Stopped, stop_of};
@@ -28,11 +29,7 @@ fn submit<R: Wait, G: Gate>(
 ) -> Result<Entry, Stopped>
     requires { IsOfGroup group.now member.old }
     ensures goes_on { MemberGoesOn member.old member.new }
-    ensures answers { IfOk result
-        (AnswersUpdate member.new (length (member_submitted member.old 0) + 1) object op) }
-    ensures names { IfOk result (λ e. entry_set e ≡ Some (member_view member.new)) }
-    ensures submitted { OnOk result
-        (length (member_submitted member.new 0) ≡ length (member_submitted member.old 0) + 1) }
+    ensures done { IfOk result (DoesUpdate member.old member.new object op) }
     ensures error { IfErr result (StopsUpdate member.new) }
 {
     match group.update(rt, member, object, op, rounds, gate) {
@@ -137,16 +134,9 @@ fn do_job<R: Wait, G: Gate, B: Replicated>(
     rounds: u32,
     gate: &G,
 ) -> Result<Entry, Stopped>
-    requires of { IsOfGroup group.now member.old }
-    requires within { IsSubset shelf.old.view (member_view member.old) }
-    ensures goes_on { MemberGoesOn member.old member.new }
-    ensures objects { shelf.new.objects ≡ shelf.old.objects }
-    ensures within { IsSubset shelf.new.view (member_view member.new) }
-    ensures answers { IfOk result
-        (AnswersJob member.new (length (member_submitted member.old 0) + 1) shelf.old.objects job) }
-    ensures names { IfOk result (λ e. IfSome (entry_set e) (λ s. s ≡ member_view member.new)) }
-    ensures submitted { OnOk result (length (member_submitted member.new 0)
-        ≡ length (member_submitted member.old 0) + cond (is_update_job job) 1 0) }
+    requires { IsReadyMember group.now member.old shelf.old }
+    ensures goes_on { GoesOnBeside member.old shelf.old member.new shelf.new }
+    ensures done { IfOk result (DoesJob member.old shelf.old.objects job member.new) }
     ensures error { IfErr result (StopFits shelf.old.objects member.new job) }
 {
     match job {
@@ -167,16 +157,10 @@ pub(crate) fn do_all<R: Wait, G: Gate, B: Replicated>(
     gate: &G,
     entries: &mut Vec<Entry>,
 ) -> Option<Stopped>
-    requires of { IsOfGroup group.now member.old }
-    requires within { IsSubset shelf.old.view (member_view member.old) }
+    requires ready { IsReadyMember group.now member.old shelf.old }
     requires none { entries.old.items ≡ [] }
-    ensures done { HasDone member.old shelf.old.objects jobs.items entries.new.items member.new }
-    ensures goes_on { MemberGoesOn member.old member.new }
-    ensures objects { shelf.new.objects ≡ shelf.old.objects }
-    ensures within { IsSubset shelf.new.view (member_view member.new) }
-    ensures all { IfNone result (vec_len entries.new ≡ vec_len jobs) }
-    ensures stop { IfSome result
-        (StopsAt shelf.old.objects member.new jobs.items (vec_len entries.new)) }
+    ensures worked { HasWorked member.old shelf.old jobs.items entries.new.items member.new shelf.new }
+    ensures ends { EndsJobs result shelf.old.objects member.new jobs.items (vec_len entries.new) }
 {
     for job in jobs {
         if entries.reserve(1).is_err() {

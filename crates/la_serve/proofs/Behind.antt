@@ -14,7 +14,7 @@ use Rattle.la_journal.specs.Durable.{IsSettled}
 use Rattle.la_journal.specs.Lines.{lines}
 use Rattle.la_journal.specs.Machine.{steps, LeadsToSome}
 use Rattle.la_durable.specs.CallLines.{CallLine}
-use Rattle.la_durable.specs.Nodes.{KeptState, step}
+use Rattle.la_durable.specs.Nodes.{step}
 use Rattle.la_durable.specs.Restarts.{leads_from}
 use Rattle.la_io.specs.Sources.{IsOneLine, TakesSome}
 use Rattle.la_serve.specs.Reading.{ReadSo, ReadsFront, ReadsAll}
@@ -30,11 +30,12 @@ use Rattle.la_serve.specs.Crashes.{Leaves, Commits, CommitsSome}
 use Rattle.la_serve.proofs.Turning.{turns_snoc, turns_join}
 use Rattle.la_serve.proofs.Leading.{Led, turns_lead}
 use Rattle.la_serve.proofs.Crashing.{CrashSo, crash_none, crash_more, crash_some, crash_all}
+use Rattle.la_replica.specs.ReplicaState.{ReplicaState}
 
 -- where the loop stands: what is ahead and in the output, what is held back and staged
 pub record Point (D E : Type 0) : Type 0 where
   pub objects : List (ℕ × Kind)
-  pub state : KeptState
+  pub state : ReplicaState
   pub ahead : Option (List ℕ)
   pub out : Option (List ℕ)
   pub held : List ℕ
@@ -83,7 +84,7 @@ module _ {D R W E : Type 0} (f : Facts D R W E) (first : Point D E) where
   abbrev pub Left : D → (turns last : List Turn) → Type 0
   Left d = Leaves f.seen f.may_leave f.moment f.left_since first.state first.disk d
 
-  abbrev Crash : (between : KeptState) (d : D) (done : List Turn) → Type 0
+  abbrev Crash : (between : ReplicaState) (d : D) (done : List Turn) → Type 0
   Crash between d done = CrashSo f.seen f.may_leave f.moment f.left_since first.state between first.disk d done
 
   abbrev pub Flushed : (p q : Point D E) → Type 0
@@ -96,7 +97,7 @@ module _ {D R W E : Type 0} (f : Facts D R W E) (first : Point D E) where
     pub done : List Turn
     pub group : List Turn
     -- the state after the first ones
-    pub between : KeptState
+    pub between : ReplicaState
     pub are_done : AreTurns first.objects first.state 1 done between
     pub are_group : AreTurns first.objects between (1 + length done) group p.state
     pub count : number ≡ 1 + length (done ++ group)
@@ -112,7 +113,7 @@ module _ {D R W E : Type 0} (f : Facts D R W E) (first : Point D E) where
   pub record CutSo (left : Option (List ℕ)) (p : Point D E) (more : List ℕ) : Type 0 where
     pub done : List Turn
     pub group : List Turn
-    pub between : KeptState
+    pub between : ReplicaState
     pub are_done : AreTurns first.objects first.state 1 done between
     pub are_group : AreTurns first.objects between (1 + length done) group p.state
     pub read : ReadsFront first.ahead left (turn_lines (done ++ group))
@@ -333,7 +334,7 @@ module _ {D R W E : Type 0} (f : Facts D R W E) (first : Point D E) where
 
   -- ## What is held back is written, or is not
 
-  module _ (follow : (old mid new : D) (start first next : KeptState) (taken later : List CallLine)
+  module _ (follow : (old mid new : D) (start first next : ReplicaState) (taken later : List CallLine)
       → LeavesOnly f.moment f.left_since old mid (LeadsToSome (leads_from start) step taken first)
       → steps step taken first ≡ Some next
       → LeavesOnly f.moment f.left_since mid new (LeadsToSome (leads_from start) step later next)

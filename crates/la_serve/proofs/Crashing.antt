@@ -7,22 +7,23 @@ use Rattle.la_journal.specs.Durable.{IsSettled}
 use Rattle.la_journal.specs.Machine.{steps, steps_from, goes_on, LeadsToSome}
 use Rattle.la_journal.specs.Lines.{lines}
 use Rattle.la_durable.specs.CallLines.{CallLine}
-use Rattle.la_durable.specs.Nodes.{KeptState, step}
+use Rattle.la_durable.specs.Nodes.{step}
 use Rattle.la_durable.specs.Restarts.{leads_from}
 use Rattle.la_serve.specs.Turns.{Turn}
 use Rattle.la_serve.specs.Serving.{kept_lines}
 use Rattle.la_serve.specs.Crashes.{Leaves, Commits, CommitsSome}
 use Rattle.la_serve.proofs.Leading.{Led}
+use Rattle.la_replica.specs.ReplicaState.{ReplicaState}
 
-steps_join : (xs ys : List CallLine) (state : Option KeptState)
+steps_join : (xs ys : List CallLine) (state : Option ReplicaState)
     → steps_from step (xs ++ ys) state ≡ steps_from step ys (steps_from step xs state)
 steps_join [] ys state = refl
 steps_join (x ∷ xs) ys state = steps_join xs ys (goes_on step state x)
 
-pub led_none : (n : KeptState) → Led n n []
+pub led_none : (n : ReplicaState) → Led n n []
 led_none n = record { calls = []; lines = refl; led = refl }
 
-pub led_join : (n between after : KeptState) (turns last : List Turn) → Led n between turns → Led between after last
+pub led_join : (n between after : ReplicaState) (turns last : List Turn) → Led n between turns → Led between after last
     → Led n after (turns ++ last)
 led_join n between after turns last first then = record {
   calls = first.calls ++ then.calls;
@@ -35,13 +36,13 @@ led_join n between after turns last first then = record {
 module _ {D : Type 0} (seen : D → List ℕ) (may_leave : D → List ℕ → Type 0) (moment : D → ℕ)
     (left_since : D → ℕ → List ℕ → Type 0) where
   -- the lines of these turns are in the journal, and a crash left the first some of them
-  pub record CrashSo (n between : KeptState) (old now : D) (turns : List Turn) : Type 0 where
+  pub record CrashSo (n between : ReplicaState) (old now : D) (turns : List Turn) : Type 0 where
     pub led : Led n between turns
-    pub leads : (start : KeptState) → leads_from start (seen old) ≡ Some n → leads_from start (seen now) ≡ Some between
-    pub leaves : (start : KeptState) → leads_from start (seen old) ≡ Some n
+    pub leads : (start : ReplicaState) → leads_from start (seen old) ≡ Some n → leads_from start (seen now) ≡ Some between
+    pub leaves : (start : ReplicaState) → leads_from start (seen old) ≡ Some n
         → LeavesOnly moment left_since old now (LeadsToSome (leads_from start) step led.calls n)
 
-  pub crash_none : (n : KeptState) (disk : D) → IsSettled seen may_leave disk
+  pub crash_none : (n : ReplicaState) (disk : D) → IsSettled seen may_leave disk
       → ((c : List ℕ) → left_since disk (moment disk) c → may_leave disk c) → CrashSo n n disk disk []
   unfolding led_none
   crash_none n disk settled only_now = record {
@@ -54,15 +55,15 @@ module _ {D : Type 0} (seen : D → List ℕ) (may_leave : D → List ℕ → Ty
     };
   }
 
-  module _ (follow : (old mid new : D) (start first next : KeptState) (taken later : List CallLine)
+  module _ (follow : (old mid new : D) (start first next : ReplicaState) (taken later : List CallLine)
       → LeavesOnly moment left_since old mid (LeadsToSome (leads_from start) step taken first)
       → steps step taken first ≡ Some next
       → LeavesOnly moment left_since mid new (LeadsToSome (leads_from start) step later next)
       → LeavesOnly moment left_since old new (LeadsToSome (leads_from start) step (taken ++ later) first))
-      (n between after : KeptState) (old now new : D) (turns last : List Turn) (staged : List ℕ)
+      (n between after : ReplicaState) (old now new : D) (turns last : List Turn) (staged : List ℕ)
       (so : CrashSo n between old now turns) (then : Led between after last) (is : lines staged ≡ kept_lines last)
       (some : CommitsSome seen moment left_since staged now new) where
-    throughout : (start : KeptState) → leads_from start (seen old) ≡ Some n
+    throughout : (start : ReplicaState) → leads_from start (seen old) ≡ Some n
         → LeavesOnly moment left_since old new (LeadsToSome (leads_from start) step (so.led.calls ++ then.calls) n)
     throughout start was =
         follow old now new start n between so.led.calls then.calls (so.leaves start was) so.led.led
@@ -94,7 +95,7 @@ module _ {D : Type 0} (seen : D → List ℕ) (may_leave : D → List ℕ → Ty
     }
 
   -- nothing is staged
-  pub crash_all : (n between : KeptState) (old now : D) (turns : List Turn) → CrashSo n between old now turns
+  pub crash_all : (n between : ReplicaState) (old now : D) (turns : List Turn) → CrashSo n between old now turns
       → IsSettled seen may_leave now → Leaves seen may_leave moment left_since n old now turns []
   crash_all n between old now turns so settled = record {
     calls = so.led.calls;

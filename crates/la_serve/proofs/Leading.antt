@@ -8,37 +8,38 @@ use Rattle.la_wire.specs.declared.error.LineFault.TheVariants.{TooLong}
 use Rattle.la_wire.specs.Calls.{WireCall, Submit, Decide, Ask, Tick, Receive}
 use Rattle.la_wire.specs.CallLines.{named_call}
 use Rattle.la_durable.specs.declared.error.NodeError.TheVariants.{Memory}
-use Rattle.la_durable.specs.Given.{Given}
-use Rattle.la_durable.specs.Nodes.{KeptState, acts_by, step}
+use Rattle.la_node.specs.Steps.{Given}
+use Rattle.la_durable.specs.Nodes.{acts_by, step}
 use Rattle.la_durable.specs.CallLines.{CallLine, is_line}
 use Rattle.la_serve.specs.Turns.{Turn, only_writes, turn_refused, faulty, question_answered, question, is_note, is_elsewhere, is_stale, OneOf, IsCallTaken, IsStarved, IsKeptTurn, IsTurnHere, SaysCall, IsShortTurn, IsTurn}
 use Rattle.la_serve.specs.Said.{answer_by}
 use Rattle.la_serve.specs.Serving.{AreTurns, kept_lines}
+use Rattle.la_replica.specs.ReplicaState.{ReplicaState}
 
 -- a turn by which the journal gains nothing, and nothing changes
-abbrev IsStill : KeptState → Turn → Type 0
+abbrev IsStill : ReplicaState → Turn → Type 0
 IsStill n t = (t.kept ≡ []) × (t.after ≡ n)
 
 -- a turn by which it gains a line, and the state is the next
-abbrev IsStep : KeptState → Turn → Type 0
+abbrev IsStep : ReplicaState → Turn → Type 0
 IsStep n t = (c : CallLine) × (t.kept ≡ c.line ∷ []) × (step n c ≡ Some t.after)
 
-abbrev Goes : KeptState → Turn → Type 0
+abbrev Goes : ReplicaState → Turn → Type 0
 Goes n t = IsStill n t ⊎ IsStep n t
 
 one_of : {A B : Type 0} (b : Bool) → OneOf b A B → A ⊎ B
 one_of true a = inl a
 one_of false b = inr b
 
-still : (n : KeptState) (t u : Turn) → t ≡ u → IsStill n u → IsStill n t
+still : (n : ReplicaState) (t u : Turn) → t ≡ u → IsStill n u → IsStill n t
 still n t u is s = subst (IsStill n) (sym is) s
 
-answered_still : (n : KeptState) (k object : ℕ) (line : List ℕ) (o : Option Answer)
+answered_still : (n : ReplicaState) (k object : ℕ) (line : List ℕ) (o : Option Answer)
     → IsStill n (question_answered n k object line o)
 answered_still n k object line None = (refl, refl)
 answered_still n k object line (Some answer) = (refl, refl)
 
-module _ (objects : List (ℕ × Kind)) (n : KeptState) (k : ℕ) (t : Turn) where
+module _ (objects : List (ℕ × Kind)) (n : ReplicaState) (k : ℕ) (t : Turn) where
   starved_goes : IsStarved n k t → Goes n t
   starved_goes is = inl (still n t (turn_refused n k t.line Memory) is (refl, refl))
 
@@ -47,8 +48,8 @@ module _ (objects : List (ℕ × Kind)) (n : KeptState) (k : ℕ) (t : Turn) whe
     taken_goes taken = (
       record { line = t.line; says = stands },
       taken.journal,
-      ap (λ o. option_map (λ (made : Given × KeptState). made.1) (acts_by n o)) says
-          ∙ ap (option_map (λ (made : Given × KeptState). made.1)) taken.acted,
+      ap (λ o. option_map (λ (made : Given × ReplicaState). made.1) (acts_by n o)) says
+          ∙ ap (option_map (λ (made : Given × ReplicaState). made.1)) taken.acted,
     )
 
     kept_goes : IsKeptTurn n k call t → Goes n t
@@ -89,12 +90,12 @@ module _ (objects : List (ℕ × Kind)) (n : KeptState) (k : ℕ) (t : Turn) whe
   ]
 
 -- the calls of the lines that the journal gains by these turns, and where they lead
-pub record Led (n after : KeptState) (turns : List Turn) : Type 0 where
+pub record Led (n after : ReplicaState) (turns : List Turn) : Type 0 where
   pub calls : List CallLine
   pub lines : kept_lines turns ≡ map (λ (c : CallLine). c.line) calls
   pub led : steps step calls n ≡ Some after
 
-pub turns_lead : (objects : List (ℕ × Kind)) (n : KeptState) (k : ℕ) (turns : List Turn) (after : KeptState)
+pub turns_lead : (objects : List (ℕ × Kind)) (n : ReplicaState) (k : ℕ) (turns : List Turn) (after : ReplicaState)
     → AreTurns objects n k turns after → Led n after turns
 turns_lead objects n k [] after are = record { calls = []; lines = refl; led = ap Some (sym are) }
 turns_lead objects n k (t ∷ turns) after are =

@@ -4,7 +4,6 @@ use Rattle.la_object.specs.declared.kind.Kind.{Kind}
 use Rattle.la_object.specs.declared.query.Query.{Query}
 use Rattle.la_wire.specs.Calls.{WireCall, Ask, Tick, called}
 use Rattle.la_durable.specs.Inputs.{InputState}
-use Rattle.la_durable.specs.Nodes.{KeptState}
 use Rattle.la_serve.specs.declared.said.Said.{Said}
 use Rattle.la_serve.specs.declared.said.Said.TheVariants as said
 use Rattle.la_serve.specs.Io.{Io}
@@ -12,8 +11,9 @@ use Rattle.la_serve.specs.Turns.{only_writes, own_of, question_answered, IsAnswe
 use Rattle.la_serve.specs.Said.{said_text, IsSaidAnswer, answer_by, IsSaidAgain}
 use Rattle.la_serve.specs.Serving.{OfCall, TakesBy, TellsNoLine}
 use Rattle.la_serve.proofs.Taking.{takes_only}
+use Rattle.la_replica.specs.ReplicaState.{ReplicaState}
 
-pub is_answered : (objects : List (ℕ × Kind)) (n : KeptState) (k object : ℕ) (query : Query) (line : List ℕ) (s : Said)
+pub is_answered : (objects : List (ℕ × Kind)) (n : ReplicaState) (k object : ℕ) (query : Query) (line : List ℕ) (s : Said)
     → IsSaidAnswer (own_of n) object (answer_by objects n object query) s
     → IsAnsweredTurn objects n k object query (only_writes n line (said_text (own_of n) k s))
 is_answered objects n k object query line (said.Lines text) is =
@@ -21,7 +21,7 @@ is_answered objects n k object query line (said.Lines text) is =
 is_answered objects n k object query line said.NoSuchObject is = inl (ap (question_answered n k object line) (sym is))
 is_answered objects n k object query line said.Memory is = inr refl
 
-pub is_ticked : (n : KeptState) (k : ℕ) (line : List ℕ) (s : Said) → IsSaidAgain n s
+pub is_ticked : (n : ReplicaState) (k : ℕ) (line : List ℕ) (s : Said) → IsSaidAgain n s
     → IsTicked n k (only_writes n line (said_text (own_of n) k s))
 is_ticked n k line (said.Lines text) is =
     inl (record { mail = is.0; whole = is.1; over = is.2; turn = ap (only_writes n line) is.3 })

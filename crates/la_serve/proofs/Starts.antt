@@ -11,7 +11,6 @@ use Rattle.la_object.specs.declared.kind.Kind.{Kind}
 use Rattle.la_journal.specs.Disk.{LeavesOnly}
 use Rattle.la_journal.specs.Durable.{IsSameOr}
 use Rattle.la_journal.specs.Lines.{lines}
-use Rattle.la_durable.specs.Nodes.{KeptState}
 use Rattle.la_durable.specs.Restarts.{leads_from}
 use Rattle.la_io.specs.Streams.{TellsAll}
 use Rattle.la_serve.specs.declared.error.NodeFault.{NodeFault}
@@ -22,6 +21,7 @@ use Rattle.la_serve.specs.Turns.{Turn}
 use Rattle.la_serve.specs.Serving.{ServesAll, ServesSome, ServesClosed, IsServeRefusal, kept_lines}
 use Rattle.la_serve.specs.Crashes.{Leaves, LeftBy, at_start}
 use Rattle.la_serve.specs.Starting.{RunsAll, RunsCut, IsServerStartRefusal}
+use Rattle.la_replica.specs.ReplicaState.{ReplicaState}
 
 -- nothing lies in every set
 pub nothing_within : (s : Histories) → IsSubset empty s
@@ -99,7 +99,7 @@ module _ (Told : List (List ℕ) → Type 0) (Left Left2 : (turns last : List Tu
 -- ## A run, by what was served behind its recovery
 
 module _ {D R W E : Type 0} (f : Facts D R W E) (objects objects2 : List (ℕ × Kind)) (options : Options)
-    (disk recovered final : D) (old new : Streams R W E) (before now : KeptState)
+    (disk recovered final : D) (old new : Streams R W E) (before now : ReplicaState)
     (plays : leads_from (at_start options.config options.own) (f.seen disk) ≡ Some before)
     (leads : leads_from (at_start options.config options.own) (f.seen recovered) ≡ Some before)
     (same : lines (f.seen recovered) ≡ lines (f.seen disk))

@@ -11,8 +11,8 @@ use Rattle.la_wire.specs.Calls.{WireCall, called}
 use Rattle.la_wire.specs.CallLines.{named_call}
 use Rattle.la_durable.specs.declared.error.NodeError.{NodeError}
 use Rattle.la_durable.specs.declared.error.NodeError.TheVariants.{Memory}
-use Rattle.la_durable.specs.Given.{Given}
-use Rattle.la_durable.specs.Nodes.{KeptState, acts}
+use Rattle.la_node.specs.Steps.{Given}
+use Rattle.la_durable.specs.Nodes.{acts}
 use Rattle.la_durable.specs.Errors.{IsForMemory}
 use Rattle.la_durable.specs.Inputs.{InputState, IsInputRefusal}
 use Rattle.la_wire.specs.Notes.{refused_note}
@@ -21,6 +21,7 @@ use Rattle.la_serve.specs.Names.{refusal_name}
 use Rattle.la_serve.specs.Turns.{Turn, only_writes, turn_refused, faulty, call_text, own_of, is_note, OneOf, SaysCall, HasFault, IsStarved, IsTurnHere, IsCallTurn, IsShortTurn, IsTurn, IsKeptTurn, is_elsewhere, is_stale}
 use Rattle.la_serve.specs.Io.{Io}
 use Rattle.la_serve.specs.Serving.{OfCall, TakesBy, TellsNoLine}
+use Rattle.la_replica.specs.ReplicaState.{ReplicaState}
 
 short : (line : List ℕ) → length line ≤ MAX_LINE → nat_lt MAX_LINE (length line) ≡ false
 short line le = grind (arith, nat_tests)
@@ -28,7 +29,7 @@ short line le = grind (arith, nat_tests)
 long : (line : List ℕ) → MAX_LINE < length line → nat_lt MAX_LINE (length line) ≡ true
 long line lt = grind (arith, nat_tests)
 
-module _ (objects : List (ℕ × Kind)) (n : KeptState) (k : ℕ) where
+module _ (objects : List (ℕ × Kind)) (n : ReplicaState) (k : ℕ) where
   pub short_turn : (t : Turn) → length t.line ≤ MAX_LINE → IsShortTurn objects n k t → IsTurn objects n k t
   unfolding IsTurn
   short_turn t le s =
@@ -91,7 +92,7 @@ module _ (Wrote : (before after : Option (List ℕ)) → List ℕ → Type 0) (k
   where
     pub take_taken : (given : Given) → acts before.state (called input.call) ≡ Some (given, after.state)
         → after.journal ≡ before.journal ++ input.line ∷ [] → (text : List ℕ)
-        → text ≡ call_text (length (updates before.state.replica.view)) after.state (called input.call) given
+        → text ≡ call_text (length (updates before.state.view)) after.state (called input.call) given
         → Wrote before.out after.out text → TakesBy Wrote (OfKept input k) TellsNoLine before after
     take_taken given acted journal text is w = record {
       turn = record { line = input.line; text = text; kept = input.line ∷ []; told = []; after = after.state };
@@ -118,7 +119,7 @@ module _ (Wrote : (before after : Option (List ℕ)) → List ℕ → Type 0) (k
       tells = refl;
     }
 
-pub same_text : (text : List ℕ) (before b : ℕ) (after : KeptState) (call call2 : WireCall) (given : Given)
+pub same_text : (text : List ℕ) (before b : ℕ) (after : ReplicaState) (call call2 : WireCall) (given : Given)
     → text ≡ call_text before after call given → before ≡ b → call ≡ call2 → text ≡ call_text b after call2 given
 same_text text before b after call call2 given e p q =
     e ∙ ap (λ x. call_text x after call given) p ∙ ap (λ y. call_text b after y given) q

@@ -10,8 +10,8 @@ use Rattle.la_journal.specs.Durable.{IsSettled, IsSameOr}
 use Rattle.la_node.specs.declared.config.Config.{Config}
 use Rattle.la_node.specs.Nodes.{node_at_start}
 use Rattle.la_durable.specs.CallLines.{CallLine}
-use Rattle.la_durable.specs.Nodes.{KeptState, empty_shelf, kept_by, step}
-use Rattle.la_durable.specs.Restarts.{kept_state, leads_from}
+use Rattle.la_durable.specs.Nodes.{empty_shelf, kept_by, step}
+use Rattle.la_durable.specs.Restarts.{leads_from}
 use Rattle.la_io.specs.Streams.{TellsAll}
 use Rattle.la_serve.specs.declared.error.NodeFault.{NodeFault}
 use Rattle.la_serve.specs.declared.server.Server.{Server}
@@ -19,6 +19,7 @@ use Rattle.la_serve.specs.declared.options.Options.{Options}
 use Rattle.la_serve.specs.Io.{HeldAt, Streams, Facts, io_on}
 use Rattle.la_serve.specs.Turns.{Turn}
 use Rattle.la_serve.specs.Serving.{kept_lines, Unflushed, ServesAll, IsServeRefusal}
+use Rattle.la_replica.specs.ReplicaState.{ReplicaState}
 
 abbrev pub crash_texts : List CallLine → List (List ℕ)
 crash_texts calls = map (λ (c : CallLine). c.line) calls
@@ -27,22 +28,23 @@ crash_texts calls = map (λ (c : CallLine). c.line) calls
 -- last ones nothing. A crash at any moment of that leaves one that leads to where the first some of the lines
 -- lead that it gained, none skipped; and a crash from now on one that has all lines of the first turns.
 pub record Leaves {D : Type 0} (seen : D → List ℕ) (may_leave : D → List ℕ → Type 0) (moment : D → ℕ)
-    (left_since : D → ℕ → List ℕ → Type 0) (n : KeptState) (old new : D) (turns last : List Turn) : Type 0 where
+    (left_since : D → ℕ → List ℕ → Type 0) (n : ReplicaState) (old new : D) (turns last : List Turn) : Type 0 where
   pub calls : List CallLine
   pub lines : kept_lines turns ≡ crash_texts calls
   pub later : List CallLine
   pub last_lines : kept_lines last ≡ crash_texts later
-  pub between : KeptState
+  pub between : ReplicaState
   pub led : steps step calls n ≡ Some between
-  pub any_moment : (start : KeptState) → leads_from start (seen old) ≡ Some n
+  pub any_moment : (start : ReplicaState) → leads_from start (seen old) ≡ Some n
       → LeavesOnly moment left_since old new (LeadsToSome (leads_from start) step (calls ++ later) n)
-  pub from_now : (start : KeptState) → leads_from start (seen old) ≡ Some n
+  pub from_now : (start : ReplicaState) → leads_from start (seen old) ≡ Some n
       → (c : List ℕ) → may_leave new c → LeadsToSome (leads_from start) step later between c
 
 -- The same of a run from its start on, which first recovered the journal: of that a crash leaves what might have been
 -- left before, or the same lines.
 pub record LeavesOfRun {D : Type 0} (seen : D → List ℕ) (may_leave : D → List ℕ → Type 0) (moment : D → ℕ)
-    (left_since : D → ℕ → List ℕ → Type 0) (fresh : KeptState) (disk : D) (n : KeptState) (turns last : List Turn) :
+    (left_since : D → ℕ → List ℕ → Type 0) (fresh : ReplicaState) (disk : D) (n : ReplicaState)
+    (turns last : List Turn) :
     Type
     0 where
   pub recovered : D
@@ -52,11 +54,11 @@ pub record LeavesOfRun {D : Type 0} (seen : D → List ℕ) (may_leave : D → L
   pub left : Leaves seen may_leave moment left_since n recovered final turns last
 
 -- what a new node keeps
-abbrev pub at_start : Config → (own : ℕ) → KeptState
-at_start config own = kept_state config.replicas (node_at_start config own empty_shelf)
+abbrev pub at_start : Config → (own : ℕ) → ReplicaState
+at_start config own = (node_at_start config own empty_shelf).replica
 
 -- what is left of a run with these options, by what a disk states
-abbrev pub LeftBy : {D R W E : Type 0} → Facts D R W E → Options → (disk : D) → KeptState → (turns last : List Turn)
+abbrev pub LeftBy : {D R W E : Type 0} → Facts D R W E → Options → (disk : D) → ReplicaState → (turns last : List Turn)
     → Type 0
 LeftBy f options disk =
     LeavesOfRun f.seen f.may_leave f.moment f.left_since (at_start options.config options.own) disk
@@ -66,14 +68,14 @@ pub record Commits {D : Type 0} (seen : D → List ℕ) (may_leave : D → List 
     Type 0 where
   pub settled : IsSettled seen may_leave new
   pub lines : lines_in (seen new) ≡ lines_in (seen old) ++ lines_in staged
-  pub leads : (start before : KeptState) (calls : List CallLine) → leads_from start (seen old) ≡ Some before
+  pub leads : (start before : ReplicaState) (calls : List CallLine) → leads_from start (seen old) ≡ Some before
       → lines_in staged ≡ crash_texts calls → leads_from start (seen new) ≡ steps step calls before
 
 -- or, whatever happens, the first some of them are there
 abbrev pub CommitsSome : {D : Type 0} (seen : D → List ℕ) (moment : D → ℕ) (left_since : D → ℕ → List ℕ → Type 0)
     (staged : List ℕ) (old new : D) → Type 0
 CommitsSome seen moment left_since staged old new =
-    (start before : KeptState) (calls : List CallLine) → leads_from start (seen old) ≡ Some before
+    (start before : ReplicaState) (calls : List CallLine) → leads_from start (seen old) ≡ Some before
     → lines_in staged ≡ crash_texts calls
     → LeavesOnly moment left_since old new (LeadsToSome (leads_from start) step calls before)
 

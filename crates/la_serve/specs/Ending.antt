@@ -44,7 +44,8 @@ abbrev pub end_line : NodeFault → List ℕ
 end_line f = end_name f ++ 10 ∷ []
 
 -- it took all lines of its input
-pub record ServerEndsWell {D R W E : Type 0} (f : Facts D R W E) (options : Options) (disk : D) (old new : Streams R W E)
+pub record ServerEndsWell {D R W E : Type 0} (f : Facts D R W E) (options : Options) (disk : D)
+    (old new : Streams R W E)
     (status : ℕ) : Type 0 where
   pub well : status ≡ 0
   pub runs : RunsAll f node_objects options disk old new

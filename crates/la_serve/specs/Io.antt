@@ -4,15 +4,16 @@ use Rattle.la_set.specs.Inclusion.{IsSubset}
 use Rattle.la_object.specs.declared.kind.Kind.{Kind}
 use Rattle.la_journal.specs.declared.disk.Disk.{Ghosts}
 use Rattle.la_journal.specs.Lines.{lines}
-use Rattle.la_durable.specs.Nodes.{KeptState, kept_by}
+use Rattle.la_durable.specs.Nodes.{kept_by}
 use Rattle.la_io.specs.declared.source.Source.{Source}
 use Rattle.la_io.specs.Sources.{ahead}
 use Rattle.la_serve.specs.declared.server.Server.{Server}
+use Rattle.la_replica.specs.ReplicaState.{ReplicaState}
 
 pub record Io : Type 0 where
   -- the objects on the shelf, and what the node keeps
   pub objects : List (ℕ × Kind)
-  pub state : KeptState
+  pub state : ReplicaState
   -- what is left of the input, and what is in the output
   pub left : Option (List ℕ)
   pub out : Option (List ℕ)
@@ -107,7 +108,7 @@ facts seen may_leave moment left_since remaining contents heard refuses = record
 }
 
 -- what streams have, where the journal has these lines
-abbrev pub io_with : {D R W E : Type 0} → Facts D R W E → Streams R W E → List (ℕ × Kind) → KeptState
+abbrev pub io_with : {D R W E : Type 0} → Facts D R W E → Streams R W E → List (ℕ × Kind) → ReplicaState
     → (journal : List (List ℕ)) → Io
 io_with f s objects n journal =
     record { objects = objects; state = n; left = f.remaining s.input; out = f.contents s.output; journal = journal }

@@ -1,5 +1,5 @@
 -- What is written of a line that the journal does not gain.
-use Rattle.std.specs.Prelude.{◌≡◌, ⊤, ℕ, List, codes, Option, Some, None}
+use Rattle.std.specs.Prelude.{length, ◌≡◌, ⊤, ℕ, List, codes, Option, Some, None}
 use Rattle.la_set.specs.declared.counts.Counts.{Counts}
 use Rattle.la_object.specs.declared.kind.Kind.{Kind}
 use Rattle.la_object.specs.declared.query.Query.{Query}
@@ -9,10 +9,10 @@ use Rattle.la_replica.specs.declared.message.Message as code
 use Rattle.la_replica.specs.Whole.{whole_mail}
 use Rattle.la_replica.specs.Again.{again}
 use Rattle.la_replica.specs.Bases.{AreToldIn}
-use Rattle.la_durable.specs.Nodes.{KeptState}
 use Rattle.la_wire.specs.Notes.{answered_note, refused_note, letters_text}
 use Rattle.la_serve.specs.declared.said.Said.{Said}
 use Rattle.la_serve.specs.declared.said.Said.TheVariants as said
+use Rattle.la_replica.specs.ReplicaState.{ReplicaState}
 
 -- what is written, of line k
 abbrev pub said_text : (own k : ℕ) → Said → List ℕ
@@ -28,13 +28,13 @@ IsSaidAnswer own object o said.NoSuchObject = o ≡ None
 IsSaidAnswer own object o said.Memory = ⊤
 
 -- what a shelf of such objects answers by a node's view
-abbrev pub answer_by : List (ℕ × Kind) → KeptState → (object : ℕ) → Query → Option Answer
-answer_by objects n object query = answer_at (record { view = n.replica.view; objects = objects }) object query
+abbrev pub answer_by : List (ℕ × Kind) → ReplicaState → (object : ℕ) → Query → Option Answer
+answer_by objects n object query = answer_at (record { view = n.view; objects = objects }) object query
 
 -- what waits for an answer, once more; or there was no memory
-abbrev pub IsSaidAgain : KeptState → Said → Type 0
+abbrev pub IsSaidAgain : ReplicaState → Said → Type 0
 IsSaidAgain n (said.Lines text) =
-    (mail : List code.Message) × (whole_mail mail ≡ again n.replica)
-    × ((offered : Counts) → AreToldIn n.replica offered mail) × (text.items ≡ letters_text n.replicas mail)
+    (mail : List code.Message) × (whole_mail mail ≡ again n)
+    × ((offered : Counts) → AreToldIn n offered mail) × (text.items ≡ letters_text (length n.votes) mail)
 IsSaidAgain n said.NoSuchObject = ⊥
 IsSaidAgain n said.Memory = ⊤

@@ -6,7 +6,7 @@ use Rattle.la_journal.specs.Lines.{lines}
 use Rattle.la_journal.specs.Journal.{IsDamaged}
 use Rattle.la_node.specs.declared.error.WorldError.TheVariants as world
 use Rattle.la_node.specs.Nodes.{IsStartRefusal}
-use Rattle.la_durable.specs.Nodes.{KeptState, empty_shelf}
+use Rattle.la_durable.specs.Nodes.{empty_shelf}
 use Rattle.la_durable.specs.Restarts.{leads_from}
 use Rattle.la_io.specs.Streams.{TellsAll}
 use Rattle.la_serve.specs.declared.error.NodeFault.{NodeFault}
@@ -15,24 +15,25 @@ use Rattle.la_serve.specs.declared.options.Options.{Options}
 use Rattle.la_serve.specs.Io.{Streams, Facts, facts, io_with}
 use Rattle.la_serve.specs.Serving.{ServesAll, IsServeRefusal}
 use Rattle.la_serve.specs.Crashes.{at_start, LeftBy}
+use Rattle.la_replica.specs.ReplicaState.{ReplicaState}
 
 -- where the journal leads the lines of an input were taken, all of them
 pub record RunsAll {D R W E : Type 0} (f : Facts D R W E) (objects : List (ℕ × Kind)) (options : Options) (disk : D)
     (old new : Streams R W E) : Type 0 where
-  pub before : KeptState
+  pub before : ReplicaState
   pub plays : leads_from (at_start options.config options.own) (f.seen disk) ≡ Some before
   pub journal : List (List ℕ)
-  pub now : KeptState
+  pub now : ReplicaState
   pub serves : ServesAll (TellsAll f.heard f.refuses old.errors new.errors) (LeftBy f options disk before)
       (io_with f old objects before (lines (f.seen disk))) (io_with f new objects now journal)
 
 -- or some of them
 pub record RunsCut {D R W E : Type 0} (f : Facts D R W E) (objects : List (ℕ × Kind)) (options : Options) (disk : D)
     (old new : Streams R W E) (why : NodeFault) : Type 0 where
-  pub before : KeptState
+  pub before : ReplicaState
   pub plays : leads_from (at_start options.config options.own) (f.seen disk) ≡ Some before
   pub journal : List (List ℕ)
-  pub now : KeptState
+  pub now : ReplicaState
   pub stops : IsServeRefusal (TellsAll f.heard f.refuses old.errors new.errors) (LeftBy f options disk before)
       (io_with f old objects before (lines (f.seen disk))) (io_with f new objects now journal) why
 
@@ -46,7 +47,8 @@ pub record RunsNot {D R W E : Type 0} (f : Facts D R W E) (old new : Streams R W
 abbrev pub IsUnplayable : Options → (file : List ℕ) → Type 0
 IsUnplayable options file = (leads_from (at_start options.config options.own) file ≡ None) ⊎ IsDamaged file
 
-abbrev pub IsServerStartRefusal : {D R W E : Type 0} → Facts D R W E → (objects : List (ℕ × Kind)) → Options → (disk : D)
+abbrev pub IsServerStartRefusal : {D R W E : Type 0} → Facts D R W E → (objects : List (ℕ × Kind)) → Options
+    → (disk : D)
     → (old new : Streams R W E) → NodeFault → Type 0
 IsServerStartRefusal f objects options disk old new fault.BadConfig =
     RunsNot f old new × (IsStartRefusal options.config options.own empty_shelf world.BadConfig

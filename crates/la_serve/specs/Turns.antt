@@ -26,8 +26,8 @@ use Rattle.la_wire.specs.CallLines.{named_call}
 use Rattle.la_durable.specs.declared.error.NodeError.{NodeError}
 use Rattle.la_durable.specs.declared.error.NodeError.TheVariants.{Memory}
 use Rattle.la_durable.specs.CallLines.{is_line}
-use Rattle.la_durable.specs.Given.{Given, given_of}
-use Rattle.la_durable.specs.Nodes.{KeptState, acts}
+use Rattle.la_node.specs.Steps.{Given, given_of}
+use Rattle.la_durable.specs.Nodes.{acts}
 use Rattle.la_durable.specs.Errors.{IsForMemory}
 use Rattle.la_durable.specs.Inputs.{IsInputRefusal}
 use Rattle.la_serve.specs.declared.keeping.Kept.{Kept}
@@ -35,8 +35,8 @@ use Rattle.la_serve.specs.declared.keeping.Kept.TheVariants as kept
 use Rattle.la_serve.specs.Names.{refusal_name}
 use Rattle.la_wire.specs.Notes.{submitted_note, proposed_note, learnt_note, view_note, outcome_note, answered_note, refused_note, line_fault_line, letters_text}
 
-abbrev pub own_of : KeptState → ℕ
-own_of n = n.replica.own
+abbrev pub own_of : ReplicaState → ℕ
+own_of n = n.own
 
 -- ## What is written of a call that is kept
 
@@ -78,9 +78,9 @@ receipt_text before after (Ask replica object query) given = []
 receipt_text before after Tick given = []
 
 -- first the notes, then the messages, in order
-abbrev pub call_text : (before : ℕ) → (after : KeptState) → WireCall → Given → List ℕ
+abbrev pub call_text : (before : ℕ) → (after : ReplicaState) → WireCall → Given → List ℕ
 call_text before after call given =
-    taken_text after.replica call ++ receipt_text before after.replica call given ++ letters_text after.replicas given.mail
+    taken_text after call ++ receipt_text before after call given ++ letters_text (length after.votes) given.mail
 
 -- ## Lines that are passed over
 
@@ -90,12 +90,12 @@ is_note [] = true
 is_note (b ∷ bytes) = b == 35
 
 -- a call for another node
-abbrev pub is_elsewhere : KeptState → WireCall → Bool
+abbrev pub is_elsewhere : ReplicaState → WireCall → Bool
 is_elsewhere n (Submit replica object op) = not (replica == own_of n)
 is_elsewhere n (Decide replica commit value) = not (replica == own_of n)
 is_elsewhere n (Ask replica object query) = not (replica == own_of n)
 is_elsewhere n Tick = false
-is_elsewhere n (Receive m) = not (m.replicas == n.replicas) || not (m.to == own_of n)
+is_elsewhere n (Receive m) = not (m.replicas == length n.votes) || not (m.to == own_of n)
 
 -- ## A turn
 
@@ -110,22 +110,22 @@ pub record Turn : Type 0 where
   -- what is told of it on standard error, line by line
   pub told : List (List ℕ)
   -- the state after it
-  pub after : KeptState
+  pub after : ReplicaState
 
 -- only this is written, and nothing changes
-abbrev pub only_writes : KeptState → (line text : List ℕ) → Turn
+abbrev pub only_writes : ReplicaState → (line text : List ℕ) → Turn
 only_writes n line text = record { line = line; text = text; kept = []; told = []; after = n }
 
 -- line k was refused for this
-abbrev pub turn_refused : KeptState → (k : ℕ) → (line : List ℕ) → NodeError → Turn
+abbrev pub turn_refused : ReplicaState → (k : ℕ) → (line : List ℕ) → NodeError → Turn
 turn_refused n k line e = only_writes n line (refused_note (own_of n) k (refusal_name e))
 
 -- line k has this fault: it is told, and nothing is written
-abbrev pub faulty : KeptState → (k : ℕ) → (line : List ℕ) → LineFault → Turn
+abbrev pub faulty : ReplicaState → (k : ℕ) → (line : List ℕ) → LineFault → Turn
 faulty n k line fault = record { line = line; text = []; kept = []; told = line_fault_line k fault ∷ []; after = n }
 
 -- what became of a call that is to be kept: its line is in the journal, or nothing has changed
-abbrev pub IsOutcome : (n after : KeptState) (call : WireCall) (line : List ℕ)
+abbrev pub IsOutcome : (n after : ReplicaState) (call : WireCall) (line : List ℕ)
     (journal_before journal_after : List (List ℕ)) → Kept → Type 0
 IsOutcome n after call line journal_before journal_after (kept.Taken given) =
     (acts n call ≡ Some (given_of given, after)) × (journal_after ≡ journal_before ++ line ∷ [])
@@ -133,50 +133,50 @@ IsOutcome n after call line journal_before journal_after (kept.Refused why) =
     (IsForMemory why ⊎ (acts n call ≡ None)) × (after ≡ n) × (journal_after ≡ journal_before)
 
 -- a call was taken: its line is in the journal
-pub record IsCallTaken (n : KeptState) (call : WireCall) (t : Turn) : Type 0 where
+pub record IsCallTaken (n : ReplicaState) (call : WireCall) (t : Turn) : Type 0 where
   pub given : Given
   pub acted : acts n call ≡ Some (given, t.after)
-  pub written : t.text ≡ call_text (length (updates n.replica.view)) t.after call given
+  pub written : t.text ≡ call_text (length (updates n.view)) t.after call given
   pub journal : t.kept ≡ t.line ∷ []
   pub silent : t.told ≡ []
 
 -- or it was refused, and then nothing has changed: where there is memory, exactly where the node has no step
-pub record IsRefused (n : KeptState) (k : ℕ) (call : WireCall) (t : Turn) : Type 0 where
+pub record IsRefused (n : ReplicaState) (k : ℕ) (call : WireCall) (t : Turn) : Type 0 where
   pub why : NodeError
   pub cause : IsForMemory why ⊎ (acts n call ≡ None)
   pub turn : t ≡ turn_refused n k t.line why
 
 -- nothing changed for want of memory
-abbrev pub IsStarved : KeptState → (k : ℕ) → Turn → Type 0
+abbrev pub IsStarved : ReplicaState → (k : ℕ) → Turn → Type 0
 IsStarved n k t = t ≡ turn_refused n k t.line Memory
 
 -- a question is answered by the view; where there is no such object, this is said
-abbrev pub question_answered : KeptState → (k object : ℕ) → (line : List ℕ) → Option Answer → Turn
+abbrev pub question_answered : ReplicaState → (k object : ℕ) → (line : List ℕ) → Option Answer → Turn
 question_answered n k object line None = only_writes n line (refused_note (own_of n) k (codes "NoSuchObject"))
 question_answered n k object line (Some answer) = only_writes n line (answered_note (own_of n) object answer)
 
 -- by the kinds of the objects on the shelf
-abbrev pub question : List (ℕ × Kind) → KeptState → (k object : ℕ) → Query → (line : List ℕ) → Turn
+abbrev pub question : List (ℕ × Kind) → ReplicaState → (k object : ℕ) → Query → (line : List ℕ) → Turn
 question objects n k object query line =
-    question_answered n k object line (answer_at (record { view = n.replica.view; objects = objects }) object query)
+    question_answered n k object line (answer_at (record { view = n.view; objects = objects }) object query)
 
 -- what waits for an answer is sent once more
-pub record IsSentAgain (n : KeptState) (t : Turn) : Type 0 where
+pub record IsSentAgain (n : ReplicaState) (t : Turn) : Type 0 where
   pub mail : List code.Message
-  pub whole : whole_mail mail ≡ again n.replica
-  pub over : (offered : Counts) → AreToldIn n.replica offered mail
-  pub turn : t ≡ only_writes n t.line (letters_text n.replicas mail)
+  pub whole : whole_mail mail ≡ again n
+  pub over : (offered : Counts) → AreToldIn n offered mail
+  pub turn : t ≡ only_writes n t.line (letters_text (length n.votes) mail)
 
-abbrev pub IsAnsweredTurn : List (ℕ × Kind) → KeptState → (k object : ℕ) → Query → Turn → Type 0
+abbrev pub IsAnsweredTurn : List (ℕ × Kind) → ReplicaState → (k object : ℕ) → Query → Turn → Type 0
 IsAnsweredTurn objects n k object query t = (t ≡ question objects n k object query t.line) ⊎ IsStarved n k t
 
-abbrev pub IsTicked : KeptState → (k : ℕ) → Turn → Type 0
+abbrev pub IsTicked : ReplicaState → (k : ℕ) → Turn → Type 0
 IsTicked n k t = IsSentAgain n t ⊎ IsStarved n k t
 
-abbrev pub IsKeptTurn : KeptState → (k : ℕ) → WireCall → Turn → Type 0
+abbrev pub IsKeptTurn : ReplicaState → (k : ℕ) → WireCall → Turn → Type 0
 IsKeptTurn n k call t = IsCallTaken n call t ⊎ IsRefused n k call t
 
-abbrev pub IsTurnHere : List (ℕ × Kind) → KeptState → (k : ℕ) → WireCall → Turn → Type 0
+abbrev pub IsTurnHere : List (ℕ × Kind) → ReplicaState → (k : ℕ) → WireCall → Turn → Type 0
 IsTurnHere objects n k (Submit replica object op) t = IsKeptTurn n k (Submit replica object op) t
 IsTurnHere objects n k (Decide replica commit value) t = IsKeptTurn n k (Decide replica commit value) t
 IsTurnHere objects n k (Ask replica object query) t = IsAnsweredTurn objects n k object query t
@@ -191,12 +191,12 @@ is_told_known view Yes = false
 is_told_known view (No base more) = false
 
 -- a message that brings no news: it would change nothing, and nothing would be sent for it
-abbrev pub is_stale : KeptState → WireCall → Bool
+abbrev pub is_stale : ReplicaState → WireCall → Bool
 is_stale n (Submit replica object op) = false
 is_stale n (Decide replica commit value) = false
 is_stale n (Ask replica object query) = false
 is_stale n Tick = false
-is_stale n (Receive m) = (m.instance == 0) && is_told_known n.replica.view m.body
+is_stale n (Receive m) = (m.instance == 0) && is_told_known n.view m.body
 
 -- one of two
 abbrev pub OneOf : Bool → (A B : Type 0) → Type 0
@@ -204,29 +204,29 @@ OneOf true A B = A
 OneOf false A B = B
 
 -- a call that is for another node, or brings no news, is passed over
-abbrev pub IsCallTurn : List (ℕ × Kind) → KeptState → (k : ℕ) → WireCall → Turn → Type 0
+abbrev pub IsCallTurn : List (ℕ × Kind) → ReplicaState → (k : ℕ) → WireCall → Turn → Type 0
 IsCallTurn objects n k call t =
     OneOf (is_elsewhere n call || is_stale n call) (t ≡ only_writes n t.line []) (IsTurnHere objects n k call t)
 
 -- a line that says a call, and that a journal may have
-pub record SaysCall (objects : List (ℕ × Kind)) (n : KeptState) (k : ℕ) (t : Turn) : Type 0 where
+pub record SaysCall (objects : List (ℕ × Kind)) (n : ReplicaState) (k : ℕ) (t : Turn) : Type 0 where
   pub call : WireCall
   pub says : named_call t.line ≡ Some call
   pub stands : is_line t.line ≡ true
   pub turn : IsCallTurn objects n k call t
 
 -- one that has a fault
-pub record HasFault (n : KeptState) (k : ℕ) (t : Turn) : Type 0 where
+pub record HasFault (n : ReplicaState) (k : ℕ) (t : Turn) : Type 0 where
   pub fault : LineFault
   pub is : IsInputRefusal t.line (Fault fault)
   pub turn : t ≡ faulty n k t.line fault
 
 -- a line that is not too long
-abbrev pub IsShortTurn : List (ℕ × Kind) → KeptState → (k : ℕ) → Turn → Type 0
+abbrev pub IsShortTurn : List (ℕ × Kind) → ReplicaState → (k : ℕ) → Turn → Type 0
 IsShortTurn objects n k t =
     OneOf (is_note t.line) (t ≡ only_writes n t.line []) (SaysCall objects n k t ⊎ (HasFault n k t ⊎ IsStarved n k t))
 
 -- what line k comes to, where the node keeps this before it
-unfoldable pub IsTurn : List (ℕ × Kind) → KeptState → (k : ℕ) → Turn → Type 0
+unfoldable pub IsTurn : List (ℕ × Kind) → ReplicaState → (k : ℕ) → Turn → Type 0
 IsTurn objects n k t =
     OneOf (nat_lt MAX_LINE (length t.line)) (t ≡ faulty n k t.line TooLong) (IsShortTurn objects n k t)

@@ -47,7 +47,8 @@ fn is_elsewhere(machine: &NodeMachine, call: &Call) -> bool
         Call::Submit { replica, .. } | Call::Decide { replica, .. } | Call::Ask { replica, .. } => {
             *replica != own
         }
-        Call::Receive(letter) => letter.replicas != machine.replicas || letter.message.to != own,
+        Call::Receive(letter) => letter.replicas != machine.node.replicas()
+            || letter.message.to != own,
         Call::Tick => false,
     }
 }
@@ -110,37 +111,7 @@ fn take<W: Write, D: Disk, B: Replicated>(
     }
 }
 
-// Lets a shelf absorb the view. Answers whether there was memory.
-fn follow<B: Replicated>(shelf: &mut Shelf<B>, view: &UpdateSet) -> bool
-    requires { IsSubset shelf.old.view view.now }
-    ensures ok { result ≡ true → shelf.new.view ≡ view.now }
-    ensures objects { shelf.new.objects ≡ shelf.old.objects }
-    ensures within { IsSubset shelf.new.view view.now }
-{
-    shelf.absorb_compatible(view).is_ok()
-}
-
-// What an object on a shelf answers.
-fn said_of<B: Replicated>(
-    alloc: Global,
-    own: u8,
-    shelf: &Shelf<B>,
-    object: u16,
-    query: &Query,
-) -> Said
-    ensures { IsSaidAnswer own object (answer_at shelf.now object query.now) result }
-{
-    match shelf.ask(object, query) {
-        Ok(answer) => match answer_text(alloc, own, object, &answer) {
-            Ok(text) => Said::Lines(text),
-            Err(_) => Said::Memory,
-        },
-        Err(ShelfError::NoSuchObject) => Said::NoSuchObject,
-        Err(_) => Said::Memory,
-    }
-}
-
-// What it answers by a node's view, which the shelf absorbs first.
+// What an object on a shelf answers by a node's view, which the shelf absorbs first.
 fn said_by_view<B: Replicated>(
     alloc: Global,
     machine: &NodeMachine,
@@ -154,10 +125,14 @@ fn said_by_view<B: Replicated>(
     ensures objects { shelf.new.objects ≡ shelf.old.objects }
     ensures within { IsSubset shelf.new.view machine.now.node.replica.view }
 {
-    if !follow(shelf, machine.node.view()) {
-        return Said::Memory;
+    match shelf.ask_by(machine.node.view(), object, query) {
+        Ok(answer) => match answer_text(alloc, machine.node.own(), object, &answer) {
+            Ok(text) => Said::Lines(text),
+            Err(_) => Said::Memory,
+        },
+        Err(ShelfError::NoSuchObject) => Said::NoSuchObject,
+        Err(_) => Said::Memory,
     }
-    said_of(alloc, machine.node.own(), shelf, object, query)
 }
 
 // What waits for an answer, once more.
@@ -167,7 +142,7 @@ fn said_again(alloc: Global, machine: &NodeMachine) -> Said
     let Ok(mail) = machine.node.again() else {
         return Said::Memory;
     };
-    match mail_text(alloc, machine.replicas, &mail) {
+    match mail_text(alloc, machine.node.replicas(), &mail) {
         Ok(text) => Said::Lines(text),
         Err(_) => Said::Memory,
     }

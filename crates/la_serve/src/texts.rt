@@ -2,7 +2,7 @@
 ghost use Rattle.std.specs.Prelude.{◌≡◌, ◌++◌, IfOk, OnOk};
 ghost use Rattle.la_replica.specs.Steps.{learnt_in};
 ghost use Rattle.la_wire.specs.Calls.{called};
-ghost use Rattle.la_durable.specs.Given.{given_of};
+ghost use Rattle.la_node.specs.Steps.{given_of};
 ghost use Rattle.la_wire.specs.Notes.{answered_note, letters_text};
 ghost use Rattle.la_durable.specs.Nodes.{kept_by};
 ghost use Rattle.la_serve.specs.Turns.{taken_text, learnt_line, growth_text, return_text};
@@ -116,7 +116,7 @@ pub fn text_of(
     let mut out = Vec::with_capacity(alloc, LINE)?;
     put_taken(&mut out, call, &machine.node)?;
     put_receipt(&mut out, &machine.node, before, call, given)?;
-    put_mail(&mut out, machine.replicas, given.done.mail.all())?;
+    put_mail(&mut out, machine.node.replicas(), given.done.mail.all())?;
     Ok(out)
 }
 

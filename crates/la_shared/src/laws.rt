@@ -11,7 +11,8 @@ ghost use Rattle.la_acceptor.specs.Offers.{AreAnswered, accepted_after};
 ghost use Rattle.la_shared.specs.declared.entry.Entry.{Entry};
 ghost use Rattle.la_shared.specs.History.{accepted_by, offers, IsLegal, HasEntry, HasYes};
 ghost use Rattle.la_shared.specs.Bases.{AgreesWith};
-ghost use Rattle.la_shared.specs.Passes.{Known, Extends, IsPass};
+ghost use Rattle.la_shared.specs.Laws.{WhatWasSeenStays};
+ghost use Rattle.la_shared.specs.Passes.{Known, Extends};
 
 use la_acceptor::Reply;
 
@@ -49,18 +50,7 @@ pub fn acknowledged_sets_are_comparable()
 /// longer one, and an own entry in what was seen. Of two beginnings of one history, one begins with
 /// the other.
 pub fn what_was_seen_stays()
-    ensures grows { (old new : Known) (set : Histories) (reply : Reply)
-        → Extends set reply old new
-        → IsPrefix old.seen new.seen × IsPrefix old.mine new.mine }
-    ensures answered { (old new : Known) (set : Histories) (reply : Reply)
-        → Extends set reply old new
-        → HasEntry new.seen set reply × HasEntry new.mine set reply }
-    ensures entries { (history longer : List Entry) (set : Histories) (reply : Reply)
-        → IsPrefix history longer → HasEntry history set reply → HasEntry longer set reply }
-    ensures own { (pass : Known) (set : Histories) (reply : Reply)
-        → IsPass pass → HasEntry pass.mine set reply → HasEntry pass.seen set reply }
-    ensures beginnings { (one other history : List Entry)
-        → IsPrefix one history → IsPrefix other history → IsPrefix one other ⊎ IsPrefix other one }
+    ensures { WhatWasSeenStays }
 {}
 
 /// What is accepted only grows along a history; so a set that agrees with it within some counts does

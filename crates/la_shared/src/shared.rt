@@ -1,7 +1,7 @@
-ghost use Rattle.std.specs.Prelude.{◌≡◌, [], None, IfOk, IfErr, OnErr};
+ghost use Rattle.std.specs.Prelude.{◌≡◌, [], None, IfOk};
 ghost use mathlib.Core.List.{IsPrefix};
-ghost use Rattle.la_shared.specs.Bases.{AgreesWith, HasOffers, IsRefusedSince};
-ghost use Rattle.la_shared.specs.Passes.{Extends, HasNumber, IsNewcomer, IsPass};
+ghost use Rattle.la_shared.specs.Bases.{AgreesWith, HasOffers};
+ghost use Rattle.la_shared.specs.Passes.{IsNewcomer, IsOffered, IsPass};
 
 use crate::table::Core;
 use crate::{Gate, Note, Pass};
@@ -81,13 +81,7 @@ impl SharedAcceptor {
         gate: &G,
     ) -> Result<Reply, AcceptorError>
         requires { pass.old.acceptor ≡ self.now }
-        ensures acceptor { pass.new.acceptor ≡ self.now }
-        ensures number { HasNumber pass.old.number pass.new.number }
-        ensures ok { IfOk result (λ reply. Extends set.now reply pass.old pass.new) }
-        ensures err { OnErr result (
-            (pass.new.seen ≡ pass.old.seen) × (pass.new.mine ≡ pass.old.mine)) }
-        ensures refusal { IfErr result (IsRefusedSince pass.old.seen set.now) }
-        ensures pass { IsPass pass.new }
+        ensures { IsOffered self.now set.now pass.old pass.new result }
     {
         self.offer_beyond(rt, pass, set, Counts::zero(), gate)
     }
@@ -106,13 +100,7 @@ impl SharedAcceptor {
     ) -> Result<Reply, AcceptorError>
         requires acceptor { pass.old.acceptor ≡ self.now }
         requires grown { HasOffers pass.old.mine set.now }
-        ensures acceptor { pass.new.acceptor ≡ self.now }
-        ensures number { HasNumber pass.old.number pass.new.number }
-        ensures ok { IfOk result (λ reply. Extends set.now reply pass.old pass.new) }
-        ensures err { OnErr result (
-            (pass.new.seen ≡ pass.old.seen) × (pass.new.mine ≡ pass.old.mine)) }
-        ensures refusal { IfErr result (IsRefusedSince pass.old.seen set.now) }
-        ensures pass { IsPass pass.new }
+        ensures { IsOffered self.now set.now pass.old pass.new result }
     {
         let base = pass.offered;
         self.offer_beyond(rt, pass, set, base, gate)
@@ -132,13 +120,7 @@ impl SharedAcceptor {
     ) -> Result<Reply, AcceptorError>
         requires acceptor { pass.old.acceptor ≡ self.now }
         requires agrees { AgreesWith base pass.old.seen set.now }
-        ensures acceptor { pass.new.acceptor ≡ self.now }
-        ensures number { HasNumber pass.old.number pass.new.number }
-        ensures ok { IfOk result (λ reply. Extends set.now reply pass.old pass.new) }
-        ensures err { OnErr result (
-            (pass.new.seen ≡ pass.old.seen) × (pass.new.mine ≡ pass.old.mine)) }
-        ensures refusal { IfErr result (IsRefusedSince pass.old.seen set.now) }
-        ensures pass { IsPass pass.new }
+        ensures { IsOffered self.now set.now pass.old pass.new result }
     {
         let mut acceptor = self.core.take(rt, &mut pass.seat);
         gate.inside(self.number);

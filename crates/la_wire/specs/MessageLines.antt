@@ -1,5 +1,5 @@
 -- A message as a line: a head, and behind it, each with `;` before it, the updates.
-use Rattle.std.specs.Prelude.{ℕ, List, [], ◌∷◌, map, codes, slice_index_or, Option, Some, None, Result, Ok, Err, if◌then◌else◌}
+use Rattle.std.specs.Prelude.{ℕ, List, [], ◌∷◌, ◌++◌, map, codes, slice_index_or, Option, Some, None, Result, Ok, Err, if◌then◌else◌}
 use Rattle.std.specs.Fmt.{decimal}
 use Rattle.std.specs.Str.{bytes_eq}
 use Rattle.la_set.specs.declared.update.Update.{Update}
@@ -12,7 +12,7 @@ use Rattle.la_wire.specs.declared.error.LineFault.TheVariants.{BadLine}
 use Rattle.la_wire.specs.declared.messages.Kind.{Kind}
 use Rattle.la_wire.specs.declared.messages.Kind.TheVariants as kind
 use Rattle.la_wire.specs.declared.messages.Header.{Header}
-use Rattle.la_wire.specs.Joined.{joined_by, parted}
+use Rattle.la_wire.specs.Joined.{joined_by, parted, spaced}
 use Rattle.la_wire.specs.Readings.{◌>>=◌, or_line_fault, first_number, at_end}
 use Rattle.la_wire.specs.Updates.{update_text, updates_in, rebuilt_set}
 use Rattle.la_wire.specs.Messages.{WireMessage, WireBody, Offer, Yes, No, Tell}
@@ -52,6 +52,11 @@ carried (Offer base more) = more
 carried Yes = []
 carried (No base more) = more
 carried (Tell told) = updates told
+
+-- the kind, then the group's size, sender, receiver, instance and ballot
+abbrev pub message_header_text : WireMessage → List ℕ
+message_header_text m = kind_text (kind_in m.body) ++ spaced 32
+    (decimal m.replicas ∷ decimal m.from ∷ decimal m.to ∷ decimal m.instance ∷ decimal m.ballot ∷ [])
 
 -- `offer`, `yes`, `no` or `tell`, then the group's size, sender, receiver, instance and ballot, and then the base
 abbrev pub head_words : WireMessage → List (List ℕ)

@@ -7,8 +7,7 @@ ghost use Rattle.la_wire.specs.Joined.{spaced, joined_by};
 ghost use Rattle.la_wire.specs.Updates.{op_words, update_text};
 ghost use Rattle.la_wire.specs.Messages.{letter_message, said_body};
 ghost use Rattle.la_wire.specs.MessageLines.{count_words, base_words, base_word, carried};
-ghost use Rattle.la_wire.specs.MessageLines.{kind_in, head_words, message_text};
-ghost use Rattle.la_wire.specs.MessageLines.{kind_text as kind_spelling};
+ghost use Rattle.la_wire.specs.MessageLines.{kind_in, message_header_text, message_text};
 ghost use Rattle.la_wire.specs.Updates.{verb_spelling};
 ghost use Rattle.la_wire.specs.Calls.{called};
 ghost use Rattle.la_wire.specs.CallLines.{query_words, call_line_text};
@@ -182,9 +181,7 @@ fn kind_of(body: &Body) -> Kind
 // Writes the kind and the numbers behind it.
 fn put_header(out: &mut Vec<u8>, replicas: u8, message: &Message) -> Result<(), AllocError>
     ensures { OnOk result (out.new.items ≡ out.old.items
-        ++ kind_spelling (kind_in (said_body message.now.body))
-        ++ spaced 32 (decimal replicas ∷ decimal message.now.from ∷ decimal message.now.to
-        ∷ decimal message.now.instance ∷ decimal message.now.ballot ∷ [])) }
+        ++ message_header_text (letter_message (record { replicas = replicas; message = message.now }))) }
 {
     out.extend_from_slice(kind_of(&message.body).spelling())?;
     put_number(out, u64::from(replicas))?;

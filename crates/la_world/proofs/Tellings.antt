@@ -1,5 +1,5 @@
 -- What was sent, as it is told: it carries what was sent, and stands on what its receiver has.
-use Rattle.std.proofs.Common.{◌≡◌, ℕ, ◌<◌, Bool, true, false, cond, min, List, [], ◌∷◌, ◌++◌, map, Option, Some, None, refl, sym, ◌∙◌, ap, ap₂, subst, arith}
+use Rattle.std.proofs.Common.{◌≡◌, ℕ, ◌<◌, Bool, true, false, cond, min, List, [], ◌∷◌, ◌++◌, Option, Some, None, refl, sym, ◌∙◌, ap, ap₂, subst, arith}
 use Rattle.std.proofs.lemmas.List.{map-append}
 use Rattle.la_set.specs.declared.counts.Counts.{Counts}
 use Rattle.la_set.specs.Histories.{Histories}
@@ -12,7 +12,7 @@ use Rattle.la_set.proofs.lemmas.Joins.{subset-join_right}
 use Rattle.la_acceptor.specs.declared.reply.Reply.TheVariants as replied
 use Rattle.la_acceptor.specs.Answer.{answer}
 use Rattle.la_replica.specs.declared.message.Message as code
-use Rattle.la_replica.specs.Whole.{Message, Body, Offer, Yes, No, Tell, whole_body, whole_of, whole_mail, CarryAll}
+use Rattle.la_replica.specs.Whole.{Message, Body, Offer, Yes, No, Tell, whole_of, CarryAll}
 use Rattle.la_replica.specs.Messages.{group, offer_to, reply_to}
 use Rattle.la_replica.specs.Bases.{smaller, offered_in, offered_by}
 use Rattle.la_world.specs.declared.step.Opening.{Opening}
@@ -24,8 +24,10 @@ use Rattle.la_world.specs.Acceptors.{accepted_there}
 use Rattle.la_world.specs.Ballots.{ballots, round}
 use Rattle.la_world.specs.Hearing.{reported_set}
 use Rattle.la_world.specs.Playing.{counts_reply, trace}
-use Rattle.la_replica.specs.Stored.{IsMadeBody, IsMade}
-use Rattle.la_world.specs.Told.{told_body, told_over, base_of, offered_to, sent_as_told, told_messages, StandsBody, ToldMessagesStand}
+use Rattle.la_replica.specs.Stored.{IsMade}
+use Rattle.la_node.specs.Telling.{told_body, told_over}
+use Rattle.la_node.proofs.lemmas.Told.{told_whole, wholes, body_made}
+use Rattle.la_world.specs.Told.{base_of, offered_to, sent_as_told, told_messages, StandsBody, ToldMessagesStand}
 use Rattle.la_world.proofs.Lists.{IsIn, IsIn_get, AllIn, AllIn-append, AllIn-each, AllIn-map, AllIn-made, AllIn_at}
 use Rattle.la_world.proofs.Accepted.{accepted_more}
 use Rattle.la_world.proofs.EventCases.{EventCases, silent, opens, answers_offer, refines, learns, Step}
@@ -36,19 +38,6 @@ use Rattle.la_world.proofs.Traces.{Holds, holds, always, stands, message_known}
 use Rattle.la_world.proofs.Hearing.{AreAccepted, accepted_start, accepted_kept}
 
 -- ## It carries what was sent
-
-body_whole : (base : Counts) (b : Body) → whole_body (told_body base b) ≡ b
-body_whole base (Offer s) = refl
-body_whole base Yes = refl
-body_whole base (No s) = refl
-body_whole base (Tell s) = refl
-
-pub told_whole : (base : Counts) (m : Message) → whole_of (told_over base m) ≡ m
-told_whole base m = ap (λ b. record { instance = m.instance; from = m.from; to = m.to; ballot = m.ballot; body = b }) (body_whole base m.body)
-
-wholes : (f : Message → Counts) (ms : List Message) → whole_mail (map (λ m. told_over (f m) m) ms) ≡ ms
-wholes f [] = refl
-wholes f (m ∷ ms) = ap₂ (λ x xs. x ∷ xs) (told_whole (f m) m) (wholes f ms)
 
 pub told_at_carries : (n : ℕ) (x : Entry) (t : Trace) → CarryAll (sent_as_told n x t) (sent_at n x)
 told_at_carries n x t = wholes (base_of (x ∷ t) (offered_to x.delivered)) (sent_at n x)
@@ -238,14 +227,8 @@ told_messages_stand g events k c at =
 
 -- ## Its deltas were made of sets
 
-over_made : (base : Counts) (b : Body) → IsMadeBody (told_body base b)
-over_made base (Offer s) = refl
-over_made base Yes = tt
-over_made base (No s) = refl
-over_made base (Tell s) = tt
-
 pub told_are_made : (g : Group) (events : Past) → AllIn IsMade (told_messages (replicas g) (trace g events))
 told_are_made g events =
     AllIn-each (StandsMessage (trace g events)) IsMade
-    (λ c st. subst IsMade (sym st.is) (over_made st.base st.whole.body)) (told_messages (replicas g) (trace g events))
+    (λ c st. subst IsMade (sym st.is) (body_made st.base st.whole.body)) (told_messages (replicas g) (trace g events))
     (standing g events).messages

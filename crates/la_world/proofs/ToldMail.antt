@@ -1,19 +1,10 @@
 -- What a replica tells by a step is what the trace says.
-use Rattle.std.proofs.Common.{◌≡◌, ℕ, ◌+◌, ◌<◌, ◌≤◌, List, [], ◌∷◌, map, slice_get, slice_index_or, Option, Some, None, IsSomeAnd, All, refl, sym, ap, ap₂, subst, ◌∙◌, arith}
-use Rattle.std.proofs.lemmas.List.Elements.{All-weaker, All-head, All-tail}
+use Rattle.std.proofs.Common.{◌≡◌, ℕ, ◌<◌, ◌≤◌, List, [], ◌∷◌, map, slice_index_or, Option, Some, None, refl, sym, ap, ap₂, ◌∙◌, arith}
 use Rattle.std.proofs.lemmas.Option.{get_or_from_slice_get}
 use Rattle.std.specs.List.{range_with_len}
 use Rattle.la_set.specs.declared.counts.Counts.{Counts}
-use Rattle.la_proposer.specs.ProposerState.{reported}
-use Rattle.la_replica.specs.declared.message.Message as code
-use Rattle.la_replica.specs.ReplicaState.{ReplicaState}
-use Rattle.la_replica.specs.Bases.{IsToldBody, IsToldIn, AreToldIn}
 use Rattle.la_set.specs.Counts.{counts_of, zero_counts}
-use Rattle.la_set.specs.Deltas.{DeltaState, delta_over}
-use Rattle.la_replica.specs.declared.instance.Instance.{Instance}
-use Rattle.la_replica.specs.declared.message.Body as code_body
-use Rattle.la_replica.specs.declared.message.Body.TheVariants as body
-use Rattle.la_replica.specs.Whole.{Message, set_of, whole_body, whole_of, whole_mail, CarryAll}
+use Rattle.la_replica.specs.Whole.{Message}
 use Rattle.la_replica.specs.Messages.{group, offer_to}
 use Rattle.la_world.specs.declared.step.Opening.{Opening}
 use Rattle.la_world.specs.Groups.{Group, replicas, instances}
@@ -23,38 +14,14 @@ use Rattle.la_world.specs.Sent.{sender_for, ballot_of, offers_for, offers_for_ne
 use Rattle.la_world.specs.Ballots.{opened_by, opening_learnt}
 use Rattle.la_world.specs.Hearing as hearing
 use Rattle.la_world.specs.ReplicaStates.{reports, proposer_state, instance_of, replica_state}
-use Rattle.la_replica.specs.Stored.{IsMadeBody, IsMade}
-use Rattle.la_world.specs.Told.{told_body, told_over, base_told, base_of, offered_to, sent_as_told}
-use Rattle.la_world.proofs.Lists.{AllIn, AllIn-append, AllIn-made, get_made, made_at}
+use Rattle.la_node.specs.Telling.{told_over, base_told, reported_in, message_told}
+use Rattle.la_world.specs.Told.{base_of, offered_to, sent_as_told}
+use Rattle.la_world.proofs.Lists.{AllIn, AllIn-append, AllIn-made, get_made}
+use Rattle.la_world.proofs.InGroup.{IsBetween}
+use Rattle.la_world.proofs.OneReplicaSteps.{get_instance}
 use Rattle.la_world.proofs.Quorum.{tells_all, group_within}
 
 -- ## What a step tells is what the trace says
-
-body_told : (reported offered : Counts) (b : code_body.Body) → IsToldBody reported offered b
-    → b ≡ told_body (base_told reported offered (whole_body b)) (whole_body b)
-body_told reported offered (body.Offer d) told = ap body.Offer told
-body_told reported offered body.Yes told = refl
-body_told reported offered (body.No d) told = ap body.No told
-body_told reported offered (body.Tell set) told = refl
-
-body_made : (reported offered : Counts) (b : code_body.Body) → IsToldBody reported offered b → IsMadeBody b
-body_made reported offered (body.Offer d) told =
-    told ∙ ap (delta_over (set_of d)) (sym (ap (λ (e : DeltaState). e.base) told))
-body_made reported offered body.Yes told = tt
-body_made reported offered (body.No d) told =
-    told ∙ ap (delta_over (set_of d)) (sym (ap (λ (e : DeltaState). e.base) told))
-body_made reported offered (body.Tell set) told = tt
-
--- what is told was made of a set
-pub told_made : (r : ReplicaState) (offered : Counts) (mail : List code.Message) → AreToldIn r offered mail
-    → All IsMade mail
-told_made r offered mail told =
-    All-weaker (IsToldIn r offered) IsMade (λ m. go m (slice_get r.instances m.instance)) mail told
-  where
-    go : (m : code.Message) (o : Option Instance)
-        → IsSomeAnd o (λ x. IsToldBody (reported x.proposer m.to) offered m.body) → IsMade m
-    go m None h = absurd h
-    go m (Some x) h = body_made (reported x.proposer m.to) offered m.body h
 
 -- what has been reported to a replica is what it keeps
 reports_at : (t : Trace) (i r a : ℕ) → a < 8
@@ -66,45 +33,27 @@ reports_at t i r a lt =
     (get_made (λ q. counts_of (hearing.reported_set t i r q)) 0 8 a a lt (omega arith))
 
 module _ (g : Group) (t : Trace) (r : ℕ) (offered : Counts) where
-  told_so : (c : code.Message) → c.from ≡ r → c.to < 8 → IsToldIn (replica_state g t r) offered c
-      → c ≡ told_over (base_of t offered (whole_of c)) (whole_of c)
+  told_one : (m : Message) → m.from ≡ r → m.to < 8 → m.instance < instances g
+      → message_told (replica_state g t r) offered m ≡ told_over (base_of t offered m) m
   unfolding replica_state instance_of proposer_state
-  told_so c from lt told = go (slice_get (replica_state g t r).instances c.instance) refl told
-    where
-      go : (o : Option Instance) → slice_get (replica_state g t r).instances c.instance ≡ o
-          → IsSomeAnd o (λ x. IsToldBody (reported x.proposer c.to) offered c.body)
-          → c ≡ told_over (base_of t offered (whole_of c)) (whole_of c)
-      go None e h = absurd h
-      go (Some x) e h =
-          let zero : 0 + c.instance ≡ c.instance = omega arith in
-          let is : instance_of g t r c.instance ≡ x =
-          ap (instance_of g t r) (sym zero) ∙ made_at (instance_of g t r) 0 (instances g) c.instance x e in
-          let here = subst (λ (y : Instance). IsToldBody (reported y.proposer c.to) offered c.body) (sym is) h in
-          let same : reported (instance_of g t r c.instance).proposer c.to ≡ counts_of
-          (hearing.reported_set t c.instance c.from c.to) =
-          reports_at t c.instance r c.to lt ∙ ap (λ q. counts_of (hearing.reported_set t c.instance q c.to)) (sym from) in
-          let b =
-          body_told (counts_of (hearing.reported_set t c.instance c.from c.to)) offered c.body
-          (subst (λ n. IsToldBody n offered c.body) same here) in
-          λ j. record { instance = c.instance; from = c.from; to = c.to; ballot = c.ballot; body = b j }
+  told_one m from lt there =
+      ap (λ o. told_over (base_told (reported_in o m.to) offered m.body) m) (get_instance g t r m.instance there)
+      ∙ ap (λ c. told_over (base_told c offered m.body) m)
+      (reports_at t m.instance r m.to lt ∙ ap (λ q. counts_of (hearing.reported_set t m.instance q m.to)) (sym from))
 
-  told_all : (mail : List code.Message) → AllIn (λ (w : Message). (w.from ≡ r) × (w.to < 8)) (whole_mail mail)
-      → All (IsToldIn (replica_state g t r) offered) mail
-      → mail ≡ map (λ w. told_over (base_of t offered w) w) (whole_mail mail)
-  told_all [] sides told = refl
-  told_all (c ∷ mail) sides told =
-      ap₂ (λ x xs. x ∷ xs)
-      (told_so c sides.0.0 sides.0.1 (All-head (IsToldIn (replica_state g t r) offered) c mail told))
-      (told_all mail sides.1 (All-tail (IsToldIn (replica_state g t r) offered) c mail told))
+  told_so : (ms : List Message) → AllIn (λ (w : Message). (w.from ≡ r) × (w.to < 8)) ms → AllIn (IsBetween g) ms
+      → map (message_told (replica_state g t r) offered) ms ≡ map (λ w. told_over (base_of t offered w) w) ms
+  told_so [] sides between = refl
+  told_so (m ∷ ms) sides between =
+      ap₂ (λ x xs. x ∷ xs) (told_one m sides.0.0 sides.0.1 between.0.instance) (told_so ms sides.1 between.1)
 
 -- a replica of a trace tells what that says
-pub told_as : (g : Group) (t : Trace) (x : Entry) (r : ℕ) (mail : List code.Message)
-    → CarryAll mail (sent_at (replicas g) x) → AllIn (λ (w : Message). (w.from ≡ r) × (w.to < 8)) (sent_at (replicas g) x)
-    → AreToldIn (replica_state g (x ∷ t) r) (offered_to x.delivered) mail → mail ≡ sent_as_told (replicas g) x t
-told_as g t x r mail carry sides told =
-    told_all g (x ∷ t) r (offered_to x.delivered) mail
-    (subst (AllIn (λ (w : Message). (w.from ≡ r) × (w.to < 8))) (sym carry) sides) told
-    ∙ ap (map (λ w. told_over (base_of (x ∷ t) (offered_to x.delivered) w) w)) carry
+pub told_as : (g : Group) (t : Trace) (x : Entry) (r : ℕ)
+    → AllIn (λ (w : Message). (w.from ≡ r) × (w.to < 8)) (sent_at (replicas g) x)
+    → AllIn (IsBetween g) (sent_at (replicas g) x)
+    → map (message_told (replica_state g (x ∷ t) r) (offered_to x.delivered)) (sent_at (replicas g) x)
+    ≡ sent_as_told (replicas g) x t
+told_as g t x r sides between = told_so g (x ∷ t) r (offered_to x.delivered) (sent_at (replicas g) x) sides between
 
 -- ## Between whom
 

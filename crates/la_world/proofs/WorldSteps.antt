@@ -9,7 +9,7 @@ use Rattle.la_set.proofs.lemmas.Inclusions.{subset-trans}
 use Rattle.la_object.specs.declared.kind.Kind.{Kind}
 use Rattle.la_object.specs.Shelves.{ShelfState}
 use Rattle.la_replica.specs.declared.message.Message as code
-use Rattle.la_replica.specs.Whole.{Message, whole_of, whole_mail, CarryAll}
+use Rattle.la_replica.specs.Whole.{Message, Out, whole_of, whole_mail, CarryAll}
 use Rattle.la_replica.specs.Messages.{group}
 use Rattle.la_replica.specs.Steps.{learnt_in}
 use Rattle.la_replica.specs.ReplicaState as acting
@@ -34,10 +34,10 @@ use Rattle.la_world.specs.Learnings.{learning_of, learnt}
 use Rattle.la_world.specs.Report.{refused, shown_as}
 use Rattle.la_world.specs.ReplicaStates.{replica_state, replica_states}
 use Rattle.la_world.specs.Views.{trace_view}
-use Rattle.la_world.specs.StandsFor.{World, kinds_of, group_in, AreBehind, EventsLeadTo, StandsFor}
-use Rattle.la_world.specs.LiveGroups.{submission}
+use Rattle.la_world.specs.StandsFor.{IsLegalTrace, World, kinds_of, group_in, AreBehind, EventsLeadTo, StandsFor}
 use Rattle.la_world.specs.Calls.{IsWorldGroup, replica_states_at_start, IsEventSubmission}
-use Rattle.la_world.proofs.Lists.{AllIn, get_made}
+use Rattle.la_world.proofs.Lists.{AllIn, AllIn-right, get_made}
+use Rattle.la_world.proofs.InGroup.{IsBetween, grouped}
 use Rattle.la_world.proofs.Tellings.{told_at_carries}
 use Rattle.la_world.proofs.ToldMail.{sent_sides}
 use Rattle.la_world.proofs.Deliverable.{IsDeliverableAt}
@@ -46,7 +46,7 @@ use Rattle.la_world.specs.ReplicaStates.{instance_of}
 use Rattle.la_world.proofs.GrowingViews.{view_more}
 use Rattle.la_world.proofs.LargestViews.{empty_least}
 use Rattle.la_world.proofs.OneReplicaSteps.{replica_state-else, replica_states-set}
-use Rattle.la_node.specs.Taking.{Taken, takes}
+use Rattle.la_node.specs.Taking.{Taken, without_vote, takes}
 use Rattle.la_world.specs.Following.{did_say, voted_with, voted_by, receipt_taken}
 use Rattle.la_replica.specs.Fitting.{FitsReceiver}
 use Rattle.la_world.proofs.EventCases.{entry_of}
@@ -56,6 +56,18 @@ use Rattle.la_world.proofs.RefusedForMemory.{delivery_fits}
 use Rattle.la_world.proofs.lemmas.Starting.{replica_state_at_start}
 use Rattle.la_world.proofs.StoredMessages.{message_at}
 use Rattle.la_world.proofs.Shown.{SpeaksOf, shown_is, learnt_number, length_trace}
+
+-- what an event sends is between replicas of the group
+pub sent_between : (g : Group) (events : List Event) (e : Event) → refused g (trace g events) e ≡ None
+    → IsLegalTrace g events → AllIn (IsBetween g) (sent_at (replicas g) (event_entry g (trace g events) e))
+unfolding trace sent
+sent_between g events e allowed legal =
+    AllIn-right (IsBetween g) (sent (replicas g) (trace g events))
+    (sent_at (replicas g) (event_entry g (trace g events) e)) (grouped g (e ∷ events) (allowed, legal)).messages
+
+-- a submission, as a replica takes a message
+abbrev pub submission : Option (Out × ReplicaState) → Option (Taken × ReplicaState)
+submission made = option_map (λ (p : Out × ReplicaState). (without_vote p.0, p.1)) made
 
 pub few_of : (c : Config) (kinds : List (List (ℕ × Kind))) → IsConfig c → replicas (group_of c kinds) ≤ 8
 few_of c kinds is = let a = is.group.replicas in let b = is.group.few in omega arith
@@ -222,6 +234,7 @@ module _ (w : World) (events : List Event) (stands : StandsFor w events) where
     pub shown : shown_by by w.count (did_say (event_entry g t e).did) (voted_by (event_entry g t e).did)
         ≡ shown_as (replicas g) (length t) (event_entry g t e).did
     pub sides : AllIn (λ (m : Message). (m.from ≡ by.replica) × (m.to < 8)) (sent_at (replicas g) (event_entry g t e))
+    pub between : AllIn (IsBetween g) (sent_at (replicas g) (event_entry g t e))
     pub after : (mail : List code.Message) → mail ≡ sent_as_told (replicas g) (event_entry g t e) t
         → StandsFor (world_after w by.replica (replica_state g (event_entry g t e ∷ t) by.replica) mail (event_entry g t e).did)
         (e ∷ events)
@@ -282,6 +295,7 @@ module _ (w : World) (events : List Event) (stands : StandsFor w events) where
             subst (λ (y : Entry). AllIn (λ (m : Message). (m.from ≡ r) × (m.to < 8)) (sent_at (replicas g) y)) (sym same)
             (sent_sides (replicas g) r None d few (λ b f. (h.concerns.opened b f).replica)
             (λ b f. absurd (none-some b (sym none ∙ f))) (λ m f. absurd (none-some m f)));
+        between = sent_between g events e allowed stands.led.legal;
         after = stands_after e r allowed others lt;
       }
 
@@ -331,6 +345,7 @@ module _ (w : World) (events : List Event) (stands : StandsFor w events) where
             (sym (entry_delivers g t k v is))
             (sent_sides (replicas g) m.to (Some v) d few (λ b f. (placed.opened b f).replica) (λ b f. (placed.learnt b f).replica)
             (λ n f. let one = same_Some v n f in (ap (λ (z : Message). z.to) (sym one), subst (λ (z : Message). z.from < replicas g) one (legal_between g events stands.led.legal k v is).from)));
+        between = sent_between g events (Deliver k) allowed stands.led.legal;
         after = stands_after (Deliver k) m.to allowed h.others lt;
       }
     where

@@ -2,14 +2,12 @@
 use Rattle.std.specs.Prelude.{◌≡◌, ℕ, List, ◌++◌, slice_get, slice_set, Contains, Some}
 use Rattle.la_replica.specs.declared.message.Message as code
 use Rattle.la_replica.specs.declared.parcel.Parcel.{Parcel}
-use Rattle.la_replica.specs.Bases.{offered_by, AreToldIn}
 use Rattle.la_replica.specs.Parcels.{IsParcelOf, unwrapped_in, UnwrapsIn}
-use Rattle.la_replica.specs.Received.{received_in, StandsIn}
-use Rattle.la_node.specs.declared.done.Done.{Done}
-use Rattle.la_node.specs.Taking.{takes, whole_done}
+use Rattle.la_node.specs.Calls.{Received}
+use Rattle.la_node.specs.Nodes.{NodeState}
+use Rattle.la_node.specs.Steps.{Given, node_step}
 use Rattle.la_world.specs.LiveGroups.{AreLive}
 use Rattle.la_world.specs.Rebased.{AreRetold}
-use Rattle.la_node.specs.Nodes.{NodeState}
 
 -- a parcel is of one of these messages, for whatever was believed of its receiver
 abbrev pub IsParcelAmong : Parcel → (messages : List code.Message) → Type 0
@@ -23,14 +21,12 @@ abbrev pub AreLiveBy : (nodes : List NodeState) → (parcels : List Parcel) → 
 AreLiveBy nodes parcels =
     (messages : List code.Message) × AreLive nodes messages × AreParcelsAmong parcels messages
 
--- nodes are live after the receipt of a parcel of a message that is on the network: that its told set stands
--- over the view, and the message where it is received, its receiver sees
+-- nodes are live after the receipt of a parcel of a message that is on the network: that its told set stands over
+-- the view, its receiver sees
 abbrev pub ParcelReceiptsKeepLive : Type 0
 ParcelReceiptsKeepLive =
-    (nodes : List NodeState) (network mail : List code.Message) (r : ℕ) (node made : NodeState)
-    (p : Parcel) (done : Done) → AreLive nodes network → slice_get nodes r ≡ Some node →
+    (nodes : List NodeState) (network mail : List code.Message) (r : ℕ) (node made : NodeState) (p : Parcel)
+    (given : Given) → AreLive nodes network → slice_get nodes r ≡ Some node →
     IsParcelAmong p network → p.to ≡ r → UnwrapsIn node.replica p →
-    let m = unwrapped_in node.replica p in StandsIn node.replica m →
-    takes node.replica (received_in node.replica m) ≡ Some (whole_done done, made.replica) →
-    AreToldIn made.replica (offered_by (received_in node.replica m)) done.mail →
-    AreRetold mail done.mail → AreLive (slice_set nodes r made) (network ++ mail)
+    node_step node.replica (Received (unwrapped_in node.replica p)) ≡ Some (given, made.replica) →
+    AreRetold mail given.mail → AreLive (slice_set nodes r made) (network ++ mail)

@@ -1,5 +1,8 @@
 -- What steps show of outcomes and votes, and a world answers.
-use Rattle.std.specs.Prelude.{◌≡◌, ℕ, Option, Some, None, IsSome, Contains, IsSomeAnd}
+use Rattle.std.specs.Prelude.{◌≡◌, ℕ, Option, Some, None, IsSome, Contains, IsSomeAnd, Result, IfOk, OnOk}
+use Rattle.la_node.specs.declared.error.WorldError.{WorldError}
+use Rattle.la_world.specs.declared.step.Step.{Step}
+use Rattle.la_world.specs.Headline.{NoViewShrinks, OutcomesStayThere}
 use Rattle.la_world.specs.declared.step.Did.{Did}
 use Rattle.la_world.specs.declared.step.Learnt.{Learnt}
 use Rattle.la_world.specs.StandsFor.{World}
@@ -34,3 +37,14 @@ ShowsVote did = (x : Learnt) (k : ℕ) →
 abbrev pub AnswersAreListed : World → Type 0
 AnswersAreListed w = (k r : ℕ) (o : Outcome) →
     returned_in w k r ≡ Some o → Contains (decisions_in w) (decision_of k r o)
+
+-- what a call of `play` shows and keeps, whatever it answers
+pub record PlayShows (before : World) (answer : Result Step WorldError) (after : World) : Type 0 where
+  -- no view is smaller
+  pub views : OnOk answer (NoViewShrinks before after)
+  -- a learning shows what is returned by it, and the vote to which it leads
+  pub outcome : IfOk answer (λ step. ShowsOutcome step.did after)
+  pub vote : IfOk answer (λ step. ShowsVote step.did)
+  -- outcomes stay, and are among those that are listed
+  pub stays : OutcomesStayThere before after
+  pub listed : AnswersAreListed after

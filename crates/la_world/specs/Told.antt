@@ -1,13 +1,13 @@
--- How what was sent is told: over what its receiver has, as the mail of `la_replica`'s steps is.
+-- How what was sent is told: over what its receiver has, as the mail of a node's steps is.
 use Rattle.std.specs.Prelude.{◌≡◌, ℕ, true, List, [], ◌∷◌, ◌++◌, map, slice_get, Option, Some, None}
 use Rattle.la_set.specs.declared.counts.Counts.{Counts}
 use Rattle.la_set.specs.Counts.{counts_of, zero_counts, HasCounts}
-use Rattle.la_set.specs.Deltas.{delta_over}
 use Rattle.la_replica.specs.declared.message.Message as code
 use Rattle.la_replica.specs.declared.message.Body as code_body
 use Rattle.la_replica.specs.declared.message.Body.TheVariants as body
-use Rattle.la_replica.specs.Whole.{Message, Body, Offer, Yes, No, Tell, set_of, whole_of}
-use Rattle.la_replica.specs.Bases.{smaller, offered_by}
+use Rattle.la_replica.specs.Whole.{Message, set_of, whole_of}
+use Rattle.la_replica.specs.Bases.{offered_by}
+use Rattle.la_node.specs.Telling.{told_over, base_told}
 use Rattle.la_world.specs.Groups.{Group, replicas}
 use Rattle.la_world.specs.Events.{Past}
 use Rattle.la_world.specs.Trace.{Entry, Trace}
@@ -17,31 +17,7 @@ use Rattle.la_world.specs.Ballots.{round}
 use Rattle.la_world.specs.Playing.{counts_reply, trace}
 use Rattle.la_world.specs.Hearing.{reported_set}
 
--- a message, with its set told over this base
-abbrev pub told_body : (base : Counts) → Body → code_body.Body
-told_body base (Offer s) = body.Offer (delta_over s base)
-told_body base Yes = body.Yes
-told_body base (No s) = body.No (delta_over s base)
-told_body base (Tell s) = body.Tell s
-
-abbrev pub told_over : (base : Counts) → Message → code.Message
-told_over base m = record {
-  instance = m.instance;
-  from = m.from;
-  to = m.to;
-  ballot = m.ballot;
-  body = told_body base m.body;
-}
-
--- an offer is told over the smaller, of each replica, of what its receiver has reported and what the
--- set has; a refusal over what was offered
-abbrev pub base_told : (reported_set offered : Counts) → Body → Counts
-base_told reported_set offered (Offer s) = smaller reported_set (counts_of s)
-base_told reported_set offered Yes = zero_counts
-base_told reported_set offered (No s) = offered
-base_told reported_set offered (Tell s) = zero_counts
-
--- that of a message which was sent by the event that left this trace, and delivered what offers this
+-- the base of a message which was sent by the event that left this trace, and delivered what offers this
 abbrev pub base_of : Trace → (offered : Counts) → Message → Counts
 base_of t offered m =
     base_told (counts_of (reported_set t m.instance m.from m.to)) offered m.body

@@ -4,10 +4,8 @@
 ghost use Rattle.la_world.specs.LiveGroups.{LiveGroupsStandForEvents, LiveGroupsKeepAll};
 ghost use Rattle.la_world.specs.LiveGroups.{LiveLearntAreComparable, LiveViewsAreComparable};
 ghost use Rattle.la_world.specs.LiveGroups.{LiveNodesAreOneHistory, NewNodesAreLive};
-ghost use Rattle.la_world.specs.LiveGroups.{NetworksMayLose, SubmissionsKeepLive};
-ghost use Rattle.la_world.specs.LiveGroups.{ProposalsKeepLive, ReceiptsKeepLive, LooksKeepLive};
+ghost use Rattle.la_world.specs.LiveGroups.{NetworksMayLose, CallsKeepLive, UnheardCallsKeepLive};
 ghost use Rattle.la_world.specs.LiveParcels.{ParcelReceiptsKeepLive};
-ghost use Rattle.la_world.specs.Unheard.{UnheardCallsKeepLive};
 
 pub use la_node::laws::{kept_lists_are_played_again, kept_lists_lead_on};
 
@@ -51,22 +49,11 @@ pub fn networks_may_lose()
     ensures { NetworksMayLose }
 {}
 
-/// Nodes are live after a submission at one of them, with what it sends on the network: as it was sent,
-/// or over whatever bases of its sets, be it true or not that the receivers have them.
-pub fn submissions_keep_live()
-    ensures { SubmissionsKeepLive }
-{}
-
-/// Nodes are live after a proposal at one of them, with what it sends on the network.
-pub fn proposals_keep_live()
-    ensures { ProposalsKeepLive }
-{}
-
-/// Nodes are live after the receipt of a message on the network, by the node that it is for, where it
-/// stands (clause `stands` of [`Node::receive`](crate::Node::receive)): so over a base that its receiver
-/// has. The message stays there, as if the network held it twice.
-pub fn receipts_keep_live()
-    ensures { ReceiptsKeepLive }
+/// Nodes are live after any call that one of them accepts, with what it gives out on the network: as it was
+/// sent, or over whatever bases of its sets, be it true or not that the receivers have them. A message that is
+/// received is one that is on the network, and stays there, as if the network held it twice.
+pub fn calls_keep_live()
+    ensures { CallsKeepLive }
 {}
 
 /// Nodes are live after the receipt of a parcel of a message on the network, whatever was believed of its
@@ -75,13 +62,9 @@ pub fn parcel_receipts_keep_live()
     ensures { ParcelReceiptsKeepLive }
 {}
 
-/// Nodes are live after a call that leaves its replica as it was: a question, an object more or less.
-pub fn looks_keep_live()
-    ensures { LooksKeepLive }
-{}
-
-/// Nodes are live after any call whose mail is lost: so a node that is started again in a state to which
-/// such calls led keeps its group live.
+/// Nodes are live after any calls of one of them whose mail is lost: so a node that is started again in a state
+/// to which such calls led keeps its group live; and so does a call that leaves its replica as it was, a
+/// question or an object more or less, since it is none of these.
 pub fn unheard_calls_keep_live()
     ensures { UnheardCallsKeepLive }
 {}

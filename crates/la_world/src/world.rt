@@ -6,12 +6,12 @@ ghost use Rattle.la_world.specs.Printable.{IsPrintable};
 ghost use Rattle.la_world.specs.StandsFor.{StandsFor, group_in, trace_in, sent_in, world_told};
 ghost use Rattle.la_node.specs.Nodes.{replicas_of, shelves_of};
 ghost use Rattle.la_world.specs.Calls.{IsWorldGroup, IsMakingRefusal, replica_states_at_start, Keeps};
-ghost use Rattle.la_world.specs.Calls.{may_absorb, IsSameUnless, PlaysEvent, RefusesEvent, StandsForMessage};
+ghost use Rattle.la_world.specs.Calls.{may_absorb, IsSameUnless, PlaysFrom, RefusesFrom, StandsForMessage};
 ghost use Rattle.la_world.specs.Calls.{view_at, view_in, known_view, decisions_in};
 ghost use Rattle.la_world.specs.Calls.{returned_in, returned_of, report_with, report_after};
-ghost use Rattle.la_world.specs.Headline.{IsAdoptCommit, NoViewShrinks, OutcomesStayThere};
+ghost use Rattle.la_world.specs.Headline.{IsAdoptCommit};
 ghost use Rattle.la_world.specs.Promises.{GroupKeepsAll, WorldKeepsAll};
-ghost use Rattle.la_world.specs.Returning.{ShowsOutcome, ShowsVote, AnswersAreListed};
+ghost use Rattle.la_world.specs.Returning.{AnswersAreListed, PlayShows};
 
 mod deliveries;
 mod questions;
@@ -112,22 +112,12 @@ impl<B: Replicated> World<B> {
     #[inline(always)]
     pub fn play(&mut self, event: &Event) -> Result<Step, WorldError>
         requires { self.old.count + 1 < 2 ^ 64 }
-        ensures step { (events : Past) → StandsFor self.old events →
-            IfOk result (λ step. PlaysEvent self.old events (event_of event.now) step self.new) }
+        ensures step { PlaysFrom self.old (event_of event.now) result self.new }
         ensures keeps_all { (events : Past) → StandsFor self.old events →
             OnOk result (WorldKeepsAll self.new (event_of event.now ∷ events)) }
-        ensures views { (events : Past) → StandsFor self.old events →
-            OnOk result (NoViewShrinks self.old self.new) }
-        ensures outcome { (events : Past) → StandsFor self.old events →
-            IfOk result (λ step. ShowsOutcome step.did self.new) }
-        ensures vote { (events : Past) → StandsFor self.old events →
-            IfOk result (λ step. ShowsVote step.did) }
-        ensures stays { (events : Past) → StandsFor self.old events →
-            OutcomesStayThere self.old self.new }
-        ensures listed { (events : Past) → StandsFor self.old events → AnswersAreListed self.new }
+        ensures shows { (events : Past) → StandsFor self.old events → PlayShows self.old result self.new }
         ensures printable { IfOk result IsPrintable }
-        ensures error { (events : Past) → StandsFor self.old events →
-            IfErr result (RefusesEvent self.old events (event_of event.now)) }
+        ensures error { RefusesFrom self.old (event_of event.now) result }
         ensures keeps { OnErr result (Keeps self.old self.new) }
         ensures err { IfErr result (λ e.
             IsSameUnless (may_absorb (event_of event.now) e) self.old self.new) }
@@ -139,11 +129,9 @@ impl<B: Replicated> World<B> {
     #[inline(always)]
     fn take_event(&mut self, event: &Event) -> Result<Step, WorldError>
         requires { self.old.count + 1 < 2 ^ 64 }
-        ensures step { (events : Past) → StandsFor self.old events →
-            IfOk result (λ step. PlaysEvent self.old events (event_of event.now) step self.new) }
+        ensures step { PlaysFrom self.old (event_of event.now) result self.new }
         ensures printable { IfOk result IsPrintable }
-        ensures error { (events : Past) → StandsFor self.old events →
-            IfErr result (RefusesEvent self.old events (event_of event.now)) }
+        ensures error { RefusesFrom self.old (event_of event.now) result }
         ensures keeps { OnErr result (Keeps self.old self.new) }
         ensures err { IfErr result (λ e.
             IsSameUnless (may_absorb (event_of event.now) e) self.old self.new) }

@@ -4,20 +4,14 @@ use Rattle.std.proofs.lemmas.List.Elements.{Contains-append_left, Contains-appen
 use Rattle.la_set.specs.declared.counts.Counts.{Counts}
 use Rattle.la_set.specs.ObjectOps.{ObjectOp}
 use Rattle.la_replica.specs.declared.message.Message as code
-use Rattle.la_replica.specs.declared.out.Out as code_out
 use Rattle.la_replica.specs.declared.parcel.Parcel.{Parcel}
 use Rattle.la_replica.specs.declared.parcel.Content.{Content}
 use Rattle.la_replica.specs.declared.parcel.Content.TheVariants as content
-use Rattle.la_replica.specs.Whole.{whole_out}
-use Rattle.la_replica.specs.Received.{received_in, StandsIn}
-use Rattle.la_replica.specs.Bases.{offered_by, AreToldIn, AreToldFrom}
 use Rattle.la_replica.specs.Parcels.{wrapped, AreAlikeContents, AreAlikeParcels, IsParcelOf, unwrapped_in, UnwrapsIn}
-use Rattle.la_replica.specs.Refusals.{HasRoom}
-use Rattle.la_replica.specs.ReplicaState.{submits}
-use Rattle.la_node.specs.declared.done.Done.{Done}
-use Rattle.la_node.specs.Taking.{takes, whole_done}
+use Rattle.la_node.specs.Calls.{Submitted, Received}
+use Rattle.la_node.specs.Steps.{Given, node_step}
 use Rattle.la_node.specs.Nodes.{NodeState}
-use Rattle.la_world.specs.LiveGroups.{SubmissionsKeepLive}
+use Rattle.la_world.specs.LiveGroups.{CallsKeepLive}
 use Rattle.la_world.specs.LiveParcels.{IsParcelAmong, AreParcelsAmong, AreLiveBy, ParcelReceiptsKeepLive}
 use Rattle.la_world.proofs.lemmas.Retelling.{as_sent}
 
@@ -55,28 +49,22 @@ TakesAlong before after mail =
     (network : List code.Message) → AreParcelsAmong before network → AreParcelsAmong after (network ++ mail)
 
 module _ (nodes : List NodeState) (parcels left : List Parcel) (r : ℕ) (node made : NodeState)
-    (at : slice_get nodes r ≡ Some node) where
-  pub submitted : SubmissionsKeepLive → (d : ObjectOp) (out : code_out.Out) → HasRoom node.replica 0
-      → submits node.replica 0 d ≡ Some (whole_out out, made.replica)
-      → ((offered : Counts) → AreToldFrom made.replica 0 offered out.mail) → TakesAlong parcels left out.mail
+    (at : slice_get nodes r ≡ Some node) (given : Given) (along : TakesAlong parcels left given.mail) where
+  pub submitted : CallsKeepLive → (d : ObjectOp) → node_step node.replica (Submitted d) ≡ Some (given, made.replica)
       → AreLiveBy nodes parcels → AreLiveBy (slice_set nodes r made) left
-  submitted keep d out room step told along (network, live, among) = (
-    network
-        ++ out.mail,
-    keep nodes network out.mail r node made d out live at room step told (as_sent out.mail),
-    along
-        network among,
+  submitted keep d step (network, live, among) = (
+    network ++ given.mail,
+    keep nodes network given.mail r node made (Submitted d) given live at tt step (as_sent given.mail),
+    along network among,
   )
 
-  pub received : ParcelReceiptsKeepLive → (p : Parcel) (done : Done) → p.to ≡ r → UnwrapsIn node.replica p
-      → StandsIn node.replica (unwrapped_in node.replica p)
-      → takes node.replica (received_in node.replica (unwrapped_in node.replica p)) ≡ Some (whole_done done, made.replica)
-      → AreToldIn made.replica (offered_by (received_in node.replica (unwrapped_in node.replica p))) done.mail
-      → TakesAlong parcels left done.mail → AreLiveBy nodes (p ∷ parcels) → AreLiveBy (slice_set nodes r made) left
-  received keep p done to unwraps over step told along (network, live, among) = (
-    network ++ done.mail,
-    keep nodes network done.mail r node made p done live at (among p (0, omega arith, refl)) to unwraps over step told
-        (as_sent done.mail),
+  pub received : ParcelReceiptsKeepLive → (p : Parcel) → p.to ≡ r → UnwrapsIn node.replica p
+      → node_step node.replica (Received (unwrapped_in node.replica p)) ≡ Some (given, made.replica)
+      → AreLiveBy nodes (p ∷ parcels) → AreLiveBy (slice_set nodes r made) left
+  received keep p to unwraps step (network, live, among) = (
+    network ++ given.mail,
+    keep nodes network given.mail r node made p given live at (among p (0, omega arith, refl)) to unwraps step
+        (as_sent given.mail),
     along network (λ q has. among q (Contains-append_right (p ∷ []) parcels q has)),
   )
 

@@ -10,6 +10,7 @@ pub mod Numbers
 mod Mapped
 mod Together
 mod ByParcels
+mod Restarting
 mod Leasing
 mod Newest
 pub mod CarriedLines

@@ -5,3 +5,6 @@ pub mod Commits
 pub mod Kept
 pub mod Numbers
 pub mod Leases
+pub mod Restarts
+pub mod LivePuts
+pub mod Journals

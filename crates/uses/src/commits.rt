@@ -29,8 +29,7 @@ pub fn finish(
 }
 
 // ---- more callers
-ghost use Rattle.la_set.specs.Inclusion.{AreComparable};
-ghost use Rattle.uses.specs.Commits.{AreVotesOf, FollowsOutcome};
+ghost use Rattle.uses.specs.Commits.{AreTwoAlone, FollowsOutcome};
 
 use la_commit::laws;
 
@@ -46,16 +45,7 @@ pub struct Learner<'a> {
 /// Two participants of an object in which nobody else votes. Where their sets are comparable and
 /// both finish, the second has the value that the first commits.
 pub fn finish_both(one: &Learner, other: &Learner) -> Result<(Outcome, Outcome), NotMine>
-    ensures { IfOk result (λ both.
-        AreComparable one.now.first.now other.now.first.now
-        → AreComparable one.now.second.now other.now.second.now
-        → AreVotesOf one.now.second.now
-        (second_vote_for one.now.first.now one.now.value)
-        (second_vote_for other.now.first.now other.now.value)
-        → AreVotesOf other.now.second.now
-        (second_vote_for one.now.first.now one.now.value)
-        (second_vote_for other.now.first.now other.now.value)
-        → FollowsOutcome both.0 both.1) }
+    ensures { IfOk result (λ both. AreTwoAlone one.now other.now → FollowsOutcome both.0 both.1) }
 {
     laws::own_votes_are_votes();
     laws::sole_values_agree();

@@ -1,8 +1,6 @@
-ghost use Rattle.std.specs.Prelude.{◌≡◌, ◌<◌, [], ◌∷◌, length, Some, IfOk, OnOk, OnErr};
-ghost use Rattle.la_replica.specs.Bases.{offered_by, AreToldIn};
-ghost use Rattle.la_replica.specs.Received.{received_in, StandsIn};
-ghost use Rattle.la_node.specs.declared.done.Done.{Done as DoneOf};
-ghost use Rattle.la_node.specs.Taking.{takes, whole_done};
+ghost use Rattle.std.specs.Prelude.{◌≡◌, ◌<◌, [], ◌∷◌, length, Some, IfOk, OnErr};
+ghost use Rattle.la_node.specs.Calls as call;
+ghost use Rattle.la_node.specs.Steps.{Given, node_step};
 ghost use Rattle.la_world.specs.LiveGroups.{AreLive, AllViewsAreComparable};
 
 use la_node::{Config, Node, WorldError};
@@ -43,7 +41,7 @@ pub fn add_at<B: Replicated>(
     requires { at < length group.old }
     ensures { AreLive group.old network.old.items → AreLive group.new network.new.items }
 {
-    live::submissions_keep_live();
+    live::calls_keep_live();
     live::networks_may_lose();
     let out = group[at].submit(1, Op::Inc(by))?;
     out.mail.hand_to(network)?;
@@ -72,7 +70,7 @@ fn deliver<B: Replicated>(
     ensures { AreLive group.old (message.now ∷ network.old.items)
         → AreLive group.new network.new.items }
 {
-    live::receipts_keep_live();
+    live::calls_keep_live();
     live::networks_may_lose();
     let to = message.to as usize;
     if to >= group.len() {
@@ -85,15 +83,12 @@ fn deliver<B: Replicated>(
 
 // What a node sends by a message.
 fn mail_by<B: Replicated>(node: &mut Node<B>, message: &Message) -> Result<Mail, ReplicaError>
-    ensures ok { IfOk result (λ mail. (done : DoneOf) × (done.mail ≡ mail)
-        × (takes node.old.replica (received_in node.old.replica message.now)
-        ≡ Some (whole_done done, node.new.replica))) }
-    ensures told { IfOk result (AreToldIn node.new.replica
-        (offered_by (received_in node.old.replica message.now))) }
-    ensures stands { OnOk result (StandsIn node.old.replica message.now) }
+    ensures ok { IfOk result (λ mail. (given : Given) × (given.mail ≡ mail)
+        × (node_step node.old.replica (call.Received message.now) ≡ Some (given, node.new.replica))) }
     ensures err { OnErr result (node.new ≡ node.old) }
 {
-    let done = node.receive(message)?.done;
+    let received = node.receive(message)?;
+    let done = received.done;
     Ok(done.mail)
 }
 

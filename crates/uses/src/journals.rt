@@ -1,4 +1,4 @@
-ghost use Rattle.std.specs.Prelude.{◌≡◌, ◌++◌, ◌∷◌, [], Bool, Option, false, true, Some, None, IfOk, OnOk};
+ghost use Rattle.std.specs.Prelude.{◌≡◌, ◌∷◌, [], Bool, Option, false, true, Some, None, IfOk, OnOk};
 
 use la_journal::{Machine, Snapshot};
 use std::alloc::{AllocError, Global};
@@ -106,13 +106,11 @@ impl Snapshot for Lease {
 
 // ---- callers
 ghost use Rattle.std.specs.Prelude.{IfSome, Err};
-ghost use Rattle.la_journal.specs.Disk.{Only};
 ghost use Rattle.la_journal.specs.Lines.{lines};
-ghost use Rattle.la_journal.specs.Machine.{state_after, calls, LeadsToSome};
+ghost use Rattle.la_journal.specs.Machine.{state_after};
 ghost use Rattle.la_journal.specs.Durable.{IsSettled};
-ghost use Rattle.la_journal.specs.Served.{answer_alone, answers_since, LeadsToAtLeast};
-ghost use Rattle.la_journal.specs.Starts.{IsStart};
 ghost use Rattle.la_journal.specs.declared.durable.Refused.TheVariants.{Machine as ByMachine};
+ghost use Rattle.uses.specs.Journals.{AddsLine, CrashKeepsSome, HoldsAnswered, stated, stated_disk};
 
 use la_disk::{FileDisk, FolderLock};
 use la_journal::{
@@ -149,8 +147,7 @@ pub fn answer<M: Machine, D: Disk>(
 ) -> Result<Option<M::Output>, Refused<M::Refusal>>
     requires { node.old.closed ≡ false → IsSettled D.seen D.may_leave node.old.disk }
     ensures answered { (call : M.Call) → M.named line.now ≡ Some call → OnOk result
-        ((lines (D.seen node.new.disk) ≡ lines (D.seen node.old.disk) ++ M.text call ∷ [])
-        × Only (D.seen node.new.disk) (D.may_leave node.new.disk)) }
+        (AddsLine D.seen D.may_leave node.old.disk node.new.disk (M.text call)) }
     ensures refused { (why : M.Refusal) → result ≡ Err (ByMachine why) → (node.new.closed ≡ false)
         × (lines (D.seen node.new.disk) ≡ lines (D.seen node.old.disk))
         × (M.state node.new.machine ≡ M.state node.old.machine) }
@@ -174,11 +171,8 @@ pub fn take_all<M: Machine, D: Disk>(
     answers: &mut Vec<M::Output>,
 ) -> Result<(), Refused<M::Refusal>>
     requires { node.old.closed ≡ false → IsSettled D.seen D.may_leave node.old.disk }
-    ensures crash { (start : M.State) (found : D) → node.old.closed ≡ false
-        → state_after M.named_state M.named M.step start (D.seen node.old.disk) ≡ Some (M.state node.old.machine)
-        → IsStart D.seen D.may_leave (D.left_since node.new.disk (D.moment node.old.disk)) found
-        → LeadsToSome (state_after M.named_state M.named M.step start) M.step
-        (calls M.call inputs.now) (M.state node.old.machine) (D.seen found) }
+    ensures crash { CrashKeepsSome (stated M.named_state M.named M.step M.state M.call M.answer)
+        (stated_disk D.seen D.may_leave D.moment D.left_since) inputs.now node.old node.new }
     ensures ready { node.new.closed ≡ false → IsSettled D.seen D.may_leave node.new.disk }
 {
     node.handle_all(alloc, inputs, answers)
@@ -192,11 +186,8 @@ pub fn answer_and_compact<M: Snapshot, D: Disk>(
     input: &M::Input,
 ) -> Result<M::Output, Refused<M::Refusal>>
     requires { node.old.closed ≡ false → IsSettled D.seen D.may_leave node.old.disk }
-    ensures crash { (start : M.State) (found : D) → node.old.closed ≡ false
-        → state_after M.named_state M.named M.step start (D.seen node.old.disk) ≡ Some (M.state node.old.machine)
-        → IsStart D.seen D.may_leave (D.left_since node.new.disk (D.moment node.old.disk)) found
-        → LeadsToSome (state_after M.named_state M.named M.step start) M.step
-        (M.call input.now ∷ []) (M.state node.old.machine) (D.seen found) }
+    ensures crash { CrashKeepsSome (stated M.named_state M.named M.step M.state M.call M.answer)
+        (stated_disk D.seen D.may_leave D.moment D.left_since) (input.now ∷ []) node.old node.new }
     ensures answered { OnOk result (M.step (M.state node.old.machine) (M.call input.now)
         ≡ Some (M.state node.new.machine)) }
     ensures ready { node.new.closed ≡ false → IsSettled D.seen D.may_leave node.new.disk }
@@ -246,10 +237,8 @@ pub fn serve_and_start_again<M: Machine, O: Outlet<MemoryDisk, Item = M::Output>
     requires unclosed { node.closed ≡ false }
     requires leads { state_after M.named_state M.named M.step (M.state anew) (⟦<MemoryDisk as Disk>⟧.seen node.disk)
         ≡ Some (M.state node.machine) }
-    ensures { IfOk result (λ again.
-        LeadsToAtLeast (state_after M.named_state M.named M.step (M.state anew)) M.step
-        (answers_since (answer_alone M.answer) (O.said outlet.old) (O.said outlet.new))
-        (calls M.call inputs.now) (M.state node.machine) (⟦<MemoryDisk as Disk>⟧.seen again.disk)) }
+    ensures { IfOk result (λ again. HoldsAnswered (stated M.named_state M.named M.step M.state M.call M.answer)
+        anew node.machine inputs.now O.said outlet.old outlet.new (⟦<MemoryDisk as Disk>⟧.seen again.disk)) }
 {
     let mut node = node;
     let _all_or_some = serve_all(alloc, &mut node, inputs, outlet);

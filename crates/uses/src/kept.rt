@@ -1,6 +1,7 @@
 ghost use Rattle.std.specs.Prelude.{◌≡◌, map, Some, OnOk};
 ghost use Rattle.la_proposer.specs.ProposerState.{op_on};
-ghost use Rattle.la_node.specs.Kept.{Submitted, after_call, after_calls};
+ghost use Rattle.la_node.specs.Calls.{Submitted};
+ghost use Rattle.la_node.specs.Steps.{after_call, after_calls};
 ghost use Rattle.uses.specs.Kept.{kept_call};
 
 use la_node::{Node, WorldError, laws};

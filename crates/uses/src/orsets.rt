@@ -1,13 +1,10 @@
-ghost use Rattle.std.specs.Prelude.{◌≡◌, false, true, Some, IfOk, OnOk};
-ghost use Rattle.la_set.specs.declared.update.Update.{Update};
+ghost use Rattle.std.specs.Prelude.{◌≡◌, true, IfOk, OnOk};
 ghost use Rattle.la_set.specs.declared.update.Op.TheVariants.{Put, Remove};
-ghost use Rattle.la_set.specs.Histories.{ContainsUpdate, empty};
+ghost use Rattle.la_set.specs.Histories.{empty};
 ghost use Rattle.la_set.specs.Inclusion.{IsSubset};
-ghost use Rattle.la_object.specs.declared.kind.Kind.TheVariants.{OrSet as OrSetKind};
 ghost use Rattle.la_object.specs.declared.query.Answer.TheVariants.{Has as HasIs};
-ghost use Rattle.la_object.specs.OrSet.{is_removed};
 ghost use Rattle.la_object.specs.Objects.{after, tags_of};
-ghost use Rattle.la_object.specs.Shelves.{kind_at, updates_at};
+ghost use Rattle.uses.specs.LivePuts.{HasLivePut};
 
 use crate::sets::merged;
 use la_object::{AbsorbError, Answer, ObserveError, Query, Replicated, Shelf, ShelfError, laws};
@@ -35,10 +32,7 @@ pub fn put(set: &mut OrSet, id: UpdateId, element: u64) -> Result<(), AllocError
 /// Asks whether an element is in the set under a number, by its shelf. Adds win: where the shelf has
 /// absorbed a Put of it whose id none of its Removes names, it is there.
 pub fn ask<B: Replicated>(shelf: &Shelf<B>, number: u16, element: u64) -> Result<Answer, ShelfError>
-    ensures { (u : Update) → kind_at shelf.now.objects number ≡ Some OrSetKind
-        → ContainsUpdate shelf.now.view u → u.object ≡ number → u.op ≡ Put element
-        → is_removed (updates_at shelf.now.view number) u.id ≡ false
-        → IfOk result (λ answer. answer ≡ HasIs true) }
+    ensures { HasLivePut shelf.now number element → IfOk result (λ answer. answer ≡ HasIs true) }
 {
     la_set::laws::updates_are_listed_in_order();
     laws::live_puts_count();

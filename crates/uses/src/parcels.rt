@@ -3,11 +3,9 @@
 ghost use Rattle.std.specs.Prelude.{◌≡◌, ◌<◌, [], ◌∷◌, ◌++◌, length, Some, Contains, List};
 ghost use Rattle.std.specs.Prelude.{IfOk, OnOk, OnErr};
 ghost use Rattle.la_replica.specs.declared.message.Message.{Message as MessageOf};
-ghost use Rattle.la_replica.specs.Bases.{offered_by, AreToldIn};
 ghost use Rattle.la_replica.specs.Parcels.{unwrapped_in, UnwrapsIn};
-ghost use Rattle.la_replica.specs.Received.{received_in, StandsIn};
-ghost use Rattle.la_node.specs.declared.done.Done.{Done as DoneOf};
-ghost use Rattle.la_node.specs.Taking.{takes, whole_done};
+ghost use Rattle.la_node.specs.Calls as call;
+ghost use Rattle.la_node.specs.Steps.{Given, node_step};
 ghost use Rattle.la_world.specs.LiveGroups.{AllViewsAreComparable};
 ghost use Rattle.la_world.specs.LiveParcels.{AreLiveBy, AreParcelsAmong};
 
@@ -97,7 +95,7 @@ pub fn add_at<B: Replicated>(
     ensures { AreLiveBy group.old link.old.parcels.items
         → AreLiveBy group.new link.new.parcels.items }
 {
-    live::submissions_keep_live();
+    live::calls_keep_live();
     let out = group[at].submit(1, Op::Inc(by))?;
     link.send(alloc, out.mail)?;
     Ok(())
@@ -143,18 +141,14 @@ fn deliver<B: Replicated>(
 
 // What a node sends by a parcel.
 fn mail_by<B: Replicated>(node: &mut Node<B>, parcel: Parcel) -> Result<Mail, ReplicaError>
-    ensures ok { IfOk result (λ mail. (done : DoneOf) × (done.mail ≡ mail)
-        × (takes node.old.replica
-        (received_in node.old.replica (unwrapped_in node.old.replica parcel))
-        ≡ Some (whole_done done, node.new.replica))) }
-    ensures told { IfOk result (AreToldIn node.new.replica
-        (offered_by (received_in node.old.replica (unwrapped_in node.old.replica parcel)))) }
+    ensures ok { IfOk result (λ mail. (given : Given) × (given.mail ≡ mail)
+        × (node_step node.old.replica (call.Received (unwrapped_in node.old.replica parcel))
+        ≡ Some (given, node.new.replica))) }
     ensures unwraps { OnOk result (UnwrapsIn node.old.replica parcel) }
-    ensures stands { OnOk result
-        (StandsIn node.old.replica (unwrapped_in node.old.replica parcel)) }
     ensures err { OnErr result (node.new ≡ node.old) }
 {
-    let done = node.receive_parcel(parcel)?.done;
+    let received = node.receive_parcel(parcel)?;
+    let done = received.done;
     Ok(done.mail)
 }
 

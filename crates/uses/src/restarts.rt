@@ -1,20 +1,15 @@
 // A node that keeps its state over a crash.
-ghost use Rattle.std.specs.Prelude.{◌≡◌, ◌∷◌, [], ◌++◌, ℕ, List, All, false, Some, IfOk, IfSome, slice_get, slice_set};
+ghost use Rattle.std.specs.Prelude.{◌≡◌, ◌∷◌, [], ◌++◌, false, IfOk, IfSome};
 ghost use Rattle.la_journal.specs.Disk.{Only};
 ghost use Rattle.la_journal.specs.Lines.{lines};
-ghost use Rattle.la_journal.specs.Machine.{LeadsToSome};
 ghost use Rattle.la_journal.specs.Durable.{IsSettled};
-ghost use Rattle.la_replica.specs.declared.message.Message.{Message};
-ghost use Rattle.la_node.specs.Nodes.{NodeState};
-ghost use Rattle.la_world.specs.LiveGroups.{AreLive};
-ghost use Rattle.la_durable.specs.CallLines.{CallLine};
-ghost use Rattle.la_durable.specs.Nodes.{step};
-ghost use Rattle.la_durable.specs.Restarts.{IsHanded, kept_state, leads_from};
+ghost use Rattle.uses.specs.Restarts.{RestartsLive};
 
 use la_durable::{Input, NodeError, NodeMachine, laws};
 use la_journal::{Disk, Durable, Refused, Unplayed, recover};
 use la_node::Received;
 use la_wire::LineError;
+use la_world::live;
 use std::alloc::Global;
 
 /// A node as its journal says. Whatever crash left this of the lines that it was handed since it last gave
@@ -25,15 +20,12 @@ pub fn restart<D: Disk>(
     disk: D,
 ) -> Result<Durable<NodeMachine, D>, Unplayed<NodeError>>
     ensures live { IfOk result (λ durable.
-        (nodes : List NodeState) (network : List Message) (r : ℕ) (node : NodeState) (handed : List CallLine)
-        → AreLive nodes network → slice_get nodes r ≡ Some node → All (IsHanded network r) handed
-        → LeadsToSome (leads_from (kept_state start.replicas start.node)) step handed
-        (kept_state start.replicas node) (D.seen disk)
-        → AreLive (slice_set nodes r durable.machine.node) network) }
+        RestartsLive start.node.replica (D.seen disk) durable.machine.node) }
     ensures ready { IfOk result (λ durable. (durable.closed ≡ false)
         × IsSettled D.seen D.may_leave durable.disk) }
 {
-    laws::restarts_keep_live();
+    laws::restarts_take_calls();
+    live::unheard_calls_keep_live();
     match recover(alloc, start, disk) {
         Ok(durable) => Ok(durable),
         Err((why, _disk)) => Err(why),

@@ -278,6 +278,12 @@ fn new_is_exact(
 }
 
 // A replica is one of a group of at most 8.
+fn replicas_is_exact(replica: &Replica) -> (u8, u8)
+    ensures { result.0 ≡ result.1 }
+{
+    (replica.replicas(), replica.replicas())
+}
+
 fn own_is_exact(replica: &Replica) -> (u8, u8)
     ensures alike { result.0 ≡ result.1 }
     ensures known { result.0 < length replica.now.votes }

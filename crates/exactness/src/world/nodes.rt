@@ -2,8 +2,7 @@
 ghost use Rattle.std.specs.Prelude.{◌≡◌, ◌≢◌, ◌↔◌, IsTrue, IfOk, IfErr, OnOk, OnErr};
 ghost use Rattle.std.specs.Option.{option_copied};
 ghost use Rattle.la_object.specs.declared.error.ShelfError.TheVariants.{Memory as MemoryIs};
-ghost use Rattle.la_replica.specs.Received.{received_in, StandsIn, AgreesIn};
-ghost use Rattle.la_replica.specs.Fitting.{FitsReceiver};
+ghost use Rattle.la_node.specs.Preparing.{FitsHere};
 ghost use Rattle.la_replica.specs.Steps.{learnt_in};
 
 use la_commit::Outcome;
@@ -36,12 +35,18 @@ fn is_group_is_exact(config: &Config) -> (bool, bool)
     (config.is_group(), config.is_group())
 }
 
-// What a node tells of itself: which replica it is, its view and what it learnt last and submitted in an
+// What a node tells of itself: which replica it is, and of how many, its view and what it learnt last and submitted in an
 // instance, and whether it has an object.
 fn own_is_exact<B: Replicated>(node: &Node<B>) -> (u8, u8)
     ensures { result.0 ≡ result.1 }
 {
     (node.own(), node.own())
+}
+
+fn replicas_is_exact<B: Replicated>(node: &Node<B>) -> (u8, u8)
+    ensures { result.0 ≡ result.1 }
+{
+    (node.replicas(), node.replicas())
 }
 
 fn view_is_exact<B: Replicated>(node: &Node<B>) -> (&UpdateSet, &UpdateSet)
@@ -158,9 +163,7 @@ fn receive_fitting_is_exact<B: Replicated>(
     message: &Message,
 ) -> (Result<Received, AllocError>, Result<Received, ReplicaError>)
     requires same { one.old ≡ other.old }
-    requires fits { FitsReceiver one.old.replica (received_in one.old.replica message.now) }
-    requires stands { StandsIn one.old.replica message.now }
-    requires agrees { AgreesIn one.old.replica message.now }
+    requires fits { FitsHere one.old.replica message.now }
     ensures said { IfOk result.0 (λ a. IfOk result.1 (λ b. a.done ≡ b.done)) }
     ensures outcomes { IfOk result.0 (λ a. IfOk result.1 (λ b. a.outcome ≡ b.outcome)) }
     ensures steps { OnOk result.0 (OnOk result.1 (one.new ≡ other.new)) }
@@ -179,9 +182,7 @@ fn take_is_exact<B: Replicated>(
     Result<Received, ReplicaError>,
 )
     requires same { one.old ≡ other.old }
-    requires fits { FitsReceiver one.old.replica (received_in one.old.replica message.now) }
-    requires stands { StandsIn one.old.replica message.now }
-    requires agrees { AgreesIn one.old.replica message.now }
+    requires fits { FitsHere one.old.replica message.now }
     ensures said { IfOk result.0 (λ a. IfOk result.1 (λ b. a.0 ≡ b.done)) }
     ensures learnt { IfOk result.0 (λ a. IfOk result.1 (λ b. a.1 ≡ learnt_in b.done.said)) }
     ensures steps { OnOk result.0 (OnOk result.1 (one.new ≡ other.new)) }

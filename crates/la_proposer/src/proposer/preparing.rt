@@ -1,16 +1,16 @@
 // A step in two parts: preparing it changes nothing and may be refused, committing it can't be.
 ghost use Rattle.std.specs.Prelude.{◌≡◌, ◌<◌, true, false, not, length, IsOk, IfOk, IfErr};
-ghost use Rattle.la_proposer.specs.Tally.{has_counted};
-ghost use Rattle.la_proposer.specs.ProposerState.{submitted, op_on, submission_opens, after_submission};
-ghost use Rattle.la_proposer.specs.ProposerState.{with_reply, verdict_of, heard_of, after_reply};
+ghost use Rattle.la_proposer.specs.ProposerState.{submitted, op_on};
+ghost use Rattle.la_proposer.specs.ProposerState.{with_reply, verdict_of};
 ghost use Rattle.la_proposer.specs.ProposerState.{heard_counting, after_counting, counts};
 ghost use Rattle.la_proposer.specs.ProposerState.{refined_ballot, after_refinement, is_nothing};
 ghost use Rattle.la_proposer.specs.ProposerState.{learning_opens, after_learning, noted};
 ghost use Rattle.la_proposer.specs.Refusals.{SubmissionSpends, IsSubmitRefusal, IsVerdictOf};
-ghost use Rattle.la_proposer.specs.Refusals.{ReplySpends, ReplySpares, OnlyCounts};
-ghost use Rattle.la_proposer.specs.Refusals.{StepSpends};
-ghost use Rattle.la_proposer.specs.Clashes.{Fits, ReplyFits};
+ghost use Rattle.la_proposer.specs.Refusals.{ReplySpends, OnlyCounts, StepSpends};
+ghost use Rattle.la_proposer.specs.Refusals.{IsHearable, IsCountable};
 ghost use Rattle.la_proposer.specs.Changes.{after_commit, IsPreparedFrom};
+ghost use Rattle.la_proposer.specs.Changes.{Leads, PreparesSubmission};
+ghost use Rattle.la_proposer.specs.Changes.{PreparesHearing, PreparesReply};
 
 use super::{MAX_BALLOTS, Proposer};
 use crate::change::{Change, Told};
@@ -29,11 +29,7 @@ impl Proposer {
         object: u16,
         op: Op,
     ) -> Result<(Option<Ballot>, Change), ProposerError>
-        ensures opened { IfOk result (λ prepared.
-            prepared.0 ≡ submission_opens self.now (op_on object op)) }
-        ensures ok { IfOk result (λ prepared.
-            after_commit self.now prepared.1 ≡ after_submission self.now (op_on object op)) }
-        ensures from { IfOk result (λ prepared. IsPreparedFrom self.now prepared.1) }
+        ensures ok { IfOk result (PreparesSubmission self.now (op_on object op)) }
         ensures room { IfOk result (λ _. submitted self.now < self.now.cap) }
         ensures spares { IfOk result (λ _. ¬ SubmissionSpends self.now) }
         ensures error { IfErr result (IsSubmitRefusal self.now) }
@@ -50,11 +46,7 @@ impl Proposer {
     ) -> Result<(Option<Ballot>, Change), AllocError>
         requires room { submitted self.now < self.now.cap }
         requires spares { ¬ SubmissionSpends self.now }
-        ensures opened { IfOk result (λ prepared.
-            prepared.0 ≡ submission_opens self.now (op_on object op)) }
-        ensures ok { IfOk result (λ prepared.
-            after_commit self.now prepared.1 ≡ after_submission self.now (op_on object op)) }
-        ensures from { IfOk result (λ prepared. IsPreparedFrom self.now prepared.1) }
+        ensures { IfOk result (PreparesSubmission self.now (op_on object op)) }
     {
         let mut submissions = self.submissions.copy()?;
         add_next(&mut submissions, self.own, object, op)?;
@@ -81,16 +73,10 @@ impl Proposer {
         reply: Reply,
     ) -> Result<(Heard, Change), AllocError>
         requires verdict { IsVerdictOf self.now from ballot reply verdict }
-        requires in_group { from < length self.now.votes }
-        requires fits { ReplyFits self.now from ballot reply }
-        requires spares { ReplySpares self.now from ballot reply }
+        requires hearable { IsHearable self.now from ballot reply }
         ensures ignored { counts self.now from ballot ≡ false → IsOk result }
         ensures counted { OnlyCounts self.now from ballot reply → IsOk result }
-        ensures heard { IfOk result (λ prepared.
-            prepared.0 ≡ heard_of self.now from ballot reply) }
-        ensures ok { IfOk result (λ prepared.
-            after_commit self.now prepared.1 ≡ after_reply self.now from ballot reply) }
-        ensures from { IfOk result (λ prepared. IsPreparedFrom self.now prepared.1) }
+        ensures ok { IfOk result (PreparesReply self.now from ballot reply) }
     {
         match verdict {
             None => Ok((Heard::Ignored, self.unchanged())),
@@ -136,8 +122,7 @@ impl Proposer {
     }
 
     fn unchanged(&self) -> Change
-        ensures ok { after_commit self.now result ≡ self.now }
-        ensures from { IsPreparedFrom self.now result }
+        ensures { Leads self.now result self.now }
     {
         // a hint to the prover, of no cost: of a value that is read the invariant holds
         let _own = self.own;
@@ -151,18 +136,12 @@ impl Proposer {
         from: u8,
         reply: Reply,
     ) -> Result<(Heard, Change), AllocError>
-        requires asking { self.now.is_asking ≡ true }
+        requires countable { IsCountable self.now from reply }
         requires verdict { verdict ≡ verdict_of (with_reply self.now from reply) }
-        requires in_group { from < length self.now.votes }
-        requires new { has_counted self.now.tally from ≡ false }
-        requires fits { Fits self.now reply }
         requires spares { ¬ ReplySpends (with_reply self.now from reply) }
         ensures counted { verdict ≡ Verdict.Waits → IsOk result }
-        ensures heard { IfOk result (λ prepared.
-            prepared.0 ≡ heard_counting (with_reply self.now from reply)) }
-        ensures ok { IfOk result (λ prepared.
-            after_commit self.now prepared.1 ≡ after_counting (with_reply self.now from reply)) }
-        ensures from { IfOk result (λ prepared. IsPreparedFrom self.now prepared.1) }
+        ensures ok { IfOk result (PreparesHearing self.now (heard_counting (with_reply self.now from reply))
+            (after_counting (with_reply self.now from reply))) }
     {
         match verdict {
             Verdict::Waits => Ok((Heard::Counted, self.counting(from, reply))),
@@ -172,12 +151,8 @@ impl Proposer {
     }
 
     fn counting(&self, from: u8, reply: Reply) -> Change
-        requires asking { self.now.is_asking ≡ true }
-        requires in_group { from < length self.now.votes }
-        requires new { has_counted self.now.tally from ≡ false }
-        requires fits { Fits self.now reply }
-        ensures ok { after_commit self.now result ≡ with_reply self.now from reply }
-        ensures from { IsPreparedFrom self.now result }
+        requires { IsCountable self.now from reply }
+        ensures { Leads self.now result (with_reply self.now from reply) }
     {
         // a hint to the prover, of no cost: of a value that is read the invariant holds
         let _own = self.own;
@@ -187,16 +162,11 @@ impl Proposer {
     // Prepares to end the open ballot, and to open the one that joins what was refused, by this
     // reply too.
     fn prepare_refinement(&self, from: u8, reply: Reply) -> Result<(Heard, Change), AllocError>
-        requires asking { self.now.is_asking ≡ true }
-        requires in_group { from < length self.now.votes }
-        requires new { has_counted self.now.tally from ≡ false }
-        requires fits { Fits self.now reply }
+        requires countable { IsCountable self.now from reply }
         requires left { self.now.number < MAX_BALLOTS }
-        ensures heard { IfOk result (λ prepared.
-            prepared.0 ≡ Heard.Refined (refined_ballot (with_reply self.now from reply))) }
-        ensures ok { IfOk result (λ prepared.
-            after_commit self.now prepared.1 ≡ after_refinement (with_reply self.now from reply)) }
-        ensures from { IfOk result (λ prepared. IsPreparedFrom self.now prepared.1) }
+        ensures { IfOk result (PreparesHearing self.now
+            (Heard.Refined (refined_ballot (with_reply self.now from reply)))
+            (after_refinement (with_reply self.now from reply))) }
     {
         let told = Told::by(from, &self.last.updates, &reply);
         let mut updates = self.last.updates.copy()?;
@@ -215,11 +185,9 @@ impl Proposer {
     fn prepare_learning(&self, from: u8, reply: &Reply) -> Result<(Heard, Change), AllocError>
         requires in_group { from < length self.now.votes }
         requires left { ¬ StepSpends (not (is_nothing self.now.waiting)) self.now }
-        ensures heard { IfOk result (λ prepared.
-            prepared.0 ≡ Heard.Learnt self.now.updates (learning_opens self.now)) }
-        ensures ok { IfOk result (λ prepared.
-            after_commit self.now prepared.1 ≡ after_learning (noted self.now from reply.now)) }
-        ensures from { IfOk result (λ prepared. IsPreparedFrom self.now prepared.1) }
+        ensures { IfOk result (PreparesHearing self.now
+            (Heard.Learnt self.now.updates (learning_opens self.now))
+            (after_learning (noted self.now from reply.now))) }
     {
         let told = Told::by(from, &self.last.updates, reply);
         let learnt = self.last.updates.copy()?;

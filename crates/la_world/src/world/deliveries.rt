@@ -1,10 +1,9 @@
 // The delivery of a message that was sent.
 ghost use Rattle.std.specs.Prelude.{◌≡◌, ◌+◌, ◌<◌, ◌^◌, length, IfOk, IfErr, OnErr};
 ghost use Rattle.la_node.specs.declared.error.WorldError.TheVariants.{Memory};
-ghost use Rattle.la_world.specs.Events.{Past, Deliver};
+ghost use Rattle.la_world.specs.Events.{Deliver};
 ghost use Rattle.la_world.specs.Printable.{IsPrintable};
-ghost use Rattle.la_world.specs.StandsFor.{StandsFor};
-ghost use Rattle.la_world.specs.Calls.{PlaysEvent, RefusesEvent};
+ghost use Rattle.la_world.specs.Calls.{PlaysFrom, RefusesFrom};
 
 use super::World;
 use crate::Step;
@@ -16,11 +15,9 @@ impl<B: Replicated> World<B> {
     #[inline(always)]
     pub(super) fn deliver(&mut self, number: u64) -> Result<Step, WorldError>
         requires { self.old.count + 1 < 2 ^ 64 }
-        ensures step { (events : Past) → StandsFor self.old events →
-            IfOk result (λ step. PlaysEvent self.old events (Deliver number) step self.new) }
+        ensures step { PlaysFrom self.old (Deliver number) result self.new }
         ensures printable { IfOk result IsPrintable }
-        ensures error { (events : Past) → StandsFor self.old events →
-            IfErr result (RefusesEvent self.old events (Deliver number)) }
+        ensures error { RefusesFrom self.old (Deliver number) result }
         ensures err { OnErr result (self.new ≡ self.old) }
     {
         if number >= self.sent() {
@@ -34,8 +31,7 @@ impl<B: Replicated> World<B> {
     fn take_delivery(&mut self, number: usize) -> Result<Step, WorldError>
         requires count { self.old.count + 1 < 2 ^ 64 }
         requires known { number < length self.old.messages }
-        ensures step { (events : Past) → StandsFor self.old events →
-            IfOk result (λ step. PlaysEvent self.old events (Deliver number) step self.new) }
+        ensures step { PlaysFrom self.old (Deliver number) result self.new }
         ensures printable { IfOk result IsPrintable }
         ensures error { IfErr result (λ e. e ≡ Memory) }
         ensures err { OnErr result (self.new ≡ self.old) }

@@ -4,7 +4,7 @@ ghost use Rattle.la_world.specs.Events.{Past, Ask};
 ghost use Rattle.la_world.specs.Printable.{IsPrintable};
 ghost use Rattle.la_world.specs.StandsFor.{StandsFor, group_in, trace_in};
 ghost use Rattle.la_world.specs.Calls.{Keeps, may_absorb, IsSameUnless, world_tags, IsWorldTagsRefusal};
-ghost use Rattle.la_world.specs.Calls.{HasObject, IsObjectRefusal, PlaysEvent, RefusesEvent};
+ghost use Rattle.la_world.specs.Calls.{HasObject, IsObjectRefusal, PlaysFrom, RefusesFrom};
 ghost use Rattle.la_world.specs.Calls.{IsFollowing, LeftUntoldWorld};
 
 use super::World;
@@ -21,11 +21,9 @@ impl<B: Replicated> World<B> {
         query: &Query,
     ) -> Result<Step, WorldError>
         requires { self.old.count + 1 < 2 ^ 64 }
-        ensures step { (events : Past) → StandsFor self.old events → IfOk result (λ step.
-            PlaysEvent self.old events (Ask replica object query.now) step self.new) }
+        ensures step { PlaysFrom self.old (Ask replica object query.now) result self.new }
         ensures printable { IfOk result IsPrintable }
-        ensures error { (events : Past) → StandsFor self.old events →
-            IfErr result (RefusesEvent self.old events (Ask replica object query.now)) }
+        ensures error { RefusesFrom self.old (Ask replica object query.now) result }
         ensures keeps { OnErr result (Keeps self.old self.new) }
         ensures err { IfErr result (λ e.
             IsSameUnless (may_absorb (Ask replica object query.now) e) self.old self.new) }

@@ -9,7 +9,7 @@ ghost use Rattle.la_node.specs.Nodes.{replicas_of};
 ghost use Rattle.la_world.specs.Events.{Past, Submit, Decide, submission_of};
 ghost use Rattle.la_world.specs.Printable.{IsPrintable};
 ghost use Rattle.la_world.specs.StandsFor.{StandsFor, refused_in};
-ghost use Rattle.la_world.specs.Calls.{PlaysEvent, IsAllowed, RefusesEvent, submitted_at};
+ghost use Rattle.la_world.specs.Calls.{PlaysFrom, IsAllowed, RefusesFrom, RefusesEvent, submitted_at};
 ghost use Rattle.la_world.specs.Shown.{HasRoomToSend, HasRoomToLearn, shown_step, submitter};
 ghost use Rattle.la_world.specs.Shown.{submitted_so};
 
@@ -27,11 +27,9 @@ use std::alloc::AllocError;
 impl<B: Replicated> World<B> {
     pub(super) fn submit(&mut self, replica: u8, object: u16, op: &Op) -> Result<Step, WorldError>
         requires { self.old.count + 1 < 2 ^ 64 }
-        ensures step { (events : Past) → StandsFor self.old events → IfOk result (λ step.
-            PlaysEvent self.old events (submission_of replica object op.now) step self.new) }
+        ensures step { PlaysFrom self.old (submission_of replica object op.now) result self.new }
         ensures printable { IfOk result IsPrintable }
-        ensures error { (events : Past) → StandsFor self.old events →
-            IfErr result (RefusesEvent self.old events (submission_of replica object op.now)) }
+        ensures error { RefusesFrom self.old (submission_of replica object op.now) result }
         ensures err { OnErr result (self.new ≡ self.old) }
     {
         self.admit_submission(replica)?;
@@ -59,11 +57,9 @@ impl<B: Replicated> World<B> {
 
     pub(super) fn decide(&mut self, replica: u8, commit: u8, value: u64) -> Result<Step, WorldError>
         requires { self.old.count + 1 < 2 ^ 64 }
-        ensures step { (events : Past) → StandsFor self.old events →
-            IfOk result (λ step. PlaysEvent self.old events (Decide replica commit value) step self.new) }
+        ensures step { PlaysFrom self.old (Decide replica commit value) result self.new }
         ensures printable { IfOk result IsPrintable }
-        ensures error { (events : Past) → StandsFor self.old events →
-            IfErr result (RefusesEvent self.old events (Decide replica commit value)) }
+        ensures error { RefusesFrom self.old (Decide replica commit value) result }
         ensures err { OnErr result (self.new ≡ self.old) }
     {
         self.admit_proposal(replica, commit)?;
@@ -99,8 +95,7 @@ impl<B: Replicated> World<B> {
         requires count { self.old.count + 1 < 2 ^ 64 }
         requires known { replica < length self.old.replica_states }
         requires allowed { IsAllowed self.old (Submit replica (op_on object op)) }
-        ensures step { (events : Past) → StandsFor self.old events → IfOk result (λ step.
-            PlaysEvent self.old events (Submit replica (op_on object op)) step self.new) }
+        ensures step { PlaysFrom self.old (Submit replica (op_on object op)) result self.new }
         ensures printable { IfOk result IsPrintable }
         ensures err { OnErr result (self.new ≡ self.old) }
     {
@@ -118,8 +113,7 @@ impl<B: Replicated> World<B> {
         requires known { replica < length self.old.replica_states }
         requires object { commit < MAX_COMMITS }
         requires allowed { IsAllowed self.old (Decide replica commit value) }
-        ensures step { (events : Past) → StandsFor self.old events →
-            IfOk result (λ step. PlaysEvent self.old events (Decide replica commit value) step self.new) }
+        ensures step { PlaysFrom self.old (Decide replica commit value) result self.new }
         ensures printable { IfOk result IsPrintable }
         ensures err { OnErr result (self.new ≡ self.old) }
     {

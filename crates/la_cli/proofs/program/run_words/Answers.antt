@@ -1,7 +1,4 @@
 use Rattle.la_cli.proofs.program.run_words.Goals as goal
 
-pub returns-clause-ends : goal.returns-clause-ends
-returns-clause-ends g c = (c.carry_out.result.told, c.carry_out.ensures.ends)
-
-pub returns-clause-done : goal.returns-clause-done
-returns-clause-done g c zero = (c.carry_out.result.told, c.carry_out.ensures.done zero)
+pub returns : goal.returns
+returns g c = record { told = c.carry_out.result.told; ended = c.carry_out.ensures }

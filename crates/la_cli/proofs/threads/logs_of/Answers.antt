@@ -15,7 +15,7 @@ unreachable-requires g c =
     ap length c.in_ok-jobs.ensures ∙ length-replicate c.args.replicas (increments c.args.each) in
     let config =
     can_run c.args.replicas c.in_ok-group.group (length c.in_ok-group.members.items) (length c.in_ok-jobs.jobs.items)
-    c.args.shelves.items c.in_ok-group.ensures.group c.requires.few c.in_ok-group.ensures.count each
+    c.args.shelves.items c.in_ok-group.ensures.group c.requires.sizes.few_replicas c.in_ok-group.ensures.count each
     c.requires.shelves in
     subst
     (IsRunRefusal

@@ -6,4 +6,4 @@ use Rattle.la_node.proofs.participant.prepare_cast.Goals as goal
 pub returns-in-Ok-clause-leads : goal.returns-in-Ok-clause-leads
 returns-in-Ok-clause-leads c =
     subst₂ (λ k op. LeadsThere c.args.replica.now (c.args.instance + 1) (record { object = k; op = op }) (whole_out c.in-Ok.prepared.0) c.in-Ok.prepared.1)
-    c.commit_of.ensures c.from.ensures c.in-Ok.ensures.leads
+    c.commit_of.ensures c.from.ensures c.in-Ok.ensures.ok.leads

@@ -1,5 +1,5 @@
 use Rattle.std.proofs.Common.{arith, ◌≡◌, length}
-use Rattle.la_runner.specs.Runs.{IsWorked}
+use Rattle.la_runner.specs.Runs.{IsLogOf}
 use Rattle.la_runner.proofs.Threading.{kept_all}
 use Rattle.la_runner.proofs.running.join_all.Goals as goal
 
@@ -8,8 +8,6 @@ returns-in-Ok g c =
     let same : length c.in-Ok.done.items ≡ length c.args.handles.items =
     omega (arith, c.in-Ok.done.ok.0, c.args.handles.ok.0, c.in-Ok.ensures.len) in
     kept_all
-    (λ h b.
-    IsWorked h.promise.0.value.member h.promise.0.value.shelf h.promise.0.value.jobs.items b.replica b.member
-    b.shelf b.entries b.stopped) c.args.handles.items c.in-Ok.done.items same
+    (λ h l. IsLogOf h.promise.0.value l) c.args.handles.items c.in-Ok.done.items same
     (λ i d less.
     let k = c.in-Ok.ensures.each i d (omega (arith, c.args.handles.ok.0)) in (k.1.handle, k.1.handle_is, k.1.kept))

@@ -1,5 +1,5 @@
 use Rattle.std.proofs.lemmas.Result.{IfOk-weaker}
-use Rattle.la_runner.specs.Runs.{IsWorked, IsReadyMember, IsWorkOf}
+use Rattle.la_runner.specs.Runs.{IsWorked, IsReadyMember, IsWorkOf, IsLogOf}
 use Rattle.la_runner.proofs.Threading.{zip_along, all_over, ready_of, worked_of}
 use Rattle.la_runner.proofs.running.run_in.Goals as goal
 
@@ -12,6 +12,6 @@ run_all-requires-clause-ready g c κs within =
 
 pub returns : goal.returns
 returns g c = IfOk-weaker c.run_all.result _ _
-    (λ done h. zip_along (λ s w. IsWorkOf s.member s.shelf s.jobs.items w.member w.shelf w.jobs.items) (λ w b. IsWorked w.member w.shelf w.jobs.items b.replica b.member b.shelf b.entries b.stopped) (λ s b. IsWorked s.member s.shelf s.jobs.items b.replica b.member b.shelf b.entries b.stopped)
+    (λ done h. zip_along (λ s w. IsWorkOf s.member s.shelf s.jobs.items w.member w.shelf w.jobs.items) IsLogOf (λ s b. IsWorked s.member s.shelf s.jobs.items b.replica b.member b.shelf b.entries b.stopped)
     (λ s w b is back. worked_of s.member s.shelf s.jobs.items w.member w.shelf w.jobs.items b.replica b.member b.shelf b.entries b.stopped is back) c.args.starts.items c.in-Ok.works.items done.items c.in-Ok.ensures h)
     c.run_all.ensures

@@ -1,6 +1,6 @@
 use Rattle.std.proofs.Common.{◌<◌, ◌+◌, map, length, sym, subst, arith, ◌∙◌}
 use Rattle.la_set.specs.Histories.{empty}
-use Rattle.la_runner.specs.Counted.{taker}
+use Rattle.la_runner.specs.Counted.{log_taker}
 use Rattle.la_runner.specs.Members.{member_view}
 use Rattle.la_runner.proofs.Keeping.{long_map}
 use Rattle.std.specs.List.{slice_index_or}
@@ -22,9 +22,9 @@ loop-other-preserved g c =
             (one_counted (map (λ x. member_view x.member) c.args.logs.now.items) c.args.at c.loop-other.other c.loop-other.count c.loop-other.invariant.above (λ e. omega (arith, e, w.if-other-at.true))
             (met_at (λ x. member_view x.member) c.args.logs.now.items c.args.at c.loop-other.other w.index.result.now w.index-then-other-at.result.now there here w.index.ensures w.index-then-other-at.ensures (w.has_met.ensures.contains w.if-has_met.true)));
         exactly =
-            one_exactly (map (λ x. taker x.replica x.taken (member_view x.member)) c.args.logs.now.items) c.args.at
+            one_exactly (map log_taker c.args.logs.now.items) c.args.at
             c.loop-other.other c.loop-other.count _ c.loop-other.invariant.exactly
-            (other_met (λ x. taker x.replica x.taken (member_view x.member)) c.args.logs.now.items c.args.at c.loop-other.other
+            (other_met log_taker c.args.logs.now.items c.args.at c.loop-other.other
             w.index.result.now w.index-then-other-at.result.now there here w.index.ensures
             w.index-then-other-at.ensures (λ e. omega (arith, e, w.if-other-at.true)) _ w.has_met.ensures.value
             ∙ w.if-has_met.true)
@@ -38,9 +38,9 @@ loop-other-preserved g c =
               (one_missing (map (λ x. member_view x.member) c.args.logs.now.items) c.args.at c.loop-other.other
               c.loop-other.count c.loop-other.invariant.above (λ e. omega (arith, e, v.if-other-at.true)));
           exactly =
-              none_exactly (map (λ x. taker x.replica x.taken (member_view x.member)) c.args.logs.now.items) c.args.at
+              none_exactly (map log_taker c.args.logs.now.items) c.args.at
               c.loop-other.other c.loop-other.count _ c.loop-other.invariant.exactly
-              (other_met (λ x. taker x.replica x.taken (member_view x.member)) c.args.logs.now.items c.args.at
+              (other_met log_taker c.args.logs.now.items c.args.at
               c.loop-other.other v.index.result.now v.index-then-other-at.result.now there here v.index.ensures
               v.index-then-other-at.ensures (λ e. omega (arith, e, v.if-other-at.true)) _ v.has_met.ensures.value
               ∙ v.if-has_met.false)
@@ -53,9 +53,9 @@ loop-other-preserved g c =
               (own_passed (map (λ x. member_view x.member) c.args.logs.now.items) c.args.at c.loop-other.other c.loop-other.count c.loop-other.invariant.above (slice_index_or (map (λ x. member_view x.member) c.args.logs.now.items) c.loop-other.other empty) (omega (arith, v.if-other-at.false))
               (λ d. any_default (map (λ x. member_view x.member) c.args.logs.now.items) c.loop-other.other (omega (arith, here, long)) d empty));
           exactly =
-              none_exactly (map (λ x. taker x.replica x.taken (member_view x.member)) c.args.logs.now.items) c.args.at
+              none_exactly (map log_taker c.args.logs.now.items) c.args.at
               c.loop-other.other c.loop-other.count _ c.loop-other.invariant.exactly
-              (own_not (map (λ x. taker x.replica x.taken (member_view x.member)) c.args.logs.now.items) c.args.at
+              (own_not (map log_taker c.args.logs.now.items) c.args.at
               c.loop-other.other (omega (arith, v.if-other-at.false)))
               w.count-is;
         }

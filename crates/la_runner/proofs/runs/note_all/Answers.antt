@@ -1,7 +1,7 @@
 use Rattle.std.proofs.Common.{◌≡◌, length, refl, ap, sym, ◌∙◌, arith}
-use Rattle.la_runner.specs.Counted.{taker}
+use Rattle.la_runner.specs.Counted.{log_taker}
 use Rattle.la_runner.specs.Members.{member_view}
-use Rattle.la_runner.specs.Runs.{back_of}
+use Rattle.la_runner.specs.Runs.{log_back}
 use Rattle.la_runner.proofs.Keeping.{item_at, long_map}
 use Rattle.la_runner.proofs.Counting.{noted, one_more_exactly}
 use Rattle.la_runner.proofs.runs.note_all.Goals as goal
@@ -9,11 +9,11 @@ use Rattle.la_runner.proofs.runs.note_all.Goals as goal
 pub loop-at-preserved : goal.loop-at-preserved
 loop-at-preserved g c =
     let long : length c.loop-at.logs.items ≡ length c.args.logs.now.items =
-    sym (long_map (λ l. back_of l.replica l.member l.shelf l.entries l.stopped) c.loop-at.logs.items)
+    sym (long_map log_back c.loop-at.logs.items)
     ∙ ap length c.loop-at.invariant.same
-    ∙ long_map (λ l. back_of l.replica l.member l.shelf l.entries l.stopped) c.args.logs.now.items in
+    ∙ long_map log_back c.args.logs.now.items in
     let h =
-    noted (λ l. back_of l.replica l.member l.shelf l.entries l.stopped) (λ l. l.notes) (λ l. member_view l.member)
+    noted log_back (λ l. l.notes) (λ l. member_view l.member)
     c.loop-at.logs.items c.args.logs.now.items c.loop-at.at c.index_mut.result.now
     (record c.index_mut.result.now { notes = c.count_notes-notes.result })
     (item_at c.loop-at.logs.items c.loop-at.at c.index_mut.result.now
@@ -22,7 +22,7 @@ loop-at-preserved g c =
     record {
       same = h.0;
       exactly =
-          one_more_exactly (λ l. taker l.replica l.taken (member_view l.member)) (λ l. l.notes) c.loop-at.logs.items c.loop-at.at
+          one_more_exactly log_taker (λ l. l.notes) c.loop-at.logs.items c.loop-at.at
           c.index_mut.result.now (record c.index_mut.result.now { notes = c.count_notes-notes.result })
           (item_at c.loop-at.logs.items c.loop-at.at c.index_mut.result.now
           (omega (arith, long, c.loop-at-test.true, c.args.logs.now.ok.0)) c.index_mut.ensures.value) refl

@@ -2,7 +2,7 @@ use Rattle.std.proofs.Common.{◌≡◌, map, length, subst, sym, arith}
 use Rattle.std.specs.List.{All, AllZip}
 use Rattle.la_runner.specs.Members.{IsOfGroup}
 use Rattle.la_runner.specs.Invariant.{IsMember}
-use Rattle.la_runner.specs.Runs.{Place, IsReadyMember, IsWorked, IsBackOf, place_of, places, back_of}
+use Rattle.la_runner.specs.Runs.{Place, IsReadyMember, IsWorked, IsBackOf, place_of, places, log_back}
 use Rattle.la_runner.proofs.Agreeing.{decisions_compare, decisions_agree, decisions_are_theirs}
 use Rattle.la_runner.proofs.Keeping.{long_map}
 use Rattle.la_runner.proofs.Noted.{views_of, notes_hold, notes_agree}
@@ -33,65 +33,28 @@ run_in-requires-clause-ready g c κs within =
 pub returns-in-Ok-run_in-clause-config : goal.returns-in-Ok-run_in-clause-config
 returns-in-Ok-run_in-clause-config g c = c.is_run.ensures.config.0 c.if-not-is_run.false
 
-pub returns-in-Ok-run_in-clause-each : goal.returns-in-Ok-run_in-clause-each
-returns-in-Ok-run_in-clause-each g c =
-    let given = (places c.args.members.items c.args.shelves.items c.args.jobs.items) in
-    let done = map (λ l. back_of l.replica l.member l.shelf l.entries l.stopped) c.in-Ok-run_in.done.items in
+pub returns-in-Ok-run_in-clause-keeps : goal.returns-in-Ok-run_in-clause-keeps
+returns-in-Ok-run_in-clause-keeps g c =
+    let given = places c.args.members.items c.args.shelves.items c.args.jobs.items in
+    let done = map log_back c.in-Ok-run_in.done.items in
+    let logs = map log_back c.finish.result in
     let first = subst (λ l. AllZip IsBackOf l done) c.in-Ok.ensures
-    (zip_maps (λ s. place_of s.member s.shelf s.jobs.items)
-    (λ l. back_of l.replica l.member l.shelf l.entries l.stopped) IsBackOf c.in-Ok.begun.items
+    (zip_maps (λ s. place_of s.member s.shelf s.jobs.items) log_back IsBackOf c.in-Ok.begun.items
     c.in-Ok-run_in.done.items c.in-Ok-run_in.ensures) in
-    all_worked_more given done (map (λ l. back_of l.replica l.member l.shelf l.entries l.stopped) c.finish.result) first
-    c.finish.ensures.same
-
-pub returns-in-Ok-run_in-clause-comparable : goal.returns-in-Ok-run_in-clause-comparable
-returns-in-Ok-run_in-clause-comparable g c =
-    all_compare (places c.args.members.items c.args.shelves.items c.args.jobs.items)
-    (map (λ l. back_of l.replica l.member l.shelf l.entries l.stopped) c.finish.result)
-    (returns-in-Ok-run_in-clause-each g c) c.finish.ensures.seen
-
-pub returns-in-Ok-run_in-clause-honest : goal.returns-in-Ok-run_in-clause-honest
-returns-in-Ok-run_in-clause-honest g c =
-    all_honest (λ l. back_of l.replica l.member l.shelf l.entries l.stopped)
-    (places c.args.members.items c.args.shelves.items c.args.jobs.items) c.finish.result
-    (returns-in-Ok-run_in-clause-each g c)
-
-pub returns-in-Ok-run_in-clause-decisions : goal.returns-in-Ok-run_in-clause-decisions
-returns-in-Ok-run_in-clause-decisions g c =
-    decisions_compare (places c.args.members.items c.args.shelves.items c.args.jobs.items)
-    (map (λ l. back_of l.replica l.member l.shelf l.entries l.stopped) c.finish.result)
-    (returns-in-Ok-run_in-clause-each g c) c.finish.ensures.seen
-
-pub returns-in-Ok-run_in-clause-agreed : goal.returns-in-Ok-run_in-clause-agreed
-returns-in-Ok-run_in-clause-agreed g c =
-    decisions_agree (places c.args.members.items c.args.shelves.items c.args.jobs.items)
-    (map (λ l. back_of l.replica l.member l.shelf l.entries l.stopped) c.finish.result)
-    (returns-in-Ok-run_in-clause-each g c) c.finish.ensures.seen
-
-pub returns-in-Ok-run_in-clause-theirs : goal.returns-in-Ok-run_in-clause-theirs
-returns-in-Ok-run_in-clause-theirs g c =
-    decisions_are_theirs (places c.args.members.items c.args.shelves.items c.args.jobs.items)
-    (map (λ l. back_of l.replica l.member l.shelf l.entries l.stopped) c.finish.result)
-    (returns-in-Ok-run_in-clause-each g c) c.finish.ensures.seen
-
-pub returns-in-Ok-run_in-clause-counted : goal.returns-in-Ok-run_in-clause-counted
-returns-in-Ok-run_in-clause-counted g c = c.finish.ensures.counted
-
-pub returns-in-Ok-run_in-clause-notes : goal.returns-in-Ok-run_in-clause-notes
-returns-in-Ok-run_in-clause-notes g c =
-    notes_hold (places c.args.members.items c.args.shelves.items c.args.jobs.items)
-    (map (λ l. back_of l.replica l.member l.shelf l.entries l.stopped) c.finish.result)
-    (returns-in-Ok-run_in-clause-each g c) (map (λ l. l.notes) c.finish.result)
-    (views_of (λ l. back_of l.replica l.member l.shelf l.entries l.stopped) (map (λ l. l.notes) c.finish.result)
-    c.finish.result c.finish.ensures.notes)
-
-pub returns-in-Ok-run_in-clause-alike : goal.returns-in-Ok-run_in-clause-alike
-returns-in-Ok-run_in-clause-alike g c =
-    notes_agree (places c.args.members.items c.args.shelves.items c.args.jobs.items)
-    (map (λ l. back_of l.replica l.member l.shelf l.entries l.stopped) c.finish.result)
-    (returns-in-Ok-run_in-clause-each g c) (map (λ l. l.notes) c.finish.result)
-    (views_of (λ l. back_of l.replica l.member l.shelf l.entries l.stopped) (map (λ l. l.notes) c.finish.result)
-    c.finish.result c.finish.ensures.notes)
+    let each = all_worked_more given done logs first c.finish.ensures.same in
+    let hold =
+    views_of log_back (map (λ l. l.notes) c.finish.result) c.finish.result c.finish.ensures.notes in
+    record {
+      each = each;
+      comparable = all_compare given logs each c.finish.ensures.seen;
+      honest = all_honest log_back given c.finish.result each;
+      decisions = decisions_compare given logs each c.finish.ensures.seen;
+      agreed = decisions_agree given logs each c.finish.ensures.seen;
+      theirs = decisions_are_theirs given logs each c.finish.ensures.seen;
+      counted = c.finish.ensures.counted;
+      notes = notes_hold given logs each (map (λ l. l.notes) c.finish.result) hold;
+      alike = notes_agree given logs each (map (λ l. l.notes) c.finish.result) hold;
+    }
 
 pub finish-requires-clause-few : goal.finish-requires-clause-few
 finish-requires-clause-few g c =

@@ -2,7 +2,7 @@ use Rattle.std.proofs.Common.{[], ◌∷◌, ◌++◌, map, refl, subst, sym, in
 use Rattle.std.specs.List.{All, AllZip}
 use Rattle.la_runner.specs.Invariant.{IsMember}
 use Rattle.la_runner.specs.Members.{IsOfGroup}
-use Rattle.la_runner.specs.Runs.{back_of}
+use Rattle.la_runner.specs.Runs.{log_back}
 use Rattle.la_runner.specs.Together.{HasSeen, IsSameLog}
 use Rattle.la_runner.proofs.Sharing.{all_front, all_last, same_all, seen_all, seen_self}
 use Rattle.la_runner.proofs.showing.show_all.Goals as goal
@@ -23,12 +23,12 @@ returns-clause-same g c =
     subst (All (λ l. IsOfGroup c.args.group.now l.member × IsMember l.member)) c.in-Some.ensures.cases.0 c.requires in
     subst
     (λ l.
-    AllZip IsSameLog (map (λ x. back_of x.replica x.member x.shelf x.entries x.stopped) l)
-    (map (λ x. back_of x.replica x.member x.shelf x.entries x.stopped)
+    AllZip IsSameLog (map log_back l)
+    (map log_back
     (c.show_last.new.others ++ record c.in-Some.last.now { member = c.show_last.new.last } ∷ [])))
     (sym c.in-Some.ensures.cases.0)
-    (subst (λ l. AllZip IsSameLog (map (λ x. back_of x.replica x.member x.shelf x.entries x.stopped) (c.in-Some.others.now ++ c.in-Some.last.now ∷ [])) (map (λ x. back_of x.replica x.member x.shelf x.entries x.stopped) (l ++ record c.in-Some.last.now { member = c.show_last.new.last } ∷ []))) (sym c.show_last.ensures.same)
-    (same_all (λ x. back_of x.replica x.member x.shelf x.entries x.stopped) c.in-Some.others.now c.in-Some.last.now (record c.in-Some.last.now { member = c.show_last.new.last })
+    (subst (λ l. AllZip IsSameLog (map log_back (c.in-Some.others.now ++ c.in-Some.last.now ∷ [])) (map log_back (l ++ record c.in-Some.last.now { member = c.show_last.new.last } ∷ []))) (sym c.show_last.ensures.same)
+    (same_all log_back c.in-Some.others.now c.in-Some.last.now (record c.in-Some.last.now { member = c.show_last.new.last })
     (λ k d lt.
     (all_front (λ l. IsOfGroup c.args.group.now l.member × IsMember l.member) c.in-Some.others.now c.in-Some.last.now all
     k d lt).1)
@@ -43,10 +43,10 @@ returns-clause-seen g c =
           subst
           (λ l.
           All (λ b. HasSeen b.member c.show_last.new.last)
-          (map (λ x. back_of x.replica x.member x.shelf x.entries x.stopped)
+          (map log_back
           (l ++ record c.in-Some.last.now { member = c.show_last.new.last } ∷ [])))
           (sym c.show_last.ensures.same)
-          (seen_all (λ x. back_of x.replica x.member x.shelf x.entries x.stopped) c.in-Some.others.now
+          (seen_all log_back c.in-Some.others.now
           (record c.in-Some.last.now { member = c.show_last.new.last }) c.show_last.new.last
           c.show_last.ensures.shown (seen_self c.show_last.new.last));
     })

@@ -64,10 +64,10 @@ invariant_of-result c =
     let names : Row → List AcceptorName = λ (r : Row). r.acceptors.items in
     let group = map names c.args.rows.now in
     let votes = votes_of c.args.votes in
-    let all = All-map (λ (row : List AcceptorName). length row ≡ length votes) names c.args.rows.now c.requires.sizes in
+    let all = All-map (λ (row : List AcceptorName). length row ≡ length votes) names c.args.rows.now c.requires.may.sizes in
     let long = names_long names c.args.rows.now in
     let ended : c.loop-at.at ≡ length group = omega (arith, long, c.loop-at-test.false, c.loop-at.auto.at-end) in
-    fresh_member group votes c.args.own c.args.cap c.requires.known c.requires.few c.requires.some c.requires.most all
+    fresh_member group votes c.args.own c.args.cap c.requires.known c.requires.may.few c.requires.may.some c.requires.may.most all
     (record { votes = votes; replica = c.args.own; instances = map state_of c.loop-at.instances.items }) refl refl
     (subst (λ n. AreNew group votes c.args.own c.args.cap n (map state_of c.loop-at.instances.items)) ended
-    c.loop-at.invariant.0) (omega (arith, long, c.requires.one)) (omega (arith, long, c.requires.instances))
+    c.loop-at.invariant.0) (omega (arith, long, c.requires.may.one)) (omega (arith, long, c.requires.may.instances))

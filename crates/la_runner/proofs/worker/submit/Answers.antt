@@ -11,18 +11,17 @@ stop_of-requires g c =
     update_error c.args.rounds (op_on c.args.object c.args.op) c.args.member.now c.update.new.member c.in-Err.error
     c.in-Err.ensures.error
 
-pub returns-in-Ok-clause-answers : goal.returns-in-Ok-clause-answers
-returns-in-Ok-clause-answers g c =
-    update_answers c.args.member.now c.update.new.member c.args.object c.args.op c.in-Ok.learned c.in-Ok.ensures.updated
-    c.in-Ok.ensures.submitted
-
-pub returns-in-Ok-clause-names : goal.returns-in-Ok-clause-names
-returns-in-Ok-clause-names g c = ap Some (sym c.in-Ok.ensures.updated.view)
-
-pub returns-in-Ok-clause-submitted : goal.returns-in-Ok-clause-submitted
-returns-in-Ok-clause-submitted g c =
-    one_longer (member_submitted c.args.member.now 0) (member_submitted c.update.new.member 0) (op_on c.args.object c.args.op)
-    c.in-Ok.ensures.submitted
+pub returns-in-Ok-clause-done : goal.returns-in-Ok-clause-done
+returns-in-Ok-clause-done g c =
+    let updated = c.in-Ok.ensures.updated in
+    record {
+      answers =
+          update_answers c.args.member.now c.update.new.member c.args.object c.args.op c.in-Ok.learned updated;
+      names = ap Some (sym updated.view);
+      submitted =
+          one_longer (member_submitted c.args.member.now 0) (member_submitted c.update.new.member 0)
+          (op_on c.args.object c.args.op) updated.submitted;
+    }
 
 pub returns-in-Err-clause-error : goal.returns-in-Err-clause-error
 returns-in-Err-clause-error g c =

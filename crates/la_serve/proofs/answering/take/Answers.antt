@@ -4,7 +4,7 @@ use Rattle.std.proofs.KnownBytes.{Appends-nil}
 use Rattle.la_set.specs.Histories.{updates}
 use Rattle.la_io.specs.Streams.{AppendsPrefix}
 use Rattle.la_wire.specs.Calls.{called}
-use Rattle.la_durable.specs.Given.{given_of}
+use Rattle.la_node.specs.Steps.{given_of}
 use Rattle.la_durable.specs.Nodes.{kept_by}
 use Rattle.la_serve.specs.declared.error.NodeFault.TheVariants.{WriteFault}
 use Rattle.la_serve.specs.Names.{refusal_name}

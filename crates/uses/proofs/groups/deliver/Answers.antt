@@ -2,8 +2,6 @@ use Rattle.std.proofs.Common.{get_or, ◌++◌, slice_set, Contains, refl, ap, s
 use Rattle.std.proofs.lemmas.Option.{slice_get-get_or}
 use Rattle.std.proofs.lemmas.List.{set-get_or}
 use Rattle.std.proofs.lemmas.List.Elements.{Contains-append_left}
-use Rattle.la_replica.specs.Bases.{offered_by, AreToldIn}
-use Rattle.la_replica.specs.Received.{received_in}
 use Rattle.la_world.specs.LiveGroups.{AreLive}
 use Rattle.uses.proofs.Together.{received, lost}
 use Rattle.uses.proofs.groups.deliver.Goals as goal
@@ -25,15 +23,10 @@ returns-in_err-hand_to g c =
     let nodes = c.args.group.now in
     let any = c.index-group-to.result in
     let sent = c.in_ok-mail.ensures.ok in
-    let told =
-    subst
-    (AreToldIn c.mail_by.new.node.replica
-    (offered_by (received_in (get_or nodes c.args.message.now.to any).replica c.args.message.now))) (sym sent.1)
-    c.in_ok-mail.ensures.told in
-    received c.networks_may_lose.ensures nodes c.args.network.now.items c.hand_to.new.queue.items c.args.message.now.to
-    (get_or nodes c.args.message.now.to any) c.mail_by.new.node
-    (slice_get-get_or nodes c.args.message.now.to any (omega (arith, c.if-to-group.false)))
-    c.receipts_keep_live.ensures c.args.message.now sent.0 refl c.in_ok-mail.ensures.stands sent.2 told
+    received c.networks_may_lose.ensures c.calls_keep_live.ensures nodes c.args.network.now.items
+    c.hand_to.new.queue.items c.args.message.now.to (get_or nodes c.args.message.now.to any) c.mail_by.new.node
+    (slice_get-get_or nodes c.args.message.now.to any (omega (arith, c.if-to-group.false))) sent.0
+    c.args.message.now refl sent.2
     (λ m has.
     Contains-append_left c.args.network.now.items sent.0.mail m
     (subst (λ ms. Contains ms m) c.in_err-hand_to.ensures.err has))
@@ -43,15 +36,10 @@ returns g c =
     let nodes = c.args.group.now in
     let any = c.index-group-to.result in
     let sent = c.in_ok-mail.ensures.ok in
-    let told =
-    subst
-    (AreToldIn c.mail_by.new.node.replica
-    (offered_by (received_in (get_or nodes c.args.message.now.to any).replica c.args.message.now))) (sym sent.1)
-    c.in_ok-mail.ensures.told in
-    received c.networks_may_lose.ensures nodes c.args.network.now.items c.hand_to.new.queue.items c.args.message.now.to
-    (get_or nodes c.args.message.now.to any) c.mail_by.new.node
-    (slice_get-get_or nodes c.args.message.now.to any (omega (arith, c.if-to-group.false)))
-    c.receipts_keep_live.ensures c.args.message.now sent.0 refl c.in_ok-mail.ensures.stands sent.2 told
+    received c.networks_may_lose.ensures c.calls_keep_live.ensures nodes c.args.network.now.items
+    c.hand_to.new.queue.items c.args.message.now.to (get_or nodes c.args.message.now.to any) c.mail_by.new.node
+    (slice_get-get_or nodes c.args.message.now.to any (omega (arith, c.if-to-group.false))) sent.0
+    c.args.message.now refl sent.2
     (λ m has.
     subst (λ ms. Contains ms m)
     (c.in_ok-hand_to.ensures.ok ∙ ap (λ ms. c.args.network.now.items ++ ms) (sym sent.1)) has)

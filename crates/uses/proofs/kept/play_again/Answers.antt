@@ -1,6 +1,6 @@
 use Rattle.std.proofs.Common.{◌++◌, [], ◌∷◌, map, take, ap, sym, ◌∙◌}
 use Rattle.std.proofs.lemmas.List.{take_more, take_all, map-append}
-use Rattle.la_node.specs.Kept.{after_calls}
+use Rattle.la_node.specs.Steps.{after_calls}
 use Rattle.uses.specs.Kept.{kept_call}
 use Rattle.uses.proofs.kept.play_again.Goals as goal
 

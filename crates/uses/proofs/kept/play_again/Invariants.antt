@@ -1,5 +1,5 @@
 use Rattle.std.specs.Prelude.{◌≡◌, map, take, Some}
-use Rattle.la_node.specs.Kept.{after_calls}
+use Rattle.la_node.specs.Steps.{after_calls}
 use Rattle.uses.specs.Kept.{kept_call}
 use Rattle.uses.proofs.kept.play_again.Given as goal
 

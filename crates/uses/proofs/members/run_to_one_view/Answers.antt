@@ -18,5 +18,5 @@ returns g c i j l m at_l at_m =
     let here : slice_index_or c.all-log-items.result.now k x ≡ x =
     ap (λ ys. slice_index_or ys k x) c.all-log-items.ensures ∙ get_or_from_slice_get items k x x e in
     ap (λ z. z.notes + 1) (sym here) ∙ one ∙ same ∙ sym long in
-    (c.in_ok-logs.ensures.alike i j l.notes m.notes _ _ (map_there (λ x. x.notes) items i l at_l) (map_there (λ x. x.notes) items j m at_m) (noted i l at_l) (noted j m at_m)
+    (c.in_ok-logs.ensures.keeps.alike i j l.notes m.notes _ _ (map_there (λ x. x.notes) items i l at_l) (map_there (λ x. x.notes) items j m at_m) (noted i l at_l) (noted j m at_m)
     (map_there (λ x. back_of x.replica x.member x.shelf x.entries x.stopped) items i l at_l) (map_there (λ x. back_of x.replica x.member x.shelf x.entries x.stopped) items j m at_m)).0

@@ -15,13 +15,13 @@ one_answer (Ok answer) a b is answers = same_Some _ _ (sym answers ∙ is)
 one_answer (Err e) a b is answers = tt
 
 pub returns : goal.returns
-returns g c u kind there object put stays =
+returns g c has =
     let view = c.args.shelf.now.view in let number = c.args.number in
     let listed =
-    contains-filter (λ v. v.object == number) (updates view) u
-    ((c.updates_are_listed_in_order.ensures.members view u).1 there)
-    (ap (λ o. o == number) object ∙ nat_eq_equiv.refl number) in
+    contains-filter (λ v. v.object == number) (updates view) has.put
+    ((c.updates_are_listed_in_order.ensures.members view has.put).1 has.absorbed)
+    (ap (λ o. o == number) has.there ∙ nat_eq_equiv.refl number) in
     one_answer c.ask.result _ _
-    (ap (option_map (λ k. value k (updates_at view number) (Has c.args.element))) kind
-    ∙ ap Some (c.live_puts_count.ensures (updates_at view number) u c.args.element listed put stays))
+    (ap (option_map (λ k. value k (updates_at view number) (Has c.args.element))) has.set
+    ∙ ap Some (c.live_puts_count.ensures (updates_at view number) has.put c.args.element listed has.puts has.live))
     c.ask.ensures.ok

@@ -1,9 +1,6 @@
-use Rattle.std.proofs.Common.{get_or, slice_set, refl, ap, sym, ◌∙◌, subst, subst₂, arith}
+use Rattle.std.proofs.Common.{get_or, slice_set, refl, ap, sym, ◌∙◌, subst₂, arith}
 use Rattle.std.proofs.lemmas.Option.{slice_get-get_or}
 use Rattle.std.proofs.lemmas.List.{set-get_or}
-use Rattle.la_replica.specs.Bases.{offered_by, AreToldIn}
-use Rattle.la_replica.specs.Parcels.{unwrapped_in}
-use Rattle.la_replica.specs.Received.{received_in}
 use Rattle.la_world.specs.LiveParcels.{AreLiveBy}
 use Rattle.uses.proofs.ByParcels.{TakesAlong, received, lost}
 use Rattle.uses.proofs.parcels.deliver.Goals as goal
@@ -24,17 +21,11 @@ returns-in_err-send g c =
     let node = get_or nodes c.args.parcel.to c.index-group-to.result in
     let sent = c.in_ok-mail.ensures.ok in
     let left = c.send.new.self.parcels.items in
-    let told =
-    subst
-    (AreToldIn c.mail_by.new.node.replica
-    (offered_by (received_in node.replica (unwrapped_in node.replica c.args.parcel)))) (sym sent.1)
-    c.in_ok-mail.ensures.told in
     let along =
     subst₂ (λ ps ms. TakesAlong ps left ms) (c.believe-2.ensures ∙ c.believe.ensures) (sym sent.1) c.send.ensures in
     received nodes c.args.link.now.parcels.items left c.args.parcel.to node c.mail_by.new.node
-    (slice_get-get_or nodes c.args.parcel.to c.index-group-to.result (omega (arith, c.if-to-group.false)))
-    c.parcel_receipts_keep_live.ensures c.args.parcel sent.0 refl c.in_ok-mail.ensures.unwraps
-    c.in_ok-mail.ensures.stands sent.2 told along
+    (slice_get-get_or nodes c.args.parcel.to c.index-group-to.result (omega (arith, c.if-to-group.false))) sent.0 along
+    c.parcel_receipts_keep_live.ensures c.args.parcel refl c.in_ok-mail.ensures.unwraps sent.2
 
 pub returns : goal.returns
 returns g c =
@@ -42,14 +33,8 @@ returns g c =
     let node = get_or nodes c.args.parcel.to c.index-group-to.result in
     let sent = c.in_ok-mail.ensures.ok in
     let left = c.send.new.self.parcels.items in
-    let told =
-    subst
-    (AreToldIn c.mail_by.new.node.replica
-    (offered_by (received_in node.replica (unwrapped_in node.replica c.args.parcel)))) (sym sent.1)
-    c.in_ok-mail.ensures.told in
     let along =
     subst₂ (λ ps ms. TakesAlong ps left ms) (c.believe-2.ensures ∙ c.believe.ensures) (sym sent.1) c.send.ensures in
     received nodes c.args.link.now.parcels.items left c.args.parcel.to node c.mail_by.new.node
-    (slice_get-get_or nodes c.args.parcel.to c.index-group-to.result (omega (arith, c.if-to-group.false)))
-    c.parcel_receipts_keep_live.ensures c.args.parcel sent.0 refl c.in_ok-mail.ensures.unwraps
-    c.in_ok-mail.ensures.stands sent.2 told along
+    (slice_get-get_or nodes c.args.parcel.to c.index-group-to.result (omega (arith, c.if-to-group.false))) sent.0 along
+    c.parcel_receipts_keep_live.ensures c.args.parcel refl c.in_ok-mail.ensures.unwraps sent.2

@@ -3,8 +3,8 @@ use Rattle.la_proposer.specs.declared.change.Told.{Told}
 use Rattle.la_proposer.specs.declared.change.Change.TheVariants.{Nothing, Holds, Submits, Counts, Opens, Closes}
 use Rattle.la_proposer.specs.ProposerState.{ProposerState}
 use Rattle.la_proposer.specs.Fields.{stands_for}
-use Rattle.la_proposer.specs.Changes.{after_commit}
-use Rattle.la_proposer.proofs.Preparing.{Leads, nothing_leads, committed, committed-represented, has_room, counts_known, opens_known, closes_known}
+use Rattle.la_proposer.specs.Changes.{after_commit, Leads}
+use Rattle.la_proposer.proofs.Preparing.{nothing_leads, committed, committed-represented, has_room, counts_known, opens_known, closes_known}
 use Rattle.la_proposer.proofs.proposer.Proposer.commit.Goals as goal
 
 pub bounds-self-inside-counted : goal.bounds-self-inside-counted

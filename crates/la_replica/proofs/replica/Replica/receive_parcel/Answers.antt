@@ -11,7 +11,7 @@ pub returns-clause-grows : goal.returns-clause-grows
 returns-clause-grows c =
     receives_grows c.args.self.now (received_in c.args.self.now (unwrapped_in c.args.self.now c.args.parcel))
     (whole_out c.in_ok-out.out) c.commit.new.self
-    (c.in_ok-out.ensures.step
+    (c.in_ok-out.ensures.ok.step
     ∙ ap (option_map (λ (after : ReplicaState). (whole_out c.in_ok-out.out, after))) c.commit.ensures.done)
 
 pub returns-clause-told : goal.returns-clause-told
@@ -20,5 +20,5 @@ returns-clause-told c =
     subst
     (λ i.
     AreToldFrom after i (offered_by (received_in c.args.self.now (unwrapped_in c.args.self.now c.args.parcel)))
-    c.in_ok-out.out.mail) c.in_ok-out.ensures.instance
-    (c.in_ok-out.ensures.told after c.commit.ensures.done)
+    c.in_ok-out.out.mail) c.in_ok-out.ensures.ok.instance
+    (c.in_ok-out.ensures.ok.told after c.commit.ensures.done)

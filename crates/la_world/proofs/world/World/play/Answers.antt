@@ -21,28 +21,18 @@ pub returns-clause-keeps_all : goal.returns-clause-keeps_all
 returns-clause-keeps_all g c events stands =
     on_ok c.take_event.result _ _ (λ step p. play_keeps _ events _ step _ p) (c.take_event.ensures.step events stands)
 
-pub returns-clause-views : goal.returns-clause-views
-returns-clause-views g c events stands =
-    on_ok c.take_event.result _ _ (λ step p. no_view_shrinks _ events _ step _ stands p)
-    (c.take_event.ensures.step events stands)
-
-pub returns-clause-outcome : goal.returns-clause-outcome
-returns-clause-outcome g c events stands =
-    if_ok c.take_event.result _ _ (λ step p. play_shows _ events _ step _ stands p)
-    (c.take_event.ensures.step events stands)
-
-pub returns-clause-vote : goal.returns-clause-vote
-returns-clause-vote g c events stands =
-    if_ok c.take_event.result _ _ (λ step p. play_votes _ events _ step _ stands p)
-    (c.take_event.ensures.step events stands)
-
-pub returns-clause-stays : goal.returns-clause-stays
-returns-clause-stays g c events stands =
-    in_both c.take_event.result _ _ _ (λ step p. play_stays _ events _ step _ stands p)
-    (λ kept. kept_stays _ events _ stands kept) (c.take_event.ensures.step events stands) c.take_event.ensures.keeps
-
-pub returns-clause-listed : goal.returns-clause-listed
-returns-clause-listed g c events stands =
-    in_both c.take_event.result _ _ _ (λ step p. answers_listed _ _ p.stands)
-    (λ kept. answers_listed _ events (kept.stands events stands)) (c.take_event.ensures.step events stands)
-    c.take_event.ensures.keeps
+pub returns-clause-shows : goal.returns-clause-shows
+returns-clause-shows g c events stands =
+    let played = c.take_event.ensures.step events stands in
+    let keeps = c.take_event.ensures.keeps in
+    record {
+      views = on_ok c.take_event.result _ _ (λ step p. no_view_shrinks _ events _ step _ stands p) played;
+      outcome = if_ok c.take_event.result _ _ (λ step p. play_shows _ events _ step _ stands p) played;
+      vote = if_ok c.take_event.result _ _ (λ step p. play_votes _ events _ step _ stands p) played;
+      stays =
+          in_both c.take_event.result _ _ _ (λ step p. play_stays _ events _ step _ stands p)
+          (λ kept. kept_stays _ events _ stands kept) played keeps;
+      listed =
+          in_both c.take_event.result _ _ _ (λ step p. answers_listed _ _ p.stands)
+          (λ kept. answers_listed _ events (kept.stands events stands)) played keeps;
+    }

@@ -2,14 +2,12 @@ use Rattle.std.proofs.Common.{rules, ◌≡◌, ◌<◌, length, Some, ap, None,
 use Rattle.la_commit.specs.Votes.{first_vote}
 use Rattle.la_replica.specs.Whole.{whole_out}
 use Rattle.la_replica.specs.ReplicaState.{submits}
-use Rattle.la_set.specs.declared.counts.Counts.{Counts}
-use Rattle.la_replica.specs.Bases.{AreToldFrom}
 use Rattle.la_world.specs.Events.{Decide}
 use Rattle.la_world.specs.StandsFor.{StandsFor, refused_in}
 use Rattle.la_world.specs.Calls.{HoldsWorldInvariant, IsEventSubmission, PlaysEvent}
 use Rattle.la_set.specs.Counts.{zero_counts}
-use Rattle.la_node.proofs.lemmas.Telling.{told_of}
-use Rattle.la_world.proofs.ToldMail.{told_made}
+use Rattle.la_node.proofs.lemmas.Stepping.{proposal_was}
+use Rattle.la_node.proofs.lemmas.Told.{told_made}
 use Rattle.la_world.proofs.Worlds.{submission_known, submission_few, submission_is_named, done_by, submission_played, submission_invariant}
 use Rattle.la_world.proofs.WorldNodes.{node_known, read_node, submitter_at, stepped, unchanged}
 use Rattle.la_world.proofs.Noted.{holds_reserved, submission_noted, noted_holds, noted_plays, noted_prints}
@@ -51,16 +49,15 @@ note_submission-requires-clause-known g c =
     let s =
     submitter_at c.self.inside.config c.self.inside.nodes.items c.self.inside.journal c.self.invariant c.self.view_is
     e c.first_instance.result r (first_vote c.args.commit c.args.value) event c.requires.allowed found in
+    let was =
+    proposal_was c.index_mut.result.now.replica c.args.commit c.args.value c.in-Ok.out made.replica
+    c.in-Ok.ensures.step in
     let is =
     subst
     (λ i.
     submits c.index_mut.result.now.replica i (first_vote c.args.commit c.args.value)
-    ≡ Some (whole_out c.in-Ok.out, made.replica)) (sym c.first_instance.ensures) c.in-Ok.ensures.step in
-    let told : (offered : Counts) → AreToldFrom made.replica c.first_instance.result offered c.in-Ok.out.mail =
-    λ offered.
-    subst (λ j. AreToldFrom made.replica j offered c.in-Ok.out.mail) (sym c.first_instance.ensures)
-    (c.in-Ok.ensures.told offered) in
-    submission_known s c.in-Ok.out made.replica is told
+    ≡ Some (whole_out c.in-Ok.out, made.replica)) (sym c.first_instance.ensures) was.step in
+    submission_known s c.in-Ok.out made.replica is was.told
 
 pub note_submission-requires-clause-few : goal.note_submission-requires-clause-few
 note_submission-requires-clause-few g c =
@@ -73,21 +70,23 @@ note_submission-requires-clause-few g c =
     let s =
     submitter_at c.self.inside.config c.self.inside.nodes.items c.self.inside.journal c.self.invariant c.self.view_is
     e c.first_instance.result r (first_vote c.args.commit c.args.value) event c.requires.allowed found in
+    let was =
+    proposal_was c.index_mut.result.now.replica c.args.commit c.args.value c.in-Ok.out made.replica
+    c.in-Ok.ensures.step in
     let is =
     subst
     (λ i.
     submits c.index_mut.result.now.replica i (first_vote c.args.commit c.args.value)
-    ≡ Some (whole_out c.in-Ok.out, made.replica)) (sym c.first_instance.ensures) c.in-Ok.ensures.step in
-    let told : (offered : Counts) → AreToldFrom made.replica c.first_instance.result offered c.in-Ok.out.mail =
-    λ offered.
-    subst (λ j. AreToldFrom made.replica j offered c.in-Ok.out.mail) (sym c.first_instance.ensures)
-    (c.in-Ok.ensures.told offered) in
-    submission_few s c.in-Ok.out made.replica is told
+    ≡ Some (whole_out c.in-Ok.out, made.replica)) (sym c.first_instance.ensures) was.step in
+    submission_few s c.in-Ok.out made.replica is was.told
 
 pub note_submission-requires-clause-made : goal.note_submission-requires-clause-made
 note_submission-requires-clause-made g c =
-    told_made c.propose.new.self.replica zero_counts c.in-Ok.out.mail
-    (told_of c.propose.new.self.replica _ zero_counts c.in-Ok.out.mail (c.in-Ok.ensures.told zero_counts))
+    let made = c.propose.new.self in
+    let was =
+    proposal_was c.index_mut.result.now.replica c.args.commit c.args.value c.in-Ok.out made.replica
+    c.in-Ok.ensures.step in
+    told_made made.replica zero_counts c.in-Ok.out.mail was.told
 
 pub invariant_of-self-2 : goal.invariant_of-self-2
 invariant_of-self-2 g c =
@@ -100,18 +99,17 @@ invariant_of-self-2 g c =
     let s =
     submitter_at c.self.inside.config c.self.inside.nodes.items c.self.inside.journal c.self.invariant c.self.view_is
     e c.first_instance.result r (first_vote c.args.commit c.args.value) event c.requires.allowed found in
+    let was =
+    proposal_was c.index_mut.result.now.replica c.args.commit c.args.value c.in-Ok.out made.replica
+    c.in-Ok.ensures.step in
     let is =
     subst
     (λ i.
     submits c.index_mut.result.now.replica i (first_vote c.args.commit c.args.value)
-    ≡ Some (whole_out c.in-Ok.out, made.replica)) (sym c.first_instance.ensures) c.in-Ok.ensures.step in
-    let told : (offered : Counts) → AreToldFrom made.replica c.first_instance.result offered c.in-Ok.out.mail =
-    λ offered.
-    subst (λ j. AreToldFrom made.replica j offered c.in-Ok.out.mail) (sym c.first_instance.ensures)
-    (c.in-Ok.ensures.told offered) in
+    ≡ Some (whole_out c.in-Ok.out, made.replica)) (sym c.first_instance.ensures) was.step in
     let n =
     submission_noted c.first_instance.result r c.reserve.new.self c.note_submission.new.journal
-    (done_by s c.in-Ok.out made.replica is told) c.self.invariant
+    (done_by s c.in-Ok.out made.replica is was.told) c.self.invariant
     c.reserve.ensures.messages c.reserve.ensures.learnt c.reserve.ensures.count c.note_submission.ensures.step
     c.note_submission.ensures.messages c.note_submission.ensures.learnt c.note_submission.ensures.count
     c.note_submission.ensures.numbers in
@@ -119,7 +117,7 @@ invariant_of-self-2 g c =
     (sym
     (stepped c.self.inside.nodes.items r c.index_mut.result.now found c.self.inside.config made
     c.note_submission.new.journal c.in-Ok.ensures.shelf))
-    (noted_holds n r made.replica (submission_invariant s c.in-Ok.out made.replica is told))
+    (noted_holds n r made.replica (submission_invariant s c.in-Ok.out made.replica is was.told))
 
 pub returns-clause-step : goal.returns-clause-step
 returns-clause-step g c events stands =
@@ -132,18 +130,17 @@ returns-clause-step g c events stands =
     let s =
     submitter_at c.self.inside.config c.self.inside.nodes.items c.self.inside.journal c.self.invariant c.self.view_is
     e c.first_instance.result r (first_vote c.args.commit c.args.value) event c.requires.allowed found in
+    let was =
+    proposal_was c.index_mut.result.now.replica c.args.commit c.args.value c.in-Ok.out made.replica
+    c.in-Ok.ensures.step in
     let is =
     subst
     (λ i.
     submits c.index_mut.result.now.replica i (first_vote c.args.commit c.args.value)
-    ≡ Some (whole_out c.in-Ok.out, made.replica)) (sym c.first_instance.ensures) c.in-Ok.ensures.step in
-    let told : (offered : Counts) → AreToldFrom made.replica c.first_instance.result offered c.in-Ok.out.mail =
-    λ offered.
-    subst (λ j. AreToldFrom made.replica j offered c.in-Ok.out.mail) (sym c.first_instance.ensures)
-    (c.in-Ok.ensures.told offered) in
+    ≡ Some (whole_out c.in-Ok.out, made.replica)) (sym c.first_instance.ensures) was.step in
     let n =
     submission_noted c.first_instance.result r c.reserve.new.self c.note_submission.new.journal
-    (done_by s c.in-Ok.out made.replica is told) c.self.invariant
+    (done_by s c.in-Ok.out made.replica is was.told) c.self.invariant
     c.reserve.ensures.messages c.reserve.ensures.learnt c.reserve.ensures.count c.note_submission.ensures.step
     c.note_submission.ensures.messages c.note_submission.ensures.learnt c.note_submission.ensures.count
     c.note_submission.ensures.numbers in
@@ -152,7 +149,7 @@ returns-clause-step g c events stands =
     (stepped c.self.inside.nodes.items r c.index_mut.result.now found c.self.inside.config made
     c.note_submission.new.journal c.in-Ok.ensures.shelf))
     (noted_plays n r made.replica c.self.view_is events e
-    (submission_played s c.in-Ok.out made.replica is told e event events (subst (λ v. refused_in v events e ≡ None) (sym c.self.view_is) (c.requires.allowed events stands)) (subst (λ v. StandsFor v events) (sym c.self.view_is) stands)))
+    (submission_played s c.in-Ok.out made.replica is was.told e event events (subst (λ v. refused_in v events e ≡ None) (sym c.self.view_is) (c.requires.allowed events stands)) (subst (λ v. StandsFor v events) (sym c.self.view_is) stands)))
 
 pub returns-clause-printable : goal.returns-clause-printable
 returns-clause-printable g c =
@@ -165,19 +162,18 @@ returns-clause-printable g c =
     let s =
     submitter_at c.self.inside.config c.self.inside.nodes.items c.self.inside.journal c.self.invariant c.self.view_is
     e c.first_instance.result r (first_vote c.args.commit c.args.value) event c.requires.allowed found in
+    let was =
+    proposal_was c.index_mut.result.now.replica c.args.commit c.args.value c.in-Ok.out made.replica
+    c.in-Ok.ensures.step in
     let is =
     subst
     (λ i.
     submits c.index_mut.result.now.replica i (first_vote c.args.commit c.args.value)
-    ≡ Some (whole_out c.in-Ok.out, made.replica)) (sym c.first_instance.ensures) c.in-Ok.ensures.step in
-    let told : (offered : Counts) → AreToldFrom made.replica c.first_instance.result offered c.in-Ok.out.mail =
-    λ offered.
-    subst (λ j. AreToldFrom made.replica j offered c.in-Ok.out.mail) (sym c.first_instance.ensures)
-    (c.in-Ok.ensures.told offered) in
+    ≡ Some (whole_out c.in-Ok.out, made.replica)) (sym c.first_instance.ensures) was.step in
     let n =
     submission_noted c.first_instance.result r c.reserve.new.self c.note_submission.new.journal
-    (done_by s c.in-Ok.out made.replica is told) c.self.invariant
+    (done_by s c.in-Ok.out made.replica is was.told) c.self.invariant
     c.reserve.ensures.messages c.reserve.ensures.learnt c.reserve.ensures.count c.note_submission.ensures.step
     c.note_submission.ensures.messages c.note_submission.ensures.learnt c.note_submission.ensures.count
     c.note_submission.ensures.numbers in
-    noted_prints n (submission_is_named s c.in-Ok.out made.replica is told)
+    noted_prints n (submission_is_named s c.in-Ok.out made.replica is was.told)

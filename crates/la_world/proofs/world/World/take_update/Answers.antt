@@ -4,8 +4,8 @@ use Rattle.la_world.specs.Events.{Submit}
 use Rattle.la_world.specs.StandsFor.{StandsFor, refused_in}
 use Rattle.la_world.specs.Calls.{HoldsWorldInvariant, IsEventSubmission, PlaysEvent}
 use Rattle.la_set.specs.Counts.{zero_counts}
-use Rattle.la_node.proofs.lemmas.Telling.{told_of}
-use Rattle.la_world.proofs.ToldMail.{told_made}
+use Rattle.la_node.proofs.lemmas.Stepping.{submission_was}
+use Rattle.la_node.proofs.lemmas.Told.{told_made}
 use Rattle.la_world.proofs.Worlds.{submission_known, submission_few, submission_is_named, done_by, submission_played, submission_invariant}
 use Rattle.la_world.proofs.WorldNodes.{node_known, read_node, submitter_at, stepped, unchanged}
 use Rattle.la_world.proofs.Noted.{holds_reserved, submission_noted, noted_holds, noted_plays, noted_prints}
@@ -47,8 +47,10 @@ note_submission-requires-clause-known g c =
     let s =
     submitter_at c.self.inside.config c.self.inside.nodes.items c.self.inside.journal c.self.invariant c.self.view_is
     e 0 r (op_on c.args.object c.args.op) event c.requires.allowed found in
-    let is = c.in-Ok.ensures.step in
-    submission_known s c.in-Ok.out made.replica is c.in-Ok.ensures.told
+    let was =
+    submission_was c.index_mut.result.now.replica (op_on c.args.object c.args.op) c.in-Ok.out made.replica
+    c.in-Ok.ensures.step in
+    submission_known s c.in-Ok.out made.replica was.step was.told
 
 pub note_submission-requires-clause-few : goal.note_submission-requires-clause-few
 note_submission-requires-clause-few g c =
@@ -61,13 +63,18 @@ note_submission-requires-clause-few g c =
     let s =
     submitter_at c.self.inside.config c.self.inside.nodes.items c.self.inside.journal c.self.invariant c.self.view_is
     e 0 r (op_on c.args.object c.args.op) event c.requires.allowed found in
-    let is = c.in-Ok.ensures.step in
-    submission_few s c.in-Ok.out made.replica is c.in-Ok.ensures.told
+    let was =
+    submission_was c.index_mut.result.now.replica (op_on c.args.object c.args.op) c.in-Ok.out made.replica
+    c.in-Ok.ensures.step in
+    submission_few s c.in-Ok.out made.replica was.step was.told
 
 pub note_submission-requires-clause-made : goal.note_submission-requires-clause-made
 note_submission-requires-clause-made g c =
-    told_made c.submit.new.self.replica zero_counts c.in-Ok.out.mail
-    (told_of c.submit.new.self.replica 0 zero_counts c.in-Ok.out.mail (c.in-Ok.ensures.told zero_counts))
+    let made = c.submit.new.self in
+    let was =
+    submission_was c.index_mut.result.now.replica (op_on c.args.object c.args.op) c.in-Ok.out made.replica
+    c.in-Ok.ensures.step in
+    told_made made.replica zero_counts c.in-Ok.out.mail was.told
 
 pub invariant_of-self-2 : goal.invariant_of-self-2
 invariant_of-self-2 g c =
@@ -80,10 +87,12 @@ invariant_of-self-2 g c =
     let s =
     submitter_at c.self.inside.config c.self.inside.nodes.items c.self.inside.journal c.self.invariant c.self.view_is
     e 0 r (op_on c.args.object c.args.op) event c.requires.allowed found in
-    let is = c.in-Ok.ensures.step in
+    let was =
+    submission_was c.index_mut.result.now.replica (op_on c.args.object c.args.op) c.in-Ok.out made.replica
+    c.in-Ok.ensures.step in
     let n =
     submission_noted 0 r c.reserve.new.self c.note_submission.new.journal
-    (done_by s c.in-Ok.out made.replica is c.in-Ok.ensures.told) c.self.invariant
+    (done_by s c.in-Ok.out made.replica was.step was.told) c.self.invariant
     c.reserve.ensures.messages c.reserve.ensures.learnt c.reserve.ensures.count c.note_submission.ensures.step
     c.note_submission.ensures.messages c.note_submission.ensures.learnt c.note_submission.ensures.count
     c.note_submission.ensures.numbers in
@@ -91,7 +100,7 @@ invariant_of-self-2 g c =
     (sym
     (stepped c.self.inside.nodes.items r c.index_mut.result.now found c.self.inside.config made
     c.note_submission.new.journal c.in-Ok.ensures.shelf))
-    (noted_holds n r made.replica (submission_invariant s c.in-Ok.out made.replica is c.in-Ok.ensures.told))
+    (noted_holds n r made.replica (submission_invariant s c.in-Ok.out made.replica was.step was.told))
 
 pub returns-clause-step : goal.returns-clause-step
 returns-clause-step g c events stands =
@@ -104,10 +113,12 @@ returns-clause-step g c events stands =
     let s =
     submitter_at c.self.inside.config c.self.inside.nodes.items c.self.inside.journal c.self.invariant c.self.view_is
     e 0 r (op_on c.args.object c.args.op) event c.requires.allowed found in
-    let is = c.in-Ok.ensures.step in
+    let was =
+    submission_was c.index_mut.result.now.replica (op_on c.args.object c.args.op) c.in-Ok.out made.replica
+    c.in-Ok.ensures.step in
     let n =
     submission_noted 0 r c.reserve.new.self c.note_submission.new.journal
-    (done_by s c.in-Ok.out made.replica is c.in-Ok.ensures.told) c.self.invariant
+    (done_by s c.in-Ok.out made.replica was.step was.told) c.self.invariant
     c.reserve.ensures.messages c.reserve.ensures.learnt c.reserve.ensures.count c.note_submission.ensures.step
     c.note_submission.ensures.messages c.note_submission.ensures.learnt c.note_submission.ensures.count
     c.note_submission.ensures.numbers in
@@ -116,7 +127,7 @@ returns-clause-step g c events stands =
     (stepped c.self.inside.nodes.items r c.index_mut.result.now found c.self.inside.config made
     c.note_submission.new.journal c.in-Ok.ensures.shelf))
     (noted_plays n r made.replica c.self.view_is events e
-    (submission_played s c.in-Ok.out made.replica is c.in-Ok.ensures.told e event events (subst (λ v. refused_in v events e ≡ None) (sym c.self.view_is) (c.requires.allowed events stands)) (subst (λ v. StandsFor v events) (sym c.self.view_is) stands)))
+    (submission_played s c.in-Ok.out made.replica was.step was.told e event events (subst (λ v. refused_in v events e ≡ None) (sym c.self.view_is) (c.requires.allowed events stands)) (subst (λ v. StandsFor v events) (sym c.self.view_is) stands)))
 
 pub returns-clause-printable : goal.returns-clause-printable
 returns-clause-printable g c =
@@ -129,11 +140,13 @@ returns-clause-printable g c =
     let s =
     submitter_at c.self.inside.config c.self.inside.nodes.items c.self.inside.journal c.self.invariant c.self.view_is
     e 0 r (op_on c.args.object c.args.op) event c.requires.allowed found in
-    let is = c.in-Ok.ensures.step in
+    let was =
+    submission_was c.index_mut.result.now.replica (op_on c.args.object c.args.op) c.in-Ok.out made.replica
+    c.in-Ok.ensures.step in
     let n =
     submission_noted 0 r c.reserve.new.self c.note_submission.new.journal
-    (done_by s c.in-Ok.out made.replica is c.in-Ok.ensures.told) c.self.invariant
+    (done_by s c.in-Ok.out made.replica was.step was.told) c.self.invariant
     c.reserve.ensures.messages c.reserve.ensures.learnt c.reserve.ensures.count c.note_submission.ensures.step
     c.note_submission.ensures.messages c.note_submission.ensures.learnt c.note_submission.ensures.count
     c.note_submission.ensures.numbers in
-    noted_prints n (submission_is_named s c.in-Ok.out made.replica is c.in-Ok.ensures.told)
+    noted_prints n (submission_is_named s c.in-Ok.out made.replica was.step was.told)

@@ -32,13 +32,13 @@ use Rattle.la_proposer.specs.Clashes.{IsUnknownOwn, ClashesWith, ClashesInTally,
 use Rattle.la_replica.specs.declared.instance.Instance.{Instance}
 use Rattle.la_replica.specs.declared.message.Message as code
 use Rattle.la_replica.specs.Whole.{Message, Body, Offer, Yes, No, Tell}
-use Rattle.la_replica.specs.Received.{Told, told_at, rebuilt_at, received_at, message_with, received_in, StandsAt, StandsIn}
+use Rattle.la_replica.specs.Received.{Told, told_at, rebuilt_at, received_at, message_with, received_in, StandsAt}
 use Rattle.la_replica.specs.ReplicaState.{ReplicaState, submitted_in}
-use Rattle.la_replica.specs.Refusals.{HasRoom, SubmittingSpares, FitsBody, SparesBody, FitsMessage, SparesMessage, IsFor, IsReceivable, ReceivingSpares}
-use Rattle.la_node.specs.Kept.{KeptCall, Submitted, Proposed, Received}
+use Rattle.la_replica.specs.Refusals.{HasRoom, SubmittingSpares, FitsBody, SparesBody, FitsMessage, SparesMessage, IsFor, TakesMessage}
+use Rattle.la_node.specs.Calls.{NodeCall, Submitted, Proposed, Received}
 use Rattle.la_commit.specs.Instances.{first_instance}
-use Rattle.la_durable.specs.Accepting.{submission_spends, takes_submission, is_first, has_counts, is_next, are_next, is_over_base}
-use Rattle.la_durable.specs.Accepting.{is_none_but, is_compatible, fits_reply, fits_tally, is_own_known, fits_refusal, is_fitting_reply, spares, hears_reply, takes_body, takes_message, is_for, accepts}
+use Rattle.la_node.specs.Accepting.{submission_spends, takes_submission, is_first, has_counts, is_next, are_next, is_over_base}
+use Rattle.la_node.specs.Accepting.{is_none_but, is_compatible, fits_reply, fits_tally, is_own_known, fits_refusal, is_fitting_reply, spares, hears_reply, takes_body, takes_message, is_for, accepts}
 
 -- ## Tests of all kinds
 
@@ -281,17 +281,12 @@ decides-for r m =
 
 -- ## A call
 
-pub record TakesMessage (r : ReplicaState) (m : code.Message) : Type 0 where
-  pub stands : StandsIn r m
-  pub receivable : IsReceivable r (received_in r m)
-  pub spares : ReceivingSpares r (received_in r m)
-
-abbrev pub Accepts : ReplicaState → KeptCall → Type 0
+abbrev pub Accepts : ReplicaState → NodeCall → Type 0
 Accepts r (Submitted d) = HasRoom r 0 × SubmittingSpares r 0
 Accepts r (Proposed k value) = submitted_in r (first_instance k) ≡ Some 0
 Accepts r (Received m) = TakesMessage r m
 
-pub decides-accepts : (r : ReplicaState) (call : KeptCall) → Decides (accepts r call) (Accepts r call)
+pub decides-accepts : (r : ReplicaState) (call : NodeCall) → Decides (accepts r call) (Accepts r call)
 unfolding accepts
 decides-accepts r (Submitted d) = decides-submission (slice_get r.instances 0)
 decides-accepts r (Proposed k value) = decides-first (submitted_in r (first_instance k))

@@ -22,7 +22,7 @@ use Rattle.la_replica.specs.declared.message.Message as code
 use Rattle.la_replica.specs.Whole.{Message, Body, Offer, Yes, No, Tell}
 use Rattle.la_replica.specs.Received.{Told, told_at, received_at}
 use Rattle.la_replica.specs.ReplicaState.{ReplicaState, submitted_in}
-use Rattle.la_node.specs.Kept.{KeptCall, Submitted, Proposed, Received}
+use Rattle.la_node.specs.Calls.{NodeCall, Submitted, Proposed, Received}
 
 -- ## A submission
 
@@ -126,7 +126,7 @@ abbrev pub is_for : ReplicaState → code.Message → Bool
 is_for r m = nat_lt m.from (length r.votes) && (m.to == r.own)
 
 -- whether a call is accepted
-unfoldable pub accepts : ReplicaState → KeptCall → Bool
+unfoldable pub accepts : ReplicaState → NodeCall → Bool
 accepts r (Submitted d) = takes_submission (slice_get r.instances 0)
 accepts r (Proposed k value) = is_first (submitted_in r (first_instance k))
 accepts r (Received m) = is_for r m && takes_message (slice_get r.instances m.instance) m

@@ -1,5 +1,5 @@
 -- A call that is refused, but not for want of memory, is not accepted.
-use Rattle.std.proofs.Common.{◌≡◌, ◌≢◌, ◌⊎◌, ℕ, ◌<◌, ◌≤◌, true, List, length, slice_get, Option, Some, None, IsSomeAnd, IfSome, refl, subst, arith}
+use Rattle.std.proofs.Common.{◌≡◌, ◌≢◌, ℕ, ◌<◌, ◌≤◌, true, List, length, slice_get, Option, Some, None, IsSomeAnd, IfSome, refl, subst, arith}
 use Rattle.std.proofs.Common.{⊎_elim}
 use Rattle.std.proofs.lemmas.Option.{slice_get_past}
 use Rattle.la_set.specs.Histories.{Histories}
@@ -20,8 +20,7 @@ use Rattle.la_replica.specs.Whole.{Message, Body, Offer, Yes, No, Tell}
 use Rattle.la_replica.specs.Received.{Told, told_at, received_in, StandsAt, IsUnbuilt}
 use Rattle.la_replica.specs.ReplicaState.{ReplicaState}
 use Rattle.la_replica.specs.Refusals.{IsSubmissionRefusal, IsSubmitRefusal, IsAnswerRefusal, IsHearingRefusal, IsTellRefusal, IsBodyRefusal, IsMessageRefusal, IsReceiptRefusal}
-use Rattle.la_replica.specs.Refusals.{HasRoom, SubmittingSpares, FitsBody, SparesBody, FitsMessage, SparesMessage}
-use Rattle.la_durable.proofs.Deciding.{TakesMessage}
+use Rattle.la_replica.specs.Refusals.{HasRoom, SubmittingSpares, FitsBody, SparesBody, FitsMessage, SparesMessage, TakesMessage}
 
 not_past : {A : Type 0} (xs : List A) (k : ℕ) (P : A → Type 0) → length xs ≤ k → IsSomeAnd (slice_get xs k) P → ⊥
 not_past xs k P past some = subst (λ o. IsSomeAnd o P) (slice_get_past xs k past) some
