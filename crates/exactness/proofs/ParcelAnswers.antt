@@ -13,8 +13,8 @@ use Rattle.la_replica.specs.declared.parcel.Parcel.{Parcel}
 use Rattle.la_replica.specs.declared.parcel.Content.{Content}
 use Rattle.la_replica.specs.declared.parcel.Content.TheVariants as content
 use Rattle.la_replica.specs.Parcels.{Unwraps, IsShut, view_of, unwrapped_in, UnwrapsIn, IsShutIn, IsUnwrapRefusal, IsParcelRefusal}
-use Rattle.la_replica.specs.Received.{received_in, StandsIn}
-use Rattle.la_replica.specs.Refusals.{of_set, IsFor, IsReceiptRefusal, IsReceivable, ReceivingSpares}
+use Rattle.la_replica.specs.Received.{received_in}
+use Rattle.la_replica.specs.Refusals.{of_set, IsFor, IsReceiptRefusal, TakesMessage}
 use Rattle.la_replica.specs.ReplicaState.{ReplicaState}
 use Rattle.exactness.proofs.ReplicaAnswers.{one_receipt_refusal, refused_once}
 
@@ -159,13 +159,13 @@ module _ (r : ReplicaState) (p : Parcel) where
   -- what is received once is refused for want of memory alone
   pub record IsReceived : Type 0 where
     pub unwraps : UnwrapsIn r p
-    pub stands : StandsIn r m
-    pub fits : IsReceivable r (received_in r m)
-    pub spares : ReceivingSpares r (received_in r m)
+    pub takes : TakesMessage r m
 
   unwrapped_once : IsReceived → (e : ReplicaError) → IsUnwrapRefusal r p e → e ≡ Memory
-  unwrapped_once is NoSuchReplica h = refused_once r m is.stands (is.fits, is.spares) NoSuchReplica h
-  unwrapped_once is NoSuchInstance h = refused_once r m is.stands (is.fits, is.spares) NoSuchInstance h
+  unwrapped_once is NoSuchReplica h =
+      refused_once r m is.takes.stands (is.takes.receivable, is.takes.spares) NoSuchReplica h
+  unwrapped_once is NoSuchInstance h =
+      refused_once r m is.takes.stands (is.takes.receivable, is.takes.spares) NoSuchInstance h
   unwrapped_once is NoBase h = absurd (shut_or_stands {e = NoBase} (shut_as set_error.NoBase (λ e. cc) h) is.unwraps)
   unwrapped_once is Gap h = absurd (shut_or_stands {e = Gap} (shut_as set_error.Gap (λ e. cc) h) is.unwraps)
   unwrapped_once is Memory h = refl
@@ -175,7 +175,7 @@ module _ (r : ReplicaState) (p : Parcel) where
 
   parcel_once : IsReceived → (e : ReplicaError) → IsParcelRefusal r p e → e ≡ Memory
   parcel_once is e (inl h) = unwrapped_once is e h
-  parcel_once is e (inr h) = refused_once r m is.stands (is.fits, is.spares) e h.1
+  parcel_once is e (inr h) = refused_once r m is.takes.stands (is.takes.receivable, is.takes.spares) e h.1
 
   pub refused_alike : {A B : Type 0} (a : Result A ReplicaError) (b : Result B ReplicaError)
       → IfErr a (IsParcelRefusal r p) → IfOk b (λ y. IsReceived) → IfErr a (λ d. IfOk b (λ y. d ≡ Memory))
@@ -183,8 +183,7 @@ module _ (r : ReplicaState) (p : Parcel) where
   refused_alike (Err d) (Ok y) h k = parcel_once k d h
   refused_alike (Err d) (Err e) h k = tt
 
-  pub all_of : {B : Type 0} (b : Result B ReplicaError) → IfOk b (λ y. UnwrapsIn r p) → IfOk b (λ y. StandsIn r m)
-      → IfOk b (λ y. IsReceivable r (received_in r m)) → IfOk b (λ y. ReceivingSpares r (received_in r m))
+  pub all_of : {B : Type 0} (b : Result B ReplicaError) → IfOk b (λ y. UnwrapsIn r p) → IfOk b (λ y. TakesMessage r m)
       → IfOk b (λ y. IsReceived)
-  all_of (Ok y) unwraps stands fits spares = record { unwraps = unwraps; stands = stands; fits = fits; spares = spares }
-  all_of (Err e) unwraps stands fits spares = tt
+  all_of (Ok y) unwraps takes = record { unwraps = unwraps; takes = takes }
+  all_of (Err e) unwraps takes = tt

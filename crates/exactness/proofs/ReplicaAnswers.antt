@@ -22,7 +22,7 @@ use Rattle.la_replica.specs.declared.message.Message as code
 use Rattle.la_replica.specs.Whole.{Message, Body, Offer, Yes, No, Tell}
 use Rattle.la_replica.specs.ReplicaState.{ReplicaState}
 use Rattle.la_replica.specs.Received.{Told, told_at, StandsAt, IsUnbuilt, StandsIn, received_in}
-use Rattle.la_replica.specs.Refusals.{of_set, of_acceptor, of_proposer, IsReceiptRefusal, IsAnswerRefusal, IsHearingRefusal, IsTellRefusal, IsBodyRefusal, IsFor, IsReceiveRefusal, FitsBody, IsReceivable, SparesBody, ReceivingSpares}
+use Rattle.la_replica.specs.Refusals.{of_set, of_acceptor, of_proposer, IsReceiptRefusal, IsAnswerRefusal, IsHearingRefusal, IsTellRefusal, IsBodyRefusal, IsFor, IsReceiveRefusal, FitsBody, IsReceivable, SparesBody, ReceivingSpares, TakesMessage}
 use Rattle.exactness.proofs.OfferAnswers.{one_offer_refusal, fitting_offer}
 use Rattle.exactness.proofs.ProposerAnswers.{IsCountingRefusal, one_counting_refusal, fitting_counting}
 
@@ -304,8 +304,7 @@ module _ (r : ReplicaState) (c : code.Message) where
   refusals_agree (Err d) (Err e) h k = one_receipt_refusal d e h k
 
   pub refused_alike : {A B : Type 0} (a : Result A ReplicaError) (b : Result B ReplicaError)
-      → IfErr a (IsReceiptRefusal r c) → IfOk b (λ _. StandsIn r c) → IfOk b (λ _. IsReceivable r told)
-      → IfOk b (λ _. ReceivingSpares r told) → IfErr a (λ d. IfOk b (λ _. d ≡ Memory))
-  refused_alike (Ok x) b h stands fits spares = tt
-  refused_alike (Err d) (Ok y) h stands fits spares = refused_once stands (fits, spares) d h
-  refused_alike (Err d) (Err e) h stands fits spares = tt
+      → IfErr a (IsReceiptRefusal r c) → IfOk b (λ _. TakesMessage r c) → IfErr a (λ d. IfOk b (λ _. d ≡ Memory))
+  refused_alike (Ok x) b h takes = tt
+  refused_alike (Err d) (Ok y) h takes = refused_once takes.stands (takes.receivable, takes.spares) d h
+  refused_alike (Err d) (Err e) h takes = tt

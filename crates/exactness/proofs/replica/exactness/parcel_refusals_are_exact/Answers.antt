@@ -15,4 +15,4 @@ returns-clause-alone c =
     let r = c.args.replica.now in let e = c.prepare_parcel-2.ensures in
     refused_alike r c.args.parcels.0 c.prepare_parcel.result c.prepare_parcel-2.result c.prepare_parcel.ensures.error
     (subst (λ p. IfOk c.prepare_parcel-2.result (λ y. IsReceived r p)) (sym c.requires)
-    (all_of r c.args.parcels.1 c.prepare_parcel-2.result e.unwraps e.stands e.fits e.spares))
+    (all_of r c.args.parcels.1 c.prepare_parcel-2.result e.unwraps e.takes))

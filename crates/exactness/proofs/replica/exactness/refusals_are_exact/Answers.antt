@@ -9,4 +9,4 @@ returns-clause-alike c =
 pub returns-clause-alone : goal.returns-clause-alone
 returns-clause-alone c =
     refused_alike c.args.replica.now c.args.message.now c.prepare.result c.prepare-2.result c.prepare.ensures.error
-    c.prepare-2.ensures.stands c.prepare-2.ensures.fits c.prepare-2.ensures.spares
+    c.prepare-2.ensures.takes
