@@ -31,7 +31,7 @@ fn machine(alloc: Global) -> Result<NodeMachine, WorldError> {
 
 fn makes(alloc: Global) -> Came {
     match machine(alloc) {
-        Ok(made) => Some(made.replicas == 1),
+        Ok(made) => Some(made.node.replicas() == 1),
         Err(it) => refused(it == WorldError::Memory),
     }
 }
