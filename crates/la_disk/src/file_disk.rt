@@ -92,6 +92,10 @@ impl<R: Files + Drop> Disk for FileDisk<R> {
         Ok(self.contents.bytes().to_vec(alloc)?)
     }
 
+    fn past(&self) -> &Record {
+        self.contents.past()
+    }
+
     fn reserve(&mut self, more: usize) -> Result<(), AllocError> {
         self.contents.reserve(more)
     }

@@ -4,6 +4,7 @@ pub mod Journal
 pub mod Machine
 pub mod Durable
 pub mod Note
+pub mod Giving
 pub mod Outcomes
 pub mod Held
 pub mod Starts

@@ -3,6 +3,7 @@ ghost use Rattle.std.specs.Prelude.{◌≡◌, ◌⊎◌, ◌++◌, ◌≤◌, �
 ghost use Rattle.la_journal.specs.declared.disk.DiskError.TheVariants.{Memory, Failed};
 ghost use Rattle.la_journal.specs.Disk.{Only, CrashesFollow, Torn, Elapses};
 
+use crate::Record;
 use std::alloc::{AllocError, AllocFailed, Global};
 use thiserror::Error;
 
@@ -68,6 +69,10 @@ pub trait Disk: Drop {
         ensures time { Elapses (moment self.old) (moment self.new) (left_since self.old) (left_since self.new) (may_leave self.new) }
         ensures later { faults self.old ≤ faults self.new }
         ensures failed { IsErrOf result Failed → faults self.old < faults self.new };
+
+    /// What is noted of the file's past, which takes no memory: as many moments as went by.
+    fn past(&self) -> &Record
+        ensures { length result.now.events ≡ moment self.now };
 
     /// Makes room in memory for so many bytes more. The file is as it was, whatever comes.
     fn reserve(&mut self, more: usize) -> Result<(), AllocError>

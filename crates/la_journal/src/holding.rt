@@ -60,6 +60,13 @@ impl Contents {
         past
     }
 
+    /// What a crash may leave, at this moment and at the earlier ones.
+    pub fn past(&self) -> &Record
+        ensures { result.now.events ≡ self.now.past.events }
+    {
+        &self.past
+    }
+
     /// The bytes that a read returns.
     pub fn bytes(&self) -> &[u8]
         ensures { result.now ≡ held_bytes self.now }

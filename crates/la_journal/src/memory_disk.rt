@@ -6,7 +6,7 @@ ghost use Rattle.la_journal.specs.Held.{held_bytes, synced_count, room_of, fault
 ghost use Rattle.la_journal.specs.Held.{may_leave_of, left_since_of, TimeGoesOn, only_now_of, counts_now_of};
 ghost use Rattle.la_journal.specs.Starts.{IsStart};
 
-use crate::{Contents, Disk, DiskError, DiskFault};
+use crate::{Contents, Disk, DiskError, DiskFault, Record};
 use std::alloc::{AllocError, Global};
 
 /// A disk in memory, for tests. It takes so many bytes and no more, and so many syncs and no more;
@@ -171,6 +171,10 @@ impl Disk for MemoryDisk {
 
     fn read(&mut self, alloc: Global) -> Result<Vec<u8>, DiskError> {
         Ok(self.contents.bytes().to_vec(alloc)?)
+    }
+
+    fn past(&self) -> &Record {
+        self.contents.past()
     }
 
     fn reserve(&mut self, more: usize) -> Result<(), AllocError> {
