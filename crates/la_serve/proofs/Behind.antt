@@ -11,6 +11,7 @@ use Rattle.la_io.specs.Streams.{AppendsPrefix}
 use Rattle.la_io.proofs.lemmas.Fronts.{prefix_more, prefix_behind}
 use Rattle.la_journal.specs.Disk.{LeavesOnly}
 use Rattle.la_journal.specs.Durable.{IsSettled}
+use Rattle.la_journal.specs.Giving.{GivenAt}
 use Rattle.la_journal.specs.Lines.{lines}
 use Rattle.la_journal.specs.Machine.{steps, LeadsToSome}
 use Rattle.la_durable.specs.CallLines.{CallLine}
@@ -23,10 +24,11 @@ use Rattle.la_serve.proofs.Reading.{reads_line, reads_all, reads_front}
 use Rattle.la_io.proofs.lemmas.TellingOn.{tells_on}
 use Rattle.la_serve.specs.declared.error.NodeFault.{NodeFault}
 use Rattle.la_serve.specs.declared.error.NodeFault.TheVariants as fault
-use Rattle.la_serve.specs.Io.{Io, Facts}
+use Rattle.la_serve.specs.Io.{Io, Facts, Waiting}
 use Rattle.la_serve.specs.Turns.{Turn, IsTurn}
-use Rattle.la_serve.specs.Serving.{AreTurns, IsTurnStep, TakesLine, TakesCut, TakesNone, InputEnds, IsStepRefusal, Unflushed, of_step, ServesAll, ServesSome, ServesClosed, IsServeRefusal, turn_lines, written, kept_lines, turns_told, cut_told}
-use Rattle.la_serve.specs.Crashes.{Leaves, Commits, CommitsSome}
+use Rattle.la_serve.specs.Serving.{AreTurns, IsTurnStep, TakesLine, TakesCut, TakesNone, InputEnds, IsStepRefusal, of_step, ServesAll, ServesSome, ServesClosed, IsServeRefusal, turn_lines, written, kept_lines, turns_told, cut_told}
+use Rattle.la_serve.specs.Giving.{gives}
+use Rattle.la_serve.specs.Crashes.{AreTextsOf, AreFrontsOf, Leaves, Commits, CommitsSome, Flushes, GivesNothing, FlushesNot}
 use Rattle.la_serve.proofs.Turning.{turns_snoc, turns_join}
 use Rattle.la_serve.proofs.Leading.{Led, turns_lead}
 use Rattle.la_serve.proofs.Crashing.{CrashSo, crash_none, crash_more, crash_some, crash_all}
@@ -41,7 +43,12 @@ pub record Point (D E : Type 0) : Type 0 where
   pub held : List ℕ
   pub disk : D
   pub text : List ℕ
+  pub given : List GivenAt
   pub errors : E
+
+-- as a flush has it
+abbrev pub waits : {D E : Type 0} → Point D E → Waiting D
+waits p = record { out = p.out; given = p.given; held = p.held; staged = p.text; disk = p.disk }
 
 -- as a step has it
 abbrev pub held_io : {D E : Type 0} → Point D E → Io
@@ -81,16 +88,18 @@ module _ {D R W E : Type 0} (f : Facts D R W E) (first : Point D E) where
   run_io left p =
       record { objects = p.objects; state = p.state; left = left; out = p.out; journal = lines (f.seen p.disk) }
 
-  abbrev pub Left : D → (turns last : List Turn) → Type 0
-  Left d = Leaves f.seen f.may_leave f.moment f.left_since first.state first.disk d
+  abbrev pub Left : Point D E → (turns last : List Turn) → Type 0
+  Left p = Leaves f.seen f.may_leave f.moment f.left_since first.state first.disk p.disk first.given p.given
 
-  abbrev Crash : (between : ReplicaState) (d : D) (done : List Turn) → Type 0
-  Crash between d done = CrashSo f.seen f.may_leave f.moment f.left_since first.state between first.disk d done
+  abbrev Crash : (between : ReplicaState) (d : D) (given : List GivenAt) (done : List Turn) → Type 0
+  Crash between d given done =
+      CrashSo f.seen f.may_leave f.moment f.left_since AreTextsOf first.state between first.disk d first.given given done
 
   abbrev pub Flushed : (p q : Point D E) → Type 0
-  Flushed p q =
-      Appends p.out q.out p.held × (q.held ≡ []) × (q.text ≡ []) × Commits f.seen f.may_leave p.text p.disk q.disk
-      × CommitsSome f.seen f.moment f.left_since p.text p.disk q.disk
+  Flushed p q = Flushes f.seen f.may_leave f.moment f.left_since (waits p) (waits q)
+
+  abbrev pub Only_now : D → Type 0
+  Only_now d = (c : List ℕ) → f.left_since d (f.moment d) c → f.may_leave d c
 
   -- the turns so far: what the first ones came to was written, and what the others came to is held back
   pub record So (p : Point D E) (number : ℕ) : Type 0 where
@@ -107,7 +116,7 @@ module _ {D R W E : Type 0} (f : Facts D R W E) (first : Point D E) where
     pub journal : lines (f.seen p.disk) ≡ lines (f.seen first.disk) ++ kept_lines done
     pub stages : lines p.text ≡ kept_lines group
     pub tells : TellsAll f.heard f.refuses first.errors p.errors (turns_told (done ++ group))
-    pub crash : Crash between p.disk done
+    pub crash : Crash between p.disk p.given done
 
   -- the same when no more is read: of what the others came to a front is held back
   pub record CutSo (left : Option (List ℕ)) (p : Point D E) (more : List ℕ) : Type 0 where
@@ -124,7 +133,7 @@ module _ {D R W E : Type 0} (f : Facts D R W E) (first : Point D E) where
     pub rest : List ℕ
     pub tells : TellsAll f.heard f.refuses first.errors p.errors
         (turns_told (done ++ group) ++ cut_told (1 + length (done ++ group)) rest)
-    pub crash : Crash between p.disk done
+    pub crash : Crash between p.disk p.given done
 
   pub so_none : IsSettled f.seen f.may_leave first.disk
       → ((c : List ℕ) → f.left_since first.disk (f.moment first.disk) c → f.may_leave first.disk c)
@@ -146,7 +155,7 @@ module _ {D R W E : Type 0} (f : Facts D R W E) (first : Point D E) where
     journal = sym (append-nil (lines (f.seen first.disk)));
     stages = ap lines unstaged;
     tells = refl;
-    crash = crash_none f.seen f.may_leave f.moment f.left_since first.state first.disk settled only_now;
+    crash = crash_none f.seen f.may_leave f.moment f.left_since first.state first.disk first.given settled only_now;
   }
 
   -- ## A step
@@ -174,15 +183,18 @@ module _ {D R W E : Type 0} (f : Facts D R W E) (first : Point D E) where
       crash = so.crash;
     }
 
-    module _ (q : Point D E) (objects : p.objects ≡ first.objects) (same : q.disk ≡ p.disk) (out : q.out ≡ p.out) where
+    module _ (q : Point D E) (objects : p.objects ≡ first.objects) (same : q.disk ≡ p.disk) (out : q.out ≡ p.out)
+        (given : q.given ≡ p.given) where
       pub journal_now : lines (f.seen q.disk) ≡ lines (f.seen first.disk) ++ kept_lines so.done
       journal_now = ap (λ d. lines (f.seen d)) same ∙ so.journal
 
       pub wrote_now : Appends first.out q.out (written so.done)
       wrote_now = subst (λ o. Appends first.out o (written so.done)) (sym out) so.wrote
 
-      pub crash_now : Crash so.between q.disk so.done
-      crash_now = subst (λ d. Crash so.between d so.done) (sym same) so.crash
+      pub crash_now : Crash so.between q.disk q.given so.done
+      crash_now =
+          subst (λ d. Crash so.between d q.given so.done) (sym same)
+          (subst (λ g. Crash so.between p.disk g so.done) (sym given) so.crash)
 
       grown : (t : Turn) → so.done ++ (so.group ++ t ∷ []) ≡ (so.done ++ so.group) ++ t ∷ []
       grown t = sym (append_assoc so.done so.group (t ∷ []))
@@ -341,9 +353,8 @@ module _ {D R W E : Type 0} (f : Facts D R W E) (first : Point D E) where
       → LeavesOnly f.moment f.left_since old new (LeadsToSome (leads_from start) step (taken ++ later) first)) where
     -- before a line is read
     pub so_prepared : (p q : Point D E) (number : ℕ) → So p number → q.ahead ≡ p.ahead → q.errors ≡ p.errors
-        → q.state ≡ p.state
-        → (((q.out ≡ p.out) × (q.held ≡ p.held) × (q.text ≡ p.text) × (q.disk ≡ p.disk)) ⊎ Flushed p q) → So q number
-    so_prepared p q number so ahead errors state (inl same) = record {
+        → q.state ≡ p.state → Only_now q.disk → ((waits q ≡ waits p) ⊎ Flushed p q) → So q number
+    so_prepared p q number so ahead errors state only_now (inl same) = record {
       done = so.done;
       group = so.group;
       between = so.between;
@@ -351,16 +362,16 @@ module _ {D R W E : Type 0} (f : Facts D R W E) (first : Point D E) where
       are_group = subst (AreTurns first.objects so.between (1 + length so.done) so.group) (sym state) so.are_group;
       count = so.count;
       read = subst (λ a. ReadSo first.ahead a (turn_lines (so.done ++ so.group))) (sym ahead) so.read;
-      wrote = subst (λ o. Appends first.out o (written so.done)) (sym same.0) so.wrote;
-      holds = same.1 ∙ so.holds;
-      journal = ap (λ d. lines (f.seen d)) same.3 ∙ so.journal;
-      stages = ap lines same.2 ∙ so.stages;
+      wrote = subst (λ (w : Waiting D). Appends first.out w.out (written so.done)) (sym same) so.wrote;
+      holds = ap (λ (w : Waiting D). w.held) same ∙ so.holds;
+      journal = ap (λ (w : Waiting D). lines (f.seen w.disk)) same ∙ so.journal;
+      stages = ap (λ (w : Waiting D). lines w.staged) same ∙ so.stages;
       tells =
           subst (λ e. TellsAll f.heard f.refuses first.errors e (turns_told (so.done ++ so.group))) (sym errors)
           so.tells;
-      crash = subst (λ d. Crash so.between d so.done) (sym same.3) so.crash;
+      crash = subst (λ (w : Waiting D). Crash so.between w.disk w.given so.done) (sym same) so.crash;
     }
-    so_prepared p q number so ahead errors state (inr w) =
+    so_prepared p q number so ahead errors state only_now (inr w) =
         let nil : (so.done ++ so.group) ++ [] ≡ so.done ++ so.group = append-nil (so.done ++ so.group) in
         record {
           done = so.done ++ so.group;
@@ -376,29 +387,29 @@ module _ {D R W E : Type 0} (f : Facts D R W E) (first : Point D E) where
           wrote =
               subst (Appends first.out q.out)
               (ap (λ h. written so.done ++ h) so.holds ∙ sym (flat_map-append (λ (t : Turn). t.text) so.done so.group))
-              (Appends-trans first.out p.out q.out (written so.done) p.held so.wrote w.0);
-          holds = w.1;
+              (Appends-trans first.out p.out q.out (written so.done) p.held so.wrote w.wrote);
+          holds = w.none_held;
           journal =
-              w.3.lines ∙ (λ i. so.journal i ++ so.stages i)
+              w.commits.lines ∙ (λ i. so.journal i ++ so.stages i)
               ∙ append_assoc (lines (f.seen first.disk)) (kept_lines so.done) (kept_lines so.group)
               ∙ ap (λ k. lines (f.seen first.disk) ++ k)
               (sym (flat_map-append (λ (t : Turn). t.kept) so.done so.group));
-          stages = ap lines w.2;
+          stages = ap lines w.none_staged;
           tells =
               subst (λ e. TellsAll f.heard f.refuses first.errors e (turns_told ((so.done ++ so.group) ++ [])))
               (sym errors)
               (subst (λ ts. TellsAll f.heard f.refuses first.errors p.errors (turns_told ts)) (sym nil) so.tells);
           crash =
               crash_more f.seen f.may_leave f.moment f.left_since follow first.state so.between p.state first.disk
-              p.disk
-              q.disk so.done so.group p.text so.crash
-              (turns_lead first.objects so.between (1 + length so.done) so.group p.state so.are_group) so.stages w.4
-              w.3;
+              p.disk q.disk first.given p.given so.done so.group p.text so.crash
+              (turns_lead first.objects so.between (1 + length so.done) so.group p.state so.are_group) so.stages w.some
+              AreTextsOf p.held q.given w.given (λ groups given are. (so.holds, are)) only_now w.commits;
         }
 
     -- where no more is read
     module _ (left : Option (List ℕ)) (p q : Point D E) (more : List ℕ) (so : CutSo left p more)
-        (state : q.state ≡ p.state) (some : CommitsSome f.seen f.moment f.left_since p.text p.disk q.disk) where
+        (state : q.state ≡ p.state) (only_now : Only_now q.disk)
+        (some : CommitsSome f.seen f.moment f.left_since p.text p.disk q.disk) where
       abbrev Told : List (List ℕ) → Type 0
       Told = TellsAll f.heard f.refuses first.errors p.errors
 
@@ -411,11 +422,14 @@ module _ {D R W E : Type 0} (f : Facts D R W E) (first : Point D E) where
       pub are_now : AreTurns first.objects first.state 1 (so.done ++ so.group) q.state
       are_now = subst (AreTurns first.objects first.state 1 (so.done ++ so.group)) (sym state) are_all
 
-      pub safe : Commits f.seen f.may_leave p.text p.disk q.disk → Left q.disk (so.done ++ so.group) []
-      safe all =
-          crash_all f.seen f.may_leave f.moment f.left_since first.state p.state first.disk q.disk (so.done ++ so.group)
+      pub safe : Commits f.seen f.may_leave p.text p.disk q.disk → q.given ≡ gives f.moment q.disk p.held p.given
+          → Left q (so.done ++ so.group) []
+      safe all gave =
+          crash_all f.seen f.may_leave f.moment f.left_since first.state p.state first.disk q.disk first.given q.given
+          (so.done ++ so.group)
           (crash_more f.seen f.may_leave f.moment f.left_since follow first.state so.between p.state first.disk p.disk
-          q.disk so.done so.group p.text so.crash led so.stages some all) all.settled
+          q.disk first.given p.given so.done so.group p.text so.crash led so.stages some AreFrontsOf p.held q.given gave
+          (λ groups given are. ((more, so.holds), are)) only_now all) all.settled
 
       pub journal_is : Commits f.seen f.may_leave p.text p.disk q.disk
           → lines (f.seen q.disk) ≡ lines (f.seen first.disk) ++ kept_lines (so.done ++ so.group)
@@ -448,8 +462,9 @@ module _ {D R W E : Type 0} (f : Facts D R W E) (first : Point D E) where
 
       serves_some : (Wrote : (before after : Option (List ℕ)) → List ℕ → Type 0)
           → Wrote first.out q.out (written (so.done ++ so.group)) → Commits f.seen f.may_leave p.text p.disk q.disk
-          → ServesSome Told (Left q.disk) Wrote (run_io first.ahead first) (run_io left q)
-      serves_some Wrote wrote all = record {
+          → q.given ≡ gives f.moment q.disk p.held p.given
+          → ServesSome Told (Left q) Wrote (run_io first.ahead first) (run_io left q)
+      serves_some Wrote wrote all gave = record {
         turns = so.done ++ so.group;
         are = are_now;
         read = so.read;
@@ -457,68 +472,71 @@ module _ {D R W E : Type 0} (f : Facts D R W E) (first : Point D E) where
         journal = journal_is all;
         rest = so.rest;
         tells = so.tells;
-        left = safe all;
+        left = safe all gave;
       }
 
       module _ (counts_now : (t : ℕ) (c : List ℕ) → t ≤ f.moment q.disk → f.may_leave q.disk c
           → f.left_since q.disk t c) where
-        closed : Keeps p.out q.out → ServesClosed Told (Left q.disk) (run_io first.ahead first) (run_io left q)
-        closed keeps = record {
+        closed : GivesNothing (waits p) (waits q)
+            → ServesClosed Told (Left q) (run_io first.ahead first) (run_io left q)
+        closed none = record {
           turns = so.done;
           last = so.group;
           now = p.state;
           are = are_all;
           read = so.read;
-          wrote = Appends-kept first.out p.out q.out (written so.done) so.wrote keeps;
+          wrote = Appends-kept first.out p.out q.out (written so.done) so.wrote none.keeps;
           rest = so.rest;
           tells = so.tells;
           left =
-              crash_some f.seen f.may_leave f.moment f.left_since follow first.state so.between p.state first.disk
-              p.disk
-              q.disk so.done so.group p.text so.crash led so.stages some counts_now;
+              subst
+              (λ g.
+              Leaves f.seen f.may_leave f.moment f.left_since first.state first.disk q.disk first.given g so.done so.group)
+              (sym none.given)
+              (crash_some f.seen f.may_leave f.moment f.left_since follow first.state so.between p.state first.disk
+              p.disk q.disk first.given p.given so.done so.group p.text so.crash led so.stages some counts_now);
         }
 
         pub unflushed : (why : NodeFault)
-            → Unflushed (Keeps p.out q.out)
-            (AppendsPrefix p.out q.out p.held × Commits f.seen f.may_leave p.text p.disk q.disk) why
-            → IsServeRefusal Told (Left q.disk) (run_io first.ahead first) (run_io left q) why
+            → FlushesNot f.seen f.may_leave f.moment (waits p) (waits q) why
+            → IsServeRefusal Told (Left q) (run_io first.ahead first) (run_io left q) why
         unflushed fault.DiskFault r = closed r
         unflushed fault.Memory r = inr (closed r)
-        unflushed fault.WriteFault r = serves_some AppendsPrefix (front r.0) r.1
+        unflushed fault.WriteFault r = serves_some AppendsPrefix (front r.front) r.commits r.given
         unflushed fault.ReadFault r = absurd r
         unflushed fault.BadConfig r = absurd r
         unflushed fault.NoJournal r = absurd r
         unflushed fault.BadJournal r = absurd r
 
       -- and why no more is read
-      pub then_refused : (why : NodeFault) → Missing why more → Appends p.out q.out p.held
-          → Commits f.seen f.may_leave p.text p.disk q.disk
-          → IsServeRefusal Told (Left q.disk) (run_io first.ahead first) (run_io left q) (of_step why)
-      then_refused fault.ReadFault none wrote all = serves_some Appends (whole none wrote) all
-      then_refused fault.WriteFault m wrote all = inl (serves_some AppendsPrefix (front (all_front wrote)) all)
-      then_refused fault.Memory m wrote all = inl (serves_some AppendsPrefix (front (all_front wrote)) all)
-      then_refused fault.BadConfig m wrote all = absurd m
-      then_refused fault.NoJournal m wrote all = absurd m
-      then_refused fault.BadJournal m wrote all = absurd m
-      then_refused fault.DiskFault m wrote all = absurd m
+      pub then_refused : (why : NodeFault) → Missing why more → Flushed p q
+          → IsServeRefusal Told (Left q) (run_io first.ahead first) (run_io left q) (of_step why)
+      then_refused fault.ReadFault none w = serves_some Appends (whole none w.wrote) w.commits w.given
+      then_refused fault.WriteFault m w = inl (serves_some AppendsPrefix (front (all_front w.wrote)) w.commits w.given)
+      then_refused fault.Memory m w = inl (serves_some AppendsPrefix (front (all_front w.wrote)) w.commits w.given)
+      then_refused fault.BadConfig m w = absurd m
+      then_refused fault.NoJournal m w = absurd m
+      then_refused fault.BadJournal m w = absurd m
+      then_refused fault.DiskFault m w = absurd m
 
     -- all was read and written
     pub serves_all : (p q r : Point D E) (number : ℕ) (so : So p number) (objects : p.objects ≡ first.objects)
-        (same : q.disk ≡ p.disk) (out : q.out ≡ p.out) (pending : List ℕ) (left : Option (List ℕ))
-        (is : q.ahead ≡ prepend_known pending left) (state : r.state ≡ q.state)
+        (same : q.disk ≡ p.disk) (out : q.out ≡ p.out) (given : q.given ≡ p.given) (pending : List ℕ)
+        (left : Option (List ℕ)) (is : q.ahead ≡ prepend_known pending left) (state : r.state ≡ q.state)
+        → Only_now r.disk
         → InputEnds number (TellsAll f.heard f.refuses p.errors q.errors) (held_io p) (held_io q) → Flushed q r
-        → ServesAll (TellsAll f.heard f.refuses first.errors q.errors) (Left r.disk) (run_io first.ahead first)
+        → ServesAll (TellsAll f.heard f.refuses first.errors q.errors) (Left r) (run_io first.ahead first)
         (run_io left r)
     unfolding ended
-    serves_all p q r number so objects same out pending left is state s w =
-        let cut : CutSo left q [] = ended p number so q objects same out pending left is s in
+    serves_all p q r number so objects same out given pending left is state only_now s w =
+        let cut : CutSo left q [] = ended p number so q objects same out given pending left is s in
         record {
           turns = so.done ++ so.group;
           rest = s.rest;
-          are = are_now left q r [] cut state w.4;
-          read = all_read p number so q objects same out pending left is s;
-          wrote = whole left q r [] cut state w.4 refl w.0;
-          journal = journal_is left q r [] cut state w.4 w.3;
+          are = are_now left q r [] cut state only_now w.some;
+          read = all_read p number so q objects same out given pending left is s;
+          wrote = whole left q r [] cut state only_now w.some refl w.wrote;
+          journal = journal_is left q r [] cut state only_now w.some w.commits;
           tells = cut.tells;
-          left = safe left q r [] cut state w.4 w.3;
+          left = safe left q r [] cut state only_now w.some w.commits w.given;
         }

@@ -13,3 +13,4 @@ pub mod Stepping
 pub mod Starts
 pub mod Leading
 pub mod Crashing
+pub mod Lives

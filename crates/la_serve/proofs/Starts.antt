@@ -1,5 +1,5 @@
 -- What a start leads to.
-use Rattle.std.proofs.Common.{◌≡◌, ℕ, zero, suc, List, [], ◌++◌, refl, sym, ap, ◌∙◌, Option, Some, None, option_map, Result, Ok, Err, OnOk, IfErr, inl, inr}
+use Rattle.std.proofs.Common.{◌≡◌, ℕ, zero, suc, List, [], ◌++◌, refl, sym, ap, ◌∙◌, arith, Option, Some, None, option_map, Result, Ok, Err, OnOk, IfErr, inl, inr}
 use Rattle.std.proofs.lemmas.Option.{none-some}
 use Rattle.std.specs.Io.KnownBytes.{Appends}
 use Rattle.la_io.specs.Streams.{AppendsPrefix}
@@ -20,7 +20,7 @@ use Rattle.la_serve.specs.Io.{Io, Streams, Facts, io_with}
 use Rattle.la_serve.specs.Turns.{Turn}
 use Rattle.la_serve.specs.Serving.{ServesAll, ServesSome, ServesClosed, IsServeRefusal, kept_lines}
 use Rattle.la_serve.specs.Crashes.{Leaves, LeftBy, at_start}
-use Rattle.la_serve.specs.Starting.{RunsAll, RunsCut, IsServerStartRefusal}
+use Rattle.la_serve.specs.Starting.{RunsAll, RunsCut, RunsNot, IsServerStartRefusal}
 use Rattle.la_replica.specs.ReplicaState.{ReplicaState}
 
 -- nothing lies in every set
@@ -109,7 +109,7 @@ module _ {D R W E : Type 0} (f : Facts D R W E) (objects objects2 : List (ℕ ×
     Told = TellsAll f.heard f.refuses old.errors new.errors
 
     abbrev Here : (turns last : List Turn) → Type 0
-    Here = Leaves f.seen f.may_leave f.moment f.left_since before recovered final
+    Here = Leaves f.seen f.may_leave f.moment f.left_since before recovered final old.given new.given
 
     abbrev at_first : Io
     at_first = io_with f old objects before (lines (f.seen recovered))
@@ -117,37 +117,36 @@ module _ {D R W E : Type 0} (f : Facts D R W E) (objects objects2 : List (ℕ ×
     abbrev at_last : Io
     at_last = io_with f new objects2 now (lines (f.seen final))
 
-    of_run : (turns last : List Turn) → Here turns last → LeftBy f options disk before turns last
+    abbrev There : (turns last : List Turn) → Type 0
+    There = LeftBy f options disk final before old.given new.given
+
+    of_run : (turns last : List Turn) → Here turns last → There turns last
     of_run turns last left =
-        record { recovered = recovered; recovery = recovery; leads = leads; final = final; left = left }
+        record { recovered = recovered; recovery = recovery; leads = leads; left = left }
 
     pub runs : {T : Type 0} (r : Result T NodeFault) → OnOk r (ServesAll Told Here at_first at_last)
-        → OnOk r (RunsAll f objects options disk old new)
+        → OnOk r (RunsAll f objects options disk final old new)
     runs (Ok x) s = record {
       before = before;
       plays = plays;
       journal = lines (f.seen final);
       now = now;
-      serves =
-          serves_to Told Here (LeftBy f options disk before) of_run at_first at_last (lines (f.seen disk)) same objects
-          s;
+      serves = serves_to Told Here There of_run at_first at_last (lines (f.seen disk)) same objects s;
     }
     runs (Err e) s = tt
 
     cut : (why : NodeFault) → IsServeRefusal Told Here at_first at_last why
-        → RunsCut f objects options disk old new why
+        → RunsCut f objects options disk final old new why
     cut why s = record {
       before = before;
       plays = plays;
       journal = lines (f.seen final);
       now = now;
-      stops =
-          refusal_to Told Here (LeftBy f options disk before) of_run at_first at_last (lines (f.seen disk)) same objects
-          why s;
+      stops = refusal_to Told Here There of_run at_first at_last (lines (f.seen disk)) same objects why s;
     }
 
     run_stops : (why : NodeFault) → IsServeRefusal Told Here at_first at_last why
-        → IsServerStartRefusal f objects options disk old new why
+        → IsServerStartRefusal f objects options disk final old new why
     run_stops fault.ReadFault s = inr (cut fault.ReadFault s)
     run_stops fault.WriteFault s = inr (cut fault.WriteFault s)
     run_stops fault.Memory s = inr (cut fault.Memory s)
@@ -157,6 +156,23 @@ module _ {D R W E : Type 0} (f : Facts D R W E) (objects objects2 : List (ℕ ×
     run_stops fault.BadJournal s = absurd s
 
     pub stops : {T : Type 0} (r : Result T NodeFault) → IfErr r (IsServeRefusal Told Here at_first at_last)
-        → IfErr r (IsServerStartRefusal f objects options disk old new)
+        → IfErr r (IsServerStartRefusal f objects options disk final old new)
     stops (Ok x) s = tt
     stops (Err why) s = run_stops why s
+
+-- ## A run that did not begin
+
+-- nothing happened to the disk
+pub untouched : {D R W E : Type 0} (f : Facts D R W E) (disk : D) (streams : Streams R W E)
+    → ((c : List ℕ) → f.left_since disk (f.moment disk) c → f.may_leave disk c) → RunsNot f disk disk streams streams
+untouched f disk streams only_now = record {
+  unread = refl;
+  unwritten = refl;
+  ungiven = refl;
+  untold = refl;
+  left = record {
+    later = omega arith;
+    each = λ c left. inl (only_now c left);
+    before = λ t c le left. inl left;
+  };
+}

@@ -1,11 +1,13 @@
 -- What a crash leaves of the journal while lines are taken.
-use Rattle.std.specs.Prelude.{◌≡◌, ◌⊎◌, ℕ, List, [], ◌++◌, Option, Some, map}
+use Rattle.std.specs.Prelude.{◌≡◌, ◌⊎◌, ⊤, ℕ, ◌≤◌, List, [], ◌∷◌, ◌++◌, Option, Some, length, map}
 use Rattle.std.specs.Io.KnownBytes.{Appends, Keeps}
-use Rattle.la_io.specs.Streams.{WritesPrefix}
+use Rattle.la_io.specs.Streams.{AppendsPrefix}
 use Rattle.la_journal.specs.declared.disk.Disk.{Ghosts}
 use Rattle.la_journal.specs.Disk.{LeavesOnly}
+use Rattle.la_journal.specs.Giving.{GivenAt}
 use Rattle.la_journal.specs.Lines.{lines as lines_in}
 use Rattle.la_journal.specs.Machine.{steps, LeadsToSome}
+use Rattle.la_journal.specs.Served.{LeadsToAtLeast}
 use Rattle.la_journal.specs.Durable.{IsSettled, IsSameOr}
 use Rattle.la_node.specs.declared.config.Config.{Config}
 use Rattle.la_node.specs.Nodes.{node_at_start}
@@ -16,19 +18,61 @@ use Rattle.la_io.specs.Streams.{TellsAll}
 use Rattle.la_serve.specs.declared.error.NodeFault.{NodeFault}
 use Rattle.la_serve.specs.declared.server.Server.{Server}
 use Rattle.la_serve.specs.declared.options.Options.{Options}
-use Rattle.la_serve.specs.Io.{HeldAt, Streams, Facts, io_on}
+use Rattle.la_serve.specs.Io.{Waiting, Streams, Facts, io_on}
+use Rattle.la_serve.specs.Giving.{gives}
 use Rattle.la_serve.specs.Turns.{Turn}
-use Rattle.la_serve.specs.Serving.{kept_lines, Unflushed, ServesAll, IsServeRefusal}
+use Rattle.la_serve.specs.Serving.{kept_lines, written, Unflushed, ServesAll, IsServeRefusal}
 use Rattle.la_replica.specs.ReplicaState.{ReplicaState}
 
 abbrev pub crash_texts : List CallLine → List (List ℕ)
 crash_texts calls = map (λ (c : CallLine). c.line) calls
 
--- The journal led to a state, from which these turns were taken: what the first ones came to was written, and of the
--- last ones nothing. A crash at any moment of that leaves one that leads to where the first some of the lines
--- lead that it gained, none skipped; and a crash from now on one that has all lines of the first turns.
+-- ## What was given out
+
+-- the turns of these groups, the newest of which is first
+abbrev pub in_order : List (List Turn) → List Turn
+in_order [] = []
+in_order (group ∷ before) = in_order before ++ group
+
+-- each of these texts is what such a group comes to
+abbrev pub AreTextsOf : List (List Turn) → List GivenAt → Type 0
+AreTextsOf [] [] = ⊤
+AreTextsOf [] (g ∷ given) = ⊥
+AreTextsOf (group ∷ before) [] = ⊥
+AreTextsOf (group ∷ before) (g ∷ given) = (g.text ≡ written group) × AreTextsOf before given
+
+-- or a front of that, of the newest
+abbrev pub AreFrontsOf : List (List Turn) → List GivenAt → Type 0
+AreFrontsOf [] [] = ⊤
+AreFrontsOf [] (g ∷ given) = ⊥
+AreFrontsOf (group ∷ before) [] = ⊥
+AreFrontsOf (group ∷ before) (g ∷ given) =
+    ((more : List ℕ) × (g.text ++ more ≡ written group)) × AreTextsOf before given
+
+-- so many lines were kept up to the newest
+abbrev pub kept_count : List (List Turn) → ℕ
+kept_count groups = length (kept_lines (in_order groups))
+
+-- Of each text: a crash at any moment from when it was given out leaves a journal that leads to where the first some of
+-- these calls lead, and all are among them whose lines were kept up to that text.
+abbrev pub KeepsGiven : (now : ℕ) (left_since : ℕ → List ℕ → Type 0) (leads : List ℕ → Option ReplicaState)
+    → (calls : List CallLine) → ReplicaState → List (List Turn) → List GivenAt → Type 0
+KeepsGiven now left_since leads calls n [] given = ⊤
+KeepsGiven now left_since leads calls n (group ∷ before) [] = ⊤
+KeepsGiven now left_since leads calls n (group ∷ before) (g ∷ given) =
+    (g.moment ≤ now)
+    × ((c : List ℕ) → left_since g.moment c → LeadsToAtLeast leads step (kept_count (group ∷ before)) calls n c)
+    × KeepsGiven now left_since leads calls n before given
+
+-- ## What is left
+
+-- The journal led to a state, from which these turns were taken: what the first ones came to was written, in groups, and
+-- of the last ones nothing. A crash at any moment of that leaves a journal that leads to where the first some of the
+-- lines lead that it gained, none skipped; from when a text was given out on, all lines are among them that were kept up
+-- to it; and from now on all lines of the first turns.
 pub record Leaves {D : Type 0} (seen : D → List ℕ) (may_leave : D → List ℕ → Type 0) (moment : D → ℕ)
-    (left_since : D → ℕ → List ℕ → Type 0) (n : ReplicaState) (old new : D) (turns last : List Turn) : Type 0 where
+    (left_since : D → ℕ → List ℕ → Type 0) (n : ReplicaState) (old new : D) (before after : List GivenAt)
+    (turns last : List Turn) : Type 0 where
   pub calls : List CallLine
   pub lines : kept_lines turns ≡ crash_texts calls
   pub later : List CallLine
@@ -39,29 +83,35 @@ pub record Leaves {D : Type 0} (seen : D → List ℕ) (may_leave : D → List �
       → LeavesOnly moment left_since old new (LeadsToSome (leads_from start) step (calls ++ later) n)
   pub from_now : (start : ReplicaState) → leads_from start (seen old) ≡ Some n
       → (c : List ℕ) → may_leave new c → LeadsToSome (leads_from start) step later between c
+  -- the newest group first
+  pub groups : List (List Turn)
+  pub are : in_order groups ≡ turns
+  pub given : List GivenAt
+  pub behind : after ≡ given ++ before
+  pub texts : AreFrontsOf groups given
+  pub keeps : (start : ReplicaState) → leads_from start (seen old) ≡ Some n
+      → KeepsGiven (moment new) (left_since new) (leads_from start) (calls ++ later) n groups given
 
 -- The same of a run from its start on, which first recovered the journal: of that a crash leaves what might have been
 -- left before, or the same lines.
 pub record LeavesOfRun {D : Type 0} (seen : D → List ℕ) (may_leave : D → List ℕ → Type 0) (moment : D → ℕ)
-    (left_since : D → ℕ → List ℕ → Type 0) (fresh : ReplicaState) (disk : D) (n : ReplicaState)
-    (turns last : List Turn) :
-    Type
-    0 where
+    (left_since : D → ℕ → List ℕ → Type 0) (fresh : ReplicaState) (disk final : D) (n : ReplicaState)
+    (before after : List GivenAt) (turns last : List Turn) : Type 0 where
   pub recovered : D
   pub recovery : LeavesOnly moment left_since disk recovered (IsSameOr (may_leave disk) (lines_in (seen disk)))
   pub leads : leads_from fresh (seen recovered) ≡ Some n
-  pub final : D
-  pub left : Leaves seen may_leave moment left_since n recovered final turns last
+  pub left : Leaves seen may_leave moment left_since n recovered final before after turns last
 
 -- what a new node keeps
 abbrev pub at_start : Config → (own : ℕ) → ReplicaState
 at_start config own = (node_at_start config own empty_shelf).replica
 
--- what is left of a run with these options, by what a disk states
-abbrev pub LeftBy : {D R W E : Type 0} → Facts D R W E → Options → (disk : D) → ReplicaState → (turns last : List Turn)
-    → Type 0
-LeftBy f options disk =
-    LeavesOfRun f.seen f.may_leave f.moment f.left_since (at_start options.config options.own) disk
+-- what is left of a run with these options, which began with the one disk and ended with the other, by what is stated
+-- of them
+abbrev pub LeftBy : {D R W E : Type 0} → Facts D R W E → Options → (disk final : D) → ReplicaState
+    → (before after : List GivenAt) → (turns last : List Turn) → Type 0
+LeftBy f options disk final =
+    LeavesOfRun f.seen f.may_leave f.moment f.left_since (at_start options.config options.own) disk final
 
 -- all lines that were staged are on the disk, behind those that were there
 pub record Commits {D : Type 0} (seen : D → List ℕ) (may_leave : D → List ℕ → Type 0) (staged : List ℕ) (old new : D) :
@@ -80,33 +130,38 @@ CommitsSome seen moment left_since staged old new =
     → LeavesOnly moment left_since old new (LeadsToSome (leads_from start) step calls before)
 
 -- all that was held back was written, once all that was staged was on the disk
-abbrev pub Flushes : {D W B : Type 0} {g : Ghosts D} (seen : D → List ℕ) (may_leave : D → List ℕ → Type 0)
-    (moment : D → ℕ)
-    (left_since : D → ℕ → List ℕ → Type 0) (contents : W → Option (List ℕ)) (old new : HeldAt W D B g) → Type 0
-Flushes seen may_leave moment left_since contents old new =
-    Appends (contents old.output) (contents new.output) old.held
-    × (new.held ≡ []) × (new.server.node.text.items ≡ [])
-    × Commits seen may_leave old.server.node.text.items old.server.node.durable.disk new.server.node.durable.disk
-    × CommitsSome seen moment left_since old.server.node.text.items old.server.node.durable.disk
-    new.server.node.durable.disk
+pub record Flushes {D : Type 0} (seen : D → List ℕ) (may_leave : D → List ℕ → Type 0) (moment : D → ℕ)
+    (left_since : D → ℕ → List ℕ → Type 0) (old new : Waiting D) : Type 0 where
+  pub wrote : Appends old.out new.out old.held
+  pub none_held : new.held ≡ []
+  pub none_staged : new.staged ≡ []
+  pub commits : Commits seen may_leave old.staged old.disk new.disk
+  pub some : CommitsSome seen moment left_since old.staged old.disk new.disk
+  pub given : new.given ≡ gives moment new.disk old.held old.given
 
 -- that, or nothing
-abbrev pub FlushesOrNot : {D W B : Type 0} {g : Ghosts D} (seen : D → List ℕ) (may_leave : D → List ℕ → Type 0)
-    (moment : D → ℕ)
-    (left_since : D → ℕ → List ℕ → Type 0) (contents : W → Option (List ℕ)) (old new : HeldAt W D B g) → Type 0
-FlushesOrNot seen may_leave moment left_since contents old new =
-    ((contents new.output ≡ contents old.output) × (new.held ≡ old.held)
-    × (new.server.node.text.items ≡ old.server.node.text.items)
-    × (new.server.node.durable.disk ≡ old.server.node.durable.disk))
-    ⊎ Flushes seen may_leave moment left_since contents old new
+abbrev pub FlushesOrNot : {D : Type 0} (seen : D → List ℕ) (may_leave : D → List ℕ → Type 0) (moment : D → ℕ)
+    (left_since : D → ℕ → List ℕ → Type 0) (old new : Waiting D) → Type 0
+FlushesOrNot seen may_leave moment left_since old new =
+    (new ≡ old) ⊎ Flushes seen may_leave moment left_since old new
 
--- it was not: where a write failed a front of it is out, and all lines are on the disk
-abbrev pub FlushesNot : {D W B : Type 0} {g : Ghosts D} (seen : D → List ℕ) (may_leave : D → List ℕ → Type 0)
-    (contents : W → Option (List ℕ)) (old new : HeldAt W D B g) → NodeFault → Type 0
-FlushesNot seen may_leave contents old new =
-    Unflushed (Keeps (contents old.output) (contents new.output))
-    (WritesPrefix contents old.output new.output old.held
-    × Commits seen may_leave old.server.node.text.items old.server.node.durable.disk new.server.node.durable.disk)
+-- it was not, and nothing was given out
+pub record GivesNothing {D : Type 0} (old new : Waiting D) : Type 0 where
+  pub keeps : Keeps old.out new.out
+  pub given : new.given ≡ old.given
+
+-- or a front of it is out, and all lines are on the disk
+pub record GivesFront {D : Type 0} (seen : D → List ℕ) (may_leave : D → List ℕ → Type 0) (moment : D → ℕ)
+    (old new : Waiting D) : Type 0 where
+  pub front : AppendsPrefix old.out new.out old.held
+  pub commits : Commits seen may_leave old.staged old.disk new.disk
+  pub given : new.given ≡ gives moment new.disk old.held old.given
+
+-- where a write failed the second, and else the first
+abbrev pub FlushesNot : {D : Type 0} (seen : D → List ℕ) (may_leave : D → List ℕ → Type 0) (moment : D → ℕ)
+    (old new : Waiting D) → NodeFault → Type 0
+FlushesNot seen may_leave moment old new =
+    Unflushed (GivesNothing old new) (GivesFront seen may_leave moment old new)
 
 -- ## What `serve` comes to
 
@@ -119,7 +174,7 @@ abbrev pub ServesLines : {D R W E B : Type 0} {g : Ghosts D} (seen : D → List 
 ServesLines seen may_leave moment left_since remaining contents heard refuses old new before after =
     ServesAll (TellsAll heard refuses old.errors new.errors)
     (Leaves seen may_leave moment left_since (kept_by before.node.durable.machine) before.node.durable.disk
-    after.node.durable.disk)
+    after.node.durable.disk old.given new.given)
     (io_on seen remaining contents old before) (io_on seen remaining contents new after)
 
 -- or not all, for this
@@ -131,5 +186,5 @@ abbrev pub Ceases : {D R W E B : Type 0} {g : Ghosts D} (seen : D → List ℕ) 
 Ceases seen may_leave moment left_since remaining contents heard refuses old new before after =
     IsServeRefusal (TellsAll heard refuses old.errors new.errors)
     (Leaves seen may_leave moment left_since (kept_by before.node.durable.machine) before.node.durable.disk
-    after.node.durable.disk)
+    after.node.durable.disk old.given new.given)
     (io_on seen remaining contents old before) (io_on seen remaining contents new after)

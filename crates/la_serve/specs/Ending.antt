@@ -7,6 +7,7 @@ use Rattle.la_object.specs.Objects.{start}
 use Rattle.la_io.specs.Streams.{TellsLine}
 use Rattle.la_serve.specs.declared.error.NodeFault.{NodeFault}
 use Rattle.la_serve.specs.declared.error.NodeFault.TheVariants as fault
+use Rattle.la_serve.specs.declared.ended.Ended.{Ended}
 use Rattle.la_serve.specs.declared.options.Options.{Options}
 use Rattle.la_serve.specs.Io.{Streams, Facts, facts, io}
 use Rattle.la_serve.specs.Starting.{RunsAll, IsServerStartRefusal}
@@ -44,25 +45,27 @@ abbrev pub end_line : NodeFault → List ℕ
 end_line f = end_name f ++ 10 ∷ []
 
 -- it took all lines of its input
-pub record ServerEndsWell {D R W E : Type 0} (f : Facts D R W E) (options : Options) (disk : D)
+pub record ServerEndsWell {D R W E : Type 0} (f : Facts D R W E) (options : Options) (disk final : D)
     (old new : Streams R W E)
     (status : ℕ) : Type 0 where
   pub well : status ≡ 0
-  pub runs : RunsAll f node_objects options disk old new
+  pub runs : RunsAll f node_objects options disk final old new
 
 -- or ended by a fault, which is told last
-pub record EndsBadly {D R W E : Type 0} (f : Facts D R W E) (options : Options) (disk : D) (old new : Streams R W E)
-    (status : ℕ) : Type 0 where
+pub record EndsBadly {D R W E : Type 0} (f : Facts D R W E) (options : Options) (disk final : D)
+    (old new : Streams R W E) (status : ℕ) : Type 0 where
   pub why : NodeFault
   pub is : status ≡ node_status why
   pub between : E
-  pub stops : IsServerStartRefusal f node_objects options disk old (io new.input new.output between) why
+  pub stops : IsServerStartRefusal f node_objects options disk final old (io new.input new.output new.given between) why
   pub told : TellsLine f.heard f.refuses between new.errors (end_line why)
 
+-- with this status, where the disk is this in the end
 abbrev pub ServerEnds : {D R W E : Type 0} (seen : D → List ℕ) (may_leave : D → List ℕ → Type 0) (moment : D → ℕ)
     (left_since : D → ℕ → List ℕ → Type 0) (remaining : R → Option (List ℕ)) (contents : W → Option (List ℕ))
     (heard : E → Option (List ℕ)) (refuses : E → List ℕ → E → Type 0)
-    → Options → (disk : D) → (old new : Streams R W E) → (status : ℕ) → Type 0
-ServerEnds seen may_leave moment left_since remaining contents heard refuses options disk old new status =
+    → Options → (disk : D) → (old new : Streams R W E) → Ended D → Type 0
+ServerEnds seen may_leave moment left_since remaining contents heard refuses options disk old new ended =
     let f = facts seen may_leave moment left_since remaining contents heard refuses in
-    ServerEndsWell f options disk old new status ⊎ EndsBadly f options disk old new status
+    ServerEndsWell f options disk ended.disk old new ended.status
+    ⊎ EndsBadly f options disk ended.disk old new ended.status

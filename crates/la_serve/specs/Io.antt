@@ -4,6 +4,7 @@ use Rattle.la_set.specs.Inclusion.{IsSubset}
 use Rattle.la_object.specs.declared.kind.Kind.{Kind}
 use Rattle.la_journal.specs.declared.disk.Disk.{Ghosts}
 use Rattle.la_journal.specs.Lines.{lines}
+use Rattle.la_journal.specs.Giving.{GivenAt}
 use Rattle.la_durable.specs.Nodes.{kept_by}
 use Rattle.la_io.specs.declared.source.Source.{Source}
 use Rattle.la_io.specs.Sources.{ahead}
@@ -62,23 +63,28 @@ step_at source input held errors server =
 abbrev pub io_in : {R E D B : Type 0} {g : Ghosts D} → (remaining : R → Option (List ℕ)) → StepAt R E D B g → Io
 io_in remaining s = io_at (ahead s.source (remaining s.input)) (Some s.held) s.server
 
--- what is held back, where it goes, and the server
-pub record HeldAt (W D B : Type 0) (g : Ghosts D) : Type 0 where
-  pub output : W
+-- what waits to be written: what the output has and was given so far, what is held back, the staged lines and the disk
+pub record Waiting (D : Type 0) : Type 0 where
+  pub out : Option (List ℕ)
+  pub given : List GivenAt
   pub held : List ℕ
-  pub server : Server D B g
+  pub staged : List ℕ
+  pub disk : D
 
-abbrev pub held_at : {W D B : Type 0} {g : Ghosts D} → W → (held : List ℕ) → Server D B g → HeldAt W D B g
-held_at output held server = record { output = output; held = held; server = server }
+abbrev pub waiting : {D B : Type 0} {g : Ghosts D} → (out : Option (List ℕ)) → List GivenAt → (held : List ℕ)
+    → Server D B g → Waiting D
+waiting out given held server =
+    record { out = out; given = given; held = held; staged = server.node.text.items; disk = server.node.durable.disk }
 
--- the streams of a run
+-- the streams of a run, and what the output was given so far
 pub record Streams (R W E : Type 0) : Type 0 where
   pub input : R
   pub output : W
+  pub given : List GivenAt
   pub errors : E
 
-abbrev pub io : {R W E : Type 0} → R → W → E → Streams R W E
-io input output errors = record { input = input; output = output; errors = errors }
+abbrev pub io : {R W E : Type 0} → R → W → List GivenAt → E → Streams R W E
+io input output given errors = record { input = input; output = output; given = given; errors = errors }
 
 -- ## What is stated of them
 

@@ -4,8 +4,10 @@ pub mod Faults
 pub mod Turns
 pub mod Said
 pub mod Io
+pub mod Giving
 pub mod Reading
 pub mod Serving
 pub mod Crashes
 pub mod Starting
 pub mod Ending
+pub mod Lives

@@ -2,6 +2,8 @@
 use Rattle.std.specs.Prelude.{◌≡◌, ◌⊎◌, ℕ, List, [], Option, Some, None}
 use Rattle.la_object.specs.declared.kind.Kind.{Kind}
 use Rattle.la_object.specs.Shelves.{ShelfState}
+use Rattle.la_journal.specs.Disk.{LeavesOnly}
+use Rattle.la_journal.specs.Durable.{IsSameOr}
 use Rattle.la_journal.specs.Lines.{lines}
 use Rattle.la_journal.specs.Journal.{IsDamaged}
 use Rattle.la_node.specs.declared.error.WorldError.TheVariants as world
@@ -18,58 +20,62 @@ use Rattle.la_serve.specs.Crashes.{at_start, LeftBy}
 use Rattle.la_replica.specs.ReplicaState.{ReplicaState}
 
 -- where the journal leads the lines of an input were taken, all of them
-pub record RunsAll {D R W E : Type 0} (f : Facts D R W E) (objects : List (ℕ × Kind)) (options : Options) (disk : D)
-    (old new : Streams R W E) : Type 0 where
+pub record RunsAll {D R W E : Type 0} (f : Facts D R W E) (objects : List (ℕ × Kind)) (options : Options)
+    (disk final : D) (old new : Streams R W E) : Type 0 where
   pub before : ReplicaState
   pub plays : leads_from (at_start options.config options.own) (f.seen disk) ≡ Some before
   pub journal : List (List ℕ)
   pub now : ReplicaState
-  pub serves : ServesAll (TellsAll f.heard f.refuses old.errors new.errors) (LeftBy f options disk before)
+  pub serves : ServesAll (TellsAll f.heard f.refuses old.errors new.errors)
+      (LeftBy f options disk final before old.given new.given)
       (io_with f old objects before (lines (f.seen disk))) (io_with f new objects now journal)
 
 -- or some of them
-pub record RunsCut {D R W E : Type 0} (f : Facts D R W E) (objects : List (ℕ × Kind)) (options : Options) (disk : D)
-    (old new : Streams R W E) (why : NodeFault) : Type 0 where
+pub record RunsCut {D R W E : Type 0} (f : Facts D R W E) (objects : List (ℕ × Kind)) (options : Options)
+    (disk final : D) (old new : Streams R W E) (why : NodeFault) : Type 0 where
   pub before : ReplicaState
   pub plays : leads_from (at_start options.config options.own) (f.seen disk) ≡ Some before
   pub journal : List (List ℕ)
   pub now : ReplicaState
-  pub stops : IsServeRefusal (TellsAll f.heard f.refuses old.errors new.errors) (LeftBy f options disk before)
+  pub stops : IsServeRefusal (TellsAll f.heard f.refuses old.errors new.errors)
+      (LeftBy f options disk final before old.given new.given)
       (io_with f old objects before (lines (f.seen disk))) (io_with f new objects now journal) why
 
--- nothing was read, written or told
-pub record RunsNot {D R W E : Type 0} (f : Facts D R W E) (old new : Streams R W E) : Type 0 where
+-- nothing was read, written or told, and a crash leaves what might have been left before, or the same lines
+pub record RunsNot {D R W E : Type 0} (f : Facts D R W E) (disk final : D) (old new : Streams R W E) : Type 0 where
   pub unread : f.remaining new.input ≡ f.remaining old.input
   pub unwritten : f.contents new.output ≡ f.contents old.output
+  pub ungiven : new.given ≡ old.given
   pub untold : TellsAll f.heard f.refuses old.errors new.errors []
+  pub left : LeavesOnly f.moment f.left_since disk final (IsSameOr (f.may_leave disk) (lines (f.seen disk)))
 
 -- the journal leads nowhere, or is damaged behind where it leads
 abbrev pub IsUnplayable : Options → (file : List ℕ) → Type 0
 IsUnplayable options file = (leads_from (at_start options.config options.own) file ≡ None) ⊎ IsDamaged file
 
 abbrev pub IsServerStartRefusal : {D R W E : Type 0} → Facts D R W E → (objects : List (ℕ × Kind)) → Options
-    → (disk : D)
+    → (disk final : D)
     → (old new : Streams R W E) → NodeFault → Type 0
-IsServerStartRefusal f objects options disk old new fault.BadConfig =
-    RunsNot f old new × (IsStartRefusal options.config options.own empty_shelf world.BadConfig
+IsServerStartRefusal f objects options disk final old new fault.BadConfig =
+    RunsNot f disk final old new × (IsStartRefusal options.config options.own empty_shelf world.BadConfig
     ⊎ IsStartRefusal options.config options.own empty_shelf world.NoSuchReplica)
-IsServerStartRefusal f objects options disk old new fault.BadJournal =
-    RunsNot f old new × IsUnplayable options (f.seen disk)
-IsServerStartRefusal f objects options disk old new why =
-    RunsNot f old new ⊎ RunsCut f objects options disk old new why
+IsServerStartRefusal f objects options disk final old new fault.BadJournal =
+    RunsNot f disk final old new × IsUnplayable options (f.seen disk)
+IsServerStartRefusal f objects options disk final old new why =
+    RunsNot f disk final old new ⊎ RunsCut f objects options disk final old new why
 
 -- ## By what the traits state
 
 abbrev pub Runs : {D R W E : Type 0} (seen : D → List ℕ) (may_leave : D → List ℕ → Type 0) (moment : D → ℕ)
     (left_since : D → ℕ → List ℕ → Type 0) (remaining : R → Option (List ℕ)) (contents : W → Option (List ℕ))
     (heard : E → Option (List ℕ)) (refuses : E → List ℕ → E → Type 0)
-    → ShelfState → Options → (disk : D) → (old new : Streams R W E) → Type 0
+    → ShelfState → Options → (disk final : D) → (old new : Streams R W E) → Type 0
 Runs seen may_leave moment left_since remaining contents heard refuses shelf =
     RunsAll (facts seen may_leave moment left_since remaining contents heard refuses) shelf.objects
 
 abbrev pub Stops : {D R W E : Type 0} (seen : D → List ℕ) (may_leave : D → List ℕ → Type 0) (moment : D → ℕ)
     (left_since : D → ℕ → List ℕ → Type 0) (remaining : R → Option (List ℕ)) (contents : W → Option (List ℕ))
     (heard : E → Option (List ℕ)) (refuses : E → List ℕ → E → Type 0)
-    → ShelfState → Options → (disk : D) → (old new : Streams R W E) → NodeFault → Type 0
+    → ShelfState → Options → (disk final : D) → (old new : Streams R W E) → NodeFault → Type 0
 Stops seen may_leave moment left_since remaining contents heard refuses shelf =
     IsServerStartRefusal (facts seen may_leave moment left_since remaining contents heard refuses) shelf.objects

@@ -6,10 +6,13 @@
 #![tactic(auto)]
 
 mod answering;
+mod ended;
 mod error;
 mod keeping;
+pub mod laws;
 mod names;
 mod options;
+mod output;
 mod said;
 mod server;
 mod serving;
@@ -17,8 +20,10 @@ mod shelf;
 mod starting;
 mod texts;
 
+pub use ended::Ended;
 pub use error::NodeFault;
 pub use options::{Options, command};
+pub use output::Output;
 pub use server::Server;
 pub use serving::serve;
 pub use starting::{end_with, run};

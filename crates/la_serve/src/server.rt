@@ -1,5 +1,7 @@
+ghost use Rattle.std.specs.Prelude.{◌≡◌};
+
 use la_durable::NodeMachine;
-use la_journal::{Disk, Staged};
+use la_journal::{Disk, Durable, Staged};
 use la_object::{Replicated, Shelf};
 
 /// A node with its journal, and a shelf of objects that answer by its view. What the shelf has absorbed
@@ -8,4 +10,16 @@ use la_object::{Replicated, Shelf};
 pub struct Server<D: Disk, B: Replicated> {
     pub node: Staged<NodeMachine, D>,
     pub shelf: Shelf<B>,
+}
+
+impl<D: Disk, B: Replicated> Server<D, B> {
+    /// The journal's disk, which outlives the node.
+    pub fn into_disk(self) -> D
+        ensures { result ≡ self.node.durable.disk }
+    {
+        let Server { node, .. } = self;
+        let Staged { durable, .. } = node;
+        let Durable { disk, .. } = durable;
+        disk
+    }
 }

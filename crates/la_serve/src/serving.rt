@@ -2,14 +2,14 @@ ghost use Rattle.std.specs.Prelude.{◌≡◌, [], true, false, IfOk, IfErr, OnO
 ghost use Rattle.std.specs.Io.KnownBytes.{IsAtEnd};
 ghost use Rattle.la_journal.specs.Durable.{IsSettled};
 ghost use Rattle.la_io.specs.Sources.{ahead, has_line};
-ghost use Rattle.la_serve.specs.Io.{TakesLines, OnlyStages, step_at, held_at, io};
+ghost use Rattle.la_serve.specs.Io.{TakesLines, OnlyStages, step_at, waiting, io};
 ghost use Rattle.la_serve.specs.Serving.{StepsOn, StopsOn, of_step};
 ghost use Rattle.la_serve.specs.Crashes.{CommitsSome, Flushes, FlushesOrNot, FlushesNot, ServesLines, Ceases};
 
 use crate::answering::answer;
-use crate::{NodeFault, Server};
+use crate::{NodeFault, Output, Server};
 use la_durable::NodeMachine;
-use la_io::{Listener, Next, Source, write_lines};
+use la_io::{Listener, Next, Source};
 use la_journal::{Disk, Uncommitted, laws};
 use la_object::Replicated;
 use la_wire::{LineFault, tell_fault};
@@ -53,15 +53,19 @@ fn step<R: Read, E: Listener, D: Disk, B: Replicated>(
 }
 
 // Puts what was staged on the disk, and then writes what was held back.
-fn flush<W: Write, D: Disk, B: Replicated>(
+fn flush<W: Write + Drop, D: Disk, B: Replicated>(
     server: &mut Server<D, B>,
     held: &mut Vec<u8>,
-    output: &mut W,
+    output: &mut Output<W>,
 ) -> Result<(), NodeFault>
     requires settled { IsSettled D.seen D.may_leave server.old.node.durable.disk }
     requires unclosed { server.old.node.durable.closed ≡ false }
-    ensures ok { OnOk result (Flushes D.seen D.may_leave D.moment D.left_since W.contents (held_at output.old held.old.items server.old) (held_at output.new held.new.items server.new)) }
-    ensures err { IfErr result (FlushesNot D.seen D.may_leave W.contents (held_at output.old held.old.items server.old) (held_at output.new held.new.items server.new)) }
+    ensures ok { OnOk result (Flushes D.seen D.may_leave D.moment D.left_since
+        (waiting (W.contents output.old.writer) output.old.given.texts held.old.items server.old)
+        (waiting (W.contents output.new.writer) output.new.given.texts held.new.items server.new)) }
+    ensures err { IfErr result (FlushesNot D.seen D.may_leave D.moment
+        (waiting (W.contents output.old.writer) output.old.given.texts held.old.items server.old)
+        (waiting (W.contents output.new.writer) output.new.given.texts held.new.items server.new)) }
     ensures any_moment { CommitsSome D.seen D.moment D.left_since server.old.node.text.items server.old.node.durable.disk server.new.node.durable.disk }
     ensures settled { server.new.node.durable.closed ≡ false → IsSettled D.seen D.may_leave server.new.node.durable.disk }
     ensures unclosed { OnOk result (server.new.node.durable.closed ≡ false) }
@@ -69,7 +73,7 @@ fn flush<W: Write, D: Disk, B: Replicated>(
 {
     match server.node.commit() {
         Ok(()) => {
-            write_lines(output, held)?;
+            output.give(&server.node.durable.disk, held)?;
             held.clear();
             Ok(())
         }
@@ -79,16 +83,20 @@ fn flush<W: Write, D: Disk, B: Replicated>(
 }
 
 // The same, where the next line has still to be read, so that no answer waits for that.
-fn prepare<W: Write, D: Disk, B: Replicated>(
+fn prepare<W: Write + Drop, D: Disk, B: Replicated>(
     source: &Source,
     server: &mut Server<D, B>,
     held: &mut Vec<u8>,
-    output: &mut W,
+    output: &mut Output<W>,
 ) -> Result<(), NodeFault>
     requires settled { IsSettled D.seen D.may_leave server.old.node.durable.disk }
     requires unclosed { server.old.node.durable.closed ≡ false }
-    ensures ok { OnOk result (FlushesOrNot D.seen D.may_leave D.moment D.left_since W.contents (held_at output.old held.old.items server.old) (held_at output.new held.new.items server.new)) }
-    ensures err { IfErr result (FlushesNot D.seen D.may_leave W.contents (held_at output.old held.old.items server.old) (held_at output.new held.new.items server.new)) }
+    ensures ok { OnOk result (FlushesOrNot D.seen D.may_leave D.moment D.left_since
+        (waiting (W.contents output.old.writer) output.old.given.texts held.old.items server.old)
+        (waiting (W.contents output.new.writer) output.new.given.texts held.new.items server.new)) }
+    ensures err { IfErr result (FlushesNot D.seen D.may_leave D.moment
+        (waiting (W.contents output.old.writer) output.old.given.texts held.old.items server.old)
+        (waiting (W.contents output.new.writer) output.new.given.texts held.new.items server.new)) }
     ensures any_moment { OnErr result (CommitsSome D.seen D.moment D.left_since server.old.node.text.items server.old.node.durable.disk server.new.node.durable.disk) }
     ensures settled { server.new.node.durable.closed ≡ false → IsSettled D.seen D.may_leave server.new.node.durable.disk }
     ensures unclosed { OnOk result (server.new.node.durable.closed ≡ false) }
@@ -113,25 +121,30 @@ fn of_step(fault: NodeFault) -> NodeFault
 
 /// Takes the lines of an input as they come, until its end. What follows the last line's end is no line: it
 /// is told as `BadLine`. What is written is exactly what they come to, one write a line, and of a call that is kept
-/// only once its line is on the disk: all calls that one read brought are put there together. What faults are
-/// told may find no taker, and then it goes on.
+/// only once its line is on the disk: all calls that one read brought are put there together. A crash at any moment
+/// from when a text was given out leaves a journal that has all calls that were kept up to it. What faults are told may
+/// find no taker, and then it goes on.
 ///
 /// `ReadFault` comes at the first read that fails, and after 2^64-2 lines; `WriteFault` at a write that
 /// fails, where a front of the text is out, and all lines are in the journal; `Memory` where a line, what is written
 /// of it or the journal finds no room; `DiskFault` where the disk fails. After these two nothing may have gone out
 /// of the last calls, and the journal is to be recovered.
-pub fn serve<R: Read, W: Write, E: Listener, D: Disk, B: Replicated>(
+pub fn serve<R: Read, W: Write + Drop, E: Listener, D: Disk, B: Replicated>(
     alloc: Global,
     server: &mut Server<D, B>,
     input: &mut R,
-    out: &mut W,
+    out: &mut Output<W>,
     errors: &mut E,
 ) -> Result<(), NodeFault>
     requires settled { IsSettled D.seen D.may_leave server.old.node.durable.disk }
     requires takes { TakesLines server.old }
     requires unstaged { server.old.node.text.items ≡ [] }
-    ensures ok { OnOk result (ServesLines D.seen D.may_leave D.moment D.left_since R.remaining W.contents E.contents E.refuses (io input.old out.old errors.old) (io input.new out.new errors.new) server.old server.new) }
-    ensures err { IfErr result (Ceases D.seen D.may_leave D.moment D.left_since R.remaining W.contents E.contents E.refuses (io input.old out.old errors.old) (io input.new out.new errors.new) server.old server.new) }
+    ensures ok { OnOk result (ServesLines D.seen D.may_leave D.moment D.left_since R.remaining W.contents E.contents E.refuses
+        (io input.old out.old.writer out.old.given.texts errors.old)
+        (io input.new out.new.writer out.new.given.texts errors.new) server.old server.new) }
+    ensures err { IfErr result (Ceases D.seen D.may_leave D.moment D.left_since R.remaining W.contents E.contents E.refuses
+        (io input.old out.old.writer out.old.given.texts errors.old)
+        (io input.new out.new.writer out.new.given.texts errors.new) server.old server.new) }
     ensures settled { server.new.node.durable.closed ≡ false → IsSettled D.seen D.may_leave server.new.node.durable.disk }
     ensures unclosed { OnOk result (server.new.node.durable.closed ≡ false) }
 {

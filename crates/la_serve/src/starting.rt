@@ -13,7 +13,7 @@ ghost use Rattle.la_serve.specs.Starting.{Runs, Stops};
 use crate::names::end_name;
 use crate::serving::serve;
 use crate::shelf::shelf_of;
-use crate::{NodeFault, Options, Server};
+use crate::{Ended, NodeFault, Options, Output, Server};
 use arrayvec::ArrayString;
 use la_durable::{NodeError, NodeMachine};
 use la_io::{Listener, tell_all};
@@ -64,24 +64,30 @@ fn fault_of(why: Unplayed<NodeError>) -> NodeFault
     }
 }
 
-// The node, until its input ends.
-fn start<R: Read, W: Write, E: Listener, D: Disk, B: Replicated>(
+// The node, until its input ends, and the disk then.
+fn start<R: Read, W: Write + Drop, E: Listener, D: Disk, B: Replicated>(
     alloc: Global,
     options: &Options,
     shelf: Shelf<B>,
     disk: D,
     input: &mut R,
-    out: &mut W,
+    out: &mut Output<W>,
     errors: &mut E,
-) -> Result<(), NodeFault>
+) -> (Result<(), NodeFault>, D)
     requires { shelf.view ≡ empty }
-    ensures ok { OnOk result (Runs D.seen D.may_leave D.moment D.left_since R.remaining W.contents E.contents E.refuses shelf options.now disk (io input.old out.old errors.old) (io input.new out.new errors.new)) }
-    ensures err { IfErr result (Stops D.seen D.may_leave D.moment D.left_since R.remaining W.contents E.contents E.refuses shelf options.now disk (io input.old out.old errors.old) (io input.new out.new errors.new)) }
+    ensures ok { OnOk result.0 (Runs D.seen D.may_leave D.moment D.left_since R.remaining W.contents E.contents E.refuses
+        shelf options.now disk result.1
+        (io input.old out.old.writer out.old.given.texts errors.old)
+        (io input.new out.new.writer out.new.given.texts errors.new)) }
+    ensures err { IfErr result.0 (Stops D.seen D.may_leave D.moment D.left_since R.remaining W.contents E.contents E.refuses
+        shelf options.now disk result.1
+        (io input.old out.old.writer out.old.given.texts errors.old)
+        (io input.new out.new.writer out.new.given.texts errors.new)) }
 {
     let machine = match NodeMachine::new(alloc, options.config, options.own) {
         Ok(machine) => machine,
-        Err(WorldError::Memory) => return Err(NodeFault::Memory),
-        Err(_) => return Err(NodeFault::BadConfig),
+        Err(WorldError::Memory) => return (Err(NodeFault::Memory), disk),
+        Err(_) => return (Err(NodeFault::BadConfig), disk),
     };
     match recover(alloc, machine, disk) {
         Ok(durable) => {
@@ -89,9 +95,10 @@ fn start<R: Read, W: Write, E: Listener, D: Disk, B: Replicated>(
                 node: Staged::new(alloc, durable),
                 shelf,
             };
-            serve(alloc, &mut server, input, out, errors)
+            let served = serve(alloc, &mut server, input, out, errors);
+            (served, server.into_disk())
         }
-        Err((why, _disk)) => Err(fault_of(why)),
+        Err((why, disk)) => (Err(fault_of(why)), disk),
     }
 }
 
@@ -105,10 +112,10 @@ fn three<B: Replicated>(counter: B, register: B, set: B) -> (B, B, B)
     (counter, register, set)
 }
 
-// The node with objects that are made for it, until its input ends: its exit status.
+// The node with objects that are made for it, until its input ends.
 fn run_with<
     R: Read,
-    W: Write,
+    W: Write + Drop,
     E: Listener,
     D: Disk,
     B: Replicated,
@@ -118,40 +125,58 @@ fn run_with<
     options: &Options,
     disk: D,
     input: &mut R,
-    output: &mut W,
+    output: &mut Output<W>,
     errors: &mut E,
     make: F,
-) -> u8
+) -> Ended<D>
     requires callable { F.pre make }
     requires made { (made : _) → F.post make made
         → IfOk made (λ o. AreAtStart B.state o.0 o.1 o.2) }
     ensures { ServerEnds D.seen D.may_leave D.moment D.left_since R.remaining W.contents E.contents E.refuses
-        options.now disk (io input.old output.old errors.old) (io input.new output.new errors.new) result }
+        options.now disk (io input.old output.old.writer output.old.given.texts errors.old)
+        (io input.new output.new.writer output.new.given.texts errors.new) result }
 {
     let Ok((counter, register, set)) = make() else {
-        return end_with(NodeFault::Memory, errors);
+        return ended(NodeFault::Memory, disk, errors);
     };
     let Ok(shelf) = shelf_of(alloc, counter, register, set) else {
-        return end_with(NodeFault::Memory, errors);
+        return ended(NodeFault::Memory, disk, errors);
     };
     match start(alloc, options, shelf, disk, input, output, errors) {
-        Ok(()) => 0,
-        Err(fault) => end_with(fault, errors),
+        (Ok(()), disk) => Ended { status: 0, disk },
+        (Err(fault), disk) => ended(fault, disk, errors),
     }
 }
 
-/// The command over any streams and any journal: its exit status. Its shelf has a counter under 1, a max register under 2
-/// and an observed-remove set under 3.
-pub fn run<R: Read, W: Write, E: Listener, D: Disk>(
+// The end by a fault, which is told.
+fn ended<E: Listener, D: Drop>(fault: NodeFault, disk: D, errors: &mut E) -> Ended<D>
+    ensures status { result.status ≡ node_status fault }
+    ensures disk { result.disk ≡ disk }
+    ensures told { TellsLine E.contents E.refuses errors.old errors.new (end_line fault) }
+{
+    Ended {
+        status: end_with(fault, errors),
+        disk,
+    }
+}
+
+/// The command over any streams and any journal: its exit status, and what became of the disk. Its shelf has a counter
+/// under 1, a max register under 2 and an observed-remove set under 3.
+///
+/// A crash at any moment from when a text was given out leaves a journal that has all calls that were kept up to it
+/// (`keeps` of `Leaves`, in `specs/Crashes`): whoever starts there goes on from what was written
+/// ([`laws`](crate::laws)).
+pub fn run<R: Read, W: Write + Drop, E: Listener, D: Disk>(
     alloc: Global,
     options: &Options,
     disk: D,
     input: &mut R,
-    output: &mut W,
+    output: &mut Output<W>,
     errors: &mut E,
-) -> u8
+) -> Ended<D>
     ensures { ServerEnds D.seen D.may_leave D.moment D.left_since R.remaining W.contents E.contents E.refuses
-        options.now disk (io input.old output.old errors.old) (io input.new output.new errors.new) result }
+        options.now disk (io input.old output.old.writer output.old.given.texts errors.old)
+        (io input.new output.new.writer output.new.given.texts errors.new) result }
 {
     let make = || -> Result<
         (

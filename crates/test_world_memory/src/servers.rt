@@ -14,7 +14,7 @@ use la_node::Config;
 use la_object::Shelf;
 use la_orset::OrSet;
 use la_proposer::Votes;
-use la_serve::{NodeFault, Options, Server, command, run, serve};
+use la_serve::{NodeFault, Options, Output, Server, command, run, serve};
 use la_set::UpdateSet;
 use std::alloc::Global;
 use std::io;
@@ -150,14 +150,17 @@ fn serve_line<D: Disk>(
     requires unstaged { server.old.node.text.items ≡ [] }
     requires within { IsSubset server.old.shelf.view server.old.node.durable.machine.node.replica.view }
 {
-    let Ok(mut output) = Vec::with_capacity(alloc, 400) else {
+    let Ok(room) = Vec::with_capacity(alloc, 400) else {
         return Served::Stopped;
     };
+    let mut output = Output::new(room);
     let mut input = line.as_bytes();
-    match serve(alloc, server, &mut input, &mut output, &mut io::sink()) {
-        Ok(()) if output.as_slice() == text.as_bytes() => Served::Well,
-        Ok(()) if output.as_slice() == REFUSED.as_bytes() => Served::Noted,
-        Err(NodeFault::Memory) if text.as_bytes().starts_with(output.as_slice()) => Served::Stopped,
+    let served = serve(alloc, server, &mut input, &mut output, &mut io::sink());
+    let written = output.writer.as_slice();
+    match served {
+        Ok(()) if written == text.as_bytes() => Served::Well,
+        Ok(()) if written == REFUSED.as_bytes() => Served::Noted,
+        Err(NodeFault::Memory) if text.as_bytes().starts_with(written) => Served::Stopped,
         Ok(()) | Err(_) => Served::Wrong,
     }
 }
@@ -259,15 +262,17 @@ fn runs(alloc: Global) -> Came {
         folder: String::new(alloc),
     };
     let disk = disk_of(alloc, ROUND.as_bytes())?;
-    let mut output = room(alloc)?;
+    let mut output = Output::new(room(alloc)?);
     let mut told = Told {
         bytes: room(alloc)?,
     };
     let mut input = b"ask 0 3 items\n".as_slice();
-    match run(alloc, &options, disk, &mut input, &mut output, &mut told) {
-        0 if output.as_slice() == ANSWER.as_bytes() => Some(told.bytes.is_empty()),
-        0 => refused(output.as_slice() == REFUSED.as_bytes() && told.bytes.is_empty()),
-        3 => refused(is_memory(&output, &told.bytes)),
+    let ended = run(alloc, &options, disk, &mut input, &mut output, &mut told);
+    let written = output.writer.as_slice();
+    match ended.status {
+        0 if written == ANSWER.as_bytes() => Some(told.bytes.is_empty()),
+        0 => refused(written == REFUSED.as_bytes() && told.bytes.is_empty()),
+        3 => refused(is_memory(written, &told.bytes)),
         _ => Some(false),
     }
 }

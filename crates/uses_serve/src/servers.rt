@@ -6,7 +6,7 @@ ghost use Rattle.uses_serve.specs.Serving.{IsServed};
 
 use la_journal::Disk;
 use la_object::Replicated;
-use la_serve::{NodeFault, Server, serve};
+use la_serve::{NodeFault, Output, Server, serve};
 use std::alloc::Global;
 use std::io;
 
@@ -21,8 +21,8 @@ pub fn serve_batch<D: Disk, B: Replicated>(
     requires unstaged { server.old.node.text.items ≡ [] }
     ensures { IfOk result (λ text. IsServed D.seen server.old server.new batch.now text.items) }
 {
-    let mut output = Vec::new(alloc);
+    let mut output = Output::new(Vec::new(alloc));
     let mut input = batch;
     serve(alloc, server, &mut input, &mut output, &mut io::sink())?;
-    Ok(output)
+    Ok(output.writer)
 }

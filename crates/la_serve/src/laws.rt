@@ -1,0 +1,22 @@
+//! What holds of nodes that are killed at any moment, by power or by force: laws that no code runs.
+ghost use Rattle.la_serve.specs.Lives.{KilledNodesGoOn, NodeLivesAreOneRun};
+
+use la_durable::NodeMachine;
+use la_journal::Disk;
+
+/// A node that is killed goes on from what it gave out last: whatever a crash left from then on, the node that is
+/// started again on it is where the first some of the calls lead that the dead one kept since. So its group is live with
+/// it, by [`la_durable::laws::restarts_take_calls`]: to the others it is a node that lost some of its mail. `left` is
+/// the clause of [`serve`](crate::serve) and [`run`](crate::run) on what a run leaves.
+pub fn killed_nodes_go_on<D: Disk>()
+    ensures { KilledNodesGoOn D.seen D.may_leave D.moment D.left_since }
+{}
+
+/// Whatever was given out by any life of a node, at whatever moments its lives ended, came of the lines of one run that
+/// never ended: the last file leads where one list of lines leads that has all that any life answered, none in part.
+pub fn node_lives_are_one_run<D: Disk>()
+    ensures { NodeLivesAreOneRun D.seen D.may_leave D.moment D.left_since }
+{
+    // a hint to the prover: of any machine
+    la_journal::laws::lives_are_one_run::<NodeMachine>();
+}
