@@ -18,6 +18,7 @@ mod contents;
 mod disk;
 mod durable;
 mod group;
+mod happened;
 mod holding;
 pub mod laws;
 mod machine;
@@ -31,7 +32,7 @@ mod starts;
 
 pub use compaction::Uncompacted;
 pub use contents::Contents;
-pub use disk::{Disk, DiskError, DiskFault};
+pub use disk::{Disk, DiskFault};
 pub use durable::{Durable, Refused};
 pub use machine::{Machine, Snapshot};
 pub use memory_disk::MemoryDisk;
