@@ -1,27 +1,9 @@
 -- How what a crash may leave goes on.
-use Rattle.std.proofs.Common.{◌≡◌, ◌⊎◌, inl, inr, ⊎_elim, ℕ, zero, suc, ◌<◌, ◌≤◌, List, [], ◌∷◌, ◌++◌, length, take, drop, refl, sym, ◌∙◌, ap, subst, arith, append_assoc, take-append-drop}
+use Rattle.std.proofs.Common.{◌≡◌, inl, inr, ℕ, zero, suc, ◌<◌, ◌≤◌, List, [], ◌∷◌, ◌++◌, length, take, drop, refl, sym, ◌∙◌, ap, subst, arith, append_assoc, take-append-drop}
 use Rattle.std.proofs.lemmas.List.{append-nil, take_all, drop_all}
-use Rattle.la_journal.specs.Disk.{IsTorn, Torn, Elapses}
-use Rattle.la_journal.specs.Note.{Moment, bytes_in, kept_in, grown, stored, now_of}
-use Rattle.la_journal.specs.Outcomes.{LeftOf, LeftAt, LeftSince}
-
--- no time
-pub stays : (past : List Moment)
-    → Elapses (length past) (length past) (LeftSince past) (LeftSince past) (LeftAt (now_of past))
-stays past = record { later = omega arith; nothing_else = λ t c le left. inl left; keeps = λ t c le left. left }
-
--- a moment more
-pub notes : (past : List Moment) (m : Moment)
-    → Elapses (length past) (length (m ∷ past)) (LeftSince past) (LeftSince (m ∷ past)) (LeftAt m)
-notes past m = record {
-  later = omega arith;
-  nothing_else = λ t c le left. was t c left;
-  keeps = λ t c le left. inr left;
-}
-  where
-    was : (t : ℕ) (c : List ℕ) → LeftSince (m ∷ past) t c → LeftSince past t c ⊎ LeftAt m c
-    was t c (inl now) = inr now.1
-    was t c (inr had) = inl had
+use Rattle.la_journal.specs.Disk.{IsTorn, Torn}
+use Rattle.la_journal.specs.Note.{Moment, bytes_in, kept_in, grown, stored}
+use Rattle.la_journal.specs.Outcomes.{LeftOf, LeftAt}
 
 pub record Split (xs ys torn : List ℕ) : Type 0 where
   pub front : List ℕ
@@ -103,19 +85,6 @@ grown_left more [] c left = absurd left
 grown_left more (e ∷ rest) c (inl this) = let d = appends_any e.kept e.bytes more c this in (d.0, inl d.1, d.2)
 grown_left more (e ∷ rest) c (inr other) = let d = grown_left more rest c other in (d.0, inr d.1, d.2)
 
--- the bytes are put behind those of the file too
-pub grown_bytes : (more : List ℕ) (m : Moment) → 0 < length m → bytes_in (grown more m) ≡ bytes_in m ++ more
-grown_bytes more [] there = absurd (omega (arith, there))
-grown_bytes more (e ∷ rest) there = refl
-
-pub grown_kept : (more : List ℕ) (m : Moment) → kept_in (grown more m) ≡ kept_in m
-grown_kept more [] = refl
-grown_kept more (e ∷ rest) = refl
-
-pub grown_there : (more : List ℕ) (m : Moment) → 0 < length m → 0 < length (grown more m)
-grown_there more [] there = there
-grown_there more (e ∷ rest) there = omega arith
-
 -- what the file has may be left
 pub held_left : (m : Moment) (c : List ℕ) → 0 < length m → LeftOf (kept_in m) (bytes_in m) c → LeftAt m c
 held_left [] c there left = absurd (omega (arith, there))
@@ -125,16 +94,3 @@ held_left (e ∷ rest) c there left = inl left
 pub stored_alone : (bytes c : List ℕ) → LeftAt (stored bytes) c → c ≡ bytes
 stored_alone bytes c (inl this) = all_kept (length bytes) bytes (omega arith) c this
 stored_alone bytes c (inr none) = absurd none
-
--- one call after another, of which the second leaves what the first did
-pub elapses_on : (a b d : ℕ) (past mid since : ℕ → List ℕ → Type 0) (may may_then : List ℕ → Type 0)
-    → Elapses a b past mid may → Elapses b d mid since may_then → ((c : List ℕ) → may c → may_then c)
-    → Elapses a d past since may_then
-elapses_on a b d past mid since may may_then first second same = record {
-  later = omega (arith, first.later, second.later);
-  nothing_else =
-      λ t c le left.
-      ⊎_elim (λ was. ⊎_elim (λ l. inl l) (λ now. inr (same c now)) (first.nothing_else t c le was)) (λ now. inr now)
-      (second.nothing_else t c (omega (arith, le, first.later)) left);
-  keeps = λ t c le left. second.keeps t c (omega (arith, le, first.later)) (first.keeps t c le left);
-}

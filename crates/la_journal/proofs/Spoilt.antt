@@ -1,7 +1,7 @@
 -- What a crash leaves by marks is what a crash may leave.
 use Rattle.std.proofs.Common.{◌≡◌, ◌⊎◌, inl, inr, ⊎_elim, ℕ, ◌+◌, ◌<◌, ◌≤◌, List, [], ◌∷◌, ◌++◌, length, take, drop, get_or, min, refl, sym, ◌∙◌, ap, subst, arith, append_assoc}
 use Rattle.std.specs.Prelude.{Bool, true, false, if◌then◌else◌}
-use Rattle.std.proofs.lemmas.List.{take_at, drop_at, drop_all, drop_more, length-append}
+use Rattle.std.proofs.lemmas.List.{take_at, drop_at, drop_all, drop_more}
 use Rattle.la_journal.specs.Disk.{IsTorn}
 use Rattle.la_journal.specs.Note.{Moment, now_of, bytes_in, kept_in}
 use Rattle.la_journal.specs.Outcomes.{spoilt_by, left_by, LeftOf, LeftAt}
@@ -38,11 +38,6 @@ left_again marks kept bytes c le left =
           (subst (λ (l : List ℕ). IsTorn l left.0) (drop_at front rest kept (sym long)) left.1),
       left.2 ∙ ap (λ (l : List ℕ). l ++ left.0) (take_at front rest kept (sym long)),
     )
-
-pub still_within : (marks : List Bool) (kept : ℕ) (bytes : List ℕ) → kept ≤ length bytes
-    → kept ≤ length (left_by marks kept bytes)
-still_within marks kept bytes le =
-    omega (arith, long_take kept bytes le, length-append (take kept bytes) (spoilt_by marks (drop kept bytes)))
 
 -- what another process finds, and may leave until it syncs
 module _ (past : List Moment) (there : 0 < length (now_of past)) (marks : List Bool) where
