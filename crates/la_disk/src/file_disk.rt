@@ -32,7 +32,7 @@ impl<R: Files + Drop> FileDisk<R> {
     /// is among that, and that until the first sync or replacement a crash leaves that or what was read, is
     /// the premise `IsStart` of whoever starts on it.
     pub fn open(rt: R, alloc: Global, lock: FolderLock) -> io::Result<(FileDisk<R>, Vec<u8>)>
-        ensures { IfOk result (λ opened. held_bytes opened.0.contents ≡ opened.1.items) }
+        ensures { IfOk result (λ opened. ⟦<FileDisk<R> as Disk>⟧.seen opened.0 ≡ opened.1.items) }
     {
         let path = path_of(alloc, lock.folder(), "/journal")?;
         let mut file = OpenOptions::new()
