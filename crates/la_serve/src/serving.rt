@@ -73,7 +73,6 @@ fn flush<W: Write, D: Disk, B: Replicated>(
             held.clear();
             Ok(())
         }
-        Err(Uncommitted::Memory) => Err(NodeFault::Memory),
         Err(Uncommitted::Disk) | Err(Uncommitted::Closed) => Err(NodeFault::DiskFault),
     }
 }
@@ -117,8 +116,8 @@ fn of_step(fault: NodeFault) -> NodeFault
 /// told may find no taker, and then it goes on.
 ///
 /// `ReadFault` comes at the first read that fails, and after 2^64-2 lines; `WriteFault` at a write that
-/// fails, where a front of the text is out, and all lines are in the journal; `Memory` where a line, what is written
-/// of it or the journal finds no room; `DiskFault` where the disk fails. After these two nothing may have gone out
+/// fails, where a front of the text is out, and all lines are in the journal; `Memory` where a line or
+/// what is written of it finds no room; `DiskFault` where the disk fails. After these two nothing may have gone out
 /// of the last calls, and the journal is to be recovered.
 pub fn serve<R: Read, W: Write, E: Listener, D: Disk, B: Replicated>(
     alloc: Global,

@@ -69,12 +69,14 @@ fn start<R: Read, W: Write, E: Listener, D: Disk, B: Replicated>(
     alloc: Global,
     options: &Options,
     shelf: Shelf<B>,
+    found: Vec<u8>,
     disk: D,
     input: &mut R,
     out: &mut W,
     errors: &mut E,
 ) -> Result<(), NodeFault>
-    requires { shelf.view ≡ empty }
+    requires shelf { shelf.view ≡ empty }
+    requires found { D.seen disk ≡ found.items }
     ensures ok { OnOk result (Runs D.seen D.may_leave D.moment D.left_since R.remaining W.contents E.contents E.refuses shelf options.now disk (io input.old out.old errors.old) (io input.new out.new errors.new)) }
     ensures err { IfErr result (Stops D.seen D.may_leave D.moment D.left_since R.remaining W.contents E.contents E.refuses shelf options.now disk (io input.old out.old errors.old) (io input.new out.new errors.new)) }
 {
@@ -83,7 +85,7 @@ fn start<R: Read, W: Write, E: Listener, D: Disk, B: Replicated>(
         Err(WorldError::Memory) => return Err(NodeFault::Memory),
         Err(_) => return Err(NodeFault::BadConfig),
     };
-    match recover(alloc, machine, disk) {
+    match recover(alloc, machine, found, disk) {
         Ok(durable) => {
             let mut server = Server {
                 node: Staged::new(alloc, durable),
@@ -116,12 +118,14 @@ fn run_with<
 >(
     alloc: Global,
     options: &Options,
+    found: Vec<u8>,
     disk: D,
     input: &mut R,
     output: &mut W,
     errors: &mut E,
     make: F,
 ) -> u8
+    requires found { D.seen disk ≡ found.items }
     requires callable { F.pre make }
     requires made { (made : _) → F.post make made
         → IfOk made (λ o. AreAtStart B.state o.0 o.1 o.2) }
@@ -134,22 +138,24 @@ fn run_with<
     let Ok(shelf) = shelf_of(alloc, counter, register, set) else {
         return end_with(NodeFault::Memory, errors);
     };
-    match start(alloc, options, shelf, disk, input, output, errors) {
+    match start(alloc, options, shelf, found, disk, input, output, errors) {
         Ok(()) => 0,
         Err(fault) => end_with(fault, errors),
     }
 }
 
-/// The command over any streams and any journal: its exit status. Its shelf has a counter under 1, a max register under 2
-/// and an observed-remove set under 3.
+/// The command over any streams and any journal, of which the bytes were found: its exit status. Its shelf has a counter
+/// under 1, a max register under 2 and an observed-remove set under 3.
 pub fn run<R: Read, W: Write, E: Listener, D: Disk>(
     alloc: Global,
     options: &Options,
+    found: Vec<u8>,
     disk: D,
     input: &mut R,
     output: &mut W,
     errors: &mut E,
 ) -> u8
+    requires { D.seen disk ≡ found.items }
     ensures { ServerEnds D.seen D.may_leave D.moment D.left_since R.remaining W.contents E.contents E.refuses
         options.now disk (io input.old output.old errors.old) (io input.new output.new errors.new) result }
 {
@@ -168,5 +174,5 @@ pub fn run<R: Read, W: Write, E: Listener, D: Disk>(
         let set: Box<dyn Replicated + Send> = Box::new(alloc, OrSet::new(alloc))?;
         Ok(three(counter, register, set))
     };
-    run_with(alloc, options, disk, input, output, errors, make)
+    run_with(alloc, options, found, disk, input, output, errors, make)
 }
