@@ -1,22 +1,21 @@
 // A real file as a disk.
-ghost use Rattle.std.specs.Prelude.{◌≡◌};
-ghost use Rattle.la_journal.specs.Held.{held_bytes, room_of, faults_of, moment_of, may_leave_of, left_since_of, only_now_of, counts_now_of};
+ghost use Rattle.std.specs.Prelude.{◌≡◌, IfOk};
+ghost use Rattle.la_journal.specs.Held.{held_bytes, faults_of, moment_of, may_leave_of, left_since_of, only_now_of, counts_now_of};
 
 use crate::FolderLock;
 use crate::folder_lock::path_of;
-use la_journal::{Contents, Disk, DiskError, DiskFault, Record};
-use std::alloc::{AllocError, Global};
+use la_journal::{Contents, Disk, DiskFault, Record};
+use std::alloc::Global;
 use std::fs::{OpenFile, OpenOptions};
 use std::io::{self, Read, Write};
 use std::rt::Files;
 
-/// The journal of a folder. It holds in memory what the file held and what was put behind it since.
+/// The journal of a folder. It holds none of the file in memory.
 ///
 /// That the file does what this notes is trusted, and is nothing that a contract says.
 #[derive(Drop)]
 pub struct FileDisk<R: Files + Drop> {
     rt: R,
-    alloc: Global,
     file: R::File,
     contents: Contents,
     path: String,
@@ -25,14 +24,16 @@ pub struct FileDisk<R: Files + Drop> {
 }
 
 impl<R: Files + Drop> FileDisk<R> {
-    /// Reads the journal of a folder that this process has, and makes one where there is none. What it
-    /// read need not be on the disk: [`recover`](la_journal::recover) puts it there. Linear in the
-    /// journal.
+    /// Opens the journal of a folder that this process has, and makes one where there is none. What it read of it
+    /// comes beside it, for [`recover`](la_journal::recover): that need not be on the disk, where `recover` puts it.
+    /// Linear in the journal, which is then in memory once.
     ///
     /// What an earlier process may have left is not known here, and no clause says it: that what was read
     /// is among that, and that until the first sync or replacement a crash leaves that or what was read, is
     /// the premise `IsStart` of whoever starts on it.
-    pub fn open(rt: R, alloc: Global, lock: FolderLock) -> io::Result<FileDisk<R>> {
+    pub fn open(rt: R, alloc: Global, lock: FolderLock) -> io::Result<(FileDisk<R>, Vec<u8>)>
+        ensures { IfOk result (λ opened. ⟦<FileDisk<R> as Disk>⟧.seen opened.0 ≡ opened.1.items) }
+    {
         let path = path_of(alloc, lock.folder(), "/journal")?;
         let mut file = OpenOptions::new()
             .read(true)
@@ -40,18 +41,18 @@ impl<R: Files + Drop> FileDisk<R> {
             .create(true)
             .open(&rt, path.as_str())?;
         let next = path_of(alloc, lock.folder(), "/journal.new")?;
-        let mut bytes = Vec::new(alloc);
-        file.read_to_end(&mut bytes)?;
-        let read = bytes.len();
-        Ok(FileDisk {
+        let mut found = Vec::new(alloc);
+        file.read_to_end(&mut found)?;
+        let contents = Contents::found(&found, found.len(), Record::of_another());
+        let disk = FileDisk {
             rt,
-            alloc,
             file,
-            contents: Contents::found(bytes, read, Record::of_another()),
+            contents,
             path,
             next,
             lock,
-        })
+        };
+        Ok((disk, found))
     }
 
     // Writes the bytes into a new file, and puts that in the journal's place.
@@ -82,22 +83,12 @@ impl<R: Files + Drop> Disk for FileDisk<R> {
 
     ghost faults = { λ d. faults_of d.contents };
 
-    ghost room = { λ d. room_of d.contents };
-
     ghost counts_now = { λ d t c le left. counts_now_of d.contents t c le left };
 
     ghost only_now = { λ d c left. only_now_of d.contents c left };
 
-    fn read(&mut self, alloc: Global) -> Result<Vec<u8>, DiskError> {
-        Ok(self.contents.bytes().to_vec(alloc)?)
-    }
-
     fn past(&self) -> &Record {
         self.contents.past()
-    }
-
-    fn reserve(&mut self, more: usize) -> Result<(), AllocError> {
-        self.contents.reserve(more)
     }
 
     fn append(&mut self, bytes: &[u8]) -> Result<(), DiskFault> {
@@ -118,13 +109,12 @@ impl<R: Files + Drop> Disk for FileDisk<R> {
         Ok(())
     }
 
-    fn replace(&mut self, bytes: &[u8]) -> Result<(), DiskError> {
-        let copy = bytes.to_vec(self.alloc)?;
+    fn replace(&mut self, bytes: &[u8]) -> Result<(), DiskFault> {
         if self.put(bytes).is_err() {
             self.contents.fail();
-            return Err(DiskError::Failed);
+            return Err(DiskFault);
         }
-        self.contents.replace(copy);
+        self.contents.replace(bytes);
         Ok(())
     }
 }

@@ -1,27 +1,9 @@
 -- How what a crash may leave goes on.
-use Rattle.std.proofs.Common.{◌≡◌, ◌⊎◌, inl, inr, ⊎_elim, ℕ, zero, suc, ◌≤◌, List, [], ◌∷◌, ◌++◌, length, take, drop, refl, sym, ◌∙◌, ap, subst, arith, append_assoc, take-append-drop}
+use Rattle.std.proofs.Common.{◌≡◌, inl, inr, ℕ, zero, suc, ◌<◌, ◌≤◌, List, [], ◌∷◌, ◌++◌, length, take, drop, refl, sym, ◌∙◌, ap, subst, arith, append_assoc, take-append-drop}
 use Rattle.std.proofs.lemmas.List.{append-nil, take_all, drop_all}
-use Rattle.la_journal.specs.Disk.{IsTorn, Torn, Elapses}
-use Rattle.la_journal.specs.Note.{Moment, grown, now_of, next_of, first_of}
-use Rattle.la_journal.specs.Outcomes.{LeftOf, LeftAt, LeftSince}
-
--- no time
-pub stays : (past : List Moment)
-    → Elapses (length past) (length past) (LeftSince past) (LeftSince past) (LeftAt (now_of past))
-stays past = record { later = omega arith; nothing_else = λ t c le left. inl left; keeps = λ t c le left. left }
-
--- a moment more
-pub notes : (past : List Moment) (m : Moment)
-    → Elapses (length past) (length (m ∷ past)) (LeftSince past) (LeftSince (m ∷ past)) (LeftAt m)
-notes past m = record {
-  later = omega arith;
-  nothing_else = λ t c le left. was t c left;
-  keeps = λ t c le left. inr left;
-}
-  where
-    was : (t : ℕ) (c : List ℕ) → LeftSince (m ∷ past) t c → LeftSince past t c ⊎ LeftAt m c
-    was t c (inl now) = inr now.1
-    was t c (inr had) = inl had
+use Rattle.la_journal.specs.Disk.{IsTorn, Torn}
+use Rattle.la_journal.specs.Note.{Moment, bytes_in, kept_in, grown, stored}
+use Rattle.la_journal.specs.Outcomes.{LeftOf, LeftAt}
 
 pub record Split (xs ys torn : List ℕ) : Type 0 where
   pub front : List ℕ
@@ -59,10 +41,6 @@ appends kept old more within c left =
     ∙ ap (λ (l : List ℕ). take kept old ++ l) parts.whole
     ∙ sym (append_assoc (take kept old) parts.front parts.back) in
     (take kept old ++ parts.front, (parts.front, parts.front_torn, refl), (parts.back, parts.back_torn, is))
-
--- an append that was noted and not made
-pub none_behind : (more d c : List ℕ) → c ≡ d → Torn more d c
-none_behind more d c is = ([], tt, is ∙ sym (append-nil d))
 
 -- all of it on the disk
 pub all_kept : (kept : ℕ) (bytes : List ℕ) → length bytes ≤ kept → (c : List ℕ) → LeftOf kept bytes c → c ≡ bytes
@@ -107,67 +85,12 @@ grown_left more [] c left = absurd left
 grown_left more (e ∷ rest) c (inl this) = let d = appends_any e.kept e.bytes more c this in (d.0, inl d.1, d.2)
 grown_left more (e ∷ rest) c (inr other) = let d = grown_left more rest c other in (d.0, inr d.1, d.2)
 
-abbrev head_of : List ℕ → ℕ
-head_of [] = 0
-head_of (x ∷ xs) = x
+-- what the file has may be left
+pub held_left : (m : Moment) (c : List ℕ) → 0 < length m → LeftOf (kept_in m) (bytes_in m) c → LeftAt m c
+held_left [] c there left = absurd (omega (arith, there))
+held_left (e ∷ rest) c there left = inl left
 
-abbrev rest_of : List ℕ → List ℕ
-rest_of [] = []
-rest_of (x ∷ xs) = xs
-
-pub grown_held : (kept : ℕ) (bytes more : List ℕ) (m : Moment) → first_of m ≡ kept ∷ bytes
-    → first_of (grown more m) ≡ kept ∷ bytes ++ more
-grown_held kept bytes more [] is = absurd (omega (arith, ap length is))
-grown_held kept bytes more (e ∷ rest) is = ap (λ (l : List ℕ). l ++ more) is
-
--- what is held may be left
-pub held_left : (kept : ℕ) (bytes : List ℕ) (m : Moment) (c : List ℕ) → first_of m ≡ kept ∷ bytes → LeftOf kept bytes c
-    → LeftAt m c
-held_left kept bytes [] c is left = absurd (omega (arith, ap length is))
-held_left kept bytes (e ∷ rest) c is left =
-    inl
-    (subst (λ (k : ℕ). LeftOf k e.bytes c) (sym (ap head_of is))
-    (subst (λ (b : List ℕ). LeftOf kept b c) (sym same) left))
-  where
-    same : e.bytes ≡ bytes
-    same = ap rest_of is
-
--- one alone
-pub alone : (kept : ℕ) (bytes c : List ℕ) → length bytes ≤ kept → LeftAt (record { kept = kept; bytes = bytes } ∷ []) c → c ≡ bytes
-alone kept bytes c long (inl this) = all_kept kept bytes long c this
-alone kept bytes c long (inr none) = absurd none
-
--- a moment that is one alone
-pub noted_alone : (past : List Moment) (kept : ℕ) (bytes all c : List ℕ) → bytes ≡ all → length all ≤ kept
-    → (before : List Moment) → past ≡ next_of (kept ∷ []) bytes before → LeftAt (now_of past) c → c ≡ all
-noted_alone past kept bytes all c same long before is left =
-    alone kept bytes c (subst (λ (b : List ℕ). length b ≤ kept) (sym same) long)
-    (subst (λ (p : List Moment). LeftAt (now_of p) c) is left) ∙ same
-
--- or one more
-pub noted_more : (past : List Moment) (kept n : ℕ) (bytes all c : List ℕ) → bytes ≡ all → (before : List Moment)
-    → past ≡ next_of (kept ∷ n ∷ []) bytes before → LeftAt (now_of past) c → LeftOf kept all c ⊎ LeftAt (now_of before) c
-noted_more past kept n bytes all c same before is left =
-    elim (subst (λ (p : List Moment). LeftAt (now_of p) c) is left) [
-      | inl this ↦ inl (subst (λ (b : List ℕ). LeftOf kept b c) same this)
-      | inr was ↦ inr was
-    ]
-
-pub noted_grown : (past : List Moment) (bytes more c : List ℕ) → bytes ≡ more → (before : List Moment)
-    → past ≡ next_of [] bytes before → LeftAt (now_of past) c → (d : List ℕ) × LeftAt (now_of before) d × Torn more d c
-noted_grown past bytes more c same before is left =
-    subst (λ (b : List ℕ). (d : List ℕ) × LeftAt (now_of before) d × Torn b d c) same
-    (grown_left bytes (now_of before) c (subst (λ (p : List Moment). LeftAt (now_of p) c) is left))
-
--- one call after another, of which the second leaves what the first did
-pub elapses_on : (a b d : ℕ) (past mid since : ℕ → List ℕ → Type 0) (may may_then : List ℕ → Type 0)
-    → Elapses a b past mid may → Elapses b d mid since may_then → ((c : List ℕ) → may c → may_then c)
-    → Elapses a d past since may_then
-elapses_on a b d past mid since may may_then first second same = record {
-  later = omega (arith, first.later, second.later);
-  nothing_else =
-      λ t c le left.
-      ⊎_elim (λ was. ⊎_elim (λ l. inl l) (λ now. inr (same c now)) (first.nothing_else t c le was)) (λ now. inr now)
-      (second.nothing_else t c (omega (arith, le, first.later)) left);
-  keeps = λ t c le left. second.keeps t c (omega (arith, le, first.later)) (first.keeps t c le left);
-}
+-- one alone, all of it on the disk
+pub stored_alone : (bytes c : List ℕ) → LeftAt (stored bytes) c → c ≡ bytes
+stored_alone bytes c (inl this) = all_kept (length bytes) bytes (omega arith) c this
+stored_alone bytes c (inr none) = absurd none

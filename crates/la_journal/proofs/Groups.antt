@@ -74,9 +74,6 @@ module _ {D : Type 0} (seen : D → List ℕ) (may_leave : D → List ℕ → Ty
       let front = take_of_take some.0 n more some.1 in
       (some.0, front.1, some.2 ∙ (λ i. lines (same i) ++ front.0 i))
 
-pub none_of : (before : List ℕ) (more : List (List ℕ)) → IsSomeOf (lines before) more before
-none_of before more = (0, omega arith, sym (append-nil (lines before)))
-
 -- the whole without its end
 pub end_front : (text front rest : List ℕ) → text ≡ front ++ rest → take (length text - length rest) text ≡ front
 end_front text front rest is =

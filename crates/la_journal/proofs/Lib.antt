@@ -11,7 +11,6 @@ mod Groups
 mod Leading
 mod Compacting
 mod Moments
-mod Reserved
 mod StepsMore
 mod Takes
 mod Torn

@@ -1,9 +1,9 @@
 -- What a crash leaves by marks is what a crash may leave.
 use Rattle.std.proofs.Common.{◌≡◌, ◌⊎◌, inl, inr, ⊎_elim, ℕ, ◌+◌, ◌<◌, ◌≤◌, List, [], ◌∷◌, ◌++◌, length, take, drop, get_or, min, refl, sym, ◌∙◌, ap, subst, arith, append_assoc}
 use Rattle.std.specs.Prelude.{Bool, true, false, if◌then◌else◌}
-use Rattle.std.proofs.lemmas.List.{take_at, drop_at, drop_all, drop_more, length-append}
+use Rattle.std.proofs.lemmas.List.{take_at, drop_at, drop_all, drop_more}
 use Rattle.la_journal.specs.Disk.{IsTorn}
-use Rattle.la_journal.specs.Note.{Moment, now_of, first_of}
+use Rattle.la_journal.specs.Note.{Moment, now_of, bytes_in, kept_in}
 use Rattle.la_journal.specs.Outcomes.{spoilt_by, left_by, LeftOf, LeftAt}
 use Rattle.la_journal.proofs.Goes.{held_left}
 use Rattle.la_journal.proofs.StepsMore.{long_take}
@@ -39,23 +39,23 @@ left_again marks kept bytes c le left =
       left.2 ∙ ap (λ (l : List ℕ). l ++ left.0) (take_at front rest kept (sym long)),
     )
 
-pub still_within : (marks : List Bool) (kept : ℕ) (bytes : List ℕ) → kept ≤ length bytes
-    → kept ≤ length (left_by marks kept bytes)
-still_within marks kept bytes le =
-    omega (arith, long_take kept bytes le, length-append (take kept bytes) (spoilt_by marks (drop kept bytes)))
-
 -- what another process finds, and may leave until it syncs
-module _ (past : List Moment) (kept : ℕ) (bytes : List ℕ) (held : first_of (now_of past) ≡ kept ∷ bytes)
-    (marks : List Bool) where
+module _ (past : List Moment) (there : 0 < length (now_of past)) (marks : List Bool) where
+  abbrev kept : ℕ
+  kept = kept_in (now_of past)
+
+  abbrev bytes : List ℕ
+  bytes = bytes_in (now_of past)
+
   pub finds : (found : List ℕ) → found ≡ left_by marks kept bytes → LeftAt (now_of past) found
   finds found is =
-      held_left kept bytes (now_of past) found held (subst (LeftOf kept bytes) (sym is) (is_left marks kept bytes))
+      held_left (now_of past) found there (subst (LeftOf kept bytes) (sym is) (is_left marks kept bytes))
 
   pub leaves_again : kept ≤ length bytes → (found : List ℕ) (found_kept : ℕ) (before : List Moment)
       → found ≡ left_by marks kept bytes → found_kept ≡ kept → before ≡ past → (c : List ℕ)
       → LeftOf found_kept found c ⊎ LeftAt (now_of before) c → LeftAt (now_of past) c
   leaves_again le found found_kept before is same_kept same c (inl this) =
-      held_left kept bytes (now_of past) c held
+      held_left (now_of past) c there
       (left_again marks kept bytes c le
       (subst (λ (k : ℕ). LeftOf k (left_by marks kept bytes) c) same_kept
       (subst (λ (b : List ℕ). LeftOf found_kept b c) is this)))

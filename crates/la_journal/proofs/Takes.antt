@@ -1,14 +1,9 @@
 -- What a crash leaves while a line is put behind a settled file.
 use Rattle.std.proofs.Common.{◌≡◌, inl, inr, ⊎_elim, ℕ, List, [], ◌∷◌, ◌++◌, sym, ◌∙◌, ap, subst}
-use Rattle.std.proofs.lemmas.List.{append-nil}
 use Rattle.la_journal.specs.Disk.{LeavesOnly, MayBeTorn, Only, IsTorn}
 use Rattle.la_journal.specs.Lines.{lines, file_of, IsClean}
 use Rattle.la_journal.specs.Durable.{IsSettled}
 use Rattle.la_journal.proofs.Whole.{appended, still_settled, torn_keeps, IsBeforeOrAfter}
-
--- nothing of it
-pub untorn : (bytes : List ℕ) (before : List ℕ → Type 0) (c : List ℕ) → before c → MayBeTorn bytes before c
-untorn bytes before c was = (c, was, ([], tt, sym (append-nil c)))
 
 pub weaker : {D : Type 0} (moment : D → ℕ) (left_since : D → ℕ → List ℕ → Type 0) (old new : D) (P Q : List ℕ → Type 0)
     → ((c : List ℕ) → P c → Q c) → LeavesOnly moment left_since old new P → LeavesOnly moment left_since old new Q

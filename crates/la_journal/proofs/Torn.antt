@@ -1,13 +1,6 @@
 -- Bytes that a crash kept all of.
-use Rattle.std.proofs.Common.{◌≡◌, inl, ℕ, zero, suc, List, [], ◌∷◌, ◌++◌, take, refl}
+use Rattle.std.proofs.Common.{ℕ, zero, suc, List, [], ◌∷◌, take}
 use Rattle.la_journal.specs.Disk.{IsTorn, Torn}
-
-pub all_kept : (bytes : List ℕ) → IsTorn bytes bytes
-all_kept [] = tt
-all_kept (b ∷ bytes) = (inl refl, all_kept bytes)
-
-pub whole : (bytes old c : List ℕ) → c ≡ old ++ bytes → Torn bytes old c
-whole bytes old c is = (bytes, all_kept bytes, is)
 
 -- what is torn of some of the bytes is torn of all
 torn_front : (n : ℕ) (bytes torn : List ℕ) → IsTorn (take n bytes) torn → IsTorn bytes torn

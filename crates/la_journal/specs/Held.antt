@@ -1,21 +1,16 @@
--- What is known of a file, as a disk sees it: each by the bytes, by how many of them are on the disk,
--- and by what is noted of the past.
-use Rattle.std.specs.Prelude.{ℕ, ◌-◌, ◌≤◌, List, length, vec_len, vec_capacity}
+-- What is known of a file, as a disk sees it: all by what is noted of the past.
+use Rattle.std.specs.Prelude.{ℕ, ◌≤◌, List, length}
 use Rattle.la_journal.specs.declared.contents.Contents.{Contents}
 use Rattle.la_journal.specs.Disk.{Elapses}
-use Rattle.la_journal.specs.Note.{now_of}
+use Rattle.la_journal.specs.Note.{now_of, bytes_in, kept_in}
 use Rattle.la_journal.specs.Outcomes.{LeftAt, LeftSince, only_left, left_now}
 
 abbrev pub held_bytes : Contents → List ℕ
-held_bytes contents = contents.bytes.items
+held_bytes contents = bytes_in (now_of contents.past.events)
 
 -- so many of the bytes are on the disk
 abbrev pub synced_count : Contents → ℕ
-synced_count contents = contents.kept
-
--- so many bytes more take no memory
-abbrev pub room_of : Contents → ℕ
-room_of contents = vec_capacity contents.bytes - vec_len contents.bytes
+synced_count contents = kept_in (now_of contents.past.events)
 
 -- how often the disk has failed
 abbrev pub faults_of : Contents → ℕ

@@ -3,7 +3,7 @@ use Rattle.std.specs.Prelude.{◌≡◌, ◌⊎◌, ℕ, ◌<◌, Bool, true, fa
 use Rattle.la_journal.specs.declared.staging.Unstaged.{Unstaged}
 use Rattle.la_journal.specs.declared.staging.Unstaged.TheVariants.{Machine, Memory, Closed}
 use Rattle.la_journal.specs.declared.staging.Uncommitted.{Uncommitted}
-use Rattle.la_journal.specs.declared.staging.Uncommitted.TheVariants.{Memory as NoRoom, Disk, Closed as WasClosed}
+use Rattle.la_journal.specs.declared.staging.Uncommitted.TheVariants.{Disk, Closed as WasClosed}
 
 -- by the machine where it has no step or no memory, for memory, or since the disk failed earlier
 abbrev pub IsStageRefusal : {S R : Type 0} (lacks_memory : R → Type 0) → (closed : Bool) → Option S → Unstaged R
@@ -13,8 +13,7 @@ IsStageRefusal lacks_memory closed stepped (Machine refusal) =
 IsStageRefusal lacks_memory closed stepped Memory = closed ≡ false
 IsStageRefusal lacks_memory closed stepped Closed = closed ≡ true
 
--- for memory, or since the disk failed, from when on it is closed
+-- since the disk failed, from when on it is closed
 abbrev pub IsNotCommitted : (before now : Bool) → (faults_before faults : ℕ) → Uncommitted → Type 0
-IsNotCommitted before now faults_before faults NoRoom = (before ≡ false) × (now ≡ false)
 IsNotCommitted before now faults_before faults Disk = (before ≡ false) × (now ≡ true) × (faults_before < faults)
 IsNotCommitted before now faults_before faults WasClosed = (before ≡ true) × (now ≡ true)

@@ -5,7 +5,7 @@ ghost use Rattle.la_journal.specs.Machine.{state_after, LeadsToSome, SaysState};
 ghost use Rattle.la_journal.specs.Durable.{IsSettled, IsNotCompacted};
 ghost use Rattle.la_journal.specs.Snapshots.{IsSnapshot};
 
-use crate::{Disk, DiskError, Durable, Snapshot};
+use crate::{Disk, DiskFault, Durable, Snapshot};
 use std::alloc::{AllocError, Global};
 use thiserror::Error;
 
@@ -59,8 +59,7 @@ impl<M: Snapshot, D: Disk> Durable<M, D> {
         };
         match self.disk.replace(&line) {
             Ok(()) => Ok(()),
-            Err(DiskError::Memory) => Err(Uncompacted::Memory),
-            Err(DiskError::Failed) => {
+            Err(DiskFault) => {
                 self.closed = true;
                 Err(Uncompacted::Disk)
             }

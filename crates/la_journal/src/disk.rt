@@ -1,49 +1,19 @@
-// A file as the journal sees it: what a read returns, and what a crash may leave.
-ghost use Rattle.std.specs.Prelude.{◌≡◌, ◌⊎◌, ◌++◌, ◌≤◌, ◌<◌, List, ℕ, length, IfOk, OnOk, OnErr, IsErrOf};
-ghost use Rattle.la_journal.specs.declared.disk.DiskError.TheVariants.{Memory, Failed};
+// A file as the journal sees it: its bytes, and what a crash may leave of them.
+ghost use Rattle.std.specs.Prelude.{◌≡◌, ◌⊎◌, ◌++◌, ◌≤◌, ◌<◌, List, ℕ, length, OnOk, OnErr};
 ghost use Rattle.la_journal.specs.Disk.{Only, CrashesFollow, Torn, Elapses};
 
 use crate::Record;
-use std::alloc::{AllocError, AllocFailed, Global};
 use thiserror::Error;
-
-/// Why a file was not read or replaced.
-#[derive(Clone, Copy, Debug, PartialEq, Eq, Error)]
-pub enum DiskError {
-    /// A growth was refused. The file is as it was.
-    #[error("out of memory")]
-    Memory,
-
-    /// The disk failed.
-    #[error("the disk failed")]
-    Failed,
-}
 
 /// The disk failed: it is full, broken or away.
 #[derive(Clone, Copy, Debug, PartialEq, Eq, Error)]
 #[error("the disk failed")]
 pub struct DiskFault;
 
-impl From<AllocError> for DiskError {
-    ghost from_gives = { λ _ e. e ≡ Memory };
-
-    fn from(_refused: AllocError) -> DiskError {
-        DiskError::Memory
-    }
-}
-
-impl<T: Drop> From<AllocFailed<T>> for DiskError {
-    ghost from_gives = { λ _ e. e ≡ Memory };
-
-    fn from(_refused: AllocFailed<T>) -> DiskError {
-        DiskError::Memory
-    }
-}
-
 /// A file that bytes are put behind. Of those that no sync was for, a crash keeps the first some,
 /// each as it was written or as 0.
 pub trait Disk: Drop {
-    /// The bytes that a read returns.
+    /// The bytes of the file, as whoever opens it reads them.
     ghost seen: { Self → List ℕ };
 
     /// What a crash at this moment may leave.
@@ -58,41 +28,20 @@ pub trait Disk: Drop {
     /// How often the disk has failed.
     ghost faults: { Self → ℕ };
 
-    /// How many bytes can be put behind the file without memory.
-    ghost room: { Self → ℕ };
-
-    /// Reads all bytes of the file.
-    fn read(&mut self, alloc: Global) -> Result<Vec<u8>, DiskError>
-        ensures bytes { IfOk result (λ bytes. bytes.items ≡ seen self.old) }
-        ensures seen { seen self.new ≡ seen self.old }
-        ensures crash { (c : List ℕ) → may_leave self.new c → may_leave self.old c }
-        ensures time { Elapses (moment self.old) (moment self.new) (left_since self.old) (left_since self.new) (may_leave self.new) }
-        ensures later { faults self.old ≤ faults self.new }
-        ensures failed { IsErrOf result Failed → faults self.old < faults self.new };
-
     /// What is noted of the file's past, which takes no memory: as many moments as went by.
     fn past(&self) -> &Record
         ensures { length result.now.events ≡ moment self.now };
 
-    /// Makes room in memory for so many bytes more. The file is as it was, whatever comes.
-    fn reserve(&mut self, more: usize) -> Result<(), AllocError>
-        ensures ok { OnOk result (more ≤ room self.new) }
-        ensures seen { seen self.new ≡ seen self.old }
-        ensures crash { (c : List ℕ) → may_leave self.new c → may_leave self.old c }
-        ensures time { Elapses (moment self.old) (moment self.new) (left_since self.old) (left_since self.new) (may_leave self.new) }
-        ensures faults { faults self.new ≡ faults self.old };
-
     /// Puts bytes behind the file. Until a sync, a crash may leave the first some of them, each as
     /// it was written or as 0.
     fn append(&mut self, bytes: &[u8]) -> Result<(), DiskFault>
-        requires { length bytes.now ≤ room self.old }
         ensures written { OnOk result (seen self.new ≡ seen self.old ++ bytes.now) }
         ensures crash { CrashesFollow (Torn bytes.now) (may_leave self.old) (may_leave self.new) }
         ensures time { Elapses (moment self.old) (moment self.new) (left_since self.old) (left_since self.new) (may_leave self.new) }
         ensures later { faults self.old ≤ faults self.new }
         ensures failed { OnErr result (faults self.old < faults self.new) };
 
-    /// Brings all bytes of the file onto the disk: after it, a crash leaves what a read returns.
+    /// Brings all bytes of the file onto the disk: after it, a crash leaves all of them.
     fn sync(&mut self) -> Result<(), DiskFault>
         ensures durable { OnOk result (Only (seen self.old) (may_leave self.new)) }
         ensures seen { seen self.new ≡ seen self.old }
@@ -102,15 +51,13 @@ pub trait Disk: Drop {
         ensures failed { OnErr result (faults self.old < faults self.new) };
 
     /// Puts other bytes in the file's place at once, on the disk: a crash leaves either.
-    fn replace(&mut self, bytes: &[u8]) -> Result<(), DiskError>
+    fn replace(&mut self, bytes: &[u8]) -> Result<(), DiskFault>
         ensures written { OnOk result (seen self.new ≡ bytes.now) }
         ensures durable { OnOk result (Only bytes.now (may_leave self.new)) }
         ensures crash { (c : List ℕ) → may_leave self.new c → may_leave self.old c ⊎ (c ≡ bytes.now) }
-        ensures refused { IsErrOf result Memory → seen self.new ≡ seen self.old }
-        ensures refused_crash { IsErrOf result Memory → (c : List ℕ) → may_leave self.new c → may_leave self.old c }
         ensures time { Elapses (moment self.old) (moment self.new) (left_since self.old) (left_since self.new) (may_leave self.new) }
         ensures later { faults self.old ≤ faults self.new }
-        ensures failed { IsErrOf result Failed → faults self.old < faults self.new };
+        ensures failed { OnErr result (faults self.old < faults self.new) };
 
     /// This moment is one of those since an earlier one.
     ghost counts_now: { (file : Self) (t : ℕ) (c : List ℕ) → t ≤ moment file → may_leave file c → left_since file t c };

@@ -1,5 +1,5 @@
 // A machine over its journal.
-ghost use Rattle.std.specs.Prelude.{◌≡◌, ◌++◌, ◌∷◌, [], ◌<◌, ◌≤◌, length, true, false, Some, IfOk, IfErr, OnOk, OnErr};
+ghost use Rattle.std.specs.Prelude.{◌≡◌, ◌++◌, ◌∷◌, [], ◌<◌, ◌≤◌, true, false, Some, IfOk, IfErr, OnOk, OnErr};
 ghost use Rattle.la_journal.specs.Disk.{LeavesOnly, Only, MayBeTorn};
 ghost use Rattle.la_journal.specs.Lines.{lines};
 ghost use Rattle.la_journal.specs.Machine.{state_after, LeadsToSome};
@@ -78,9 +78,6 @@ impl<M: Machine, D: Disk> Durable<M, D> {
         let Ok(line) = encode::<M>(alloc, input) else {
             return Err(Refused::Memory);
         };
-        let Ok(()) = self.disk.reserve(line.len()) else {
-            return Err(Refused::Memory);
-        };
         let output = match self.machine.apply(input) {
             Ok(output) => output,
             Err(refusal) => return Err(Refused::Machine(refusal)),
@@ -106,7 +103,6 @@ pub(crate) fn encode<M: Machine>(alloc: Global, input: &M::Input) -> Result<Vec<
 
 /// Puts bytes behind the file's and has them on the disk.
 pub(crate) fn keep<D: Disk>(disk: &mut D, bytes: &[u8]) -> Result<(), DiskFault>
-    requires { length bytes.now ≤ D.room disk.old }
     ensures written { OnOk result (D.seen disk.new ≡ D.seen disk.old ++ bytes.now) }
     ensures durable { OnOk result (Only (D.seen disk.new) (D.may_leave disk.new)) }
     ensures any_moment { LeavesOnly D.moment D.left_since disk.old disk.new (MayBeTorn bytes.now (D.may_leave disk.old)) }

@@ -69,9 +69,6 @@ impl<M: Machine, D: Disk> Durable<M, D> {
         let Ok(()) = answers.reserve(inputs.len()) else {
             return Err(Refused::Memory);
         };
-        let Ok(()) = self.disk.reserve(text.len()) else {
-            return Err(Refused::Memory);
-        };
         let before = answers.len();
         let stepped = step_all(&mut self.machine, inputs, answers);
         let end = end_of(&text, answers.len() - before);

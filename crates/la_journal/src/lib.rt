@@ -19,6 +19,7 @@ mod disk;
 mod durable;
 mod given_out;
 mod group;
+mod happened;
 mod holding;
 pub mod laws;
 mod machine;
@@ -32,7 +33,7 @@ mod starts;
 
 pub use compaction::Uncompacted;
 pub use contents::Contents;
-pub use disk::{Disk, DiskError, DiskFault};
+pub use disk::{Disk, DiskFault};
 pub use durable::{Durable, Refused};
 pub use given_out::GivenOut;
 pub use machine::{Machine, Snapshot};

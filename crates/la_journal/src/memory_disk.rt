@@ -2,23 +2,29 @@
 ghost use Rattle.std.specs.Prelude.{◌≡◌, ◌≤◌, ◌+◌, List, ℕ, length, IfOk, if◌then◌else◌};
 ghost use Rattle.la_journal.specs.Disk.{Only};
 ghost use Rattle.la_journal.specs.Outcomes.{spoilt_by, left_by};
-ghost use Rattle.la_journal.specs.Held.{held_bytes, synced_count, room_of, faults_of, moment_of};
+ghost use Rattle.la_journal.specs.Held.{held_bytes, synced_count, faults_of, moment_of};
 ghost use Rattle.la_journal.specs.Held.{may_leave_of, left_since_of, TimeGoesOn, only_now_of, counts_now_of};
 ghost use Rattle.la_journal.specs.Starts.{IsStart};
 
-use crate::{Contents, Disk, DiskError, DiskFault, Record};
+use crate::{Contents, Disk, DiskFault, Record};
 use std::alloc::{AllocError, Global};
 
 /// A disk in memory, for tests. It takes so many bytes and no more, and so many syncs and no more;
 /// [`crash`](MemoryDisk::crash) gives what a crash leaves of it. It has a clock, which each append, sync and
-/// replacement moves on by one; where that has come to its end, at 2^64 - 1, it fails.
+/// replacement moves on by one; where that has come to its end, at 2^64 - 1, it fails. Where memory is refused, an
+/// append or a replacement fails.
 #[derive(Drop)]
 pub struct MemoryDisk {
     alloc: Global,
+    bytes: Vec<u8>,
+    // So many of the bytes are on the disk.
+    kept: usize,
     contents: Contents,
     most: usize,
     syncs: u32,
     clock: u64,
+    ghost holds: { held_bytes contents ≡ bytes.items },
+    ghost keeps: { synced_count contents ≡ kept },
     ghost on_time: { clock ≡ moment_of contents },
 }
 
@@ -30,9 +36,13 @@ impl MemoryDisk {
         ensures kept { synced_count result.contents ≡ length bytes.items }
         ensures stored { Only bytes.items (may_leave_of result.contents) }
     {
+        let contents = Contents::stored(&bytes);
+        let kept = bytes.len();
         MemoryDisk {
             alloc,
-            contents: Contents::stored(bytes),
+            bytes,
+            kept,
+            contents,
             most: usize::MAX,
             syncs: u32::MAX,
             clock: 1,
@@ -54,11 +64,11 @@ impl MemoryDisk {
         self.syncs = syncs;
     }
 
-    /// The bytes that a read returns.
+    /// The bytes of the file.
     pub fn bytes(&self) -> &[u8]
         ensures { result.now ≡ held_bytes self.now.contents }
     {
-        self.contents.bytes()
+        self.bytes.as_slice()
     }
 
     /// The moment by the disk's clock, which each append, sync and replacement moves on by one.
@@ -98,12 +108,15 @@ impl MemoryDisk {
             return Err(AllocError);
         }
         let bytes = self.left_by(spoilt)?;
-        let kept = self.contents.kept();
+        let kept = self.kept;
         let clock = self.clock + 1;
         let alloc = self.alloc;
+        let contents = Contents::found(&bytes, kept, self.contents.left());
         Ok(MemoryDisk {
             alloc,
-            contents: Contents::found(bytes, kept, self.contents.left()),
+            bytes,
+            kept,
+            contents,
             most: usize::MAX,
             syncs: u32::MAX,
             clock,
@@ -115,10 +128,8 @@ impl MemoryDisk {
         ensures { IfOk result (λ left. left.items
             ≡ left_by spoilt.now (synced_count self.now.contents) (held_bytes self.now.contents)) }
     {
-        let bytes = self.contents.bytes();
-        let kept = self.contents.kept();
-        let mut left = bytes[..kept].to_vec(self.alloc)?;
-        let rest = spoilt_by(self.alloc, &bytes[kept..], spoilt)?;
+        let mut left = self.bytes[..self.kept].to_vec(self.alloc)?;
+        let rest = spoilt_by(self.alloc, &self.bytes[self.kept..], spoilt)?;
         left.extend_from_slice(&rest)?;
         Ok(left)
     }
@@ -163,37 +174,27 @@ impl Disk for MemoryDisk {
 
     ghost faults = { λ d. faults_of d.contents };
 
-    ghost room = { λ d. room_of d.contents };
-
     ghost counts_now = { λ d t c le left. counts_now_of d.contents t c le left };
 
     ghost only_now = { λ d c left. only_now_of d.contents c left };
-
-    fn read(&mut self, alloc: Global) -> Result<Vec<u8>, DiskError> {
-        Ok(self.contents.bytes().to_vec(alloc)?)
-    }
 
     fn past(&self) -> &Record {
         self.contents.past()
     }
 
-    fn reserve(&mut self, more: usize) -> Result<(), AllocError> {
-        self.contents.reserve(more)
-    }
-
     fn append(&mut self, bytes: &[u8]) -> Result<(), DiskFault> {
-        if self.clock == u64::MAX {
+        let free = self.most.saturating_sub(self.bytes.len());
+        let fits = &bytes[..bytes.len().min(free)];
+        if self.clock == u64::MAX || self.bytes.extend_from_slice(fits).is_err() {
             self.contents.fail();
             return Err(DiskFault);
         }
         self.clock += 1;
-        let free = self.most.saturating_sub(self.contents.bytes().len());
-        if free < bytes.len() {
-            self.contents.append(&bytes[..free]);
+        self.contents.append(fits);
+        if fits.len() < bytes.len() {
             self.contents.fail();
             return Err(DiskFault);
         }
-        self.contents.append(bytes);
         Ok(())
     }
 
@@ -203,18 +204,24 @@ impl Disk for MemoryDisk {
             return Err(DiskFault);
         }
         self.clock += 1;
+        self.kept = self.bytes.len();
         self.contents.sync();
         Ok(())
     }
 
-    fn replace(&mut self, bytes: &[u8]) -> Result<(), DiskError> {
-        let copy = bytes.to_vec(self.alloc)?;
+    fn replace(&mut self, bytes: &[u8]) -> Result<(), DiskFault> {
+        let Ok(copy) = bytes.to_vec(self.alloc) else {
+            self.contents.fail();
+            return Err(DiskFault);
+        };
         if self.clock == u64::MAX || self.most < bytes.len() || !take_one(&mut self.syncs) {
             self.contents.fail();
-            return Err(DiskError::Failed);
+            return Err(DiskFault);
         }
         self.clock += 1;
-        self.contents.replace(copy);
+        self.kept = copy.len();
+        self.bytes = copy;
+        self.contents.replace(bytes);
         Ok(())
     }
 }

@@ -4,6 +4,7 @@ ghost use Rattle.std.specs.Borrow.{ftrue};
 ghost use Rattle.la_journal.specs.Note.{Moment};
 ghost use Rattle.la_journal.specs.Note.{next_of};
 
+use crate::happened::Happened;
 use std::marker::{Model, PhantomData};
 
 /// What a crash might have left of a file at each moment so far, as [`Contents`](crate::Contents) notes it. Only
@@ -33,8 +34,8 @@ impl Record {
         Record::new()
     }
 
-    /// A moment more, as `next_of` says it.
-    pub(crate) fn note(&mut self, _numbers: &[u64], _bytes: &[u8])
-        ensures { self.new.events ≡ next_of _numbers.now _bytes.now self.old.events }
+    /// A moment more, as `next_of` says it. Costs nothing.
+    pub(crate) fn note(&mut self, _happened: &Happened, _bytes: &[u8])
+        ensures { self.new.events ≡ next_of _happened.now _bytes.now self.old.events }
     {}
 }

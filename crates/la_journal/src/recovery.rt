@@ -1,14 +1,12 @@
 // A journal played from its first line on.
 ghost use Rattle.std.specs.Prelude.{◌≡◌, ◌++◌, ◌∷◌, [], ◌+◌, ◌-◌, ◌<◌, ◌≤◌, ◌↔◌, false, Some, None, length, take, drop, Contains, IfOk, IfErr, OnOk, IfSome, IsTrue};
-ghost use Rattle.la_journal.specs.declared.disk.DiskError.TheVariants.{Memory, Failed};
-ghost use Rattle.la_journal.specs.declared.recovery.Unplayed.TheVariants.{Memory as UnplayedMemory, Disk as UnplayedDisk};
 ghost use Rattle.la_journal.specs.Disk.{LeavesOnly};
 ghost use Rattle.la_journal.specs.Lines.{lines, file_of};
 ghost use Rattle.la_journal.specs.Journal.{says, state_in, IsDamage, IsDamaged};
 ghost use Rattle.la_journal.specs.Machine.{begins_with, state_after};
 ghost use Rattle.la_journal.specs.Durable.{IsSettled, IsSameOr, IsCauseOf};
 
-use crate::{Disk, DiskError, Durable, Machine};
+use crate::{Disk, DiskFault, Durable, Machine};
 use std::alloc::Global;
 
 /// Why a journal was not played. The file is as it was, or a file of the same lines. Places are
@@ -38,15 +36,17 @@ pub enum Unplayed<R> {
     Damaged(usize),
 }
 
-/// Plays a journal that a crash may have left, on a machine as it was before the first call of all, and
-/// cuts what it left of a last line. Where the first line is a state's, the machine takes that. It may
-/// crash too. It writes the whole lines anew, so that what was played is on the disk: linear in the
-/// journal. After a refusal the disk comes back.
+/// Plays what was found on a disk, a journal that a crash may have left, on a machine as it was before the first
+/// call of all, and cuts what it left of a last line. Where the first line is a state's, the machine takes that. It
+/// may crash too. It writes the whole lines anew, so that what was played is on the disk: linear in the journal,
+/// whose bytes are let go. After a refusal the disk comes back.
 pub fn recover<M: Machine, D: Disk>(
     alloc: Global,
     start: M,
+    found: Vec<u8>,
     disk: D,
 ) -> Result<Durable<M, D>, (Unplayed<M::Refusal>, D)>
+    requires { D.seen disk ≡ found.items }
     ensures state { IfOk result (λ durable.
         state_after M.named_state M.named M.step (M.state start) (D.seen disk)
         ≡ Some (M.state durable.machine)) }
@@ -68,35 +68,20 @@ pub fn recover<M: Machine, D: Disk>(
 {
     let mut machine = start;
     let mut disk = disk;
-    let bytes = match disk.read(alloc) {
-        Ok(bytes) => bytes,
-        Err(why) => return Err((by_disk(why), disk)),
-    };
-    let end = match play(alloc, &mut machine, &bytes) {
+    let end = match play(alloc, &mut machine, &found) {
         Ok(end) => end,
         Err(why) => return Err((why, disk)),
     };
-    if is_damage(&bytes[end..]) {
+    if is_damage(&found[end..]) {
         return Err((Unplayed::Damaged(end), disk));
     }
-    match disk.replace(&bytes[..end]) {
+    match disk.replace(&found[..end]) {
         Ok(()) => Ok(Durable {
             machine,
             disk,
             closed: false,
         }),
-        Err(why) => Err((by_disk(why), disk)),
-    }
-}
-
-/// A disk's error as a refusal.
-fn by_disk<R>(why: DiskError) -> Unplayed<R>
-    ensures memory { why ≡ Memory → result ≡ UnplayedMemory }
-    ensures failed { why ≡ Failed → result ≡ UnplayedDisk }
-{
-    match why {
-        DiskError::Memory => Unplayed::Memory,
-        DiskError::Failed => Unplayed::Disk,
+        Err(DiskFault) => Err((Unplayed::Disk, disk)),
     }
 }
 

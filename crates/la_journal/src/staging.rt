@@ -14,10 +14,6 @@ use thiserror::Error;
 /// Why staged lines are not on the disk. The machine is ahead of the file.
 #[derive(Clone, Copy, Debug, PartialEq, Eq, Error)]
 pub enum Uncommitted {
-    /// A growth was refused. The file is as it was, and all lines stay staged.
-    #[error("out of memory")]
-    Memory,
-
     /// The disk failed. Nothing more is taken: the file has the first some of the lines, and has to be recovered
     /// anew.
     #[error("the disk failed")]
@@ -131,9 +127,6 @@ impl<M: Machine, D: Disk> Staged<M, D> {
         if self.text.is_empty() {
             return Ok(());
         }
-        let Ok(()) = self.durable.disk.reserve(self.text.len()) else {
-            return Err(Uncommitted::Memory);
-        };
         match keep(&mut self.durable.disk, &self.text) {
             Ok(()) => {
                 self.text.clear();

@@ -42,7 +42,10 @@ pub fn start_again<M: Machine>(
     let Ok(found) = dead.restart(spoilt) else {
         return Err(Unplayed::Memory);
     };
-    match recover(alloc, start, found) {
+    let Ok(bytes) = found.bytes().to_vec(alloc) else {
+        return Err(Unplayed::Memory);
+    };
+    match recover(alloc, start, bytes, found) {
         Ok(node) => Ok(node),
         Err((why, _)) => Err(why),
     }

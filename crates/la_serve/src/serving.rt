@@ -77,7 +77,6 @@ fn flush<W: Write + Drop, D: Disk, B: Replicated>(
             held.clear();
             Ok(())
         }
-        Err(Uncommitted::Memory) => Err(NodeFault::Memory),
         Err(Uncommitted::Disk) | Err(Uncommitted::Closed) => Err(NodeFault::DiskFault),
     }
 }
@@ -126,8 +125,8 @@ fn of_step(fault: NodeFault) -> NodeFault
 /// find no taker, and then it goes on.
 ///
 /// `ReadFault` comes at the first read that fails, and after 2^64-2 lines; `WriteFault` at a write that
-/// fails, where a front of the text is out, and all lines are in the journal; `Memory` where a line, what is written
-/// of it or the journal finds no room; `DiskFault` where the disk fails. After these two nothing may have gone out
+/// fails, where a front of the text is out, and all lines are in the journal; `Memory` where a line or
+/// what is written of it finds no room; `DiskFault` where the disk fails. After these two nothing may have gone out
 /// of the last calls, and the journal is to be recovered.
 pub fn serve<R: Read, W: Write + Drop, E: Listener, D: Disk, B: Replicated>(
     alloc: Global,

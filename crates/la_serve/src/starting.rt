@@ -69,12 +69,14 @@ fn start<R: Read, W: Write + Drop, E: Listener, D: Disk, B: Replicated>(
     alloc: Global,
     options: &Options,
     shelf: Shelf<B>,
+    found: Vec<u8>,
     disk: D,
     input: &mut R,
     out: &mut Output<W>,
     errors: &mut E,
 ) -> (Result<(), NodeFault>, D)
-    requires { shelf.view ≡ empty }
+    requires shelf { shelf.view ≡ empty }
+    requires found { D.seen disk ≡ found.items }
     ensures ok { OnOk result.0 (Runs D.seen D.may_leave D.moment D.left_since R.remaining W.contents E.contents E.refuses
         shelf options.now disk result.1
         (io input.old out.old.writer out.old.given.texts errors.old)
@@ -89,7 +91,7 @@ fn start<R: Read, W: Write + Drop, E: Listener, D: Disk, B: Replicated>(
         Err(WorldError::Memory) => return (Err(NodeFault::Memory), disk),
         Err(_) => return (Err(NodeFault::BadConfig), disk),
     };
-    match recover(alloc, machine, disk) {
+    match recover(alloc, machine, found, disk) {
         Ok(durable) => {
             let mut server = Server {
                 node: Staged::new(alloc, durable),
@@ -123,12 +125,14 @@ fn run_with<
 >(
     alloc: Global,
     options: &Options,
+    found: Vec<u8>,
     disk: D,
     input: &mut R,
     output: &mut Output<W>,
     errors: &mut E,
     make: F,
 ) -> Ended<D>
+    requires found { D.seen disk ≡ found.items }
     requires callable { F.pre make }
     requires made { (made : _) → F.post make made
         → IfOk made (λ o. AreAtStart B.state o.0 o.1 o.2) }
@@ -142,7 +146,7 @@ fn run_with<
     let Ok(shelf) = shelf_of(alloc, counter, register, set) else {
         return ended(NodeFault::Memory, disk, errors);
     };
-    match start(alloc, options, shelf, disk, input, output, errors) {
+    match start(alloc, options, shelf, found, disk, input, output, errors) {
         (Ok(()), disk) => Ended { status: 0, disk },
         (Err(fault), disk) => ended(fault, disk, errors),
     }
@@ -160,7 +164,7 @@ fn ended<E: Listener, D: Drop>(fault: NodeFault, disk: D, errors: &mut E) -> End
     }
 }
 
-/// The command over any streams and any journal: its exit status, and what became of the disk. Its shelf has a counter
+/// The command over any streams and any journal, of which the bytes were found: its exit status, and what became of the disk. Its shelf has a counter
 /// under 1, a max register under 2 and an observed-remove set under 3.
 ///
 /// A crash at any moment from when a text was given out leaves a journal that has all calls that were kept up to it
@@ -169,11 +173,13 @@ fn ended<E: Listener, D: Drop>(fault: NodeFault, disk: D, errors: &mut E) -> End
 pub fn run<R: Read, W: Write + Drop, E: Listener, D: Disk>(
     alloc: Global,
     options: &Options,
+    found: Vec<u8>,
     disk: D,
     input: &mut R,
     output: &mut Output<W>,
     errors: &mut E,
 ) -> Ended<D>
+    requires { D.seen disk ≡ found.items }
     ensures { ServerEnds D.seen D.may_leave D.moment D.left_since R.remaining W.contents E.contents E.refuses
         options.now disk (io input.old output.old.writer output.old.given.texts errors.old)
         (io input.new output.new.writer output.new.given.texts errors.new) result }
@@ -193,5 +199,5 @@ pub fn run<R: Read, W: Write + Drop, E: Listener, D: Disk>(
         let set: Box<dyn Replicated + Send> = Box::new(alloc, OrSet::new(alloc))?;
         Ok(three(counter, register, set))
     };
-    run_with(alloc, options, disk, input, output, errors, make)
+    run_with(alloc, options, found, disk, input, output, errors, make)
 }

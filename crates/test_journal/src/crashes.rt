@@ -1,7 +1,7 @@
 // What starts find, and what crashes leave of one call and of many.
-use crate::given::{KEPT, SPOILT, Start, disk_of, holds, started};
-use crate::{Move, MoveError, Tally, counted};
-use la_journal::{Refused, recover};
+use crate::given::{KEPT, SPOILT, Start, disk_of, holds, recovered, started};
+use crate::{Move, MoveError, counted};
+use la_journal::Refused;
 
 // What crashes leave of a line behind another one.
 pub const ONE_LINE: &[(&[bool], Start)] = &[
@@ -53,7 +53,7 @@ fn a_failed_sync(rt: HostRuntime) {
     let alloc = rt.alloc();
     let mut disk = disk_of(&rt, alloc, "u\nu");
     disk.fail_after(1);
-    let Ok(mut node) = recover(alloc, Tally { total: 0 }, disk) else {
+    let Ok(mut node) = recovered(alloc, disk) else {
         panic!(rt; "no start");
     };
     holds(
@@ -80,7 +80,7 @@ fn a_full_disk(rt: HostRuntime) {
     let alloc = rt.alloc();
     let mut disk = disk_of(&rt, alloc, "");
     disk.full_at(3);
-    let Ok(mut node) = recover(alloc, Tally { total: 0 }, disk) else {
+    let Ok(mut node) = recovered(alloc, disk) else {
         panic!(rt; "no start");
     };
     holds(
@@ -102,7 +102,7 @@ fn a_start_that_fails(rt: HostRuntime) {
     let alloc = rt.alloc();
     let mut disk = disk_of(&rt, alloc, "u\nu");
     disk.fail_after(0);
-    match recover(alloc, Tally { total: 0 }, disk) {
+    match recovered(alloc, disk) {
         Ok(_) => holds(&rt, "no start", false),
         Err((_, disk)) => holds(&rt, "the file", disk.bytes() == b"u\nu".as_slice()),
     }
@@ -112,7 +112,7 @@ fn a_start_that_fails(rt: HostRuntime) {
 #[test]
 fn many(rt: HostRuntime) {
     let alloc = rt.alloc();
-    let Ok(mut node) = recover(alloc, Tally { total: 0 }, disk_of(&rt, alloc, "u\n")) else {
+    let Ok(mut node) = recovered(alloc, disk_of(&rt, alloc, "u\n")) else {
         panic!(rt; "no start");
     };
     let mut answers = Vec::new(alloc);
@@ -146,7 +146,7 @@ fn many_and_a_failed_sync(rt: HostRuntime) {
     let alloc = rt.alloc();
     let mut disk = disk_of(&rt, alloc, "u\n");
     disk.fail_after(1);
-    let Ok(mut node) = recover(alloc, Tally { total: 0 }, disk) else {
+    let Ok(mut node) = recovered(alloc, disk) else {
         panic!(rt; "no start");
     };
     let mut answers = Vec::new(alloc);
@@ -164,7 +164,11 @@ fn many_and_a_failed_sync(rt: HostRuntime) {
 #[test]
 fn a_caller(rt: HostRuntime) {
     let alloc = rt.alloc();
-    let Ok((total, disk)) = counted(alloc, disk_of(&rt, alloc, "u\nu\0")) else {
+    let disk = disk_of(&rt, alloc, "u\nu\0");
+    let Ok(found) = disk.bytes().to_vec(alloc) else {
+        panic!(rt; "out of memory");
+    };
+    let Ok((total, disk)) = counted(alloc, found, disk) else {
         panic!(rt; "not counted");
     };
     holds(&rt, "a total", total == 2);

@@ -1,8 +1,8 @@
 // Journals as text, and what a start on them comes to.
-ghost use Rattle.std.specs.Prelude.{◌≡◌, false};
+ghost use Rattle.std.specs.Prelude.{◌≡◌, false, IfOk};
 ghost use Rattle.la_journal.specs.Durable.{IsSettled};
 
-use crate::Tally;
+use crate::{MoveError, Tally};
 use la_journal::{Disk, Durable, MemoryDisk, Unplayed, recover};
 use std::alloc::Global;
 use std::process::Abort;
@@ -25,16 +25,31 @@ pub fn disk_of(rt: &impl Abort, alloc: Global, text: &str) -> MemoryDisk {
     MemoryDisk::new(alloc, bytes)
 }
 
+/// A tally as the disk says, whose bytes it finds.
+pub fn recovered(
+    alloc: Global,
+    disk: MemoryDisk,
+) -> Result<Durable<Tally, MemoryDisk>, (Unplayed<MoveError>, MemoryDisk)>
+    ensures settled { IfOk result (λ node.
+        IsSettled ⟦<MemoryDisk as Disk>⟧.seen ⟦<MemoryDisk as Disk>⟧.may_leave node.disk) }
+    ensures unclosed { IfOk result (λ node. node.closed ≡ false) }
+{
+    match disk.bytes().to_vec(alloc) {
+        Ok(found) => recover(alloc, Tally { total: 0 }, found, disk),
+        Err(_) => Err((Unplayed::Memory, disk)),
+    }
+}
+
 /// A tally over a disk; where memory is refused once, the second start has it.
 pub fn tally_over(rt: &impl Abort, alloc: Global, disk: MemoryDisk) -> Durable<Tally, MemoryDisk>
     ensures settled { IsSettled ⟦<MemoryDisk as Disk>⟧.seen ⟦<MemoryDisk as Disk>⟧.may_leave result.disk }
     ensures unclosed { result.closed ≡ false }
 {
-    let disk = match recover(alloc, Tally { total: 0 }, disk) {
+    let disk = match recovered(alloc, disk) {
         Ok(node) => return node,
         Err((_, disk)) => disk,
     };
-    let Ok(node) = recover(alloc, Tally { total: 0 }, disk) else {
+    let Ok(node) = recovered(alloc, disk) else {
         panic!(rt; "no start");
     };
     node
@@ -60,8 +75,8 @@ pub enum Start {
 }
 
 /// Starts on a disk.
-pub fn started<D: Disk>(alloc: Global, disk: D) -> Start {
-    match recover(alloc, Tally { total: 0 }, disk) {
+pub fn started(alloc: Global, disk: MemoryDisk) -> Start {
+    match recovered(alloc, disk) {
         Ok(node) => Start::At(node.machine.total),
         Err((why, _)) => refusal(why),
     }

@@ -2,9 +2,9 @@
 ghost use Rattle.std.specs.Prelude.{◌≡◌};
 
 use crate::crashes::TWO_LINES;
-use crate::given::{Start, disk_of, holds, started, tally_over};
+use crate::given::{Start, disk_of, holds, recovered, started, tally_over};
 use crate::{Move, Tally};
-use la_journal::{Disk, Staged, Uncommitted, Unstaged, recover};
+use la_journal::{Disk, Staged, Uncommitted, Unstaged};
 use std::alloc::Global;
 
 // Whether a move is staged, and comes to this total.
@@ -49,7 +49,7 @@ fn in_part(rt: HostRuntime) {
     let alloc = rt.alloc();
     let mut disk = disk_of(&rt, alloc, "u\n");
     disk.fail_after(1);
-    let Ok(node) = recover(alloc, Tally { total: 0 }, disk) else {
+    let Ok(node) = recovered(alloc, disk) else {
         panic!(rt; "no start");
     };
     let mut group = Staged::new(alloc, node);

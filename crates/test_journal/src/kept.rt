@@ -7,8 +7,8 @@ use std::io;
 /// Counts one more in a folder, and answers the total.
 pub fn counted_in(rt: HostRuntime, alloc: Global, folder: String) -> io::Result<u64> {
     let lock = FolderLock::take(&rt, alloc, folder)?;
-    let disk = FileDisk::open(rt, alloc, lock)?;
-    match counted(alloc, disk) {
+    let (disk, found) = FileDisk::open(rt, alloc, lock)?;
+    match counted(alloc, found, disk) {
         Ok((total, _)) => Ok(total),
         Err(_) => Err(io::ErrorKind::Other.into()),
     }

@@ -3,11 +3,11 @@
 ghost use Rattle.std.specs.Prelude.{◌≡◌, false};
 ghost use Rattle.la_journal.specs.Durable.{IsSettled};
 
-use crate::given::{KEPT, SPOILT, Start, disk_of, holds, started, tally_over};
+use crate::given::{KEPT, SPOILT, Start, disk_of, holds, recovered, started, tally_over};
 use crate::told::{Failing, Told};
 use crate::{Move, Tally};
 use la_journal::{
-    Disk, Durable, MemoryDisk, Refused, Unserved, recover, serve_all, serve_groups, start_again,
+    Disk, Durable, MemoryDisk, Refused, Unserved, serve_all, serve_groups, start_again,
 };
 use std::alloc::Global;
 use std::process::Abort;
@@ -94,7 +94,7 @@ fn a_crash_during_a_start(rt: HostRuntime) {
     };
     holds(&rt, "the lines", found.bytes() == b"u\nu\n".as_slice());
     found.fail_after(0);
-    let Err((_, dead)) = recover(alloc, Tally { total: 0 }, found) else {
+    let Err((_, dead)) = recovered(alloc, found) else {
         panic!(rt; "a start");
     };
     for (spoilt, start) in crate::crashes::ONE_LINE {

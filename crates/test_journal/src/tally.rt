@@ -151,13 +151,14 @@ pub enum Stopped {
     Refused,
 }
 
-/// Plays a journal that a crash may have left, and counts one more. What comes back has the lines of
+/// Plays what was found of a journal that a crash may have left, and counts one more. What comes back has the lines of
 /// before and that one, and a crash leaves them.
-pub fn counted<D: Disk>(alloc: Global, disk: D) -> Result<(u64, D), Stopped>
+pub fn counted<D: Disk>(alloc: Global, found: Vec<u8>, disk: D) -> Result<(u64, D), Stopped>
+    requires { D.seen disk ≡ found.items }
     ensures lines { IfOk result (λ it. lines (D.seen it.1) ≡ lines (D.seen disk) ++ text Up ∷ []) }
     ensures stays { IfOk result (λ it. Only (D.seen it.1) (D.may_leave it.1)) }
 {
-    let Ok(mut tally) = recover(alloc, Tally { total: 0 }, disk) else {
+    let Ok(mut tally) = recover(alloc, Tally { total: 0 }, found, disk) else {
         return Err(Stopped::Unplayed);
     };
     match tally.handle(alloc, &Move::Up) {

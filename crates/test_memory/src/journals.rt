@@ -1,16 +1,16 @@
-// la_journal: a tally over a disk in memory.
-ghost use Rattle.std.specs.Prelude.{◌≡◌, false};
+// la_journal: a tally over a disk in memory, which fails where memory is refused.
+ghost use Rattle.std.specs.Prelude.{◌≡◌, false, IfOk};
 ghost use Rattle.la_journal.specs.Durable.{IsSettled};
 
 use crate::again;
 use crate::given::{Came, refused, second};
 use crate::holds::holds;
 use la_journal::{
-    Contents, Disk, DiskError, Durable, MemoryDisk, Refused, Staged, Uncommitted, Uncompacted,
-    Unplayed, Unstaged, recover, start_again,
+    Disk, DiskFault, Durable, MemoryDisk, Refused, Staged, Uncommitted, Uncompacted, Unplayed,
+    Unstaged, recover, start_again,
 };
 use std::alloc::Global;
-use test_journal::{Move, Tally};
+use test_journal::{Move, MoveError, Tally};
 
 // Two whole lines, and a part of one.
 const TORN: &str = "u\nu\nu";
@@ -28,13 +28,27 @@ fn disk_of(alloc: Global, text: &str) -> Option<MemoryDisk> {
     Some(MemoryDisk::new(alloc, bytes))
 }
 
+// A tally as the disk says.
+fn recovered(
+    alloc: Global,
+    disk: MemoryDisk,
+) -> Result<Durable<Tally, MemoryDisk>, (Unplayed<MoveError>, MemoryDisk)>
+    ensures { IfOk result (λ node. (node.closed ≡ false)
+        × IsSettled ⟦<MemoryDisk as Disk>⟧.seen ⟦<MemoryDisk as Disk>⟧.may_leave node.disk) }
+{
+    match disk.bytes().to_vec(alloc) {
+        Ok(found) => recover(alloc, Tally { total: 0 }, found, disk),
+        Err(_) => Err((Unplayed::Memory, disk)),
+    }
+}
+
 // ## Starts
 
 // Whether a start comes to the lines, or the disk, where memory was refused.
 fn starts(alloc: Global, disk: MemoryDisk) -> Result<bool, MemoryDisk> {
-    match recover(alloc, Tally { total: 0 }, disk) {
+    match recovered(alloc, disk) {
         Ok(node) => Ok(node.machine.total == 2 && !node.closed && is_text(&node.disk, WHOLE)),
-        Err((Unplayed::Memory, disk)) => Err(disk),
+        Err((Unplayed::Memory | Unplayed::Disk, disk)) => Err(disk),
         Err(_) => Ok(false),
     }
 }
@@ -67,7 +81,7 @@ fn starts_anew(alloc: Global) -> Came {
     let disk = disk_of(alloc, WHOLE)?;
     match start_again(alloc, disk, &[], Tally { total: 0 }) {
         Ok(node) => Some(node.machine.total == 2 && is_text(&node.disk, WHOLE)),
-        Err(Unplayed::Memory) => None,
+        Err(Unplayed::Memory | Unplayed::Disk) => None,
         Err(_) => Some(false),
     }
 }
@@ -82,6 +96,7 @@ fn handle<D: Disk>(node: &mut Durable<Tally, D>, alloc: Global) -> Came
     match came {
         Ok(total) => Some(total == 3 && node.machine.total == 3),
         Err(Refused::Memory) => refused(node.machine.total == 2 && !node.closed),
+        Err(Refused::Disk) => refused(node.closed),
         Err(_) => Some(false),
     }
 }
@@ -94,6 +109,7 @@ fn handle_all<D: Disk>(node: &mut Durable<Tally, D>, alloc: Global, answers: &mu
     match came {
         Ok(()) => Some(answers.as_slice() == [3u64, 2].as_slice() && node.machine.total == 2),
         Err(Refused::Memory) => refused(answers.is_empty() && node.machine.total == 2),
+        Err(Refused::Disk) => refused(answers.is_empty() && node.closed),
         Err(_) => Some(false),
     }
 }
@@ -116,7 +132,7 @@ fn commit<D: Disk>(group: &mut Staged<Tally, D>) -> Came
     match group.commit() {
         Ok(()) => Some(group.text.is_empty() && !group.durable.closed),
         Err(it) => refused(
-            it == Uncommitted::Memory && !group.text.is_empty() && !group.durable.closed,
+            it == Uncommitted::Disk && !group.text.is_empty() && group.durable.closed,
         ),
     }
 }
@@ -129,6 +145,7 @@ fn compact<D: Disk>(node: &mut Durable<Tally, D>, alloc: Global) -> Came
     match came {
         Ok(()) => Some(node.machine.total == 2 && !node.closed),
         Err(Uncompacted::Memory) => refused(node.machine.total == 2 && !node.closed),
+        Err(Uncompacted::Disk) => refused(node.closed),
         Err(_) => Some(false),
     }
 }
@@ -138,10 +155,16 @@ fn leaves(disk: &MemoryDisk, came: Came, text: &str) -> bool {
     is_text(disk, if came == None { WHOLE } else { text })
 }
 
+// A disk that was refused memory has failed: each of these is tried again with one of its own. A node that is not
+// closed is asked again.
+
 fn handles(alloc: Global) -> Came {
     let disk = disk_of(alloc, WHOLE)?;
-    let mut node = recover(alloc, Tally { total: 0 }, disk).ok()?;
-    let came = again!(alloc, handle(&mut node, alloc));
+    let mut node = recovered(alloc, disk).ok()?;
+    let came = match handle(&mut node, alloc) {
+        None if !node.closed => second(alloc, handle(&mut node, alloc)),
+        came => came,
+    };
     if leaves(&node.disk, came, "u\nu\nu\n") {
         came
     } else {
@@ -151,9 +174,12 @@ fn handles(alloc: Global) -> Came {
 
 fn handles_all(alloc: Global) -> Came {
     let disk = disk_of(alloc, WHOLE)?;
-    let mut node = recover(alloc, Tally { total: 0 }, disk).ok()?;
+    let mut node = recovered(alloc, disk).ok()?;
     let mut answers = Vec::new(alloc);
-    let came = again!(alloc, handle_all(&mut node, alloc, &mut answers));
+    let came = match handle_all(&mut node, alloc, &mut answers) {
+        None if !node.closed => second(alloc, handle_all(&mut node, alloc, &mut answers)),
+        came => came,
+    };
     if leaves(&node.disk, came, MORE) {
         came
     } else {
@@ -170,12 +196,12 @@ fn staged_over<D: Disk>(alloc: Global, node: Durable<Tally, D>) -> Staged<Tally,
 
 fn commits(alloc: Global) -> Came {
     let disk = disk_of(alloc, WHOLE)?;
-    let Ok(node) = recover(alloc, Tally { total: 0 }, disk) else {
+    let Ok(node) = recovered(alloc, disk) else {
         return None;
     };
     let mut group = staged_over(alloc, node);
     let staged = again!(alloc, stage(&mut group, alloc));
-    let came = again!(alloc, commit(&mut group));
+    let came = commit(&mut group);
     if staged == Some(true) && leaves(&group.durable.disk, came, "u\nu\nu\n") {
         came
     } else {
@@ -185,8 +211,11 @@ fn commits(alloc: Global) -> Came {
 
 fn compacts(alloc: Global) -> Came {
     let disk = disk_of(alloc, WHOLE)?;
-    let mut node = recover(alloc, Tally { total: 0 }, disk).ok()?;
-    let came = again!(alloc, compact(&mut node, alloc));
+    let mut node = recovered(alloc, disk).ok()?;
+    let came = match compact(&mut node, alloc) {
+        None if !node.closed => second(alloc, compact(&mut node, alloc)),
+        came => came,
+    };
     if leaves(&node.disk, came, "=uu\n") {
         came
     } else {
@@ -195,20 +224,6 @@ fn compacts(alloc: Global) -> Came {
 }
 
 // ## The disk
-
-fn read(disk: &mut MemoryDisk, alloc: Global) -> Came {
-    match disk.read(alloc) {
-        Ok(bytes) => Some(bytes.as_slice() == TORN.as_bytes()),
-        Err(it) => refused(it == DiskError::Memory && is_text(disk, TORN)),
-    }
-}
-
-fn reserve(disk: &mut MemoryDisk) -> Came {
-    match disk.reserve(100) {
-        Ok(()) => Some(is_text(disk, TORN)),
-        Err(_) => refused(is_text(disk, TORN)),
-    }
-}
 
 fn crash(disk: &MemoryDisk) -> Came {
     match disk.crash(&[false, true]) {
@@ -220,16 +235,22 @@ fn crash(disk: &MemoryDisk) -> Came {
 fn replace(disk: &mut MemoryDisk) -> Came {
     match disk.replace(WHOLE.as_bytes()) {
         Ok(()) => Some(is_text(disk, WHOLE)),
-        Err(it) => refused(it == DiskError::Memory && is_text(disk, TORN)),
+        Err(DiskFault) => refused(is_text(disk, TORN)),
+    }
+}
+
+fn append(disk: &mut MemoryDisk) -> Came {
+    match disk.append(b"u\nd\n") {
+        Ok(()) => Some(is_text(disk, MORE)),
+        Err(DiskFault) => refused(is_text(disk, WHOLE)),
     }
 }
 
 fn on_disk(disk: &mut MemoryDisk, alloc: Global) -> Came {
     Some(
-        again!(alloc, read(disk, alloc))?
-            && again!(alloc, reserve(disk))?
-            && again!(alloc, crash(disk))?
-            && again!(alloc, replace(disk))?,
+        again!(alloc, crash(disk))?
+            && again!(alloc, replace(disk))?
+            && again!(alloc, append(disk))?,
     )
 }
 
@@ -238,30 +259,16 @@ fn disks(alloc: Global) -> Came {
     on_disk(&mut disk, alloc)
 }
 
-fn contents_reserve(contents: &mut Contents) -> Came {
-    match contents.reserve(100) {
-        Ok(()) => Some(contents.bytes() == TORN.as_bytes()),
-        Err(_) => refused(contents.bytes() == TORN.as_bytes()),
-    }
-}
-
-fn has_contents(alloc: Global) -> Came {
-    let bytes = TORN.as_bytes().to_vec(alloc).ok()?;
-    let mut contents = Contents::stored(bytes);
-    again!(alloc, contents_reserve(&mut contents))
-}
-
 fn scenes(alloc: Global) -> Came {
     Some(
         recovers(alloc)?
             && again!(alloc, restarts(alloc))?
             && again!(alloc, starts_anew(alloc))?
-            && handles(alloc)?
-            && handles_all(alloc)?
-            && commits(alloc)?
-            && compacts(alloc)?
-            && disks(alloc)?
-            && has_contents(alloc)?,
+            && again!(alloc, handles(alloc))?
+            && again!(alloc, handles_all(alloc))?
+            && again!(alloc, commits(alloc))?
+            && again!(alloc, compacts(alloc))?
+            && disks(alloc)?,
     )
 }
 

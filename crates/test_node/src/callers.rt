@@ -337,7 +337,10 @@ fn kept_calls(alloc: Global) -> Option<bool> {
 // A lease that is taken and released, whose journal then says its state alone.
 fn leases(alloc: Global) -> Option<bool> {
     let disk = MemoryDisk::new(alloc, Vec::new(alloc));
-    let mut lease = start(alloc, Lease { taken: false }, disk).ok()?;
+    let Ok(found) = disk.bytes().to_vec(alloc) else {
+        return None;
+    };
+    let mut lease = start(alloc, Lease { taken: false }, found, disk).ok()?;
     let taken = answer(&mut lease, alloc, b"t").ok()??;
     let after = answer_and_compact(&mut lease, alloc, &Ask::Release).ok()?;
     Some(taken && !after && matches!(lease.disk.bytes(), b"=f\n" | b"t\nr\n"))

@@ -57,8 +57,11 @@ fn machine(alloc: Global) -> Option<NodeMachine> {
 fn started(alloc: Global, journal: &str) -> Option<Durable<NodeMachine, MemoryDisk>>
     ensures { IfSome result (λ node. IsSettled ⟦<MemoryDisk as Disk>⟧.seen ⟦<MemoryDisk as Disk>⟧.may_leave node.disk) }
 {
-    let bytes = journal.as_bytes().to_vec(alloc).ok()?;
-    match recover(alloc, machine(alloc)?, MemoryDisk::new(alloc, bytes)) {
+    let disk = MemoryDisk::new(alloc, journal.as_bytes().to_vec(alloc).ok()?);
+    let Ok(found) = disk.bytes().to_vec(alloc) else {
+        return None;
+    };
+    match recover(alloc, machine(alloc)?, found, disk) {
         Ok(node) => Some(node),
         Err(_) => None,
     }

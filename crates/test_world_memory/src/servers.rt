@@ -115,14 +115,18 @@ fn server_of<D: Disk>(
 }
 
 // A node as its journal says.
-fn start<D: Disk>(alloc: Global, disk: D) -> Option<Server<D, OrSet>>
+fn start(alloc: Global, journal: &[u8]) -> Option<Server<MemoryDisk, OrSet>>
     ensures { IfSome result (λ server. (server.node.durable.closed ≡ false)
-        × IsSettled D.seen D.may_leave server.node.durable.disk
+        × IsSettled ⟦<MemoryDisk as Disk>⟧.seen ⟦<MemoryDisk as Disk>⟧.may_leave server.node.durable.disk
         × (server.node.text.items ≡ [])
         × (server.shelf.view ≡ server.node.durable.machine.node.replica.view)) }
 {
     let machine = NodeMachine::new(alloc, alone(), 0).ok()?;
-    let Ok(node) = recover(alloc, machine, disk) else {
+    let disk = disk_of(alloc, journal)?;
+    let Ok(found) = disk.bytes().to_vec(alloc) else {
+        return None;
+    };
+    let Ok(node) = recover(alloc, machine, found, disk) else {
         return None;
     };
     let shelf = shelf_over(alloc, node.machine.node.view())?;
@@ -160,7 +164,11 @@ fn serve_line<D: Disk>(
     match served {
         Ok(()) if written == text.as_bytes() => Served::Well,
         Ok(()) if written == REFUSED.as_bytes() => Served::Noted,
-        Err(NodeFault::Memory) if text.as_bytes().starts_with(written) => Served::Stopped,
+        Err(NodeFault::Memory | NodeFault::DiskFault)
+            if text.as_bytes().starts_with(written) =>
+        {
+            Served::Stopped
+        }
         Ok(()) | Err(_) => Served::Wrong,
     }
 }
@@ -188,14 +196,14 @@ fn came_of(row: &Row, served: Served, before: &[u8], after: &[u8]) -> Came {
 fn serves_again(alloc: Global, row: &Row, journal: &[u8]) -> Came {
     let is_first = journal == row.journal.as_bytes();
     let text = if is_first { row.text } else { row.later };
-    let mut server = start(alloc, disk_of(alloc, journal)?)?;
+    let mut server = start(alloc, journal)?;
     let served = serve_line(alloc, &mut server, row.line, text);
     came_of(row, served, journal, server.node.durable.disk.bytes())
 }
 
 fn serves(alloc: Global, row: &Row) -> Came {
     let journal = row.journal.as_bytes();
-    let mut server = start(alloc, disk_of(alloc, journal)?)?;
+    let mut server = start(alloc, journal)?;
     let served = serve_line(alloc, &mut server, row.line, row.text);
     let left = server.node.durable.disk.bytes();
     match came_of(row, served, journal, left) {
@@ -254,6 +262,11 @@ fn is_memory(output: &[u8], told: &[u8]) -> bool {
     output.is_empty() && told == b"Memory\n".as_slice()
 }
 
+// The same of a disk in memory that found none.
+fn is_disk(output: &[u8], told: &[u8]) -> bool {
+    output.is_empty() && told == b"DiskFault\n".as_slice()
+}
+
 // A question to a node that starts on its journal.
 fn runs(alloc: Global) -> Came {
     let options = Options {
@@ -262,17 +275,21 @@ fn runs(alloc: Global) -> Came {
         folder: String::new(alloc),
     };
     let disk = disk_of(alloc, ROUND.as_bytes())?;
+    let Ok(found) = disk.bytes().to_vec(alloc) else {
+        return None;
+    };
     let mut output = Output::new(room(alloc)?);
     let mut told = Told {
         bytes: room(alloc)?,
     };
     let mut input = b"ask 0 3 items\n".as_slice();
-    let ended = run(alloc, &options, disk, &mut input, &mut output, &mut told);
+    let ended = run(alloc, &options, found, disk, &mut input, &mut output, &mut told);
     let written = output.writer.as_slice();
     match ended.status {
         0 if written == ANSWER.as_bytes() => Some(told.bytes.is_empty()),
         0 => refused(written == REFUSED.as_bytes() && told.bytes.is_empty()),
         3 => refused(is_memory(written, &told.bytes)),
+        5 => refused(is_disk(written, &told.bytes)),
         _ => Some(false),
     }
 }

@@ -118,13 +118,15 @@ use la_journal::{
 };
 use std::io;
 
-/// A machine as its journal says, ready to be asked: all that was answered before is played, and is on
-/// the disk.
+/// A machine as its journal says, whose bytes were found, ready to be asked: all that was answered before is played, and
+/// is on the disk.
 pub fn start<M: Machine, D: Disk>(
     alloc: Global,
     machine: M,
+    found: Vec<u8>,
     disk: D,
 ) -> Result<Durable<M, D>, Unplayed<M::Refusal>>
+    requires { D.seen disk ≡ found.items }
     ensures state { IfOk result (λ node. state_after M.named_state M.named M.step (M.state machine) (D.seen disk)
         ≡ Some (M.state node.machine)) }
     ensures leads { IfOk result (λ node. state_after M.named_state M.named M.step (M.state machine) (D.seen node.disk)
@@ -132,7 +134,7 @@ pub fn start<M: Machine, D: Disk>(
     ensures ready { IfOk result (λ node. (node.closed ≡ false)
         × IsSettled D.seen D.may_leave node.disk) }
 {
-    match recover(alloc, machine, disk) {
+    match recover(alloc, machine, found, disk) {
         Ok(node) => Ok(node),
         Err((why, _disk)) => Err(why),
     }
@@ -207,8 +209,11 @@ pub fn taken_for_good(
 ) -> Option<Durable<Lease, MemoryDisk>>
     ensures { IfSome result (λ lease. lease.machine.taken ≡ true) }
 {
-    let free = Lease { taken: false };
-    let Ok(mut lease) = start(alloc, free, MemoryDisk::new(alloc, journal)) else {
+    let disk = MemoryDisk::new(alloc, journal);
+    let Ok(found) = disk.bytes().to_vec(alloc) else {
+        return None;
+    };
+    let Ok(mut lease) = start(alloc, Lease { taken: false }, found, disk) else {
         return None;
     };
     let Ok(_) = lease.handle(alloc, &Ask::Take) else {
@@ -217,7 +222,10 @@ pub fn taken_for_good(
     let Ok(left) = lease.disk.crash(spoilt) else {
         return None;
     };
-    match start(alloc, Lease { taken: false }, left) {
+    let Ok(found) = left.bytes().to_vec(alloc) else {
+        return None;
+    };
+    match start(alloc, Lease { taken: false }, found, left) {
         Ok(lease) => Some(lease),
         Err(_) => None,
     }
@@ -256,8 +264,8 @@ pub fn lease_in(
     folder: String,
 ) -> io::Result<Durable<Lease, FileDisk<HostRuntime>>> {
     let lock = FolderLock::take(&rt, alloc, folder)?;
-    let disk = FileDisk::open(rt, alloc, lock)?;
-    match start(alloc, Lease { taken: false }, disk) {
+    let (disk, found) = FileDisk::open(rt, alloc, lock)?;
+    match start(alloc, Lease { taken: false }, found, disk) {
         Ok(lease) => Ok(lease),
         Err(_) => Err(io::ErrorKind::Other.into()),
     }

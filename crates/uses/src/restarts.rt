@@ -12,13 +12,15 @@ use la_wire::LineError;
 use la_world::live;
 use std::alloc::Global;
 
-/// A node as its journal says. Whatever crash left this of the lines that it was handed since it last gave
+/// A node as its journal says, whose bytes were found. Whatever crash left this of the lines that it was handed since it last gave
 /// something out, its group is live with it.
 pub fn restart<D: Disk>(
     alloc: Global,
     start: NodeMachine,
+    found: Vec<u8>,
     disk: D,
 ) -> Result<Durable<NodeMachine, D>, Unplayed<NodeError>>
+    requires { D.seen disk ≡ found.items }
     ensures live { IfOk result (λ durable.
         RestartsLive start.node.replica (D.seen disk) durable.machine.node) }
     ensures ready { IfOk result (λ durable. (durable.closed ≡ false)
@@ -26,7 +28,7 @@ pub fn restart<D: Disk>(
 {
     laws::restarts_take_calls();
     live::unheard_calls_keep_live();
-    match recover(alloc, start, disk) {
+    match recover(alloc, start, found, disk) {
         Ok(durable) => Ok(durable),
         Err((why, _disk)) => Err(why),
     }

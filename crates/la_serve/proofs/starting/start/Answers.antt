@@ -15,7 +15,7 @@ use Rattle.la_serve.proofs.starting.start.Goals as goal
 pub serve-requires-clause-takes : goal.serve-requires-clause-takes
 serve-requires-clause-takes g c κs within = (
   ap (λ d. d.closed) c.new-in-Ok-recover.ensures.durable ∙ c.in-Ok-recover.ensures.settled.0,
-  subst (λ (v : Histories). IsSubset v c.new-in-Ok-recover.result.durable.machine.node.replica.view) (sym c.requires)
+  subst (λ (v : Histories). IsSubset v c.new-in-Ok-recover.result.durable.machine.node.replica.view) (sym c.requires.shelf)
       (nothing_within c.new-in-Ok-recover.result.durable.machine.node.replica.view),
 )
 

@@ -1,8 +1,10 @@
-use Rattle.std.proofs.Common.{refl}
-use Rattle.la_journal.proofs.Goes.{noted_grown}
+use Rattle.std.proofs.Common.{List, subst}
+use Rattle.la_journal.specs.Note.{Moment, now_of}
+use Rattle.la_journal.specs.Outcomes.{LeftAt}
+use Rattle.la_journal.proofs.Goes.{grown_left}
 use Rattle.la_journal.proofs.contents.Contents.append.Goals as goal
 
 pub returns-clause-crash : goal.returns-clause-crash
 returns-clause-crash c f left =
-    noted_grown c.note.new.self.events c.args.bytes.now c.args.bytes.now f refl c.args.self.now.past.events c.note.ensures
-    left
+    grown_left c.args.bytes.now (now_of c.args.self.now.past.events) f
+    (subst (λ (p : List Moment). LeftAt (now_of p) f) c.note.ensures left)

@@ -1,9 +1,9 @@
-use Rattle.std.proofs.Common.{◌≤◌, length, rules}
-use Rattle.la_journal.proofs.Goes.{noted_alone}
+use Rattle.std.proofs.Common.{List, subst}
+use Rattle.la_journal.specs.Note.{Moment, now_of}
+use Rattle.la_journal.specs.Outcomes.{LeftAt}
+use Rattle.la_journal.proofs.Goes.{stored_alone}
 use Rattle.la_journal.proofs.contents.Contents.replace.Goals as goal
 
 pub returns-clause-durable : goal.returns-clause-durable
 returns-clause-durable c f left =
-    let long : length c.args.bytes.items ≤ c.len-self.result = search rules in
-    noted_alone c.note.new.self.events c.len-self.result c.deref.result.now c.args.bytes.items f c.deref.ensures.value
-    long c.args.self.now.past.events c.note.ensures left
+    stored_alone c.args.bytes.now f (subst (λ (p : List Moment). LeftAt (now_of p) f) c.note.ensures left)

@@ -1,16 +1,15 @@
-use Rattle.std.proofs.Common.{◌≤◌, length, rules}
-use Rattle.la_journal.specs.Note.{now_of}
-use Rattle.la_journal.proofs.Goes.{noted_alone, now_left, held_left}
+use Rattle.std.proofs.Common.{List, subst}
+use Rattle.la_journal.specs.Note.{Moment, now_of, bytes_in, kept_in}
+use Rattle.la_journal.specs.Outcomes.{LeftAt}
+use Rattle.la_journal.proofs.Goes.{stored_alone, now_left, held_left}
 use Rattle.la_journal.proofs.contents.Contents.sync.Goals as goal
 
 pub returns-clause-durable : goal.returns-clause-durable
 returns-clause-durable c f left =
-    let long : length c.args.self.now.bytes.items ≤ c.len-self.result = search rules in
-    noted_alone c.note.new.self.events c.len-self.result c.deref.result.now c.args.self.now.bytes.items f
-    c.deref.ensures.value long c.args.self.now.past.events c.note.ensures left
+    stored_alone (bytes_in (now_of c.args.self.now.past.events)) f
+    (subst (λ (p : List Moment). LeftAt (now_of p) f) c.note.ensures left)
 
 pub returns-clause-crash : goal.returns-clause-crash
 returns-clause-crash c f left =
-    held_left c.args.self.now.kept c.args.self.now.bytes.items (now_of c.args.self.now.past.events) f
-    c.args.self.now.held
-    (now_left c.args.self.now.kept c.args.self.now.bytes.items f (returns-clause-durable c f left))
+    let was = now_of c.args.self.now.past.events in
+    held_left was f c.args.self.now.there (now_left (kept_in was) (bytes_in was) f (returns-clause-durable c f left))

@@ -26,30 +26,32 @@ use denote.Triple.Spec.{Meets, triple_of}
 use denote.Triple.Table.{entered}
 use denote.Triple.Walked.{says, Stays, stay_ref, walk_of, AllGo, Goes-ref, Walks, ends_at, walked, walk_Meets}
 use Rattle.la_journal.specs.declared.record.Record.{Record}
+use Rattle.la_journal.specs.declared.happened.Happened.{Happened}
 use Rattle.la_journal.specs.Note.{next_of}
 use Rattle.la_journal.specs.contracts.record.Record as T
+use Rattle.la_journal.specs.contracts.happened.Happened as E
 use Rattle.la_journal.specs.contracts.record.Record.note.Key.{name as #it}
 use Rattle.la_journal.specs.contracts.record.Record.note as it
 use Rattle.la_journal.proofs.record.Record.note.Statement as stated
 use Rattle.la_journal.proofs.record.Record.note.Code as code
-use denote.Ref.{Bor}
-use denote.Builtin.{u8, u64}
+use denote.Ref.{Bor, ShrRef, shr_vals, shr_Tells}
+use denote.Builtin.{u8}
 use denote.Exit.{yes}
 use denote.Slice.{ShrSlice, slice_val, shr_slice_vals, shr_slice_Tells}
-use denote.Triple.Walked.{stay_none_slice, Goes-none_slice}
+use denote.Triple.Walked.{stay_none_ref, Goes-none_ref, stay_none_slice, Goes-none_slice}
 use Rattle.std.proofs.Common.{◌<◌, ◌^◌, length}
 
 abbrev Arg : Type 0
-Arg = MutBor Record × (Bor (List ℕ) × (Bor (List ℕ) × Unit {0}))
+Arg = MutBor Record × (Bor Happened × (Bor (List ℕ) × Unit {0}))
 
 abbrev stayed : Stays (it.ended).signature.params (it.ended).kept
 stayed = (
   stay_ref (0 ∷ []) tt (plain (λ _. T.the_row)),
-  (stay_none_slice (1 ∷ []) tt (plain (λ _. u64)) yes, (stay_none_slice (2 ∷ []) tt (plain (λ _. u8)) yes, tt)),
+  (stay_none_ref (1 ∷ []) tt (plain (λ _. E.the_row)) yes, (stay_none_slice (2 ∷ []) tt (plain (λ _. u8)) yes, tt)),
 )
 
 module _ {M : Type 1} {𝓤 : Ura M} (𝓛 : Logic 𝓤) (at_mem : Memory → SProp 𝓤) (run : Routine → Fun 𝓤) (κ κ' κ'' : Lft)
-    (q q' q'' : Share) (b o : ℕ) (γ : GName) (h : Record) (k s : Bor (List ℕ)) where
+    (q q' q'' : Share) (b o : ℕ) (γ : GName) (h : Record) (k : Bor Happened) (s : Bor (List ℕ)) where
   open 𝓛 use {H, A}
 
   abbrev x : Arg
@@ -59,10 +61,10 @@ module _ {M : Type 1} {𝓤 : Ura M} (𝓛 : Logic 𝓤) (at_mem : Memory → SP
   h' = record { marker = h.marker; events = next_of k.now s.now h.events }
 
   abbrev at : List Val × (List Val × (List Val × Unit {0}))
-  at = (vptr b o ∷ [], (slice_val k.ref_ptr (length k.now) ∷ [], (slice_val s.ref_ptr (length s.now) ∷ [], tt)))
+  at = (vptr b o ∷ [], (shr_vals k, (slice_val s.ref_ptr (length s.now) ∷ [], tt)))
 
   abbrev rest : base.Fml.Fml
-  rest = owns (ShrSlice (named 1) κ' u64 ∷ ShrSlice (named 2) κ'' u8 ∷ []) x.1 at.1
+  rest = owns (ShrRef (named 1) κ' E.the_row ∷ ShrSlice (named 2) κ'' u8 ∷ []) x.1 at.1
 
   abbrev Post : Val → SProp 𝓤
   Post =
@@ -86,18 +88,18 @@ module _ {M : Type 1} {𝓤 : Ura M} (𝓛 : Logic 𝓤) (at_mem : Memory → SP
       feq_i ! (List Val) (vunit ∷ []) (vunit ∷ []) refl $ move ! (1 ∷ 0 ∷ []) $ done !
 
   module _ (C : Calls 𝓤 H) (Λ : Loops 𝓤 H) where
-    walk : length k.now < 2 ^ 64 → length s.now < 2 ^ 64
+    walk : length s.now < 2 ^ 64
         → ent 𝓤 (on_entry 𝓛 it.signature (κ, (κ', (κ'', tt))) (q, (q', (q'', tt))) x at)
         (WpFn 𝓤 H C Λ code.function
-        (vptr b o ∷ slice_val k.ref_ptr (length k.now) ∷ slice_val s.ref_ptr (length s.now) ∷ []) Post)
-    walk fk fs =
+        (vptr b o ∷ vptr k.ref_ptr.0 k.ref_ptr.1 ∷ slice_val s.ref_ptr (length s.now) ∷ []) Post)
+    walk fs =
         qed 𝓛
         ((‵ (flft κ q) ⊛ (‵ (flft κ' q') ⊛ (‵ (flft κ'' q'') ⊛ ‵ ftrue)))
-        ∷ ‵ (owns (MutRef (named 0) κ T.the_row ∷ ShrSlice (named 1) κ' u64 ∷ ShrSlice (named 2) κ'' u8 ∷ []) x at)
+        ∷ ‵ (owns (MutRef (named 0) κ T.the_row ∷ ShrRef (named 1) κ' E.the_row ∷ ShrSlice (named 2) κ'' u8 ∷ []) x at)
         ∷ []) ∵ split ! $ move ! (2 ∷ []) $ fsplit ! $ fsplit3 ! $ drop ! $ move ! (0 ∷ 1 ∷ 3 ∷ []) $
         enter ! C Λ code.function
-        (vptr b o ∷ slice_val k.ref_ptr (length k.now) ∷ slice_val s.ref_ptr (length s.now) ∷ []) _ $
-        alloc_all ! (λ l. pass_all ! refl ((tt, tt), ((tt, (tt, (record { fits = fk }, tt))), ((tt, (tt, (record { fits = fs }, tt))), tt))) $
+        (vptr b o ∷ vptr k.ref_ptr.0 k.ref_ptr.1 ∷ slice_val s.ref_ptr (length s.now) ∷ []) _ $
+        alloc_all ! (λ l. pass_all ! refl ((tt, tt), ((tt, tt), ((tt, (tt, (record { fits = fs }, tt))), tt))) $
         move ! (0 ∷ 1 ∷ 2 ∷ []) $ opens ! tt T.the_row {h = h} b o (λ vs.
         sets ! (of_opd ! (unit_lit !)) refl (tt, tt) $
         move ! (1 ∷ []) $ use1 𝓛 (‵ ((T.the_row).own_val h' vs)) (id⊢ 𝓤 _) $ move ! (1 ∷ 0 ∷ []) $ closes ! tt T.the_row
@@ -112,21 +114,21 @@ module _ {M : Type 1} {𝓤 : Ura M} (𝓛 : Logic 𝓤) (at_mem : Memory → SP
       → Walks 𝓛 it.ended stayed (WpFn 𝓤 H C Λ code.function) (it.clauses 𝓛 at_mem run)
   walks C Λ =
       walked 𝓛 it.ended stayed (it.clauses 𝓛 at_mem run) (WpFn 𝓤 H C Λ code.function)
-      (λ κs. (mut_vals, (shr_slice_vals, (shr_slice_vals, tt))))
+      (λ κs. (mut_vals, (shr_vals, (shr_slice_vals, tt))))
       (λ κs. (
         mut_Tells (named 0) κs.0 T.the_row,
-        (shr_slice_Tells (named 1) κs.1.0 u64, (shr_slice_Tells (named 2) κs.1.1.0 u8, tt)),
+        (shr_Tells (named 1) κs.1.0 E.the_row, (shr_slice_Tells (named 2) κs.1.1.0 u8, tt)),
       ))
       (λ κs qs bounds a _ are.
       via 𝓤 _ (fst∗ 𝓤 _ (emp 𝓤))
       (walk 𝓛 at_mem run κs.0 κs.1.0 κs.1.1.0 qs.0 qs.1.0 qs.1.1.0 a.0.ref_ptr.0 a.0.ref_ptr.1 a.0.ghost_name
-      a.0.now a.1.0 a.1.1.0 C Λ are.1.0.0.1.0 are.1.1.0.0.1.0))
+      a.0.now a.1.0 a.1.1.0 C Λ are.1.1.0.0.1.0))
 
   goes : AllGo 𝓛 3 (it.signature).params (it.ended).kept stayed
   goes = (
     Goes-ref 𝓛 3 0 tt (plain (λ _. T.the_row)),
     (
-      Goes-none_slice 𝓛 3 (1 ∷ []) tt (plain (λ _. u64)) yes,
+      Goes-none_ref 𝓛 3 (1 ∷ []) tt (plain (λ _. E.the_row)) yes,
       (Goes-none_slice 𝓛 3 (2 ∷ []) tt (plain (λ _. u8)) yes, tt),
     ),
   )

@@ -1,9 +1,7 @@
-use Rattle.std.proofs.Common.{◌≡◌, ◌++◌, List, ℕ, length, vec_len, sym, ◌∙◌, ap, arith, rules}
+use Rattle.std.proofs.Common.{◌≡◌, ◌++◌, List, ℕ, length, vec_len, sym, ◌∙◌, ap, rules}
 use Rattle.std.proofs.lemmas.List.{append-nil}
 use Rattle.la_journal.specs.Lines.{lines}
-use Rattle.la_journal.specs.Machine.{state_after, steps, LeadsToSome}
-use Rattle.la_journal.proofs.Moments.{joined}
-use Rattle.la_journal.proofs.Reserved.{settled_there, nothing_left}
+use Rattle.la_journal.specs.Machine.{steps}
 use Rattle.la_journal.proofs.Together.{commit_lines, commit_settled, commit_leads, commit_leaves, so_long, no_bytes, no_calls}
 use Rattle.la_journal.proofs.staging.Staged.commit.Goals as goal
 
@@ -29,65 +27,40 @@ returns-then-is_empty-clause-leads g c start before calls was are =
     ∙ ap (λ (cs : List g.M.Machine.Call). steps g.M.Machine.step cs before)
     (sym (no_calls g.M.Machine.text calls (sym are ∙ ap lines none)))
 
-pub returns-in-Ok-keep-clause-ok : goal.returns-in-Ok-keep-clause-ok
-returns-in-Ok-keep-clause-ok g c =
-    let settled =
-    settled_there g.D.Disk.seen g.D.Disk.may_leave c.args.self.now.durable.disk c.reserve.new.self
-    c.reserve.ensures.seen c.reserve.ensures.crash (c.requires c.if-self.false) in (
-      c.if-self.false,
-      commit_lines g.D.Disk.seen g.D.Disk.may_leave c.reserve.new.self settled c.args.self.now.text.items
-          c.deref.result.now c.args.self.now.whole c.deref.ensures.value c.keep.new.disk c.in-Ok-keep.ensures.written
-          ∙ ap (λ (f : List ℕ). lines f ++ lines c.args.self.now.text.items) c.reserve.ensures.seen,
-      c.clear.ensures.items,
-    )
+pub returns-in-Ok-clause-ok : goal.returns-in-Ok-clause-ok
+returns-in-Ok-clause-ok g c = (
+  c.if-self.false,
+  commit_lines g.D.Disk.seen g.D.Disk.may_leave c.args.self.now.durable.disk (c.requires c.if-self.false)
+      c.args.self.now.text.items c.deref.result.now c.args.self.now.whole c.deref.ensures.value c.keep.new.disk
+      c.in-Ok.ensures.written,
+  c.clear.ensures.items,
+)
 
-pub returns-in-Ok-keep-clause-open : goal.returns-in-Ok-keep-clause-open
-returns-in-Ok-keep-clause-open g c is_open =
-    let settled =
-    settled_there g.D.Disk.seen g.D.Disk.may_leave c.args.self.now.durable.disk c.reserve.new.self
-    c.reserve.ensures.seen c.reserve.ensures.crash (c.requires is_open) in
-    commit_settled g.D.Disk.seen g.D.Disk.may_leave c.reserve.new.self settled c.args.self.now.text.items
-    c.deref.result.now c.args.self.now.whole c.deref.ensures.value c.keep.new.disk c.in-Ok-keep.ensures.written
-    c.in-Ok-keep.ensures.durable
+pub returns-in-Ok-clause-open : goal.returns-in-Ok-clause-open
+returns-in-Ok-clause-open g c is_open =
+    commit_settled g.D.Disk.seen g.D.Disk.may_leave c.args.self.now.durable.disk (c.requires is_open)
+    c.args.self.now.text.items c.deref.result.now c.args.self.now.whole c.deref.ensures.value c.keep.new.disk
+    c.in-Ok.ensures.written c.in-Ok.ensures.durable
 
-pub returns-in-Ok-keep-clause-leads : goal.returns-in-Ok-keep-clause-leads
-returns-in-Ok-keep-clause-leads g c start before calls was are =
-    let settled =
-    settled_there g.D.Disk.seen g.D.Disk.may_leave c.args.self.now.durable.disk c.reserve.new.self
-    c.reserve.ensures.seen c.reserve.ensures.crash (c.requires c.if-self.false) in
-    commit_leads g.D.Disk.seen g.D.Disk.may_leave c.reserve.new.self settled c.args.self.now.text.items
-    c.deref.result.now c.args.self.now.whole c.deref.ensures.value
+pub returns-in-Ok-clause-leads : goal.returns-in-Ok-clause-leads
+returns-in-Ok-clause-leads g c start before calls was are =
+    commit_leads g.D.Disk.seen g.D.Disk.may_leave c.args.self.now.durable.disk (c.requires c.if-self.false)
+    c.args.self.now.text.items c.deref.result.now c.args.self.now.whole c.deref.ensures.value
     g.M.Machine.named_state g.M.Machine.named g.M.Machine.step g.M.Machine.text g.met.M.Machine.round_trip
-    g.met.M.Machine.clean start before calls
-    (ap (state_after g.M.Machine.named_state g.M.Machine.named g.M.Machine.step start) c.reserve.ensures.seen ∙ was) are
-    c.keep.new.disk c.in-Ok-keep.ensures.written
+    g.met.M.Machine.clean start before calls was are c.keep.new.disk c.in-Ok.ensures.written
 
-pub returns-in-Ok-keep-clause-any_moment : goal.returns-in-Ok-keep-clause-any_moment
-returns-in-Ok-keep-clause-any_moment g c is_open start before calls was are =
-    let unsettled = c.requires is_open in
-    let settled =
-    settled_there g.D.Disk.seen g.D.Disk.may_leave c.args.self.now.durable.disk c.reserve.new.self
-    c.reserve.ensures.seen c.reserve.ensures.crash (c.requires is_open) in
-    joined g.D.Disk.moment g.D.Disk.left_since _ c.args.self.now.durable.disk c.reserve.new.self c.keep.new.disk
-    (nothing_left g.D.Disk.seen g.D.Disk.may_leave c.args.self.now.durable.disk c.reserve.new.self
-    c.reserve.ensures.seen c.reserve.ensures.crash g.D.Disk.moment g.D.Disk.left_since unsettled
-    (g.met.D.Disk.only_now c.args.self.now.durable.disk) c.reserve.ensures.time
-    (LeadsToSome (state_after g.M.Machine.named_state g.M.Machine.named g.M.Machine.step start) g.M.Machine.step calls
-    before) (0, omega arith, was))
-    (commit_leaves g.D.Disk.seen g.D.Disk.may_leave c.reserve.new.self settled c.args.self.now.text.items c.deref.result.now c.args.self.now.whole c.deref.ensures.value
-    g.M.Machine.named_state g.M.Machine.named g.M.Machine.step g.M.Machine.text g.met.M.Machine.round_trip g.met.M.Machine.clean start before calls (ap (state_after g.M.Machine.named_state g.M.Machine.named g.M.Machine.step start) c.reserve.ensures.seen ∙ was) are g.D.Disk.moment g.D.Disk.left_since c.keep.new.disk c.keep.ensures.any_moment)
+pub returns-in-Ok-clause-any_moment : goal.returns-in-Ok-clause-any_moment
+returns-in-Ok-clause-any_moment g c is_open start before calls was are =
+    commit_leaves g.D.Disk.seen g.D.Disk.may_leave c.args.self.now.durable.disk (c.requires is_open)
+    c.args.self.now.text.items c.deref.result.now c.args.self.now.whole c.deref.ensures.value
+    g.M.Machine.named_state g.M.Machine.named g.M.Machine.step g.M.Machine.text g.met.M.Machine.round_trip
+    g.met.M.Machine.clean start before calls was are g.D.Disk.moment g.D.Disk.left_since c.keep.new.disk
+    c.keep.ensures.any_moment
 
 pub returns-in-Err-clause-any_moment : goal.returns-in-Err-clause-any_moment
 returns-in-Err-clause-any_moment g c is_open start before calls was are =
-    let unsettled = c.requires is_open in
-    let settled =
-    settled_there g.D.Disk.seen g.D.Disk.may_leave c.args.self.now.durable.disk c.reserve.new.self
-    c.reserve.ensures.seen c.reserve.ensures.crash (c.requires is_open) in
-    joined g.D.Disk.moment g.D.Disk.left_since _ c.args.self.now.durable.disk c.reserve.new.self c.keep.new.disk
-    (nothing_left g.D.Disk.seen g.D.Disk.may_leave c.args.self.now.durable.disk c.reserve.new.self
-    c.reserve.ensures.seen c.reserve.ensures.crash g.D.Disk.moment g.D.Disk.left_since unsettled
-    (g.met.D.Disk.only_now c.args.self.now.durable.disk) c.reserve.ensures.time
-    (LeadsToSome (state_after g.M.Machine.named_state g.M.Machine.named g.M.Machine.step start) g.M.Machine.step calls
-    before) (0, omega arith, was))
-    (commit_leaves g.D.Disk.seen g.D.Disk.may_leave c.reserve.new.self settled c.args.self.now.text.items c.deref.result.now c.args.self.now.whole c.deref.ensures.value
-    g.M.Machine.named_state g.M.Machine.named g.M.Machine.step g.M.Machine.text g.met.M.Machine.round_trip g.met.M.Machine.clean start before calls (ap (state_after g.M.Machine.named_state g.M.Machine.named g.M.Machine.step start) c.reserve.ensures.seen ∙ was) are g.D.Disk.moment g.D.Disk.left_since c.keep.new.disk c.keep.ensures.any_moment)
+    commit_leaves g.D.Disk.seen g.D.Disk.may_leave c.args.self.now.durable.disk (c.requires is_open)
+    c.args.self.now.text.items c.deref.result.now c.args.self.now.whole c.deref.ensures.value
+    g.M.Machine.named_state g.M.Machine.named g.M.Machine.step g.M.Machine.text g.met.M.Machine.round_trip
+    g.met.M.Machine.clean start before calls was are g.D.Disk.moment g.D.Disk.left_since c.keep.new.disk
+    c.keep.ensures.any_moment
