@@ -328,7 +328,7 @@ module _ {D R W E : Type 0} (f : Facts D R W E) (first : Point D E) where
         step_cut fault.Memory (inl r) = ([], none_cut r.0 r.1, tt)
         step_cut fault.Memory (inr r) = ((one_cut r).0, (one_cut r).1, tt)
         step_cut fault.BadConfig r = absurd r
-        step_cut fault.NoJournal r = absurd r
+        step_cut fault.Locked r = absurd r
         step_cut fault.BadJournal r = absurd r
         step_cut fault.DiskFault r = absurd r
 
@@ -487,7 +487,7 @@ module _ {D R W E : Type 0} (f : Facts D R W E) (first : Point D E) where
         unflushed fault.WriteFault r = serves_some AppendsPrefix (front r.0) r.1
         unflushed fault.ReadFault r = absurd r
         unflushed fault.BadConfig r = absurd r
-        unflushed fault.NoJournal r = absurd r
+        unflushed fault.Locked r = absurd r
         unflushed fault.BadJournal r = absurd r
 
       -- and why no more is read
@@ -498,7 +498,7 @@ module _ {D R W E : Type 0} (f : Facts D R W E) (first : Point D E) where
       then_refused fault.WriteFault m wrote all = inl (serves_some AppendsPrefix (front (all_front wrote)) all)
       then_refused fault.Memory m wrote all = inl (serves_some AppendsPrefix (front (all_front wrote)) all)
       then_refused fault.BadConfig m wrote all = absurd m
-      then_refused fault.NoJournal m wrote all = absurd m
+      then_refused fault.Locked m wrote all = absurd m
       then_refused fault.BadJournal m wrote all = absurd m
       then_refused fault.DiskFault m wrote all = absurd m
 

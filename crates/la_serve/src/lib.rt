@@ -21,4 +21,4 @@ pub use error::NodeFault;
 pub use options::{Options, command};
 pub use server::Server;
 pub use serving::serve;
-pub use starting::{end_with, run};
+pub use starting::{end_with, end_without_journal, run};
