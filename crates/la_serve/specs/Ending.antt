@@ -46,23 +46,23 @@ abbrev pub end_line : NodeFault → List ℕ
 end_line f = end_name f ++ 10 ∷ []
 
 -- why a folder can't be opened
-abbrev pub kind_word : ErrorKind → List ℕ
-kind_word kind.NotFound = codes "not found"
-kind_word kind.PermissionDenied = codes "permission denied"
-kind_word kind.NotADirectory = codes "not a folder"
-kind_word kind.IsADirectory = codes "is a folder"
-kind_word kind.FilesystemLoop = codes "symbolic link"
-kind_word kind.ReadOnlyFilesystem = codes "read-only"
-kind_word kind.StorageFull = codes "no space"
-kind_word kind.QuotaExceeded = codes "no space"
-kind_word kind.InvalidInput = codes "bad path"
-kind_word kind.InvalidFilename = codes "bad path"
-kind_word kind.Unsupported = codes "unsupported"
-kind_word _ = codes "other error"
+abbrev pub cause_name : ErrorKind → List ℕ
+cause_name kind.NotFound = codes "not found"
+cause_name kind.PermissionDenied = codes "permission denied"
+cause_name kind.NotADirectory = codes "not a folder"
+cause_name kind.IsADirectory = codes "is a folder"
+cause_name kind.FilesystemLoop = codes "symbolic link"
+cause_name kind.ReadOnlyFilesystem = codes "read-only"
+cause_name kind.StorageFull = codes "no space"
+cause_name kind.QuotaExceeded = codes "no space"
+cause_name kind.InvalidInput = codes "bad path"
+cause_name kind.InvalidFilename = codes "bad path"
+cause_name kind.Unsupported = codes "unsupported"
+cause_name _ = codes "other error"
 
 -- the line that tells it
 abbrev pub no_journal_line : ErrorKind → List ℕ
-no_journal_line k = codes "NoJournal: " ++ kind_word k ++ 10 ∷ []
+no_journal_line k = codes "NoJournal: " ++ cause_name k ++ 10 ∷ []
 
 -- it took all lines of its input
 pub record ServerEndsWell {D R W E : Type 0} (f : Facts D R W E) (options : Options) (disk : D)

@@ -1,7 +1,7 @@
 // What is told of refusals, by name.
 ghost use Rattle.std.specs.Prelude.{◌≡◌, ◌≤◌, length};
 ghost use Rattle.la_serve.specs.Names.{replica_name, proposal_name, refusal_name};
-ghost use Rattle.la_serve.specs.Ending.{end_name, kind_word};
+ghost use Rattle.la_serve.specs.Ending.{end_name, cause_name};
 
 use crate::NodeFault;
 use la_durable::NodeError;
@@ -73,8 +73,8 @@ pub fn end_name(fault: NodeFault) -> &'static str
 }
 
 /// Why a folder can't be opened.
-pub fn kind_word(kind: ErrorKind) -> &'static str
-    ensures text { result.now ≡ kind_word kind }
+pub fn cause_name(kind: ErrorKind) -> &'static str
+    ensures text { result.now ≡ cause_name kind }
     ensures short { length result.now ≤ 17 }
 {
     match kind {

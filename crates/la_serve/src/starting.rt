@@ -10,7 +10,7 @@ ghost use Rattle.la_serve.specs.Ending.{node_status, end_line, no_journal_line, 
 ghost use Rattle.la_serve.specs.Io.{io};
 ghost use Rattle.la_serve.specs.Starting.{Runs, Stops};
 
-use crate::names::{end_name, kind_word};
+use crate::names::{cause_name, end_name};
 use crate::serving::serve;
 use crate::shelf::shelf_of;
 use crate::{NodeFault, Options, Server};
@@ -57,7 +57,7 @@ pub fn end_without_journal<E: Listener>(kind: ErrorKind, errors: &mut E) -> u8
 {
     let mut line = Line::new();
     line.push_str("NoJournal: ");
-    line.push_str(kind_word(kind));
+    line.push_str(cause_name(kind));
     line.push_str("\n");
     let _ = tell_all(errors, line.as_str().as_bytes());
     5
