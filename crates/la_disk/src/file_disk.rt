@@ -1,12 +1,13 @@
 // A real file as a disk.
-ghost use Rattle.std.specs.Prelude.{◌≡◌, IfOk};
+ghost use Rattle.std.specs.Prelude.{◌≡◌, ◌≢◌, IfOk, IfErr};
 ghost use Rattle.la_journal.specs.Held.{held_bytes, faults_of, moment_of, may_leave_of, left_since_of, only_now_of, counts_now_of};
+ghost use Rattle.la_disk.specs.declared.fault.OpenFault.TheVariants.{Locked};
 
-use crate::FolderLock;
-use crate::folder_lock::path_of;
+use crate::opening::{keep_access, make, open_or_make, path_of, refuse_other, remove_leftover};
+use crate::{FolderLock, OpenFault};
 use la_journal::{Contents, Disk, DiskFault, Record};
 use std::alloc::Global;
-use std::fs::{OpenFile, OpenOptions};
+use std::fs::{self, OpenFile, OpenOptions};
 use std::io::{self, Read, Write};
 use std::rt::Files;
 
@@ -28,21 +29,24 @@ impl<R: Files + Drop> FileDisk<R> {
     /// comes beside it, for [`recover`](la_journal::recover): that need not be on the disk, where `recover` puts it.
     /// Linear in the journal, which is then in memory once.
     ///
-    /// What an earlier process may have left is not known here, and no clause says it: that what was read
-    /// is among that, and that until the first sync or replacement a crash leaves that or what was read, is
-    /// the premise `IsStart` of whoever starts on it.
-    pub fn open(rt: R, alloc: Global, lock: FolderLock) -> io::Result<(FileDisk<R>, Vec<u8>)>
-        ensures { IfOk result (λ opened. ⟦<FileDisk<R> as Disk>⟧.seen opened.0 ≡ opened.1.items) }
+    /// `Unopened` comes where `journal` can't be opened or made, or it or `journal.new` is no file, and
+    /// `Unread` where a read fails. What an earlier process may have left is not known here, and no clause
+    /// says it: that what was read is among that, and that until the first sync or replacement a crash
+    /// leaves that or what was read, is the premise `IsStart` of whoever starts on it.
+    pub fn open(rt: R, alloc: Global, lock: FolderLock) -> Result<(FileDisk<R>, Vec<u8>), OpenFault>
+        ensures found { IfOk result (λ opened. ⟦<FileDisk<R> as Disk>⟧.seen opened.0 ≡ opened.1.items) }
+        ensures free { IfErr result (λ e. e ≢ Locked) }
     {
         let path = path_of(alloc, lock.folder(), "/journal")?;
-        let mut file = OpenOptions::new()
-            .read(true)
-            .append(true)
-            .create(true)
-            .open(&rt, path.as_str())?;
         let next = path_of(alloc, lock.folder(), "/journal.new")?;
+        refuse_other(&rt, next.as_str())?;
+        let mut options = OpenOptions::new();
+        options.read(true).append(true);
+        let mut file = open_or_make(&rt, &mut options, path.as_str())?;
         let mut found = Vec::new(alloc);
-        file.read_to_end(&mut found)?;
+        if let Err(error) = file.read_to_end(&mut found) {
+            return Err(OpenFault::of_reading(error.kind()));
+        }
         let contents = Contents::found(&found, found.len(), Record::of_another());
         let disk = FileDisk {
             rt,
@@ -59,16 +63,14 @@ impl<R: Files + Drop> FileDisk<R> {
     fn put(&mut self, bytes: &[u8]) -> io::Result<()>
         ensures { self.new.contents ≡ self.old.contents }
     {
-        let mut file = OpenOptions::new()
-            .write(true)
-            .truncate(true)
-            .create(true)
-            .open(&self.rt, self.next.as_str())?;
+        remove_leftover(&self.rt, self.next.as_str())?;
+        let mut file = make(&self.rt, OpenOptions::new().write(true), self.next.as_str())?;
+        keep_access(&self.rt, &self.file, &file, self.next.as_str())?;
         file.write_all(bytes)?;
         file.sync_all()?;
-        std::fs::rename(&self.rt, self.next.as_str(), self.path.as_str())?;
+        fs::rename(&self.rt, self.next.as_str(), self.path.as_str())?;
         self.file = file;
-        std::fs::open(&self.rt, self.lock.folder())?.sync_all()
+        fs::open(&self.rt, self.lock.folder())?.sync_all()
     }
 }
 

@@ -1,3 +1,8 @@
+ghost use Rattle.std.specs.Prelude.{◌≢◌, IfErr};
+ghost use Rattle.la_disk.specs.declared.fault.OpenFault.TheVariants.{Unread};
+
+use crate::OpenFault;
+use crate::opening::{open_or_make, path_of};
 use std::alloc::Global;
 use std::fs::{File, OpenOptions};
 use std::io;
@@ -11,15 +16,17 @@ pub struct FolderLock {
 }
 
 impl FolderLock {
-    /// Takes a folder that exists. `WouldBlock` comes where another process has it.
-    pub fn take(rt: &HostRuntime, alloc: Global, folder: String) -> io::Result<FolderLock> {
+    /// Takes a folder that exists. `Locked` comes where another process has it, and `Unopened` where
+    /// there is no such folder, or `lock` in it can't be opened or made, or is no file.
+    pub fn take(rt: &HostRuntime, alloc: Global, folder: String) -> Result<FolderLock, OpenFault>
+        ensures unread { IfErr result (λ e. e ≢ Unread) }
+    {
         let path = path_of(alloc, folder.as_str(), "/lock")?;
-        let file = OpenOptions::new()
-            .write(true)
-            .create(true)
-            .open(rt, path.as_str())?;
-        file.try_lock()?;
-        Ok(FolderLock { file, folder })
+        let file = open_or_make(rt, OpenOptions::new().write(true), path.as_str())?;
+        match file.try_lock() {
+            Ok(()) => Ok(FolderLock { file, folder }),
+            Err(refusal) => Err(OpenFault::of_locking(refusal)),
+        }
     }
 
     /// The folder's path.
@@ -31,12 +38,4 @@ impl FolderLock {
     pub fn release(self) -> io::Result<()> {
         self.file.unlock()
     }
-}
-
-// The path of a file in a folder.
-pub(crate) fn path_of(alloc: Global, folder: &str, name: &str) -> io::Result<String> {
-    let mut path = String::new(alloc);
-    path.push_str(folder)?;
-    path.push_str(name)?;
-    Ok(path)
 }

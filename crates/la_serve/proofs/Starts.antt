@@ -93,7 +93,7 @@ module _ (Told : List (List ℕ) → Type 0) (Left Left2 : (turns last : List Tu
   refusal_to fault.Memory (inl s) = inl (some_to AppendsPrefix s)
   refusal_to fault.Memory (inr s) = inr (closed_to s)
   refusal_to fault.BadConfig s = s
-  refusal_to fault.NoJournal s = s
+  refusal_to fault.Locked s = s
   refusal_to fault.BadJournal s = s
 
 -- ## A run, by what was served behind its recovery
@@ -152,7 +152,7 @@ module _ {D R W E : Type 0} (f : Facts D R W E) (objects objects2 : List (ℕ ×
     run_stops fault.Memory s = inr (cut fault.Memory s)
     run_stops fault.DiskFault s = inr (cut fault.DiskFault s)
     run_stops fault.BadConfig s = absurd s
-    run_stops fault.NoJournal s = absurd s
+    run_stops fault.Locked s = absurd s
     run_stops fault.BadJournal s = absurd s
 
     pub stops : {T : Type 0} (r : Result T NodeFault) → IfErr r (IsServeRefusal Told Here at_first at_last)

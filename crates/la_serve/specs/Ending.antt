@@ -1,5 +1,7 @@
 -- How a node ends, and what is told of that.
 use Rattle.std.specs.Prelude.{◌≡◌, ◌⊎◌, ℕ, List, [], ◌∷◌, ◌++◌, codes, Option}
+use Rattle.std.specs.declared.io.ErrorKind.{ErrorKind}
+use Rattle.std.specs.declared.io.ErrorKind.TheVariants as kind
 use Rattle.la_object.specs.declared.kind.Kind.{Kind}
 use Rattle.la_object.specs.declared.kind.Kind.TheVariants.{Counter, MaxRegister, OrSet}
 use Rattle.la_object.specs.declared.state.State.{State}
@@ -27,7 +29,7 @@ node_status fault.Memory = 3
 node_status fault.ReadFault = 4
 node_status fault.WriteFault = 4
 node_status fault.BadConfig = 4
-node_status fault.NoJournal = 5
+node_status fault.Locked = 5
 node_status fault.BadJournal = 5
 node_status fault.DiskFault = 5
 
@@ -36,13 +38,32 @@ end_name fault.ReadFault = codes "ReadFault"
 end_name fault.WriteFault = codes "WriteFault"
 end_name fault.Memory = codes "Memory"
 end_name fault.BadConfig = codes "BadConfig"
-end_name fault.NoJournal = codes "NoJournal"
+end_name fault.Locked = codes "Locked"
 end_name fault.BadJournal = codes "BadJournal"
 end_name fault.DiskFault = codes "DiskFault"
 
 -- the line that tells it
 abbrev pub end_line : NodeFault → List ℕ
 end_line f = end_name f ++ 10 ∷ []
+
+-- why a folder can't be opened
+abbrev pub cause_name : ErrorKind → List ℕ
+cause_name kind.NotFound = codes "not found"
+cause_name kind.PermissionDenied = codes "permission denied"
+cause_name kind.NotADirectory = codes "not a folder"
+cause_name kind.IsADirectory = codes "is a folder"
+cause_name kind.FilesystemLoop = codes "symbolic link"
+cause_name kind.ReadOnlyFilesystem = codes "read-only"
+cause_name kind.StorageFull = codes "no space"
+cause_name kind.QuotaExceeded = codes "no space"
+cause_name kind.InvalidInput = codes "bad path"
+cause_name kind.InvalidFilename = codes "bad path"
+cause_name kind.Unsupported = codes "unsupported"
+cause_name _ = codes "other error"
+
+-- the line that tells it
+abbrev pub no_journal_line : ErrorKind → List ℕ
+no_journal_line k = codes "NoJournal: " ++ cause_name k ++ 10 ∷ []
 
 -- it took all lines of its input
 pub record ServerEndsWell {D R W E : Type 0} (f : Facts D R W E) (options : Options) (disk final : D)

@@ -146,7 +146,7 @@ of_step fault.WriteFault = fault.Memory
 of_step fault.Memory = fault.Memory
 of_step fault.ReadFault = fault.ReadFault
 of_step fault.BadConfig = fault.BadConfig
-of_step fault.NoJournal = fault.NoJournal
+of_step fault.Locked = fault.Locked
 of_step fault.BadJournal = fault.BadJournal
 of_step fault.DiskFault = fault.DiskFault
 

@@ -24,9 +24,9 @@ pub enum NodeFault {
     #[error("BadConfig")]
     BadConfig,
 
-    /// The journal's folder is none, or another process has it.
-    #[error("NoJournal")]
-    NoJournal,
+    /// Another process has the journal's folder.
+    #[error("Locked")]
+    Locked,
 
     /// The journal holds what can't be played.
     #[error("BadJournal")]

@@ -26,4 +26,4 @@ pub use options::{Options, command};
 pub use output::Output;
 pub use server::Server;
 pub use serving::serve;
-pub use starting::{end_with, run};
+pub use starting::{end_with, end_without_journal, run};

@@ -1,12 +1,13 @@
 // What is told of refusals, by name.
 ghost use Rattle.std.specs.Prelude.{◌≡◌, ◌≤◌, length};
 ghost use Rattle.la_serve.specs.Names.{replica_name, proposal_name, refusal_name};
-ghost use Rattle.la_serve.specs.Ending.{end_name};
+ghost use Rattle.la_serve.specs.Ending.{end_name, cause_name};
 
 use crate::NodeFault;
 use la_durable::NodeError;
 use la_node::WorldError;
 use la_replica::ReplicaError;
+use std::io::ErrorKind;
 
 fn replica_name(refusal: ReplicaError) -> &'static str
     ensures text { result.now ≡ replica_name refusal }
@@ -65,8 +66,27 @@ pub fn end_name(fault: NodeFault) -> &'static str
         NodeFault::WriteFault => "WriteFault",
         NodeFault::Memory => "Memory",
         NodeFault::BadConfig => "BadConfig",
-        NodeFault::NoJournal => "NoJournal",
+        NodeFault::Locked => "Locked",
         NodeFault::BadJournal => "BadJournal",
         NodeFault::DiskFault => "DiskFault",
+    }
+}
+
+/// Why a folder can't be opened.
+pub fn cause_name(kind: ErrorKind) -> &'static str
+    ensures text { result.now ≡ cause_name kind }
+    ensures short { length result.now ≤ 17 }
+{
+    match kind {
+        ErrorKind::NotFound => "not found",
+        ErrorKind::PermissionDenied => "permission denied",
+        ErrorKind::NotADirectory => "not a folder",
+        ErrorKind::IsADirectory => "is a folder",
+        ErrorKind::FilesystemLoop => "symbolic link",
+        ErrorKind::ReadOnlyFilesystem => "read-only",
+        ErrorKind::StorageFull | ErrorKind::QuotaExceeded => "no space",
+        ErrorKind::InvalidInput | ErrorKind::InvalidFilename => "bad path",
+        ErrorKind::Unsupported => "unsupported",
+        _ => "other error",
     }
 }

@@ -6,11 +6,11 @@ ghost use Rattle.la_object.specs.declared.kind.Kind.TheVariants.{OrSet as SetKin
 ghost use Rattle.la_object.specs.Objects.{start};
 ghost use Rattle.la_io.specs.Streams.{TellsLine};
 ghost use Rattle.la_serve.specs.Faults.{of_journal};
-ghost use Rattle.la_serve.specs.Ending.{node_status, end_line, AreAtStart, ServerEnds};
+ghost use Rattle.la_serve.specs.Ending.{node_status, end_line, no_journal_line, AreAtStart, ServerEnds};
 ghost use Rattle.la_serve.specs.Io.{io};
 ghost use Rattle.la_serve.specs.Starting.{Runs, Stops};
 
-use crate::names::end_name;
+use crate::names::{cause_name, end_name};
 use crate::serving::serve;
 use crate::shelf::shelf_of;
 use crate::{Ended, NodeFault, Options, Output, Server};
@@ -22,9 +22,9 @@ use la_node::WorldError;
 use la_object::{Counter, MaxRegister, Replicated, Shelf};
 use la_orset::OrSet;
 use std::alloc::{AllocError, Global};
-use std::io::{Read, Write};
+use std::io::{ErrorKind, Read, Write};
 
-type Line = ArrayString<16>;
+type Line = ArrayString<32>;
 
 // The exit status after a fault.
 fn status_of(fault: NodeFault) -> u8
@@ -33,7 +33,7 @@ fn status_of(fault: NodeFault) -> u8
     match fault {
         NodeFault::Memory => 3,
         NodeFault::ReadFault | NodeFault::WriteFault | NodeFault::BadConfig => 4,
-        NodeFault::NoJournal | NodeFault::BadJournal | NodeFault::DiskFault => 5,
+        NodeFault::Locked | NodeFault::BadJournal | NodeFault::DiskFault => 5,
     }
 }
 
@@ -47,6 +47,20 @@ pub fn end_with<E: Listener>(fault: NodeFault, errors: &mut E) -> u8
     line.push_str("\n");
     let _ = tell_all(errors, line.as_str().as_bytes());
     status_of(fault)
+}
+
+/// The exit status where a node's folder can't be opened, for an error of this kind, which is told behind
+/// `NoJournal`. Of a folder that another process has, [`end_with`] tells.
+pub fn end_without_journal<E: Listener>(kind: ErrorKind, errors: &mut E) -> u8
+    ensures status { result ≡ 5 }
+    ensures told { TellsLine E.contents E.refuses errors.old errors.new (no_journal_line kind) }
+{
+    let mut line = Line::new();
+    line.push_str("NoJournal: ");
+    line.push_str(cause_name(kind));
+    line.push_str("\n");
+    let _ = tell_all(errors, line.as_str().as_bytes());
+    5
 }
 
 // Why a node does not begin whose journal was not played. A line that finds no room says nothing against the journal.

@@ -18,5 +18,5 @@ mod tally;
 #[cfg(test)]
 mod told;
 
-pub use kept::counted_in;
+pub use kept::{Uncounted, counted_in};
 pub use tally::{Move, MoveError, Stopped, Tally, counted};

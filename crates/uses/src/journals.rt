@@ -116,7 +116,6 @@ use la_disk::{FileDisk, FolderLock};
 use la_journal::{
     Disk, Durable, MemoryDisk, Outlet, Refused, Unplayed, laws, recover, serve_all, start_again,
 };
-use std::io;
 
 /// A machine as its journal says, whose bytes were found, ready to be asked: all that was answered before is played, and
 /// is on the disk.
@@ -257,16 +256,16 @@ pub fn serve_and_start_again<M: Machine, O: Outlet<MemoryDisk, Item = M::Output>
     }
 }
 
-/// A lease over the journal of a folder that exists. `WouldBlock` comes where another process has it.
+/// A lease over the journal of a folder that exists, and that no other process has.
 pub fn lease_in(
     rt: HostRuntime,
     alloc: Global,
     folder: String,
-) -> io::Result<Durable<Lease, FileDisk<HostRuntime>>> {
+) -> anyhow::Result<Durable<Lease, FileDisk<HostRuntime>>> {
     let lock = FolderLock::take(&rt, alloc, folder)?;
     let (disk, found) = FileDisk::open(rt, alloc, lock)?;
     match start(alloc, Lease { taken: false }, found, disk) {
         Ok(lease) => Ok(lease),
-        Err(_) => Err(io::ErrorKind::Other.into()),
+        Err(_) => anyhow::bail!("the journal can't be played"),
     }
 }
