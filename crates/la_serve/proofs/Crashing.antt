@@ -184,17 +184,14 @@ module _ {D : Type 0} (seen : D → List ℕ) (may_leave : D → List ℕ → Ty
       );
     }
       where
-        abbrev all_calls : List CallLine
-        all_calls = so.led.calls ++ then.calls
-
         led_on : (start : ReplicaState) → leads_from start (seen old) ≡ Some n → leads_from start (seen new) ≡ Some after
         led_on start was = all.leads start between then.calls (so.leads start was) (is ∙ then.lines) ∙ then.led
 
-        all_led : steps step all_calls n ≡ Some after
+        all_led : steps step (so.led.calls ++ then.calls) n ≡ Some after
         all_led =
             steps_join so.led.calls then.calls (Some n) ∙ ap (steps_from step then.calls) so.led.led ∙ then.led
 
-        newest_count : kept_count (last ∷ so.groups) ≡ length all_calls
+        newest_count : kept_count (last ∷ so.groups) ≡ length (so.led.calls ++ then.calls)
         newest_count =
             omega (
             arith,
@@ -203,13 +200,13 @@ module _ {D : Type 0} (seen : D → List ℕ) (may_leave : D → List ℕ → Ty
 
         newest : (start : ReplicaState) → leads_from start (seen old) ≡ Some n → (more : List CallLine) (c : List ℕ)
             → left_since new (moment new) c
-            → LeadsToAtLeast (leads_from start) step (kept_count (last ∷ so.groups)) (all_calls ++ more) n c
+            → LeadsToAtLeast (leads_from start) step (kept_count (last ∷ so.groups)) ((so.led.calls ++ then.calls) ++ more) n c
         newest start was more c left = (
-          length all_calls,
+          length (so.led.calls ++ then.calls),
           omega (arith, newest_count),
-          omega (arith, length-append all_calls more),
+          omega (arith, length-append (so.led.calls ++ then.calls) more),
           ap (leads_from start) (all.settled.durable c (only_now c left)) ∙ led_on start was ∙ sym all_led
-              ∙ ap (λ (l : List CallLine). steps step l n) (sym (take_front all_calls more)),
+              ∙ ap (λ (l : List CallLine). steps step l n) (sym (take_front (so.led.calls ++ then.calls) more)),
         )
 
     -- or the first some of them

@@ -25,10 +25,10 @@ use Rattle.la_replica.specs.ReplicaState.{ReplicaState}
 
 -- ## Calls of the same lines lead to the same
 
-texts : List CallLine → List (List ℕ)
+abbrev pub texts : List CallLine → List (List ℕ)
 texts calls = map (λ (c : CallLine). c.line) calls
 
-by_line : ReplicaState → List ℕ → Option ReplicaState
+abbrev pub by_line : ReplicaState → List ℕ → Option ReplicaState
 by_line r line = option_map (λ (made : Given × ReplicaState). made.1) (acts_by r (named_call line))
 
 by_lines : (calls : List CallLine) (state : Option ReplicaState)
@@ -62,7 +62,8 @@ module _ (leads : List ℕ → Option ReplicaState) (all : List CallLine) (n the
         omega (arith, at.2, parts),
         at.3
             ∙ ap (λ (l : List CallLine). steps step l n)
-            ((λ i. take (is i) (take-append-drop k all (~ i))) ∙ take-append-add (take k all) (drop k all) many)
+            (ap (take at.0) (sym (take-append-drop k all)) ∙ ap (λ (m : ℕ). take m (take k all ++ drop k all)) is
+            ∙ take-append-add (take k all) (drop k all) many)
             ∙ steps_join (take k all) (take many (drop k all)) (Some n)
             ∙ ap (steps_from step (take many (drop k all))) first,
       )
@@ -107,7 +108,7 @@ module _ {D : Type 0} (seen : D → List ℕ) (may_leave : D → List ℕ → Ty
       all_texts : texts (left.calls ++ left.later) ≡ kept_lines (in_order left.groups) ++ kept_lines last
       all_texts =
           map-append (λ (c : CallLine). c.line) left.calls left.later
-          ∙ (λ i. left.lines (~ i) ++ left.last_lines (~ i))
+          ∙ sym (λ i. left.lines i ++ left.last_lines i)
           ∙ ap (λ (ts : List Turn). kept_lines ts ++ kept_lines last) (sym left.are)
 
   -- ## Lives one after another
@@ -129,13 +130,10 @@ module _ {D : Type 0} (seen : D → List ℕ) (may_leave : D → List ℕ → Ty
   life_leads fresh first life c is =
       subst (λ cs. LeadsToAtLeast (leads_from fresh) step life.answered cs first c) (sym is.calls) (by is.killed)
     where
-      abbrev all : List CallLine
-      all = is.run.left.calls ++ is.run.left.later
-
       by : ((life.answered ≡ 0) × (lines c ≡ lines (seen is.disk)))
           ⊎ (((life.answered ≡ 0) × left_since is.final (moment is.run.recovered) c)
           ⊎ KilledBehind (left_since is.final) is.run.left.groups is.run.left.given life.answered c)
-          → LeadsToAtLeast (leads_from fresh) step life.answered all first c
+          → LeadsToAtLeast (leads_from fresh) step life.answered (is.run.left.calls ++ is.run.left.later) first c
       by (inl recovering) = (
         0,
         omega (arith, recovering.0),
@@ -150,7 +148,7 @@ module _ {D : Type 0} (seen : D → List ℕ) (may_leave : D → List ℕ → Ty
           let some = (is.run.left.any_moment fresh is.run.leads).each c none.1 in
           (some.0, omega (arith, none.0), some.1, some.2)
       by (inr (inr behind)) =
-          by_killed (moment is.final) (left_since is.final) (leads_from fresh) all first is.run.left.groups
+          by_killed (moment is.final) (left_since is.final) (leads_from fresh) (is.run.left.calls ++ is.run.left.later) first is.run.left.groups
           is.run.left.given life.answered c (is.run.left.keeps fresh is.run.leads) behind
 
   as_lives : (fresh first : ReplicaState) (lives : List (Life CallLine)) (file : List ℕ)

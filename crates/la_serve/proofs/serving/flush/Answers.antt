@@ -11,12 +11,12 @@ pub returns-in_ok-give-in-Ok-clause-any_moment : goal.returns-in_ok-give-in-Ok-c
 returns-in_ok-give-in-Ok-clause-any_moment g c =
     λ start before calls was are. c.commit.ensures.any_moment c.requires.unclosed start before calls was are
 
-pub returns-in-Err-Memory-clause-any_moment : goal.returns-in-Err-Memory-clause-any_moment
-returns-in-Err-Memory-clause-any_moment g c =
-    λ start before calls was are. c.commit.ensures.any_moment c.requires.unclosed start before calls was are
-
 pub returns-in-Err-Disk-clause-any_moment : goal.returns-in-Err-Disk-clause-any_moment
 returns-in-Err-Disk-clause-any_moment g c =
+    λ start before calls was are. c.commit.ensures.any_moment c.requires.unclosed start before calls was are
+
+pub returns-in-Err-Disk-2-clause-any_moment : goal.returns-in-Err-Disk-2-clause-any_moment
+returns-in-Err-Disk-2-clause-any_moment g c =
     λ start before calls was are. c.commit.ensures.any_moment c.requires.unclosed start before calls was are
 
 pub returns-in_ok-give-in-Ok-clause-ok : goal.returns-in_ok-give-in-Ok-clause-ok
@@ -36,6 +36,6 @@ returns-in_ok-give-in-Ok-clause-ok g c = record {
   some = λ start before calls was are. c.commit.ensures.any_moment c.requires.unclosed start before calls was are;
   given =
       subst
-      (λ (h : List ℕ). c.give.new.self.given.texts ≡ gives g.D.Disk.moment _ h c.args.output.now.given.texts)
+      (λ (h : List ℕ). c.give.new.self.given.texts ≡ gives g.D.Disk.moment c.commit.new.self.durable.disk h c.args.output.now.given.texts)
       c.deref.ensures.value c.give.ensures.given;
 }
