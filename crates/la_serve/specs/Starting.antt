@@ -55,6 +55,8 @@ IsServerStartRefusal f objects options disk old new fault.BadConfig =
     ⊎ IsStartRefusal options.config options.own empty_shelf world.NoSuchReplica)
 IsServerStartRefusal f objects options disk old new fault.BadJournal =
     RunsNot f old new × IsUnplayable options (f.seen disk)
+-- its disk is open
+IsServerStartRefusal f objects options disk old new fault.Locked = ⊥
 IsServerStartRefusal f objects options disk old new why =
     RunsNot f old new ⊎ RunsCut f objects options disk old new why
 
