@@ -147,8 +147,8 @@ module _ {D R W E : Type 0} (f : Facts D R W E) (objects objects2 : List (ℕ ×
 
     run_stops : (why : NodeFault) → IsServeRefusal Told Here at_first at_last why
         → IsServerStartRefusal f objects options disk final old new why
-    run_stops fault.ReadFault s = inr (cut fault.ReadFault s)
-    run_stops fault.WriteFault s = inr (cut fault.WriteFault s)
+    run_stops fault.ReadFault s = cut fault.ReadFault s
+    run_stops fault.WriteFault s = cut fault.WriteFault s
     run_stops fault.Memory s = inr (cut fault.Memory s)
     run_stops fault.DiskFault s = inr (cut fault.DiskFault s)
     run_stops fault.BadConfig s = absurd s

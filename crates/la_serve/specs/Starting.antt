@@ -61,6 +61,12 @@ IsServerStartRefusal f objects options disk final old new fault.BadConfig =
     ⊎ IsStartRefusal options.config options.own empty_shelf world.NoSuchReplica)
 IsServerStartRefusal f objects options disk final old new fault.BadJournal =
     RunsNot f disk final old new × IsUnplayable options (f.seen disk)
+-- its disk is open
+IsServerStartRefusal f objects options disk final old new fault.Locked = ⊥
+IsServerStartRefusal f objects options disk final old new fault.ReadFault =
+    RunsCut f objects options disk final old new fault.ReadFault
+IsServerStartRefusal f objects options disk final old new fault.WriteFault =
+    RunsCut f objects options disk final old new fault.WriteFault
 IsServerStartRefusal f objects options disk final old new why =
     RunsNot f disk final old new ⊎ RunsCut f objects options disk final old new why
 

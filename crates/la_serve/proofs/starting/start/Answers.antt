@@ -1,4 +1,4 @@
-use Rattle.std.proofs.Common.{Some, sym, subst, ap, ◌∙◌}
+use Rattle.std.proofs.Common.{Some, OnOk, IfErr, inl, inr, sym, subst, ap, ◌∙◌}
 use Rattle.la_set.specs.Histories.{Histories}
 use Rattle.la_set.specs.Inclusion.{IsSubset}
 use Rattle.la_journal.specs.Disk.{LeavesOnly}
@@ -9,13 +9,15 @@ use Rattle.la_durable.specs.Nodes.{kept_by}
 use Rattle.la_durable.specs.Restarts.{leads_from}
 use Rattle.la_serve.specs.Crashes.{at_start}
 use Rattle.la_serve.specs.Io.{facts, io}
-use Rattle.la_serve.proofs.Starts.{nothing_within, runs, stops}
+use Rattle.la_serve.specs.Starting.{RunsAll, IsServerStartRefusal}
+use Rattle.la_serve.proofs.Starts.{nothing_within, untouched, runs, stops}
 use Rattle.la_serve.proofs.starting.start.Goals as goal
 
-pub serve-requires-clause-takes : goal.serve-requires-clause-takes
-serve-requires-clause-takes g c κs within = (
+pub serve-served-requires-clause-takes : goal.serve-served-requires-clause-takes
+serve-served-requires-clause-takes g c κs within = (
   ap (λ d. d.closed) c.new-in-Ok-recover.ensures.durable ∙ c.in-Ok-recover.ensures.settled.0,
-  subst (λ (v : Histories). IsSubset v c.new-in-Ok-recover.result.durable.machine.node.replica.view) (sym c.requires.shelf)
+  subst (λ (v : Histories). IsSubset v c.new-in-Ok-recover.result.durable.machine.node.replica.view)
+      (sym c.requires.shelf)
       (nothing_within c.new-in-Ok-recover.result.durable.machine.node.replica.view),
 )
 
@@ -25,9 +27,14 @@ returns-in-Ok-recover-clause-ok g c =
     g.W.Write.contents g.E.Write.contents g.E.Listener.refuses in
     let is = c.new-in-Ok-recover.ensures.durable in
     let led = ap (λ d. Some (kept_by d.machine)) (sym is) in
-    runs f c.args.shelf.objects _ c.args.options.now c.args.disk c.new-in-Ok-recover.result.durable.disk
-    c.serve.new.server.node.durable.disk (io c.args.input.now c.args.out.now c.args.errors.now)
-    (io c.serve.new.input c.serve.new.out c.serve.new.errors) _ _
+    let old = io c.args.input.now c.args.out.now.writer c.args.out.now.given.texts c.args.errors.now in
+    let new = io c.serve-served.new.input c.serve-served.new.out.writer c.serve-served.new.out.given.texts
+    c.serve-served.new.errors in
+    subst
+    (λ d. OnOk c.serve-served.result (RunsAll f c.args.shelf.objects c.args.options.now c.args.disk d old new))
+    (sym c.into_disk.ensures)
+    (runs f c.args.shelf.objects _ c.args.options.now c.args.disk c.new-in-Ok-recover.result.durable.disk
+    c.serve-served.new.server.node.durable.disk old new _ _
     (ap (λ (m : NodeMachine). leads_from (kept_by m) (f.seen c.args.disk)) (sym c.in-Ok.ensures.start)
     ∙ c.in-Ok-recover.ensures.state ∙ led)
     (ap (λ d. leads_from (at_start c.args.options.now.config c.args.options.now.own) (f.seen d.disk)) is
@@ -40,7 +47,7 @@ returns-in-Ok-recover-clause-ok g c =
     LeavesOnly f.moment f.left_since c.args.disk d.disk
     (IsSameOr (f.may_leave c.args.disk) (lines (f.seen c.args.disk)))) (sym is)
     c.in-Ok-recover.ensures.any_moment)
-    c.serve.result c.serve.ensures.ok
+    c.serve-served.result c.serve-served.ensures.ok)
 
 pub returns-in-Ok-recover-clause-err : goal.returns-in-Ok-recover-clause-err
 returns-in-Ok-recover-clause-err g c =
@@ -48,9 +55,14 @@ returns-in-Ok-recover-clause-err g c =
     g.W.Write.contents g.E.Write.contents g.E.Listener.refuses in
     let is = c.new-in-Ok-recover.ensures.durable in
     let led = ap (λ d. Some (kept_by d.machine)) (sym is) in
-    stops f c.args.shelf.objects _ c.args.options.now c.args.disk c.new-in-Ok-recover.result.durable.disk
-    c.serve.new.server.node.durable.disk (io c.args.input.now c.args.out.now c.args.errors.now)
-    (io c.serve.new.input c.serve.new.out c.serve.new.errors) _ _
+    let old = io c.args.input.now c.args.out.now.writer c.args.out.now.given.texts c.args.errors.now in
+    let new = io c.serve-served.new.input c.serve-served.new.out.writer c.serve-served.new.out.given.texts
+    c.serve-served.new.errors in
+    subst
+    (λ d. IfErr c.serve-served.result (IsServerStartRefusal f c.args.shelf.objects c.args.options.now c.args.disk d old new))
+    (sym c.into_disk.ensures)
+    (stops f c.args.shelf.objects _ c.args.options.now c.args.disk c.new-in-Ok-recover.result.durable.disk
+    c.serve-served.new.server.node.durable.disk old new _ _
     (ap (λ (m : NodeMachine). leads_from (kept_by m) (f.seen c.args.disk)) (sym c.in-Ok.ensures.start)
     ∙ c.in-Ok-recover.ensures.state ∙ led)
     (ap (λ d. leads_from (at_start c.args.options.now.config c.args.options.now.own) (f.seen d.disk)) is
@@ -63,4 +75,4 @@ returns-in-Ok-recover-clause-err g c =
     LeavesOnly f.moment f.left_since c.args.disk d.disk
     (IsSameOr (f.may_leave c.args.disk) (lines (f.seen c.args.disk)))) (sym is)
     c.in-Ok-recover.ensures.any_moment)
-    c.serve.result c.serve.ensures.err
+    c.serve-served.result c.serve-served.ensures.err)
