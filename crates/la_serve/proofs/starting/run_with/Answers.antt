@@ -1,40 +1,36 @@
-use Rattle.std.proofs.Common.{inl, inr, refl, subst}
+use Rattle.std.proofs.Common.{inl, inr, sym, subst}
 use Rattle.la_serve.specs.declared.error.NodeFault.TheVariants.{Memory}
 use Rattle.la_serve.specs.Io.{facts, io}
-use Rattle.la_serve.specs.Starting.{IsServerStartRefusal}
+use Rattle.la_serve.specs.Starting.{RunsNot, IsServerStartRefusal}
+use Rattle.la_serve.proofs.Starts.{untouched}
 use Rattle.la_serve.proofs.starting.run_with.Goals as goal
 
 pub returns-in_default : goal.returns-in_default
-returns-in_default g c = inr (record {
-  why = Memory;
-  is = c.end_with.ensures.status;
-  between = c.args.errors.now;
-  stops = inl (record { unread = refl; unwritten = refl; untold = refl });
-  told = c.end_with.ensures.told;
-})
-
-pub returns-in_default-shelf_of : goal.returns-in_default-shelf_of
-returns-in_default-shelf_of g c = inr (record {
-  why = Memory;
-  is = c.end_with-in_default-shelf_of.ensures.status;
-  between = c.args.errors.now;
-  stops = inl (record { unread = refl; unwritten = refl; untold = refl });
-  told = c.end_with-in_default-shelf_of.ensures.told;
-})
-
-pub returns : goal.returns
-returns g c =
+returns-in_default g c =
     let f = facts g.D.Disk.seen g.D.Disk.may_leave g.D.Disk.moment g.D.Disk.left_since g.R.Read.remaining
     g.W.Write.contents g.E.Write.contents g.E.Listener.refuses in
+    let old = io c.args.input.now c.args.output.now.writer c.args.output.now.given.texts c.args.errors.now in
     inr (record {
-      why = c.in-Err.fault;
-      is = c.end_with-in-Err.ensures.status;
-      between = c.start.new.errors;
+      why = Memory;
+      is = c.ended.ensures.status;
+      between = c.args.errors.now;
       stops =
-          subst
-          (λ os.
-          IsServerStartRefusal f os c.args.options.now c.args.disk (io c.args.input.now c.args.output.now c.args.errors.now)
-          (io c.start.new.input c.start.new.out c.start.new.errors) c.in-Err.fault) c.in-Ok-shelf_of.ensures.1
-          c.in-Err.ensures.err;
-      told = c.end_with-in-Err.ensures.told;
+          inl (subst (λ d. RunsNot f c.args.disk d old old) (sym c.ended.ensures.disk)
+          (untouched f c.args.disk old (g.met.D.Disk.only_now c.args.disk)));
+      told = c.ended.ensures.told;
+    })
+
+pub returns-in_default-shelf_of : goal.returns-in_default-shelf_of
+returns-in_default-shelf_of g c =
+    let f = facts g.D.Disk.seen g.D.Disk.may_leave g.D.Disk.moment g.D.Disk.left_since g.R.Read.remaining
+    g.W.Write.contents g.E.Write.contents g.E.Listener.refuses in
+    let old = io c.args.input.now c.args.output.now.writer c.args.output.now.given.texts c.args.errors.now in
+    inr (record {
+      why = Memory;
+      is = c.ended-in_default-shelf_of.ensures.status;
+      between = c.args.errors.now;
+      stops =
+          inl (subst (λ d. RunsNot f c.args.disk d old old) (sym c.ended-in_default-shelf_of.ensures.disk)
+          (untouched f c.args.disk old (g.met.D.Disk.only_now c.args.disk)));
+      told = c.ended-in_default-shelf_of.ensures.told;
     })

@@ -1,4 +1,4 @@
-use Rattle.std.proofs.Common.{Some, OnOk, IfErr, inl, inr, sym, subst, ap, ◌∙◌}
+use Rattle.std.proofs.Common.{Some, OnOk, IfErr, rules, sym, subst, ap, ◌∙◌}
 use Rattle.la_set.specs.Histories.{Histories}
 use Rattle.la_set.specs.Inclusion.{IsSubset}
 use Rattle.la_journal.specs.Disk.{LeavesOnly}
@@ -76,3 +76,13 @@ returns-in-Ok-recover-clause-err g c =
     (IsSameOr (f.may_leave c.args.disk) (lines (f.seen c.args.disk)))) (sym is)
     c.in-Ok-recover.ensures.any_moment)
     c.serve-served.result c.serve-served.ensures.err)
+
+pub returns-in-Err : goal.returns-in-Err
+returns-in-Err g c =
+    let f = facts g.D.Disk.seen g.D.Disk.may_leave g.D.Disk.moment g.D.Disk.left_since g.R.Read.remaining
+    g.W.Write.contents g.E.Write.contents g.E.Listener.refuses in
+    let old = io c.args.input.now c.args.out.now.writer c.args.out.now.given.texts c.args.errors.now in
+    record {
+      ok = tt;
+      err = (untouched f c.args.disk old (g.met.D.Disk.only_now c.args.disk), search rules);
+    }
