@@ -7,6 +7,6 @@ pub returns-clause-told : goal.returns-clause-told
 returns-clause-told g c =
     let bytes : c.as_bytes.result.now ≡ no_journal_line c.args.kind = search rules in
     let told : TellsLine g.E.Write.contents g.E.Listener.refuses c.args.errors.now c.tell_all.new.errors
-        c.as_bytes.result.now = search rules in
+    c.as_bytes.result.now = search rules in
     subst
     (λ line. TellsLine g.E.Write.contents g.E.Listener.refuses c.args.errors.now c.tell_all.new.errors line) bytes told
