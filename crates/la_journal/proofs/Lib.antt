@@ -17,3 +17,7 @@ mod Takes
 mod Torn
 mod Whole
 mod Together
+mod Digests
+mod RecordBytes
+mod Extents
+mod RecordLaws

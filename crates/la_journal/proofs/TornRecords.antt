@@ -24,7 +24,7 @@ as_written (b ∷ line) (t ∷ torn) none is = elim is.0 [
   | inr zero ↦ absurd (none.0 zero)
 ]
 
-same_are : (xs ys : List ℕ) → same_bytes xs ys ≡ true → xs ≡ ys
+pub same_are : (xs ys : List ℕ) → same_bytes xs ys ≡ true → xs ≡ ys
 same_are [] [] is = refl
 same_are [] (y ∷ ys) is = absurd (false≢true is)
 same_are (x ∷ xs) [] is = absurd (false≢true is)
@@ -38,7 +38,7 @@ same_are (x ∷ xs) (y ∷ ys) is =
     equal : (x y : ℕ) → (x == y) ≡ true → x ≡ y
     equal x y is = grind (arith, nat_tests)
 
-either : (b : Bool) → (b ≡ true) ⊎ (b ≡ false)
+pub either : (b : Bool) → (b ≡ true) ⊎ (b ≡ false)
 either true = inl refl
 either false = inr refl
 

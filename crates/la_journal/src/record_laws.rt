@@ -1,0 +1,21 @@
+// What holds of groups with their records, whatever the bytes: laws that no code runs.
+ghost use Rattle.la_journal.specs.Records.{GroupsGrow, OthersAreBehind, BytesAreGroups};
+
+/// Bytes behind a head or a record are their groups, each with its record, and what stands behind.
+#[tactic(auto, using(crate::proofs::RecordLaws::bytes_are_groups))]
+pub fn bytes_are_groups()
+    ensures { BytesAreGroups }
+{}
+
+/// Behind groups with nothing behind them, a group of whole lines with its record is read too, and again nothing
+/// is behind.
+#[tactic(auto, using(crate::proofs::RecordLaws::groups_grow))]
+pub fn groups_grow()
+    ensures { GroupsGrow }
+{}
+
+/// Behind groups with nothing behind them, bytes from which no group is read change no group, and are what is behind.
+#[tactic(auto, using(crate::proofs::RecordLaws::others_are_behind))]
+pub fn others_are_behind()
+    ensures { OthersAreBehind }
+{}
