@@ -21,3 +21,4 @@ mod Digests
 mod RecordBytes
 mod Extents
 mod RecordLaws
+mod NextGroup

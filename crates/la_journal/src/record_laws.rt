@@ -2,7 +2,6 @@
 ghost use Rattle.la_journal.specs.Records.{GroupsGrow, OthersAreBehind, BytesAreGroups};
 
 /// Bytes behind a head or a record are their groups, each with its record, and what stands behind.
-#[tactic(auto, using(crate::proofs::RecordLaws::bytes_are_groups))]
 pub fn bytes_are_groups()
     ensures { BytesAreGroups }
 {}
