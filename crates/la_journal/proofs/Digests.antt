@@ -1,9 +1,7 @@
 -- Digests, and lines that end in one.
-use Rattle.std.proofs.Common.{◌≡◌, ◌≢◌, ◌⊎◌, inl, inr, arith, rules, ℕ, zero, suc, ◌+◌, ◌-◌, ◌*◌, ◌/◌, ◌%◌, ◌<◌, ◌≤◌, Bool, true, false, List, [], ◌∷◌, ◌++◌, Option, Some, None, refl, sym, ◌∙◌, ap, subst, take, drop, length, get_or, set, append_assoc, take-append-drop}
+use Rattle.std.proofs.Common.{◌≡◌, inl, inr, arith, ℕ, ◌+◌, ◌-◌, ◌*◌, ◌/◌, ◌%◌, ◌<◌, Bool, false, List, [], ◌∷◌, ◌++◌, Option, Some, None, refl, sym, ◌∙◌, ap, take, drop, length, get_or, set, append_assoc, take-append-drop}
 use Rattle.std.specs.Prelude.{if◌then◌else◌, MatchOption, IsTrue, ◌↔◌}
-use Rattle.std.proofs.lemmas.List.{append-nil, append_cancel_left, length-append, length-take-le, length-drop, length-set, take_more, take_more_set, take-set-le, take_all, take_at, drop_at}
-use Rattle.std.proofs.lemmas.Bool.{false≢true}
-use Rattle.std.proofs.lemmas.Bool.Decides.{nat_tests}
+use Rattle.std.proofs.lemmas.List.{append_cancel_left, length-take-le, length-set, take_more, take_more_set}
 use Rattle.std.specs.Fmt.{decimal, digit_glyph}
 use Rattle.sha2.specs.Sha256.{sha256}
 use Rattle.sha2.proofs.Facts256.{length-sha256}
@@ -45,7 +43,6 @@ length-digest bytes =
 -- what is behind the same front is the same
 pub behind_same : (front bytes rest more : List ℕ) → bytes ≡ front ++ rest → bytes ≡ front ++ more → rest ≡ more
 behind_same front bytes rest more is so = append_cancel_left front rest more (sym is ∙ so)
-
 
 -- a line that begins as a record does has one end
 pub one_end : (count before line end more : List ℕ) → line ≡ 126 ∷ 32 ∷ (count ++ 32 ∷ (before ++ end))

@@ -22,3 +22,5 @@ mod RecordBytes
 mod Extents
 mod RecordLaws
 mod NextGroup
+mod Ended
+mod LastLines

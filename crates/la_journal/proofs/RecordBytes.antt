@@ -1,13 +1,13 @@
 -- No byte of a record is 0 or a line's end.
-use Rattle.std.proofs.Common.{◌≡◌, ◌≢◌, ◌⊎◌, inl, inr, arith, ℕ, zero, suc, ◌-◌, ◌/◌, ◌%◌, ◌<◌, Bool, true, false, List, [], ◌∷◌, ◌++◌, refl, sym, ◌∙◌, ap, take, drop, length}
-use Rattle.std.specs.Prelude.{if◌then◌else◌, ◌==◌, ◌&&◌, ◌||◌}
+use Rattle.std.proofs.Common.{◌≡◌, inl, inr, arith, ℕ, zero, suc, ◌-◌, ◌/◌, ◌%◌, ◌<◌, Bool, true, false, List, [], ◌∷◌, ◌++◌, refl, sym, ◌∙◌, ap, take, drop, length}
+use Rattle.std.specs.Prelude.{if◌then◌else◌, ◌==◌, ◌&&◌}
 use Rattle.std.specs.List.{list_all}
 use Rattle.std.specs.Char.{is_ascii_hexdigit}
 use Rattle.std.specs.Fmt.{decimal, digits, digits_onto, digit_glyph}
 use Rattle.std.proofs.lemmas.Bool.{false≢true}
 use Rattle.std.proofs.lemmas.Bool.Decides.{nat_tests}
 use Rattle.sha2.specs.Sha256.{sha256}
-use Rattle.la_journal.specs.Commits.{is_record, HasNoEnd, HasNoZero, AreRecords}
+use Rattle.la_journal.specs.Commits.{HasNoEnd, HasNoZero, AreRecords}
 use Rattle.la_journal.specs.Records.{hex, digest, link, ends, record_line}
 use Rattle.la_journal.proofs.TornRecords.{either}
 
@@ -87,15 +87,28 @@ link-hex line = kept (drop (length line - 16) line) (list_all is_ascii_hexdigit 
 pub are_records : AreRecords record_line
 are_records before group = (
   refl,
-  (refl, (refl, no_ends-append (decimal (ends group)) _ (no_ends _ (decimal-hex (ends group)))
-  (refl, no_ends-append (link before) _ (no_ends _ (link-hex before))
-  (refl, no_ends _ (digest-hex (link before ++ group)))))),
+  (
+    refl,
+    (
+      refl,
+      no_ends-append (decimal (ends group)) _ (no_ends _ (decimal-hex (ends group))) (
+        refl,
+        no_ends-append (link before) _ (no_ends _ (link-hex before))
+            (refl, no_ends _ (digest-hex (link before ++ group))),
+      ),
+    ),
+  ),
 )
 
 pub no_zero : (before group : List ℕ) → HasNoZero (record_line before group)
 no_zero before group = (
   (λ e. absurd (omega (arith, e))),
-  ((λ e. absurd (omega (arith, e))), no_zeros-append (decimal (ends group)) _ (no_zeros _ (decimal-hex (ends group)))
-  ((λ e. absurd (omega (arith, e))), no_zeros-append (link before) _ (no_zeros _ (link-hex before))
-  ((λ e. absurd (omega (arith, e))), no_zeros _ (digest-hex (link before ++ group))))),
+  (
+    (λ e. absurd (omega (arith, e))),
+    no_zeros-append (decimal (ends group)) _ (no_zeros _ (decimal-hex (ends group))) (
+      (λ e. absurd (omega (arith, e))),
+      no_zeros-append (link before) _ (no_zeros _ (link-hex before))
+          ((λ e. absurd (omega (arith, e))), no_zeros _ (digest-hex (link before ++ group))),
+    ),
+  ),
 )

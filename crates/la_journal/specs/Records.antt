@@ -1,5 +1,5 @@
 -- The records of a journal's groups, by a digest of what stands before them, and the head that is a file's first line.
-use Rattle.std.specs.Prelude.{◌≡◌, ◌⊎◌, ℕ, suc, ◌+◌, ◌-◌, ◌*◌, ◌/◌, ◌%◌, ◌≤◌, Bool, true, false, List, [], ◌∷◌, ◌++◌, Option, Some, None, length, take, drop, reverse, if◌then◌else◌, ◌==◌}
+use Rattle.std.specs.Prelude.{◌≡◌, ◌⊎◌, ℕ, suc, ◌+◌, ◌-◌, ◌*◌, ◌/◌, ◌%◌, ◌≤◌, true, false, List, [], ◌∷◌, ◌++◌, Option, Some, None, length, take, drop, reverse, if◌then◌else◌, ◌==◌}
 use Rattle.std.specs.List.{list_all}
 use Rattle.std.specs.Char.{is_ascii_digit, is_ascii_hexdigit}
 use Rattle.std.specs.Fmt.{decimal, digit_glyph}
@@ -53,6 +53,19 @@ ended_from got (b ∷ bytes) = if b == 10 then got ∷ ended_from [] bytes else 
 
 abbrev pub ended : List ℕ → List (List ℕ)
 ended bytes = ended_from [] bytes
+
+-- what stands behind the last line's end
+abbrev pub unended_from : List ℕ → List ℕ → List ℕ
+unended_from got [] = got
+unended_from got (b ∷ bytes) = if b == 10 then unended_from [] bytes else unended_from (got ++ b ∷ []) bytes
+
+abbrev pub unended : List ℕ → List ℕ
+unended bytes = unended_from [] bytes
+
+-- the number that the digits in front spell behind those of `got`, where something stands behind them
+abbrev pub number_from : (got : ℕ) → List ℕ → Option ℕ
+number_from got [] = None
+number_from got (b ∷ bytes) = if is_ascii_digit b then number_from (got * 10 + (b - 48)) bytes else Some got
 
 -- the digest of what stood before, as a record states it in front of its own
 abbrev pub stated : List ℕ → List ℕ

@@ -55,7 +55,7 @@ fn group_at<'a>(bytes: &'a [u8], before: &[u8], at: usize, n: usize) -> Option<G
 }
 
 /// Whether a line begins as a record does.
-fn begins_record(line: &[u8]) -> bool
+pub(crate) fn begins_record(line: &[u8]) -> bool
     ensures { result ≡ is_record line.now }
 {
     match line.first() {
@@ -65,7 +65,7 @@ fn begins_record(line: &[u8]) -> bool
 }
 
 /// Where the first line ends; `None` where no line has an end.
-fn line_end(bytes: &[u8]) -> Option<usize>
+pub(crate) fn line_end(bytes: &[u8]) -> Option<usize>
     ensures within { IfSome result (λ n. n < length bytes.now) }
     ensures split { IfSome result (λ n. bytes.now ≡ take n bytes.now ++ 10 ∷ drop (n + 1) bytes.now) }
     ensures line { IfSome result (λ n. HasNoEnd (take n bytes.now)) }

@@ -15,6 +15,7 @@
 
 mod compaction;
 mod contents;
+mod damage;
 mod disk;
 mod durable;
 mod group;

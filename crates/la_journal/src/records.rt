@@ -13,11 +13,7 @@ use std::alloc::{AllocError, Global};
 const DIGITS: usize = 16;
 
 /// The record of a group of whole lines behind a line, a head or another record. Linear in the group.
-pub(crate) fn record_line(
-    alloc: Global,
-    before: &[u8],
-    group: &[u8],
-) -> Result<Vec<u8>, AllocError>
+pub(crate) fn record_line(alloc: Global, before: &[u8], group: &[u8]) -> Result<Vec<u8>, AllocError>
     ensures { IfOk result (λ line. line.items ≡ record_line before.now group.now) }
 {
     let link = link(before);
@@ -55,7 +51,7 @@ fn behind_before<'a>(line: &'a [u8], count: usize, before: &[u8]) -> Option<&'a 
 }
 
 /// What stands behind the front of some bytes, where they begin with it.
-fn after<'a>(bytes: &'a [u8], front: &[u8]) -> Option<&'a [u8]>
+pub(crate) fn after<'a>(bytes: &'a [u8], front: &[u8]) -> Option<&'a [u8]>
     ensures { MatchOption result ((rest : List ℕ) → bytes.now ≢ front.now ++ rest) (λ rest. bytes.now ≡ front.now ++ rest.now) }
 {
     bytes.strip_prefix(front)

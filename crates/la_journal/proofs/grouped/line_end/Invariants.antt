@@ -1,4 +1,4 @@
-use Rattle.std.proofs.Common.{◌≤◌, length, take}
+use Rattle.std.proofs.Common.{take}
 use Rattle.la_journal.specs.Commits.{HasNoEnd}
 use Rattle.la_journal.proofs.grouped.line_end.Given as goal
 

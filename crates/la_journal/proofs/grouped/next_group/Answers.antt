@@ -1,6 +1,5 @@
-use Rattle.std.proofs.Common.{◌≡◌, ◌+◌, ◌-◌, ◌≤◌, arith, length, drop, length-drop, true, false, take, ap, sym, ◌∙◌, refl}
+use Rattle.std.proofs.Common.{◌≡◌, ◌+◌, ◌-◌, arith, length, length-drop, ap, sym, ◌∙◌, refl}
 use Rattle.std.proofs.lemmas.List.{take_rest}
-use Rattle.la_journal.specs.Commits.{is_record}
 use Rattle.la_journal.proofs.NextGroup.{goes_on, found_some, not_found, at_end}
 use Rattle.la_journal.proofs.grouped.next_group.Goals as goal
 

@@ -1,4 +1,4 @@
-use Rattle.std.proofs.Common.{◌≡◌, ◌≢◌, ℕ, List, [], ◌∷◌, ◌++◌, rules, sym, ◌∙◌, ap}
+use Rattle.std.proofs.Common.{◌≡◌, ℕ, List, [], ◌∷◌, ◌++◌, rules, ◌∙◌, ap}
 use Rattle.std.specs.Fmt.{decimal}
 use Rattle.la_journal.proofs.Digests.{has_space, behind_same, match_option}
 use Rattle.la_journal.proofs.records.behind_before.Goals as goal

@@ -1,6 +1,3 @@
-use Rattle.std.proofs.Common.{◌≡◌, ℕ, List, ◌∷◌, ◌++◌, sym, ◌∙◌, ap}
-use Rattle.std.specs.Fmt.{decimal}
-use Rattle.la_journal.specs.Records.{digest}
 use Rattle.la_journal.proofs.Digests.{record_where}
 use Rattle.la_journal.proofs.records.is_record_of.Goals as goal
 
