@@ -6,19 +6,19 @@ ghost use Rattle.la_journal.specs.Commits.{HasNoEnd};
 ghost use Rattle.la_journal.specs.Records.{ended, unended, number_from, stated, IsRecordOfLast, HasRecord, GoesOn, IsGroupDamage};
 
 use crate::grouped::{begins_record, line_end};
-use crate::records::{after, is_record_of, link};
+use crate::records::{DIGITS, after, is_record_of, link};
 
 /// Whether what stands behind the groups of a file is damage, and not what a crash left of a last group: a group
 /// stands in it, or a record with something behind it. Linear in the bytes, and in those of the lines that records
 /// claim.
-pub(crate) fn is_damage(tail: &[u8]) -> bool
+pub fn is_damage(tail: &[u8]) -> bool
     ensures { IsTrue result ↔ IsGroupDamage tail.now }
 {
     goes_on(tail) || has_record(tail)
 }
 
 /// Whether lines stand somewhere in these bytes with the record of just these lines behind them.
-pub(crate) fn has_record(tail: &[u8]) -> bool
+pub fn has_record(tail: &[u8]) -> bool
     ensures { IsTrue result ↔ HasRecord tail.now }
 {
     let mut at = 0;
@@ -81,7 +81,7 @@ fn is_of_last(before: &[u8], line: &[u8]) -> bool
 fn stated(line: &[u8]) -> &[u8]
     ensures { result.now ≡ stated line.now }
 {
-    link(&line[..line.len().saturating_sub(17)])
+    link(&line[..line.len().saturating_sub(DIGITS + 1)])
 }
 
 /// How many lines a record states that it has; `None` where it does not, or too many to be there.

@@ -7,16 +7,16 @@ use crate::records::{ends, is_record_of, link};
 
 /// A group's lines, its record, and what stands behind that line.
 #[derive(Clone, Copy)]
-pub(crate) struct Group<'a> {
-    pub(crate) lines: &'a [u8],
-    pub(crate) record: &'a [u8],
-    pub(crate) rest: &'a [u8],
+pub struct Group<'a> {
+    pub lines: &'a [u8],
+    pub record: &'a [u8],
+    pub rest: &'a [u8],
 }
 
 /// The first group that these bytes have behind a line, a head or another record; `None` where none is read:
 /// where the first line that begins as a record is not that of what stands before it, or there is none. Linear in
 /// what it reads.
-pub(crate) fn next_group<'a>(bytes: &'a [u8], before: &[u8]) -> Option<Group<'a>>
+pub fn next_group<'a>(bytes: &'a [u8], before: &[u8]) -> Option<Group<'a>>
     ensures parts { IfSome result (λ g. bytes.now ≡ g.lines.now ++ (g.record.now ++ 10 ∷ g.rest.now)) }
     ensures record { IfSome result (λ g. g.record.now ≡ record_line before.now g.lines.now) }
     ensures some { IfSome result (λ g. groups record_line before.now bytes.now ≡ g.lines.now ∷ groups record_line g.record.now g.rest.now) }

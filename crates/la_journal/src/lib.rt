@@ -35,12 +35,15 @@ mod starts;
 
 pub use compaction::Uncompacted;
 pub use contents::Contents;
+pub use damage::{has_record, is_damage};
 pub use disk::{Disk, DiskError, DiskFault};
 pub use durable::{Durable, Refused};
+pub use grouped::{Group, next_group};
 pub use machine::{Machine, Snapshot};
 pub use memory_disk::MemoryDisk;
 pub use outlet::{Outlet, OutletFault, Unserved};
 pub use record::Record;
+pub use records::{head_line, record_line, text_of};
 pub use recovery::{Unplayed, recover};
 pub use serving::{serve_all, serve_groups};
 pub use staging::{Staged, Uncommitted, Unstaged};

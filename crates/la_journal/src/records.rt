@@ -10,10 +10,10 @@ use sha2::{Digest, Sha256};
 use std::alloc::{AllocError, Global};
 
 /// How many hex digits a digest has.
-const DIGITS: usize = 16;
+pub(crate) const DIGITS: usize = 16;
 
 /// The record of a group of whole lines behind a line, a head or another record. Linear in the group.
-pub(crate) fn record_line(alloc: Global, before: &[u8], group: &[u8]) -> Result<Vec<u8>, AllocError>
+pub fn record_line(alloc: Global, before: &[u8], group: &[u8]) -> Result<Vec<u8>, AllocError>
     ensures { IfOk result (λ line. line.items ≡ record_line before.now group.now) }
 {
     let link = link(before);
@@ -68,7 +68,7 @@ fn is_spaced(bytes: &[u8], own: &[u8]) -> bool
 }
 
 /// The first line of a file with this text. Linear in it.
-pub(crate) fn head_line(alloc: Global, text: &[u8]) -> Result<Vec<u8>, AllocError>
+pub fn head_line(alloc: Global, text: &[u8]) -> Result<Vec<u8>, AllocError>
     ensures { IfOk result (λ line. line.items ≡ head_line text.now) }
 {
     let mut line = Vec::new(alloc);
@@ -79,7 +79,7 @@ pub(crate) fn head_line(alloc: Global, text: &[u8]) -> Result<Vec<u8>, AllocErro
 }
 
 /// The text of a line that is a head; `None` where it is none. Linear in the line.
-pub(crate) fn text_of(line: &[u8]) -> Option<&[u8]>
+pub fn text_of(line: &[u8]) -> Option<&[u8]>
     ensures some { IfSome result (λ text. text_of line.now ≡ Some text.now) }
     ensures none { result ≡ None → text_of line.now ≡ None }
 {
