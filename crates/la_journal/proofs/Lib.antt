@@ -24,3 +24,4 @@ mod RecordLaws
 mod NextGroup
 mod Ended
 mod LastLines
+mod FileParts

@@ -46,6 +46,25 @@ text_of line = let text = take (length line - 17) line in if same_bytes line (he
 abbrev pub behind : (before : List ℕ) → List ℕ → List ℕ
 behind before bytes = drop (length (with_records record_line before (groups record_line before bytes))) bytes
 
+-- what a file has: its head's text, its groups, the digest that the last record ends in (the head, where no group is
+-- read), and what stands behind
+pub record Parts : Type 0 where
+  pub text : List ℕ
+  pub these : List (List ℕ)
+  pub last : List ℕ
+  pub rest : List ℕ
+
+-- of the bytes behind a head
+abbrev pub parts_behind : (text head : List ℕ) → List ℕ → Parts
+parts_behind text head bytes =
+    let these = groups record_line head bytes in
+    record {
+      text = text;
+      these = these;
+      last = link (last_record record_line head these);
+      rest = behind head bytes;
+    }
+
 -- the lines that have an end, where the first line begins with what was got of it
 abbrev pub ended_from : List ℕ → List ℕ → List (List ℕ)
 ended_from got [] = []
@@ -53,6 +72,18 @@ ended_from got (b ∷ bytes) = if b == 10 then got ∷ ended_from [] bytes else 
 
 abbrev pub ended : List ℕ → List (List ℕ)
 ended bytes = ended_from [] bytes
+
+-- what a file has, where its first line is a head
+abbrev pub parts_with : (file line : List ℕ) → Option (List ℕ) → Option Parts
+parts_with file line None = None
+parts_with file line (Some text) = Some (parts_behind text line (drop (length line + 1) file))
+
+abbrev pub parts_of : (file : List ℕ) → List (List ℕ) → Option Parts
+parts_of file [] = None
+parts_of file (line ∷ rest) = parts_with file line (text_of line)
+
+abbrev pub parts : List ℕ → Option Parts
+parts file = parts_of file (ended file)
 
 -- what stands behind the last line's end
 abbrev pub unended_from : List ℕ → List ℕ → List ℕ

@@ -1,9 +1,9 @@
 // Groups of whole lines, each with its record behind it.
 ghost use Rattle.std.specs.Prelude.{◌≡◌, ◌≢◌, ◌++◌, ◌∷◌, [], ◌+◌, ◌<◌, ◌≤◌, length, take, drop, Some, None, IfSome};
 ghost use Rattle.la_journal.specs.Commits.{is_record, groups, HasNoEnd};
-ghost use Rattle.la_journal.specs.Records.{record_line};
+ghost use Rattle.la_journal.specs.Records.{record_line, parts, parts_behind};
 
-use crate::records::{ends, is_record_of, link};
+use crate::records::{ends, is_record_of, link, text_of};
 
 /// A group's lines, its record, and what stands behind that line.
 #[derive(Clone, Copy)]
@@ -11,6 +11,29 @@ pub struct Group<'a> {
     pub lines: &'a [u8],
     pub record: &'a [u8],
     pub rest: &'a [u8],
+}
+
+/// The first line of a file, its text, and what stands behind it.
+#[derive(Clone, Copy)]
+pub struct Head<'a> {
+    pub text: &'a [u8],
+    pub line: &'a [u8],
+    pub rest: &'a [u8],
+}
+
+/// The head that a file begins with; `None` where its first line is none, or it has no line. Linear in that line.
+pub fn head_of(file: &[u8]) -> Option<Head<'_>>
+    ensures some { IfSome result (λ head. parts file.now ≡ Some (parts_behind head.text.now head.line.now head.rest.now)) }
+    ensures bytes { IfSome result (λ head. file.now ≡ head.line.now ++ 10 ∷ head.rest.now) }
+    ensures none { result ≡ None → parts file.now ≡ None }
+{
+    let n = line_end(file)?;
+    let line = &file[..n];
+    Some(Head {
+        text: text_of(line)?,
+        line,
+        rest: &file[n + 1..],
+    })
 }
 
 /// The first group that these bytes have behind a line, a head or another record; `None` where none is read:

@@ -38,7 +38,7 @@ pub use contents::Contents;
 pub use damage::{has_record, is_damage};
 pub use disk::{Disk, DiskError, DiskFault};
 pub use durable::{Durable, Refused};
-pub use grouped::{Group, next_group};
+pub use grouped::{Group, Head, head_of, next_group};
 pub use machine::{Machine, Snapshot};
 pub use memory_disk::MemoryDisk;
 pub use outlet::{Outlet, OutletFault, Unserved};
