@@ -9,16 +9,16 @@ use Rattle.la_journal.specs.Records.{ended_from, ended, unended_from, unended}
 use Rattle.la_journal.proofs.TornRecords.{either}
 use Rattle.la_journal.proofs.Extents.{cut}
 
-ended_end : (got bytes : List ℕ) (b : ℕ) → (b == 10) ≡ true → ended_from got (b ∷ bytes) ≡ got ∷ ended_from [] bytes
+pub ended_end : (got bytes : List ℕ) (b : ℕ) → (b == 10) ≡ true → ended_from got (b ∷ bytes) ≡ got ∷ ended_from [] bytes
 ended_end got bytes b is =
     ap (λ (t : Bool). if t then got ∷ ended_from [] bytes else ended_from (got ++ b ∷ []) bytes) is
 
-ended_byte : (got bytes : List ℕ) (b : ℕ) → (b == 10) ≡ false
+pub ended_byte : (got bytes : List ℕ) (b : ℕ) → (b == 10) ≡ false
     → ended_from got (b ∷ bytes) ≡ ended_from (got ++ b ∷ []) bytes
 ended_byte got bytes b is =
     ap (λ (t : Bool). if t then got ∷ ended_from [] bytes else ended_from (got ++ b ∷ []) bytes) is
 
-unended_end : (got bytes : List ℕ) (b : ℕ) → (b == 10) ≡ true → unended_from got (b ∷ bytes) ≡ unended_from [] bytes
+pub unended_end : (got bytes : List ℕ) (b : ℕ) → (b == 10) ≡ true → unended_from got (b ∷ bytes) ≡ unended_from [] bytes
 unended_end got bytes b is =
     ap (λ (t : Bool). if t then unended_from [] bytes else unended_from (got ++ b ∷ []) bytes) is
 

@@ -25,3 +25,4 @@ mod NextGroup
 mod Ended
 mod LastLines
 mod FileParts
+mod Told

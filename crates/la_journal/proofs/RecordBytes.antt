@@ -8,10 +8,10 @@ use Rattle.std.proofs.lemmas.Bool.{false≢true}
 use Rattle.std.proofs.lemmas.Bool.Decides.{nat_tests}
 use Rattle.sha2.specs.Sha256.{sha256}
 use Rattle.la_journal.specs.Commits.{HasNoEnd, HasNoZero, AreRecords}
-use Rattle.la_journal.specs.Records.{hex, digest, link, ends, record_line}
+use Rattle.la_journal.specs.Records.{hex, digest, link, ends, record_of, record_line}
 use Rattle.la_journal.proofs.TornRecords.{either}
 
-abbrev AreHex : List ℕ → Type 0
+abbrev pub AreHex : List ℕ → Type 0
 AreHex xs = list_all is_ascii_hexdigit xs ≡ true
 
 ten : (b : ℕ) → (b == 10) ≡ true → b ≡ 10
@@ -27,7 +27,7 @@ parts : (a b : Bool) → (a && b) ≡ true → (a ≡ true) × (b ≡ true)
 parts true b is = (refl, is)
 parts false b is = absurd (false≢true is)
 
-no_ends : (xs : List ℕ) → AreHex xs → HasNoEnd xs
+pub no_ends : (xs : List ℕ) → AreHex xs → HasNoEnd xs
 no_ends [] are = tt
 no_ends (x ∷ xs) are =
     let both = parts (is_ascii_hexdigit x) (list_all is_ascii_hexdigit xs) are in (no_end x both.0, no_ends xs both.1)
@@ -58,7 +58,7 @@ hex-hex (x ∷ xs) =
     both_hex (digit_glyph false (x / 16 % 16)) (digit_glyph false (x % 16) ∷ hex xs) (glyph-hex (x / 16 % 16) (omega arith))
     (both_hex (digit_glyph false (x % 16)) (hex xs) (glyph-hex (x % 16) (omega arith)) (hex-hex xs))
 
-digest-hex : (bytes : List ℕ) → AreHex (digest bytes)
+pub digest-hex : (bytes : List ℕ) → AreHex (digest bytes)
 unfolding digest
 digest-hex bytes = hex-hex (take 8 (sha256 bytes))
 
@@ -76,7 +76,7 @@ decimal-hex : (n : ℕ) → AreHex (decimal n)
 unfolding digits
 decimal-hex n = onto-hex 64 n [] refl
 
-link-hex : (line : List ℕ) → AreHex (link line)
+pub link-hex : (line : List ℕ) → AreHex (link line)
 link-hex line = kept (drop (length line - 16) line) (list_all is_ascii_hexdigit (drop (length line - 16) line)) refl
   where
     kept : (end : List ℕ) (b : Bool) → list_all is_ascii_hexdigit end ≡ b → AreHex (if b then end else [])
@@ -100,15 +100,16 @@ are_records before group = (
   ),
 )
 
-pub no_zero : (before group : List ℕ) → HasNoZero (record_line before group)
-no_zero before group = (
+pub no_zero_of : (count : ℕ) (before group : List ℕ) → AreHex before → HasNoZero (record_of count before group)
+no_zero_of count before group are = (
   (λ e. absurd (omega (arith, e))),
   (
     (λ e. absurd (omega (arith, e))),
-    no_zeros-append (decimal (ends group)) _ (no_zeros _ (decimal-hex (ends group))) (
-      (λ e. absurd (omega (arith, e))),
-      no_zeros-append (link before) _ (no_zeros _ (link-hex before))
-          ((λ e. absurd (omega (arith, e))), no_zeros _ (digest-hex (link before ++ group))),
-    ),
+    no_zeros-append (decimal count) _ (no_zeros _ (decimal-hex count))
+    ((λ e. absurd (omega (arith, e))), no_zeros-append before _ (no_zeros _ are)
+    ((λ e. absurd (omega (arith, e))), no_zeros _ (digest-hex (before ++ group)))),
   ),
 )
+
+pub no_zero : (before group : List ℕ) → HasNoZero (record_line before group)
+no_zero before group = no_zero_of (ends group) (link before) group (link-hex before)

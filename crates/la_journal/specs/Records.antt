@@ -1,11 +1,12 @@
 -- The records of a journal's groups, by a digest of what stands before them, and the head that is a file's first line.
-use Rattle.std.specs.Prelude.{◌≡◌, ◌⊎◌, ℕ, suc, ◌+◌, ◌-◌, ◌*◌, ◌/◌, ◌%◌, ◌≤◌, true, false, List, [], ◌∷◌, ◌++◌, Option, Some, None, length, take, drop, reverse, if◌then◌else◌, ◌==◌}
+use Rattle.std.specs.Prelude.{◌≡◌, ◌⊎◌, ℕ, suc, ◌+◌, ◌-◌, ◌*◌, ◌/◌, ◌%◌, ◌^◌, ◌<◌, ◌≤◌, true, false, List, [], ◌∷◌, ◌++◌, Option, Some, None, length, take, drop, reverse, if◌then◌else◌, ◌==◌}
 use Rattle.std.specs.List.{list_all}
 use Rattle.std.specs.Char.{is_ascii_digit, is_ascii_hexdigit}
 use Rattle.std.specs.Fmt.{decimal, digit_glyph}
 use Rattle.sha2.specs.Sha256.{sha256}
+use Rattle.la_journal.specs.Disk.{IsTorn}
 use Rattle.la_journal.specs.Lines.{file_of}
-use Rattle.la_journal.specs.Commits.{same_bytes, is_record, Records, groups, with_records, with_record, last_record, AreWhole}
+use Rattle.la_journal.specs.Commits.{same_bytes, is_record, Records, groups, with_records, with_record, last_record, HasNoEnd, AreWhole, NoneCollides}
 
 -- each byte as two hex digits
 abbrev pub hex : List ℕ → List ℕ
@@ -152,3 +153,27 @@ BytesAreGroups =
     let these = groups record_line before bytes in
     (bytes ≡ with_records record_line before these ++ behind before bytes)
     × (groups record_line (last_record record_line before these) (behind before bytes) ≡ [])
+
+-- a new file, which is a head alone, has its text and no group
+abbrev pub HeadsAreRead : Type 0
+HeadsAreRead =
+    (text : List ℕ) → HasNoEnd text →
+    parts (head_line text ++ 10 ∷ []) ≡ Some (record { text = text; these = []; last = digest text; rest = [] })
+
+-- the digest that a record ends in
+abbrev pub RecordsLink : Type 0
+RecordsLink = (before group : List ℕ) → link (record_line before group) ≡ digest (link before ++ group)
+
+-- A group with its record is told, whatever lines stand in front of it and whatever bytes behind.
+abbrev pub GroupsAreTold : Type 0
+GroupsAreTold =
+    (front before group rest : List ℕ) → unended front ≡ [] → length (link before) ≡ 16 → AreWhole [] group →
+    HasRecord (front ++ (with_record record_line before group ++ rest))
+
+-- What a crash leaves of one group that was put there is no damage, or it is the whole group: where no other group that
+-- a crash may leave of it has its record.
+abbrev pub TornIsNoDamage : Type 0
+TornIsNoDamage =
+    (before next torn : List ℕ) → length next < 2 ^ 64 → AreWhole [] next → NoneCollides record_line before next →
+    IsTorn (with_record record_line before next) torn →
+    (torn ≡ with_record record_line before next) ⊎ (IsGroupDamage torn → ⊥)
