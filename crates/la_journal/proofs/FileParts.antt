@@ -1,5 +1,5 @@
 -- What a file has, by its first line.
-use Rattle.std.proofs.Common.{◌≡◌, arith, ℕ, ◌+◌, List, [], ◌∷◌, ◌++◌, Option, Some, None, refl, sym, ◌∙◌, ap, drop, length, append_assoc}
+use Rattle.std.proofs.Common.{◌≡◌, arith, ℕ, ◌+◌, List, [], ◌∷◌, ◌++◌, Some, None, sym, ◌∙◌, ap, drop, length, append_assoc}
 use Rattle.std.proofs.lemmas.List.{length-append, drop_at}
 use Rattle.la_journal.specs.Commits.{HasNoEnd}
 use Rattle.la_journal.specs.Records.{ended, text_of, parts, parts_of, parts_with, parts_behind}

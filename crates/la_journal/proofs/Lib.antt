@@ -26,3 +26,4 @@ mod Ended
 mod LastLines
 mod FileParts
 mod Told
+mod Untold

@@ -105,9 +105,11 @@ no_zero_of count before group are = (
   (λ e. absurd (omega (arith, e))),
   (
     (λ e. absurd (omega (arith, e))),
-    no_zeros-append (decimal count) _ (no_zeros _ (decimal-hex count))
-    ((λ e. absurd (omega (arith, e))), no_zeros-append before _ (no_zeros _ are)
-    ((λ e. absurd (omega (arith, e))), no_zeros _ (digest-hex (before ++ group)))),
+    no_zeros-append (decimal count) _ (no_zeros _ (decimal-hex count)) (
+      (λ e. absurd (omega (arith, e))),
+      no_zeros-append before _ (no_zeros _ are)
+          ((λ e. absurd (omega (arith, e))), no_zeros _ (digest-hex (before ++ group))),
+    ),
   ),
 )
 

@@ -1,22 +1,17 @@
 -- A group with its record is told, and what a crash leaves of one is not.
-use Rattle.std.proofs.Common.{◌≡◌, ◌≢◌, ◌⊎◌, inl, inr, arith, ℕ, suc, ◌+◌, ◌-◌, ◌^◌, ◌<◌, ◌≤◌, Bool, true, false, List, [], ◌∷◌, ◌++◌, Option, Some, None, refl, sym, ◌∙◌, ap, subst, take, drop, length, reverse, append_assoc}
-use Rattle.std.specs.Prelude.{⊤, if◌then◌else◌, ◌==◌}
+use Rattle.std.proofs.Common.{◌≡◌, inl, inr, arith, ℕ, suc, ◌-◌, ◌≤◌, Bool, true, List, [], ◌∷◌, ◌++◌, Some, refl, sym, ◌∙◌, ap, subst, take, drop, length, reverse, append_assoc}
+use Rattle.std.specs.Prelude.{if◌then◌else◌, ◌==◌}
 use Rattle.std.specs.List.{list_all}
 use Rattle.std.specs.Char.{is_ascii_hexdigit}
 use Rattle.std.specs.Fmt.{decimal}
-use Rattle.std.proofs.lemmas.List.{append-nil, append_cancel_left, length-append, length-reverse, reverse-append, reverse-reverse, take_all, take_at, drop_at}
-use Rattle.std.proofs.lemmas.Bool.{false≢true}
-use Rattle.std.proofs.lemmas.Bool.Decides.{nat_tests}
-use Rattle.la_journal.specs.Disk.{IsTorn}
+use Rattle.std.proofs.lemmas.List.{append-nil, length-append, length-reverse, reverse-append, reverse-reverse, take_at, drop_at}
 use Rattle.la_journal.specs.Lines.{file_of}
-use Rattle.la_journal.specs.Commits.{same_bytes, is_record, with_record, HasNoEnd, HasNoZero, AreWhole, IsSpoilt, NoneCollides}
-use Rattle.la_journal.specs.Records.{digest, link, ends, record_of, record_line, head_line, text_of, parts, parts_behind, ended_from, ended, unended_from, unended, number_from, stated, IsRecordOfLast, RecordStands, HasRecord, GoesOn, IsGroupDamage, HeadsAreRead, RecordsLink, GroupsAreTold, TornIsNoDamage}
-use Rattle.la_journal.proofs.Recorded.{same_self}
-use Rattle.la_journal.proofs.TornRecords.{same_are, either, still, not_empty, ends_not, as_written}
-use Rattle.la_journal.proofs.Digests.{length-digest, behind_same, text_is}
-use Rattle.la_journal.proofs.RecordBytes.{are_records, no_zero_of, link-hex, digest-hex, no_ends, no_ends-append}
-use Rattle.la_journal.proofs.Ended.{ended_end, ended_byte, unended_end, unended_byte, ended-append, unended-append, one_ended, whole_lines, few_lines}
-use Rattle.la_journal.proofs.LastLines.{states}
+use Rattle.la_journal.specs.Commits.{with_record, AreWhole}
+use Rattle.la_journal.specs.Records.{digest, link, ends, record_of, record_line, head_line, text_of, ended_from, ended, unended_from, stated, IsRecordOfLast, RecordStands, HeadsAreRead, RecordsLink, GroupsAreTold}
+use Rattle.la_journal.proofs.TornRecords.{either}
+use Rattle.la_journal.proofs.Digests.{length-digest, text_is}
+use Rattle.la_journal.proofs.RecordBytes.{are_records, link-hex, digest-hex, no_ends, no_ends-append}
+use Rattle.la_journal.proofs.Ended.{ended_end, ended_byte, unended_end, unended_byte, ended-append, one_ended, whole_lines}
 use Rattle.la_journal.proofs.FileParts.{head_is}
 
 -- what a line ends in
@@ -28,7 +23,6 @@ link_is front end long are =
     let place : length front ≡ length (front ++ end) - 16 = omega (arith, length-append front end, long) in
     let last : drop (length (front ++ end) - 16) (front ++ end) ≡ end = drop_at front end _ place in
     ap (λ (l : List ℕ). if list_all is_ascii_hexdigit l then l else []) last ∙ kept end are
-
 
 in_two : (count : ℕ) (before group : List ℕ)
     → record_of count before group ≡ (126 ∷ 32 ∷ (decimal count ++ 32 ∷ before)) ++ 32 ∷ digest (before ++ group)
@@ -73,7 +67,7 @@ whole_unended line [] is = is
 whole_unended line (b ∷ g) (inl e) = unended_end line g b e.0 ∙ whole_unended [] g e.2
 whole_unended line (b ∷ g) (inr e) = unended_byte line g b e.0 ∙ whole_unended (line ++ b ∷ []) g e.1
 
-ends_lines : (got xs : List ℕ) → ends xs ≡ length (ended_from got xs)
+pub ends_lines : (got xs : List ℕ) → ends xs ≡ length (ended_from got xs)
 ends_lines got [] = refl
 ends_lines got (b ∷ xs) = elim (either (b == 10)) [
   | inl end ↦ ap (λ (t : Bool). if t then suc (ends xs) else ends xs) end ∙ ap suc (ends_lines [] xs)
@@ -82,7 +76,7 @@ ends_lines got (b ∷ xs) = elim (either (b == 10)) [
       ∙ ap length (sym (ended_byte got xs b go))
 ]
 
-reverse_more : (x : List ℕ) (ls acc : List (List ℕ)) → reverse (x ∷ ls) ++ acc ≡ reverse ls ++ x ∷ acc
+pub reverse_more : (x : List ℕ) (ls acc : List (List ℕ)) → reverse (x ∷ ls) ++ acc ≡ reverse ls ++ x ∷ acc
 reverse_more x ls acc =
     ap (λ (l : List (List ℕ)). l ++ acc) (reverse-append (x ∷ []) ls) ∙ append_assoc (reverse ls) (x ∷ []) acc
 

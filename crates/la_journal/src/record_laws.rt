@@ -1,5 +1,5 @@
 // What holds of groups with their records, whatever the bytes: laws that no code runs.
-ghost use Rattle.la_journal.specs.Records.{GroupsGrow, OthersAreBehind, BytesAreGroups, HeadsAreRead, RecordsLink, GroupsAreTold};
+ghost use Rattle.la_journal.specs.Records.{GroupsGrow, OthersAreBehind, BytesAreGroups, HeadsAreRead, RecordsLink, GroupsAreTold, TornIsNoDamage};
 
 /// Bytes behind a head or a record are their groups, each with its record, and what stands behind.
 pub fn bytes_are_groups()
@@ -35,4 +35,10 @@ pub fn records_link()
 #[tactic(auto, using(crate::proofs::Told::groups_are_told))]
 pub fn groups_are_told()
     ensures { GroupsAreTold }
+{}
+
+/// What a crash leaves of one group that was put behind others is no damage, or it is the whole group with its record:
+/// where no other group that a crash may leave of it has its record.
+pub fn torn_is_no_damage()
+    ensures { TornIsNoDamage }
 {}

@@ -1,4 +1,4 @@
-use Rattle.std.proofs.Common.{◌≡◌, ◌+◌, ◌-◌, ◌++◌, ◌∷◌, length, take, drop, refl}
+use Rattle.std.proofs.Common.{◌+◌, take, drop, refl}
 use Rattle.std.proofs.lemmas.List.{take_rest}
 use Rattle.la_journal.proofs.FileParts.{no_parts, no_head, head_is}
 use Rattle.la_journal.proofs.grouped.head_of.Goals as goal
