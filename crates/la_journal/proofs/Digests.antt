@@ -70,13 +70,15 @@ module _ (line text end own : List ℕ) (n : ℕ) (at : n ≡ length line - 17) 
 
   pub text_is : end ≡ 32 ∷ own → text_of line ≡ Some text
   text_is so =
-      let whole : line ≡ head_line text = both ∙ ap (λ (e : List ℕ). text ++ e) (so ∙ ap (λ (d : List ℕ). 32 ∷ d) digests) in
+      let whole : line ≡ head_line text =
+      both ∙ ap (λ (e : List ℕ). text ++ e) (so ∙ ap (λ (d : List ℕ). 32 ∷ d) digests) in
       ap (λ (t : List ℕ). if same_bytes line (head_line t) then Some t else None) front_is
       ∙ ap (λ (b : Bool). if b then Some text else None) (ap (same_bytes line) (sym whole) ∙ same_self line)
 
   pub text_is_not : (end ≡ 32 ∷ own → ⊥) → text_of line ≡ None
   text_is_not not = elim (either (same_bytes line (head_line text))) [
-    | inl same ↦ absurd (not (behind_same text line end (32 ∷ digest text) both (same_are line (head_line text) same) ∙ ap (λ (d : List ℕ). 32 ∷ d) (sym digests)))
+    | inl same ↦ absurd (not (behind_same text line end (32 ∷ digest text) both (same_are line (head_line text) same)
+        ∙ ap (λ (d : List ℕ). 32 ∷ d) (sym digests)))
     | inr differs ↦ ap (λ (t : List ℕ). if same_bytes line (head_line t) then Some t else None) front_is
         ∙ ap (λ (b : Bool). if b then Some text else None) differs
   ]
@@ -90,6 +92,12 @@ pub record_where : (b : Bool) (count : ℕ) (line before group end own : List �
     → line ≡ 126 ∷ 32 ∷ (decimal count ++ 32 ∷ (before ++ end)) → own ≡ digest (before ++ group)
     → IsTrue b ↔ (end ≡ 32 ∷ own) → IsTrue b ↔ (line ≡ record_of count before group)
 record_where b count line before group end own is digests spaced = (
-  λ t. is ∙ ap (λ (e : List ℕ). 126 ∷ 32 ∷ (decimal count ++ 32 ∷ (before ++ e))) (spaced.0 t ∙ ap (λ (d : List ℕ). 32 ∷ d) digests),
-  λ e. spaced.1 (one_end (decimal count) before line end (32 ∷ digest (before ++ group)) is e ∙ ap (λ (d : List ℕ). 32 ∷ d) (sym digests)),
+  λ t.
+      is
+      ∙ ap (λ (e : List ℕ). 126 ∷ 32 ∷ (decimal count ++ 32 ∷ (before ++ e)))
+      (spaced.0 t ∙ ap (λ (d : List ℕ). 32 ∷ d) digests),
+  λ e.
+      spaced.1
+      (one_end (decimal count) before line end (32 ∷ digest (before ++ group)) is e
+      ∙ ap (λ (d : List ℕ). 32 ∷ d) (sym digests)),
 )

@@ -9,7 +9,8 @@ use Rattle.la_journal.proofs.TornRecords.{same_are, either}
 use Rattle.la_journal.proofs.RecordBytes.{no_ends-append}
 
 -- up to the next line's end
-pub cut : (bytes line rest : List ℕ) (at n : ℕ) → at ≤ length bytes → length line ≡ n → drop at bytes ≡ line ++ 10 ∷ rest
+pub cut : (bytes line rest : List ℕ) (at n : ℕ) → at ≤ length bytes → length line ≡ n
+    → drop at bytes ≡ line ++ 10 ∷ rest
     → (take (at + (n + 1)) bytes ≡ take at bytes ++ (line ++ 10 ∷ [])) × (drop (at + (n + 1)) bytes ≡ rest)
 cut bytes line rest at n within long is =
     let front = take at bytes ++ (line ++ 10 ∷ []) in
@@ -18,7 +19,8 @@ cut bytes line rest at n within long is =
     ∙ ap (λ (l : List ℕ). take at bytes ++ l) (is ∙ sym (append_assoc line (10 ∷ []) rest))
     ∙ sym (append_assoc (take at bytes) (line ++ 10 ∷ []) rest) in
     let ends : length front ≡ at + (n + 1) =
-    omega (arith, length-append (take at bytes) (line ++ 10 ∷ []), length-append line (10 ∷ []), length-take-le at bytes within) in (
+    omega
+    (arith, length-append (take at bytes) (line ++ 10 ∷ []), length-append line (10 ∷ []), length-take-le at bytes within) in (
       ap (λ (l : List ℕ). take (at + (n + 1)) l) whole ∙ take_at front rest (at + (n + 1)) ends,
       ap (λ (l : List ℕ). drop (at + (n + 1)) l) whole ∙ drop_at front rest (at + (n + 1)) ends,
     )
@@ -100,7 +102,8 @@ module _ (record_of : Records) (are : AreRecords record_of) where
         at.3,
       )
 
-  moved : (before xs ys : List ℕ) (gs hs : List (List ℕ)) → xs ≡ ys → gs ≡ hs → Either before xs gs → Either before ys hs
+  moved : (before xs ys : List ℕ) (gs hs : List (List ℕ)) → xs ≡ ys → gs ≡ hs → Either before xs gs
+      → Either before ys hs
   moved before xs ys gs hs same is at =
       subst (λ (l : List ℕ). Either before l hs) same (subst (Either before xs) is at)
 
@@ -121,12 +124,14 @@ module _ (record_of : Records) (are : AreRecords record_of) where
           (reads_from before (got ++ (line ++ 10 ∷ [])) [] bytes
           (whole_append [] got (line ++ 10 ∷ []) whole (whole_line [] line has not)) tt)
       | inl does ↦ elim (either (same_bytes line (record_of before got))) [
-        | inr differs ↦ inl (ap (λ (x : ℕ). groups_from record_of before got line (x ∷ bytes)) (ten b end) ∙ step_other before got line bytes does differs)
+        | inr differs ↦ inl (ap (λ (x : ℕ). groups_from record_of before got line (x ∷ bytes)) (ten b end)
+            ∙ step_other before got line bytes does differs)
         | inl same ↦
             let is = same_are line (record_of before got) same in
             moved before (got ++ (line ++ 10 ∷ bytes)) (got ++ (line ++ b ∷ bytes)) _ _
             (ap (λ (x : ℕ). got ++ (line ++ x ∷ bytes)) (sym (ten b end)))
-            (sym (ap (λ (x : ℕ). groups_from record_of before got line (x ∷ bytes)) (ten b end) ∙ step_record record_of are before got line bytes does is))
+            (sym (ap (λ (x : ℕ). groups_from record_of before got line (x ∷ bytes)) (ten b end)
+            ∙ step_record record_of are before got line bytes does is))
             (inr (one_more before got line bytes (groups record_of line bytes) whole is
             (full line bytes (reads_from line [] [] bytes refl tt))))
       ]
@@ -150,7 +155,8 @@ module _ (record_of : Records) (are : AreRecords record_of) where
       × (groups record_of (last_record record_of before (groups record_of before bytes)) (rest_of before bytes) ≡ [])
   are_groups_and_rest before bytes =
       let these = groups record_of before bytes in (
-        (reads before bytes).1 ∙ ap (λ (l : List ℕ). with_records record_of before these ++ l) (sym (tail_is before bytes)),
+        (reads before bytes).1
+            ∙ ap (λ (l : List ℕ). with_records record_of before these ++ l) (sym (tail_is before bytes)),
         ap (groups record_of (last_record record_of before these)) (tail_is before bytes) ∙ (reads before bytes).3,
       )
 
@@ -197,7 +203,8 @@ module _ (record_of : Records) (are : AreRecords record_of) where
       let last = last_record record_of before these in
       let more = with_record record_of last group in
       let read : groups record_of before (bytes ++ more) ≡ these ++ group ∷ [] =
-      read_on before bytes more none ∙ ap (λ (g : List (List ℕ)). these ++ g) (one_group record_of are last group [] whole) in (
+      read_on before bytes more none
+      ∙ ap (λ (g : List (List ℕ)). these ++ g) (one_group record_of are last group [] whole) in (
         read,
         rest_is before (bytes ++ more) [] (these ++ group ∷ []) read
             (ap (λ (l : List ℕ). l ++ more) (all_of before bytes none) ∙ sym (with_more before group these)
@@ -206,7 +213,8 @@ module _ (record_of : Records) (are : AreRecords record_of) where
 
   pub others : (before bytes more : List ℕ) → rest_of before bytes ≡ []
       → groups record_of (last_record record_of before (groups record_of before bytes)) more ≡ []
-      → (groups record_of before (bytes ++ more) ≡ groups record_of before bytes) × (rest_of before (bytes ++ more) ≡ more)
+      → (groups record_of before (bytes ++ more) ≡ groups record_of before bytes)
+      × (rest_of before (bytes ++ more) ≡ more)
   others before bytes more none not =
       let these = groups record_of before bytes in
       let read : groups record_of before (bytes ++ more) ≡ these =

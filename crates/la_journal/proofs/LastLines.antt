@@ -52,7 +52,8 @@ last_is xs at within is has whole =
     ∙ ap (λ (l : List ℕ). ended (take at xs) ++ ended_from l (line ++ 10 ∷ [])) whole
     ∙ ap (λ (l : List (List ℕ)). ended (take at xs) ++ l) (one_ended [] line [] has)
 
-pub whole_before : (xs : List ℕ) (at : ℕ) → 0 < at → at ≤ length xs → get_or xs (at - 1) 0 ≡ 10 → unended (take at xs) ≡ []
+pub whole_before : (xs : List ℕ) (at : ℕ) → 0 < at → at ≤ length xs → get_or xs (at - 1) 0 ≡ 10
+    → unended (take at xs) ≡ []
 whole_before xs at some within is =
     let next : at ≡ (at - 1) + 1 = omega arith in
     ap (λ (n : ℕ). unended (take n xs)) next
@@ -70,7 +71,8 @@ one_back xs at some within not has =
     drop_more xs k 0 (omega arith) ∙ ap (λ (n : ℕ). get_or xs k 0 ∷ drop n xs) next in
     subst HasNoEnd (sym (λ i. take (width i) (rest i))) (ne_eqb _ 10 not, has)
 
-pub too_few : (ls : List (List ℕ)) (front : List ℕ) (i count : ℕ) → i < count → reverse (ended front) ≡ drop i (reverse ls)
+pub too_few : (ls : List (List ℕ)) (front : List ℕ) (i count : ℕ) → i < count
+    → reverse (ended front) ≡ drop i (reverse ls)
     → front ≡ [] → length ls < count
 too_few ls front i count more is none =
     let gone : length (drop i (reverse ls)) ≡ 0 =
@@ -80,7 +82,8 @@ too_few ls front i count more is none =
 -- one line more from the end
 module _ (before line : List ℕ) (at to i : ℕ) (ls : List (List ℕ)) (within : at ≤ length before)
     (back : drop at before ≡ file_of (reverse (take i ls))) (front : reverse (ended (take at before)) ≡ drop i ls)
-    (below : to < length (take at before)) (last : ended (take at before) ≡ ended (take to (take at before)) ++ line ∷ [])
+    (below : to < length (take at before))
+    (last : ended (take at before) ≡ ended (take to (take at before)) ++ line ∷ [])
     (end : drop to (take at before) ≡ line ++ 10 ∷ []) where
   long : length (take at before) ≡ at
   long = length-take-le at before within
@@ -179,7 +182,8 @@ states n rest fits = spells n fits (32 ∷ rest)
 pub number_gives : (r : Option ℕ) (bytes : List ℕ) (n : ℕ) → IfSome r (λ m. number_from 0 bytes ≡ Some m)
     → (r ≡ None → (m : ℕ) → number_from 0 bytes ≡ Some m → 2 ^ 64 ≤ m) → n < 2 ^ 64 → number_from 0 bytes ≡ Some n
     → r ≡ Some n
-number_gives None bytes n some none fits is = let large : 2 ^ 64 ≤ n = none refl n is in absurd (omega (arith, large, fits))
+number_gives None bytes n some none fits is =
+    let large : 2 ^ 64 ≤ n = none refl n is in absurd (omega (arith, large, fits))
 number_gives (Some m) bytes n some none fits is = sym some ∙ is
 
 some_same : (m n : ℕ) → Some m ≡ Some n → m ≡ n
@@ -199,7 +203,11 @@ module _ (before line : List ℕ) (whole : unended before ≡ []) (short : lengt
       → ((n : ℕ) (rest : List ℕ) → n < 2 ^ 64 → line ≡ 126 ∷ 32 ∷ (decimal n ++ 32 ∷ rest) → Some count ≡ Some n)
       → IsTrue b ↔ (line ≡ record_of count st lines) → IsTrue b ↔ IsRecordOfLast (reverse (ended before)) line
   is_of_last b count lines st are states_ few counts tests = (
-    λ t. (count, omega (arith, few, length-reverse (ended before)), tests.0 t ∙ (λ i. record_of count (states_ i) (are i))),
+    λ t. (
+      count,
+      omega (arith, few, length-reverse (ended before)),
+      tests.0 t ∙ (λ i. record_of count (states_ i) (are i)),
+    ),
     λ is.
         let same = some_same count is.0 (counts is.0 _ (fits is.0 is.1) is.2) in
         tests.1

@@ -8,8 +8,8 @@ use Rattle.la_journal.specs.declared.grouped.Group.{Group}
 use Rattle.la_journal.proofs.RecordBytes.{are_records, no_ends-append}
 use Rattle.la_journal.proofs.Extents.{cut, no_record, its_record, other_record, no_line}
 
-pub no_end_more : (bytes : List ℕ) (n : ℕ) → n < length bytes → HasNoEnd (take n bytes) → (get_or bytes n 0 == 10) ≡ false
-    → HasNoEnd (take (n + 1) bytes)
+pub no_end_more : (bytes : List ℕ) (n : ℕ) → n < length bytes → HasNoEnd (take n bytes)
+    → (get_or bytes n 0 == 10) ≡ false → HasNoEnd (take (n + 1) bytes)
 no_end_more bytes n within has not =
     subst HasNoEnd (sym (take_more bytes n 0 within))
     (no_ends-append (take n bytes) (get_or bytes n 0 ∷ []) has (not, tt))
@@ -23,7 +23,8 @@ module _ (before bytes : List ℕ) (at n : ℕ) (within : at ≤ length bytes) (
       ≡ groups record_line before bytes
   goes_on not =
       let rest = drop (n + 1) (drop at bytes) in
-      let both = cut bytes (take n (drop at bytes)) rest at n within (length-take-le n (drop at bytes) (omega arith)) split in
+      let long = length-take-le n (drop at bytes) (omega arith) in
+      let both = cut bytes (take n (drop at bytes)) rest at n within long split in
       (λ i. groups_from record_line before (both.0 i) [] (both.1 i))
       ∙ sym (no_record record_line are_records before (take at bytes) (take n (drop at bytes)) rest line not)
       ∙ ap (groups_from record_line before (take at bytes) []) (sym split)
@@ -35,8 +36,8 @@ module _ (before bytes : List ℕ) (at n : ℕ) (within : at ≤ length bytes) (
   found does is =
       sym same
       ∙ ap (groups_from record_line before (take at bytes) []) split
-      ∙ its_record record_line are_records before (take at bytes) (take n (drop at bytes)) (drop (n + 1) (drop at bytes))
-      line does is
+      ∙ its_record record_line are_records before (take at bytes) (take n (drop at bytes))
+      (drop (n + 1) (drop at bytes)) line does is
 
   pub not_found : is_record (take n (drop at bytes)) ≡ true
       → take n (drop at bytes) ≢ record_line before (take at bytes) → groups record_line before bytes ≡ []

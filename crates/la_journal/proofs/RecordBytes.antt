@@ -55,7 +55,8 @@ both_hex b xs one more = (λ i. one i && more i)
 hex-hex : (xs : List ℕ) → AreHex (hex xs)
 hex-hex [] = refl
 hex-hex (x ∷ xs) =
-    both_hex (digit_glyph false (x / 16 % 16)) (digit_glyph false (x % 16) ∷ hex xs) (glyph-hex (x / 16 % 16) (omega arith))
+    both_hex (digit_glyph false (x / 16 % 16)) (digit_glyph false (x % 16) ∷ hex xs)
+    (glyph-hex (x / 16 % 16) (omega arith))
     (both_hex (digit_glyph false (x % 16)) (hex xs) (glyph-hex (x % 16) (omega arith)) (hex-hex xs))
 
 pub digest-hex : (bytes : List ℕ) → AreHex (digest bytes)

@@ -15,7 +15,8 @@ use Rattle.la_journal.proofs.Ended.{ended_end, ended_byte, unended_end, unended_
 use Rattle.la_journal.proofs.FileParts.{head_is}
 
 -- what a line ends in
-kept : (end : List ℕ) → list_all is_ascii_hexdigit end ≡ true → (if list_all is_ascii_hexdigit end then end else []) ≡ end
+kept : (end : List ℕ) → list_all is_ascii_hexdigit end ≡ true
+    → (if list_all is_ascii_hexdigit end then end else []) ≡ end
 kept end are = ap (λ (b : Bool). if b then end else []) are
 
 link_is : (front end : List ℕ) → length end ≡ 16 → list_all is_ascii_hexdigit end ≡ true → link (front ++ end) ≡ end
@@ -43,7 +44,8 @@ stated_is count before group long are =
     let own = digest (before ++ group) in
     let line = record_of count before group in
     let place : length front ≡ length line - 17 =
-    omega (arith, ap length (in_two count before group), length-append front (32 ∷ own), length-digest (before ++ group)) in
+    omega
+    (arith, ap length (in_two count before group), length-append front (32 ∷ own), length-digest (before ++ group)) in
     let cut_off : take (length line - 17) line ≡ front =
     ap (take (length line - 17)) (in_two count before group) ∙ take_at front (32 ∷ own) _ place in
     ap link (cut_off ∙ ap (λ (l : List ℕ). 126 ∷ 32 ∷ l) (sym (append_assoc (decimal count) (32 ∷ []) before)))
@@ -57,9 +59,11 @@ heads_are_read text has =
     let is : text_of line ≡ Some text =
     text_is line text (32 ∷ own) own (length text) place (sym (take_at text (32 ∷ own) (length text) refl))
     (sym (drop_at text (32 ∷ own) (length text) refl)) refl refl in
-    head_is (line ++ 10 ∷ []) line [] refl (no_ends-append text (32 ∷ own) has (refl, no_ends own (digest-hex text))) text is
+    head_is (line ++ 10 ∷ []) line [] refl (no_ends-append text (32 ∷ own) has (refl, no_ends own (digest-hex text)))
+    text is
     ∙ ap (λ (l : List ℕ). Some (record { text = text; these = []; last = l; rest = [] }))
-    (ap link (sym (append_assoc text (32 ∷ []) own)) ∙ link_is (text ++ 32 ∷ []) own (length-digest text) (digest-hex text))
+    (ap link (sym (append_assoc text (32 ∷ []) own))
+    ∙ link_is (text ++ 32 ∷ []) own (length-digest text) (digest-hex text))
 
 -- ---- a group that is told
 whole_unended : (line g : List ℕ) → AreWhole line g → unended_from line g ≡ []
@@ -112,6 +116,7 @@ groups_are_told front before group rest whole_front long whole =
     ∙ ap (λ (l : List (List ℕ)). file_of (reverse l)) (take_at (reverse b) (reverse a) (ends group) count)
     ∙ ap file_of (reverse-reverse b)
     ∙ whole_lines group (whole_unended [] group whole) in
+    let at_front : stated r ≡ link before = stated_is (ends group) (link before) group long (link-hex before) in
     subst (RecordStands []) (sym read)
     (stands_at [] (a ++ b) r (ended rest)
-    (ends group, some, (λ i. record_of (ends group) (sym (stated_is (ends group) (link before) group long (link-hex before)) i) (sym these i))))
+    (ends group, some, (λ i. record_of (ends group) (sym at_front i) (sym these i))))

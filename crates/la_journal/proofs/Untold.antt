@@ -111,11 +111,15 @@ module _ (r : List ℕ) (has : HasNoEnd r) where
       )
     ]
     | inr go ↦ elim (goes t go is.0 whole) [
-      | inl fresh ↦ on t go is (scan (line ++ t ∷ []) [] g torn fresh (still line b t line_o g not begun is.0 go whole) (λ e. absurd (not_empty line t e)) is.1)
-      | inr same ↦ on t go is (scan (line ++ t ∷ []) (line_o ++ b ∷ []) g torn same (still line b t line_o g not begun is.0 go whole) (λ e. absurd (not_empty line t e)) is.1)
+      | inl fresh ↦ on t go is (scan (line ++ t ∷ []) [] g torn fresh (no_ t go is.0) (λ e. absurd (not_empty line t e)) is.1)
+      | inr same ↦ on t go is (scan (line ++ t ∷ []) (line_o ++ b ∷ []) g torn same (no_ t go is.0)
+          (λ e. absurd (not_empty line t e)) is.1)
     ]
   ]
     where
+      no_ : (t : ℕ) → (t == 10) ≡ false → (t ≡ b) ⊎ (t ≡ 0) → is_record (line ++ t ∷ []) ≡ false
+      no_ t go w = still line b t line_o g not begun w go whole
+
       after_end : (t : ℕ) → (t == 10) ≡ true → (t ≡ b) ⊎ (t ≡ 0) → AreWhole line_o (b ∷ g) → AreWhole [] g
       after_end t end w (inl e) = e.2
       after_end t end (inl same) (inr e) = absurd (false≢true (sym e.0 ∙ ap (λ (x : ℕ). x == 10) (sym same) ∙ end))

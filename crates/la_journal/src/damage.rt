@@ -50,7 +50,8 @@ fn goes_on(tail: &[u8]) -> bool
 fn line_at(bytes: &[u8], at: usize) -> Option<&[u8]>
     requires { at ≤ length bytes.now }
     ensures within { IfSome result (λ line. at + length line.now < length bytes.now) }
-    ensures line { IfSome result (λ line. ended (drop at bytes.now) ≡ line.now ∷ ended (drop (at + (length line.now + 1)) bytes.now)) }
+    ensures line { IfSome result (λ line. ended (drop at bytes.now)
+        ≡ line.now ∷ ended (drop (at + (length line.now + 1)) bytes.now)) }
     ensures front { IfSome result (λ line. unended (take at bytes.now) ≡ []
         → ended (take (at + (length line.now + 1)) bytes.now) ≡ ended (take at bytes.now) ++ line.now ∷ []) }
     ensures whole { IfSome result (λ line. unended (take (at + (length line.now + 1)) bytes.now) ≡ []) }
@@ -135,8 +136,10 @@ fn last_line(bytes: &[u8]) -> Option<usize>
     requires { unended bytes.now ≡ [] }
     ensures within { IfSome result (λ at. at < length bytes.now) }
     ensures whole { IfSome result (λ at. unended (take at bytes.now) ≡ []) }
-    ensures last { IfSome result (λ at. ended bytes.now ≡ ended (take at bytes.now) ++ take (length bytes.now - 1 - at) (drop at bytes.now) ∷ []) }
-    ensures end { IfSome result (λ at. drop at bytes.now ≡ take (length bytes.now - 1 - at) (drop at bytes.now) ++ 10 ∷ []) }
+    ensures last { IfSome result (λ at. ended bytes.now
+        ≡ ended (take at bytes.now) ++ take (length bytes.now - 1 - at) (drop at bytes.now) ∷ []) }
+    ensures end { IfSome result (λ at. drop at bytes.now
+        ≡ take (length bytes.now - 1 - at) (drop at bytes.now) ++ 10 ∷ []) }
     ensures none { result ≡ None → bytes.now ≡ [] }
 {
     let mut at = bytes.len().checked_sub(1)?;

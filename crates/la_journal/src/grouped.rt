@@ -23,7 +23,8 @@ pub struct Head<'a> {
 
 /// The head that a file begins with; `None` where its first line is none, or it has no line. Linear in that line.
 pub fn head_of(file: &[u8]) -> Option<Head<'_>>
-    ensures some { IfSome result (λ head. parts file.now ≡ Some (parts_behind head.text.now head.line.now head.rest.now)) }
+    ensures some { IfSome result (λ head. parts file.now
+        ≡ Some (parts_behind head.text.now head.line.now head.rest.now)) }
     ensures bytes { IfSome result (λ head. file.now ≡ head.line.now ++ 10 ∷ head.rest.now) }
     ensures none { result ≡ None → parts file.now ≡ None }
 {
@@ -42,7 +43,8 @@ pub fn head_of(file: &[u8]) -> Option<Head<'_>>
 pub fn next_group<'a>(bytes: &'a [u8], before: &[u8]) -> Option<Group<'a>>
     ensures parts { IfSome result (λ g. bytes.now ≡ g.lines.now ++ (g.record.now ++ 10 ∷ g.rest.now)) }
     ensures record { IfSome result (λ g. g.record.now ≡ record_line before.now g.lines.now) }
-    ensures some { IfSome result (λ g. groups record_line before.now bytes.now ≡ g.lines.now ∷ groups record_line g.record.now g.rest.now) }
+    ensures some { IfSome result (λ g. groups record_line before.now bytes.now
+        ≡ g.lines.now ∷ groups record_line g.record.now g.rest.now) }
     ensures none { result ≡ None → groups record_line before.now bytes.now ≡ [] }
 {
     let mut at = 0;

@@ -29,7 +29,9 @@ loop-n-preserved c =
     let at = c.loop-n.at in
     let n = c.in-Some.n in
     let width : at + n - at ≡ n = omega arith in record {
-      within = omega (arith, c.in-Some.ensures.within, length-drop at c.args.bytes.now, ap length (take_rest c.args.bytes.now at));
+      within =
+          omega
+          (arith, c.in-Some.ensures.within, length-drop at c.args.bytes.now, ap length (take_rest c.args.bytes.now at));
       same =
           goes_on c.args.before.now c.args.bytes.now at n c.loop-n.invariant.within
           (rw take_rest at c.in-Some.ensures.within) c.loop-n.invariant.same

@@ -6,7 +6,8 @@ use Rattle.la_journal.proofs.grouped.next_group.Given as goal
 abbrev pub invariant-loop-n : goal.invariant-loop-n
 invariant-loop-n l = record {
   within : l.at ≤ length l.bytes;
-  same : groups_from record_line l.before (take l.at l.bytes) [] (drop l.at l.bytes) ≡ groups record_line l.before l.bytes;
+  same : groups_from record_line l.before (take l.at l.bytes) [] (drop l.at l.bytes)
+      ≡ groups record_line l.before l.bytes;
 }
 
 abbrev pub decreases-loop-n : goal.decreases-loop-n
