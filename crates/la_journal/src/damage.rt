@@ -17,7 +17,8 @@ pub fn is_damage(tail: &[u8]) -> bool
     goes_on(tail) || has_record(tail)
 }
 
-/// Whether lines stand somewhere in these bytes with the record of just these lines behind them.
+/// Whether lines stand somewhere in these bytes with the record of just these lines behind them. Which record stood
+/// before them is not asked. Linear in the bytes, and in those of the lines that records claim.
 pub fn has_record(tail: &[u8]) -> bool
     ensures { IsTrue result ↔ HasRecord tail.now }
 {

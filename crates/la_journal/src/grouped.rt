@@ -5,7 +5,7 @@ ghost use Rattle.la_journal.specs.Records.{record_line, parts, parts_behind};
 
 use crate::records::{ends, is_record_of, link, text_of};
 
-/// A group's lines, its record, and what stands behind that line.
+/// A group of whole lines, its record without the line's end, and what stands behind that line.
 #[derive(Clone, Copy)]
 pub struct Group<'a> {
     pub lines: &'a [u8],
@@ -13,7 +13,7 @@ pub struct Group<'a> {
     pub rest: &'a [u8],
 }
 
-/// The first line of a file, its text, and what stands behind it.
+/// The head that a file begins with: its text, its line without the end, and what stands behind that line.
 #[derive(Clone, Copy)]
 pub struct Head<'a> {
     pub text: &'a [u8],

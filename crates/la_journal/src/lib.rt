@@ -9,8 +9,9 @@
 //! `Disk` (what a crash may leave), `Durable` (when a machine stands on its journal, and why a call
 //! is refused), `Note` and `Outcomes` (what is noted of a file's [`Contents`], and what a crash might have
 //! left of it), `Starts`, `Served` (what was given out, and what a crash keeps of it), `Lives` (processes one
-//! after another), `Commits` (journals whose groups end in records); [`laws`] has what holds over a crash
-//! and a new start.
+//! after another), `Commits` (journals whose groups end in records), `Records` (these records, the head that a
+//! file begins with, and what behind the groups is damage); [`laws`] has what holds over a crash and a new start,
+//! [`record_laws`] what holds of groups with their records.
 #![tactic(auto)]
 
 mod compaction;

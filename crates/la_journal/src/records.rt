@@ -12,7 +12,9 @@ use std::alloc::{AllocError, Global};
 /// How many hex digits a digest has.
 pub(crate) const DIGITS: usize = 16;
 
-/// The record of a group of whole lines behind a line, a head or another record. Linear in the group.
+/// The record of a group of whole lines behind a line, a head or another record: `~`, how many lines they are, the
+/// digest that the line before ends in, and the digest of this and of their bytes. Linear in the group; refused only
+/// where a growth is.
 pub fn record_line(alloc: Global, before: &[u8], group: &[u8]) -> Result<Vec<u8>, AllocError>
     ensures { IfOk result (λ line. line.items ≡ record_line before.now group.now) }
 {
@@ -68,7 +70,7 @@ fn is_spaced(bytes: &[u8], own: &[u8]) -> bool
     }
 }
 
-/// The first line of a file with this text. Linear in it.
+/// The first line of a file with this text: it, and its digest. Linear in it; refused only where a growth is.
 pub fn head_line(alloc: Global, text: &[u8]) -> Result<Vec<u8>, AllocError>
     ensures { IfOk result (λ line. line.items ≡ head_line text.now) }
 {
@@ -79,7 +81,7 @@ pub fn head_line(alloc: Global, text: &[u8]) -> Result<Vec<u8>, AllocError>
     Ok(line)
 }
 
-/// The text of a line that is a head; `None` where it is none. Linear in the line.
+/// The text of a line that is a head; `None` where it is none, as where a byte of it has changed. Linear in the line.
 pub fn text_of(line: &[u8]) -> Option<&[u8]>
     ensures some { IfSome result (λ text. text_of line.now ≡ Some text.now) }
     ensures none { result ≡ None → text_of line.now ≡ None }
