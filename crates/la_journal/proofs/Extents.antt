@@ -18,9 +18,10 @@ cut bytes line rest at n within long is =
     sym (take-append-drop at bytes)
     ∙ ap (λ (l : List ℕ). take at bytes ++ l) (is ∙ sym (append_assoc line (10 ∷ []) rest))
     ∙ sym (append_assoc (take at bytes) (line ++ 10 ∷ []) rest) in
+    let fits = length-take-le at bytes within in
     let ends : length front ≡ at + (n + 1) =
     omega
-    (arith, length-append (take at bytes) (line ++ 10 ∷ []), length-append line (10 ∷ []), length-take-le at bytes within) in (
+    (arith, length-append (take at bytes) (line ++ 10 ∷ []), length-append line (10 ∷ []), fits) in (
       ap (λ (l : List ℕ). take (at + (n + 1)) l) whole ∙ take_at front rest (at + (n + 1)) ends,
       ap (λ (l : List ℕ). drop (at + (n + 1)) l) whole ∙ drop_at front rest (at + (n + 1)) ends,
     )

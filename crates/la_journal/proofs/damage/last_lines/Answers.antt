@@ -18,12 +18,12 @@ loop-i-preserved c =
     let line = take (length front - 1 - to) (drop to front) in
     let ls = reverse (ended before) in
     let v = c.loop-i.invariant in
-    let e = c.in_ok-at.ensures in record {
+    let e = c.in_ok-at.ensures in
+    let some = enough before line at to c.loop-i.i ls v.within v.back v.front e.within e.last e.end in record {
       within = still_within before line at to c.loop-i.i ls v.within v.back v.front e.within e.last e.end;
       whole = still_whole before line at to c.loop-i.i ls v.within v.back v.front e.within e.last e.end e.whole;
       few =
-          omega
-          (arith, enough before line at to c.loop-i.i ls v.within v.back v.front e.within e.last e.end, length-reverse (ended before));
+          omega (arith, some, length-reverse (ended before));
       front = still_front before line at to c.loop-i.i ls v.within v.back v.front e.within e.last e.end;
       back = still_back before line at to c.loop-i.i ls v.within v.back v.front e.within e.last e.end;
     }

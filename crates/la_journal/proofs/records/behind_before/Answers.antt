@@ -22,6 +22,7 @@ returns c =
     match_option c.after-4.result _ _ _ _
     (λ none end is. none end
     (behind_same (32 ∷ []) c.in_ok-rest-2.rest.now c.in_ok-rest-3.rest.now (c.args.before.now ++ end) third
-    (has_space count c.args.before.now c.args.line.now c.in_ok-rest.rest.now c.in_ok-rest-2.rest.now end first next is)))
+    (has_space count c.args.before.now c.args.line.now c.in_ok-rest.rest.now c.in_ok-rest-2.rest.now end first next
+    is)))
     (λ x some. first ∙ ap (λ (l : List ℕ). 126 ∷ 32 ∷ l) (next ∙ ap (λ (l : List ℕ). count ++ l) third) ∙ ap front some)
     c.after-4.ensures
