@@ -16,3 +16,13 @@ mod Takes
 mod Torn
 mod Whole
 mod Together
+mod Digests
+mod RecordBytes
+mod Extents
+mod RecordLaws
+mod NextGroup
+mod Ended
+mod LastLines
+mod FileParts
+mod Told
+mod Untold

@@ -5,7 +5,7 @@ use Rattle.std.proofs.lemmas.List.{append-nil}
 use Rattle.std.proofs.lemmas.Bool.Decides.{nat_tests}
 use Rattle.la_journal.specs.Commits.{same_bytes, is_record, Records, groups_from, groups, with_records, last_record, HasNoEnd, AreWhole, AreGroups, AreRecords, ReadingGivesGroups}
 
-same_self : (xs : List ℕ) → same_bytes xs xs ≡ true
+pub same_self : (xs : List ℕ) → same_bytes xs xs ≡ true
 same_self [] = refl
 same_self (x ∷ xs) = (λ i. self x i && same_self xs i)
   where
@@ -41,7 +41,7 @@ module _ (record_of : Records) (are : AreRecords record_of) where
       else groups_from record_of before (got ++ (line ++ 10 ∷ [])) [] bytes) else groups_from record_of before
       got (line ++ b ∷ []) bytes) is
 
-  step_record : (before got line bytes : List ℕ) → is_record line ≡ true → line ≡ record_of before got
+  pub step_record : (before got line bytes : List ℕ) → is_record line ≡ true → line ≡ record_of before got
       → groups_from record_of before got line (10 ∷ bytes) ≡ got ∷ groups_from record_of line [] [] bytes
   step_record before got line bytes does is =
       ap
@@ -53,7 +53,7 @@ module _ (record_of : Records) (are : AreRecords record_of) where
       (ap (same_bytes line) (sym is) ∙ same_self line)
 
   -- through the bytes of a line
-  through : (before got line more rest : List ℕ) → HasNoEnd more
+  pub through : (before got line more rest : List ℕ) → HasNoEnd more
       → groups_from record_of before got line (more ++ rest) ≡ groups_from record_of before got (line ++ more) rest
   through before got line [] rest none =
       ap (λ (l : List ℕ). groups_from record_of before got l rest) (sym (append-nil line))
@@ -66,7 +66,7 @@ module _ (record_of : Records) (are : AreRecords record_of) where
   ten b is = grind (arith, nat_tests)
 
   -- through the lines of a group
-  through_group : (before got line g rest : List ℕ) → AreWhole line g
+  pub through_group : (before got line g rest : List ℕ) → AreWhole line g
       → groups_from record_of before got line (g ++ rest) ≡ groups_from record_of before (got ++ (line ++ g)) [] rest
   through_group before got line [] rest is =
       ap (λ (l : List ℕ). groups_from record_of before got l rest) is
@@ -84,7 +84,7 @@ module _ (record_of : Records) (are : AreRecords record_of) where
       ∙ through_group before got (line ++ b ∷ []) g rest go.1
       ∙ ap (λ (l : List ℕ). groups_from record_of before (got ++ l) [] rest) (append_assoc line (b ∷ []) g)
 
-  one_group : (before g rest : List ℕ) → AreWhole [] g
+  pub one_group : (before g rest : List ℕ) → AreWhole [] g
       → groups record_of before (g ++ (record_of before g ++ 10 ∷ rest)) ≡ g ∷ groups record_of (record_of before g) rest
   one_group before g rest is =
       through_group before [] [] g (record_of before g ++ 10 ∷ rest) is

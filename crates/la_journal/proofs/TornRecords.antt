@@ -15,7 +15,7 @@ spoilt_append (b ∷ xs) ys [] yt x y = absurd x
 spoilt_append (b ∷ xs) ys (t ∷ xt) yt x y = (x.0, spoilt_append xs ys xt yt x.1 y)
 
 -- where no 0 is, a spoilt line is the line
-as_written : (line torn : List ℕ) → HasNoZero torn → IsSpoilt line torn → torn ≡ line
+pub as_written : (line torn : List ℕ) → HasNoZero torn → IsSpoilt line torn → torn ≡ line
 as_written [] [] none is = refl
 as_written [] (t ∷ torn) none is = absurd is
 as_written (b ∷ line) [] none is = absurd is
@@ -24,7 +24,7 @@ as_written (b ∷ line) (t ∷ torn) none is = elim is.0 [
   | inr zero ↦ absurd (none.0 zero)
 ]
 
-same_are : (xs ys : List ℕ) → same_bytes xs ys ≡ true → xs ≡ ys
+pub same_are : (xs ys : List ℕ) → same_bytes xs ys ≡ true → xs ≡ ys
 same_are [] [] is = refl
 same_are [] (y ∷ ys) is = absurd (false≢true is)
 same_are (x ∷ xs) [] is = absurd (false≢true is)
@@ -38,11 +38,11 @@ same_are (x ∷ xs) (y ∷ ys) is =
     equal : (x y : ℕ) → (x == y) ≡ true → x ≡ y
     equal x y is = grind (arith, nat_tests)
 
-either : (b : Bool) → (b ≡ true) ⊎ (b ≡ false)
+pub either : (b : Bool) → (b ≡ true) ⊎ (b ≡ false)
 either true = inl refl
 either false = inr refl
 
-ends_not : (t b : ℕ) → (t ≡ b) ⊎ (t ≡ 0) → (b == 10) ≡ false → (t == 10) ≡ false
+pub ends_not : (t b : ℕ) → (t ≡ b) ⊎ (t ≡ 0) → (b == 10) ≡ false → (t == 10) ≡ false
 ends_not t b (inl same) is = ap (λ (x : ℕ). x == 10) same ∙ is
 ends_not t b (inr zero) is = ap (λ (x : ℕ). x == 10) zero
 
@@ -68,13 +68,13 @@ first_byte b t g (inr zero) go is = ap (λ (x : ℕ). x == 126) zero
 first_byte b t g (inl same) go (inl end) = absurd (false≢true (sym go ∙ ap (λ (x : ℕ). x == 10) same ∙ end.0))
 first_byte b t g (inl same) go (inr on) = ap (λ (x : ℕ). x == 126) same ∙ group_line b [] g on.1
 
-still : (line : List ℕ) (b t : ℕ) (line_o g : List ℕ) → is_record line ≡ false → (line ≡ [] → line_o ≡ [])
+pub still : (line : List ℕ) (b t : ℕ) (line_o g : List ℕ) → is_record line ≡ false → (line ≡ [] → line_o ≡ [])
     → (t ≡ b) ⊎ (t ≡ 0) → (t == 10) ≡ false → AreWhole line_o (b ∷ g) → is_record (line ++ t ∷ []) ≡ false
 still [] b t line_o g not begun is go group =
     first_byte b t g is go (subst (λ (l : List ℕ). AreWhole l (b ∷ g)) (begun refl) group)
 still (x ∷ line) b t line_o g not begun is go group = not
 
-not_empty : (line : List ℕ) (t : ℕ) → line ++ t ∷ [] ≡ [] → ⊥
+pub not_empty : (line : List ℕ) (t : ℕ) → line ++ t ∷ [] ≡ [] → ⊥
 not_empty line t is = omega (arith, ap length is, length-append line (t ∷ []))
 
 module _ (record_of : Records) (are : AreRecords record_of) (before next : List ℕ) where

@@ -13,3 +13,4 @@ pub mod Lives
 pub mod Commits
 pub mod Snapshots
 pub mod Staging
+pub mod Records

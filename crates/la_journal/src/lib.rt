@@ -9,16 +9,19 @@
 //! `Disk` (what a crash may leave), `Durable` (when a machine stands on its journal, and why a call
 //! is refused), `Note` and `Outcomes` (what is noted of a file's [`Contents`], and what a crash might have
 //! left of it), `Starts`, `Served` (what was given out, and what a crash keeps of it), `Lives` (processes one
-//! after another), `Commits` (journals whose groups end in records); [`laws`] has what holds over a crash
-//! and a new start.
+//! after another), `Commits` (journals whose groups end in records), `Records` (these records, the head that a
+//! file begins with, and what behind the groups is damage); [`laws`] has what holds over a crash and a new start,
+//! [`record_laws`] what holds of groups with their records.
 #![tactic(auto)]
 
 mod compaction;
 mod contents;
+mod damage;
 mod disk;
 mod durable;
 mod given_out;
 mod group;
+mod grouped;
 mod happened;
 mod holding;
 pub mod laws;
@@ -26,6 +29,8 @@ mod machine;
 mod memory_disk;
 mod outlet;
 mod record;
+pub mod record_laws;
+mod records;
 mod recovery;
 mod serving;
 mod staging;
@@ -33,13 +38,16 @@ mod starts;
 
 pub use compaction::Uncompacted;
 pub use contents::Contents;
+pub use damage::{has_record, is_damage};
 pub use disk::{Disk, DiskFault};
 pub use durable::{Durable, Refused};
 pub use given_out::GivenOut;
+pub use grouped::{Group, Head, head_of, next_group};
 pub use machine::{Machine, Snapshot};
 pub use memory_disk::MemoryDisk;
 pub use outlet::{Outlet, OutletFault, Unserved};
 pub use record::Record;
+pub use records::{head_line, record_line, text_of};
 pub use recovery::{Unplayed, recover};
 pub use serving::{serve_all, serve_groups};
 pub use staging::{Staged, Uncommitted, Unstaged};

@@ -14,6 +14,8 @@ mod groups;
 mod kept;
 #[cfg(test)]
 mod lives;
+#[cfg(test)]
+mod recorded;
 mod tally;
 #[cfg(test)]
 mod told;
