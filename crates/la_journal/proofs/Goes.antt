@@ -2,7 +2,7 @@
 use Rattle.std.proofs.Common.{◌≡◌, inl, inr, ℕ, zero, suc, ◌<◌, ◌≤◌, List, [], ◌∷◌, ◌++◌, length, take, drop, refl, sym, ◌∙◌, ap, subst, arith, append_assoc, take-append-drop}
 use Rattle.std.proofs.lemmas.List.{append-nil, take_all, drop_all}
 use Rattle.la_journal.specs.Disk.{IsTorn, Torn}
-use Rattle.la_journal.specs.Note.{Moment, bytes_in, kept_in, grown, stored}
+use Rattle.la_journal.specs.Note.{Moment, bytes_in, kept_in, grown, only_whole}
 use Rattle.la_journal.specs.Outcomes.{LeftOf, LeftAt}
 
 pub record Split (xs ys torn : List ℕ) : Type 0 where
@@ -91,6 +91,6 @@ held_left [] c there left = absurd (omega (arith, there))
 held_left (e ∷ rest) c there left = inl left
 
 -- one alone, all of it on the disk
-pub stored_alone : (bytes c : List ℕ) → LeftAt (stored bytes) c → c ≡ bytes
+pub stored_alone : (bytes c : List ℕ) → LeftAt (only_whole bytes) c → c ≡ bytes
 stored_alone bytes c (inl this) = all_kept (length bytes) bytes (omega arith) c this
 stored_alone bytes c (inr none) = absurd none

@@ -162,10 +162,7 @@ fn serve_line<D: Disk>(
         Ok(()) if output.as_slice() == text.as_bytes() => Served::Well,
         Ok(()) if output.as_slice() == REFUSED.as_bytes() => Served::Noted,
         Err(NodeFault::Memory | NodeFault::DiskFault)
-            if text.as_bytes().starts_with(output.as_slice()) =>
-        {
-            Served::Stopped
-        }
+            if text.as_bytes().starts_with(output.as_slice()) => { Served::Stopped }
         Ok(()) | Err(_) => Served::Wrong,
     }
 }
@@ -280,7 +277,15 @@ fn runs(alloc: Global) -> Came {
         bytes: room(alloc)?,
     };
     let mut input = b"ask 0 3 items\n".as_slice();
-    match run(alloc, &options, found, disk, &mut input, &mut output, &mut told) {
+    match run(
+        alloc,
+        &options,
+        found,
+        disk,
+        &mut input,
+        &mut output,
+        &mut told,
+    ) {
         0 if output.as_slice() == ANSWER.as_bytes() => Some(told.bytes.is_empty()),
         0 => refused(output.as_slice() == REFUSED.as_bytes() && told.bytes.is_empty()),
         3 => refused(is_memory(&output, &told.bytes)),

@@ -131,8 +131,7 @@ pub fn start<M: Machine, D: Disk>(
         ≡ Some (M.state node.machine)) }
     ensures leads { IfOk result (λ node. state_after M.named_state M.named M.step (M.state machine) (D.seen node.disk)
         ≡ Some (M.state node.machine)) }
-    ensures ready { IfOk result (λ node. (node.closed ≡ false)
-        × IsSettled D.seen D.may_leave node.disk) }
+    ensures ready { IfOk result (λ node. (node.closed ≡ false) × IsSettled D.seen D.may_leave node.disk) }
 {
     match recover(alloc, machine, found, disk) {
         Ok(node) => Ok(node),
