@@ -10,10 +10,6 @@ pub returns-in_ok-write_lines-in-Ok-clause-any_moment : goal.returns-in_ok-write
 returns-in_ok-write_lines-in-Ok-clause-any_moment g c =
     λ start before calls was are. c.commit.ensures.any_moment c.requires.unclosed start before calls was are
 
-pub returns-in-Err-Memory-clause-any_moment : goal.returns-in-Err-Memory-clause-any_moment
-returns-in-Err-Memory-clause-any_moment g c =
-    λ start before calls was are. c.commit.ensures.any_moment c.requires.unclosed start before calls was are
-
 pub returns-in-Err-Disk-clause-any_moment : goal.returns-in-Err-Disk-clause-any_moment
 returns-in-Err-Disk-clause-any_moment g c =
     λ start before calls was are. c.commit.ensures.any_moment c.requires.unclosed start before calls was are
