@@ -5,7 +5,7 @@ use Rattle.uses.specs.Leases.{taken_in, named_ask, taken_after}
 use Rattle.uses.proofs.Leasing.{takes}
 use Rattle.uses.proofs.journals.taken_for_good.Goals as goal
 
-pub returns-in-Ok-start_in_memory : goal.returns-in-Ok-start
+pub returns-in-Ok-start_in_memory : goal.returns-in-Ok-start_in_memory
 returns-in-Ok-start_in_memory c =
     let acked = c.in-Ok-handle.ensures.acknowledged in
     let led = c.in-Ok-handle.ensures.leads acked.0 false c.in-Ok.ensures.leads in
