@@ -1,8 +1,8 @@
 -- How what a crash may leave goes on.
-use Rattle.std.proofs.Common.{◌≡◌, inl, inr, ℕ, zero, suc, ◌<◌, ◌≤◌, List, [], ◌∷◌, ◌++◌, length, take, drop, refl, sym, ◌∙◌, ap, subst, arith, append_assoc, take-append-drop}
+use Rattle.std.proofs.Common.{◌≡◌, inl, inr, ℕ, zero, suc, ◌<◌, ◌≤◌, List, [], ◌∷◌, ◌++◌, length, take, drop, refl, sym, ◌∙◌, ap, subst, arith, take-append-drop}
 use Rattle.std.proofs.lemmas.List.{append-nil, take_all, drop_all}
 use Rattle.la_journal.specs.Disk.{IsTorn, Torn}
-use Rattle.la_journal.specs.Note.{Moment, bytes_in, kept_in, grown, stored}
+use Rattle.la_journal.specs.Note.{Moment, bytes_in, kept_in, grown, only_whole}
 use Rattle.la_journal.specs.Outcomes.{LeftOf, LeftAt}
 
 pub record Split (xs ys torn : List ℕ) : Type 0 where
@@ -18,29 +18,6 @@ split (x ∷ xs) ys [] is = record { front = []; back = []; front_torn = tt; bac
 split (x ∷ xs) ys (t ∷ torn) is =
     let rest = split xs ys torn is.1 in
     record { front = t ∷ rest.front; back = rest.back; front_torn = (is.0, rest.front_torn); back_torn = rest.back_torn; whole = ap (λ (l : List ℕ). t ∷ l) rest.whole }
-
-take_within : (n : ℕ) (xs ys : List ℕ) → n ≤ length xs → take n (xs ++ ys) ≡ take n xs
-take_within zero xs ys le = refl
-take_within (suc n) [] ys le = absurd (omega arith)
-take_within (suc n) (x ∷ xs) ys le = ap (λ (l : List ℕ). x ∷ l) (take_within n xs ys (omega arith))
-
-drop_within : (n : ℕ) (xs ys : List ℕ) → n ≤ length xs → drop n (xs ++ ys) ≡ drop n xs ++ ys
-drop_within zero xs ys le = refl
-drop_within (suc n) [] ys le = absurd (omega arith)
-drop_within (suc n) (x ∷ xs) ys le = drop_within n xs ys (omega arith)
-
--- bytes put behind
-pub appends : (kept : ℕ) (old more : List ℕ) → kept ≤ length old → (c : List ℕ) → LeftOf kept (old ++ more) c
-    → (d : List ℕ) × LeftOf kept old d × Torn more d c
-appends kept old more within c left =
-    let parts =
-    split (drop kept old) more left.0
-    (subst (λ (l : List ℕ). IsTorn l left.0) (drop_within kept old more within) left.1) in
-    let is : c ≡ (take kept old ++ parts.front) ++ parts.back =
-    left.2 ∙ ap (λ (l : List ℕ). l ++ left.0) (take_within kept old more within)
-    ∙ ap (λ (l : List ℕ). take kept old ++ l) parts.whole
-    ∙ sym (append_assoc (take kept old) parts.front parts.back) in
-    (take kept old ++ parts.front, (parts.front, parts.front_torn, refl), (parts.back, parts.back_torn, is))
 
 -- all of it on the disk
 pub all_kept : (kept : ℕ) (bytes : List ℕ) → length bytes ≤ kept → (c : List ℕ) → LeftOf kept bytes c → c ≡ bytes
@@ -66,14 +43,15 @@ whole_front zero bytes torn is = is
 whole_front (suc kept) [] torn is = is
 whole_front (suc kept) (b ∷ bytes) torn is = (inl refl, whole_front kept bytes torn is)
 
--- bytes put behind, wherever what is kept of the others ends
-pub appends_any : (kept : ℕ) (old more c : List ℕ) → LeftOf kept (old ++ more) c
-    → (d : List ℕ) × LeftOf kept old d × Torn more d c
-appends_any zero old more c left = appends 0 old more (omega arith) c left
-appends_any (suc kept) [] more c left =
+-- bytes put behind
+appends : (kept : ℕ) (old more c : List ℕ) → LeftOf kept (old ++ more) c → (d : List ℕ) × LeftOf kept old d × Torn more d c
+appends zero old more c left =
+    let parts = split old more left.0 left.1 in
+    (parts.front, (parts.front, parts.front_torn, refl), (parts.back, parts.back_torn, left.2 ∙ parts.whole))
+appends (suc kept) [] more c left =
     ([], ([], tt, refl), (c, subst (IsTorn more) (sym left.2) (whole_front (suc kept) more left.0 left.1), refl))
-appends_any (suc kept) (x ∷ old) more c left =
-    let rest = appends_any kept old more (take kept (old ++ more) ++ left.0) (left.0, left.1, refl) in (
+appends (suc kept) (x ∷ old) more c left =
+    let rest = appends kept old more (take kept (old ++ more) ++ left.0) (left.0, left.1, refl) in (
       x ∷ rest.0,
       (rest.1.0, rest.1.1, ap (λ (l : List ℕ). x ∷ l) rest.1.2),
       (rest.2.0, rest.2.1, left.2 ∙ ap (λ (l : List ℕ). x ∷ l) rest.2.2),
@@ -82,7 +60,7 @@ appends_any (suc kept) (x ∷ old) more c left =
 pub grown_left : (more : List ℕ) (m : Moment) (c : List ℕ) → LeftAt (grown more m) c
     → (d : List ℕ) × LeftAt m d × Torn more d c
 grown_left more [] c left = absurd left
-grown_left more (e ∷ rest) c (inl this) = let d = appends_any e.kept e.bytes more c this in (d.0, inl d.1, d.2)
+grown_left more (e ∷ rest) c (inl this) = let d = appends e.kept e.bytes more c this in (d.0, inl d.1, d.2)
 grown_left more (e ∷ rest) c (inr other) = let d = grown_left more rest c other in (d.0, inr d.1, d.2)
 
 -- what the file has may be left
@@ -91,6 +69,6 @@ held_left [] c there left = absurd (omega (arith, there))
 held_left (e ∷ rest) c there left = inl left
 
 -- one alone, all of it on the disk
-pub stored_alone : (bytes c : List ℕ) → LeftAt (stored bytes) c → c ≡ bytes
+pub stored_alone : (bytes c : List ℕ) → LeftAt (only_whole bytes) c → c ≡ bytes
 stored_alone bytes c (inl this) = all_kept (length bytes) bytes (omega arith) c this
 stored_alone bytes c (inr none) = absurd none

@@ -1,6 +1,6 @@
 -- Lines put behind a settled file at once.
 use Rattle.std.proofs.Common.{◌≡◌, ℕ, zero, suc, ◌-◌, ◌≤◌, ◌<◌, List, [], ◌∷◌, ◌++◌, length, take, drop, refl, sym, ◌∙◌, ap, subst, arith, append_assoc}
-use Rattle.std.proofs.lemmas.List.{append-nil, take_at, take_all, length-append, length-drop}
+use Rattle.std.proofs.lemmas.List.{append-nil, take_all, length-drop}
 use Rattle.la_journal.specs.Disk.{MayBeTorn, Only, IsTorn}
 use Rattle.la_journal.specs.Lines.{lines, file_of, IsClean}
 use Rattle.la_journal.specs.Machine.{call_texts}
@@ -73,13 +73,6 @@ module _ {D : Type 0} (seen : D → List ℕ) (may_leave : D → List ℕ → Ty
       let some = torn_is (take n more) (clean_take n more clean) bytes is c left in
       let front = take_of_take some.0 n more some.1 in
       (some.0, front.1, some.2 ∙ (λ i. lines (same i) ++ front.0 i))
-
--- the whole without its end
-pub end_front : (text front rest : List ℕ) → text ≡ front ++ rest → take (length text - length rest) text ≡ front
-end_front text front rest is =
-    let long = ap length is ∙ length-append front rest in
-    ap (λ (t : List ℕ). take (length text - length rest) t) is
-    ∙ take_at front rest (length text - length rest) (omega (arith, long))
 
 -- the next item
 pub drop_next : (k : ℕ) (xs : List (List ℕ)) (x : List ℕ) (rest : List (List ℕ)) → drop k xs ≡ x ∷ rest

@@ -11,7 +11,7 @@ use Rattle.la_journal.specs.declared.durable.Refused.{Refused as RefusedOf}
 use Rattle.la_journal.specs.declared.durable.Refused.TheVariants.{Machine, Memory, Disk, Closed}
 use Rattle.la_journal.specs.declared.outlet.Unserved.{Unserved}
 use Rattle.la_journal.specs.declared.outlet.Unserved.TheVariants.{Refused, Outlet}
-use Rattle.la_journal.proofs.Given.{since_more, behind_more, many_more, answers_more, answered_more, answered_none, none_since, replies_append}
+use Rattle.la_journal.proofs.Given.{since_more, behind_more, many_more, answers_more, answered_more, replies_append}
 use Rattle.la_journal.proofs.Moments.{joined}
 use Rattle.la_journal.proofs.StepsMore.{from_append}
 use Rattle.la_journal.proofs.Takes.{weaker}
@@ -22,15 +22,6 @@ pub record SoFar {S C O A : Type 0} (step : S → C → Option S) (answers_in : 
   pub behind : mid ≡ given_since old mid ++ old
   pub many : answers_since answers_in old mid ≡ length done
   pub are : answers_of answers_in (given_since old mid) ≡ replies step answers done first
-
--- at the start
-pub none_so_far : {S C O A : Type 0} (step : S → C → Option S) (answers_in : O → List A) (answers : S → C → A)
-    (first : S) (old : List (SaidAt O)) → SoFar step answers_in answers [] first old old
-none_so_far step answers_in answers first old = record {
-  behind = ap (λ (g : List (SaidAt _)). g ++ old) (sym (none_since old));
-  many = answered_none answers_in old;
-  are = ap (answers_of answers_in) (none_since old);
-}
 
 module _ {S C : Type 0} (step : S → C → Option S) (calls done group rest : List C)
     (split : calls ≡ done ++ (group ++ rest)) (first between : S) (led : steps step done first ≡ Some between) where

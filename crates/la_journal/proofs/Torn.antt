@@ -1,8 +1,7 @@
--- Bytes that a crash kept all of.
+-- What a crash leaves of some bytes it may leave of all.
 use Rattle.std.proofs.Common.{ℕ, zero, suc, List, [], ◌∷◌, take}
 use Rattle.la_journal.specs.Disk.{IsTorn, Torn}
 
--- what is torn of some of the bytes is torn of all
 torn_front : (n : ℕ) (bytes torn : List ℕ) → IsTorn (take n bytes) torn → IsTorn bytes torn
 torn_front n bytes [] is = tt
 torn_front zero bytes (t ∷ torn) is = absurd is

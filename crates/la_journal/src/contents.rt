@@ -11,8 +11,8 @@ use crate::record::Record;
 pub struct Contents {
     pub(crate) past: Record,
     pub(crate) failures: Record,
-    // It has bytes, be they none,
+    // What the file has is noted, be it no byte,
     ghost there: { 0 < length (now_of past.events) },
-    // and no more of them are on the disk than there are.
+    // and no more bytes are on the disk than there are.
     ghost within: { kept_in (now_of past.events) ≤ length (bytes_in (now_of past.events)) },
 }

@@ -18,7 +18,7 @@ use uses::acceptors::acknowledges;
 use uses::commits::{Learner, finish_both};
 use uses::deltas::{read, written};
 use uses::groups::{count_together, form};
-use uses::journals::{Ask, Lease, answer, answer_and_compact, start, taken_for_good};
+use uses::journals::{Ask, Lease, answer, answer_and_compact, start_in_memory, taken_for_good};
 use uses::kept::{Kept, play_again};
 use uses::nodes::{join, three_nodes};
 use uses::orsets::{ask, follow_both, put, removal as removal_of};
@@ -337,10 +337,7 @@ fn kept_calls(alloc: Global) -> Option<bool> {
 // A lease that is taken and released, whose journal then says its state alone.
 fn leases(alloc: Global) -> Option<bool> {
     let disk = MemoryDisk::new(alloc, Vec::new(alloc));
-    let Ok(found) = disk.bytes().to_vec(alloc) else {
-        return None;
-    };
-    let mut lease = start(alloc, Lease { taken: false }, found, disk).ok()?;
+    let mut lease = start_in_memory(alloc, Lease { taken: false }, disk).ok()?;
     let taken = answer(&mut lease, alloc, b"t").ok()??;
     let after = answer_and_compact(&mut lease, alloc, &Ask::Release).ok()?;
     Some(taken && !after && matches!(lease.disk.bytes(), b"=f\n" | b"t\nr\n"))

@@ -283,7 +283,15 @@ fn runs(alloc: Global) -> Came {
         bytes: room(alloc)?,
     };
     let mut input = b"ask 0 3 items\n".as_slice();
-    let ended = run(alloc, &options, found, disk, &mut input, &mut output, &mut told);
+    let ended = run(
+        alloc,
+        &options,
+        found,
+        disk,
+        &mut input,
+        &mut output,
+        &mut told,
+    );
     let written = output.writer.as_slice();
     match ended.status {
         0 if written == ANSWER.as_bytes() => Some(told.bytes.is_empty()),

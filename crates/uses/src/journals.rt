@@ -130,12 +130,30 @@ pub fn start<M: Machine, D: Disk>(
         ≡ Some (M.state node.machine)) }
     ensures leads { IfOk result (λ node. state_after M.named_state M.named M.step (M.state machine) (D.seen node.disk)
         ≡ Some (M.state node.machine)) }
-    ensures ready { IfOk result (λ node. (node.closed ≡ false)
-        × IsSettled D.seen D.may_leave node.disk) }
+    ensures ready { IfOk result (λ node. (node.closed ≡ false) × IsSettled D.seen D.may_leave node.disk) }
 {
     match recover(alloc, machine, found, disk) {
         Ok(node) => Ok(node),
         Err((why, _disk)) => Err(why),
+    }
+}
+
+/// The same over a disk in memory, whose bytes are found first.
+pub fn start_in_memory<M: Machine>(
+    alloc: Global,
+    machine: M,
+    disk: MemoryDisk,
+) -> Result<Durable<M, MemoryDisk>, Unplayed<M::Refusal>>
+    ensures state { IfOk result (λ node. state_after M.named_state M.named M.step (M.state machine)
+        (⟦<MemoryDisk as Disk>⟧.seen disk) ≡ Some (M.state node.machine)) }
+    ensures leads { IfOk result (λ node. state_after M.named_state M.named M.step (M.state machine)
+        (⟦<MemoryDisk as Disk>⟧.seen node.disk) ≡ Some (M.state node.machine)) }
+    ensures ready { IfOk result (λ node. (node.closed ≡ false)
+        × IsSettled ⟦<MemoryDisk as Disk>⟧.seen ⟦<MemoryDisk as Disk>⟧.may_leave node.disk) }
+{
+    match disk.bytes().to_vec(alloc) {
+        Ok(found) => start(alloc, machine, found, disk),
+        Err(_) => Err(Unplayed::Memory),
     }
 }
 
@@ -208,11 +226,8 @@ pub fn taken_for_good(
 ) -> Option<Durable<Lease, MemoryDisk>>
     ensures { IfSome result (λ lease. lease.machine.taken ≡ true) }
 {
-    let disk = MemoryDisk::new(alloc, journal);
-    let Ok(found) = disk.bytes().to_vec(alloc) else {
-        return None;
-    };
-    let Ok(mut lease) = start(alloc, Lease { taken: false }, found, disk) else {
+    let free = Lease { taken: false };
+    let Ok(mut lease) = start_in_memory(alloc, free, MemoryDisk::new(alloc, journal)) else {
         return None;
     };
     let Ok(_) = lease.handle(alloc, &Ask::Take) else {
@@ -221,10 +236,7 @@ pub fn taken_for_good(
     let Ok(left) = lease.disk.crash(spoilt) else {
         return None;
     };
-    let Ok(found) = left.bytes().to_vec(alloc) else {
-        return None;
-    };
-    match start(alloc, Lease { taken: false }, found, left) {
+    match start_in_memory(alloc, Lease { taken: false }, left) {
         Ok(lease) => Some(lease),
         Err(_) => None,
     }
