@@ -6,7 +6,7 @@ use Rattle.std.specs.Fmt.{decimal, digit_glyph}
 use Rattle.sha2.specs.Sha256.{sha256}
 use Rattle.sha2.proofs.Facts256.{length-sha256}
 use Rattle.la_journal.specs.Commits.{same_bytes}
-use Rattle.la_journal.specs.Records.{hex, digest, record_of, head_line, text_of}
+use Rattle.la_journal.specs.Records.{hex, digest, record_of, head_line, text_of_head}
 use Rattle.la_journal.proofs.Recorded.{same_self}
 use Rattle.la_journal.proofs.TornRecords.{same_are, either}
 
@@ -68,14 +68,14 @@ module _ (line text end own : List ℕ) (n : ℕ) (at : n ≡ length line - 17) 
   front_is : take (length line - 17) line ≡ text
   front_is = ap (λ (m : ℕ). take m line) (sym at) ∙ sym front
 
-  pub text_is : end ≡ 32 ∷ own → text_of line ≡ Some text
+  pub text_is : end ≡ 32 ∷ own → text_of_head line ≡ Some text
   text_is so =
       let whole : line ≡ head_line text =
       both ∙ ap (λ (e : List ℕ). text ++ e) (so ∙ ap (λ (d : List ℕ). 32 ∷ d) digests) in
       ap (λ (t : List ℕ). if same_bytes line (head_line t) then Some t else None) front_is
       ∙ ap (λ (b : Bool). if b then Some text else None) (ap (same_bytes line) (sym whole) ∙ same_self line)
 
-  pub text_is_not : (end ≡ 32 ∷ own → ⊥) → text_of line ≡ None
+  pub text_is_not : (end ≡ 32 ∷ own → ⊥) → text_of_head line ≡ None
   text_is_not not = elim (either (same_bytes line (head_line text))) [
     | inl same ↦ absurd (not (behind_same text line end (32 ∷ digest text) both (same_are line (head_line text) same)
         ∙ ap (λ (d : List ℕ). 32 ∷ d) (sym digests)))

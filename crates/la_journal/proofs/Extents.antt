@@ -19,11 +19,11 @@ cut bytes line rest at n within long is =
     ∙ ap (λ (l : List ℕ). take at bytes ++ l) (is ∙ sym (append_assoc line (10 ∷ []) rest))
     ∙ sym (append_assoc (take at bytes) (line ++ 10 ∷ []) rest) in
     let fits = length-take-le at bytes within in
-    let ends : length front ≡ at + (n + 1) =
+    let end_count : length front ≡ at + (n + 1) =
     omega
     (arith, length-append (take at bytes) (line ++ 10 ∷ []), length-append line (10 ∷ []), fits) in (
-      ap (λ (l : List ℕ). take (at + (n + 1)) l) whole ∙ take_at front rest (at + (n + 1)) ends,
-      ap (λ (l : List ℕ). drop (at + (n + 1)) l) whole ∙ drop_at front rest (at + (n + 1)) ends,
+      ap (λ (l : List ℕ). take (at + (n + 1)) l) whole ∙ take_at front rest (at + (n + 1)) end_count,
+      ap (λ (l : List ℕ). drop (at + (n + 1)) l) whole ∙ drop_at front rest (at + (n + 1)) end_count,
     )
 
 -- a line more is whole, if it is no record's

@@ -9,7 +9,7 @@ use Rattle.std.proofs.lemmas.Bool.Decides.{nat_tests}
 use Rattle.std.proofs.lemmas.Fmt.{decimal_by_steps}
 use Rattle.la_journal.specs.Lines.{file_of}
 use Rattle.la_journal.specs.Commits.{HasNoEnd}
-use Rattle.la_journal.specs.Records.{ended, ended_from, unended, unended_from, number_from, stated, record_of, IsRecordOfLast}
+use Rattle.la_journal.specs.Records.{ended, ended_from, unended, unended_from, number_from, stated_link, record_of, IsRecordOfLast}
 use Rattle.la_journal.proofs.TornRecords.{either}
 use Rattle.la_journal.proofs.Ended.{unended_byte, ended-append, unended-append, one_ended, whole_at_end, few_lines}
 
@@ -198,7 +198,7 @@ module _ (before line : List ℕ) (whole : unended before ≡ []) (short : lengt
   no_count none is = let e = none is.0 _ (fits is.0 is.1) is.2 in absurd (cc)
 
   pub is_of_last : (b : Bool) (count : ℕ) (lines st : List ℕ)
-      → lines ≡ file_of (reverse (take count (reverse (ended before)))) → st ≡ stated line
+      → lines ≡ file_of (reverse (take count (reverse (ended before)))) → st ≡ stated_link line
       → count ≤ length (ended before)
       → ((n : ℕ) (rest : List ℕ) → n < 2 ^ 64 → line ≡ 126 ∷ 32 ∷ (decimal n ++ 32 ∷ rest) → Some count ≡ Some n)
       → IsTrue b ↔ (line ≡ record_of count st lines) → IsTrue b ↔ IsRecordOfLast (reverse (ended before)) line
@@ -212,6 +212,6 @@ module _ (before line : List ℕ) (whole : unended before ≡ []) (short : lengt
         let same = some_same count is.0 (counts is.0 _ (fits is.0 is.1) is.2) in
         tests.1
         (is.2
-        ∙ ap (λ (n : ℕ). record_of n (stated line) (file_of (reverse (take n (reverse (ended before)))))) (sym same)
+        ∙ ap (λ (n : ℕ). record_of n (stated_link line) (file_of (reverse (take n (reverse (ended before)))))) (sym same)
         ∙ (λ i. record_of count (sym states_ i) (sym are i))),
   )

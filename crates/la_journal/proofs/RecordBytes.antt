@@ -8,7 +8,7 @@ use Rattle.std.proofs.lemmas.Bool.{false≢true}
 use Rattle.std.proofs.lemmas.Bool.Decides.{nat_tests}
 use Rattle.sha2.specs.Sha256.{sha256}
 use Rattle.la_journal.specs.Commits.{HasNoEnd, HasNoZero, AreRecords}
-use Rattle.la_journal.specs.Records.{hex, digest, link, ends, record_of, record_line}
+use Rattle.la_journal.specs.Records.{hex, digest, link, end_count, record_of, record_line}
 use Rattle.la_journal.proofs.TornRecords.{either}
 
 abbrev pub AreHex : List ℕ → Type 0
@@ -92,7 +92,7 @@ are_records before group = (
     refl,
     (
       refl,
-      no_ends-append (decimal (ends group)) _ (no_ends _ (decimal-hex (ends group))) (
+      no_ends-append (decimal (end_count group)) _ (no_ends _ (decimal-hex (end_count group))) (
         refl,
         no_ends-append (link before) _ (no_ends _ (link-hex before))
             (refl, no_ends _ (digest-hex (link before ++ group))),
@@ -115,4 +115,4 @@ no_zero_of count before group are = (
 )
 
 pub no_zero : (before group : List ℕ) → HasNoZero (record_line before group)
-no_zero before group = no_zero_of (ends group) (link before) group (link-hex before)
+no_zero before group = no_zero_of (end_count group) (link before) group (link-hex before)

@@ -7,7 +7,7 @@ use Rattle.std.specs.Fmt.{decimal}
 use Rattle.std.proofs.lemmas.List.{append-nil, length-append, length-reverse, reverse-append, reverse-reverse, take_at, drop_at}
 use Rattle.la_journal.specs.Lines.{file_of}
 use Rattle.la_journal.specs.Commits.{with_record, AreWhole}
-use Rattle.la_journal.specs.Records.{digest, link, ends, record_of, record_line, head_line, text_of, ended_from, ended, unended_from, stated, IsRecordOfLast, RecordStands, HeadsAreRead, RecordsLink, GroupsAreTold}
+use Rattle.la_journal.specs.Records.{digest, link, end_count, record_of, record_line, head_line, text_of_head, ended_from, ended, unended_from, stated_link, IsRecordOfLast, RecordStands, HeadsAreRead, RecordsLink, GroupsAreTold}
 use Rattle.la_journal.proofs.TornRecords.{either}
 use Rattle.la_journal.proofs.Digests.{length-digest, text_is}
 use Rattle.la_journal.proofs.RecordBytes.{are_records, link-hex, digest-hex, no_ends, no_ends-append}
@@ -33,12 +33,12 @@ in_two count before group =
 pub records_link : RecordsLink
 records_link before group =
     let own = digest (link before ++ group) in
-    let front = 126 ∷ 32 ∷ (decimal (ends group) ++ 32 ∷ link before) in
-    ap link (in_two (ends group) (link before) group ∙ sym (append_assoc front (32 ∷ []) own))
+    let front = 126 ∷ 32 ∷ (decimal (end_count group) ++ 32 ∷ link before) in
+    ap link (in_two (end_count group) (link before) group ∙ sym (append_assoc front (32 ∷ []) own))
     ∙ link_is (front ++ 32 ∷ []) own (length-digest (link before ++ group)) (digest-hex (link before ++ group))
 
 stated_is : (count : ℕ) (before group : List ℕ) → length before ≡ 16 → list_all is_ascii_hexdigit before ≡ true
-    → stated (record_of count before group) ≡ before
+    → stated_link (record_of count before group) ≡ before
 stated_is count before group long are =
     let front = 126 ∷ 32 ∷ (decimal count ++ 32 ∷ before) in
     let own = digest (before ++ group) in
@@ -56,7 +56,7 @@ heads_are_read text has =
     let own = digest text in
     let line = head_line text in
     let place : length text ≡ length line - 17 = omega (arith, length-append text (32 ∷ own), length-digest text) in
-    let is : text_of line ≡ Some text =
+    let is : text_of_head line ≡ Some text =
     text_is line text (32 ∷ own) own (length text) place (sym (take_at text (32 ∷ own) (length text) refl))
     (sym (drop_at text (32 ∷ own) (length text) refl)) refl refl in
     head_is (line ++ 10 ∷ []) line [] refl (no_ends-append text (32 ∷ own) has (refl, no_ends own (digest-hex text)))
@@ -71,12 +71,12 @@ whole_unended line [] is = is
 whole_unended line (b ∷ g) (inl e) = unended_end line g b e.0 ∙ whole_unended [] g e.2
 whole_unended line (b ∷ g) (inr e) = unended_byte line g b e.0 ∙ whole_unended (line ++ b ∷ []) g e.1
 
-pub ends_lines : (got xs : List ℕ) → ends xs ≡ length (ended_from got xs)
+pub ends_lines : (got xs : List ℕ) → end_count xs ≡ length (ended_from got xs)
 ends_lines got [] = refl
 ends_lines got (b ∷ xs) = elim (either (b == 10)) [
-  | inl end ↦ ap (λ (t : Bool). if t then suc (ends xs) else ends xs) end ∙ ap suc (ends_lines [] xs)
+  | inl end ↦ ap (λ (t : Bool). if t then suc (end_count xs) else end_count xs) end ∙ ap suc (ends_lines [] xs)
       ∙ ap length (sym (ended_end got xs b end))
-  | inr go ↦ ap (λ (t : Bool). if t then suc (ends xs) else ends xs) go ∙ ends_lines (got ++ b ∷ []) xs
+  | inr go ↦ ap (λ (t : Bool). if t then suc (end_count xs) else end_count xs) go ∙ ends_lines (got ++ b ∷ []) xs
       ∙ ap length (sym (ended_byte got xs b go))
 ]
 
@@ -107,16 +107,16 @@ groups_are_told front before group rest whole_front long whole =
     ∙ ap (λ (l : List ℕ). b ++ ended_from l (r ++ 10 ∷ rest)) (whole_unended [] group whole)
     ∙ ap (λ (l : List (List ℕ)). b ++ l) (one_ended [] r rest (are_records before group).1))
     ∙ sym (append_assoc a b (r ∷ ended rest)) in
-    let count : length (reverse b) ≡ ends group = length-reverse b ∙ sym (ends_lines [] group) in
+    let count : length (reverse b) ≡ end_count group = length-reverse b ∙ sym (ends_lines [] group) in
     let lines : reverse (a ++ b) ++ [] ≡ reverse b ++ reverse a = append-nil (reverse (a ++ b)) ∙ reverse-append a b in
-    let some : ends group ≤ length (reverse (a ++ b) ++ []) =
+    let some : end_count group ≤ length (reverse (a ++ b) ++ []) =
     omega (arith, ap length lines, length-append (reverse b) (reverse a), count) in
-    let these : file_of (reverse (take (ends group) (reverse (a ++ b) ++ []))) ≡ group =
-    ap (λ (l : List (List ℕ)). file_of (reverse (take (ends group) l))) lines
-    ∙ ap (λ (l : List (List ℕ)). file_of (reverse l)) (take_at (reverse b) (reverse a) (ends group) count)
+    let these : file_of (reverse (take (end_count group) (reverse (a ++ b) ++ []))) ≡ group =
+    ap (λ (l : List (List ℕ)). file_of (reverse (take (end_count group) l))) lines
+    ∙ ap (λ (l : List (List ℕ)). file_of (reverse l)) (take_at (reverse b) (reverse a) (end_count group) count)
     ∙ ap file_of (reverse-reverse b)
     ∙ whole_lines group (whole_unended [] group whole) in
-    let at_front : stated r ≡ link before = stated_is (ends group) (link before) group long (link-hex before) in
+    let at_front : stated_link r ≡ link before = stated_is (end_count group) (link before) group long (link-hex before) in
     subst (RecordStands []) (sym read)
     (stands_at [] (a ++ b) r (ended rest)
-    (ends group, some, (λ i. record_of (ends group) (sym at_front i) (sym these i))))
+    (end_count group, some, (λ i. record_of (end_count group) (sym at_front i) (sym these i))))

@@ -8,7 +8,7 @@ use Rattle.std.proofs.lemmas.Bool.Decides.{nat_tests}
 use Rattle.la_journal.specs.Disk.{IsTorn}
 use Rattle.la_journal.specs.Lines.{file_of}
 use Rattle.la_journal.specs.Commits.{same_bytes, is_record, with_record, HasNoEnd, HasNoZero, AreWhole, IsSpoilt, NoneCollides}
-use Rattle.la_journal.specs.Records.{digest, link, ends, record_of, record_line, ended_from, ended, unended_from, unended, number_from, stated, IsRecordOfLast, RecordStands, GoesOn, IsGroupDamage, TornIsNoDamage}
+use Rattle.la_journal.specs.Records.{digest, link, end_count, record_of, record_line, ended_from, ended, unended_from, unended, number_from, stated_link, IsRecordOfLast, RecordStands, IsRunOn, IsGroupDamage, TornIsNoDamage}
 use Rattle.la_journal.proofs.Recorded.{same_self}
 use Rattle.la_journal.proofs.TornRecords.{same_are, either, still, not_empty, ends_not, as_written}
 use Rattle.la_journal.proofs.Digests.{length-digest}
@@ -31,14 +31,14 @@ plain_none acc [] plain is = absurd is
 plain_none acc (l ∷ ls) plain (inl is) = false≢true (sym plain.0 ∙ ap is_record is.2)
 plain_none acc (l ∷ ls) plain (inr is) = plain_none (l ∷ acc) ls plain.1 is
 
-plain_goes : (ls : List (List ℕ)) → Plain ls → GoesOn ls → ⊥
+plain_goes : (ls : List (List ℕ)) → Plain ls → IsRunOn ls → ⊥
 plain_goes [] plain is = absurd is
 plain_goes (l ∷ []) plain is = absurd is
 plain_goes (l ∷ m ∷ ls) plain (inl is) = false≢true (sym plain.0 ∙ is)
 plain_goes (l ∷ m ∷ ls) plain (inr is) = plain_goes (m ∷ ls) plain.1 is
 
 -- nor one with something behind, where the last line may be one
-last_goes : (ls : List (List ℕ)) (l : List ℕ) → Plain ls → GoesOn (ls ++ l ∷ []) → ⊥
+last_goes : (ls : List (List ℕ)) (l : List ℕ) → Plain ls → IsRunOn (ls ++ l ∷ []) → ⊥
 last_goes [] l plain is = absurd is
 last_goes (x ∷ []) l plain (inl is) = false≢true (sym plain.0 ∙ is)
 last_goes (x ∷ []) l plain (inr is) = absurd is
@@ -155,14 +155,14 @@ spoilt_no_end r [] has is = tt
 spoilt_no_end [] (t ∷ s) has is = absurd is
 spoilt_no_end (b ∷ r) (t ∷ s) has is = (ends_not t b is.0 has.0, spoilt_no_end r s has.1 is.1)
 
-ends_at : (b : ℕ) (xs : List ℕ) → (b == 10) ≡ true → ends (b ∷ xs) ≡ suc (ends xs)
-ends_at b xs is = ap (λ (t : Bool). if t then suc (ends xs) else ends xs) is
+ends_at : (b : ℕ) (xs : List ℕ) → (b == 10) ≡ true → end_count (b ∷ xs) ≡ suc (end_count xs)
+ends_at b xs is = ap (λ (t : Bool). if t then suc (end_count xs) else end_count xs) is
 
-ends_on : (b : ℕ) (xs : List ℕ) → (b == 10) ≡ false → ends (b ∷ xs) ≡ ends xs
-ends_on b xs is = ap (λ (t : Bool). if t then suc (ends xs) else ends xs) is
+ends_on : (b : ℕ) (xs : List ℕ) → (b == 10) ≡ false → end_count (b ∷ xs) ≡ end_count xs
+ends_on b xs is = ap (λ (t : Bool). if t then suc (end_count xs) else end_count xs) is
 
 -- a crash makes no line's end
-spoilt_ends : (g s : List ℕ) → IsSpoilt g s → ends s ≤ ends g
+spoilt_ends : (g s : List ℕ) → IsSpoilt g s → end_count s ≤ end_count g
 spoilt_ends g [] is = omega arith
 spoilt_ends [] (t ∷ s) is = absurd is
 spoilt_ends (b ∷ g) (t ∷ s) is = elim (either (b == 10)) [
@@ -173,7 +173,7 @@ spoilt_ends (b ∷ g) (t ∷ s) is = elim (either (b == 10)) [
   | inr go ↦ omega (arith, ends_on b g go, ends_on t s (ends_not t b is.0 go), spoilt_ends g s is.1)
 ]
 
-few_ends : (xs : List ℕ) → ends xs ≤ length xs
+few_ends : (xs : List ℕ) → end_count xs ≤ length xs
 few_ends [] = omega arith
 few_ends (b ∷ xs) = elim (either (b == 10)) [
   | inl end ↦ omega (arith, ends_at b xs end, few_ends xs)
@@ -208,7 +208,7 @@ record_parts n m p q g h few too is =
 
 module _ (before next sg sr : List ℕ) (small : length next < 2 ^ 64) (none : NoneCollides record_line before next)
     (spoilt : IsSpoilt next sg) (record_ : IsSpoilt (record_line before next) sr) (whole : unended sg ≡ []) where
-  lines_few : length (ended sg) ≤ ends next
+  lines_few : length (ended sg) ≤ end_count next
   lines_few = omega (arith, spoilt_ends next sg spoilt, ends_lines [] sg)
 
   is_whole : IsRecordOfLast (reverse (ended sg)) sr → (sg ≡ next) × (sr ≡ record_line before next)
@@ -216,19 +216,19 @@ module _ (before next sg sr : List ℕ) (small : length next < 2 ^ 64) (none : N
       let n = is.0 in
       let lines = reverse (ended sg) in
       let given = file_of (reverse (take n lines)) in
-      let zeros = subst HasNoZero (sym is.2) (no_zero_of n (stated sr) given (link-hex (take (length sr - 17) sr))) in
+      let zeros = subst HasNoZero (sym is.2) (no_zero_of n (stated_link sr) given (link-hex (take (length sr - 17) sr))) in
       let written : sr ≡ record_line before next = as_written (record_line before next) sr zeros record_ in
       let few : n ≤ length (ended sg) = omega (arith, is.1, length-reverse (ended sg)) in
       let bound = few_ends next in
       let parts =
-      record_parts n (ends next) (stated sr) (link before) given next (omega (arith, few, lines_few, bound, small))
+      record_parts n (end_count next) (stated_link sr) (link before) given next (omega (arith, few, lines_few, bound, small))
       (omega (arith, bound, small)) (sym is.2 ∙ written) in
       let all : length lines ≤ n = omega (arith, parts.0, lines_few, length-reverse (ended sg)) in
       let these : given ≡ sg =
       ap (λ (l : List (List ℕ)). file_of (reverse l)) (take_all n lines all)
       ∙ ap file_of (reverse-reverse (ended sg))
       ∙ whole_lines sg whole in
-      let count : ends sg ≡ ends next = omega (arith, ends_lines [] sg, parts.0, all, few, length-reverse (ended sg)) in
+      let count : end_count sg ≡ end_count next = omega (arith, ends_lines [] sg, parts.0, all, few, length-reverse (ended sg)) in
       let digests : digest (link before ++ sg) ≡ digest (link before ++ next) =
       (λ i. digest (sym parts.1 i ++ sym these i)) ∙ parts.2 in (
         none sg spoilt (λ i. 126 ∷ 32 ∷ (decimal (count i) ++ 32 ∷ (link before ++ 32 ∷ digests i))),
@@ -272,4 +272,4 @@ torn_is_no_damage before next torn small whole none is =
         let both = is_whole before next sg sr small none spoilt record_ ends_ found in
         splits ∙ (λ i. both.0 i ++ (both.1 i ++ 10 ∷ []))
     all_of sg sr splits spoilt record_ plain ends_ has (inr goes) =
-        absurd (last_goes (ended sg) sr plain (subst GoesOn (lines_are sg sr splits ends_ has) goes))
+        absurd (last_goes (ended sg) sr plain (subst IsRunOn (lines_are sg sr splits ends_ has) goes))

@@ -22,9 +22,9 @@ abbrev pub link : List ℕ → List ℕ
 link line = let end = drop (length line - 16) line in if list_all is_ascii_hexdigit end then end else []
 
 -- how many lines these bytes have
-abbrev pub ends : List ℕ → ℕ
-ends [] = 0
-ends (b ∷ bytes) = if b == 10 then suc (ends bytes) else ends bytes
+abbrev pub end_count : List ℕ → ℕ
+end_count [] = 0
+end_count (b ∷ bytes) = if b == 10 then suc (end_count bytes) else end_count bytes
 
 -- The record of so many lines behind what ends in this digest: `~`, their number, that digest, and the digest of it and
 -- of their bytes, with a space between.
@@ -33,15 +33,15 @@ record_of count before group = 126 ∷ 32 ∷ (decimal count ++ 32 ∷ (before +
 
 -- the record of a group behind a line, a head or another record
 abbrev pub record_line : Records
-record_line before group = record_of (ends group) (link before) group
+record_line before group = record_of (end_count group) (link before) group
 
 -- the first line of a file: a text, and its digest
 abbrev pub head_line : List ℕ → List ℕ
 head_line text = text ++ 32 ∷ digest text
 
 -- the text of a line that is a head
-abbrev pub text_of : List ℕ → Option (List ℕ)
-text_of line = let text = take (length line - 17) line in if same_bytes line (head_line text) then Some text else None
+abbrev pub text_of_head : List ℕ → Option (List ℕ)
+text_of_head line = let text = take (length line - 17) line in if same_bytes line (head_line text) then Some text else None
 
 -- what stands behind the groups that bytes have behind a line
 abbrev pub behind : (before : List ℕ) → List ℕ → List ℕ
@@ -81,7 +81,7 @@ parts_with file line (Some text) = Some (parts_behind text line (drop (length li
 
 abbrev pub parts_of : (file : List ℕ) → List (List ℕ) → Option Parts
 parts_of file [] = None
-parts_of file (line ∷ rest) = parts_with file line (text_of line)
+parts_of file (line ∷ rest) = parts_with file line (text_of_head line)
 
 abbrev pub parts : List ℕ → Option Parts
 parts file = parts_of file (ended file)
@@ -100,14 +100,14 @@ number_from got [] = None
 number_from got (b ∷ bytes) = if is_ascii_digit b then number_from (got * 10 + (b - 48)) bytes else Some got
 
 -- the digest of what stood before, as a record states it in front of its own
-abbrev pub stated : List ℕ → List ℕ
-stated line = link (take (length line - 17) line)
+abbrev pub stated_link : List ℕ → List ℕ
+stated_link line = link (take (length line - 17) line)
 
 -- A line is the record of some last lines of those before it, which come newest first: it states their number, and its
 -- digest is of their bytes and of the digest before that it states.
 abbrev pub IsRecordOfLast : (before : List (List ℕ)) → List ℕ → Type 0
 IsRecordOfLast before line =
-    (n : ℕ) × (n ≤ length before) × (line ≡ record_of n (stated line) (file_of (reverse (take n before))))
+    (n : ℕ) × (n ≤ length before) × (line ≡ record_of n (stated_link line) (file_of (reverse (take n before))))
 
 -- among lines stands the record of some that stand right before it
 abbrev pub RecordStands : (before : List (List ℕ)) → List (List ℕ) → Type 0
@@ -120,15 +120,15 @@ abbrev pub HasRecord : List ℕ → Type 0
 HasRecord tail = RecordStands [] (ended tail)
 
 -- a line that begins as a record's has a line behind it
-abbrev pub GoesOn : List (List ℕ) → Type 0
-GoesOn [] = ⊥
-GoesOn (line ∷ []) = ⊥
-GoesOn (line ∷ next ∷ rest) = (is_record line ≡ true) ⊎ GoesOn (next ∷ rest)
+abbrev pub IsRunOn : List (List ℕ) → Type 0
+IsRunOn [] = ⊥
+IsRunOn (line ∷ []) = ⊥
+IsRunOn (line ∷ next ∷ rest) = (is_record line ≡ true) ⊎ IsRunOn (next ∷ rest)
 
 -- What no crash leaves behind the groups, where one group was put there and was not synced: it has one record, as its
 -- last line.
 abbrev pub IsGroupDamage : List ℕ → Type 0
-IsGroupDamage tail = HasRecord tail ⊎ GoesOn (ended tail)
+IsGroupDamage tail = HasRecord tail ⊎ IsRunOn (ended tail)
 
 -- A group with its record is read behind what has nothing behind its groups, and then has nothing behind them either.
 abbrev pub GroupsGrow : Type 0

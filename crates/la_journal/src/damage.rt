@@ -3,7 +3,7 @@ ghost use Rattle.std.specs.Prelude.{◌≡◌, ◌↔◌, ◌++◌, ◌∷◌, [
 ghost use Rattle.std.specs.Fmt.{decimal};
 ghost use Rattle.la_journal.specs.Lines.{file_of};
 ghost use Rattle.la_journal.specs.Commits.{HasNoEnd};
-ghost use Rattle.la_journal.specs.Records.{ended, unended, number_from, stated, IsRecordOfLast, HasRecord, GoesOn, IsGroupDamage};
+ghost use Rattle.la_journal.specs.Records.{ended, unended, number_from, stated_link, IsRecordOfLast, HasRecord, IsRunOn, IsGroupDamage};
 
 use crate::grouped::{begins_record, line_end};
 use crate::records::{DIGITS, after, is_record_of, link};
@@ -34,7 +34,7 @@ pub fn has_record(tail: &[u8]) -> bool
 
 /// Whether a line that begins as a record has a line behind it.
 fn goes_on(tail: &[u8]) -> bool
-    ensures { IsTrue result ↔ GoesOn (ended tail.now) }
+    ensures { IsTrue result ↔ IsRunOn (ended tail.now) }
 {
     let mut at = 0;
     while let Some(line) = line_at(tail, at) {
@@ -74,14 +74,14 @@ fn is_of_last(before: &[u8], line: &[u8]) -> bool
         return false;
     };
     match last_lines(before, count) {
-        Some(lines) => is_record_of(line, count, stated(line), lines),
+        Some(lines) => is_record_of(line, count, stated_link(line), lines),
         None => false,
     }
 }
 
 /// The digest of what stood before, as a record states it.
-fn stated(line: &[u8]) -> &[u8]
-    ensures { result.now ≡ stated line.now }
+fn stated_link(line: &[u8]) -> &[u8]
+    ensures { result.now ≡ stated_link line.now }
 {
     link(&line[..line.len().saturating_sub(DIGITS + 1)])
 }

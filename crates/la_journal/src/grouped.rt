@@ -3,7 +3,7 @@ ghost use Rattle.std.specs.Prelude.{◌≡◌, ◌≢◌, ◌++◌, ◌∷◌, [
 ghost use Rattle.la_journal.specs.Commits.{is_record, groups, HasNoEnd};
 ghost use Rattle.la_journal.specs.Records.{record_line, parts, parts_behind};
 
-use crate::records::{ends, is_record_of, link, text_of};
+use crate::records::{end_count, is_record_of, link, text_of_head};
 
 /// A group of whole lines, its record without the line's end, and what stands behind that line.
 #[derive(Clone, Copy)]
@@ -31,7 +31,7 @@ pub fn head_of(file: &[u8]) -> Option<Head<'_>>
     let n = line_end(file)?;
     let line = &file[..n];
     Some(Head {
-        text: text_of(line)?,
+        text: text_of_head(line)?,
         line,
         rest: &file[n + 1..],
     })
@@ -68,7 +68,7 @@ fn group_at<'a>(bytes: &'a [u8], before: &[u8], at: usize, n: usize) -> Option<G
 {
     let (lines, behind) = bytes.split_at(at);
     let record = &behind[..n];
-    if is_record_of(record, ends(lines), link(before), lines) {
+    if is_record_of(record, end_count(lines), link(before), lines) {
         Some(Group {
             lines,
             record,

@@ -3,7 +3,7 @@ ghost use Rattle.std.specs.Prelude.{◌≡◌, ◌++◌, ◌↔◌, ◌<◌, ◌
 ghost use Rattle.std.specs.List.{list_all};
 ghost use Rattle.std.specs.Char.{is_ascii_hexdigit};
 ghost use Rattle.std.specs.Fmt.{decimal, digit_glyph};
-ghost use Rattle.la_journal.specs.Records.{hex, digest, link, ends, record_of, record_line, head_line, text_of};
+ghost use Rattle.la_journal.specs.Records.{hex, digest, link, end_count, record_of, record_line, head_line, text_of_head};
 
 use itoa::Buffer;
 use sha2::{Digest, Sha256};
@@ -22,7 +22,7 @@ pub fn record_line(alloc: Global, before: &[u8], group: &[u8]) -> Result<Vec<u8>
     let mut line = Vec::new(alloc);
     line.push(b'~')?;
     line.push(b' ')?;
-    line.extend_from_slice(Buffer::new().format(ends(group)).as_bytes())?;
+    line.extend_from_slice(Buffer::new().format(end_count(group)).as_bytes())?;
     line.push(b' ')?;
     line.extend_from_slice(link)?;
     line.push(b' ')?;
@@ -82,9 +82,9 @@ pub fn head_line(alloc: Global, text: &[u8]) -> Result<Vec<u8>, AllocError>
 }
 
 /// The text of a line that is a head; `None` where it is none, as where a byte of it has changed. Linear in the line.
-pub fn text_of(line: &[u8]) -> Option<&[u8]>
-    ensures some { IfSome result (λ text. text_of line.now ≡ Some text.now) }
-    ensures none { result ≡ None → text_of line.now ≡ None }
+pub fn text_of_head(line: &[u8]) -> Option<&[u8]>
+    ensures some { IfSome result (λ text. text_of_head line.now ≡ Some text.now) }
+    ensures none { result ≡ None → text_of_head line.now ≡ None }
 {
     let (text, end) = line.split_at(line.len().saturating_sub(DIGITS + 1));
     if is_spaced(end, &digest(&[], text)) {
@@ -109,8 +109,8 @@ fn are_digits(bytes: &[u8]) -> bool
 }
 
 /// How many lines these bytes have.
-pub(crate) fn ends(bytes: &[u8]) -> usize
-    ensures { result ≡ ends bytes.now }
+pub(crate) fn end_count(bytes: &[u8]) -> usize
+    ensures { result ≡ end_count bytes.now }
 {
     let mut count = 0;
     for b in bytes {

@@ -194,9 +194,13 @@ module _ {D : Type 0} (seen : D → List ℕ) (may_leave : D → List ℕ → Ty
         newest_count : kept_count (last ∷ so.groups) ≡ length (so.led.calls ++ then.calls)
         newest_count =
             omega (
-            arith,
-            kept_more so.groups last, count, ap length then.lines, length-map then.calls (λ (c : CallLine). c.line),
-            length-append so.led.calls then.calls)
+              arith,
+              kept_more so.groups last,
+              count,
+              ap length then.lines,
+              length-map then.calls (λ (c : CallLine). c.line),
+              length-append so.led.calls then.calls,
+            )
 
         newest : (start : ReplicaState) → leads_from start (seen old) ≡ Some n → (more : List CallLine) (c : List ℕ)
             → left_since new (moment new) c

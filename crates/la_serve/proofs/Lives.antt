@@ -20,7 +20,7 @@ use Rattle.la_serve.specs.Serving.{AreTurns, kept_lines}
 use Rattle.la_serve.specs.Crashes.{in_order, kept_count, KeepsGiven}
 use Rattle.la_serve.specs.Lives.{GoesOn, KilledNodesGoOn, KilledBehind, IsNodeLife, AreNodeLives, NodeLivesAreOneRun}
 use Rattle.la_serve.proofs.Crashing.{steps_join}
-use Rattle.la_serve.proofs.Leading.{Led, turns_lead}
+use Rattle.la_serve.proofs.Leading.{turns_lead}
 use Rattle.la_replica.specs.ReplicaState.{ReplicaState}
 
 -- ## Calls of the same lines lead to the same
@@ -56,8 +56,7 @@ module _ (leads : List ℕ → Option ReplicaState) (all : List CallLine) (n the
       let long : length (take k all) ≡ k = long_take k all (omega (arith, at.1, at.2)) in
       let parts : length all ≡ k + length (drop k all) =
       omega (arith, ap length (take-append-drop k all), length-append (take k all) (drop k all), long) in
-      let is : at.0 ≡ length (take k all) + many = omega (arith, long, at.1) in
-      (
+      let is : at.0 ≡ length (take k all) + many = omega (arith, long, at.1) in (
         many,
         omega (arith, at.2, parts),
         at.3

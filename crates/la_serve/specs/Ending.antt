@@ -11,7 +11,7 @@ use Rattle.la_serve.specs.declared.error.NodeFault.{NodeFault}
 use Rattle.la_serve.specs.declared.error.NodeFault.TheVariants as fault
 use Rattle.la_serve.specs.declared.ended.Ended.{Ended}
 use Rattle.la_serve.specs.declared.options.Options.{Options}
-use Rattle.la_serve.specs.Io.{Streams, Facts, facts, io}
+use Rattle.la_serve.specs.Io.{Streams, Facts, facts}
 use Rattle.la_serve.specs.Starting.{RunsAll, IsServerStartRefusal}
 
 -- the objects on a node's shelf
@@ -78,7 +78,7 @@ pub record EndsBadly {D R W E : Type 0} (f : Facts D R W E) (options : Options) 
   pub why : NodeFault
   pub is : status ≡ node_status why
   pub between : E
-  pub stops : IsServerStartRefusal f node_objects options disk final old (io new.input new.output new.given between) why
+  pub stops : IsServerStartRefusal f node_objects options disk final old (record new { errors = between }) why
   pub told : TellsLine f.heard f.refuses between new.errors (end_line why)
 
 -- with this status, where the disk is this in the end

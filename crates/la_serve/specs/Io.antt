@@ -8,6 +8,7 @@ use Rattle.la_journal.specs.Giving.{GivenAt}
 use Rattle.la_durable.specs.Nodes.{kept_by}
 use Rattle.la_io.specs.declared.source.Source.{Source}
 use Rattle.la_io.specs.Sources.{ahead}
+use Rattle.la_serve.specs.declared.output.Output.{Output}
 use Rattle.la_serve.specs.declared.server.Server.{Server}
 use Rattle.la_replica.specs.ReplicaState.{ReplicaState}
 
@@ -71,10 +72,15 @@ pub record Waiting (D : Type 0) : Type 0 where
   pub staged : List ℕ
   pub disk : D
 
-abbrev pub waiting : {D B : Type 0} {g : Ghosts D} → (out : Option (List ℕ)) → List GivenAt → (held : List ℕ)
+abbrev pub at_flush : {D W B : Type 0} {g : Ghosts D} (contents : W → Option (List ℕ)) → Output W → (held : List ℕ)
     → Server D B g → Waiting D
-waiting out given held server =
-    record { out = out; given = given; held = held; staged = server.node.text.items; disk = server.node.durable.disk }
+at_flush contents output held server = record {
+  out = contents output.writer;
+  given = output.given.texts;
+  held = held;
+  staged = server.node.text.items;
+  disk = server.node.durable.disk;
+}
 
 -- the streams of a run, and what the output was given so far
 pub record Streams (R W E : Type 0) : Type 0 where
@@ -83,8 +89,9 @@ pub record Streams (R W E : Type 0) : Type 0 where
   pub given : List GivenAt
   pub errors : E
 
-abbrev pub io : {R W E : Type 0} → R → W → List GivenAt → E → Streams R W E
-io input output given errors = record { input = input; output = output; given = given; errors = errors }
+abbrev pub io : {R W E : Type 0} → R → Output W → E → Streams R W E
+io input output errors =
+    record { input = input; output = output.writer; given = output.given.texts; errors = errors }
 
 -- ## What is stated of them
 

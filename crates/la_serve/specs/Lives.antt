@@ -1,5 +1,5 @@
 -- What is known of nodes that are killed at any moment, and of those that are started again on what is left.
-use Rattle.std.specs.Prelude.{◌≡◌, ◌⊎◌, ⊤, ℕ, List, [], ◌∷◌, ◌++◌, Option, Some, drop}
+use Rattle.std.specs.Prelude.{◌≡◌, ◌⊎◌, ⊤, ℕ, List, [], ◌∷◌, ◌++◌, Some, drop}
 use Rattle.la_object.specs.declared.kind.Kind.{Kind}
 use Rattle.la_journal.specs.Giving.{GivenAt}
 use Rattle.la_journal.specs.Lines.{lines}
@@ -50,18 +50,18 @@ KilledBehind left_since (group ∷ before) (g ∷ given) answered c =
 pub record IsNodeLife {D : Type 0} (seen : D → List ℕ) (may_leave : D → List ℕ → Type 0) (moment : D → ℕ)
     (left_since : D → ℕ → List ℕ → Type 0) (fresh first : ReplicaState) (life : Life CallLine) (c : List ℕ) : Type 0
   where
-  pub disk : D
-  pub final : D
-  pub before : List GivenAt
-  pub after : List GivenAt
-  pub turns : List Turn
-  pub last : List Turn
-  pub plays : leads_from fresh (seen disk) ≡ Some first
-  pub run : LeavesOfRun seen may_leave moment left_since fresh disk final first before after turns last
-  pub calls : life.calls ≡ run.left.calls ++ run.left.later
-  pub killed : ((life.answered ≡ 0) × (lines c ≡ lines (seen disk)))
-      ⊎ (((life.answered ≡ 0) × left_since final (moment run.recovered) c)
-      ⊎ KilledBehind (left_since final) run.left.groups run.left.given life.answered c)
+    pub disk : D
+    pub final : D
+    pub before : List GivenAt
+    pub after : List GivenAt
+    pub turns : List Turn
+    pub last : List Turn
+    pub plays : leads_from fresh (seen disk) ≡ Some first
+    pub run : LeavesOfRun seen may_leave moment left_since fresh disk final first before after turns last
+    pub calls : life.calls ≡ run.left.calls ++ run.left.later
+    pub killed : ((life.answered ≡ 0) × (lines c ≡ lines (seen disk)))
+        ⊎ (((life.answered ≡ 0) × left_since final (moment run.recovered) c)
+        ⊎ KilledBehind (left_since final) run.left.groups run.left.given life.answered c)
 
 -- lives of a node one after another, the first from a state on, each started where the last one's journal led; this
 -- file is what the last one left

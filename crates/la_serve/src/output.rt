@@ -10,7 +10,7 @@ use std::io::Write;
 /// Where a node writes what its lines come to. It is shown the journal's disk at each text: what it was given stands in
 /// `given`, with the disk's moment then, for clauses alone. It takes no memory.
 #[derive(Drop)]
-pub struct Output<W: Write + Drop> {
+pub struct Output<W: Drop> {
     pub writer: W,
     pub given: GivenOut,
 }

@@ -2,7 +2,7 @@ ghost use Rattle.std.specs.Prelude.{◌≡◌, [], true, false, IfOk, IfErr, OnO
 ghost use Rattle.std.specs.Io.KnownBytes.{IsAtEnd};
 ghost use Rattle.la_journal.specs.Durable.{IsSettled};
 ghost use Rattle.la_io.specs.Sources.{ahead, has_line};
-ghost use Rattle.la_serve.specs.Io.{TakesLines, OnlyStages, step_at, waiting, io};
+ghost use Rattle.la_serve.specs.Io.{TakesLines, OnlyStages, step_at, at_flush, io};
 ghost use Rattle.la_serve.specs.Serving.{StepsOn, StopsOn, of_step};
 ghost use Rattle.la_serve.specs.Crashes.{CommitsSome, Flushes, FlushesOrNot, FlushesNot, ServesLines, Ceases};
 
@@ -60,12 +60,8 @@ fn flush<W: Write + Drop, D: Disk, B: Replicated>(
 ) -> Result<(), NodeFault>
     requires settled { IsSettled D.seen D.may_leave server.old.node.durable.disk }
     requires unclosed { server.old.node.durable.closed ≡ false }
-    ensures ok { OnOk result (Flushes D.seen D.may_leave D.moment D.left_since
-        (waiting (W.contents output.old.writer) output.old.given.texts held.old.items server.old)
-        (waiting (W.contents output.new.writer) output.new.given.texts held.new.items server.new)) }
-    ensures err { IfErr result (FlushesNot D.seen D.may_leave D.moment
-        (waiting (W.contents output.old.writer) output.old.given.texts held.old.items server.old)
-        (waiting (W.contents output.new.writer) output.new.given.texts held.new.items server.new)) }
+    ensures ok { OnOk result (Flushes D.seen D.may_leave D.moment D.left_since (at_flush W.contents output.old held.old.items server.old) (at_flush W.contents output.new held.new.items server.new)) }
+    ensures err { IfErr result (FlushesNot D.seen D.may_leave D.moment (at_flush W.contents output.old held.old.items server.old) (at_flush W.contents output.new held.new.items server.new)) }
     ensures any_moment { CommitsSome D.seen D.moment D.left_since server.old.node.text.items server.old.node.durable.disk server.new.node.durable.disk }
     ensures settled { server.new.node.durable.closed ≡ false → IsSettled D.seen D.may_leave server.new.node.durable.disk }
     ensures unclosed { OnOk result (server.new.node.durable.closed ≡ false) }
@@ -90,12 +86,8 @@ fn prepare<W: Write + Drop, D: Disk, B: Replicated>(
 ) -> Result<(), NodeFault>
     requires settled { IsSettled D.seen D.may_leave server.old.node.durable.disk }
     requires unclosed { server.old.node.durable.closed ≡ false }
-    ensures ok { OnOk result (FlushesOrNot D.seen D.may_leave D.moment D.left_since
-        (waiting (W.contents output.old.writer) output.old.given.texts held.old.items server.old)
-        (waiting (W.contents output.new.writer) output.new.given.texts held.new.items server.new)) }
-    ensures err { IfErr result (FlushesNot D.seen D.may_leave D.moment
-        (waiting (W.contents output.old.writer) output.old.given.texts held.old.items server.old)
-        (waiting (W.contents output.new.writer) output.new.given.texts held.new.items server.new)) }
+    ensures ok { OnOk result (FlushesOrNot D.seen D.may_leave D.moment D.left_since (at_flush W.contents output.old held.old.items server.old) (at_flush W.contents output.new held.new.items server.new)) }
+    ensures err { IfErr result (FlushesNot D.seen D.may_leave D.moment (at_flush W.contents output.old held.old.items server.old) (at_flush W.contents output.new held.new.items server.new)) }
     ensures any_moment { OnErr result (CommitsSome D.seen D.moment D.left_since server.old.node.text.items server.old.node.durable.disk server.new.node.durable.disk) }
     ensures settled { server.new.node.durable.closed ≡ false → IsSettled D.seen D.may_leave server.new.node.durable.disk }
     ensures unclosed { OnOk result (server.new.node.durable.closed ≡ false) }
@@ -138,12 +130,8 @@ pub fn serve<R: Read, W: Write + Drop, E: Listener, D: Disk, B: Replicated>(
     requires settled { IsSettled D.seen D.may_leave server.old.node.durable.disk }
     requires takes { TakesLines server.old }
     requires unstaged { server.old.node.text.items ≡ [] }
-    ensures ok { OnOk result (ServesLines D.seen D.may_leave D.moment D.left_since R.remaining W.contents E.contents E.refuses
-        (io input.old out.old.writer out.old.given.texts errors.old)
-        (io input.new out.new.writer out.new.given.texts errors.new) server.old server.new) }
-    ensures err { IfErr result (Ceases D.seen D.may_leave D.moment D.left_since R.remaining W.contents E.contents E.refuses
-        (io input.old out.old.writer out.old.given.texts errors.old)
-        (io input.new out.new.writer out.new.given.texts errors.new) server.old server.new) }
+    ensures ok { OnOk result (ServesLines D.seen D.may_leave D.moment D.left_since R.remaining W.contents E.contents E.refuses (io input.old out.old errors.old) (io input.new out.new errors.new) server.old server.new) }
+    ensures err { IfErr result (Ceases D.seen D.may_leave D.moment D.left_since R.remaining W.contents E.contents E.refuses (io input.old out.old errors.old) (io input.new out.new errors.new) server.old server.new) }
     ensures settled { server.new.node.durable.closed ≡ false → IsSettled D.seen D.may_leave server.new.node.durable.disk }
     ensures unclosed { OnOk result (server.new.node.durable.closed ≡ false) }
 {

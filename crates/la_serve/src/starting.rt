@@ -91,14 +91,8 @@ fn start<R: Read, W: Write + Drop, E: Listener, D: Disk, B: Replicated>(
 ) -> (Result<(), NodeFault>, D)
     requires shelf { shelf.view ≡ empty }
     requires found { D.seen disk ≡ found.items }
-    ensures ok { OnOk result.0 (Runs D.seen D.may_leave D.moment D.left_since R.remaining W.contents E.contents E.refuses
-        shelf options.now disk result.1
-        (io input.old out.old.writer out.old.given.texts errors.old)
-        (io input.new out.new.writer out.new.given.texts errors.new)) }
-    ensures err { IfErr result.0 (Stops D.seen D.may_leave D.moment D.left_since R.remaining W.contents E.contents E.refuses
-        shelf options.now disk result.1
-        (io input.old out.old.writer out.old.given.texts errors.old)
-        (io input.new out.new.writer out.new.given.texts errors.new)) }
+    ensures ok { OnOk result.0 (Runs D.seen D.may_leave D.moment D.left_since R.remaining W.contents E.contents E.refuses shelf options.now disk result.1 (io input.old out.old errors.old) (io input.new out.new errors.new)) }
+    ensures err { IfErr result.0 (Stops D.seen D.may_leave D.moment D.left_since R.remaining W.contents E.contents E.refuses shelf options.now disk result.1 (io input.old out.old errors.old) (io input.new out.new errors.new)) }
 {
     let machine = match NodeMachine::new(alloc, options.config, options.own) {
         Ok(machine) => machine,
@@ -151,8 +145,7 @@ fn run_with<
     requires made { (made : _) → F.post make made
         → IfOk made (λ o. AreAtStart B.state o.0 o.1 o.2) }
     ensures { ServerEnds D.seen D.may_leave D.moment D.left_since R.remaining W.contents E.contents E.refuses
-        options.now disk (io input.old output.old.writer output.old.given.texts errors.old)
-        (io input.new output.new.writer output.new.given.texts errors.new) result }
+        options.now disk (io input.old output.old errors.old) (io input.new output.new errors.new) result }
 {
     let Ok((counter, register, set)) = make() else {
         return ended(NodeFault::Memory, disk, errors);
@@ -195,8 +188,7 @@ pub fn run<R: Read, W: Write + Drop, E: Listener, D: Disk>(
 ) -> Ended<D>
     requires { D.seen disk ≡ found.items }
     ensures { ServerEnds D.seen D.may_leave D.moment D.left_since R.remaining W.contents E.contents E.refuses
-        options.now disk (io input.old output.old.writer output.old.given.texts errors.old)
-        (io input.new output.new.writer output.new.given.texts errors.new) result }
+        options.now disk (io input.old output.old errors.old) (io input.new output.new errors.new) result }
 {
     let make = || -> Result<
         (

@@ -1,6 +1,6 @@
 // Groups with their records, written and read back, and what is found where a file is damaged.
 use crate::given::holds;
-use la_journal::{head_line, is_damage, next_group, record_line, text_of};
+use la_journal::{head_line, is_damage, next_group, record_line, text_of_head};
 use std::alloc::{AllocError, Global};
 use std::process::Abort;
 
@@ -68,7 +68,7 @@ fn found(file: &[u8]) -> Reading {
         return Reading::NoHead;
     };
     let (head, rest) = file.split_at(end);
-    match text_of(head) {
+    match text_of_head(head) {
         Some(text) if text == TEXT => groups_found(&rest[1..], head),
         _ => Reading::NoHead,
     }

@@ -12,5 +12,5 @@ returns-in_default c = (
 pub returns-in-Some-last_lines : goal.returns-in-Some-last_lines
 returns-in-Some-last_lines c =
     is_of_last c.args.before.now c.args.line.now c.requires (omega arith) c.is_record_of.result c.in-Some.count
-    c.in-Some-last_lines.lines.now c.stated.result.now c.in-Some-last_lines.ensures.some c.stated.ensures
+    c.in-Some-last_lines.lines.now c.stated_link.result.now c.in-Some-last_lines.ensures.some c.stated_link.ensures
     c.in-Some-last_lines.ensures.enough c.in-Some.ensures c.is_record_of.ensures

@@ -6,12 +6,12 @@ use Rattle.la_journal.proofs.grouped.head_of.Goals as goal
 pub returns-in_err-n-clause-none : goal.returns-in_err-n-clause-none
 returns-in_err-n-clause-none c _ = no_parts c.args.file.now (c.in_err-n.ensures.none refl)
 
-pub returns-in_err-text_of-clause-none : goal.returns-in_err-text_of-clause-none
-returns-in_err-text_of-clause-none c _ =
+pub returns-in_err-text_of_head-clause-none : goal.returns-in_err-text_of_head-clause-none
+returns-in_err-text_of_head-clause-none c _ =
     let file = c.args.file.now in
     let n = c.in_ok-n.n in
     no_head file (take n file) (drop (n + 1) file) c.in_ok-n.ensures.split c.in_ok-n.ensures.line
-    (c.in_err-text_of.ensures.none refl)
+    (c.in_err-text_of_head.ensures.none refl)
 
 pub returns-clause-some : goal.returns-clause-some
 returns-clause-some c =
@@ -19,4 +19,4 @@ returns-clause-some c =
     let n = c.in_ok-n.n in
     rw take_rest
     (head_is file (take n file) (drop (n + 1) file) c.in_ok-n.ensures.split c.in_ok-n.ensures.line
-    c.in_ok-text_of.field-0.now c.in_ok-text_of.ensures.some)
+    c.in_ok-text_of_head.field-0.now c.in_ok-text_of_head.ensures.some)

@@ -9,7 +9,7 @@ pub returns-in_default : goal.returns-in_default
 returns-in_default g c =
     let f = facts g.D.Disk.seen g.D.Disk.may_leave g.D.Disk.moment g.D.Disk.left_since g.R.Read.remaining
     g.W.Write.contents g.E.Write.contents g.E.Listener.refuses in
-    let old = io c.args.input.now c.args.output.now.writer c.args.output.now.given.texts c.args.errors.now in
+    let old = io c.args.input.now c.args.output.now c.args.errors.now in
     inr (record {
       why = Memory;
       is = c.ended.ensures.status;
@@ -24,7 +24,7 @@ pub returns-in_default-shelf_of : goal.returns-in_default-shelf_of
 returns-in_default-shelf_of g c =
     let f = facts g.D.Disk.seen g.D.Disk.may_leave g.D.Disk.moment g.D.Disk.left_since g.R.Read.remaining
     g.W.Write.contents g.E.Write.contents g.E.Listener.refuses in
-    let old = io c.args.input.now c.args.output.now.writer c.args.output.now.given.texts c.args.errors.now in
+    let old = io c.args.input.now c.args.output.now c.args.errors.now in
     inr (record {
       why = Memory;
       is = c.ended-in_default-shelf_of.ensures.status;

@@ -27,8 +27,8 @@ returns-in-Ok-recover-clause-ok g c =
     g.W.Write.contents g.E.Write.contents g.E.Listener.refuses in
     let is = c.new-in-Ok-recover.ensures.durable in
     let led = ap (λ d. Some (kept_by d.machine)) (sym is) in
-    let old = io c.args.input.now c.args.out.now.writer c.args.out.now.given.texts c.args.errors.now in
-    let new = io c.serve-served.new.input c.serve-served.new.out.writer c.serve-served.new.out.given.texts
+    let old = io c.args.input.now c.args.out.now c.args.errors.now in
+    let new = io c.serve-served.new.input c.serve-served.new.out
     c.serve-served.new.errors in
     subst
     (λ d. OnOk c.serve-served.result (RunsAll f c.args.shelf.objects c.args.options.now c.args.disk d old new))
@@ -55,8 +55,8 @@ returns-in-Ok-recover-clause-err g c =
     g.W.Write.contents g.E.Write.contents g.E.Listener.refuses in
     let is = c.new-in-Ok-recover.ensures.durable in
     let led = ap (λ d. Some (kept_by d.machine)) (sym is) in
-    let old = io c.args.input.now c.args.out.now.writer c.args.out.now.given.texts c.args.errors.now in
-    let new = io c.serve-served.new.input c.serve-served.new.out.writer c.serve-served.new.out.given.texts
+    let old = io c.args.input.now c.args.out.now c.args.errors.now in
+    let new = io c.serve-served.new.input c.serve-served.new.out
     c.serve-served.new.errors in
     subst
     (λ d. IfErr c.serve-served.result (IsServerStartRefusal f c.args.shelf.objects c.args.options.now c.args.disk d old new))
@@ -81,7 +81,7 @@ pub returns-in-Err : goal.returns-in-Err
 returns-in-Err g c =
     let f = facts g.D.Disk.seen g.D.Disk.may_leave g.D.Disk.moment g.D.Disk.left_since g.R.Read.remaining
     g.W.Write.contents g.E.Write.contents g.E.Listener.refuses in
-    let old = io c.args.input.now c.args.out.now.writer c.args.out.now.given.texts c.args.errors.now in
+    let old = io c.args.input.now c.args.out.now c.args.errors.now in
     record {
       ok = tt;
       err = (untouched f c.args.disk old (g.met.D.Disk.only_now c.args.disk), search rules);

@@ -1,7 +1,7 @@
 use Rattle.std.proofs.Common.{sym, ◌∙◌}
 use Rattle.std.proofs.lemmas.Bool.{false≢true}
 use Rattle.la_journal.proofs.Digests.{text_is, text_is_not}
-use Rattle.la_journal.proofs.records.text_of.Goals as goal
+use Rattle.la_journal.proofs.records.text_of_head.Goals as goal
 
 pub returns-then-is_spaced-clause-some : goal.returns-then-is_spaced-clause-some
 returns-then-is_spaced-clause-some c =
