@@ -212,6 +212,7 @@ module _ (before line : List ℕ) (whole : unended before ≡ []) (short : lengt
         let same = some_same count is.0 (counts is.0 _ (fits is.0 is.1) is.2) in
         tests.1
         (is.2
-        ∙ ap (λ (n : ℕ). record_of n (stated_link line) (file_of (reverse (take n (reverse (ended before)))))) (sym same)
+        ∙ ap (λ (n : ℕ). record_of n (stated_link line) (file_of (reverse (take n (reverse (ended before)))))) (sym
+        same)
         ∙ (λ i. record_of count (sym states_ i) (sym are i))),
   )

@@ -116,7 +116,8 @@ groups_are_told front before group rest whole_front long whole =
     ∙ ap (λ (l : List (List ℕ)). file_of (reverse l)) (take_at (reverse b) (reverse a) (end_count group) count)
     ∙ ap file_of (reverse-reverse b)
     ∙ whole_lines group (whole_unended [] group whole) in
-    let at_front : stated_link r ≡ link before = stated_is (end_count group) (link before) group long (link-hex before) in
+    let at_front : stated_link r ≡ link before = stated_is (end_count group) (link before) group long (link-hex before)
+    in
     subst (RecordStands []) (sym read)
     (stands_at [] (a ++ b) r (ended rest)
     (end_count group, some, (λ i. record_of (end_count group) (sym at_front i) (sym these i))))

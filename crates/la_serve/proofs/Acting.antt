@@ -29,7 +29,8 @@ neither : (o : Option (Given × ReplicaState)) → option_map (λ (made : Given 
 neither None e = refl
 neither (Some made) e = absurd cc
 
-module _ (n : ReplicaState) (line : List ℕ) (call : WireCall) (is : is_line line ≡ true) (says : named_call line ≡ Some call) where
+module _ (n : ReplicaState) (line : List ℕ) (call : WireCall) (is : is_line line ≡ true)
+    (says : named_call line ≡ Some call) where
   acts_line : acts_by n (named_call (or_tick (call_line line)).line) ≡ acts n call
   acts_line = ap (λ l. acts_by n (named_call l)) (line_of_input line is) ∙ ap (acts_by n) says
 

@@ -93,7 +93,8 @@ module _ {D R W E : Type 0} (f : Facts D R W E) (first : Point D E) where
 
   abbrev Crash : (between : ReplicaState) (d : D) (given : List GivenAt) (done : List Turn) → Type 0
   Crash between d given done =
-      CrashSo f.seen f.may_leave f.moment f.left_since AreTextsOf first.state between first.disk d first.given given done
+      CrashSo f.seen f.may_leave f.moment f.left_since AreTextsOf first.state between first.disk d first.given given
+      done
 
   abbrev pub Flushed : (p q : Point D E) → Type 0
   Flushed p q = Flushes f.seen f.may_leave f.moment f.left_since (waits p) (waits q)
@@ -295,7 +296,8 @@ module _ {D R W E : Type 0} (f : Facts D R W E) (first : Point D E) where
           tells =
               subst (TellsAll f.heard f.refuses first.errors q.errors)
               (sym (append-nil (turns_told (so.done ++ so.group))))
-              (subst (λ e. TellsAll f.heard f.refuses first.errors e (turns_told (so.done ++ so.group))) (sym none.tells)
+              (subst (λ e. TellsAll f.heard f.refuses first.errors e (turns_told (so.done ++ so.group)))
+              (sym none.tells)
               so.tells);
           crash = crash_now;
         }
@@ -491,7 +493,8 @@ module _ {D R W E : Type 0} (f : Facts D R W E) (first : Point D E) where
           left =
               subst
               (λ g.
-              Leaves f.seen f.may_leave f.moment f.left_since first.state first.disk q.disk first.given g so.done so.group)
+              Leaves f.seen f.may_leave f.moment f.left_since first.state first.disk q.disk first.given g so.done
+              so.group)
               (sym none.given)
               (crash_some f.seen f.may_leave f.moment f.left_since follow first.state so.between p.state first.disk
               p.disk q.disk first.given p.given so.done so.group p.text so.crash led so.stages some counts_now);

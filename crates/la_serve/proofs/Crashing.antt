@@ -92,11 +92,12 @@ module _ (leads : List ℕ → Option ReplicaState) (n between : ReplicaState) (
 
 module _ {D : Type 0} (seen : D → List ℕ) (may_leave : D → List ℕ → Type 0) (moment : D → ℕ)
     (left_since : D → ℕ → List ℕ → Type 0) where
-  -- the lines of these turns are in the journal, what they come to was given out, and a crash left the first some of them
+  -- the lines of these turns are in the journal, what they come to was given out, and a crash left the first some
   pub record CrashSo (Texts : List (List Turn) → List GivenAt → Type 0) (n between : ReplicaState) (old now : D)
       (before after : List GivenAt) (turns : List Turn) : Type 0 where
     pub led : Led n between turns
-    pub leads : (start : ReplicaState) → leads_from start (seen old) ≡ Some n → leads_from start (seen now) ≡ Some between
+    pub leads : (start : ReplicaState) → leads_from start (seen old) ≡ Some n
+        → leads_from start (seen now) ≡ Some between
     pub leaves : (start : ReplicaState) → leads_from start (seen old) ≡ Some n
         → LeavesOnly moment left_since old now (LeadsToSome (leads_from start) step led.calls n)
     pub groups : List (List Turn)
@@ -184,7 +185,8 @@ module _ {D : Type 0} (seen : D → List ℕ) (may_leave : D → List ℕ → Ty
       );
     }
       where
-        led_on : (start : ReplicaState) → leads_from start (seen old) ≡ Some n → leads_from start (seen new) ≡ Some after
+        led_on : (start : ReplicaState) → leads_from start (seen old) ≡ Some n
+            → leads_from start (seen new) ≡ Some after
         led_on start was = all.leads start between then.calls (so.leads start was) (is ∙ then.lines) ∙ then.led
 
         all_led : steps step (so.led.calls ++ then.calls) n ≡ Some after
@@ -204,7 +206,8 @@ module _ {D : Type 0} (seen : D → List ℕ) (may_leave : D → List ℕ → Ty
 
         newest : (start : ReplicaState) → leads_from start (seen old) ≡ Some n → (more : List CallLine) (c : List ℕ)
             → left_since new (moment new) c
-            → LeadsToAtLeast (leads_from start) step (kept_count (last ∷ so.groups)) ((so.led.calls ++ then.calls) ++ more) n c
+            → LeadsToAtLeast (leads_from start) step (kept_count (last ∷ so.groups))
+            ((so.led.calls ++ then.calls) ++ more) n c
         newest start was more c left = (
           length (so.led.calls ++ then.calls),
           omega (arith, newest_count),

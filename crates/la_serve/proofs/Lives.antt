@@ -139,7 +139,8 @@ module _ {D : Type 0} (seen : D → List ℕ) (may_leave : D → List ℕ → Ty
         omega arith,
         ap
             (λ (ls : List (List ℕ)).
-            steps_from (plays_line call_line step) (journal ls).calls (begins_with (λ _. None) (journal ls).state fresh))
+            steps_from (plays_line call_line step) (journal ls).calls (begins_with (λ _. None) (journal ls).state
+            fresh))
             recovering.1
             ∙ is.plays,
       )
@@ -147,7 +148,8 @@ module _ {D : Type 0} (seen : D → List ℕ) (may_leave : D → List ℕ → Ty
           let some = (is.run.left.any_moment fresh is.run.leads).each c none.1 in
           (some.0, omega (arith, none.0), some.1, some.2)
       by (inr (inr behind)) =
-          by_killed (moment is.final) (left_since is.final) (leads_from fresh) (is.run.left.calls ++ is.run.left.later) first is.run.left.groups
+          by_killed (moment is.final) (left_since is.final) (leads_from fresh) (is.run.left.calls ++ is.run.left.later)
+          first is.run.left.groups
           is.run.left.given life.answered c (is.run.left.keeps fresh is.run.leads) behind
 
   as_lives : (fresh first : ReplicaState) (lives : List (Life CallLine)) (file : List ℕ)

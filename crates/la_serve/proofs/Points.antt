@@ -1,32 +1,32 @@
 -- Where the loop of `serve` stands, by the values that it has.
 use Rattle.std.proofs.Common.{List, [], Option, ℕ}
 use Rattle.la_journal.specs.declared.disk.Disk.{Ghosts}
-use Rattle.la_journal.specs.Giving.{GivenAt}
 use Rattle.la_durable.specs.Nodes.{kept_by}
 use Rattle.la_io.specs.declared.source.Source.{Source}
 use Rattle.la_io.specs.Sources.{ahead}
+use Rattle.la_serve.specs.declared.output.Output.{Output}
 use Rattle.la_serve.specs.declared.server.Server.{Server}
 use Rattle.la_serve.specs.Io.{Facts}
 use Rattle.la_serve.proofs.Behind.{Point}
 
 module _ {D R W E B : Type 0} {g : Ghosts D} (f : Facts D R W E) where
-  abbrev pub point_at : (left : Option (List ℕ)) → W → List GivenAt → (held : List ℕ) → E → Server D B g → Point D E
-  point_at left output given held errors server = record {
+  abbrev pub point_at : (left : Option (List ℕ)) → Output W → (held : List ℕ) → E → Server D B g → Point D E
+  point_at left output held errors server = record {
     objects = server.shelf.objects;
     state = kept_by server.node.durable.machine;
     ahead = left;
-    out = f.contents output;
+    out = f.contents output.writer;
     held = held;
     disk = server.node.durable.disk;
     text = server.node.text.items;
-    given = given;
+    given = output.given.texts;
     errors = errors;
   }
 
-  abbrev pub point : Source → R → W → List GivenAt → (held : List ℕ) → E → Server D B g → Point D E
-  point source input output given held errors server =
-      point_at (ahead source (f.remaining input)) output given held errors server
+  abbrev pub point : Source → R → Output W → (held : List ℕ) → E → Server D B g → Point D E
+  point source input output held errors server =
+      point_at (ahead source (f.remaining input)) output held errors server
 
   -- before the loop
-  abbrev pub start_at : R → W → List GivenAt → E → Server D B g → Point D E
-  start_at input output given errors server = point_at (f.remaining input) output given [] errors server
+  abbrev pub start_at : R → Output W → E → Server D B g → Point D E
+  start_at input output errors server = point_at (f.remaining input) output [] errors server

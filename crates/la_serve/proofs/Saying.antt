@@ -13,7 +13,8 @@ use Rattle.la_serve.specs.Serving.{OfCall, TakesBy, TellsNoLine}
 use Rattle.la_serve.proofs.Taking.{takes_only}
 use Rattle.la_replica.specs.ReplicaState.{ReplicaState}
 
-pub is_answered : (objects : List (ℕ × Kind)) (n : ReplicaState) (k object : ℕ) (query : Query) (line : List ℕ) (s : Said)
+pub is_answered : (objects : List (ℕ × Kind)) (n : ReplicaState) (k object : ℕ) (query : Query) (line : List ℕ)
+    (s : Said)
     → IsSaidAnswer (own_of n) object (answer_by objects n object query) s
     → IsAnsweredTurn objects n k object query (only_writes n line (said_text (own_of n) k s))
 is_answered objects n k object query line (said.Lines text) is =

@@ -5,7 +5,8 @@ use Rattle.la_serve.specs.Turns.{Turn, IsTurn}
 use Rattle.la_serve.specs.Serving.{AreTurns}
 use Rattle.la_replica.specs.ReplicaState.{ReplicaState}
 
-pub turns_snoc : (objects : List (ℕ × Kind)) (n : ReplicaState) (k : ℕ) (turns : List Turn) (m : ReplicaState) (t : Turn)
+pub turns_snoc : (objects : List (ℕ × Kind)) (n : ReplicaState) (k : ℕ) (turns : List Turn) (m : ReplicaState)
+    (t : Turn)
     → AreTurns objects n k turns m → IsTurn objects m (k + length turns) t
     → AreTurns objects n k (turns ++ t ∷ []) t.after
 turns_snoc objects n k [] m t are is =

@@ -43,28 +43,33 @@ module _ (objects : List (ℕ × Kind)) (n : ReplicaState) (k : ℕ) where
       OneOf b (faulty n k line TooLong ≡ faulty n k line TooLong) (IsShortTurn objects n k (faulty n k line TooLong)))
       (sym (long line lt)) refl
 
-  pub note_turn : (line : List ℕ) → length line ≤ MAX_LINE → is_note line ≡ true → IsTurn objects n k (only_writes n line [])
+  pub note_turn : (line : List ℕ) → length line ≤ MAX_LINE → is_note line ≡ true
+      → IsTurn objects n k (only_writes n line [])
   note_turn line le is =
       short_turn (only_writes n line []) le
       (subst
       (λ b.
       OneOf b (only_writes n line [] ≡ only_writes n line [])
-      (SaysCall objects n k (only_writes n line []) ⊎ (HasFault n k (only_writes n line []) ⊎ IsStarved n k (only_writes n line []))))
+      (SaysCall objects n k (only_writes n line []) ⊎ (HasFault n k (only_writes n line []) ⊎ IsStarved n k
+      (only_writes n line []))))
       (sym is) refl)
 
   other_turn : (t : Turn) → length t.line ≤ MAX_LINE → is_note t.line ≡ false
       → (SaysCall objects n k t ⊎ (HasFault n k t ⊎ IsStarved n k t)) → IsTurn objects n k t
   other_turn t le is s =
       short_turn t le
-      (subst (λ b. OneOf b (t ≡ only_writes n t.line []) (SaysCall objects n k t ⊎ (HasFault n k t ⊎ IsStarved n k t))) (sym is) s)
+      (subst (λ b. OneOf b (t ≡ only_writes n t.line []) (SaysCall objects n k t ⊎ (HasFault n k t ⊎ IsStarved n k t)))
+      (sym is) s)
 
-  pub call_turn : (line : List ℕ) (call : WireCall) → length line ≤ MAX_LINE → is_note line ≡ false → named_call line ≡ Some call
+  pub call_turn : (line : List ℕ) (call : WireCall) → length line ≤ MAX_LINE → is_note line ≡ false
+      → named_call line ≡ Some call
       → is_line line ≡ true → (t : Turn)
       → (t.line ≡ line) × IsCallTurn objects n k call t → (t.line ≡ line) × IsTurn objects n k t
   call_turn line call le is says stands t (same, turn) = (
     same,
     other_turn t (subst (λ l. length l ≤ MAX_LINE) (sym same) le) (ap is_note same ∙ is)
-        (inl (record { call = call; says = ap named_call same ∙ says; stands = ap is_line same ∙ stands; turn = turn })),
+        (inl (record { call = call; says = ap named_call same ∙ says; stands = ap is_line same ∙ stands;
+        turn = turn })),
   )
 
   pub fault_turn : (line : List ℕ) (f : LineFault) → length line ≤ MAX_LINE → is_note line ≡ false
@@ -80,7 +85,8 @@ module _ (objects : List (ℕ × Kind)) (n : ReplicaState) (k : ℕ) where
   pub passed_turn : (line : List ℕ) (call : WireCall) (b : Bool) → b ≡ true → is_elsewhere n call || is_stale n call ≡ b
       → IsCallTurn objects n k call (only_writes n line [])
   passed_turn line call b so is =
-      subst (λ b. OneOf b (only_writes n line [] ≡ only_writes n line []) (IsTurnHere objects n k call (only_writes n line [])))
+      subst (λ b. OneOf b (only_writes n line [] ≡ only_writes n line []) (IsTurnHere objects n k call
+      (only_writes n line [])))
       (sym (is ∙ so)) refl
 
 -- ## A call that is kept

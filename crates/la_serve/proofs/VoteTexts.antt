@@ -92,7 +92,8 @@ module _ {E : Type 0} (G : List ℕ → Result ℕ E → Type 0)
 
   -- there are too many texts
   pub reads_too_many : (given : Option (List Text)) (read : List ℕ) (before after : List Text) (x : Result ℕ E)
-      → Reads given read before → StepsValues {T = ℕ} {E = E} G before after (Some x) → length read ≡ 8 → AreNoVotes given
+      → Reads given read before → StepsValues {T = ℕ} {E = E} G before after (Some x) → length read ≡ 8
+      → AreNoVotes given
   reads_too_many given read [] after x r step full = absurd step
   reads_too_many given read (t ∷ left) after x r step full =
       subst AreNoVotes (sym r.1) (λ ns h group.

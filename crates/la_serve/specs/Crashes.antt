@@ -66,10 +66,10 @@ KeepsGiven now left_since leads calls n (group ∷ before) (g ∷ given) =
 
 -- ## What is left
 
--- The journal led to a state, from which these turns were taken: what the first ones came to was written, in groups, and
--- of the last ones nothing. A crash at any moment of that leaves a journal that leads to where the first some of the
--- lines lead that it gained, none skipped; from when a text was given out on, all lines are among them that were kept up
--- to it; and from now on all lines of the first turns.
+-- The journal led to a state, from which these turns were taken: what the first ones came to was written, in groups,
+-- and of the last ones nothing. A crash at any moment of that leaves a journal that leads to where the first some of
+-- the lines lead that it gained, none skipped; from when a text was given out on, all lines are among them that were
+-- kept up to it; and from now on all lines of the first turns.
 pub record Leaves {D : Type 0} (seen : D → List ℕ) (may_leave : D → List ℕ → Type 0) (moment : D → ℕ)
     (left_since : D → ℕ → List ℕ → Type 0) (n : ReplicaState) (old new : D) (before after : List GivenAt)
     (turns last : List Turn) : Type 0 where

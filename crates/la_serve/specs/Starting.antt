@@ -1,5 +1,5 @@
 -- A node that plays its journal and then takes lines.
-use Rattle.std.specs.Prelude.{◌≡◌, ◌⊎◌, ℕ, List, [], Option, Some, None}
+use Rattle.std.specs.Prelude.{◌≡◌, ◌⊎◌, ℕ, List, [], Option, Some, None, Result, OnOk, IfErr}
 use Rattle.la_object.specs.declared.kind.Kind.{Kind}
 use Rattle.la_object.specs.Shelves.{ShelfState}
 use Rattle.la_journal.specs.Disk.{LeavesOnly}
@@ -72,16 +72,12 @@ IsServerStartRefusal f objects options disk final old new why =
 
 -- ## By what the traits state
 
-abbrev pub Runs : {D R W E : Type 0} (seen : D → List ℕ) (may_leave : D → List ℕ → Type 0) (moment : D → ℕ)
+-- it took all lines, or stopped for a cause
+abbrev pub Starts : {D R W E T : Type 0} (seen : D → List ℕ) (may_leave : D → List ℕ → Type 0) (moment : D → ℕ)
     (left_since : D → ℕ → List ℕ → Type 0) (remaining : R → Option (List ℕ)) (contents : W → Option (List ℕ))
     (heard : E → Option (List ℕ)) (refuses : E → List ℕ → E → Type 0)
-    → ShelfState → Options → (disk final : D) → (old new : Streams R W E) → Type 0
-Runs seen may_leave moment left_since remaining contents heard refuses shelf =
-    RunsAll (facts seen may_leave moment left_since remaining contents heard refuses) shelf.objects
-
-abbrev pub Stops : {D R W E : Type 0} (seen : D → List ℕ) (may_leave : D → List ℕ → Type 0) (moment : D → ℕ)
-    (left_since : D → ℕ → List ℕ → Type 0) (remaining : R → Option (List ℕ)) (contents : W → Option (List ℕ))
-    (heard : E → Option (List ℕ)) (refuses : E → List ℕ → E → Type 0)
-    → ShelfState → Options → (disk final : D) → (old new : Streams R W E) → NodeFault → Type 0
-Stops seen may_leave moment left_since remaining contents heard refuses shelf =
-    IsServerStartRefusal (facts seen may_leave moment left_since remaining contents heard refuses) shelf.objects
+    → ShelfState → Options → (disk : D) → (old new : Streams R W E) → Result T NodeFault → (final : D) → Type 0
+Starts seen may_leave moment left_since remaining contents heard refuses shelf options disk old new served final =
+    let f = facts seen may_leave moment left_since remaining contents heard refuses in
+    OnOk served (RunsAll f shelf.objects options disk final old new)
+    × IfErr served (IsServerStartRefusal f shelf.objects options disk final old new)

@@ -1,4 +1,4 @@
-ghost use Rattle.std.specs.Prelude.{◌≡◌, IfOk, IfErr, OnOk};
+ghost use Rattle.std.specs.Prelude.{◌≡◌, IfOk};
 ghost use Rattle.la_set.specs.Histories.{empty};
 ghost use Rattle.la_object.specs.declared.kind.Kind.TheVariants.{Counter as CounterKind};
 ghost use Rattle.la_object.specs.declared.kind.Kind.TheVariants.{MaxRegister as RegisterKind};
@@ -8,7 +8,7 @@ ghost use Rattle.la_io.specs.Streams.{TellsLine};
 ghost use Rattle.la_serve.specs.Faults.{of_journal};
 ghost use Rattle.la_serve.specs.Ending.{node_status, end_line, no_journal_line, AreAtStart, ServerEnds};
 ghost use Rattle.la_serve.specs.Io.{io};
-ghost use Rattle.la_serve.specs.Starting.{Runs, Stops};
+ghost use Rattle.la_serve.specs.Starting.{Starts};
 
 use crate::names::{cause_name, end_name};
 use crate::serving::serve;
@@ -89,10 +89,8 @@ fn start<R: Read, W: Write + Drop, E: Listener, D: Disk, B: Replicated>(
     out: &mut Output<W>,
     errors: &mut E,
 ) -> (Result<(), NodeFault>, D)
-    requires shelf { shelf.view ≡ empty }
-    requires found { D.seen disk ≡ found.items }
-    ensures ok { OnOk result.0 (Runs D.seen D.may_leave D.moment D.left_since R.remaining W.contents E.contents E.refuses shelf options.now disk result.1 (io input.old out.old errors.old) (io input.new out.new errors.new)) }
-    ensures err { IfErr result.0 (Stops D.seen D.may_leave D.moment D.left_since R.remaining W.contents E.contents E.refuses shelf options.now disk result.1 (io input.old out.old errors.old) (io input.new out.new errors.new)) }
+    requires { (shelf.view ≡ empty) × (D.seen disk ≡ found.items) }
+    ensures { Starts D.seen D.may_leave D.moment D.left_since R.remaining W.contents E.contents E.refuses shelf options.now disk (io input.old out.old errors.old) (io input.new out.new errors.new) result.0 result.1 }
 {
     let machine = match NodeMachine::new(alloc, options.config, options.own) {
         Ok(machine) => machine,

@@ -7,7 +7,7 @@ use crate::given::{Came, refused, second};
 use crate::holds::holds;
 use la_journal::{
     Disk, DiskFault, Durable, MemoryDisk, Refused, Staged, Uncommitted, Uncompacted, Unplayed,
-    Unstaged, recover, start_again,
+    Unstaged, head_line, record_line, recover, start_again, text_of_head,
 };
 use std::alloc::Global;
 use test_journal::{Move, MoveError, Tally};
@@ -259,9 +259,23 @@ fn disks(alloc: Global) -> Came {
     on_disk(&mut disk, alloc)
 }
 
+// ## Records
+
+fn heads(alloc: Global) -> Came {
+    let head = head_line(alloc, b"tally".as_slice()).ok()?;
+    Some(text_of_head(&head) == Some(b"tally".as_slice()))
+}
+
+fn records(alloc: Global) -> Came {
+    let record = record_line(alloc, b"".as_slice(), b"u\nu\n".as_slice()).ok()?;
+    Some(record.len() == 21 && record.starts_with(b"~ 2  ".as_slice()))
+}
+
 fn scenes(alloc: Global) -> Came {
     Some(
         recovers(alloc)?
+            && again!(alloc, heads(alloc))?
+            && again!(alloc, records(alloc))?
             && again!(alloc, restarts(alloc))?
             && again!(alloc, starts_anew(alloc))?
             && again!(alloc, handles(alloc))?

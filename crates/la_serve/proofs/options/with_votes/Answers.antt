@@ -18,7 +18,8 @@ returns-clause-app c =
     (rw (c.value_parser.ensures, c.new.ensures.start, c.new.ensures.end) at c.range-weights.ensures) in
     let local : c.num_args.result.global ≡ false =
     ap (λ a. a.global) c.num_args.ensures.0 ∙ c.number-votes.ensures.local in
-    let range = some_range c.num_args.result.num_vals (record { start_inclusive = 1; end_inclusive = 8 }) (rw (c.new-2.ensures.start, c.new-2.ensures.end) at c.num_args.ensures.1) in
+    let range = some_range c.num_args.result.num_vals (record { start_inclusive = 1; end_inclusive = 8 })
+    (rw (c.new-2.ensures.start, c.new-2.ensures.end) at c.num_args.ensures.1) in
     let whole = ap rule_of c.num_args.ensures.0
     ∙ ap (λ (r : Rule). record r { range = c.num_args.result.num_vals }) rule
     ∙ ap (λ (o : Option ValueRange). record (number_option (codes "votes") 1 1000) { range = o }) range in

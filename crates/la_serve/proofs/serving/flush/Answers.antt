@@ -36,6 +36,7 @@ returns-in_ok-give-in-Ok-clause-ok g c = record {
   some = λ start before calls was are. c.commit.ensures.any_moment c.requires.unclosed start before calls was are;
   given =
       subst
-      (λ (h : List ℕ). c.give.new.self.given.texts ≡ gives g.D.Disk.moment c.commit.new.self.durable.disk h c.args.output.now.given.texts)
+      (λ (h : List ℕ). c.give.new.self.given.texts ≡ gives g.D.Disk.moment c.commit.new.self.durable.disk h
+      c.args.output.now.given.texts)
       c.deref.ensures.value c.give.ensures.given;
 }

@@ -16,7 +16,7 @@ pub loop-number-init : goal.loop-number-init
 loop-number-init g c =
     let f = facts g.D.Disk.seen g.D.Disk.may_leave g.D.Disk.moment g.D.Disk.left_since g.R.Read.remaining
     g.W.Write.contents g.E.Write.contents g.E.Listener.refuses in
-    let first = start_at f c.args.input.now c.args.out.now.writer c.args.out.now.given.texts c.args.errors.now c.args.server.now in
+    let first = start_at f c.args.input.now c.args.out.now c.args.errors.now c.args.server.now in
     record {
       so_far =
           so_none f first c.requires.settled (g.met.D.Disk.only_now c.args.server.now.node.durable.disk)
@@ -33,33 +33,35 @@ returns-in_err-prepare-clause-err g c =
     let same : IfErr c.from_residual.result (λ e. e ≡ c.in_err-prepare.field-0.0) = search rules in
     let f = facts g.D.Disk.seen g.D.Disk.may_leave g.D.Disk.moment g.D.Disk.left_since g.R.Read.remaining
     g.W.Write.contents g.E.Write.contents g.E.Listener.refuses in
-    let first = start_at f c.args.input.now c.args.out.now.writer c.args.out.now.given.texts c.args.errors.now c.args.server.now in
-    let p0 = point f c.loop-number.source c.loop-number.input c.loop-number.out.writer c.loop-number.out.given.texts c.loop-number.held.items
+    let first = start_at f c.args.input.now c.args.out.now c.args.errors.now c.args.server.now in
+    let p0 = point f c.loop-number.source c.loop-number.input c.loop-number.out c.loop-number.held.items
     c.loop-number.errors c.loop-number.server in
-    let p1 = point f c.loop-number.source c.loop-number.input c.prepare.new.output.writer c.prepare.new.output.given.texts c.prepare.new.held.items
+    let p1 = point f c.loop-number.source c.loop-number.input c.prepare.new.output c.prepare.new.held.items
     c.loop-number.errors c.prepare.new.server in
     let left = g.R.Read.remaining c.loop-number.input in
     if_err_same _ c.in_err-prepare.field-0.0 c.from_residual.result same
     (unflushed f first c.calls_follow_one_another.ensures left p0 p1 []
     (stopped f first p0 c.loop-number.number c.loop-number.invariant.so_far (pending c.loop-number.source) left refl)
-    (ap kept_by c.prepare.ensures.same.0) (g.met.D.Disk.only_now p1.disk) c.in_err-prepare.ensures.any_moment (g.met.D.Disk.counts_now p1.disk)
+    (ap kept_by c.prepare.ensures.same.0) (g.met.D.Disk.only_now p1.disk) c.in_err-prepare.ensures.any_moment
+    (g.met.D.Disk.counts_now p1.disk)
     c.in_err-prepare.field-0.0 c.in_err-prepare.ensures.err)
 
 pub returns-in-Ok-false-clause-ok : goal.returns-in-Ok-false-clause-ok
 returns-in-Ok-false-clause-ok g c =
     let f = facts g.D.Disk.seen g.D.Disk.may_leave g.D.Disk.moment g.D.Disk.left_since g.R.Read.remaining
     g.W.Write.contents g.E.Write.contents g.E.Listener.refuses in
-    let first = start_at f c.args.input.now c.args.out.now.writer c.args.out.now.given.texts c.args.errors.now c.args.server.now in
-    let p0 = point f c.loop-number.source c.loop-number.input c.loop-number.out.writer c.loop-number.out.given.texts c.loop-number.held.items
+    let first = start_at f c.args.input.now c.args.out.now c.args.errors.now c.args.server.now in
+    let p0 = point f c.loop-number.source c.loop-number.input c.loop-number.out c.loop-number.held.items
     c.loop-number.errors c.loop-number.server in
-    let p1 = point f c.loop-number.source c.loop-number.input c.prepare.new.output.writer c.prepare.new.output.given.texts c.prepare.new.held.items
+    let p1 = point f c.loop-number.source c.loop-number.input c.prepare.new.output c.prepare.new.held.items
     c.loop-number.errors c.prepare.new.server in
     let so = so_prepared f first c.calls_follow_one_another.ensures p0 p1 c.loop-number.number
-    c.loop-number.invariant.so_far refl refl (ap kept_by c.prepare.ensures.same.0) (g.met.D.Disk.only_now p1.disk) c.in_ok-prepare.ensures.ok in
+    c.loop-number.invariant.so_far refl refl (ap kept_by c.prepare.ensures.same.0) (g.met.D.Disk.only_now p1.disk)
+    c.in_ok-prepare.ensures.ok in
     let objects = ap (λ s. s.objects) c.prepare.ensures.same.1 ∙ c.loop-number.invariant.objects in
-    let p2 = point f c.step.new.source c.step.new.input c.prepare.new.output.writer c.prepare.new.output.given.texts c.step.new.held.items c.step.new.errors
+    let p2 = point f c.step.new.source c.step.new.input c.prepare.new.output c.step.new.held.items c.step.new.errors
     c.step.new.server in
-    let p3 = point f c.step.new.source c.step.new.input c.flush.new.output.writer c.flush.new.output.given.texts c.flush.new.held.items c.step.new.errors
+    let p3 = point f c.step.new.source c.step.new.input c.flush.new.output c.flush.new.held.items c.step.new.errors
     c.flush.new.server in
     let ends =
     subst (TurnSteps c.loop-number.number (TellsAll f.heard f.refuses p1.errors p2.errors) (held_io p1) (held_io p2))
@@ -75,17 +77,18 @@ pub returns-in-Ok-false-clause-err : goal.returns-in-Ok-false-clause-err
 returns-in-Ok-false-clause-err g c =
     let f = facts g.D.Disk.seen g.D.Disk.may_leave g.D.Disk.moment g.D.Disk.left_since g.R.Read.remaining
     g.W.Write.contents g.E.Write.contents g.E.Listener.refuses in
-    let first = start_at f c.args.input.now c.args.out.now.writer c.args.out.now.given.texts c.args.errors.now c.args.server.now in
-    let p0 = point f c.loop-number.source c.loop-number.input c.loop-number.out.writer c.loop-number.out.given.texts c.loop-number.held.items
+    let first = start_at f c.args.input.now c.args.out.now c.args.errors.now c.args.server.now in
+    let p0 = point f c.loop-number.source c.loop-number.input c.loop-number.out c.loop-number.held.items
     c.loop-number.errors c.loop-number.server in
-    let p1 = point f c.loop-number.source c.loop-number.input c.prepare.new.output.writer c.prepare.new.output.given.texts c.prepare.new.held.items
+    let p1 = point f c.loop-number.source c.loop-number.input c.prepare.new.output c.prepare.new.held.items
     c.loop-number.errors c.prepare.new.server in
     let so = so_prepared f first c.calls_follow_one_another.ensures p0 p1 c.loop-number.number
-    c.loop-number.invariant.so_far refl refl (ap kept_by c.prepare.ensures.same.0) (g.met.D.Disk.only_now p1.disk) c.in_ok-prepare.ensures.ok in
+    c.loop-number.invariant.so_far refl refl (ap kept_by c.prepare.ensures.same.0) (g.met.D.Disk.only_now p1.disk)
+    c.in_ok-prepare.ensures.ok in
     let objects = ap (λ s. s.objects) c.prepare.ensures.same.1 ∙ c.loop-number.invariant.objects in
-    let p2 = point f c.step.new.source c.step.new.input c.prepare.new.output.writer c.prepare.new.output.given.texts c.step.new.held.items c.step.new.errors
+    let p2 = point f c.step.new.source c.step.new.input c.prepare.new.output c.step.new.held.items c.step.new.errors
     c.step.new.server in
-    let p3 = point f c.step.new.source c.step.new.input c.flush.new.output.writer c.flush.new.output.given.texts c.flush.new.held.items c.step.new.errors
+    let p3 = point f c.step.new.source c.step.new.input c.flush.new.output c.flush.new.held.items c.step.new.errors
     c.flush.new.server in
     let ends =
     subst (TurnSteps c.loop-number.number (TellsAll f.heard f.refuses p1.errors p2.errors) (held_io p1) (held_io p2))
@@ -93,9 +96,11 @@ returns-in-Ok-false-clause-err g c =
     let left = g.R.Read.remaining c.step.new.input in
     if_err c.flush.result
     (unflushed f first c.calls_follow_one_another.ensures left p2 p3 []
-    (ended f first p1 c.loop-number.number so p2 objects c.step.ensures.stages.1 refl refl (pending c.step.new.source) left
+    (ended f first p1 c.loop-number.number so p2 objects c.step.ensures.stages.1 refl refl (pending c.step.new.source)
+    left
     refl ends)
-    (ap kept_by c.flush.ensures.same.0) (g.met.D.Disk.only_now p3.disk) c.flush.ensures.any_moment (g.met.D.Disk.counts_now p3.disk))
+    (ap kept_by c.flush.ensures.same.0) (g.met.D.Disk.only_now p3.disk) c.flush.ensures.any_moment
+    (g.met.D.Disk.counts_now p3.disk))
     c.flush.ensures.err
 
 pub returns-in_err-flush-in-Err-clause-err : goal.returns-in_err-flush-in-Err-clause-err
@@ -104,18 +109,19 @@ returns-in_err-flush-in-Err-clause-err g c =
     search rules in
     let f = facts g.D.Disk.seen g.D.Disk.may_leave g.D.Disk.moment g.D.Disk.left_since g.R.Read.remaining
     g.W.Write.contents g.E.Write.contents g.E.Listener.refuses in
-    let first = start_at f c.args.input.now c.args.out.now.writer c.args.out.now.given.texts c.args.errors.now c.args.server.now in
-    let p0 = point f c.loop-number.source c.loop-number.input c.loop-number.out.writer c.loop-number.out.given.texts c.loop-number.held.items
+    let first = start_at f c.args.input.now c.args.out.now c.args.errors.now c.args.server.now in
+    let p0 = point f c.loop-number.source c.loop-number.input c.loop-number.out c.loop-number.held.items
     c.loop-number.errors c.loop-number.server in
-    let p1 = point f c.loop-number.source c.loop-number.input c.prepare.new.output.writer c.prepare.new.output.given.texts c.prepare.new.held.items
+    let p1 = point f c.loop-number.source c.loop-number.input c.prepare.new.output c.prepare.new.held.items
     c.loop-number.errors c.prepare.new.server in
     let so = so_prepared f first c.calls_follow_one_another.ensures p0 p1 c.loop-number.number
-    c.loop-number.invariant.so_far refl refl (ap kept_by c.prepare.ensures.same.0) (g.met.D.Disk.only_now p1.disk) c.in_ok-prepare.ensures.ok in
+    c.loop-number.invariant.so_far refl refl (ap kept_by c.prepare.ensures.same.0) (g.met.D.Disk.only_now p1.disk)
+    c.in_ok-prepare.ensures.ok in
     let objects = ap (λ s. s.objects) c.prepare.ensures.same.1 ∙ c.loop-number.invariant.objects in
-    let p2 = point f c.step.new.source c.step.new.input c.prepare.new.output.writer c.prepare.new.output.given.texts c.step.new.held.items c.step.new.errors
+    let p2 = point f c.step.new.source c.step.new.input c.prepare.new.output c.step.new.held.items c.step.new.errors
     c.step.new.server in
     let p3 =
-    point f c.step.new.source c.step.new.input c.flush-in-Err.new.output.writer c.flush-in-Err.new.output.given.texts c.flush-in-Err.new.held.items
+    point f c.step.new.source c.step.new.input c.flush-in-Err.new.output c.flush-in-Err.new.held.items
     c.step.new.errors
     c.flush-in-Err.new.server in
     let left = g.R.Read.remaining c.step.new.input in
@@ -123,25 +129,27 @@ returns-in_err-flush-in-Err-clause-err g c =
     (pending c.step.new.source) left refl c.in-Err.fault c.in-Err.ensures.err in
     if_err_same _ c.in_err-flush-in-Err.field-0.0 c.from_residual-in_err-flush-in-Err.result same
     (unflushed f first c.calls_follow_one_another.ensures left p2 p3 cut.0 cut.1
-    (ap kept_by c.flush-in-Err.ensures.same.0) (g.met.D.Disk.only_now p3.disk) c.flush-in-Err.ensures.any_moment (g.met.D.Disk.counts_now p3.disk)
+    (ap kept_by c.flush-in-Err.ensures.same.0) (g.met.D.Disk.only_now p3.disk) c.flush-in-Err.ensures.any_moment
+    (g.met.D.Disk.counts_now p3.disk)
     c.in_err-flush-in-Err.field-0.0 c.in_err-flush-in-Err.ensures.err)
 
 pub returns-in-Err-clause-err : goal.returns-in-Err-clause-err
 returns-in-Err-clause-err g c =
     let f = facts g.D.Disk.seen g.D.Disk.may_leave g.D.Disk.moment g.D.Disk.left_since g.R.Read.remaining
     g.W.Write.contents g.E.Write.contents g.E.Listener.refuses in
-    let first = start_at f c.args.input.now c.args.out.now.writer c.args.out.now.given.texts c.args.errors.now c.args.server.now in
-    let p0 = point f c.loop-number.source c.loop-number.input c.loop-number.out.writer c.loop-number.out.given.texts c.loop-number.held.items
+    let first = start_at f c.args.input.now c.args.out.now c.args.errors.now c.args.server.now in
+    let p0 = point f c.loop-number.source c.loop-number.input c.loop-number.out c.loop-number.held.items
     c.loop-number.errors c.loop-number.server in
-    let p1 = point f c.loop-number.source c.loop-number.input c.prepare.new.output.writer c.prepare.new.output.given.texts c.prepare.new.held.items
+    let p1 = point f c.loop-number.source c.loop-number.input c.prepare.new.output c.prepare.new.held.items
     c.loop-number.errors c.prepare.new.server in
     let so = so_prepared f first c.calls_follow_one_another.ensures p0 p1 c.loop-number.number
-    c.loop-number.invariant.so_far refl refl (ap kept_by c.prepare.ensures.same.0) (g.met.D.Disk.only_now p1.disk) c.in_ok-prepare.ensures.ok in
+    c.loop-number.invariant.so_far refl refl (ap kept_by c.prepare.ensures.same.0) (g.met.D.Disk.only_now p1.disk)
+    c.in_ok-prepare.ensures.ok in
     let objects = ap (λ s. s.objects) c.prepare.ensures.same.1 ∙ c.loop-number.invariant.objects in
-    let p2 = point f c.step.new.source c.step.new.input c.prepare.new.output.writer c.prepare.new.output.given.texts c.step.new.held.items c.step.new.errors
+    let p2 = point f c.step.new.source c.step.new.input c.prepare.new.output c.step.new.held.items c.step.new.errors
     c.step.new.server in
     let p3 =
-    point f c.step.new.source c.step.new.input c.flush-in-Err.new.output.writer c.flush-in-Err.new.output.given.texts c.flush-in-Err.new.held.items
+    point f c.step.new.source c.step.new.input c.flush-in-Err.new.output c.flush-in-Err.new.held.items
     c.step.new.errors
     c.flush-in-Err.new.server in
     let left = g.R.Read.remaining c.step.new.input in
@@ -152,26 +160,29 @@ returns-in-Err-clause-err g c =
     (IsServeRefusal (TellsAll f.heard f.refuses first.errors p2.errors) (Left f first p3)
     (run_io f first first.ahead first) (run_io f first left p3)) (sym c.of_step.ensures)
     (then_refused f first c.calls_follow_one_another.ensures left p2 p3 cut.0 cut.1
-    (ap kept_by c.flush-in-Err.ensures.same.0) (g.met.D.Disk.only_now p3.disk) c.flush-in-Err.ensures.any_moment c.in-Err.fault cut.2 flushed)
+    (ap kept_by c.flush-in-Err.ensures.same.0) (g.met.D.Disk.only_now p3.disk) c.flush-in-Err.ensures.any_moment
+    c.in-Err.fault cut.2 flushed)
 
 pub loop-number-preserved : goal.loop-number-preserved
 loop-number-preserved g c =
     let f = facts g.D.Disk.seen g.D.Disk.may_leave g.D.Disk.moment g.D.Disk.left_since g.R.Read.remaining
     g.W.Write.contents g.E.Write.contents g.E.Listener.refuses in
-    let first = start_at f c.args.input.now c.args.out.now.writer c.args.out.now.given.texts c.args.errors.now c.args.server.now in
-    let p0 = point f c.loop-number.source c.loop-number.input c.loop-number.out.writer c.loop-number.out.given.texts c.loop-number.held.items
+    let first = start_at f c.args.input.now c.args.out.now c.args.errors.now c.args.server.now in
+    let p0 = point f c.loop-number.source c.loop-number.input c.loop-number.out c.loop-number.held.items
     c.loop-number.errors c.loop-number.server in
-    let p1 = point f c.loop-number.source c.loop-number.input c.prepare.new.output.writer c.prepare.new.output.given.texts c.prepare.new.held.items
+    let p1 = point f c.loop-number.source c.loop-number.input c.prepare.new.output c.prepare.new.held.items
     c.loop-number.errors c.prepare.new.server in
     let so = so_prepared f first c.calls_follow_one_another.ensures p0 p1 c.loop-number.number
-    c.loop-number.invariant.so_far refl refl (ap kept_by c.prepare.ensures.same.0) (g.met.D.Disk.only_now p1.disk) c.in_ok-prepare.ensures.ok in
+    c.loop-number.invariant.so_far refl refl (ap kept_by c.prepare.ensures.same.0) (g.met.D.Disk.only_now p1.disk)
+    c.in_ok-prepare.ensures.ok in
     let objects = ap (λ s. s.objects) c.prepare.ensures.same.1 ∙ c.loop-number.invariant.objects in
-    let p2 = point f c.step.new.source c.step.new.input c.prepare.new.output.writer c.prepare.new.output.given.texts c.step.new.held.items c.step.new.errors
+    let p2 = point f c.step.new.source c.step.new.input c.prepare.new.output c.step.new.held.items c.step.new.errors
     c.step.new.server in
     record {
       so_far =
           so_more f first p1 c.loop-number.number so p2 objects c.step.ensures.stages.1 refl refl
-          (subst (TurnSteps c.loop-number.number (TellsAll f.heard f.refuses p1.errors p2.errors) (held_io p1) (held_io p2))
+          (subst (TurnSteps c.loop-number.number (TellsAll f.heard f.refuses p1.errors p2.errors) (held_io p1)
+          (held_io p2))
           c.in-Ok-true.field-0-test c.in-Ok-true.ensures.ok);
       over = c.step.ensures.over;
       settled =
@@ -186,29 +197,31 @@ returns-in_err-flush-clause-err g c =
     let same : IfErr c.from_residual-in_err-flush.result (λ e. e ≡ c.in_err-flush.field-0.0) = search rules in
     let f = facts g.D.Disk.seen g.D.Disk.may_leave g.D.Disk.moment g.D.Disk.left_since g.R.Read.remaining
     g.W.Write.contents g.E.Write.contents g.E.Listener.refuses in
-    let first = start_at f c.args.input.now c.args.out.now.writer c.args.out.now.given.texts c.args.errors.now c.args.server.now in
-    let p0 = point f c.loop-number.source c.loop-number.input c.loop-number.out.writer c.loop-number.out.given.texts c.loop-number.held.items
+    let first = start_at f c.args.input.now c.args.out.now c.args.errors.now c.args.server.now in
+    let p0 = point f c.loop-number.source c.loop-number.input c.loop-number.out c.loop-number.held.items
     c.loop-number.errors c.loop-number.server in
-    let p1 = point f c.loop-number.source c.loop-number.input c.flush-2.new.output.writer c.flush-2.new.output.given.texts c.flush-2.new.held.items
+    let p1 = point f c.loop-number.source c.loop-number.input c.flush-2.new.output c.flush-2.new.held.items
     c.loop-number.errors c.flush-2.new.server in
     let left = g.R.Read.remaining c.loop-number.input in
     if_err_same _ c.in_err-flush.field-0.0 c.from_residual-in_err-flush.result same
     (unflushed f first c.calls_follow_one_another.ensures left p0 p1 []
     (stopped f first p0 c.loop-number.number c.loop-number.invariant.so_far (pending c.loop-number.source) left refl)
-    (ap kept_by c.flush-2.ensures.same.0) (g.met.D.Disk.only_now p1.disk) c.flush-2.ensures.any_moment (g.met.D.Disk.counts_now p1.disk)
+    (ap kept_by c.flush-2.ensures.same.0) (g.met.D.Disk.only_now p1.disk) c.flush-2.ensures.any_moment
+    (g.met.D.Disk.counts_now p1.disk)
     c.in_err-flush.field-0.0 c.in_err-flush.ensures.err)
 
 pub returns-clause-err : goal.returns-clause-err
 returns-clause-err g c =
     let f = facts g.D.Disk.seen g.D.Disk.may_leave g.D.Disk.moment g.D.Disk.left_since g.R.Read.remaining
     g.W.Write.contents g.E.Write.contents g.E.Listener.refuses in
-    let first = start_at f c.args.input.now c.args.out.now.writer c.args.out.now.given.texts c.args.errors.now c.args.server.now in
-    let p0 = point f c.loop-number.source c.loop-number.input c.loop-number.out.writer c.loop-number.out.given.texts c.loop-number.held.items
+    let first = start_at f c.args.input.now c.args.out.now c.args.errors.now c.args.server.now in
+    let p0 = point f c.loop-number.source c.loop-number.input c.loop-number.out c.loop-number.held.items
     c.loop-number.errors c.loop-number.server in
-    let p1 = point f c.loop-number.source c.loop-number.input c.flush-2.new.output.writer c.flush-2.new.output.given.texts c.flush-2.new.held.items
+    let p1 = point f c.loop-number.source c.loop-number.input c.flush-2.new.output c.flush-2.new.held.items
     c.loop-number.errors c.flush-2.new.server in
     let left = g.R.Read.remaining c.loop-number.input in
     let flushed = c.in_ok-flush.ensures.ok in
     then_refused f first c.calls_follow_one_another.ensures left p0 p1 []
     (stopped f first p0 c.loop-number.number c.loop-number.invariant.so_far (pending c.loop-number.source) left refl)
-    (ap kept_by c.flush-2.ensures.same.0) (g.met.D.Disk.only_now p1.disk) c.flush-2.ensures.any_moment fault.ReadFault refl flushed
+    (ap kept_by c.flush-2.ensures.same.0) (g.met.D.Disk.only_now p1.disk) c.flush-2.ensures.any_moment fault.ReadFault
+    refl flushed

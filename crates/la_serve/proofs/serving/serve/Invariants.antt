@@ -12,8 +12,8 @@ invariant-loop-number g l =
     let f = facts g.D.Disk.seen g.D.Disk.may_leave g.D.Disk.moment g.D.Disk.left_since g.R.Read.remaining
     g.W.Write.contents g.E.Write.contents g.E.Listener.refuses in
     record {
-      so_far : So f (start_at f l.initial.input l.initial.out.writer l.initial.out.given.texts l.initial.errors l.initial.server)
-          (point f l.source l.input l.out.writer l.out.given.texts l.held.items l.errors l.server) l.number;
+      so_far : So f (start_at f l.initial.input l.initial.out l.initial.errors l.initial.server)
+          (point f l.source l.input l.out l.held.items l.errors l.server) l.number;
       over : l.source.over ≡ true → IsAtEnd (ahead l.source (g.R.Read.remaining l.input));
       settled : IsSettled g.D.Disk.seen g.D.Disk.may_leave l.server.node.durable.disk;
       takes : TakesLines l.server;

@@ -1,7 +1,7 @@
 use Rattle.std.proofs.Common.{inl, inr, sym, subst}
 use Rattle.la_serve.specs.declared.error.NodeFault.TheVariants.{Memory}
 use Rattle.la_serve.specs.Io.{facts, io}
-use Rattle.la_serve.specs.Starting.{RunsNot, IsServerStartRefusal}
+use Rattle.la_serve.specs.Starting.{RunsNot}
 use Rattle.la_serve.proofs.Starts.{untouched}
 use Rattle.la_serve.proofs.starting.run_with.Goals as goal
 

@@ -17,72 +17,47 @@ pub serve-served-requires-clause-takes : goal.serve-served-requires-clause-takes
 serve-served-requires-clause-takes g c κs within = (
   ap (λ d. d.closed) c.new-in-Ok-recover.ensures.durable ∙ c.in-Ok-recover.ensures.settled.0,
   subst (λ (v : Histories). IsSubset v c.new-in-Ok-recover.result.durable.machine.node.replica.view)
-      (sym c.requires.shelf)
+      (sym c.requires.0)
       (nothing_within c.new-in-Ok-recover.result.durable.machine.node.replica.view),
 )
 
-pub returns-in-Ok-recover-clause-ok : goal.returns-in-Ok-recover-clause-ok
-returns-in-Ok-recover-clause-ok g c =
+pub returns-in-Ok-recover : goal.returns-in-Ok-recover
+returns-in-Ok-recover g c =
     let f = facts g.D.Disk.seen g.D.Disk.may_leave g.D.Disk.moment g.D.Disk.left_since g.R.Read.remaining
     g.W.Write.contents g.E.Write.contents g.E.Listener.refuses in
+    let objects = c.args.shelf.objects in
+    let disk = c.args.disk in
+    let options = c.args.options.now in
+    let final = c.serve-served.new.server.node.durable.disk in
+    let recovered = c.new-in-Ok-recover.result.durable.disk in
     let is = c.new-in-Ok-recover.ensures.durable in
     let led = ap (λ d. Some (kept_by d.machine)) (sym is) in
     let old = io c.args.input.now c.args.out.now c.args.errors.now in
-    let new = io c.serve-served.new.input c.serve-served.new.out
-    c.serve-served.new.errors in
-    subst
-    (λ d. OnOk c.serve-served.result (RunsAll f c.args.shelf.objects c.args.options.now c.args.disk d old new))
-    (sym c.into_disk.ensures)
-    (runs f c.args.shelf.objects _ c.args.options.now c.args.disk c.new-in-Ok-recover.result.durable.disk
-    c.serve-served.new.server.node.durable.disk old new _ _
-    (ap (λ (m : NodeMachine). leads_from (kept_by m) (f.seen c.args.disk)) (sym c.in-Ok.ensures.start)
-    ∙ c.in-Ok-recover.ensures.state ∙ led)
-    (ap (λ d. leads_from (at_start c.args.options.now.config c.args.options.now.own) (f.seen d.disk)) is
+    let new = io c.serve-served.new.input c.serve-served.new.out c.serve-served.new.errors in
+    let plays = ap (λ (m : NodeMachine). leads_from (kept_by m) (f.seen disk)) (sym c.in-Ok.ensures.start)
+    ∙ c.in-Ok-recover.ensures.state ∙ led in
+    let leads = ap (λ d. leads_from (at_start options.config options.own) (f.seen d.disk)) is
     ∙ ap (λ (m : NodeMachine). leads_from (kept_by m) (f.seen c.in-Ok-recover.durable.disk))
     (sym c.in-Ok.ensures.start)
-    ∙ c.in-Ok-recover.ensures.leads ∙ led)
-    (ap (λ d. lines (f.seen d.disk)) is ∙ c.in-Ok-recover.ensures.same)
-    (subst
+    ∙ c.in-Ok-recover.ensures.leads ∙ led in
+    let same = ap (λ d. lines (f.seen d.disk)) is ∙ c.in-Ok-recover.ensures.same in
+    let recovery = subst
     (λ d.
-    LeavesOnly f.moment f.left_since c.args.disk d.disk
-    (IsSameOr (f.may_leave c.args.disk) (lines (f.seen c.args.disk)))) (sym is)
-    c.in-Ok-recover.ensures.any_moment)
-    c.serve-served.result c.serve-served.ensures.ok)
-
-pub returns-in-Ok-recover-clause-err : goal.returns-in-Ok-recover-clause-err
-returns-in-Ok-recover-clause-err g c =
-    let f = facts g.D.Disk.seen g.D.Disk.may_leave g.D.Disk.moment g.D.Disk.left_since g.R.Read.remaining
-    g.W.Write.contents g.E.Write.contents g.E.Listener.refuses in
-    let is = c.new-in-Ok-recover.ensures.durable in
-    let led = ap (λ d. Some (kept_by d.machine)) (sym is) in
-    let old = io c.args.input.now c.args.out.now c.args.errors.now in
-    let new = io c.serve-served.new.input c.serve-served.new.out
-    c.serve-served.new.errors in
-    subst
-    (λ d. IfErr c.serve-served.result (IsServerStartRefusal f c.args.shelf.objects c.args.options.now c.args.disk d old new))
-    (sym c.into_disk.ensures)
-    (stops f c.args.shelf.objects _ c.args.options.now c.args.disk c.new-in-Ok-recover.result.durable.disk
-    c.serve-served.new.server.node.durable.disk old new _ _
-    (ap (λ (m : NodeMachine). leads_from (kept_by m) (f.seen c.args.disk)) (sym c.in-Ok.ensures.start)
-    ∙ c.in-Ok-recover.ensures.state ∙ led)
-    (ap (λ d. leads_from (at_start c.args.options.now.config c.args.options.now.own) (f.seen d.disk)) is
-    ∙ ap (λ (m : NodeMachine). leads_from (kept_by m) (f.seen c.in-Ok-recover.durable.disk))
-    (sym c.in-Ok.ensures.start)
-    ∙ c.in-Ok-recover.ensures.leads ∙ led)
-    (ap (λ d. lines (f.seen d.disk)) is ∙ c.in-Ok-recover.ensures.same)
-    (subst
-    (λ d.
-    LeavesOnly f.moment f.left_since c.args.disk d.disk
-    (IsSameOr (f.may_leave c.args.disk) (lines (f.seen c.args.disk)))) (sym is)
-    c.in-Ok-recover.ensures.any_moment)
-    c.serve-served.result c.serve-served.ensures.err)
+    LeavesOnly f.moment f.left_since disk d.disk (IsSameOr (f.may_leave disk) (lines (f.seen disk)))) (sym is)
+    c.in-Ok-recover.ensures.any_moment in
+    (
+      subst (λ d. OnOk c.serve-served.result (RunsAll f objects options disk d old new)) (sym c.into_disk.ensures)
+          (runs f objects _ options disk recovered final old new _ _ plays leads same recovery c.serve-served.result
+          c.serve-served.ensures.ok),
+      subst (λ d. IfErr c.serve-served.result (IsServerStartRefusal f objects options disk d old new))
+          (sym c.into_disk.ensures)
+          (stops f objects _ options disk recovered final old new _ _ plays leads same recovery c.serve-served.result
+          c.serve-served.ensures.err),
+    )
 
 pub returns-in-Err : goal.returns-in-Err
 returns-in-Err g c =
     let f = facts g.D.Disk.seen g.D.Disk.may_leave g.D.Disk.moment g.D.Disk.left_since g.R.Read.remaining
     g.W.Write.contents g.E.Write.contents g.E.Listener.refuses in
     let old = io c.args.input.now c.args.out.now c.args.errors.now in
-    record {
-      ok = tt;
-      err = (untouched f c.args.disk old (g.met.D.Disk.only_now c.args.disk), search rules);
-    }
+    (tt, (untouched f c.args.disk old (g.met.D.Disk.only_now c.args.disk), search rules))

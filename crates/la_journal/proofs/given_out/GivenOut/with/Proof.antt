@@ -46,7 +46,8 @@ stayed = (
   ),
 )
 
-module _ {M : Type 1} {𝓤 : Ura M} (𝓛 : Logic 𝓤) (mem : Memory → SProp 𝓤) (run : Routine → Fun 𝓤) (C : Calls 𝓤 𝓛.H) (Λ : Loops 𝓤 𝓛.H) where
+module _ {M : Type 1} {𝓤 : Ura M} (𝓛 : Logic 𝓤) (mem : Memory → SProp 𝓤) (run : Routine → Fun 𝓤) (C : Calls 𝓤 𝓛.H) (Λ :
+    Loops 𝓤 𝓛.H) where
   open 𝓛 use {H}
 
   module _ (κs : Lfts 3) (qs : Shares 3) (a : Args f.signature κs) where
@@ -66,17 +67,24 @@ module _ {M : Type 1} {𝓤 : Ura M} (𝓛 : Logic 𝓤) (mem : Memory → SProp
     passed = owns (types_at f.signature.params κs) a (before ∷ [], (past ∷ [], (bytes ∷ [], tt)))
 
     abbrev made : GivenOut
-    made = record { marker = record {}; texts = record { moment = length a.1.0.now.events; text = a.1.1.0.now } ∷ a.0.now.texts }
+    made = record {
+      marker = record {};
+      texts = record { moment = length a.1.0.now.events; text = a.1.1.0.now } ∷ a.0.now.texts;
+    }
 
     walk : length a.1.1.0.now < 2 ^ 64
         → ent 𝓤 (on_entry 𝓛 f.signature κs qs a (before ∷ [], (past ∷ [], (bytes ∷ [], tt))))
-        (WpFn 𝓤 H C Λ code.function (before ∷ past ∷ bytes ∷ []) ((walk_of 𝓛 f.ended stayed (f.clauses 𝓛 mem run)).post bound))
+        (WpFn 𝓤 H C Λ code.function (before ∷ past ∷ bytes ∷ []) ((walk_of 𝓛 f.ended stayed (f.clauses 𝓛 mem run)).post
+        bound))
     walk fits =
-        qed 𝓛 (raw (alive 𝓛 f.signature κs qs) ∷ ‵ passed ∷ []) ∵ enter ! C Λ code.function (before ∷ past ∷ bytes ∷ []) _ $
+        qed 𝓛 (raw (alive 𝓛 f.signature κs qs) ∷ ‵ passed ∷ []) ∵ enter ! C Λ code.function (before ∷ past ∷ bytes ∷
+        []) _ $
         alloc_all ! (λ l. pass_all ! refl ((tt, tt), ((tt, tt), ((tt, (tt, (record { fits = fits }, tt))), tt))) $
-        sets ! (agg ! (no_more !)) refl (tt, tt) $ sets ! (agg ! (and_then ! (get ! refl) (no_more !))) refl (tt, (tt, tt)) $
+        sets ! (agg ! (no_more !)) refl (tt, tt) $ sets ! (agg ! (and_then ! (get ! refl) (no_more !))) refl (tt, (tt,
+        tt)) $
         returns ! (look_at ! 0 refl) $ free_all ! refl $
-        suffices ! _ (ends_at 𝓛 f.ended stayed (f.clauses 𝓛 mem run) bound (vstruct (vcons (vstruct vnil) vnil)) made (tt, (tt, (tt, tt))) (tt, (tt, (tt, tt)))) $
+        suffices ! _ (ends_at 𝓛 f.ended stayed (f.clauses 𝓛 mem run) bound (vstruct (vcons (vstruct vnil) vnil)) made
+        (tt, (tt, (tt, tt))) (tt, (tt, (tt, tt)))) $
         says ! refl $ pure_i ! (T.the_row.own_val made (vstruct (vcons (vstruct vnil) vnil) ∷ []))
         ((λ vss. (tt, ((λ uss. (tt, tt)), tt))), tt) (((vstruct vnil ∷ [], tt), (refl, ((tt, (refl, tt)), tt))), tt) $
         move ! (1 ∷ 2 ∷ 0 ∷ []) $ done !)
