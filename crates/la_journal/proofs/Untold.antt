@@ -112,7 +112,7 @@ module _ (r : List ℕ) (has : HasNoEnd r) where
     ]
     | inr go ↦ elim (goes t go is.0 whole) [
       | inl fresh ↦ on t go is (scan (line ++ t ∷ []) [] g torn fresh (no_ t go is.0) (λ e. absurd (not_empty line t
-      e)) is.1)
+          e)) is.1)
       | inr same ↦ on t go is (scan (line ++ t ∷ []) (line_o ++ b ∷ []) g torn same (no_ t go is.0)
           (λ e. absurd (not_empty line t e)) is.1)
     ]
@@ -223,16 +223,28 @@ module _ (before next sg sr : List ℕ) (small : length next < 2 ^ 64) (none : N
       let few : n ≤ length (ended sg) = omega (arith, is.1, length-reverse (ended sg)) in
       let bound = few_ends next in
       let parts =
-      record_parts n (end_count next) (stated_link sr) (link before) given next (omega (arith, few, lines_few, bound,
-      small))
+      record_parts n (end_count next) (stated_link sr) (link before) given next (omega (
+        arith,
+        few,
+        lines_few,
+        bound,
+        small,
+      ))
       (omega (arith, bound, small)) (sym is.2 ∙ written) in
       let all : length lines ≤ n = omega (arith, parts.0, lines_few, length-reverse (ended sg)) in
       let these : given ≡ sg =
       ap (λ (l : List (List ℕ)). file_of (reverse l)) (take_all n lines all)
       ∙ ap file_of (reverse-reverse (ended sg))
       ∙ whole_lines sg whole in
-      let count : end_count sg ≡ end_count next = omega (arith, ends_lines [] sg, parts.0, all, few, length-reverse
-      (ended sg)) in
+      let count : end_count sg ≡ end_count next = omega (
+        arith,
+        ends_lines [] sg,
+        parts.0,
+        all,
+        few,
+        length-reverse
+            (ended sg),
+      ) in
       let digests : digest (link before ++ sg) ≡ digest (link before ++ next) =
       (λ i. digest (sym parts.1 i ++ sym these i)) ∙ parts.2 in (
         none sg spoilt (λ i. 126 ∷ 32 ∷ (decimal (count i) ++ 32 ∷ (link before ++ 32 ∷ digests i))),

@@ -68,8 +68,12 @@ module _ (objects : List (ℕ × Kind)) (n : ReplicaState) (k : ℕ) where
   call_turn line call le is says stands t (same, turn) = (
     same,
     other_turn t (subst (λ l. length l ≤ MAX_LINE) (sym same) le) (ap is_note same ∙ is)
-        (inl (record { call = call; says = ap named_call same ∙ says; stands = ap is_line same ∙ stands;
-        turn = turn })),
+        (inl (record {
+          call = call;
+          says = ap named_call same ∙ says;
+          stands = ap is_line same ∙ stands;
+          turn = turn;
+        })),
   )
 
   pub fault_turn : (line : List ℕ) (f : LineFault) → length line ≤ MAX_LINE → is_note line ≡ false

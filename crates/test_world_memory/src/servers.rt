@@ -164,9 +164,7 @@ fn serve_line<D: Disk>(
     match served {
         Ok(()) if written == text.as_bytes() => Served::Well,
         Ok(()) if written == REFUSED.as_bytes() => Served::Noted,
-        Err(NodeFault::Memory | NodeFault::DiskFault)
-            if text.as_bytes().starts_with(written) =>
-        {
+        Err(NodeFault::Memory | NodeFault::DiskFault) if text.as_bytes().starts_with(written) => {
             Served::Stopped
         }
         Ok(()) | Err(_) => Served::Wrong,

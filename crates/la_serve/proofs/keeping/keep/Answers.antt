@@ -22,6 +22,8 @@ pub returns-in-Err-Machine-clause-outcome : goal.returns-in-Err-Machine-clause-o
 returns-in-Err-Machine-clause-outcome g c =
     let input = c.args.input.now in
     let cause = rw c.in-Err-Machine.field-0-is at c.in-Err-Machine.ensures.cause in
-    let same = c.in-Err-Machine.ensures.err in
-    (cause_of _ input.line (called input.call) c.call-call.ensures.line c.call-call.ensures.says cause.1, same.1,
-    same.0)
+    let same = c.in-Err-Machine.ensures.err in (
+      cause_of _ input.line (called input.call) c.call-call.ensures.line c.call-call.ensures.says cause.1,
+      same.1,
+      same.0,
+    )

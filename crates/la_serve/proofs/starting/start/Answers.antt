@@ -44,8 +44,7 @@ returns-in-Ok-recover g c =
     let recovery = subst
     (λ d.
     LeavesOnly f.moment f.left_since disk d.disk (IsSameOr (f.may_leave disk) (lines (f.seen disk)))) (sym is)
-    c.in-Ok-recover.ensures.any_moment in
-    (
+    c.in-Ok-recover.ensures.any_moment in (
       subst (λ d. OnOk c.serve-served.result (RunsAll f objects options disk d old new)) (sym c.into_disk.ensures)
           (runs f objects _ options disk recovered final old new _ _ plays leads same recovery c.serve-served.result
           c.serve-served.ensures.ok),
