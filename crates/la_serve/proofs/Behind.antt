@@ -504,7 +504,7 @@ module _ {D R W E : Type 0} (f : Facts D R W E) (first : Point D E) where
             → FlushesNot f.seen f.may_leave f.moment (waits p) (waits q) why
             → IsServeRefusal Told (Left q) (run_io first.ahead first) (run_io left q) why
         unflushed fault.DiskFault r = closed r
-        unflushed fault.Memory r = inr (closed r)
+        unflushed fault.Memory r = absurd r
         unflushed fault.WriteFault r = serves_some AppendsPrefix (front r.front) r.commits r.given
         unflushed fault.ReadFault r = absurd r
         unflushed fault.BadConfig r = absurd r
@@ -515,8 +515,8 @@ module _ {D R W E : Type 0} (f : Facts D R W E) (first : Point D E) where
       pub then_refused : (why : NodeFault) → Missing why more → Flushed p q
           → IsServeRefusal Told (Left q) (run_io first.ahead first) (run_io left q) (of_step why)
       then_refused fault.ReadFault none w = serves_some Appends (whole none w.wrote) w.commits w.given
-      then_refused fault.WriteFault m w = inl (serves_some AppendsPrefix (front (all_front w.wrote)) w.commits w.given)
-      then_refused fault.Memory m w = inl (serves_some AppendsPrefix (front (all_front w.wrote)) w.commits w.given)
+      then_refused fault.WriteFault m w = serves_some AppendsPrefix (front (all_front w.wrote)) w.commits w.given
+      then_refused fault.Memory m w = serves_some AppendsPrefix (front (all_front w.wrote)) w.commits w.given
       then_refused fault.BadConfig m w = absurd m
       then_refused fault.Locked m w = absurd m
       then_refused fault.BadJournal m w = absurd m

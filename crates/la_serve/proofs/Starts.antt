@@ -90,8 +90,7 @@ module _ (Told : List (List ℕ) → Type 0) (Left Left2 : (turns last : List Tu
   refusal_to fault.DiskFault s = closed_to s
   refusal_to fault.ReadFault s = some_to Appends s
   refusal_to fault.WriteFault s = some_to AppendsPrefix s
-  refusal_to fault.Memory (inl s) = inl (some_to AppendsPrefix s)
-  refusal_to fault.Memory (inr s) = inr (closed_to s)
+  refusal_to fault.Memory s = some_to AppendsPrefix s
   refusal_to fault.BadConfig s = s
   refusal_to fault.Locked s = s
   refusal_to fault.BadJournal s = s

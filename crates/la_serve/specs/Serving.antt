@@ -136,7 +136,6 @@ StopsOn remaining heard refuses k old new =
 -- what is held back was not written: where a write failed the second holds, and else the first
 abbrev pub Unflushed : (Kept Cut : Type 0) → NodeFault → Type 0
 Unflushed Kept Cut fault.DiskFault = Kept
-Unflushed Kept Cut fault.Memory = Kept
 Unflushed Kept Cut fault.WriteFault = Cut
 Unflushed Kept Cut _ = ⊥
 
@@ -193,12 +192,11 @@ pub record ServesClosed (Told : List (List ℕ) → Type 0) (Left : (turns last 
   pub left : Left turns last
 
 -- Where a read failed all of these was written, and where a write did, or there was no memory, a front of it; but where
--- the disk failed, or had no memory, nothing of the last ones.
+-- the disk failed nothing of the last ones.
 abbrev pub IsServeRefusal : (Told : List (List ℕ) → Type 0) (Left : (turns last : List Turn) → Type 0)
     (before after : Io) → NodeFault → Type 0
 IsServeRefusal Told Left before after fault.DiskFault = ServesClosed Told Left before after
 IsServeRefusal Told Left before after fault.ReadFault = ServesSome Told Left Appends before after
 IsServeRefusal Told Left before after fault.WriteFault = ServesSome Told Left AppendsPrefix before after
-IsServeRefusal Told Left before after fault.Memory =
-    ServesSome Told Left AppendsPrefix before after ⊎ ServesClosed Told Left before after
+IsServeRefusal Told Left before after fault.Memory = ServesSome Told Left AppendsPrefix before after
 IsServeRefusal Told Left before after _ = ⊥

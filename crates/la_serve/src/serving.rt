@@ -117,9 +117,9 @@ fn of_step(fault: NodeFault) -> NodeFault
 /// find no taker, and then it goes on.
 ///
 /// `ReadFault` comes at the first read that fails, and after 2^64-2 lines; `WriteFault` at a write that
-/// fails, where a front of the text is out, and all lines are in the journal; `Memory` where a line or
-/// what is written of it finds no room; `DiskFault` where the disk fails. After these two nothing may have gone out
-/// of the last calls, and the journal is to be recovered.
+/// fails, where a front of the text is out, and all lines are in the journal; `Memory`, with the same behind it, where
+/// a line or what is written of it finds no room; `DiskFault` where the disk fails: nothing has gone out of the last
+/// calls, and the journal is to be recovered.
 pub fn serve<R: Read, W: Write + Drop, E: Listener, D: Disk, B: Replicated>(
     alloc: Global,
     server: &mut Server<D, B>,
