@@ -60,3 +60,8 @@ IsCauseOf lacks_memory faults_before faults file played (Misplaced place) = play
 IsCauseOf lacks_memory faults_before faults file played (Refused place refusal) = lacks_memory refusal ⊎ (played ≡ None)
 IsCauseOf lacks_memory faults_before faults file played (Damaged place) =
     IsDamaged file × (place ≡ length (file_of (lines file)))
+
+-- a journal that is not played is as it was, unless the disk failed
+abbrev pub IsUntouched : {D R : Type 0} → (before after : D) → Unplayed R → Type 0
+IsUntouched before after Disk = ⊤
+IsUntouched before after _ = after ≡ before

@@ -4,12 +4,12 @@ ghost use Rattle.la_journal.specs.Disk.{LeavesOnly};
 ghost use Rattle.la_journal.specs.Lines.{lines, file_of};
 ghost use Rattle.la_journal.specs.Journal.{says, state_in, IsDamage, IsDamaged};
 ghost use Rattle.la_journal.specs.Machine.{begins_with, state_after};
-ghost use Rattle.la_journal.specs.Durable.{IsSettled, IsSameOr, IsCauseOf};
+ghost use Rattle.la_journal.specs.Durable.{IsSettled, IsSameOr, IsCauseOf, IsUntouched};
 
 use crate::{Disk, DiskFault, Durable, Machine};
 use std::alloc::Global;
 
-/// Why a journal was not played. The file is as it was, or a file of the same lines. Places are
+/// Why a journal was not played. The file is as it was, or after `Disk` maybe a file of the same lines. Places are
 /// those of bytes.
 #[derive(Debug, Drop)]
 pub enum Unplayed<R> {
@@ -63,6 +63,7 @@ pub fn recover<M: Machine, D: Disk>(
     ensures any_moment_err { IfErr result (λ e. LeavesOnly D.moment D.left_since disk e.1
         (IsSameOr (D.may_leave disk) (lines (D.seen disk)))) }
 
+    ensures untouched { IfErr result (λ e. IsUntouched disk e.1 e.0) }
     ensures cause { IfErr result (λ e. IsCauseOf M.lacks_memory (D.faults disk) (D.faults e.1) (D.seen disk)
         (state_after M.named_state M.named M.step (M.state start) (D.seen disk)) e.0) }
 {

@@ -60,7 +60,7 @@ IsServerStartRefusal f objects options disk final old new fault.BadConfig =
     RunsNot f disk final old new × (IsStartRefusal options.config options.own empty_shelf world.BadConfig
     ⊎ IsStartRefusal options.config options.own empty_shelf world.NoSuchReplica)
 IsServerStartRefusal f objects options disk final old new fault.BadJournal =
-    RunsNot f disk final old new × IsUnplayable options (f.seen disk)
+    RunsNot f disk final old new × (final ≡ disk) × IsUnplayable options (f.seen disk)
 -- its disk is open
 IsServerStartRefusal f objects options disk final old new fault.Locked = ⊥
 IsServerStartRefusal f objects options disk final old new fault.ReadFault =
