@@ -3,7 +3,7 @@ use Rattle.std.specs.Prelude.{ℕ, ◌≤◌, List, length}
 use Rattle.la_journal.specs.declared.contents.Contents.{Contents}
 use Rattle.la_journal.specs.Disk.{Elapses}
 use Rattle.la_journal.specs.Note.{now_of, bytes_in, kept_in}
-use Rattle.la_journal.specs.Outcomes.{LeftAt, LeftSince, only_left, left_now}
+use Rattle.la_journal.specs.Outcomes.{LeftAt, LeftSince, only_left, left_now, left_there}
 
 abbrev pub held_bytes : Contents → List ℕ
 held_bytes contents = bytes_in (now_of contents.past.events)
@@ -38,3 +38,7 @@ only_now_of contents c left = only_left contents.past.events c left
 pub counts_now_of : (contents : Contents) (t : ℕ) (c : List ℕ)
     → t ≤ moment_of contents → may_leave_of contents c → left_since_of contents t c
 counts_now_of contents t c le left = left_now contents.past.events t c le left
+
+-- a crash may leave what is there
+pub stays_of : (contents : Contents) → may_leave_of contents (held_bytes contents)
+stays_of contents = left_there (now_of contents.past.events) contents.there

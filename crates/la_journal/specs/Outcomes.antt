@@ -1,9 +1,9 @@
 -- What a crash might have left of a file, by what it was.
 use Rattle.std.specs.Prelude.{◌≡◌, ◌⊎◌, ℕ, ◌≤◌, ◌<◌, Bool, List, [], ◌∷◌, ◌++◌, if◌then◌else◌, length, take, drop}
-use Rattle.std.proofs.Common.{arith}
+use Rattle.std.proofs.Common.{arith, refl, sym, take-append-drop}
 use mathlib.Core.Logic.{inl, inr}
 use Rattle.la_journal.specs.Disk.{IsTorn}
-use Rattle.la_journal.specs.Note.{Moment, now_of}
+use Rattle.la_journal.specs.Note.{Moment, now_of, bytes_in}
 
 -- what is on the disk stays, and of the rest a crash keeps the first some, as they are or as 0
 abbrev pub LeftOf : ℕ → List ℕ → List ℕ → Type 0
@@ -42,3 +42,13 @@ only_left (m ∷ past) c (inr had) = absurd (none_since past (length (m ∷ past
 pub left_now : (past : List Moment) (t : ℕ) (c : List ℕ) → t ≤ length past → LeftAt (now_of past) c → LeftSince past t c
 left_now [] t c le left = left
 left_now (m ∷ past) t c le left = inl (le, left)
+
+same_torn : (bytes : List ℕ) → IsTorn bytes bytes
+same_torn [] = tt
+same_torn (b ∷ bytes) = (inl refl, same_torn bytes)
+
+-- what is there
+pub left_there : (now : Moment) → 0 < length now → LeftAt now (bytes_in now)
+left_there [] there = absurd (omega (arith, there))
+left_there (e ∷ rest) there =
+    inl (drop e.kept e.bytes, same_torn (drop e.kept e.bytes), sym (take-append-drop e.kept e.bytes))

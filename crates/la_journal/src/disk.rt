@@ -62,6 +62,9 @@ pub trait Disk: Drop {
     /// This moment is one of those since an earlier one.
     ghost counts_now: { (file : Self) (t : ℕ) (c : List ℕ) → t ≤ moment file → may_leave file c → left_since file t c };
 
+    /// A crash may leave the file as it is.
+    ghost stays: { (file : Self) → may_leave file (seen file) };
+
     /// Since this moment there is no other.
     ghost only_now: { (file : Self) (c : List ℕ) → left_since file (moment file) c → may_leave file c };
 }

@@ -3,7 +3,7 @@ ghost use Rattle.std.specs.Prelude.{◌≡◌, ◌≤◌, ◌+◌, List, ℕ, le
 ghost use Rattle.la_journal.specs.Disk.{Only};
 ghost use Rattle.la_journal.specs.Outcomes.{spoilt_by, left_by};
 ghost use Rattle.la_journal.specs.Held.{held_bytes, synced_count, faults_of, moment_of};
-ghost use Rattle.la_journal.specs.Held.{may_leave_of, left_since_of, TimeGoesOn, only_now_of, counts_now_of};
+ghost use Rattle.la_journal.specs.Held.{may_leave_of, left_since_of, TimeGoesOn, only_now_of, counts_now_of, stays_of};
 ghost use Rattle.la_journal.specs.Starts.{IsStart};
 
 use crate::{Contents, Disk, DiskFault, Record};
@@ -177,6 +177,8 @@ impl Disk for MemoryDisk {
     ghost counts_now = { λ d t c le left. counts_now_of d.contents t c le left };
 
     ghost only_now = { λ d c left. only_now_of d.contents c left };
+
+    ghost stays = { λ d. stays_of d.contents };
 
     fn past(&self) -> &Record {
         self.contents.past()
