@@ -1,11 +1,14 @@
 """Checks what the nodes of a group gave out in all their lives, from the log of a run alone.
 
-A log's entry is a word, a node's number and a line: `start`, a life begins; `given`, a line on its standard
-input; `out`, one that it printed; `said`, one on standard error; `killed`; `ended`, with the status; and `last`,
-from which on nothing is submitted. The first word of a fault is the rule that is broken.
+A log's entry is a word, a node's number and a line: `start`, a life begins, where so many bytes are behind the
+journal's groups; `given`, a line on its standard input; `out`, one that it printed; `said`, one on standard error;
+`killed`; `power`, what its loss left of the journal; `flipped`, what a start came to where a bit of it had flipped;
+`ended`, with the status; and `last`, from which on nothing is submitted. The first word of a fault is the rule that
+is broken.
 """
 from __future__ import annotations
 
+import re
 from collections import Counter, defaultdict, deque
 from dataclasses import dataclass, field
 
@@ -16,6 +19,8 @@ Entry = tuple[str, int, str]
 NOTHING: Counts = (0,) * REPLICAS
 # No refusal of a group to whose nodes nobody lies.
 NEVER = ("NoSuchReplica", "NoSuchInstance", "NoBase", "Gap", "Clash", "BallotsSpent", "Memory")
+# What a node comes to where a bit of its journal has flipped.
+TOLD = re.compile(r"status 5, printed b'', said b'BadJournal[^\\]*\\n', kept")
 
 
 @dataclass(frozen=True)
@@ -84,8 +89,17 @@ class Checker:
     def take_last(self, _own: int, _line: str) -> None:
         self.last = True
 
-    def take_start(self, own: int, _line: str) -> None:
+    def take_power(self, _own: int, _line: str) -> None:
+        """What a node has to keep is the same after it."""
+
+    def take_flipped(self, own: int, line: str) -> None:
+        if not TOLD.fullmatch(line):
+            self.fault("flipped", own, line)
+
+    def take_start(self, own: int, torn: str) -> None:
         self.nodes[own].line, self.nodes[own].passed = 0, True
+        if torn != "0":
+            self.nodes[own].to_say.append(f"cut {torn}")
 
     def take_said(self, own: int, line: str) -> None:
         to_say = self.nodes[own].to_say

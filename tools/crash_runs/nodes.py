@@ -9,6 +9,7 @@ from collections.abc import Callable
 from pathlib import Path
 
 from .check import Entry
+from .disks import Disk, groups_of
 
 # A node is given no longer than this for its lines.
 SECONDS = 20
@@ -23,20 +24,32 @@ class Stuck(Exception):
 class Node:
     """Its lines go into the log. Each call returns the messages that it printed."""
 
-    def __init__(self, words: list[str], own: int, folder: Path, note: Callable[[Entry], None]) -> None:
-        self.words, self.own, self.folder, self.note = words, own, folder, note
+    def __init__(
+        self, words: list[str], own: int, folder: Path, note: Callable[[Entry], None], preload: dict[str, str]
+    ) -> None:
+        self.words, self.own, self.disk, self.note = words, own, Disk(folder), note
+        paths = {"SYNC_NOTES": str(self.disk.notes), "SYNC_OLD": str(self.disk.old)}
+        self.environment = {**os.environ, **preload, **paths}
         self.errors = folder.with_suffix(".errors")
         self.process: subprocess.Popen[bytes] | None = None
         self.line, self.held, self.lives = 0, b"", 0
 
     def start(self) -> None:
-        self.note(("start", self.own, ""))
+        found = self.disk.found()
+        self.note(("start", self.own, str(len(found) - groups_of(found)[1])))
         self.line, self.held = 0, b""
         self.lives += 1
+        self.disk.note(self.disk.synced())
         with self.errors.open("wb") as errors:
             self.process = subprocess.Popen(
-                self.words, stdin=subprocess.PIPE, stdout=subprocess.PIPE, stderr=errors, bufsize=0
+                self.words, 0, stdin=subprocess.PIPE, stdout=subprocess.PIPE, stderr=errors, env=self.environment
             )
+
+    def over(self, given: bytes) -> subprocess.CompletedProcess[bytes]:
+        """What another process comes to on its folder, over this input."""
+        return subprocess.run(
+            self.words, input=given, capture_output=True, timeout=SECONDS, env=self.environment, check=False
+        )
 
     def write(self, lines: list[str], half: str = "") -> None:
         for line in lines:

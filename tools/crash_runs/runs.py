@@ -2,18 +2,20 @@
 from __future__ import annotations
 
 import random
-import subprocess
 import time
 from collections import Counter
 from pathlib import Path
 
 from .check import Checker, Entry, Group
+from .disks import flipped
 from .lines import FAULTY
 from .nodes import Node, Stuck
 
 # A run that takes longer, or so many rounds of ticks at its end, hangs.
 SECONDS, ROUNDS = 60, 400
 LOST = REPEATED = 0.1
+# Of the kills, how many are losses of power, and behind how many a bit flips.
+POWER, FLIPPED = 0.35, 0.2
 QUESTIONS = ("1 total", "1 atleast 7", "2 largest", "3 size", "3 items", "3 has 2", "1 items", "2 total")
 
 
@@ -28,9 +30,9 @@ def receiver(message: str) -> int:
 
 
 class Run:
-    """A group, its network, and what was noted of both."""
+    """A group, its network, and what was noted of both. What is preloaded into its nodes notes what they sync."""
 
-    def __init__(self, program: str, seed: int, nodes: int | None, folder: Path) -> None:
+    def __init__(self, program: str, seed: int, nodes: int | None, folder: Path, preload: dict[str, str]) -> None:
         self.draw = random.Random(seed)
         self.group = drawn_group(self.draw, nodes)
         self.checker, self.log = Checker(self.group), []
@@ -40,7 +42,7 @@ class Run:
         for own in range(self.group.replicas):
             (folder / str(own)).mkdir(parents=True)
             words = [program, *self.options(own), "--journal", str(folder / str(own))]
-            self.nodes.append(Node(words, own, folder / str(own), self.note))
+            self.nodes.append(Node(words, own, folder / str(own), self.note, preload))
         self.work = self.drawn_work()
         self.until = time.monotonic() + SECONDS
 
@@ -138,20 +140,30 @@ class Run:
             lines += self.taken_work(node.own, self.draw.randint(0, 2))
             self.draw.shuffle(lines)
             half = f"submit {node.own} 1 inc 9" if self.draw.random() < 0.3 else ""
-            self.post(node.kill(lines, half, self.draw.uniform(0, 0.0002 * (len(lines) + 1))))
-            if self.draw.random() < 0.3:
-                self.tear(node)
+            self.cut_off(node, lines, half, self.draw.uniform(0, 0.0002 * (len(lines) + 1)))
         if not node.process and self.draw.random() < 0.8:
             node.start()
-            if self.draw.random() < 0.2:
-                self.post(node.kill([], "", self.draw.uniform(0, 0.003)))
+            if self.draw.random() < 0.4:
+                self.cut_off(node, [], "", self.draw.uniform(0, 0.002))
 
-    def tear(self, node: Node) -> None:
-        """Puts behind a journal what a crash in an append may leave there."""
-        line = f"submit {node.own} 1 inc 4444"[: self.draw.randint(0, 19)] + "\0" * self.draw.randint(0, 3)
-        with (node.folder / "journal").open("ab") as journal:
-            journal.write(line.encode())
-        self.figures["torn"] += 1
+    def cut_off(self, node: Node, lines: list[str], half: str, seconds: float) -> None:
+        """Kills a node, or it loses power. A bit of its journal may flip, and back again."""
+        self.post(node.kill(lines, half, seconds))
+        if self.draw.random() < POWER:
+            self.note(("power", node.own, node.disk.lose_power(self.draw)))
+        if self.draw.random() < FLIPPED:
+            self.flip(node)
+
+    def flip(self, node: Node) -> None:
+        """Starts a node that is down over a journal a bit of which has flipped, and flips it back."""
+        journal, whole = node.disk.journal, node.disk.found()
+        if whole:
+            journal.write_bytes(wrong := flipped(self.draw, whole))
+            came = node.over(f"submit {node.own} 1 inc 9\n".encode())
+            kept = "kept" if journal.read_bytes() == wrong else "changed"
+            told = f"status {came.returncode}, printed {came.stdout}, said {came.stderr}, {kept}"
+            self.note(("flipped", node.own, told))
+            journal.write_bytes(whole)
 
     def tick(self) -> None:
         """Nothing moves: timers run out, and nodes that are down may come back."""
@@ -190,12 +202,11 @@ class Run:
 
     def apart(self, node: Node) -> None:
         """A second process for a folder is turned away; and of a line without an end nothing is taken."""
-        done = subprocess.run(node.words, input=b"", capture_output=True, timeout=SECONDS, check=False)
+        done = node.over(b"")
         if done.returncode != 5 or done.stdout or done.stderr.count(b"\n") != 1:
             self.checker.fault("locked", node.own, f"status {done.returncode}, {done.stderr!r}")
         node.end()
-        half = f"submit {node.own} 1 inc 5".encode()
-        done = subprocess.run(node.words, input=half, capture_output=True, timeout=SECONDS, check=False)
+        done = node.over(f"submit {node.own} 1 inc 5".encode())
         if done.returncode or done.stdout or done.stderr != b"line 1: BadLine\n":
             self.checker.fault("half", node.own, f"{done.stderr!r}, {done.stdout!r}, status {done.returncode}")
         node.start()
@@ -224,6 +235,7 @@ class Run:
         self.ask_all()
         for node in self.nodes:
             node.end()
+            self.flip(node)
         self.checker.end()
 
     def stop(self) -> None:

@@ -65,8 +65,7 @@ fn perform<P: Threads + Wait + Sync, R: Read, W: Write, B: Replicated>(
     requires { IsInRange task }
     ensures ok { IfOk result (λ well. ComesTo well task shelves.items
         (streamed R.remaining W.contents (input.old, output.old) (input.new, output.new))) }
-    ensures error { IfErr result (IsTaskRefusal task shelves.items
-        (streamed R.remaining W.contents (input.old, output.old) (input.new, output.new))) }
+    ensures error { IfErr result (IsTaskRefusal task shelves.items (streamed R.remaining W.contents (input.old, output.old) (input.new, output.new))) }
 {
     match task {
         Task::Play => match play_stream(alloc, input, output, shelves) {

@@ -248,8 +248,7 @@ pub fn play_threads<P: Threads + Wait + Sync, W: Write, B: Replicated>(
     requires { AreSizes replicas each }
     ensures ok { IfOk result (λ agreed. RunsThreads shelves.items replicas each agreed
         (W.contents writer.old) (W.contents writer.new)) }
-    ensures error { IfErr result (IsThreadsRefusal shelves.items replicas each
-        (W.contents writer.old) (W.contents writer.new)) }
+    ensures error { IfErr result (IsThreadsRefusal shelves.items replicas each (W.contents writer.old) (W.contents writer.new)) }
 {
     if !fit_any_group(&shelves) {
         return Err(PlayFault::BadConfig);

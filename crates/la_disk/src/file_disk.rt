@@ -21,6 +21,7 @@ pub struct FileDisk<R: Files + Drop> {
     contents: Contents,
     path: String,
     next: String,
+    torn: String,
     lock: FolderLock,
 }
 
@@ -29,7 +30,7 @@ impl<R: Files + Drop> FileDisk<R> {
     /// comes beside it, for [`recover`](la_journal::recover): that need not be on the disk, where `recover` puts it.
     /// Linear in the journal, which is then in memory once.
     ///
-    /// `Unopened` comes where `journal` can't be opened or made, or it or `journal.new` is no file, and
+    /// `Unopened` comes where `journal` can't be opened or made, or it, `journal.new` or `journal.torn` is no file, and
     /// `Unread` where a read fails. What an earlier process may have left is not known here, and no clause
     /// says it: that what was read is among that, and that until the first sync or replacement a crash
     /// leaves that or what was read, is the premise `IsStart` of whoever starts on it.
@@ -39,7 +40,9 @@ impl<R: Files + Drop> FileDisk<R> {
     {
         let path = path_of(alloc, lock.folder(), "/journal")?;
         let next = path_of(alloc, lock.folder(), "/journal.new")?;
+        let torn = path_of(alloc, lock.folder(), "/journal.torn")?;
         refuse_other(&rt, next.as_str())?;
+        refuse_other(&rt, torn.as_str())?;
         let mut options = OpenOptions::new();
         options.read(true).append(true);
         let mut file = open_or_make(&rt, &mut options, path.as_str())?;
@@ -47,16 +50,26 @@ impl<R: Files + Drop> FileDisk<R> {
         if let Err(error) = file.read_to_end(&mut found) {
             return Err(OpenFault::of_reading(error.kind()));
         }
-        let contents = Contents::found(&found, found.len(), Record::of_another());
+        let contents = Contents::found(&found, Record::of_another());
         let disk = FileDisk {
             rt,
             file,
             contents,
             path,
             next,
+            torn,
             lock,
         };
         Ok((disk, found))
+    }
+
+    // Writes bytes that are cut off the journal into a file of their own, in the place of what was cut off before.
+    fn put_aside(&self, bytes: &[u8]) -> io::Result<()> {
+        remove_leftover(&self.rt, self.torn.as_str())?;
+        let mut file = make(&self.rt, OpenOptions::new().write(true), self.torn.as_str())?;
+        keep_access(&self.rt, &self.file, &file, self.torn.as_str())?;
+        file.write_all(bytes)?;
+        file.sync_all()
     }
 
     // Writes the bytes into a new file, and puts that in the journal's place.
@@ -110,6 +123,14 @@ impl<R: Files + Drop> Disk for FileDisk<R> {
             return Err(DiskFault);
         }
         self.contents.sync();
+        Ok(())
+    }
+
+    fn set_aside(&mut self, torn: &[u8]) -> Result<(), DiskFault> {
+        if self.put_aside(torn).is_err() {
+            self.contents.fail();
+            return Err(DiskFault);
+        }
         Ok(())
     }
 

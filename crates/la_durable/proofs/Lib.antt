@@ -1,4 +1,5 @@
 pub mod lemmas
+pub mod Heads
 pub mod Acting
 pub mod Naming
 pub mod Lines

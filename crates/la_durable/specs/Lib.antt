@@ -1,4 +1,5 @@
 pub mod CallLines
+pub mod Heads
 pub mod Nodes
 pub mod Errors
 pub mod Inputs

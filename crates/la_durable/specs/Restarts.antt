@@ -8,11 +8,12 @@ use Rattle.la_node.specs.Steps.{after_calls}
 use Rattle.la_wire.specs.Calls.{WireCall}
 use Rattle.la_wire.specs.CallLines.{named_call}
 use Rattle.la_durable.specs.CallLines.{CallLine, call_line}
+use Rattle.la_durable.specs.Heads.{node_head}
 use Rattle.la_durable.specs.Nodes.{node_call, step}
 
--- where the journal of a node leads, whatever it was at first
+-- where a journal leads a node that was this at first: nowhere, where its head is another's
 abbrev pub leads_from : ReplicaState → List ℕ → Option ReplicaState
-leads_from start = journal.state_after (λ _. None) call_line step start
+leads_from start = journal.state_after node_head (λ _. None) call_line step start
 
 -- a line of these says this call, to some replica
 pub record IsCallOf (handed : List CallLine) (call : NodeCall) : Type 0 where

@@ -1,6 +1,6 @@
 ghost use Rattle.std.specs.Prelude.{◌≡◌, true, false, IfOk, IfErr, IfSome, Some, None};
 ghost use Rattle.la_wire.specs.Calls.{called};
-ghost use Rattle.la_wire.specs.CallLines.{named_call, may_stand, is_clean_byte, is_no_state};
+ghost use Rattle.la_wire.specs.CallLines.{named_call, may_stand, is_clean_byte, is_no_mark};
 ghost use Rattle.la_durable.specs.CallLines.{is_line};
 ghost use Rattle.std.specs.List.{list_all};
 ghost use Rattle.la_durable.specs.Inputs.{IsInputRefusal};
@@ -30,8 +30,8 @@ impl Input {
     /// Reads a line from outside, without its end, at a cost linear in it.
     ///
     /// In this order: `TooLong` and the other faults of [`la_wire::read_bounded`]; `BadLine` where the line
-    /// has a byte 0 or an end within, or begins with `=`, since no journal may have it. `Memory` may come at
-    /// any line.
+    /// has a byte 0 or an end within, or begins with `=` or `~`, since no journal may have it as a call's.
+    /// `Memory` may come at any line.
     pub fn read(alloc: Global, line: &[u8]) -> Result<Input, LineError>
         ensures ok { IfOk result (λ input. input.line ≡ line.now) }
         ensures error { IfErr result (IsInputRefusal line.now) }
@@ -81,7 +81,7 @@ impl Input {
 fn may_stand(line: &[u8]) -> bool
     ensures { result ≡ may_stand line.now }
 {
-    is_clean(line) && is_no_state(line)
+    is_clean(line) && is_no_mark(line)
 }
 
 // Whether it has no byte 0 and no line's end.
@@ -91,12 +91,12 @@ fn is_clean(line: &[u8]) -> bool
     line.iter().all(|b| *b != 0 && *b != b'\n')
 }
 
-// Whether it does not begin as a state's line.
-fn is_no_state(line: &[u8]) -> bool
-    ensures { result ≡ is_no_state line.now }
+// Whether it begins neither as a state's line nor as a record.
+fn is_no_mark(line: &[u8]) -> bool
+    ensures { result ≡ is_no_mark line.now }
 {
     match line.first() {
-        Some(first) => *first != b'=',
+        Some(first) => *first != b'=' && *first != b'~',
         None => true,
     }
 }

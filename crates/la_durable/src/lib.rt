@@ -6,6 +6,7 @@
 #![tactic(auto)]
 
 mod error;
+mod head;
 mod input;
 pub mod laws;
 mod machine;

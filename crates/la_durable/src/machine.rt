@@ -9,6 +9,7 @@ ghost use Rattle.la_durable.specs.Nodes.{empty_shelf, kept_by, acts};
 ghost use Rattle.la_durable.specs.Errors.{IsForMemory, IsActRefusal};
 ghost use Rattle.la_durable.specs.Errors.{RefusesSubmission, RefusesProposal, RefusesLetter};
 
+use crate::head::head_of;
 use crate::{Input, NodeError};
 use la_journal::Machine;
 use la_node::{Config, Done, Node, Received, WorldError};
@@ -17,6 +18,9 @@ use la_replica::Out;
 use la_set::Op;
 use la_wire::{Call, Letter};
 use std::alloc::{AllocError, Global};
+
+/// The room behind a line for its end and the record of a group.
+const ROOM: usize = 58;
 
 /// A node without objects as a machine. Questions are for a shelf of the caller's, of whatever objects,
 /// which absorbs the node's view: what it has absorbed is not kept, and is had anew.
@@ -148,6 +152,7 @@ fn answered(out: Out) -> Received
 impl Machine for NodeMachine {
     ghost use Rattle.std.specs.Prelude.{Option};
     ghost use Rattle.la_durable.specs.CallLines.{CallLine, call_line, or_tick, call_round_trip, line_is_clean};
+    ghost use Rattle.la_durable.specs.Heads.{node_head, head_is_clean};
     ghost use Rattle.la_node.specs.Steps.{Given};
     ghost use Rattle.la_durable.specs.Nodes.{step, given_by};
 
@@ -181,17 +186,24 @@ impl Machine for NodeMachine {
 
     ghost lacks_memory = { IsForMemory };
 
+    ghost head = { node_head };
+
     ghost round_trip = { call_round_trip };
 
     ghost clean = { line_is_clean };
+
+    ghost clean_head = { head_is_clean };
+
+    fn head(&self, alloc: Global) -> Result<Vec<u8>, AllocError> {
+        head_of(alloc, &self.node)
+    }
 
     fn apply(&mut self, input: &Input) -> Result<Received, NodeError> {
         self.act(input.call())
     }
 
     fn write(alloc: Global, input: &Input) -> Result<Vec<u8>, AllocError> {
-        // with room for the line's end
-        let mut line = Vec::with_capacity(alloc, input.line().len().saturating_add(1))?;
+        let mut line = Vec::with_capacity(alloc, input.line().len().saturating_add(ROOM))?;
         line.extend_from_slice(input.line())?;
         Ok(line)
     }

@@ -113,3 +113,12 @@ module _ (bytes line rest : List ℕ) (at : ℕ) (within : at ≤ length bytes) 
   pub front_whole : unended (take (at + (length line + 1)) bytes) ≡ []
   front_whole =
       ap unended (both.0 ∙ sym (append_assoc (take at bytes) line (10 ∷ []))) ∙ whole_at_end (take at bytes ++ line)
+
+-- bytes of lines are whole
+pub whole_unended_of : (xs : List ℕ) → xs ≡ file_of (ended xs) → unended xs ≡ []
+whole_unended_of xs is =
+    no_more (file_of (ended xs)) (unended xs) (bytes_of [] xs ∙ is)
+  where
+    no_more : (front end : List ℕ) → front ++ end ≡ front → end ≡ []
+    no_more front [] same = refl
+    no_more front (b ∷ end) same = absurd (omega (arith, ap length same, length-append front (b ∷ end)))

@@ -27,12 +27,12 @@ cut bytes line rest at n within long is =
     )
 
 -- a line more is whole, if it is no record's
-whole_line : (l more : List ℕ) → HasNoEnd more → is_record (l ++ more) ≡ false → AreWhole l (more ++ 10 ∷ [])
+pub whole_line : (l more : List ℕ) → HasNoEnd more → is_record (l ++ more) ≡ false → AreWhole l (more ++ 10 ∷ [])
 whole_line l [] has not = inl (refl, ap is_record (sym (append-nil l)) ∙ not, refl)
 whole_line l (x ∷ more) has not =
     inr (has.0, whole_line (l ++ x ∷ []) more has.1 (ap is_record (append_assoc l (x ∷ []) more) ∙ not))
 
-whole_append : (l xs ys : List ℕ) → AreWhole l xs → AreWhole [] ys → AreWhole l (xs ++ ys)
+pub whole_append : (l xs ys : List ℕ) → AreWhole l xs → AreWhole [] ys → AreWhole l (xs ++ ys)
 whole_append l [] ys x y = subst (λ (m : List ℕ). AreWhole m ys) (sym x) y
 whole_append l (b ∷ xs) ys (inl e) y = inl (e.0, e.1, whole_append [] xs ys e.2 y)
 whole_append l (b ∷ xs) ys (inr e) y = inr (e.0, whole_append (l ++ b ∷ []) xs ys e.1 y)
@@ -162,7 +162,7 @@ module _ (record_of : Records) (are : AreRecords record_of) where
       )
 
   -- bytes that are these groups with something behind
-  rest_is : (before bytes tail : List ℕ) (gs : List (List ℕ)) → groups record_of before bytes ≡ gs
+  pub rest_is : (before bytes tail : List ℕ) (gs : List (List ℕ)) → groups record_of before bytes ≡ gs
       → bytes ≡ with_records record_of before gs ++ tail → rest_of before bytes ≡ tail
   rest_is before bytes tail gs reads_ is =
       ap (λ (g : List (List ℕ)). drop (length (with_records record_of before g)) bytes) reads_

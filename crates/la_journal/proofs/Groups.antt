@@ -1,78 +1,19 @@
--- Lines put behind a settled file at once.
-use Rattle.std.proofs.Common.{◌≡◌, ℕ, zero, suc, ◌-◌, ◌≤◌, ◌<◌, List, [], ◌∷◌, ◌++◌, length, take, drop, refl, sym, ◌∙◌, ap, subst, arith, append_assoc}
+-- Lines that are put behind a file at once.
+use Rattle.std.proofs.Common.{◌≡◌, ◌≢◌, inl, inr, ℕ, zero, suc, ◌-◌, ◌<◌, Bool, true, false, List, [], ◌∷◌, ◌++◌, length, take, drop, refl, sym, ◌∙◌, ap, subst, arith, append_assoc}
+use Rattle.std.specs.Prelude.{⊤, not, ◌&&◌, ◌==◌}
 use Rattle.std.proofs.lemmas.List.{append-nil, take_all, length-drop}
-use Rattle.la_journal.specs.Disk.{MayBeTorn, Only, IsTorn}
-use Rattle.la_journal.specs.Lines.{lines, file_of, IsClean}
+use Rattle.std.proofs.lemmas.Bool.{false≢true}
+use Rattle.std.proofs.lemmas.Bool.Decides.{nat_tests}
+use Rattle.la_journal.specs.Lines.{file_of, IsClean}
+use Rattle.la_journal.specs.Commits.{is_record, HasNoEnd, AreWhole}
+use Rattle.la_journal.specs.Records.{ended, ended_from}
+use Rattle.la_journal.specs.Journal.{IsCallLine}
 use Rattle.la_journal.specs.Machine.{call_texts}
-use Rattle.la_journal.specs.Durable.{IsSettled}
-use Rattle.la_journal.proofs.Whole.{AreClean, lines_clean, lines_file_of, IsSomeOf}
-use Rattle.la_journal.proofs.TornLines.{torn_lines}
-
-pub lines_of : (ls : List (List ℕ)) → AreClean ls → lines (file_of ls) ≡ ls
-lines_of ls clean = ap lines (sym (append-nil (file_of ls))) ∙ lines_file_of ls [] clean ∙ append-nil ls
-
-pub clean_texts : {I C : Type 0} (call : I → C) (text : C → List ℕ) → ((c : C) → IsClean (text c)) → (inputs : List I)
-    → AreClean (call_texts call text inputs)
-clean_texts call text clean [] = tt
-clean_texts call text clean (input ∷ inputs) = (clean (call input), clean_texts call text clean inputs)
-
-pub clean_take : (n : ℕ) (ls : List (List ℕ)) → AreClean ls → AreClean (take n ls)
-clean_take zero ls clean = tt
-clean_take (suc n) [] clean = tt
-clean_take (suc n) (l ∷ ls) clean = (clean.0, clean_take n ls clean.1)
-
-file_of_append : (xs ys : List (List ℕ)) → file_of xs ++ file_of ys ≡ file_of (xs ++ ys)
-file_of_append [] ys = refl
-file_of_append (x ∷ xs) ys =
-    append_assoc x (10 ∷ file_of xs) (file_of ys) ∙ ap (λ (f : List ℕ). x ++ 10 ∷ f) (file_of_append xs ys)
-
-take_of_take : (n k : ℕ) (xs : List (List ℕ)) → n ≤ length (take k xs)
-    → (take n (take k xs) ≡ take n xs) × (n ≤ length xs)
-take_of_take zero k xs le = (refl, omega arith)
-take_of_take (suc n) zero xs le = absurd (omega (arith, le))
-take_of_take (suc n) (suc k) [] le = absurd (omega (arith, le))
-take_of_take (suc n) (suc k) (x ∷ xs) le =
-    let rest = take_of_take n k xs (omega (arith, le)) in
-    (ap (λ (l : List (List ℕ)). x ∷ l) rest.0, omega (arith, rest.1))
-
-module _ {D : Type 0} (seen : D → List ℕ) (may_leave : D → List ℕ → Type 0) (mid : D)
-    (settled : IsSettled seen may_leave mid) where
-  append_lines : (rest : List ℕ) → lines (seen mid ++ rest) ≡ lines (seen mid) ++ lines rest
-  append_lines rest =
-      ap (λ (f : List ℕ). lines (f ++ rest)) settled.file
-      ∙ lines_file_of (lines (seen mid)) rest (lines_clean [] (seen mid) tt)
-
-  module _ (ls : List (List ℕ)) (clean : AreClean ls) (bytes : List ℕ) (is : bytes ≡ file_of ls) where
-    pub group_lines : (new : D) → seen new ≡ seen mid ++ bytes → lines (seen new) ≡ lines (seen mid) ++ ls
-    group_lines new written =
-        ap lines (written ∙ ap (λ (b : List ℕ). seen mid ++ b) is) ∙ append_lines (file_of ls)
-        ∙ ap (λ (l : List (List ℕ)). lines (seen mid) ++ l) (lines_of ls clean)
-
-    pub group_settled : (new : D) → seen new ≡ seen mid ++ bytes → Only (seen new) (may_leave new)
-        → IsSettled seen may_leave new
-    group_settled new written only = record {
-      file =
-          written ∙ (λ i. settled.file i ++ is i) ∙ file_of_append (lines (seen mid)) ls
-          ∙ ap file_of (sym (group_lines new written));
-      durable = only;
-    }
-
-    torn_is : (c : List ℕ) → MayBeTorn bytes (may_leave mid) c
-        → (n : ℕ) × (n ≤ length ls) × (lines c ≡ lines (seen mid) ++ take n ls)
-    torn_is c left =
-        let torn = left.2.0 in
-        let same : c ≡ seen mid ++ torn = left.2.2 ∙ ap (λ (f : List ℕ). f ++ torn) (settled.durable left.0 left.1) in
-        let some = torn_lines ls clean torn (subst (λ (b : List ℕ). IsTorn b torn) is left.2.1) in
-        (some.0, some.1, ap lines same ∙ append_lines torn ∙ ap (λ (l : List (List ℕ)). lines (seen mid) ++ l) some.2)
-
-  -- some of those that were written are some of all
-  pub group_torn : (before : List ℕ) → seen mid ≡ before → (n : ℕ) (more : List (List ℕ)) → AreClean more
-      → (bytes : List ℕ) → bytes ≡ file_of (take n more) → (c : List ℕ) → MayBeTorn bytes (may_leave mid) c
-      → IsSomeOf (lines before) more c
-  group_torn before same n more clean bytes is c left =
-      let some = torn_is (take n more) (clean_take n more clean) bytes is c left in
-      let front = take_of_take some.0 n more some.1 in
-      (some.0, front.1, some.2 ∙ (λ i. lines (same i) ++ front.0 i))
+use Rattle.la_journal.specs.Staging.{are_no_records}
+use Rattle.la_journal.proofs.TornRecords.{either}
+use Rattle.la_journal.proofs.RecordBytes.{no_ends-append}
+use Rattle.la_journal.proofs.Extents.{whole_line, whole_append}
+use Rattle.la_journal.proofs.Ended.{ended_end, ended_byte, one_ended}
 
 -- the next item
 pub drop_next : (k : ℕ) (xs : List (List ℕ)) (x : List ℕ) (rest : List (List ℕ)) → drop k xs ≡ x ∷ rest
@@ -96,3 +37,65 @@ file_of_then (l ∷ before) line rest =
     append_assoc l (10 ∷ file_of before) (line ++ 10 ∷ rest)
     ∙ ap (λ (f : List ℕ). l ++ 10 ∷ f) (file_of_then before line rest)
     ∙ sym (append_assoc l (10 ∷ file_of (before ++ line ∷ [])) rest)
+
+-- ## Whole lines
+
+pub no_end_in : (line : List ℕ) → IsClean line → HasNoEnd line
+no_end_in [] clean = tt
+no_end_in (b ∷ line) clean = (differs b clean.1, no_end_in line clean.2)
+  where
+    differs : (b : ℕ) → b ≢ 10 → (b == 10) ≡ false
+    differs b not10 = grind (arith, nat_tests)
+
+-- lines that may stand in a group
+abbrev pub AreLines : List (List ℕ) → Type 0
+AreLines [] = ⊤
+AreLines (line ∷ rest) = HasNoEnd line × (is_record line ≡ false) × AreLines rest
+
+pub are_lines : {I C : Type 0} (call : I → C) (text : C → List ℕ) → ((c : C) → IsCallLine (text c)) → (inputs : List I)
+    → AreLines (call_texts call text inputs)
+are_lines call text clean [] = tt
+are_lines call text clean (input ∷ inputs) =
+    (no_end_in (text (call input)) (clean (call input)).0, (clean (call input)).2, are_lines call text clean inputs)
+
+pub take_lines : (n : ℕ) (ls : List (List ℕ)) → AreLines ls → AreLines (take n ls)
+take_lines zero ls are = tt
+take_lines (suc n) [] are = tt
+take_lines (suc n) (l ∷ ls) are = (are.0, are.1, take_lines n ls are.2)
+
+pub ended_of : (ls : List (List ℕ)) → AreLines ls → ended (file_of ls) ≡ ls
+ended_of [] are = refl
+ended_of (l ∷ ls) are =
+    one_ended [] l (file_of ls) are.0 ∙ ap (λ (rest : List (List ℕ)). l ∷ rest) (ended_of ls are.2)
+
+pub whole_of : (ls : List (List ℕ)) → AreLines ls → AreWhole [] (file_of ls)
+whole_of [] are = refl
+whole_of (l ∷ ls) are =
+    subst (AreWhole []) (append_assoc l (10 ∷ []) (file_of ls))
+    (whole_append [] (l ++ 10 ∷ []) (file_of ls) (whole_line [] l are.0 are.1) (whole_of ls are.2))
+
+-- of bytes
+no_ends_in : (got bytes : List ℕ) → HasNoEnd got → are_no_records (ended_from got bytes) ≡ true
+    → AreLines (ended_from got bytes)
+no_ends_in got [] has plain = tt
+no_ends_in got (b ∷ bytes) has plain = elim (either (b == 10)) [
+  | inl end ↦
+      let both = parts (is_record got) (are_no_records (ended_from [] bytes))
+      (sym (ap are_no_records (ended_end got bytes b end)) ∙ plain) in
+      subst AreLines (sym (ended_end got bytes b end)) (has, both.0, no_ends_in [] bytes tt both.1)
+  | inr go ↦
+      subst AreLines (sym (ended_byte got bytes b go))
+      (no_ends_in (got ++ b ∷ []) bytes (no_ends-append got (b ∷ []) has (go, tt))
+      (sym (ap are_no_records (ended_byte got bytes b go)) ∙ plain))
+]
+  where
+    parts : (a b : Bool) → (not a && b) ≡ true → (a ≡ false) × (b ≡ true)
+    parts false b is = (refl, is)
+    parts true b is = absurd (false≢true is)
+
+pub lines_in_text : (text : List ℕ) → are_no_records (ended text) ≡ true → AreLines (ended text)
+lines_in_text text plain = no_ends_in [] text tt plain
+
+pub file_of_push : (before : List (List ℕ)) (line : List ℕ)
+    → file_of before ++ (line ++ 10 ∷ []) ≡ file_of (before ++ line ∷ [])
+file_of_push before line = file_of_then before line [] ∙ append-nil (file_of (before ++ line ∷ []))

@@ -1,14 +1,15 @@
 -- A group with its record is told, and what a crash leaves of one is not.
-use Rattle.std.proofs.Common.{◌≡◌, inl, inr, arith, ℕ, suc, ◌-◌, ◌≤◌, Bool, true, List, [], ◌∷◌, ◌++◌, Some, refl, sym, ◌∙◌, ap, subst, take, drop, length, reverse, append_assoc}
+use Rattle.std.proofs.Common.{◌≡◌, inl, inr, arith, ℕ, suc, ◌-◌, ◌≤◌, Bool, true, false, List, [], ◌∷◌, ◌++◌, Some, None, refl, sym, ◌∙◌, ap, subst, take, drop, length, reverse, append_assoc}
 use Rattle.std.specs.Prelude.{if◌then◌else◌, ◌==◌}
 use Rattle.std.specs.List.{list_all}
 use Rattle.std.specs.Char.{is_ascii_hexdigit}
 use Rattle.std.specs.Fmt.{decimal}
 use Rattle.std.proofs.lemmas.List.{append-nil, length-append, length-reverse, reverse-append, reverse-reverse, take_at, drop_at}
+use Rattle.std.proofs.lemmas.Option.{none-some}
 use Rattle.la_journal.specs.Lines.{file_of}
-use Rattle.la_journal.specs.Commits.{with_record, AreWhole}
+use Rattle.la_journal.specs.Commits.{same_bytes, with_record, AreWhole}
 use Rattle.la_journal.specs.Records.{digest, link, end_count, record_of, record_line, head_line, text_of_head, ended_from, ended, unended_from, stated_link, IsRecordOfLast, RecordStands, HeadsAreRead, RecordsLink, GroupsAreTold}
-use Rattle.la_journal.proofs.TornRecords.{either}
+use Rattle.la_journal.proofs.TornRecords.{same_are, either}
 use Rattle.la_journal.proofs.Digests.{length-digest, text_is}
 use Rattle.la_journal.proofs.RecordBytes.{are_records, link-hex, digest-hex, no_ends, no_ends-append}
 use Rattle.la_journal.proofs.Ended.{ended_end, ended_byte, unended_end, unended_byte, ended-append, one_ended, whole_lines}
@@ -65,8 +66,25 @@ heads_are_read text has =
     (ap link (sym (append_assoc text (32 ∷ []) own))
     ∙ link_is (text ++ 32 ∷ []) own (length-digest text) (digest-hex text))
 
+pub head_linked : (line text : List ℕ) → text_of_head line ≡ Some text → length (link line) ≡ 16
+head_linked line text is = cases (same_bytes line (head_line front)) refl is
+  where
+    front : List ℕ
+    front = take (length line - 17) line
+
+    is_head : line ≡ head_line front → length (link line) ≡ 16
+    is_head same =
+        ap (λ (l : List ℕ). length (link l)) (same ∙ sym (append_assoc front (32 ∷ []) (digest front)))
+        ∙ ap length (link_is (front ++ 32 ∷ []) (digest front) (length-digest front) (digest-hex front))
+        ∙ length-digest front
+
+    cases : (b : Bool) → same_bytes line (head_line front) ≡ b → (if b then Some front else None) ≡ Some text
+        → length (link line) ≡ 16
+    cases true so gives = is_head (same_are line (head_line front) so)
+    cases false so gives = absurd (none-some text gives)
+
 -- ---- a group that is told
-whole_unended : (line g : List ℕ) → AreWhole line g → unended_from line g ≡ []
+pub whole_unended : (line g : List ℕ) → AreWhole line g → unended_from line g ≡ []
 whole_unended line [] is = is
 whole_unended line (b ∷ g) (inl e) = unended_end line g b e.0 ∙ whole_unended [] g e.2
 whole_unended line (b ∷ g) (inr e) = unended_byte line g b e.0 ∙ whole_unended (line ++ b ∷ []) g e.1

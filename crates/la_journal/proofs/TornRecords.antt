@@ -4,7 +4,7 @@ use Rattle.std.specs.Prelude.{if◌then◌else◌, ◌==◌, ◌&&◌}
 use Rattle.std.proofs.lemmas.List.{append-nil, length-append}
 use Rattle.std.proofs.lemmas.Bool.{false≢true}
 use Rattle.std.proofs.lemmas.Bool.Decides.{nat_tests}
-use Rattle.la_journal.specs.Disk.{IsTorn}
+use Rattle.la_journal.specs.Commits.{IsTorn}
 use Rattle.la_journal.specs.Commits.{same_bytes, is_record, Records, groups_from, HasNoEnd, HasNoZero, AreWhole, AreRecords, IsSpoilt, NoneCollides, TornGroupsAreNotRead}
 use Rattle.la_journal.proofs.Recorded.{step_end, step_byte}
 
@@ -119,7 +119,8 @@ module _ (record_of : Records) (are : AreRecords record_of) (before next : List 
           (groups_from record_of before got line torn ≡ [])
           ⊎ ((got ++ line) ++ torn ≡ next ++ (record_of before next ++ 10 ∷ []))
 
-      at_end : (got line : List ℕ) (t : ℕ) → IsSpoilt next got → IsSpoilt (record_of before next) line → (t == 10) ≡ true
+      at_end : (got line : List ℕ) (t : ℕ) → IsSpoilt next got → IsSpoilt (record_of before next) line → (t == 10) ≡
+          true
           → Res got line (t ∷ [])
       at_end got line t spoilt so end = elim (either (is_record line)) [
         | inr not ↦ inl (step_end record_of are before got line [] t end not)
@@ -140,7 +141,8 @@ module _ (record_of : Records) (are : AreRecords record_of) (before next : List 
           → HasNoEnd r → IsTorn (r ++ 10 ∷ []) torn → Res got line torn
       scan_rec got line q r [] spoilt so whole has is = inl refl
       scan_rec got line q [] (t ∷ []) spoilt so whole has is = elim (either (t == 10)) [
-        | inl end ↦ at_end got line t spoilt (subst (λ (l : List ℕ). IsSpoilt l line) (sym (append-nil q) ∙ whole) so) end
+        | inl end ↦ at_end got line t spoilt (subst (λ (l : List ℕ). IsSpoilt l line) (sym (append-nil q) ∙ whole) so)
+            end
         | inr go ↦ inl (step_byte record_of are before got line [] t go)
       ]
       scan_rec got line q [] (t ∷ u ∷ torn) spoilt so whole has is = absurd is.1
@@ -149,7 +151,8 @@ module _ (record_of : Records) (are : AreRecords record_of) (before next : List 
           (scan_rec got (line ++ t ∷ []) (q ++ b ∷ []) r torn spoilt
           (spoilt_append q (b ∷ []) line (t ∷ []) so (is.0, tt)) (append_assoc q (b ∷ []) r ∙ whole) has.1 is.1) [
             | inl empty ↦ inl (step_byte record_of are before got line torn t (ends_not t b is.0 has.0) ∙ empty)
-            | inr all ↦ inr (sym (append_assoc (got ++ line) (t ∷ []) torn) ∙ ap (λ (l : List ℕ). l ++ torn) (append_assoc got line (t ∷ [])) ∙ all)
+            | inr all ↦ inr (sym (append_assoc (got ++ line) (t ∷ []) torn) ∙ ap (λ (l : List ℕ). l ++ torn)
+                (append_assoc got line (t ∷ [])) ∙ all)
           ]
 
       scan_group : (got line p g line_o torn : List ℕ) → IsSpoilt p (got ++ line) → p ++ g ≡ next → AreWhole line_o g
@@ -169,22 +172,28 @@ module _ (record_of : Records) (are : AreRecords record_of) (before next : List 
             (spoilt_append p (b ∷ []) (got ++ line) (10 ∷ []) so (ten_or t end is.0)))
             (append_assoc p (b ∷ []) g ∙ whole) (after_end t end is.0 group) refl (λ e. refl) is.1) [
               | inl empty ↦ inl (step_end record_of are before got line torn t end not ∙ empty)
-              | inr all ↦ inr (ap (λ (x : ℕ). (got ++ line) ++ x ∷ torn) (ten_is t end) ∙ sym (append_assoc (got ++ line) (10 ∷ []) torn) ∙ ap (λ (l : List ℕ). l ++ torn) (append_assoc got line (10 ∷ []) ∙ sym (append-nil (got ++ (line ++ 10 ∷ [])))) ∙ all)
+              | inr all ↦ inr (ap (λ (x : ℕ). (got ++ line) ++ x ∷ torn) (ten_is t end) ∙ sym (append_assoc (got ++
+                  line) (10 ∷ []) torn) ∙ ap (λ (l : List ℕ). l ++ torn) (append_assoc got line (10 ∷ []) ∙ sym
+                  (append-nil (got ++ (line ++ 10 ∷ [])))) ∙ all)
             ]
         | inr go ↦ elim (goes t go is.0 group) [
           | inl fresh ↦ elim (scan_group got (line ++ t ∷ []) (p ++ b ∷ []) g [] torn
               (subst (IsSpoilt (p ++ b ∷ [])) (append_assoc got line (t ∷ []))
               (spoilt_append p (b ∷ []) (got ++ line) (t ∷ []) so (is.0, tt)))
-              (append_assoc p (b ∷ []) g ∙ whole) fresh (still line b t line_o g not begun is.0 go group) (λ e. absurd (not_empty line t e)) is.1) [
+              (append_assoc p (b ∷ []) g ∙ whole) fresh (still line b t line_o g not begun is.0 go group) (λ e. absurd
+              (not_empty line t e)) is.1) [
                 | inl empty ↦ inl (step_byte record_of are before got line torn t go ∙ empty)
-                | inr all ↦ inr (sym (append_assoc (got ++ line) (t ∷ []) torn) ∙ ap (λ (l : List ℕ). l ++ torn) (append_assoc got line (t ∷ [])) ∙ all)
+                | inr all ↦ inr (sym (append_assoc (got ++ line) (t ∷ []) torn) ∙ ap (λ (l : List ℕ). l ++ torn)
+                    (append_assoc got line (t ∷ [])) ∙ all)
               ]
           | inr same ↦ elim (scan_group got (line ++ t ∷ []) (p ++ b ∷ []) g (line_o ++ b ∷ []) torn
               (subst (IsSpoilt (p ++ b ∷ [])) (append_assoc got line (t ∷ []))
               (spoilt_append p (b ∷ []) (got ++ line) (t ∷ []) so (is.0, tt)))
-              (append_assoc p (b ∷ []) g ∙ whole) same (still line b t line_o g not begun is.0 go group) (λ e. absurd (not_empty line t e)) is.1) [
+              (append_assoc p (b ∷ []) g ∙ whole) same (still line b t line_o g not begun is.0 go group) (λ e. absurd
+              (not_empty line t e)) is.1) [
                 | inl empty ↦ inl (step_byte record_of are before got line torn t go ∙ empty)
-                | inr all ↦ inr (sym (append_assoc (got ++ line) (t ∷ []) torn) ∙ ap (λ (l : List ℕ). l ++ torn) (append_assoc got line (t ∷ [])) ∙ all)
+                | inr all ↦ inr (sym (append_assoc (got ++ line) (t ∷ []) torn) ∙ ap (λ (l : List ℕ). l ++ torn)
+                    (append_assoc got line (t ∷ [])) ∙ all)
               ]
         ]
       ]

@@ -5,7 +5,7 @@ use Rattle.std.specs.Fmt.{decimal}
 use Rattle.std.proofs.lemmas.List.{append-nil, append_cancel_left, length-append, length-reverse, reverse-reverse, take_all, take_at, drop_at}
 use Rattle.std.proofs.lemmas.Bool.{false≢true}
 use Rattle.std.proofs.lemmas.Bool.Decides.{nat_tests}
-use Rattle.la_journal.specs.Disk.{IsTorn}
+use Rattle.la_journal.specs.Commits.{IsTorn}
 use Rattle.la_journal.specs.Lines.{file_of}
 use Rattle.la_journal.specs.Commits.{same_bytes, is_record, with_record, HasNoEnd, HasNoZero, AreWhole, IsSpoilt, NoneCollides}
 use Rattle.la_journal.specs.Records.{digest, link, end_count, record_of, record_line, ended_from, ended, unended_from, unended, number_from, stated_link, IsRecordOfLast, RecordStands, IsRunOn, IsGroupDamage, TornIsNoDamage}
@@ -174,7 +174,7 @@ spoilt_ends (b ∷ g) (t ∷ s) is = elim (either (b == 10)) [
   | inr go ↦ omega (arith, ends_on b g go, ends_on t s (ends_not t b is.0 go), spoilt_ends g s is.1)
 ]
 
-few_ends : (xs : List ℕ) → end_count xs ≤ length xs
+pub few_ends : (xs : List ℕ) → end_count xs ≤ length xs
 few_ends [] = omega arith
 few_ends (b ∷ xs) = elim (either (b == 10)) [
   | inl end ↦ omega (arith, ends_at b xs end, few_ends xs)

@@ -1,6 +1,5 @@
 -- A journal of groups, each with its record behind it, and what a crash leaves of it.
 use Rattle.std.specs.Prelude.{◌≡◌, ◌≢◌, ◌⊎◌, ⊤, ℕ, Bool, true, false, List, [], ◌∷◌, ◌++◌, if◌then◌else◌, ◌==◌, ◌&&◌}
-use Rattle.la_journal.specs.Disk.{IsTorn}
 
 -- whether the bytes are the same
 abbrev pub same_bytes : List ℕ → List ℕ → Bool
@@ -96,6 +95,12 @@ IsSpoilt [] [] = ⊤
 IsSpoilt [] (t ∷ torn) = ⊥
 IsSpoilt (b ∷ bytes) [] = ⊥
 IsSpoilt (b ∷ bytes) (t ∷ torn) = ((t ≡ b) ⊎ (t ≡ 0)) × IsSpoilt bytes torn
+
+-- bytes of which a crash kept the first some, each as it was written or as 0
+abbrev pub IsTorn : List ℕ → List ℕ → Type 0
+IsTorn bytes [] = ⊤
+IsTorn [] (t ∷ torn) = ⊥
+IsTorn (b ∷ bytes) (t ∷ torn) = ((t ≡ b) ⊎ (t ≡ 0)) × IsTorn bytes torn
 
 -- no byte is 0
 abbrev pub HasNoZero : List ℕ → Type 0

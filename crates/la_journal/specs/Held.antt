@@ -1,5 +1,5 @@
 -- What is known of a file, as a disk sees it: all by what is noted of the past.
-use Rattle.std.specs.Prelude.{ℕ, ◌≤◌, List, length}
+use Rattle.std.specs.Prelude.{ℕ, ◌≤◌, List, ◌++◌, length, take}
 use Rattle.la_journal.specs.declared.contents.Contents.{Contents}
 use Rattle.la_journal.specs.Disk.{Elapses}
 use Rattle.la_journal.specs.Note.{now_of, bytes_in, kept_in}
@@ -11,6 +11,10 @@ held_bytes contents = bytes_in (now_of contents.past.events)
 -- so many of the bytes are on the disk
 abbrev pub synced_count : Contents → ℕ
 synced_count contents = kept_in (now_of contents.past.events)
+
+-- what is on the disk, with these bytes behind it
+abbrev pub leaving : (torn : List ℕ) → Contents → List ℕ
+leaving torn contents = take (synced_count contents) (held_bytes contents) ++ torn
 
 -- how often the disk has failed
 abbrev pub faults_of : Contents → ℕ

@@ -1,6 +1,35 @@
 -- What a journal says: a state, and then calls.
-use Rattle.std.specs.Prelude.{◌≡◌, ◌⊎◌, ℕ, ◌-◌, List, [], ◌∷◌, Option, Some, None, IsSome, if◌then◌else◌, ◌==◌, length, take, Contains}
-use Rattle.la_journal.specs.Lines.{lines, tail_of, IsClean}
+use Rattle.std.specs.Prelude.{◌≡◌, ℕ, Bool, true, false, not, ◌&&◌, List, [], ◌∷◌, ◌++◌, Option, Some, None, if◌then◌else◌, ◌==◌}
+use Rattle.la_journal.specs.Lines.{IsClean}
+use Rattle.la_journal.specs.Commits.{same_bytes, is_record}
+use Rattle.la_journal.specs.Records.{Parts, parts, ended, is_damage}
+
+-- ## Its lines
+
+-- the bytes of these groups, without records
+abbrev pub in_a_row : List (List ℕ) → List ℕ
+in_a_row [] = []
+in_a_row (g ∷ gs) = g ++ in_a_row gs
+
+abbrev pub lines_in : Option Parts → List (List ℕ)
+lines_in None = []
+lines_in (Some p) = ended (in_a_row p.these)
+
+-- the lines that a file keeps: those of its groups
+abbrev pub lines : List ℕ → List (List ℕ)
+lines file = lines_in (parts file)
+
+-- what its head says
+abbrev pub text_in : Option Parts → List ℕ
+text_in None = []
+text_in (Some p) = p.text
+
+-- the digest that its last record ends in, or its head
+abbrev pub last_in : Option Parts → List ℕ
+last_in None = []
+last_in (Some p) = p.last
+
+-- ## What they say
 
 -- a state as a line: it begins with '=', and no call's does
 abbrev pub state_line : List ℕ → List ℕ
@@ -11,9 +40,9 @@ abbrev pub state_in : List ℕ → Option (List ℕ)
 state_in [] = None
 state_in (b ∷ text) = if b == 61 then Some text else None
 
--- how a call may be written
+-- how a call may be written: not as a state, and not as a record
 abbrev pub IsCallLine : List ℕ → Type 0
-IsCallLine line = IsClean line × (state_in line ≡ None)
+IsCallLine line = IsClean line × (state_in line ≡ None) × (is_record line ≡ false)
 
 -- the text of a state, where the first line is one, and the lines behind it, calls if the journal is sound
 pub record Journal : Type 0 where
@@ -32,10 +61,13 @@ journal (line ∷ rest) = begun_by (state_in line) line rest
 abbrev pub says : List ℕ → Journal
 says file = journal (lines file)
 
--- What no crash leaves behind the whole lines while one call's is put there: a line's end before the last byte,
--- so a line behind a byte that is 0, or what begins as a state's line, which is put in place whole.
-abbrev pub IsDamage : List ℕ → Type 0
-IsDamage tail = Contains (take (length tail - 1) tail) 10 ⊎ IsSome (state_in tail)
+-- ## Whether it can be played
 
-abbrev pub IsDamaged : List ℕ → Type 0
-IsDamaged file = IsDamage (tail_of file)
+abbrev pub has_head : (head : List ℕ) → Option Parts → Bool
+has_head head None = false
+has_head head (Some p) = same_bytes head p.text && not (is_damage p.rest)
+
+-- A file is new, or it begins with a head that says this, and what stands behind its groups is no damage.
+abbrev pub is_sound : (head file : List ℕ) → Bool
+is_sound head [] = true
+is_sound head (b ∷ file) = has_head head (parts (b ∷ file))

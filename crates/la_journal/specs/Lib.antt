@@ -14,3 +14,4 @@ pub mod Commits
 pub mod Snapshots
 pub mod Staging
 pub mod Records
+pub mod Playing

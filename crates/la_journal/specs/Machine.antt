@@ -1,7 +1,7 @@
 -- What a machine comes to by calls, and by what a journal says.
-use Rattle.std.specs.Prelude.{◌≡◌, List, [], ◌∷◌, ◌++◌, ℕ, ◌≤◌, Bool, true, false, Option, Some, None, map, length, take}
+use Rattle.std.specs.Prelude.{◌≡◌, if◌then◌else◌, List, [], ◌∷◌, ◌++◌, ℕ, ◌≤◌, Bool, true, false, Option, Some, None, map, length, take, drop}
 use Rattle.std.specs.Global.{Vec}
-use Rattle.la_journal.specs.Journal.{state_in, says}
+use Rattle.la_journal.specs.Journal.{Journal, state_in, says, is_sound}
 
 -- the input that was read is the one that the line names
 abbrev pub IsNamed : {I C : Type 0} (call : I → C) → Option C → Option I → Type 0
@@ -20,6 +20,10 @@ calls call inputs = map call inputs
 abbrev pub group_calls : {I C : Type 0} (call : I → C) → List (Vec I) → List C
 group_calls call [] = []
 group_calls call (group ∷ rest) = calls call group.items ++ group_calls call rest
+
+-- what stands behind what was there
+abbrev pub newer : {X : Type 0} (old new : List X) → List X
+newer old new = drop (length old) new
 
 -- one step more, where there was a state
 abbrev pub goes_on : {S C : Type 0} (step : S → C → Option S) → Option S → C → Option S
@@ -62,11 +66,17 @@ abbrev pub begins_with : {S : Type 0} (named_state : List ℕ → Option S) → 
 begins_with named_state None start = Some start
 begins_with named_state (Some text) start = named_state text
 
--- where a file leads a machine: from the state that it begins with, by its calls
-abbrev pub state_after : {S C : Type 0} (named_state : List ℕ → Option S) (named : List ℕ → Option C)
-    (step : S → C → Option S) → S → List ℕ → Option S
-state_after named_state named step start file =
-    steps_from (plays_line named step) (says file).calls (begins_with named_state (says file).state start)
+-- where its lines lead a machine: from the state that they begin with, by their calls
+abbrev pub lines_lead : {S C : Type 0} (named_state : List ℕ → Option S) (named : List ℕ → Option C)
+    (step : S → C → Option S) → S → Journal → Option S
+lines_lead named_state named step start journal =
+    steps_from (plays_line named step) journal.calls (begins_with named_state journal.state start)
+
+-- where a file leads a machine, if it is sound
+abbrev pub state_after : {S C : Type 0} (head : S → List ℕ) (named_state : List ℕ → Option S)
+    (named : List ℕ → Option C) (step : S → C → Option S) → S → List ℕ → Option S
+state_after head named_state named step start file =
+    if is_sound (head start) file then lines_lead named_state named step start (says file) else None
 
 -- the state is the one that a text says, where one was taken from it
 abbrev pub IsStateTaken : {S : Type 0} → Option S → S → Bool → Type 0

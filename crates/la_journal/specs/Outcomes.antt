@@ -1,28 +1,28 @@
 -- What a crash might have left of a file, by what it was.
-use Rattle.std.specs.Prelude.{◌≡◌, ◌⊎◌, ℕ, ◌≤◌, ◌<◌, Bool, List, [], ◌∷◌, ◌++◌, if◌then◌else◌, length, take, drop}
-use Rattle.std.proofs.Common.{arith, refl, sym, take-append-drop}
+use Rattle.std.specs.Prelude.{◌≡◌, ◌≢◌, ◌⊎◌, ℕ, ◌≤◌, ◌<◌, List, [], ◌∷◌, ◌++◌, length, take, drop}
+use Rattle.std.proofs.Common.{arith, refl, subst, append_assoc}
+use Rattle.std.proofs.lemmas.List.{append-nil}
 use mathlib.Core.Logic.{inl, inr}
-use Rattle.la_journal.specs.Disk.{IsTorn}
+use Rattle.la_journal.specs.Disk.{Torn, IsUnread}
+use Rattle.la_journal.specs.Records.{parts}
+use Rattle.la_journal.specs.Journal.{in_a_row}
 use Rattle.la_journal.specs.Note.{Moment, now_of, bytes_in}
 
--- what is on the disk stays, and of the rest a crash keeps the first some, as they are or as 0
-abbrev pub LeftOf : ℕ → List ℕ → List ℕ → Type 0
-LeftOf kept bytes c = (torn : List ℕ) × IsTorn (drop kept bytes) torn × (c ≡ take kept bytes ++ torn)
+-- after these pieces were put behind bytes that are on the disk, and a crash
+abbrev pub LeftOf : List ℕ → List (List ℕ) → List ℕ → Type 0
+LeftOf kept [] c = c ≡ kept
+LeftOf kept (piece ∷ more) c = (d : List ℕ) × Torn piece kept d × LeftOf d more c
 
--- of bytes as many as there are marks for, each as it is, or as 0 where its mark is true
-abbrev pub spoilt_by : List Bool → List ℕ → List ℕ
-spoilt_by [] bytes = []
-spoilt_by (s ∷ marks) [] = []
-spoilt_by (s ∷ marks) (b ∷ bytes) = (if s then 0 else b) ∷ spoilt_by marks bytes
-
--- what is on the disk, and the rest so spoilt
-abbrev pub left_by : List Bool → ℕ → List ℕ → List ℕ
-left_by marks kept bytes = take kept bytes ++ spoilt_by marks (drop kept bytes)
+-- Where all that is not on the disk was put behind it at once: no crash leaves these bytes behind those that are. They
+-- are not what is there, and either all of the file is on the disk, or digests would not see them (`IsUnread`).
+abbrev pub IsNoCrash : (kept : ℕ) → (bytes torn : List ℕ) → Type 0
+IsNoCrash kept bytes torn =
+    (torn ≢ drop kept bytes) × ((length bytes ≤ kept) ⊎ (IsUnread (parts (take kept bytes)) torn → ⊥))
 
 -- at a moment: of one of these
 abbrev pub LeftAt : Moment → List ℕ → Type 0
 LeftAt [] c = ⊥
-LeftAt (e ∷ rest) c = LeftOf e.kept e.bytes c ⊎ LeftAt rest c
+LeftAt (e ∷ rest) c = LeftOf e.kept e.more c ⊎ LeftAt rest c
 
 -- from moment t on; the newest first
 abbrev pub LeftSince : List Moment → ℕ → List ℕ → Type 0
@@ -43,12 +43,15 @@ pub left_now : (past : List Moment) (t : ℕ) (c : List ℕ) → t ≤ length pa
 left_now [] t c le left = left
 left_now (m ∷ past) t c le left = inl (le, left)
 
-same_torn : (bytes : List ℕ) → IsTorn bytes bytes
-same_torn [] = tt
-same_torn (b ∷ bytes) = (inl refl, same_torn bytes)
+left_whole : (kept : List ℕ) (more : List (List ℕ)) → LeftOf kept more (kept ++ in_a_row more)
+left_whole kept [] = append-nil kept
+left_whole kept (piece ∷ more) = (
+  kept ++ piece,
+  (piece, inl refl, refl),
+  subst (LeftOf (kept ++ piece) more) (append_assoc kept piece (in_a_row more)) (left_whole (kept ++ piece) more),
+)
 
 -- what is there
 pub left_there : (now : Moment) → 0 < length now → LeftAt now (bytes_in now)
 left_there [] there = absurd (omega (arith, there))
-left_there (e ∷ rest) there =
-    inl (drop e.kept e.bytes, same_torn (drop e.kept e.bytes), sym (take-append-drop e.kept e.bytes))
+left_there (e ∷ rest) there = inl (left_whole e.kept e.more)

@@ -1,12 +1,11 @@
 -- The records of a journal's groups, by a digest of what stands before them, and the head that is a file's first line.
-use Rattle.std.specs.Prelude.{◌≡◌, ◌⊎◌, ℕ, suc, ◌+◌, ◌-◌, ◌*◌, ◌/◌, ◌%◌, ◌^◌, ◌<◌, ◌≤◌, true, false, List, [], ◌∷◌, ◌++◌, Option, Some, None, length, take, drop, reverse, if◌then◌else◌, ◌==◌}
+use Rattle.std.specs.Prelude.{◌≡◌, ◌⊎◌, ℕ, zero, suc, ◌+◌, ◌-◌, ◌*◌, ◌/◌, ◌%◌, ◌^◌, ◌<◌, ◌≤◌, ◌||◌, Bool, true, false, List, [], ◌∷◌, ◌++◌, Option, Some, None, length, take, drop, reverse, if◌then◌else◌, ◌==◌}
 use Rattle.std.specs.List.{list_all}
 use Rattle.std.specs.Char.{is_ascii_digit, is_ascii_hexdigit}
 use Rattle.std.specs.Fmt.{decimal, digit_glyph}
 use Rattle.sha2.specs.Sha256.{sha256}
-use Rattle.la_journal.specs.Disk.{IsTorn}
 use Rattle.la_journal.specs.Lines.{file_of}
-use Rattle.la_journal.specs.Commits.{same_bytes, is_record, Records, groups, with_records, with_record, last_record, HasNoEnd, AreWhole, NoneCollides}
+use Rattle.la_journal.specs.Commits.{same_bytes, is_record, Records, groups, with_records, with_record, last_record, HasNoEnd, AreWhole, IsTorn, NoneCollides}
 
 -- each byte as two hex digits
 abbrev pub hex : List ℕ → List ℕ
@@ -41,7 +40,8 @@ head_line text = text ++ 32 ∷ digest text
 
 -- the text of a line that is a head
 abbrev pub text_of_head : List ℕ → Option (List ℕ)
-text_of_head line = let text = take (length line - 17) line in if same_bytes line (head_line text) then Some text else None
+text_of_head line = let text = take (length line - 17) line in if same_bytes line (head_line text) then Some text else
+    None
 
 -- what stands behind the groups that bytes have behind a line
 abbrev pub behind : (before : List ℕ) → List ℕ → List ℕ
@@ -129,6 +129,30 @@ IsRunOn (line ∷ next ∷ rest) = (is_record line ≡ true) ⊎ IsRunOn (next �
 -- last line.
 abbrev pub IsGroupDamage : List ℕ → Type 0
 IsGroupDamage tail = HasRecord tail ⊎ IsRunOn (ended tail)
+
+-- ## The same as a truth value
+
+-- whether it is so of a number up to this one
+abbrev pub any_up_to : ℕ → (ℕ → Bool) → Bool
+any_up_to zero is = is 0
+any_up_to (suc n) is = is (suc n) || any_up_to n is
+
+abbrev pub is_record_of_last : (before : List (List ℕ)) → List ℕ → Bool
+is_record_of_last before line =
+    any_up_to (length before) (λ n. same_bytes line (record_of n (stated_link line) (file_of (reverse (take n
+    before)))))
+
+abbrev pub record_stands : (before : List (List ℕ)) → List (List ℕ) → Bool
+record_stands before [] = false
+record_stands before (line ∷ rest) = is_record_of_last before line || record_stands (line ∷ before) rest
+
+abbrev pub is_run_on : List (List ℕ) → Bool
+is_run_on [] = false
+is_run_on (line ∷ []) = false
+is_run_on (line ∷ next ∷ rest) = is_record line || is_run_on (next ∷ rest)
+
+abbrev pub is_damage : List ℕ → Bool
+is_damage tail = record_stands [] (ended tail) || is_run_on (ended tail)
 
 -- A group with its record is read behind what has nothing behind its groups, and then has nothing behind them either.
 abbrev pub GroupsGrow : Type 0

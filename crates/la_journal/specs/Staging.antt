@@ -1,5 +1,6 @@
 -- Why an input is not staged, and staged lines are not committed.
-use Rattle.std.specs.Prelude.{◌≡◌, ◌⊎◌, ℕ, ◌<◌, Bool, true, false, Option, None}
+use Rattle.std.specs.Prelude.{◌≡◌, ◌⊎◌, ℕ, ◌+◌, ◌<◌, Bool, true, false, not, ◌&&◌, List, [], ◌∷◌, length, Option, None}
+use Rattle.la_journal.specs.Commits.{is_record}
 use Rattle.la_journal.specs.declared.staging.Unstaged.{Unstaged}
 use Rattle.la_journal.specs.declared.staging.Unstaged.TheVariants.{Machine, Memory, Closed}
 use Rattle.la_journal.specs.declared.staging.Uncommitted.{Uncommitted}
@@ -17,3 +18,13 @@ IsStageRefusal lacks_memory closed stepped Closed = closed ≡ true
 abbrev pub IsNotCommitted : (before now : Bool) → (faults_before faults : ℕ) → Uncommitted → Type 0
 IsNotCommitted before now faults_before faults Disk = (before ≡ false) × (now ≡ true) × (faults_before < faults)
 IsNotCommitted before now faults_before faults WasClosed = (before ≡ true) × (now ≡ true)
+
+-- no line of these begins as a record does
+abbrev pub are_no_records : List (List ℕ) → Bool
+are_no_records [] = true
+are_no_records (line ∷ rest) = not (is_record line) && are_no_records rest
+
+-- the room that staged lines take with their record, at most
+abbrev pub room_for : List ℕ → ℕ
+room_for [] = 0
+room_for (b ∷ text) = length (b ∷ text) + 57

@@ -1,6 +1,6 @@
 // The type alone: what its calls cite names it.
-ghost use Rattle.std.specs.Prelude.{◌<◌, ◌≤◌, length};
-ghost use Rattle.la_journal.specs.Note.{now_of, bytes_in, kept_in};
+ghost use Rattle.std.specs.Prelude.{◌<◌, length};
+ghost use Rattle.la_journal.specs.Note.{now_of};
 
 use crate::record::Record;
 
@@ -11,8 +11,6 @@ use crate::record::Record;
 pub struct Contents {
     pub(crate) past: Record,
     pub(crate) failures: Record,
-    // What the file has is noted, be it no byte,
+    // What the file has is noted, be it no byte.
     ghost there: { 0 < length (now_of past.events) },
-    // and no more bytes are on the disk than there are.
-    ghost within: { kept_in (now_of past.events) ≤ length (bytes_in (now_of past.events)) },
 }

@@ -10,8 +10,8 @@ use thiserror::Error;
 #[error("the disk failed")]
 pub struct DiskFault;
 
-/// A file that bytes are put behind. Of those that no sync was for, a crash keeps the first some,
-/// each as it was written or as 0.
+/// A file that bytes are put behind. Of those that no sync was for a crash may leave anything; what of that digests are
+/// taken to see is said at `Torn` (`specs/Disk`).
 pub trait Disk: Drop {
     /// The bytes of the file, as whoever opens it reads them.
     ghost seen: { Self → List ℕ };
@@ -32,8 +32,7 @@ pub trait Disk: Drop {
     fn past(&self) -> &Record
         ensures { length result.now.events ≡ moment self.now };
 
-    /// Puts bytes behind the file. Until a sync, a crash may leave the first some of them, each as
-    /// it was written or as 0.
+    /// Puts bytes behind the file. Until a sync, a crash may leave others in their place, or none.
     fn append(&mut self, bytes: &[u8]) -> Result<(), DiskFault>
         ensures written { OnOk result (seen self.new ≡ seen self.old ++ bytes.now) }
         ensures crash { CrashesFollow (Torn bytes.now) (may_leave self.old) (may_leave self.new) }
@@ -55,6 +54,14 @@ pub trait Disk: Drop {
         ensures written { OnOk result (seen self.new ≡ bytes.now) }
         ensures durable { OnOk result (Only bytes.now (may_leave self.new)) }
         ensures crash { (c : List ℕ) → may_leave self.new c → may_leave self.old c ⊎ (c ≡ bytes.now) }
+        ensures time { Elapses (moment self.old) (moment self.new) (left_since self.old) (left_since self.new) (may_leave self.new) }
+        ensures later { faults self.old ≤ faults self.new }
+        ensures failed { OnErr result (faults self.old < faults self.new) };
+
+    /// Keeps bytes that are about to be cut off the file elsewhere, for whoever looks for them. The file is as it was.
+    fn set_aside(&mut self, torn: &[u8]) -> Result<(), DiskFault>
+        ensures seen { seen self.new ≡ seen self.old }
+        ensures crash { (c : List ℕ) → may_leave self.new c → may_leave self.old c }
         ensures time { Elapses (moment self.old) (moment self.new) (left_since self.old) (left_since self.new) (may_leave self.new) }
         ensures later { faults self.old ≤ faults self.new }
         ensures failed { OnErr result (faults self.old < faults self.new) };

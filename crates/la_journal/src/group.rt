@@ -1,18 +1,22 @@
 // Many inputs at once, with one append and one sync.
 ghost use Rattle.std.specs.Prelude.{◌≡◌, ◌⊎◌, ◌++◌, ◌∷◌, [], ◌+◌, ◌-◌, ◌<◌, ◌≤◌, true, false, length, take, drop, map, vec_len, vec_capacity, Some, None, IsOk, IfOk, IfErr, OnOk, OnErr};
 ghost use Rattle.la_journal.specs.Disk.{LeavesOnly};
-ghost use Rattle.la_journal.specs.Lines.{lines, file_of};
-ghost use Rattle.la_journal.specs.Machine.{calls, call_texts, steps, replies, state_after, LeadsToSome};
+ghost use Rattle.la_journal.specs.Lines.{file_of};
+ghost use Rattle.la_journal.specs.Journal.{lines};
+ghost use Rattle.la_journal.specs.Records.{ended};
+ghost use Rattle.la_journal.specs.Machine.{newer, calls, call_texts, steps, replies, state_after, LeadsToSome};
 ghost use Rattle.la_journal.specs.Durable.{IsSettled, IsStop};
 
-use crate::durable::{encode, keep};
-use crate::recovery::first_end;
-use crate::{Disk, Durable, Machine, Refused};
+use crate::durable::encode;
+use crate::grouped::line_end;
+use crate::records::ROOM;
+use crate::{Disk, DiskFault, Durable, Machine, Refused};
 use std::alloc::{AllocError, Global};
 
 impl<M: Machine, D: Disk> Durable<M, D> {
     /// Takes the inputs in turn, up to the first that the machine refuses, and puts the answers behind
-    /// the others, once all their lines are on the disk. One append and one sync.
+    /// the others, once all their lines are on the disk, as one group. One append and one sync, and neither where none
+    /// was taken.
     ///
     /// After `Memory` or `Disk` none was taken, and no answer was put there.
     pub fn handle_all(
@@ -26,7 +30,7 @@ impl<M: Machine, D: Disk> Durable<M, D> {
         // As many were taken as there are new answers.
         ensures front { take (length answers.old.items) answers.new.items ≡ answers.old.items }
         ensures no_fewer { length answers.old.items ≤ length answers.new.items }
-        ensures answers { map M.answer (drop (length answers.old.items) answers.new.items)
+        ensures answers { map M.answer (newer answers.old.items answers.new.items)
             ≡ replies M.step M.answers
             (take (length answers.new.items - length answers.old.items) (calls M.call inputs.now))
             (M.state self.old.machine) }
@@ -48,22 +52,22 @@ impl<M: Machine, D: Disk> Durable<M, D> {
 
         // Where the journal led to the machine's state it does so again.
         ensures leads { self.new.closed ≡ false → (start : M.State)
-            → state_after M.named_state M.named M.step start (D.seen self.old.disk) ≡ Some (M.state self.old.machine)
-            → state_after M.named_state M.named M.step start (D.seen self.new.disk) ≡ Some (M.state self.new.machine) }
+            → state_after M.head M.named_state M.named M.step start (D.seen self.old.disk) ≡ Some (M.state self.old.machine)
+            → state_after M.head M.named_state M.named M.step start (D.seen self.new.disk) ≡ Some (M.state self.new.machine) }
 
         // And a crash at any moment leaves a file that leads to where some of the inputs lead from the state
         // of before, the first ones, none skipped and none in part.
         ensures any_moment { self.old.closed ≡ false → (start : M.State)
-            → state_after M.named_state M.named M.step start (D.seen self.old.disk) ≡ Some (M.state self.old.machine)
+            → state_after M.head M.named_state M.named M.step start (D.seen self.old.disk) ≡ Some (M.state self.old.machine)
             → LeavesOnly D.moment D.left_since self.old.disk self.new.disk
-            (LeadsToSome (state_after M.named_state M.named M.step start) M.step (calls M.call inputs.now) (M.state self.old.machine)) }
+            (LeadsToSome (state_after M.head M.named_state M.named M.step start) M.step (calls M.call inputs.now) (M.state self.old.machine)) }
         ensures later { D.faults self.old.disk ≤ D.faults self.new.disk }
         ensures still { self.old.closed ≡ true → self.new ≡ self.old }
     {
         if self.closed {
             return Err(Refused::Closed);
         }
-        let Ok(text) = encode_all::<M>(alloc, inputs) else {
+        let Ok(mut group) = encode_all::<M>(alloc, inputs) else {
             return Err(Refused::Memory);
         };
         let Ok(()) = answers.reserve(inputs.len()) else {
@@ -71,27 +75,33 @@ impl<M: Machine, D: Disk> Durable<M, D> {
         };
         let before = answers.len();
         let stepped = step_all(&mut self.machine, inputs, answers);
-        let end = end_of(&text, answers.len() - before);
-        match keep(&mut self.disk, &text[..end]) {
+        let many = answers.len() - before;
+        if many == 0 {
+            return stepped.map_err(Refused::Machine);
+        }
+        let end = end_of(&group, many);
+        group.truncate(end);
+        match self.keep(&mut group) {
             Ok(()) => stepped.map_err(Refused::Machine),
-            Err(_) => {
+            Err(DiskFault) => {
                 answers.truncate(before);
-                self.closed = true;
                 Err(Refused::Disk)
             }
         }
     }
 }
 
-/// The lines of these inputs, each with its end.
+/// The lines of these inputs, each with its end, and room for a record behind them.
 fn encode_all<M: Machine>(alloc: Global, inputs: &[M::Input]) -> Result<Vec<u8>, AllocError>
-    ensures { IfOk result (λ text. text.items ≡ file_of (call_texts M.call M.text inputs.now)) }
+    ensures lines { IfOk result (λ text. text.items ≡ file_of (call_texts M.call M.text inputs.now)) }
+    ensures room { IfOk result (λ text. length text.items + 57 ≤ vec_capacity text) }
 {
     let mut text = Vec::new(alloc);
     for input in inputs {
         let line = encode::<M>(alloc, input)?;
         text.extend_from_slice(&line)?;
     }
+    text.reserve(ROOM)?;
     Ok(text)
 }
 
@@ -130,13 +140,13 @@ fn step_all<M: Machine>(
 
 /// Where the first so many lines end.
 fn end_of(text: &[u8], many: usize) -> usize
-    requires { many ≤ length (lines text.now) }
+    requires { many ≤ length (ended text.now) }
     ensures within { result ≤ length text.now }
-    ensures front { take result text.now ≡ file_of (take many (lines text.now)) }
+    ensures front { take result text.now ≡ file_of (take many (ended text.now)) }
 {
     let mut rest = text;
     for _done in 0..many {
-        match first_end(rest) {
+        match line_end(rest) {
             Some(end) => rest = &rest[end + 1..],
             None => return text.len(),
         }

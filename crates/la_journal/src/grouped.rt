@@ -1,7 +1,7 @@
 // Groups of whole lines, each with its record behind it.
 ghost use Rattle.std.specs.Prelude.{◌≡◌, ◌≢◌, ◌++◌, ◌∷◌, [], ◌+◌, ◌<◌, ◌≤◌, length, take, drop, Some, None, IfSome};
 ghost use Rattle.la_journal.specs.Commits.{is_record, groups, HasNoEnd};
-ghost use Rattle.la_journal.specs.Records.{record_line, parts, parts_behind};
+ghost use Rattle.la_journal.specs.Records.{link, record_line, parts, parts_behind};
 
 use crate::records::{end_count, is_record_of, link, text_of_head};
 
@@ -26,6 +26,7 @@ pub fn head_of(file: &[u8]) -> Option<Head<'_>>
     ensures some { IfSome result (λ head. parts file.now
         ≡ Some (parts_behind head.text.now head.line.now head.rest.now)) }
     ensures bytes { IfSome result (λ head. file.now ≡ head.line.now ++ 10 ∷ head.rest.now) }
+    ensures linked { IfSome result (λ head. length (link head.line.now) ≡ 16) }
     ensures none { result ≡ None → parts file.now ≡ None }
 {
     let n = line_end(file)?;

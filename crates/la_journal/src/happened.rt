@@ -12,8 +12,8 @@ pub(crate) enum Happened {
     /// Other bytes stand there, all of them on the disk.
     Replaced,
 
-    /// A process found bytes, so many of which are on the disk.
-    Found(usize),
+    /// A process found bytes.
+    Found,
 
     /// A call of the disk failed.
     Failed,

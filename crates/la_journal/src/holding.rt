@@ -2,7 +2,7 @@
 ghost use Rattle.std.specs.Prelude.{◌≡◌, ◌⊎◌, ◌++◌, ◌+◌, ◌≤◌, List, ℕ, length};
 ghost use Rattle.la_journal.specs.Disk.{Only, CrashesFollow, Torn, Elapses};
 ghost use Rattle.la_journal.specs.Note.{now_of};
-ghost use Rattle.la_journal.specs.Outcomes.{LeftOf, LeftAt, LeftSince};
+ghost use Rattle.la_journal.specs.Outcomes.{LeftAt, LeftSince};
 ghost use Rattle.la_journal.specs.Held.{held_bytes, synced_count, faults_of, moment_of, may_leave_of, left_since_of, TimeGoesOn};
 
 use crate::Contents;
@@ -10,21 +10,19 @@ use crate::happened::Happened;
 use crate::record::Record;
 
 impl Contents {
-    /// A file that a process finds which starts behind another one: it holds these bytes, and the first `kept` of them
-    /// are on the disk. Until the first sync or replacement a crash leaves some of these bytes, or what the earlier
-    /// process may have left.
-    pub fn found(bytes: &[u8], kept: usize, left: Record) -> Contents
-        requires { kept ≤ length bytes.now }
+    /// A file that a process finds which starts behind another one: it holds these bytes. Until the first sync or
+    /// replacement a crash leaves these bytes, or what the earlier process may have left.
+    pub fn found(bytes: &[u8], left: Record) -> Contents
         ensures bytes { held_bytes result ≡ bytes.now }
-        ensures kept { synced_count result ≡ kept }
-        ensures crash { (c : List ℕ) → may_leave_of result c → LeftOf kept bytes.now c ⊎ LeftAt (now_of left.events) c }
+        ensures kept { synced_count result ≡ length bytes.now }
+        ensures crash { (c : List ℕ) → may_leave_of result c → (c ≡ bytes.now) ⊎ LeftAt (now_of left.events) c }
         ensures seen { may_leave_of result bytes.now }
         ensures moment { moment_of result ≡ length left.events + 1 }
         ensures time { Elapses (length left.events) (moment_of result)
             (LeftSince left.events) (left_since_of result) (may_leave_of result) }
     {
         let mut past = left;
-        past.note(&Happened::Found(kept), bytes);
+        past.note(&Happened::Found, bytes);
         Contents {
             past,
             failures: Record::new(),

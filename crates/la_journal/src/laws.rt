@@ -1,7 +1,6 @@
 // What holds over a crash and a new start: laws over all disks and files, which no code runs.
 ghost use Rattle.std.specs.Prelude.{◌≡◌, ◌++◌, ℕ, List, Some, take};
 ghost use Rattle.la_journal.specs.Disk.{LeavesOnly};
-ghost use Rattle.la_journal.specs.Lines.{lines};
 ghost use Rattle.la_journal.specs.Machine.{state_after, steps, LeadsToSome};
 ghost use Rattle.la_journal.specs.Durable.{IsSameOr};
 ghost use Rattle.la_journal.specs.Starts.{IsStart};
@@ -15,10 +14,10 @@ use crate::{Disk, Machine};
 /// calls `taken` led to the next state.
 pub fn calls_follow_one_another<M: Machine, D: Disk>()
     ensures { (old mid new : D) (start first next : M.State) (taken later : List M.Call)
-        → LeavesOnly D.moment D.left_since old mid (LeadsToSome (state_after M.named_state M.named M.step start) M.step taken first)
+        → LeavesOnly D.moment D.left_since old mid (LeadsToSome (state_after M.head M.named_state M.named M.step start) M.step taken first)
         → steps M.step taken first ≡ Some next
-        → LeavesOnly D.moment D.left_since mid new (LeadsToSome (state_after M.named_state M.named M.step start) M.step later next)
-        → LeavesOnly D.moment D.left_since old new (LeadsToSome (state_after M.named_state M.named M.step start) M.step (taken ++ later) first) }
+        → LeavesOnly D.moment D.left_since mid new (LeadsToSome (state_after M.head M.named_state M.named M.step start) M.step later next)
+        → LeavesOnly D.moment D.left_since old new (LeadsToSome (state_after M.head M.named_state M.named M.step start) M.step (taken ++ later) first) }
 {}
 
 /// A process died at some moment from `t` on, of which it is known that a crash left a file that leads from
@@ -28,12 +27,12 @@ pub fn calls_follow_one_another<M: Machine, D: Disk>()
 /// on `recovered`.
 pub fn a_start_has_what_was_answered<M: Machine, D: Disk>()
     ensures { (dead found recovered : D) (t : ℕ) (start first : M.State) (calls : List M.Call)
-        → ((c : List ℕ) → D.left_since dead t c → LeadsToSome (state_after M.named_state M.named M.step start) M.step calls first c)
+        → ((c : List ℕ) → D.left_since dead t c → LeadsToSome (state_after M.head M.named_state M.named M.step start) M.step calls first c)
         → IsStart D.seen D.may_leave (D.left_since dead t) found
-        → LeavesOnly D.moment D.left_since found recovered (IsSameOr (D.may_leave found) (lines (D.seen found)))
-        → LeadsToSome (state_after M.named_state M.named M.step start) M.step calls first (D.seen found)
+        → LeavesOnly D.moment D.left_since found recovered (IsSameOr (D.may_leave found) (state_after M.head M.named_state M.named M.step start) (D.seen found))
+        → LeadsToSome (state_after M.head M.named_state M.named M.step start) M.step calls first (D.seen found)
         × ((c : List ℕ) → D.left_since recovered (D.moment found) c
-        → LeadsToSome (state_after M.named_state M.named M.step start) M.step calls first c) }
+        → LeadsToSome (state_after M.head M.named_state M.named M.step start) M.step calls first c) }
 {}
 
 /// What was answered before one crash is there after the next: where a file leads from the state `first` by
@@ -41,17 +40,17 @@ pub fn a_start_has_what_was_answered<M: Machine, D: Disk>()
 /// from `first` by the ones and then the others.
 pub fn lives_follow_one_another<M: Machine>()
     ensures { (start first next : M.State) (calls later : List M.Call) (c d : List ℕ)
-        → LeadsToSome (state_after M.named_state M.named M.step start) M.step calls first c
-        → state_after M.named_state M.named M.step start c ≡ Some next
-        → LeadsToSome (state_after M.named_state M.named M.step start) M.step later next d
-        → (n : ℕ) × (m : ℕ) × (state_after M.named_state M.named M.step start d ≡ steps M.step (take n calls ++ take m later) first) }
+        → LeadsToSome (state_after M.head M.named_state M.named M.step start) M.step calls first c
+        → state_after M.head M.named_state M.named M.step start c ≡ Some next
+        → LeadsToSome (state_after M.head M.named_state M.named M.step start) M.step later next d
+        → (n : ℕ) × (m : ℕ) × (state_after M.head M.named_state M.named M.step start d ≡ steps M.step (take n calls ++ take m later) first) }
 {}
 
 /// Over any number of processes, one after another: where each left a file that has at least what it had answered,
 /// and the next one started there, the last file leads to where one list of calls leads, made of the first some of
 /// each one's, with all that any of them answered.
 pub fn lives_are_one_run<M: Machine>()
-    ensures { (start : M.State) → LivesAreOneRun (state_after M.named_state M.named M.step start) M.step }
+    ensures { (start : M.State) → LivesAreOneRun (state_after M.head M.named_state M.named M.step start) M.step }
 {}
 
 /// A journal whose groups each end in a record that repeats them: of groups that were put there and synced, and

@@ -45,6 +45,14 @@ pub trait Machine: Drop {
     /// Whether a refusal is for want of memory.
     ghost lacks_memory: { Self.Refusal → Type 0 };
 
+    /// What a journal's first line says of the machine that wrote it, as its options. A journal with another head is
+    /// not played.
+    ghost head: { State → List ℕ };
+
+    /// The head of this machine, without a line's end.
+    fn head(&self, alloc: Global) -> Result<Vec<u8>, AllocError>
+        ensures { IfOk result (λ text. text.items ≡ head (state self.now)) };
+
     /// Takes a step, or is as before: where there is memory, it is refused exactly where there is no step.
     fn apply(&mut self, input: &Self::Input) -> Result<Self::Output, Self::Refusal>
         ensures step { OnOk result (step (state self.old) (call input.now) ≡ Some (state self.new)) }
@@ -67,8 +75,11 @@ pub trait Machine: Drop {
     /// What was written is read back.
     ghost round_trip: { (c : Call) → named (text c) ≡ Some c };
 
-    /// A line has no line's end within, and no 0, and does not begin with `=`, as a state's does.
+    /// A line has no line's end within, and no 0, and does not begin with `=`, as a state's does, or `~`, as a record's.
     ghost clean: { (c : Call) → IsCallLine (text c) };
+
+    /// A head has no line's end within, and no 0.
+    ghost clean_head: { (s : State) → IsClean (head s) };
 }
 
 /// A machine whose journals can be compacted: it writes its state as a text.

@@ -1,11 +1,14 @@
 // A file in memory that fails and crashes as a test wants.
-ghost use Rattle.std.specs.Prelude.{◌≡◌, ◌≤◌, ◌+◌, List, ℕ, length, IfOk, if◌then◌else◌};
-ghost use Rattle.la_journal.specs.Disk.{Only};
-ghost use Rattle.la_journal.specs.Outcomes.{spoilt_by, left_by};
-ghost use Rattle.la_journal.specs.Held.{held_bytes, synced_count, faults_of, moment_of};
+ghost use Rattle.std.specs.Prelude.{◌≡◌, ◌≤◌, ◌++◌, ◌↔◌, List, ℕ, None, length, take, IfOk, IfSome, IsTrue};
+ghost use Rattle.la_journal.specs.Disk.{Only, IsUnread};
+ghost use Rattle.la_journal.specs.Records.{parts};
+ghost use Rattle.la_journal.specs.Outcomes.{IsNoCrash};
+ghost use Rattle.la_journal.specs.Held.{held_bytes, synced_count, leaving, faults_of, moment_of};
 ghost use Rattle.la_journal.specs.Held.{may_leave_of, left_since_of, TimeGoesOn, only_now_of, counts_now_of, stays_of};
 ghost use Rattle.la_journal.specs.Starts.{IsStart};
 
+use crate::damage::is_damage;
+use crate::grouped::{head_of, next_group};
 use crate::{Contents, Disk, DiskFault, Record};
 use std::alloc::{AllocError, Global};
 
@@ -49,8 +52,9 @@ impl MemoryDisk {
         }
     }
 
-    /// Makes the disk full once its file has so many bytes: of an append it takes what fits, and
-    /// fails; a replacement that does not fit it refuses whole.
+    /// Makes the disk full once its file has so many bytes: an append or a replacement that does not fit it refuses
+    /// whole. It takes no part of an append, since of that a digest need not see that it is a part (`Torn` in
+    /// `specs/Disk`).
     pub fn full_at(&mut self, most: usize)
         ensures { self.new.contents ≡ self.old.contents }
     {
@@ -78,41 +82,47 @@ impl MemoryDisk {
         self.clock
     }
 
-    /// What a crash leaves: what is on the disk, and of the rest as many bytes as there are marks for, the first ones,
-    /// each as it was written, or as 0 where its mark in `spoilt` is true. All of that is on the disk that comes back.
-    pub fn crash(&self, spoilt: &[bool]) -> Result<MemoryDisk, AllocError>
-        ensures bytes { IfOk result (λ left. held_bytes left.contents
-            ≡ left_by spoilt.now (synced_count self.now.contents) (held_bytes self.now.contents)) }
-        ensures kept { IfOk result (λ left. synced_count left.contents ≡ length (held_bytes left.contents)) }
-        ensures left { IfOk result (λ left. may_leave_of self.now.contents (held_bytes left.contents)) }
-        ensures stored { IfOk result (λ left. Only (held_bytes left.contents) (may_leave_of left.contents)) }
+    /// What a crash leaves: what is on the disk, and behind it these bytes, which may be any, in the place of the rest. All
+    /// of that is on the disk that comes back. `None` where no crash leaves it: there is no rest, or a digest would not
+    /// tell the bytes from what was written (`IsUnread` in `specs/Disk`). Linear in the file.
+    pub fn crash(&self, torn: &[u8]) -> Result<Option<MemoryDisk>, AllocError>
+        ensures bytes { IfOk result (λ some. IfSome some (λ left. held_bytes left.contents
+            ≡ leaving torn.now self.now.contents)) }
+        ensures kept { IfOk result (λ some. IfSome some (λ left. synced_count left.contents ≡ length (held_bytes left.contents))) }
+        ensures left { IfOk result (λ some. IfSome some (λ left. may_leave_of self.now.contents (held_bytes left.contents))) }
+        ensures stored { IfOk result (λ some. IfSome some (λ left. Only (held_bytes left.contents) (may_leave_of left.contents))) }
+        ensures none { IfOk result (λ some. some ≡ None → IsNoCrash (synced_count self.now.contents) (held_bytes self.now.contents) torn.now) }
     {
-        let left = self.left_by(spoilt)?;
-        Ok(MemoryDisk::new(self.alloc, left))
+        match self.left_by(torn)? {
+            Some(left) => Ok(Some(MemoryDisk::new(self.alloc, left))),
+            None => Ok(None),
+        }
     }
 
     /// What another process finds after a crash, as by [`crash`](MemoryDisk::crash), of a process that died with this
-    /// disk. No more of it is on the disk than there was: until the other process has synced or replaced the file, a
-    /// crash leaves what this one may have left. It is not full and does not fail. Where memory is refused, or the clock
-    /// has come to its end, this disk is dropped.
-    pub fn restart(self, spoilt: &[bool]) -> Result<MemoryDisk, AllocError>
-        ensures bytes { IfOk result (λ found. held_bytes found.contents
-            ≡ left_by spoilt.now (synced_count self.contents) (held_bytes self.contents)) }
-        ensures kept { IfOk result (λ found. synced_count found.contents ≡ synced_count self.contents) }
-        ensures start { IfOk result (λ found. (t : ℕ) → t ≤ moment_of self.contents
-            → IsStart (λ d. held_bytes d.contents) (λ d c. may_leave_of d.contents c) (left_since_of self.contents t) found) }
-        ensures crash { IfOk result (λ found. (c : List ℕ) → may_leave_of found.contents c → may_leave_of self.contents c) }
-        ensures time { IfOk result (λ found. TimeGoesOn self.contents found.contents) }
+    /// disk. Until the other process has synced or replaced the file, a crash leaves what it found, or what this one may
+    /// have left. It is not full and does not fail. Where memory is refused, or the clock has come to its end, or no crash
+    /// leaves it, this disk is dropped.
+    pub fn restart(self, torn: &[u8]) -> Result<Option<MemoryDisk>, AllocError>
+        ensures bytes { IfOk result (λ some. IfSome some (λ found. held_bytes found.contents
+            ≡ leaving torn.now self.contents)) }
+        ensures start { IfOk result (λ some. IfSome some (λ found. (t : ℕ) → t ≤ moment_of self.contents
+            → IsStart (λ d. held_bytes d.contents) (λ d c. may_leave_of d.contents c) (left_since_of self.contents t) found)) }
+        ensures crash { IfOk result (λ some. IfSome some (λ found. (c : List ℕ) → may_leave_of found.contents c → may_leave_of self.contents c)) }
+        ensures time { IfOk result (λ some. IfSome some (λ found. TimeGoesOn self.contents found.contents)) }
+        ensures none { IfOk result (λ some. some ≡ None → IsNoCrash (synced_count self.contents) (held_bytes self.contents) torn.now) }
     {
         if self.clock == u64::MAX {
             return Err(AllocError);
         }
-        let bytes = self.left_by(spoilt)?;
-        let kept = self.kept;
+        let Some(bytes) = self.left_by(torn)? else {
+            return Ok(None);
+        };
+        let kept = bytes.len();
         let clock = self.clock + 1;
         let alloc = self.alloc;
-        let contents = Contents::found(&bytes, kept, self.contents.left());
-        Ok(MemoryDisk {
+        let contents = Contents::found(&bytes, self.contents.left());
+        Ok(Some(MemoryDisk {
             alloc,
             bytes,
             kept,
@@ -120,19 +130,40 @@ impl MemoryDisk {
             most: usize::MAX,
             syncs: u32::MAX,
             clock,
-        })
+        }))
     }
 
-    // The bytes that a crash leaves.
-    fn left_by(&self, spoilt: &[bool]) -> Result<Vec<u8>, AllocError>
-        ensures { IfOk result (λ left. left.items
-            ≡ left_by spoilt.now (synced_count self.now.contents) (held_bytes self.now.contents)) }
+    // The bytes that a crash leaves, with these in the place of those that are not on the disk.
+    fn left_by(&self, torn: &[u8]) -> Result<Option<Vec<u8>>, AllocError>
+        ensures bytes { IfOk result (λ some. IfSome some (λ left. left.items
+            ≡ leaving torn.now self.now.contents)) }
+        ensures left { IfOk result (λ some. IfSome some (λ left. may_leave_of self.now.contents left.items)) }
+        ensures none { IfOk result (λ some. some ≡ None → IsNoCrash (synced_count self.now.contents) (held_bytes self.now.contents) torn.now) }
     {
-        let mut left = self.bytes[..self.kept].to_vec(self.alloc)?;
-        let rest = spoilt_by(self.alloc, &self.bytes[self.kept..], spoilt)?;
-        left.extend_from_slice(&rest)?;
-        Ok(left)
+        let (kept, rest) = self.bytes.split_at(self.kept);
+        if rest != torn && (rest.is_empty() || !is_unread(kept, torn)) {
+            return Ok(None);
+        }
+        let mut left = kept.to_vec(self.alloc)?;
+        left.extend_from_slice(torn)?;
+        Ok(Some(left))
     }
+}
+
+// Whether of these bytes behind a file no group is read, and they are no damage.
+fn is_unread(file: &[u8], torn: &[u8]) -> bool
+    ensures { IsTrue result ↔ IsUnread (parts file.now) torn.now }
+{
+    let Some(head) = head_of(file) else {
+        return true;
+    };
+    let mut rest = head.rest;
+    let mut before = head.line;
+    while let Some(group) = next_group(rest, before) {
+        rest = group.rest;
+        before = group.record;
+    }
+    next_group(torn, before).is_none() && !is_damage(torn)
 }
 
 // Takes one of what is left, if there is one.
@@ -142,25 +173,6 @@ fn take_one(left: &mut u32) -> bool {
     }
     *left -= 1;
     true
-}
-
-// Of these bytes as many as there are marks for, each as it is, or as 0 where its mark is true.
-fn spoilt_by(alloc: Global, bytes: &[u8], spoilt: &[bool]) -> Result<Vec<u8>, AllocError>
-    ensures { IfOk result (λ left. left.items ≡ spoilt_by spoilt.now bytes.now) }
-{
-    let many = bytes.len().min(spoilt.len());
-    let mut left = Vec::new(alloc);
-    for n in 0..many {
-        left.push(as_left(bytes[n], spoilt[n]))?;
-    }
-    Ok(left)
-}
-
-// A byte, or 0 where it is spoilt.
-fn as_left(byte: u8, spoilt: bool) -> u8
-    ensures { result ≡ (if spoilt then 0 else byte) }
-{
-    if spoilt { 0 } else { byte }
 }
 
 impl Disk for MemoryDisk {
@@ -186,17 +198,13 @@ impl Disk for MemoryDisk {
 
     fn append(&mut self, bytes: &[u8]) -> Result<(), DiskFault> {
         let free = self.most.saturating_sub(self.bytes.len());
-        let fits = &bytes[..bytes.len().min(free)];
-        if self.clock == u64::MAX || self.bytes.extend_from_slice(fits).is_err() {
+        let refuses = self.clock == u64::MAX || free < bytes.len();
+        if refuses || self.bytes.extend_from_slice(bytes).is_err() {
             self.contents.fail();
             return Err(DiskFault);
         }
         self.clock += 1;
-        self.contents.append(fits);
-        if fits.len() < bytes.len() {
-            self.contents.fail();
-            return Err(DiskFault);
-        }
+        self.contents.append(bytes);
         Ok(())
     }
 
@@ -208,6 +216,10 @@ impl Disk for MemoryDisk {
         self.clock += 1;
         self.kept = self.bytes.len();
         self.contents.sync();
+        Ok(())
+    }
+
+    fn set_aside(&mut self, _torn: &[u8]) -> Result<(), DiskFault> {
         Ok(())
     }
 

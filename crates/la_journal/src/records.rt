@@ -1,8 +1,9 @@
 // Records, which stand behind the groups of a file, and heads.
-ghost use Rattle.std.specs.Prelude.{◌≡◌, ◌++◌, ◌↔◌, ◌<◌, ◌/◌, ◌%◌, ◌∷◌, ◌≢◌, ℕ, List, Some, false, length, take, IfOk, IfSome, MatchOption, None, IsTrue, IsSome};
+ghost use Rattle.std.specs.Prelude.{◌≡◌, ◌++◌, ◌↔◌, ◌<◌, ◌/◌, ◌%◌, ◌∷◌, [], ◌≢◌, ◌≤◌, ◌+◌, ℕ, List, Some, false, length, vec_capacity, take, IfOk, IfSome, MatchOption, None, IsTrue, IsSome};
 ghost use Rattle.std.specs.List.{list_all};
 ghost use Rattle.std.specs.Char.{is_ascii_hexdigit};
 ghost use Rattle.std.specs.Fmt.{decimal, digit_glyph};
+ghost use Rattle.la_journal.specs.Commits.{with_record};
 ghost use Rattle.la_journal.specs.Records.{hex, digest, link, end_count, record_of, record_line, head_line, text_of_head};
 
 use itoa::Buffer;
@@ -28,6 +29,40 @@ pub fn record_line(alloc: Global, before: &[u8], group: &[u8]) -> Result<Vec<u8>
     line.push(b' ')?;
     line.extend_from_slice(&digest(link, group))?;
     Ok(line)
+}
+
+/// The room that a record takes with its end, at most.
+pub(crate) const ROOM: usize = 57;
+
+/// Puts behind a group its record and the end of that, where the last record before, or the head, ends in this digest;
+/// gives the one that it ends in. There is room for it. Linear in the group.
+pub(crate) fn put_record(group: &mut Vec<u8>, last: &[u8; DIGITS]) -> [u8; DIGITS]
+    requires { length group.old.items + 57 ≤ vec_capacity group.old }
+    ensures group { group.new.items ≡ with_record record_line last.now group.old.items }
+    ensures last { result ≡ link (record_line last.now group.old.items) }
+    ensures room { vec_capacity group.old ≤ vec_capacity group.new }
+{
+    let before = link(last);
+    let own = digest(before, group);
+    let mut count = Buffer::new();
+    let count = count.format(end_count(group));
+    put(group, b"~ ");
+    put(group, count.as_bytes());
+    put(group, b" ");
+    put(group, before);
+    put(group, b" ");
+    put(group, &own);
+    put(group, b"\n");
+    own
+}
+
+/// Puts bytes behind, for which there is room.
+fn put(text: &mut Vec<u8>, bytes: &[u8])
+    requires { length text.old.items + length bytes.now ≤ vec_capacity text.old }
+    ensures items { text.new.items ≡ text.old.items ++ bytes.now }
+    ensures room { vec_capacity text.old ≤ vec_capacity text.new }
+{
+    let _there_is_room = text.extend_from_slice(bytes);
 }
 
 /// Whether a line is the record of so many lines behind what ends in this digest.
@@ -81,6 +116,15 @@ pub fn head_line(alloc: Global, text: &[u8]) -> Result<Vec<u8>, AllocError>
     Ok(line)
 }
 
+/// The bytes of a new file with this head. Linear in it; refused only where a growth is.
+pub(crate) fn new_file(alloc: Global, text: &[u8]) -> Result<Vec<u8>, AllocError>
+    ensures { IfOk result (λ file. file.items ≡ head_line text.now ++ 10 ∷ []) }
+{
+    let mut file = head_line(alloc, text)?;
+    file.push(b'\n')?;
+    Ok(file)
+}
+
 /// The text of a line that is a head; `None` where it is none, as where a byte of it has changed. Linear in the line.
 pub fn text_of_head(line: &[u8]) -> Option<&[u8]>
     ensures some { IfSome result (λ text. text_of_head line.now ≡ Some text.now) }
@@ -122,7 +166,7 @@ pub(crate) fn end_count(bytes: &[u8]) -> usize
 }
 
 /// The first hex digits of the SHA-256 of two pieces, taken as one message.
-fn digest(before: &[u8], group: &[u8]) -> [u8; DIGITS]
+pub(crate) fn digest(before: &[u8], group: &[u8]) -> [u8; DIGITS]
     ensures { result ≡ digest (before.now ++ group.now) }
 {
     let mut hasher = Sha256::new();

@@ -1,7 +1,7 @@
 // Inputs taken one after another, or in groups, and answered once their lines are on the disk.
 ghost use Rattle.std.specs.Prelude.{◌≡◌, ◌++◌, ◌<◌, ◌≤◌, [], false, true, length, map, take, Some, IfErr, OnOk, OnErr};
 ghost use Rattle.la_journal.specs.Disk.{LeavesOnly};
-ghost use Rattle.la_journal.specs.Lines.{lines};
+ghost use Rattle.la_journal.specs.Journal.{lines};
 ghost use Rattle.la_journal.specs.Machine.{state_after, calls, group_calls, steps, replies, LeadsToSome};
 ghost use Rattle.la_journal.specs.Durable.{IsSettled, IsStop};
 ghost use Rattle.la_journal.specs.Served.{answer_alone, together, unless_none, answers_since, given_since, Answers, KeepsAnswers, IsUnserved};
@@ -28,14 +28,14 @@ pub fn serve_all<M: Machine, D: Disk, O: Outlet<D, Item = M::Output>>(
     ensures answers { Answers (answer_alone M.answer) M.step M.answers
         (calls M.call inputs.now) (M.state durable.old.machine) (O.said outlet.old) (O.said outlet.new) }
     ensures keeps { (start : M.State)
-        → state_after M.named_state M.named M.step start (D.seen durable.old.disk) ≡ Some (M.state durable.old.machine)
+        → state_after M.head M.named_state M.named M.step start (D.seen durable.old.disk) ≡ Some (M.state durable.old.machine)
         → KeepsAnswers (answer_alone M.answer) (D.moment durable.new.disk) (D.left_since durable.new.disk)
-        (state_after M.named_state M.named M.step start) M.step
+        (state_after M.head M.named_state M.named M.step start) M.step
         (calls M.call inputs.now) (M.state durable.old.machine) (given_since (O.said outlet.old) (O.said outlet.new)) }
     ensures any_moment { (start : M.State)
-        → state_after M.named_state M.named M.step start (D.seen durable.old.disk) ≡ Some (M.state durable.old.machine)
+        → state_after M.head M.named_state M.named M.step start (D.seen durable.old.disk) ≡ Some (M.state durable.old.machine)
         → LeavesOnly D.moment D.left_since durable.old.disk durable.new.disk
-        (LeadsToSome (state_after M.named_state M.named M.step start) M.step
+        (LeadsToSome (state_after M.head M.named_state M.named M.step start) M.step
         (calls M.call inputs.now) (M.state durable.old.machine)) }
 
     ensures all { OnOk result ((durable.new.closed ≡ false)
@@ -49,8 +49,8 @@ pub fn serve_all<M: Machine, D: Disk, O: Outlet<D, Item = M::Output>>(
         lines (D.seen durable.new.disk)
         ≡ lines (D.seen durable.old.disk) ++ map M.text (take many (calls M.call inputs.now)) }
     ensures leads { durable.new.closed ≡ false → (start : M.State)
-        → state_after M.named_state M.named M.step start (D.seen durable.old.disk) ≡ Some (M.state durable.old.machine)
-        → state_after M.named_state M.named M.step start (D.seen durable.new.disk) ≡ Some (M.state durable.new.machine) }
+        → state_after M.head M.named_state M.named M.step start (D.seen durable.old.disk) ≡ Some (M.state durable.old.machine)
+        → state_after M.head M.named_state M.named M.step start (D.seen durable.new.disk) ≡ Some (M.state durable.new.machine) }
     ensures open { durable.new.closed ≡ false → IsSettled D.seen D.may_leave durable.new.disk }
     ensures cause { IfErr result (IsUnserved M.lacks_memory durable.new.closed
         (D.faults durable.old.disk) (D.faults durable.new.disk) (O.faults outlet.old) (O.faults outlet.new)
@@ -88,14 +88,14 @@ pub fn serve_groups<M: Machine, D: Disk, O: Outlet<D, Item = Vec<M::Output>>>(
     ensures answers { Answers (together M.answer) M.step M.answers
         (group_calls M.call groups.now) (M.state durable.old.machine) (O.said outlet.old) (O.said outlet.new) }
     ensures keeps { (start : M.State)
-        → state_after M.named_state M.named M.step start (D.seen durable.old.disk) ≡ Some (M.state durable.old.machine)
+        → state_after M.head M.named_state M.named M.step start (D.seen durable.old.disk) ≡ Some (M.state durable.old.machine)
         → KeepsAnswers (together M.answer) (D.moment durable.new.disk) (D.left_since durable.new.disk)
-        (state_after M.named_state M.named M.step start) M.step
+        (state_after M.head M.named_state M.named M.step start) M.step
         (group_calls M.call groups.now) (M.state durable.old.machine) (given_since (O.said outlet.old) (O.said outlet.new)) }
     ensures any_moment { (start : M.State)
-        → state_after M.named_state M.named M.step start (D.seen durable.old.disk) ≡ Some (M.state durable.old.machine)
+        → state_after M.head M.named_state M.named M.step start (D.seen durable.old.disk) ≡ Some (M.state durable.old.machine)
         → LeavesOnly D.moment D.left_since durable.old.disk durable.new.disk
-        (LeadsToSome (state_after M.named_state M.named M.step start) M.step
+        (LeadsToSome (state_after M.head M.named_state M.named M.step start) M.step
         (group_calls M.call groups.now) (M.state durable.old.machine)) }
 
     ensures all { OnOk result ((durable.new.closed ≡ false)
@@ -109,8 +109,8 @@ pub fn serve_groups<M: Machine, D: Disk, O: Outlet<D, Item = Vec<M::Output>>>(
         lines (D.seen durable.new.disk)
         ≡ lines (D.seen durable.old.disk) ++ map M.text (take many (group_calls M.call groups.now)) }
     ensures leads { durable.new.closed ≡ false → (start : M.State)
-        → state_after M.named_state M.named M.step start (D.seen durable.old.disk) ≡ Some (M.state durable.old.machine)
-        → state_after M.named_state M.named M.step start (D.seen durable.new.disk) ≡ Some (M.state durable.new.machine) }
+        → state_after M.head M.named_state M.named M.step start (D.seen durable.old.disk) ≡ Some (M.state durable.old.machine)
+        → state_after M.head M.named_state M.named M.step start (D.seen durable.new.disk) ≡ Some (M.state durable.new.machine) }
     ensures open { durable.new.closed ≡ false → IsSettled D.seen D.may_leave durable.new.disk }
     ensures cause { IfErr result (IsUnserved M.lacks_memory durable.new.closed
         (D.faults durable.old.disk) (D.faults durable.new.disk) (O.faults outlet.old) (O.faults outlet.new)
@@ -145,9 +145,9 @@ fn take_group<M: Machine, D: Disk>(
     ensures answers { map M.answer answers.new.items ≡ replies M.step M.answers
         (take (length answers.new.items) (calls M.call inputs.now.items)) (M.state durable.old.machine) }
     ensures any_moment { (start : M.State)
-        → state_after M.named_state M.named M.step start (D.seen durable.old.disk) ≡ Some (M.state durable.old.machine)
+        → state_after M.head M.named_state M.named M.step start (D.seen durable.old.disk) ≡ Some (M.state durable.old.machine)
         → LeavesOnly D.moment D.left_since durable.old.disk durable.new.disk
-        (LeadsToSome (state_after M.named_state M.named M.step start) M.step
+        (LeadsToSome (state_after M.head M.named_state M.named M.step start) M.step
         (calls M.call inputs.now.items) (M.state durable.old.machine)) }
     ensures all { OnOk result ((durable.new.closed ≡ false) × (length answers.new.items ≡ length inputs.now.items)) }
     ensures closed { durable.new.closed ≡ true → length answers.new.items ≡ 0 }
@@ -157,8 +157,8 @@ fn take_group<M: Machine, D: Disk>(
     ensures lines { durable.new.closed ≡ false → lines (D.seen durable.new.disk) ≡ lines (D.seen durable.old.disk)
         ++ map M.text (take (length answers.new.items) (calls M.call inputs.now.items)) }
     ensures leads { durable.new.closed ≡ false → (start : M.State)
-        → state_after M.named_state M.named M.step start (D.seen durable.old.disk) ≡ Some (M.state durable.old.machine)
-        → state_after M.named_state M.named M.step start (D.seen durable.new.disk) ≡ Some (M.state durable.new.machine) }
+        → state_after M.head M.named_state M.named M.step start (D.seen durable.old.disk) ≡ Some (M.state durable.old.machine)
+        → state_after M.head M.named_state M.named M.step start (D.seen durable.new.disk) ≡ Some (M.state durable.new.machine) }
     ensures open { durable.new.closed ≡ false → IsSettled D.seen D.may_leave durable.new.disk }
     ensures later { D.faults durable.old.disk ≤ D.faults durable.new.disk }
     ensures cause { IfErr result (IsStop M.lacks_memory false durable.new.closed

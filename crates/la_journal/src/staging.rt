@@ -1,21 +1,23 @@
 // Calls that are taken one by one, and whose lines are put on the disk together.
-ghost use Rattle.std.specs.Prelude.{◌≡◌, ◌++◌, ◌∷◌, [], ◌<◌, ◌≤◌, ◌⊎◌, List, ℕ, length, map, true, false, Some, IfOk, IfErr, OnOk, OnErr};
+ghost use Rattle.std.specs.Prelude.{◌≡◌, ◌++◌, ◌∷◌, [], ◌<◌, ◌≤◌, ◌⊎◌, List, ℕ, length, map, vec_capacity, true, false, Some, IfOk, IfErr, OnOk, OnErr};
 ghost use Rattle.la_journal.specs.Disk.{LeavesOnly, Elapses};
-ghost use Rattle.la_journal.specs.Lines.{lines, file_of};
+ghost use Rattle.la_journal.specs.Lines.{file_of};
+ghost use Rattle.la_journal.specs.Journal.{lines};
+ghost use Rattle.la_journal.specs.Records.{ended};
 ghost use Rattle.la_journal.specs.Machine.{state_after, steps, LeadsToSome};
 ghost use Rattle.la_journal.specs.Durable.{IsSettled};
-ghost use Rattle.la_journal.specs.Staging.{IsStageRefusal, IsNotCommitted};
+ghost use Rattle.la_journal.specs.Staging.{IsStageRefusal, IsNotCommitted, are_no_records, room_for};
 
-use crate::durable::{encode, keep};
-use crate::{Disk, Durable, Machine};
+use crate::durable::encode;
+use crate::records::ROOM;
+use crate::{Disk, DiskFault, Durable, Machine};
 use std::alloc::Global;
 use thiserror::Error;
 
 /// Why staged lines are not on the disk. The machine is ahead of the file.
 #[derive(Clone, Copy, Debug, PartialEq, Eq, Error)]
 pub enum Uncommitted {
-    /// The disk failed. Nothing more is taken: the file has the first some of the lines, and has to be recovered
-    /// anew.
+    /// The disk failed. Nothing more is taken: the file has all of the lines or none, and has to be recovered anew.
     #[error("the disk failed")]
     Disk,
 
@@ -44,7 +46,10 @@ pub struct Staged<M: Machine, D: Disk> {
     pub durable: Durable<M, D>,
     // The lines that the file has not, each with its end.
     pub text: Vec<u8>,
-    ghost whole: { text.items ≡ file_of (lines text.items) },
+    ghost whole: { text.items ≡ file_of (ended text.items) },
+    ghost plain: { are_no_records (ended text.items) ≡ true },
+    // And there is room for their record.
+    ghost room: { room_for text.items ≤ vec_capacity text },
 }
 
 impl<M: Machine, D: Disk> Staged<M, D> {
@@ -65,10 +70,10 @@ impl<M: Machine, D: Disk> Staged<M, D> {
         alloc: Global,
         input: &M::Input,
     ) -> Result<M::Output, Unstaged<M::Refusal>>
-        ensures staged { OnOk result ((lines self.new.text.items ≡ lines self.old.text.items ++ M.text (M.call input.now) ∷ [])
+        ensures staged { OnOk result ((ended self.new.text.items ≡ ended self.old.text.items ++ M.text (M.call input.now) ∷ [])
             × (M.step (M.state self.old.durable.machine) (M.call input.now) ≡ Some (M.state self.new.durable.machine))) }
         ensures answer { IfOk result (λ output. M.answer output ≡ M.answers (M.state self.old.durable.machine) (M.call input.now)) }
-        ensures err { OnErr result ((lines self.new.text.items ≡ lines self.old.text.items)
+        ensures err { OnErr result ((self.new.text.items ≡ self.old.text.items)
             × (M.state self.new.durable.machine ≡ M.state self.old.durable.machine)) }
         ensures cause { IfErr result (IsStageRefusal M.lacks_memory self.old.durable.closed
             (M.step (M.state self.old.durable.machine) (M.call input.now))) }
@@ -81,7 +86,7 @@ impl<M: Machine, D: Disk> Staged<M, D> {
         let Ok(line) = encode::<M>(alloc, input) else {
             return Err(Unstaged::Memory);
         };
-        let Ok(()) = self.text.reserve(line.len()) else {
+        let Ok(()) = self.text.reserve(line.len().saturating_add(ROOM)) else {
             return Err(Unstaged::Memory);
         };
         match self.durable.machine.apply(input) {
@@ -93,12 +98,12 @@ impl<M: Machine, D: Disk> Staged<M, D> {
         }
     }
 
-    /// Puts all staged lines behind the file's and has them on the disk: one append and one sync, and neither
-    /// where nothing is staged.
+    /// Puts all staged lines behind the file's, as one group with its record, and has them on the disk: one append and
+    /// one sync, and neither where nothing is staged.
     pub fn commit(&mut self) -> Result<(), Uncommitted>
         requires { self.old.durable.closed ≡ false → IsSettled D.seen D.may_leave self.old.durable.disk }
         ensures ok { OnOk result ((self.new.durable.closed ≡ false)
-            × (lines (D.seen self.new.durable.disk) ≡ lines (D.seen self.old.durable.disk) ++ lines self.old.text.items)
+            × (lines (D.seen self.new.durable.disk) ≡ lines (D.seen self.old.durable.disk) ++ ended self.old.text.items)
             × (self.new.text.items ≡ [])) }
         ensures machine { self.new.durable.machine ≡ self.old.durable.machine }
         ensures open { self.new.durable.closed ≡ false → IsSettled D.seen D.may_leave self.new.durable.disk }
@@ -110,16 +115,16 @@ impl<M: Machine, D: Disk> Staged<M, D> {
 
         // The journal leads on by the calls whose lines were staged.
         ensures leads { OnOk result ((start before : M.State) (calls : List M.Call)
-            → state_after M.named_state M.named M.step start (D.seen self.old.durable.disk) ≡ Some before
-            → lines self.old.text.items ≡ map M.text calls
-            → state_after M.named_state M.named M.step start (D.seen self.new.durable.disk) ≡ steps M.step calls before) }
+            → state_after M.head M.named_state M.named M.step start (D.seen self.old.durable.disk) ≡ Some before
+            → ended self.old.text.items ≡ map M.text calls
+            → state_after M.head M.named_state M.named M.step start (D.seen self.new.durable.disk) ≡ steps M.step calls before) }
 
         // And a crash at any moment leaves a file that leads on by the first some of them.
         ensures any_moment { self.old.durable.closed ≡ false → (start before : M.State) (calls : List M.Call)
-            → state_after M.named_state M.named M.step start (D.seen self.old.durable.disk) ≡ Some before
-            → lines self.old.text.items ≡ map M.text calls
+            → state_after M.head M.named_state M.named M.step start (D.seen self.old.durable.disk) ≡ Some before
+            → ended self.old.text.items ≡ map M.text calls
             → LeavesOnly D.moment D.left_since self.old.durable.disk self.new.durable.disk
-            (LeadsToSome (state_after M.named_state M.named M.step start) M.step calls before) }
+            (LeadsToSome (state_after M.head M.named_state M.named M.step start) M.step calls before) }
     {
         if self.durable.closed {
             return Err(Uncommitted::Closed);
@@ -127,13 +132,14 @@ impl<M: Machine, D: Disk> Staged<M, D> {
         if self.text.is_empty() {
             return Ok(());
         }
-        match keep(&mut self.durable.disk, &self.text) {
+        let staged = self.text.len();
+        match self.durable.keep(&mut self.text) {
             Ok(()) => {
                 self.text.clear();
                 Ok(())
             }
-            Err(_) => {
-                self.durable.closed = true;
+            Err(DiskFault) => {
+                self.text.truncate(staged);
                 Err(Uncommitted::Disk)
             }
         }

@@ -3,6 +3,7 @@ ghost use Rattle.std.specs.Prelude.{IsTrue, IsOk, IfOk, IfErr, OnOk, OnErr};
 ghost use Rattle.std.specs.Map.{remove_entry};
 ghost use Rattle.std.specs.Option.{option_copied, is_some};
 ghost use Rattle.la_set.specs.Inclusion.{IsSubset};
+ghost use Rattle.la_proposer.specs.Majority.{votes_of};
 ghost use Rattle.la_proposer.specs.ProposerState.{op_on};
 ghost use Rattle.la_commit.specs.Instances.{first_instance};
 ghost use Rattle.la_object.specs.Objects.{kind_of};
@@ -12,7 +13,7 @@ ghost use Rattle.la_replica.specs.Whole.{whole_mail};
 ghost use Rattle.la_replica.specs.Received.{IsSeenWithin};
 ghost use Rattle.la_replica.specs.Parcels.{unwrapped_in, UnwrapsIn, IsParcelRefusal};
 ghost use Rattle.la_replica.specs.Bases.{AreToldIn};
-ghost use Rattle.la_replica.specs.ReplicaState.{last_learnt, submitted_in};
+ghost use Rattle.la_replica.specs.ReplicaState.{last_learnt, submitted_in, update_cap, commits_of};
 ghost use Rattle.la_replica.specs.Refusals.{IsSubmitRefusal, IsReceiptRefusal};
 ghost use Rattle.la_replica.specs.Steps.{learnt_in};
 ghost use Rattle.la_replica.specs.Refusals.{HasRoom, SubmittingSpares};
@@ -29,6 +30,7 @@ use crate::participant::{for_memory, outcome_by, returned, take_prepared};
 use crate::{Config, Done, WorldError};
 use la_commit::{Fresh, MAX_COMMITS, Outcome, first_instance};
 use la_object::{Answer, Query, Replicated, Shelf, ShelfError, State};
+use la_proposer::Votes;
 use la_replica::{Mail, Message, Out, Parcel, Replica, ReplicaError};
 use la_set::{Counts, Op, Tags, UpdateSet};
 use std::alloc::{AllocError, Global};
@@ -108,6 +110,27 @@ impl<B: Replicated> Node<B> {
         ensures { result ≡ length self.now.replica.votes }
     {
         self.replica.replicas()
+    }
+
+    /// The votes of its group.
+    pub fn votes(&self) -> Votes
+        ensures { votes_of result ≡ self.now.replica.votes }
+    {
+        self.replica.votes()
+    }
+
+    /// How many updates it may submit in instance 0.
+    pub fn cap(&self) -> u32
+        ensures { result ≡ update_cap self.now.replica }
+    {
+        self.replica.cap()
+    }
+
+    /// How many adopt-commit objects its group has: at most 16.
+    pub fn commits(&self) -> u8
+        ensures { result ≡ commits_of self.now.replica }
+    {
+        self.replica.commits()
     }
 
     /// What it answers questions from.

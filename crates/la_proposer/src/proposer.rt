@@ -117,6 +117,13 @@ impl Proposer {
         }
     }
 
+    /// How many updates it may submit: 1 to [`MAX_CAP`].
+    pub fn cap(&self) -> u32
+        ensures { result ≡ self.now.cap }
+    {
+        self.cap
+    }
+
     /// The last ballot's set; empty before the first.
     pub fn updates(&self) -> &UpdateSet
         ensures { result.now ≡ self.now.updates }

@@ -14,6 +14,7 @@ ghost use Rattle.la_replica.specs.Received.{IsToldWithin, IsSeenWithin};
 ghost use Rattle.la_replica.specs.Bases.{offered_by, AreToldIn, AreToldFrom};
 ghost use Rattle.la_replica.specs.ReplicaState.{ReplicaState, start, submits, receives, sender_of};
 ghost use Rattle.la_replica.specs.ReplicaState.{last_learnt, submitted_in, InInstance};
+ghost use Rattle.la_replica.specs.ReplicaState.{update_cap, commits_of};
 ghost use Rattle.la_replica.specs.Invariant.{IsReplicaState};
 ghost use Rattle.la_replica.specs.Refusals.{IsSubmitRefusal, IsReceiveRefusal, IsReceiptRefusal};
 ghost use Rattle.la_replica.specs.Refusals.{IsFor, MayReceive, TakesMessage};
@@ -125,6 +126,27 @@ impl Replica {
         ensures { result ≡ length self.now.votes }
     {
         self.votes.len() as u8
+    }
+
+    /// The votes of its group.
+    pub fn votes(&self) -> Votes
+        ensures { votes_of result ≡ self.now.votes }
+    {
+        self.votes
+    }
+
+    /// How many updates it may submit in instance 0.
+    pub fn cap(&self) -> u32
+        ensures { result ≡ update_cap self.now }
+    {
+        self.instances[0].proposer.cap()
+    }
+
+    /// How many adopt-commit objects its group has: at most 16.
+    pub fn commits(&self) -> u8
+        ensures { result ≡ commits_of self.now }
+    {
+        (self.instances.len() / 2) as u8
     }
 
     /// What the replica answers questions from: of the sets of instance 0 that it learnt or was

@@ -12,7 +12,8 @@ use Rattle.la_io.proofs.lemmas.Fronts.{prefix_more, prefix_behind}
 use Rattle.la_journal.specs.Disk.{LeavesOnly}
 use Rattle.la_journal.specs.Durable.{IsSettled}
 use Rattle.la_journal.specs.Giving.{GivenAt}
-use Rattle.la_journal.specs.Lines.{lines}
+use Rattle.la_journal.specs.Journal.{lines}
+use Rattle.la_journal.specs.Records.{ended}
 use Rattle.la_journal.specs.Machine.{steps, LeadsToSome}
 use Rattle.la_durable.specs.CallLines.{CallLine}
 use Rattle.la_durable.specs.Nodes.{step}
@@ -52,7 +53,7 @@ waits p = record { out = p.out; given = p.given; held = p.held; staged = p.text;
 
 -- as a step has it
 abbrev pub held_io : {D E : Type 0} → Point D E → Io
-held_io p = record { objects = p.objects; state = p.state; left = p.ahead; out = Some p.held; journal = lines p.text }
+held_io p = record { objects = p.objects; state = p.state; left = p.ahead; out = Some p.held; journal = ended p.text }
 
 -- what may be missing of what is held back, by why no more is read
 abbrev pub Missing : NodeFault → (more : List ℕ) → Type 0
@@ -115,7 +116,7 @@ module _ {D R W E : Type 0} (f : Facts D R W E) (first : Point D E) where
     pub wrote : Appends first.out p.out (written done)
     pub holds : p.held ≡ written group
     pub journal : lines (f.seen p.disk) ≡ lines (f.seen first.disk) ++ kept_lines done
-    pub stages : lines p.text ≡ kept_lines group
+    pub stages : ended p.text ≡ kept_lines group
     pub tells : TellsAll f.heard f.refuses first.errors p.errors (turns_told (done ++ group))
     pub crash : Crash between p.disk p.given done
 
@@ -130,7 +131,7 @@ module _ {D R W E : Type 0} (f : Facts D R W E) (first : Point D E) where
     pub wrote : Appends first.out p.out (written done)
     pub holds : p.held ++ more ≡ written group
     pub journal : lines (f.seen p.disk) ≡ lines (f.seen first.disk) ++ kept_lines done
-    pub stages : lines p.text ≡ kept_lines group
+    pub stages : ended p.text ≡ kept_lines group
     pub rest : List ℕ
     pub tells : TellsAll f.heard f.refuses first.errors p.errors
         (turns_told (done ++ group) ++ cut_told (1 + length (done ++ group)) rest)
@@ -154,7 +155,7 @@ module _ {D R W E : Type 0} (f : Facts D R W E) (first : Point D E) where
     wrote = Appends-nil first.out;
     holds = empty;
     journal = sym (append-nil (lines (f.seen first.disk)));
-    stages = ap lines unstaged;
+    stages = ap ended unstaged;
     tells = refl;
     crash = crash_none f.seen f.may_leave f.moment f.left_since first.state first.disk first.given settled only_now;
   }
@@ -245,9 +246,9 @@ module _ {D R W E : Type 0} (f : Facts D R W E) (first : Point D E) where
       -- no more is read
       module _ (pending : List ℕ) (left : Option (List ℕ)) (is : q.ahead ≡ prepend_known pending left) where
         -- the input is at its end
-        unfoldable pub ended : InputEnds number (TellsAll f.heard f.refuses p.errors q.errors) (held_io p) (held_io q)
+        unfoldable pub at_end : InputEnds number (TellsAll f.heard f.refuses p.errors q.errors) (held_io p) (held_io q)
             → CutSo left q []
-        ended s = record {
+        at_end s = record {
           done = so.done;
           group = so.group;
           between = so.between;
@@ -343,7 +344,8 @@ module _ {D R W E : Type 0} (f : Facts D R W E) (first : Point D E) where
         step_cut fault.Memory (inr r) = ((one_cut r).0, (one_cut r).1, tt)
         step_cut fault.BadConfig r = absurd r
         step_cut fault.Locked r = absurd r
-        step_cut fault.BadJournal r = absurd r
+        step_cut (fault.BadJournal line) r = absurd r
+        step_cut (fault.OtherOptions option) r = absurd r
         step_cut fault.DiskFault r = absurd r
 
   -- ## What is held back is written, or is not
@@ -367,7 +369,7 @@ module _ {D R W E : Type 0} (f : Facts D R W E) (first : Point D E) where
       wrote = subst (λ (w : Waiting D). Appends first.out w.out (written so.done)) (sym same) so.wrote;
       holds = ap (λ (w : Waiting D). w.held) same ∙ so.holds;
       journal = ap (λ (w : Waiting D). lines (f.seen w.disk)) same ∙ so.journal;
-      stages = ap (λ (w : Waiting D). lines w.staged) same ∙ so.stages;
+      stages = ap (λ (w : Waiting D). ended w.staged) same ∙ so.stages;
       tells =
           subst (λ e. TellsAll f.heard f.refuses first.errors e (turns_told (so.done ++ so.group))) (sym errors)
           so.tells;
@@ -396,7 +398,7 @@ module _ {D R W E : Type 0} (f : Facts D R W E) (first : Point D E) where
               ∙ append_assoc (lines (f.seen first.disk)) (kept_lines so.done) (kept_lines so.group)
               ∙ ap (λ k. lines (f.seen first.disk) ++ k)
               (sym (flat_map-append (λ (t : Turn). t.kept) so.done so.group));
-          stages = ap lines w.none_staged;
+          stages = ap ended w.none_staged;
           tells =
               subst (λ e. TellsAll f.heard f.refuses first.errors e (turns_told ((so.done ++ so.group) ++ [])))
               (sym errors)
@@ -509,7 +511,8 @@ module _ {D R W E : Type 0} (f : Facts D R W E) (first : Point D E) where
         unflushed fault.ReadFault r = absurd r
         unflushed fault.BadConfig r = absurd r
         unflushed fault.Locked r = absurd r
-        unflushed fault.BadJournal r = absurd r
+        unflushed (fault.BadJournal line) r = absurd r
+        unflushed (fault.OtherOptions option) r = absurd r
 
       -- and why no more is read
       pub then_refused : (why : NodeFault) → Missing why more → Flushed p q
@@ -519,7 +522,8 @@ module _ {D R W E : Type 0} (f : Facts D R W E) (first : Point D E) where
       then_refused fault.Memory m w = serves_some AppendsPrefix (front (all_front w.wrote)) w.commits w.given
       then_refused fault.BadConfig m w = absurd m
       then_refused fault.Locked m w = absurd m
-      then_refused fault.BadJournal m w = absurd m
+      then_refused (fault.BadJournal line) m w = absurd m
+      then_refused (fault.OtherOptions option) m w = absurd m
       then_refused fault.DiskFault m w = absurd m
 
     -- all was read and written
@@ -530,9 +534,9 @@ module _ {D R W E : Type 0} (f : Facts D R W E) (first : Point D E) where
         → InputEnds number (TellsAll f.heard f.refuses p.errors q.errors) (held_io p) (held_io q) → Flushed q r
         → ServesAll (TellsAll f.heard f.refuses first.errors q.errors) (Left r) (run_io first.ahead first)
         (run_io left r)
-    unfolding ended
+    unfolding at_end
     serves_all p q r number so objects same out given pending left is state only_now s w =
-        let cut : CutSo left q [] = ended p number so q objects same out given pending left is s in
+        let cut : CutSo left q [] = at_end p number so q objects same out given pending left is s in
         record {
           turns = so.done ++ so.group;
           rest = s.rest;

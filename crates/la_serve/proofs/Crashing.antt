@@ -8,7 +8,7 @@ use Rattle.la_journal.specs.Durable.{IsSettled}
 use Rattle.la_journal.specs.Giving.{GivenAt}
 use Rattle.la_journal.specs.Machine.{steps, steps_from, goes_on, LeadsToSome}
 use Rattle.la_journal.specs.Served.{LeadsToAtLeast}
-use Rattle.la_journal.specs.Lines.{lines}
+use Rattle.la_journal.specs.Records.{ended}
 use Rattle.la_durable.specs.CallLines.{CallLine}
 use Rattle.la_durable.specs.Nodes.{step}
 use Rattle.la_durable.specs.Restarts.{leads_from}
@@ -136,7 +136,7 @@ module _ {D : Type 0} (seen : D → List ℕ) (may_leave : D → List ℕ → Ty
       (n between after : ReplicaState) (old now new : D) (given_first given_now : List GivenAt) (turns last : List Turn)
       (staged : List ℕ)
       (so : CrashSo AreTextsOf n between old now given_first given_now turns) (then : Led between after last)
-      (is : lines staged ≡ kept_lines last)
+      (is : ended staged ≡ kept_lines last)
       (some : CommitsSome seen moment left_since staged now new) where
     throughout : (start : ReplicaState) → leads_from start (seen old) ≡ Some n
         → LeavesOnly moment left_since old new (LeadsToSome (leads_from start) step (so.led.calls ++ then.calls) n)

@@ -5,14 +5,12 @@ use Rattle.std.proofs.lemmas.List.{length-append, map-append, take_at}
 use Rattle.std.proofs.lemmas.Grind.{flat_map-append}
 use Rattle.la_object.specs.declared.kind.Kind.{Kind}
 use Rattle.la_journal.specs.Giving.{GivenAt}
-use Rattle.la_journal.specs.Lines.{lines}
 use Rattle.la_journal.specs.Lives.{Life, AreLives, LivesAreOneRun}
-use Rattle.la_journal.specs.Journal.{journal}
-use Rattle.la_journal.specs.Machine.{steps, steps_from, plays_line, begins_with, LeadsToSome}
+use Rattle.la_journal.specs.Machine.{steps, steps_from, LeadsToSome}
 use Rattle.la_journal.specs.Served.{LeadsToAtLeast}
 use Rattle.la_node.specs.Steps.{Given}
 use Rattle.la_wire.specs.CallLines.{named_call}
-use Rattle.la_durable.specs.CallLines.{CallLine, call_line}
+use Rattle.la_durable.specs.CallLines.{CallLine}
 use Rattle.la_durable.specs.Nodes.{acts_by, step}
 use Rattle.la_durable.specs.Restarts.{leads_from}
 use Rattle.la_serve.specs.Turns.{Turn}
@@ -129,7 +127,7 @@ module _ {D : Type 0} (seen : D → List ℕ) (may_leave : D → List ℕ → Ty
   life_leads fresh first life c is =
       subst (λ cs. LeadsToAtLeast (leads_from fresh) step life.answered cs first c) (sym is.calls) (by is.killed)
     where
-      by : ((life.answered ≡ 0) × (lines c ≡ lines (seen is.disk)))
+      by : ((life.answered ≡ 0) × (leads_from fresh c ≡ leads_from fresh (seen is.disk)))
           ⊎ (((life.answered ≡ 0) × left_since is.final (moment is.run.recovered) c)
           ⊎ KilledBehind (left_since is.final) is.run.left.groups is.run.left.given life.answered c)
           → LeadsToAtLeast (leads_from fresh) step life.answered (is.run.left.calls ++ is.run.left.later) first c
@@ -137,12 +135,7 @@ module _ {D : Type 0} (seen : D → List ℕ) (may_leave : D → List ℕ → Ty
         0,
         omega (arith, recovering.0),
         omega arith,
-        ap
-            (λ (ls : List (List ℕ)).
-            steps_from (plays_line call_line step) (journal ls).calls (begins_with (λ _. None) (journal ls).state
-            fresh))
-            recovering.1
-            ∙ is.plays,
+        recovering.1 ∙ is.plays,
       )
       by (inr (inl none)) =
           let some = (is.run.left.any_moment fresh is.run.leads).each c none.1 in

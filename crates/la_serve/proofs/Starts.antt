@@ -1,5 +1,6 @@
 -- What a start leads to.
-use Rattle.std.proofs.Common.{◌≡◌, ℕ, zero, suc, List, [], ◌++◌, refl, sym, ap, ◌∙◌, arith, Option, Some, None, option_map, Result, Ok, Err, OnOk, IfErr, inl, inr}
+use Rattle.std.proofs.Common.{◌≡◌, Bool, true, false, ℕ, zero, suc, List, [], ◌++◌, refl, sym, ap, ◌∙◌, arith, ◌⊎◌, length, Option, Some, None, option_map, Result, Ok, Err, OnOk, IfErr, inl, inr}
+use Rattle.std.proofs.lemmas.Bool.{false≢true}
 use Rattle.std.proofs.lemmas.Option.{none-some}
 use Rattle.std.specs.Io.KnownBytes.{Appends}
 use Rattle.la_io.specs.Streams.{AppendsPrefix}
@@ -9,10 +10,22 @@ use Rattle.la_set.specs.Inclusion.{IsSubset}
 use Rattle.la_set.proofs.lemmas.SetHistories.{history-empty}
 use Rattle.la_object.specs.declared.kind.Kind.{Kind}
 use Rattle.la_journal.specs.Disk.{LeavesOnly}
-use Rattle.la_journal.specs.Durable.{IsSameOr}
-use Rattle.la_journal.specs.Lines.{lines}
+use Rattle.la_journal.specs.Durable.{IsSameOr, IsUntouched}
+use Rattle.la_journal.specs.Playing.{rest_in, IsNotPlayed}
+use Rattle.la_journal.specs.Records.{parts}
+use Rattle.la_journal.specs.declared.recovery.Unplayed.{Unplayed}
+use Rattle.la_journal.specs.declared.recovery.Unplayed.TheVariants as cause
+use Rattle.la_durable.specs.CallLines.{call_line}
+use Rattle.la_durable.specs.Nodes.{step}
+use Rattle.la_durable.specs.Heads.{node_head}
+use Rattle.la_durable.specs.Errors.{IsForMemory}
+use Rattle.la_durable.specs.declared.error.NodeError.{NodeError}
+use Rattle.la_durable.specs.declared.error.NodeError.TheVariants as node
+use Rattle.la_serve.specs.Faults.{of_journal}
+use Rattle.la_journal.specs.Journal.{lines}
 use Rattle.la_durable.specs.Restarts.{leads_from}
 use Rattle.la_io.specs.Streams.{TellsAll}
+use Rattle.la_io.proofs.lemmas.TellingOn.{tells_on}
 use Rattle.la_serve.specs.declared.error.NodeFault.{NodeFault}
 use Rattle.la_serve.specs.declared.error.NodeFault.TheVariants as fault
 use Rattle.la_serve.specs.declared.options.Options.{Options}
@@ -20,23 +33,24 @@ use Rattle.la_serve.specs.Io.{Io, Streams, Facts, io_with}
 use Rattle.la_serve.specs.Turns.{Turn}
 use Rattle.la_serve.specs.Serving.{ServesAll, ServesSome, ServesClosed, IsServeRefusal, kept_lines}
 use Rattle.la_serve.specs.Crashes.{Leaves, LeftBy, at_start}
-use Rattle.la_serve.specs.Starting.{RunsAll, RunsCut, RunsNot, IsServerStartRefusal}
+use Rattle.la_serve.specs.Starting.{RunsAll, RunsCut, RunsNot, IsServerStartRefusal, TellsOfRun, torn_told}
 use Rattle.la_replica.specs.ReplicaState.{ReplicaState}
 
 -- nothing lies in every set
 pub nothing_within : (s : Histories) → IsSubset empty s
 nothing_within s u is =
     absurd
-    (none-some u (sym (ap (λ (ds : List ObjectOp). option_map (update_of u.id.replica u.id.number) (object_op_number ds u.id.number)) (history-empty u.id.replica)
+    (none-some u (sym (ap (λ (ds : List ObjectOp). option_map (update_of u.id.replica u.id.number) (object_op_number
+        ds u.id.number)) (history-empty u.id.replica)
     ∙ ap (option_map (update_of u.id.replica u.id.number)) (nothing_at u.id.number)) ∙ is))
   where
     nothing_at : (k : ℕ) → object_op_number [] k ≡ None
     nothing_at zero = refl
     nothing_at (suc k) = refl
 
--- ## What a crash leaves, in other words, and the journal by other bytes
+-- ## What a crash leaves, in other words, with what was told before, and the journal by other bytes
 
-module _ (Told : List (List ℕ) → Type 0) (Left Left2 : (turns last : List Turn) → Type 0)
+module _ (Told Told2 : List (List ℕ) → Type 0) (told : (ts : List (List ℕ)) → Told ts → Told2 ts) (Left Left2 : (turns last : List Turn) → Type 0)
     (to : (turns last : List Turn) → Left turns last → Left2 turns last) (before after : Io) (journal : List (List ℕ))
     (same : before.journal ≡ journal) (objects : List (ℕ × Kind)) where
   abbrev from : Io
@@ -45,10 +59,11 @@ module _ (Told : List (List ℕ) → Type 0) (Left Left2 : (turns last : List Tu
   abbrev till : Io
   till = record after { objects = objects }
 
-  behind : (turns : List Turn) → after.journal ≡ before.journal ++ kept_lines turns → after.journal ≡ journal ++ kept_lines turns
+  behind : (turns : List Turn) → after.journal ≡ before.journal ++ kept_lines turns → after.journal ≡ journal ++
+      kept_lines turns
   behind turns is = is ∙ ap (λ (ls : List (List ℕ)). ls ++ kept_lines turns) same
 
-  pub serves_to : ServesAll Told Left before after → ServesAll Told Left2 from till
+  pub serves_to : ServesAll Told Left before after → ServesAll Told2 Left2 from till
   serves_to s = record {
     turns = s.turns;
     rest = s.rest;
@@ -56,12 +71,12 @@ module _ (Told : List (List ℕ) → Type 0) (Left Left2 : (turns last : List Tu
     read = s.read;
     wrote = s.wrote;
     journal = behind s.turns s.journal;
-    tells = s.tells;
+    tells = told _ s.tells;
     left = to s.turns [] s.left;
   }
 
   some_to : (Wrote : (before after : Option (List ℕ)) → List ℕ → Type 0) → ServesSome Told Left Wrote before after
-      → ServesSome Told Left2 Wrote from till
+      → ServesSome Told2 Left2 Wrote from till
   some_to Wrote s = record {
     turns = s.turns;
     are = s.are;
@@ -69,11 +84,11 @@ module _ (Told : List (List ℕ) → Type 0) (Left Left2 : (turns last : List Tu
     wrote = s.wrote;
     journal = behind s.turns s.journal;
     rest = s.rest;
-    tells = s.tells;
+    tells = told _ s.tells;
     left = to s.turns [] s.left;
   }
 
-  closed_to : ServesClosed Told Left before after → ServesClosed Told Left2 from till
+  closed_to : ServesClosed Told Left before after → ServesClosed Told2 Left2 from till
   closed_to s = record {
     turns = s.turns;
     last = s.last;
@@ -82,30 +97,38 @@ module _ (Told : List (List ℕ) → Type 0) (Left Left2 : (turns last : List Tu
     read = s.read;
     wrote = s.wrote;
     rest = s.rest;
-    tells = s.tells;
+    tells = told _ s.tells;
     left = to s.turns s.last s.left;
   }
 
-  pub refusal_to : (f : NodeFault) → IsServeRefusal Told Left before after f → IsServeRefusal Told Left2 from till f
+  pub refusal_to : (f : NodeFault) → IsServeRefusal Told Left before after f → IsServeRefusal Told2 Left2 from till f
   refusal_to fault.DiskFault s = closed_to s
   refusal_to fault.ReadFault s = some_to Appends s
   refusal_to fault.WriteFault s = some_to AppendsPrefix s
   refusal_to fault.Memory s = some_to AppendsPrefix s
   refusal_to fault.BadConfig s = s
   refusal_to fault.Locked s = s
-  refusal_to fault.BadJournal s = s
+  refusal_to (fault.BadJournal line) s = s
+  refusal_to (fault.OtherOptions option) s = s
 
 -- ## A run, by what was served behind its recovery
 
 module _ {D R W E : Type 0} (f : Facts D R W E) (objects objects2 : List (ℕ × Kind)) (options : Options)
-    (disk recovered final : D) (old new : Streams R W E) (before now : ReplicaState)
+    (disk recovered final : D) (old new : Streams R W E) (between : E) (before now : ReplicaState)
     (plays : leads_from (at_start options.config options.own) (f.seen disk) ≡ Some before)
     (leads : leads_from (at_start options.config options.own) (f.seen recovered) ≡ Some before)
     (same : lines (f.seen recovered) ≡ lines (f.seen disk))
-    (recovery : LeavesOnly f.moment f.left_since disk recovered (IsSameOr (f.may_leave disk) (lines (f.seen disk))))
+    (recovery : LeavesOnly f.moment f.left_since disk recovered (IsSameOr (f.may_leave disk)
+    (leads_from (at_start options.config options.own)) (f.seen disk)))
+    (told_first : TellsAll f.heard f.refuses old.errors between (torn_told (length (rest_in (parts (f.seen disk))))))
   where
     abbrev Told : List (List ℕ) → Type 0
-    Told = TellsAll f.heard f.refuses old.errors new.errors
+    Told = TellsAll f.heard f.refuses between new.errors
+
+    behind_first : (ls : List (List ℕ)) → Told ls → TellsOfRun f disk old new ls
+    behind_first ls told =
+        tells_on f.heard f.refuses old.errors between new.errors (torn_told (length (rest_in (parts (f.seen disk))))) ls
+        told_first told
 
     abbrev Here : (turns last : List Turn) → Type 0
     Here = Leaves f.seen f.may_leave f.moment f.left_since before recovered final old.given new.given
@@ -130,7 +153,7 @@ module _ {D R W E : Type 0} (f : Facts D R W E) (objects objects2 : List (ℕ ×
       plays = plays;
       journal = lines (f.seen final);
       now = now;
-      serves = serves_to Told Here There of_run at_first at_last (lines (f.seen disk)) same objects s;
+      serves = serves_to Told (TellsOfRun f disk old new) behind_first Here There of_run at_first at_last (lines (f.seen disk)) same objects s;
     }
     runs (Err e) s = tt
 
@@ -141,7 +164,7 @@ module _ {D R W E : Type 0} (f : Facts D R W E) (objects objects2 : List (ℕ ×
       plays = plays;
       journal = lines (f.seen final);
       now = now;
-      stops = refusal_to Told Here There of_run at_first at_last (lines (f.seen disk)) same objects why s;
+      stops = refusal_to Told (TellsOfRun f disk old new) behind_first Here There of_run at_first at_last (lines (f.seen disk)) same objects why s;
     }
 
     run_stops : (why : NodeFault) → IsServeRefusal Told Here at_first at_last why
@@ -152,7 +175,8 @@ module _ {D R W E : Type 0} (f : Facts D R W E) (objects objects2 : List (ℕ ×
     run_stops fault.DiskFault s = inr (cut fault.DiskFault s)
     run_stops fault.BadConfig s = absurd s
     run_stops fault.Locked s = absurd s
-    run_stops fault.BadJournal s = absurd s
+    run_stops (fault.BadJournal line) s = absurd s
+    run_stops (fault.OtherOptions option) s = absurd s
 
     pub stops : {T : Type 0} (r : Result T NodeFault) → IfErr r (IsServeRefusal Told Here at_first at_last)
         → IfErr r (IsServerStartRefusal f objects options disk final old new)
@@ -162,9 +186,10 @@ module _ {D R W E : Type 0} (f : Facts D R W E) (objects objects2 : List (ℕ ×
 -- ## A run that did not begin
 
 -- nothing happened to the disk
-pub untouched : {D R W E : Type 0} (f : Facts D R W E) (disk : D) (streams : Streams R W E)
-    → ((c : List ℕ) → f.left_since disk (f.moment disk) c → f.may_leave disk c) → RunsNot f disk disk streams streams
-untouched f disk streams only_now = record {
+pub untouched : {D R W E : Type 0} (f : Facts D R W E) (options : Options) (disk : D) (streams : Streams R W E)
+    → ((c : List ℕ) → f.left_since disk (f.moment disk) c → f.may_leave disk c)
+    → RunsNot f options disk disk streams streams
+untouched f options disk streams only_now = record {
   unread = refl;
   unwritten = refl;
   ungiven = refl;
@@ -175,3 +200,57 @@ untouched f disk streams only_now = record {
     before = λ t c le left. inl left;
   };
 }
+
+-- a refusal that is not for memory
+abbrev is_memory : NodeError → Bool
+is_memory node.Memory = true
+is_memory _ = false
+
+for_memory : {S : Type 0} (refusal : NodeError) (led : Option S) → (IsForMemory refusal → ⊥)
+    → IsForMemory refusal ⊎ (led ≡ None) → led ≡ None
+for_memory refusal led other (inl is) = absurd (other is)
+for_memory refusal led other (inr none) = none
+
+module _ {D R W E : Type 0} (f : Facts D R W E) (objects : List (ℕ × Kind)) (options : Options) (disk final : D)
+    (old new : Streams R W E) (faults faults_after : ℕ) where
+  abbrev fresh : ReplicaState
+  fresh = at_start options.config options.own
+
+  abbrev led : Option ReplicaState
+  led = leads_from fresh (f.seen disk)
+
+  abbrev Cause : (before after : ℕ) → Unplayed NodeError → Type 0
+  Cause before after why =
+      IsNotPlayed IsForMemory node_head (λ _. None) call_line step fresh before after (f.seen disk) why
+
+  abbrev told_of : Unplayed NodeError → NodeFault
+  told_of why = of_journal (node_head fresh) options.config.replicas why
+
+  -- a journal was not played: what is told says why
+  module _ (not : RunsNot f options disk final old new) where
+    bad : (line : ℕ) (why : Unplayed NodeError) → final ≡ disk → led ≡ None
+        → Cause 0 0 why → fault.BadJournal line ≡ told_of why
+        → IsServerStartRefusal f objects options disk final old new (fault.BadJournal line)
+    bad line why same nowhere is told_as =
+        (not, same, record { nowhere = nowhere; why = why; is = is; told_as = told_as })
+
+    pub not_played : (why : Unplayed NodeError) → IsUntouched disk final why → Cause faults faults_after why
+        → IsServerStartRefusal f objects options disk final old new (told_of why)
+    not_played cause.Memory same is = inl not
+    not_played cause.Disk same is = inl not
+    not_played cause.NoHead same is = bad 1 cause.NoHead same is.0 is refl
+    not_played (cause.OtherHead place) same is =
+        (not, same, record { nowhere = is.0; why = cause.OtherHead place; is = is; told_as = refl })
+    not_played (cause.NoState line) same is = bad line (cause.NoState line) same is.0 is refl
+    not_played (cause.NoCall line) same is = bad line (cause.NoCall line) same is.0 is refl
+    not_played (cause.Misplaced line) same is = bad line (cause.Misplaced line) same is.0 is refl
+    not_played (cause.Refused line node.Memory) same is = inl not
+    not_played (cause.Refused line node.Elsewhere) same is =
+        bad line (cause.Refused line node.Elsewhere) same (for_memory node.Elsewhere led (λ m. false≢true (ap is_memory m)) is.0) is refl
+    not_played (cause.Refused line node.Unkept) same is =
+        bad line (cause.Refused line node.Unkept) same (for_memory node.Unkept led (λ m. false≢true (ap is_memory m)) is.0) is refl
+    not_played (cause.Refused line (node.Replica e)) same is =
+        bad line (cause.Refused line (node.Replica e)) same (for_memory (node.Replica e) led (λ m. false≢true (ap is_memory m)) is.0) is refl
+    not_played (cause.Refused line (node.Proposal e)) same is =
+        bad line (cause.Refused line (node.Proposal e)) same (for_memory (node.Proposal e) led (λ m. false≢true (ap is_memory m)) is.0) is refl
+    not_played (cause.Damaged line) same is = bad line (cause.Damaged line) same is.0 is refl

@@ -5,7 +5,8 @@ use Rattle.la_io.specs.Streams.{AppendsPrefix}
 use Rattle.la_journal.specs.declared.disk.Disk.{Ghosts}
 use Rattle.la_journal.specs.Disk.{LeavesOnly}
 use Rattle.la_journal.specs.Giving.{GivenAt}
-use Rattle.la_journal.specs.Lines.{lines as lines_in}
+use Rattle.la_journal.specs.Records.{ended}
+use Rattle.la_journal.specs.Journal.{lines as lines_in}
 use Rattle.la_journal.specs.Machine.{steps, LeadsToSome}
 use Rattle.la_journal.specs.Served.{LeadsToAtLeast}
 use Rattle.la_journal.specs.Durable.{IsSettled, IsSameOr}
@@ -93,12 +94,12 @@ pub record Leaves {D : Type 0} (seen : D → List ℕ) (may_leave : D → List �
       → KeepsGiven (moment new) (left_since new) (leads_from start) (calls ++ later) n groups given
 
 -- The same of a run from its start on, which first recovered the journal: of that a crash leaves what might have been
--- left before, or the same lines.
+-- left before, or what leads to the same.
 pub record LeavesOfRun {D : Type 0} (seen : D → List ℕ) (may_leave : D → List ℕ → Type 0) (moment : D → ℕ)
     (left_since : D → ℕ → List ℕ → Type 0) (fresh : ReplicaState) (disk final : D) (n : ReplicaState)
     (before after : List GivenAt) (turns last : List Turn) : Type 0 where
   pub recovered : D
-  pub recovery : LeavesOnly moment left_since disk recovered (IsSameOr (may_leave disk) (lines_in (seen disk)))
+  pub recovery : LeavesOnly moment left_since disk recovered (IsSameOr (may_leave disk) (leads_from fresh) (seen disk))
   pub leads : leads_from fresh (seen recovered) ≡ Some n
   pub left : Leaves seen may_leave moment left_since n recovered final before after turns last
 
@@ -117,16 +118,16 @@ LeftBy f options disk final =
 pub record Commits {D : Type 0} (seen : D → List ℕ) (may_leave : D → List ℕ → Type 0) (staged : List ℕ) (old new : D) :
     Type 0 where
   pub settled : IsSettled seen may_leave new
-  pub lines : lines_in (seen new) ≡ lines_in (seen old) ++ lines_in staged
+  pub lines : lines_in (seen new) ≡ lines_in (seen old) ++ ended staged
   pub leads : (start before : ReplicaState) (calls : List CallLine) → leads_from start (seen old) ≡ Some before
-      → lines_in staged ≡ crash_texts calls → leads_from start (seen new) ≡ steps step calls before
+      → ended staged ≡ crash_texts calls → leads_from start (seen new) ≡ steps step calls before
 
 -- or, whatever happens, the first some of them are there
 abbrev pub CommitsSome : {D : Type 0} (seen : D → List ℕ) (moment : D → ℕ) (left_since : D → ℕ → List ℕ → Type 0)
     (staged : List ℕ) (old new : D) → Type 0
 CommitsSome seen moment left_since staged old new =
     (start before : ReplicaState) (calls : List CallLine) → leads_from start (seen old) ≡ Some before
-    → lines_in staged ≡ crash_texts calls
+    → ended staged ≡ crash_texts calls
     → LeavesOnly moment left_since old new (LeadsToSome (leads_from start) step calls before)
 
 -- all that was held back was written, once all that was staged was on the disk

@@ -1,5 +1,6 @@
 -- How a node ends, and what is told of that.
 use Rattle.std.specs.Prelude.{◌≡◌, ◌⊎◌, ℕ, List, [], ◌∷◌, ◌++◌, codes, Option}
+use Rattle.std.specs.Fmt.{decimal}
 use Rattle.std.specs.declared.io.ErrorKind.{ErrorKind}
 use Rattle.std.specs.declared.io.ErrorKind.TheVariants as kind
 use Rattle.la_object.specs.declared.kind.Kind.{Kind}
@@ -9,6 +10,8 @@ use Rattle.la_object.specs.Objects.{start}
 use Rattle.la_io.specs.Streams.{TellsLine}
 use Rattle.la_serve.specs.declared.error.NodeFault.{NodeFault}
 use Rattle.la_serve.specs.declared.error.NodeFault.TheVariants as fault
+use Rattle.la_serve.specs.declared.error.NodeOption.{NodeOption}
+use Rattle.la_serve.specs.declared.error.NodeOption.TheVariants.{Version, Own, Replicas, Votes, Commits, Cap}
 use Rattle.la_serve.specs.declared.ended.Ended.{Ended}
 use Rattle.la_serve.specs.declared.options.Options.{Options}
 use Rattle.la_serve.specs.Io.{Streams, Facts, facts}
@@ -30,7 +33,8 @@ node_status fault.ReadFault = 4
 node_status fault.WriteFault = 4
 node_status fault.BadConfig = 4
 node_status fault.Locked = 5
-node_status fault.BadJournal = 5
+node_status (fault.BadJournal line) = 5
+node_status (fault.OtherOptions option) = 5
 node_status fault.DiskFault = 5
 
 abbrev pub end_name : NodeFault → List ℕ
@@ -39,12 +43,27 @@ end_name fault.WriteFault = codes "WriteFault"
 end_name fault.Memory = codes "Memory"
 end_name fault.BadConfig = codes "BadConfig"
 end_name fault.Locked = codes "Locked"
-end_name fault.BadJournal = codes "BadJournal"
+end_name (fault.BadJournal line) = codes "BadJournal"
+end_name (fault.OtherOptions option) = codes "OtherOptions"
 end_name fault.DiskFault = codes "DiskFault"
+
+abbrev pub option_name : NodeOption → List ℕ
+option_name Version = codes "version"
+option_name Own = codes "own"
+option_name Replicas = codes "replicas"
+option_name Votes = codes "votes"
+option_name Commits = codes "commits"
+option_name Cap = codes "cap"
+
+-- what is told behind the name: from which line on a journal is bad, or which option is another one
+abbrev pub end_detail : NodeFault → List ℕ
+end_detail (fault.BadJournal line) = codes ": line " ++ decimal line
+end_detail (fault.OtherOptions option) = codes ": " ++ option_name option
+end_detail _ = []
 
 -- the line that tells it
 abbrev pub end_line : NodeFault → List ℕ
-end_line f = end_name f ++ 10 ∷ []
+end_line f = end_name f ++ (end_detail f ++ 10 ∷ [])
 
 -- why a folder can't be opened
 abbrev pub cause_name : ErrorKind → List ℕ

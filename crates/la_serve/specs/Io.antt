@@ -3,7 +3,8 @@ use Rattle.std.specs.Prelude.{◌≡◌, ℕ, false, List, Option, Some, None}
 use Rattle.la_set.specs.Inclusion.{IsSubset}
 use Rattle.la_object.specs.declared.kind.Kind.{Kind}
 use Rattle.la_journal.specs.declared.disk.Disk.{Ghosts}
-use Rattle.la_journal.specs.Lines.{lines}
+use Rattle.la_journal.specs.Journal.{lines}
+use Rattle.la_journal.specs.Records.{ended}
 use Rattle.la_journal.specs.Giving.{GivenAt}
 use Rattle.la_durable.specs.Nodes.{kept_by}
 use Rattle.la_io.specs.declared.source.Source.{Source}
@@ -31,7 +32,7 @@ io_at left out server = record {
   state = kept_by server.node.durable.machine;
   left = left;
   out = out;
-  journal = lines server.node.text.items;
+  journal = ended server.node.text.items;
 }
 
 -- where nothing is read

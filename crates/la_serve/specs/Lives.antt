@@ -2,7 +2,6 @@
 use Rattle.std.specs.Prelude.{◌≡◌, ◌⊎◌, ⊤, ℕ, List, [], ◌∷◌, ◌++◌, Some, drop}
 use Rattle.la_object.specs.declared.kind.Kind.{Kind}
 use Rattle.la_journal.specs.Giving.{GivenAt}
-use Rattle.la_journal.specs.Lines.{lines}
 use Rattle.la_journal.specs.Lives.{Life, AreMadeOf}
 use Rattle.la_journal.specs.Machine.{steps, LeadsToSome}
 use Rattle.la_durable.specs.CallLines.{CallLine}
@@ -59,7 +58,7 @@ pub record IsNodeLife {D : Type 0} (seen : D → List ℕ) (may_leave : D → Li
     pub plays : leads_from fresh (seen disk) ≡ Some first
     pub run : LeavesOfRun seen may_leave moment left_since fresh disk final first before after turns last
     pub calls : life.calls ≡ run.left.calls ++ run.left.later
-    pub killed : ((life.answered ≡ 0) × (lines c ≡ lines (seen disk)))
+    pub killed : ((life.answered ≡ 0) × (leads_from fresh c ≡ leads_from fresh (seen disk)))
         ⊎ (((life.answered ≡ 0) × left_since final (moment run.recovered) c)
         ⊎ KilledBehind (left_since final) run.left.groups run.left.given life.answered c)
 

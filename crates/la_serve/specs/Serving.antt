@@ -146,7 +146,8 @@ of_step fault.Memory = fault.Memory
 of_step fault.ReadFault = fault.ReadFault
 of_step fault.BadConfig = fault.BadConfig
 of_step fault.Locked = fault.Locked
-of_step fault.BadJournal = fault.BadJournal
+of_step (fault.BadJournal line) = fault.BadJournal line
+of_step (fault.OtherOptions option) = fault.OtherOptions option
 of_step fault.DiskFault = fault.DiskFault
 
 -- ## All of them

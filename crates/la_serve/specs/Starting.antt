@@ -1,23 +1,42 @@
 -- A node that plays its journal and then takes lines.
-use Rattle.std.specs.Prelude.{◌≡◌, ◌⊎◌, ℕ, List, [], Option, Some, None, Result, OnOk, IfErr}
+use Rattle.std.specs.Prelude.{◌≡◌, ◌⊎◌, ℕ, zero, suc, List, [], ◌∷◌, ◌++◌, codes, length, Option, Some, None, Result, OnOk, IfErr}
+use Rattle.std.specs.Fmt.{decimal}
 use Rattle.la_object.specs.declared.kind.Kind.{Kind}
 use Rattle.la_object.specs.Shelves.{ShelfState}
 use Rattle.la_journal.specs.Disk.{LeavesOnly}
 use Rattle.la_journal.specs.Durable.{IsSameOr}
-use Rattle.la_journal.specs.Lines.{lines}
-use Rattle.la_journal.specs.Journal.{IsDamaged}
+use Rattle.la_journal.specs.Journal.{lines}
+use Rattle.la_journal.specs.Playing.{rest_in, IsNotPlayed}
+use Rattle.la_journal.specs.Records.{parts}
+use Rattle.la_journal.specs.declared.recovery.Unplayed.{Unplayed}
 use Rattle.la_node.specs.declared.error.WorldError.TheVariants as world
 use Rattle.la_node.specs.Nodes.{IsStartRefusal}
-use Rattle.la_durable.specs.Nodes.{empty_shelf}
+use Rattle.la_durable.specs.CallLines.{call_line}
+use Rattle.la_durable.specs.Nodes.{empty_shelf, step}
 use Rattle.la_durable.specs.Restarts.{leads_from}
+use Rattle.la_durable.specs.Heads.{node_head}
+use Rattle.la_durable.specs.Errors.{IsForMemory}
+use Rattle.la_durable.specs.declared.error.NodeError.{NodeError}
 use Rattle.la_io.specs.Streams.{TellsAll}
 use Rattle.la_serve.specs.declared.error.NodeFault.{NodeFault}
 use Rattle.la_serve.specs.declared.error.NodeFault.TheVariants as fault
 use Rattle.la_serve.specs.declared.options.Options.{Options}
+use Rattle.la_serve.specs.Faults.{of_journal}
 use Rattle.la_serve.specs.Io.{Streams, Facts, facts, io_with}
 use Rattle.la_serve.specs.Serving.{ServesAll, IsServeRefusal}
 use Rattle.la_serve.specs.Crashes.{at_start, LeftBy}
 use Rattle.la_replica.specs.ReplicaState.{ReplicaState}
+
+-- what is told of so many bytes that were cut, where a crash left some behind the last group
+abbrev pub torn_told : (cut : ℕ) → List (List ℕ)
+torn_told zero = []
+torn_told (suc n) = (codes "cut " ++ (decimal (suc n) ++ 10 ∷ [])) ∷ []
+
+-- that, and then these lines, were told
+abbrev pub TellsOfRun : {D R W E : Type 0} → Facts D R W E → (disk : D) → (old new : Streams R W E) → List (List ℕ)
+    → Type 0
+TellsOfRun f disk old new lines =
+    TellsAll f.heard f.refuses old.errors new.errors (torn_told (length (rest_in (parts (f.seen disk)))) ++ lines)
 
 -- where the journal leads the lines of an input were taken, all of them
 pub record RunsAll {D R W E : Type 0} (f : Facts D R W E) (objects : List (ℕ × Kind)) (options : Options)
@@ -26,7 +45,7 @@ pub record RunsAll {D R W E : Type 0} (f : Facts D R W E) (objects : List (ℕ �
   pub plays : leads_from (at_start options.config options.own) (f.seen disk) ≡ Some before
   pub journal : List (List ℕ)
   pub now : ReplicaState
-  pub serves : ServesAll (TellsAll f.heard f.refuses old.errors new.errors)
+  pub serves : ServesAll (TellsOfRun f disk old new)
       (LeftBy f options disk final before old.given new.given)
       (io_with f old objects before (lines (f.seen disk))) (io_with f new objects now journal)
 
@@ -37,30 +56,40 @@ pub record RunsCut {D R W E : Type 0} (f : Facts D R W E) (objects : List (ℕ �
   pub plays : leads_from (at_start options.config options.own) (f.seen disk) ≡ Some before
   pub journal : List (List ℕ)
   pub now : ReplicaState
-  pub stops : IsServeRefusal (TellsAll f.heard f.refuses old.errors new.errors)
+  pub stops : IsServeRefusal (TellsOfRun f disk old new)
       (LeftBy f options disk final before old.given new.given)
       (io_with f old objects before (lines (f.seen disk))) (io_with f new objects now journal) why
 
--- nothing was read, written or told, and a crash leaves what might have been left before, or the same lines
-pub record RunsNot {D R W E : Type 0} (f : Facts D R W E) (disk final : D) (old new : Streams R W E) : Type 0 where
+-- nothing was read, written or told, and a crash leaves what might have been left before, or what leads to the same
+pub record RunsNot {D R W E : Type 0} (f : Facts D R W E) (options : Options) (disk final : D) (old new : Streams R W
+    E) : Type 0 where
   pub unread : f.remaining new.input ≡ f.remaining old.input
   pub unwritten : f.contents new.output ≡ f.contents old.output
   pub ungiven : new.given ≡ old.given
   pub untold : TellsAll f.heard f.refuses old.errors new.errors []
-  pub left : LeavesOnly f.moment f.left_since disk final (IsSameOr (f.may_leave disk) (lines (f.seen disk)))
+  pub left : LeavesOnly f.moment f.left_since disk final (IsSameOr (f.may_leave disk) (leads_from (at_start
+      options.config options.own)) (f.seen disk))
 
--- the journal leads nowhere, or is damaged behind where it leads
-abbrev pub IsUnplayable : Options → (file : List ℕ) → Type 0
-IsUnplayable options file = (leads_from (at_start options.config options.own) file ≡ None) ⊎ IsDamaged file
+-- The journal leads nowhere: it is another node's or damaged, or has a line that is no call, or is refused. Why it was
+-- not played says as what that is told.
+pub record IsUnplayable (options : Options) (file : List ℕ) (told : NodeFault) : Type 0 where
+  pub nowhere : leads_from (at_start options.config options.own) file ≡ None
+  pub why : Unplayed NodeError
+  pub is : IsNotPlayed IsForMemory node_head (λ _. None) call_line step (at_start options.config options.own) 0 0 file
+      why
+  pub told_as : told ≡ of_journal (node_head (at_start options.config options.own)) options.config.replicas why
 
 abbrev pub IsServerStartRefusal : {D R W E : Type 0} → Facts D R W E → (objects : List (ℕ × Kind)) → Options
     → (disk final : D)
     → (old new : Streams R W E) → NodeFault → Type 0
 IsServerStartRefusal f objects options disk final old new fault.BadConfig =
-    RunsNot f disk final old new × (IsStartRefusal options.config options.own empty_shelf world.BadConfig
+    RunsNot f options disk final old new × (IsStartRefusal options.config options.own empty_shelf world.BadConfig
     ⊎ IsStartRefusal options.config options.own empty_shelf world.NoSuchReplica)
-IsServerStartRefusal f objects options disk final old new fault.BadJournal =
-    RunsNot f disk final old new × (final ≡ disk) × IsUnplayable options (f.seen disk)
+IsServerStartRefusal f objects options disk final old new (fault.BadJournal line) =
+    RunsNot f options disk final old new × (final ≡ disk) × IsUnplayable options (f.seen disk) (fault.BadJournal line)
+IsServerStartRefusal f objects options disk final old new (fault.OtherOptions option) =
+    RunsNot f options disk final old new × (final ≡ disk)
+    × IsUnplayable options (f.seen disk) (fault.OtherOptions option)
 -- its disk is open
 IsServerStartRefusal f objects options disk final old new fault.Locked = ⊥
 IsServerStartRefusal f objects options disk final old new fault.ReadFault =
@@ -68,7 +97,7 @@ IsServerStartRefusal f objects options disk final old new fault.ReadFault =
 IsServerStartRefusal f objects options disk final old new fault.WriteFault =
     RunsCut f objects options disk final old new fault.WriteFault
 IsServerStartRefusal f objects options disk final old new why =
-    RunsNot f disk final old new ⊎ RunsCut f objects options disk final old new why
+    RunsNot f options disk final old new ⊎ RunsCut f objects options disk final old new why
 
 -- ## By what the traits state
 

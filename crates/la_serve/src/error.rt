@@ -28,13 +28,45 @@ pub enum NodeFault {
     #[error("Locked")]
     Locked,
 
-    /// The journal holds what can't be played.
-    #[error("BadJournal")]
-    BadJournal,
+    /// The journal can't be played from this line on, counted from 1, the head and records too.
+    #[error("BadJournal: line {0}")]
+    BadJournal(usize),
+
+    /// The journal is that of a node with other options, of which this is the first.
+    #[error("OtherOptions: {0}")]
+    OtherOptions(NodeOption),
 
     /// The disk failed.
     #[error("DiskFault")]
     DiskFault,
+}
+
+/// What a journal's head says of a node, in its order.
+#[derive(Clone, Copy, Debug, PartialEq, Eq, Error)]
+pub enum NodeOption {
+    /// The journal's form, and its version.
+    #[error("version")]
+    Version,
+
+    /// Its number in the group.
+    #[error("own")]
+    Own,
+
+    /// How many replicas the group has.
+    #[error("replicas")]
+    Replicas,
+
+    /// Their votes.
+    #[error("votes")]
+    Votes,
+
+    /// How many adopt-commit objects the group has.
+    #[error("commits")]
+    Commits,
+
+    /// How many updates a replica may submit.
+    #[error("cap")]
+    Cap,
 }
 
 impl From<SourceFault> for NodeFault {

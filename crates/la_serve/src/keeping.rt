@@ -1,7 +1,7 @@
 // A call, kept in the journal.
 ghost use Rattle.std.specs.Prelude.{◌≡◌, false};
 ghost use Rattle.la_set.specs.Inclusion.{IsSubset};
-ghost use Rattle.la_journal.specs.Lines.{lines};
+ghost use Rattle.la_journal.specs.Records.{ended};
 ghost use Rattle.la_wire.specs.Calls.{called};
 ghost use Rattle.la_durable.specs.Nodes.{kept_by};
 ghost use Rattle.la_serve.specs.Turns.{IsOutcome};
@@ -24,7 +24,7 @@ pub enum Kept {
 pub fn keep<D: Disk>(alloc: Global, node: &mut Staged<NodeMachine, D>, input: &Input) -> Kept
     requires unclosed { node.old.durable.closed ≡ false }
     ensures outcome { IsOutcome (kept_by node.old.durable.machine) (kept_by node.new.durable.machine)
-        (called input.now.call) input.now.line (lines node.old.text.items) (lines node.new.text.items) result }
+        (called input.now.call) input.now.line (ended node.old.text.items) (ended node.new.text.items) result }
     ensures unclosed { node.new.durable.closed ≡ false }
     ensures disk { node.new.durable.disk ≡ node.old.durable.disk }
     ensures grows { IsSubset node.old.durable.machine.node.replica.view node.new.durable.machine.node.replica.view }

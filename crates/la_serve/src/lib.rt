@@ -21,7 +21,7 @@ mod starting;
 mod texts;
 
 pub use ended::Ended;
-pub use error::NodeFault;
+pub use error::{NodeFault, NodeOption};
 pub use options::{Options, command};
 pub use output::Output;
 pub use server::Server;

@@ -1,9 +1,9 @@
 // What is told of refusals, by name.
 ghost use Rattle.std.specs.Prelude.{◌≡◌, ◌≤◌, length};
 ghost use Rattle.la_serve.specs.Names.{replica_name, proposal_name, refusal_name};
-ghost use Rattle.la_serve.specs.Ending.{end_name, cause_name};
+ghost use Rattle.la_serve.specs.Ending.{end_name, option_name, cause_name};
 
-use crate::NodeFault;
+use crate::{NodeFault, NodeOption};
 use la_durable::NodeError;
 use la_node::WorldError;
 use la_replica::ReplicaError;
@@ -59,7 +59,7 @@ pub fn refusal_name(refusal: NodeError) -> &'static str
 /// Why a node ended.
 pub fn end_name(fault: NodeFault) -> &'static str
     ensures text { result.now ≡ end_name fault }
-    ensures short { length result.now ≤ 10 }
+    ensures short { length result.now ≤ 12 }
 {
     match fault {
         NodeFault::ReadFault => "ReadFault",
@@ -67,8 +67,24 @@ pub fn end_name(fault: NodeFault) -> &'static str
         NodeFault::Memory => "Memory",
         NodeFault::BadConfig => "BadConfig",
         NodeFault::Locked => "Locked",
-        NodeFault::BadJournal => "BadJournal",
+        NodeFault::BadJournal(_) => "BadJournal",
+        NodeFault::OtherOptions(_) => "OtherOptions",
         NodeFault::DiskFault => "DiskFault",
+    }
+}
+
+/// An option of a node.
+pub fn option_name(option: NodeOption) -> &'static str
+    ensures text { result.now ≡ option_name option }
+    ensures short { length result.now ≤ 8 }
+{
+    match option {
+        NodeOption::Version => "version",
+        NodeOption::Own => "own",
+        NodeOption::Replicas => "replicas",
+        NodeOption::Votes => "votes",
+        NodeOption::Commits => "commits",
+        NodeOption::Cap => "cap",
     }
 }
 

@@ -1,30 +1,32 @@
-ghost use Rattle.std.specs.Prelude.{◌≡◌, IfOk};
+ghost use Rattle.std.specs.Prelude.{◌≡◌, ◌≤◌, take, IfOk};
 ghost use Rattle.la_set.specs.Histories.{empty};
 ghost use Rattle.la_object.specs.declared.kind.Kind.TheVariants.{Counter as CounterKind};
 ghost use Rattle.la_object.specs.declared.kind.Kind.TheVariants.{MaxRegister as RegisterKind};
 ghost use Rattle.la_object.specs.declared.kind.Kind.TheVariants.{OrSet as SetKind};
 ghost use Rattle.la_object.specs.Objects.{start};
-ghost use Rattle.la_io.specs.Streams.{TellsLine};
-ghost use Rattle.la_serve.specs.Faults.{of_journal};
-ghost use Rattle.la_serve.specs.Ending.{node_status, end_line, no_journal_line, AreAtStart, ServerEnds};
+ghost use Rattle.la_io.specs.Streams.{TellsLine, TellsAll};
+ghost use Rattle.la_serve.specs.Faults.{of_journal, space_count, option_at};
+ghost use Rattle.la_serve.specs.Ending.{node_status, end_line, end_detail, no_journal_line, AreAtStart, ServerEnds};
 ghost use Rattle.la_serve.specs.Io.{io};
-ghost use Rattle.la_serve.specs.Starting.{Starts};
+ghost use Rattle.la_serve.specs.Starting.{Starts, torn_told};
 
-use crate::names::{cause_name, end_name};
+use crate::names::{cause_name, end_name, option_name};
 use crate::serving::serve;
 use crate::shelf::shelf_of;
-use crate::{Ended, NodeFault, Options, Output, Server};
+use crate::{Ended, NodeFault, NodeOption, Options, Output, Server};
 use arrayvec::ArrayString;
+use itoa::Buffer;
 use la_durable::{NodeError, NodeMachine};
 use la_io::{Listener, tell_all};
-use la_journal::{Disk, Staged, Unplayed, recover};
+use la_journal::{Disk, Machine, Staged, Unplayed, recover};
 use la_node::WorldError;
 use la_object::{Counter, MaxRegister, Replicated, Shelf};
 use la_orset::OrSet;
 use std::alloc::{AllocError, Global};
 use std::io::{ErrorKind, Read, Write};
 
-type Line = ArrayString<32>;
+// The longest line is that of a bad journal.
+type Line = ArrayString<40>;
 
 // The exit status after a fault.
 fn status_of(fault: NodeFault) -> u8
@@ -33,7 +35,10 @@ fn status_of(fault: NodeFault) -> u8
     match fault {
         NodeFault::Memory => 3,
         NodeFault::ReadFault | NodeFault::WriteFault | NodeFault::BadConfig => 4,
-        NodeFault::Locked | NodeFault::BadJournal | NodeFault::DiskFault => 5,
+        NodeFault::Locked
+        | NodeFault::BadJournal(_)
+        | NodeFault::OtherOptions(_)
+        | NodeFault::DiskFault => 5,
     }
 }
 
@@ -42,11 +47,52 @@ pub fn end_with<E: Listener>(fault: NodeFault, errors: &mut E) -> u8
     ensures status { result ≡ node_status fault }
     ensures told { TellsLine E.contents E.refuses errors.old errors.new (end_line fault) }
 {
-    let mut line = Line::new();
-    line.push_str(end_name(fault));
-    line.push_str("\n");
+    let line = end_line(fault);
     let _ = tell_all(errors, line.as_str().as_bytes());
     status_of(fault)
+}
+
+// The line that tells of a fault.
+fn end_line(fault: NodeFault) -> Line
+    ensures { result.bytes ≡ end_line fault }
+{
+    let mut line = Line::new();
+    line.push_str(end_name(fault));
+    line.push_str(end_detail(fault).as_str());
+    line.push_str("\n");
+    line
+}
+
+// What is told behind a fault's name.
+fn end_detail(fault: NodeFault) -> ArrayString<27>
+    ensures { result.bytes ≡ end_detail fault }
+{
+    let mut detail = ArrayString::new();
+    match fault {
+        NodeFault::BadJournal(line) => {
+            detail.push_str(": line ");
+            detail.push_str(Buffer::new().format(line));
+        }
+        NodeFault::OtherOptions(option) => {
+            detail.push_str(": ");
+            detail.push_str(option_name(option));
+        }
+        _ => {}
+    }
+    detail
+}
+
+// Tells how many bytes of a last group were cut, where a crash left some.
+fn tell_cut<E: Listener>(cut: usize, errors: &mut E)
+    ensures { TellsAll E.contents E.refuses errors.old errors.new (torn_told cut) }
+{
+    if cut > 0 {
+        let mut line = Line::new();
+        line.push_str("cut ");
+        line.push_str(Buffer::new().format(cut));
+        line.push_str("\n");
+        let _ = tell_all(errors, line.as_str().as_bytes());
+    }
 }
 
 /// The exit status where a node's folder can't be opened, for an error of this kind, which is told behind
@@ -63,18 +109,57 @@ pub fn end_without_journal<E: Listener>(kind: ErrorKind, errors: &mut E) -> u8
     5
 }
 
-// Why a node does not begin whose journal was not played. A line that finds no room says nothing against the journal.
-fn fault_of(why: Unplayed<NodeError>) -> NodeFault
-    ensures { result ≡ of_journal why }
+// Why a node does not begin whose journal was not played, by the head of its own. A line that finds no room says
+// nothing against the journal.
+fn fault_of(why: Unplayed<NodeError>, head: &[u8], replicas: u8) -> NodeFault
+    ensures { result ≡ of_journal head.now replicas why }
 {
     match why {
         Unplayed::Memory | Unplayed::Refused(_, NodeError::Memory) => NodeFault::Memory,
         Unplayed::Disk => NodeFault::DiskFault,
-        Unplayed::NoState
-        | Unplayed::NoCall(_)
-        | Unplayed::Misplaced(_)
-        | Unplayed::Refused(_, _)
-        | Unplayed::Damaged(_) => NodeFault::BadJournal,
+        Unplayed::NoHead => NodeFault::BadJournal(1),
+        Unplayed::NoState(line)
+        | Unplayed::NoCall(line)
+        | Unplayed::Misplaced(line)
+        | Unplayed::Refused(line, _)
+        | Unplayed::Damaged(line) => NodeFault::BadJournal(line),
+        Unplayed::OtherHead(place) => {
+            let spaces = space_count(&head[..place.min(head.len())]);
+            NodeFault::OtherOptions(option_at(spaces, usize::from(replicas)))
+        }
+    }
+}
+
+// How many spaces there are.
+fn space_count(bytes: &[u8]) -> usize
+    ensures { result ≡ space_count bytes.now }
+{
+    let mut count = 0;
+    for b in bytes {
+        if *b == b' ' {
+            count += 1;
+        }
+    }
+    count
+}
+
+// The option that a head says behind so many spaces, of a group of so many replicas.
+fn option_at(spaces: usize, replicas: usize) -> NodeOption
+    requires { replicas ≤ 255 }
+    ensures { result ≡ option_at spaces replicas }
+{
+    if spaces < 2 {
+        NodeOption::Version
+    } else if spaces < 4 {
+        NodeOption::Own
+    } else if spaces < 6 {
+        NodeOption::Replicas
+    } else if spaces < replicas + 7 {
+        NodeOption::Votes
+    } else if spaces < replicas + 9 {
+        NodeOption::Commits
+    } else {
+        NodeOption::Cap
     }
 }
 
@@ -97,8 +182,12 @@ fn start<R: Read, W: Write + Drop, E: Listener, D: Disk, B: Replicated>(
         Err(WorldError::Memory) => return (Err(NodeFault::Memory), disk),
         Err(_) => return (Err(NodeFault::BadConfig), disk),
     };
+    let Ok(head) = machine.head(alloc) else {
+        return (Err(NodeFault::Memory), disk);
+    };
     match recover(alloc, machine, found, disk) {
         Ok(durable) => {
+            tell_cut(durable.cut, errors);
             let mut server = Server {
                 node: Staged::new(alloc, durable),
                 shelf,
@@ -106,7 +195,10 @@ fn start<R: Read, W: Write + Drop, E: Listener, D: Disk, B: Replicated>(
             let served = serve(alloc, &mut server, input, out, errors);
             (served, server.into_disk())
         }
-        Err((why, disk)) => (Err(fault_of(why)), disk),
+        Err((why, disk)) => {
+            let fault = fault_of(why, &head, options.config.replicas);
+            (Err(fault), disk)
+        }
     }
 }
 

@@ -32,7 +32,7 @@ use Rattle.la_wire.specs.Updates.{update_text, op_words, made}
 use Rattle.la_wire.specs.Calls.{WireCall, Submit, Decide, Ask, Tick, Receive}
 use Rattle.la_wire.specs.CallLines.{query_words, tick_word, call_line_text, event_call, script_call, first_kind, call_by, call_of}
 use Rattle.la_wire.specs.MessageLines.{kind_text as kind_word, kind_in, base_words, carried, message_text, line_message}
-use Rattle.la_wire.specs.Messages.{WireMessage, Offer, Yes, No, Tell}
+use Rattle.la_wire.specs.Messages.{WireMessage}
 use Rattle.la_wire.specs.Writable.{IsId, IsOp, IsVoteless, IsQuery, IsCall, IsMessage}
 use Rattle.la_wire.proofs.Decimals.{number-decimal, decimal-plain, is_plain, IsPlain}
 use Rattle.la_wire.proofs.Joins.{words-back}

@@ -1,4 +1,4 @@
--- Lines of calls have no byte 0 and no line's end, and begin as no state's line does.
+-- Lines of calls have no byte 0 and no line's end, and begin as no state's line does and no record.
 use Rattle.std.proofs.Common.{◌≡◌, ◌≢◌, ℕ, ◌≤◌, ◌==◌, true, false, not, ◌&&◌, leb, List, [], ◌∷◌, ◌++◌, map, All, refl, ap, ◌∙◌, arith}
 use Rattle.std.specs.Fmt.{decimal}
 use Rattle.std.specs.List.{list_all}
@@ -16,7 +16,7 @@ use Rattle.la_wire.specs.Updates.{update_words, update_text, op_words}
 use Rattle.la_wire.specs.Messages.{WireMessage}
 use Rattle.la_wire.specs.MessageLines.{kind_text as kind_word, kind_in, base_words, carried, head_words, message_text}
 use Rattle.la_wire.specs.Calls.{WireCall, Submit, Decide, Ask, Tick, Receive}
-use Rattle.la_wire.specs.CallLines.{query_words, tick_word, call_line_text, is_clean_byte, is_no_state, may_stand}
+use Rattle.la_wire.specs.CallLines.{query_words, tick_word, call_line_text, is_clean_byte, is_no_mark, may_stand}
 use Rattle.la_wire.specs.Writable.{IsUpdate, IsCall, IsMessage}
 use Rattle.la_wire.proofs.Decimals.{is_plain, IsPlain}
 use Rattle.la_wire.proofs.UpdatesBack.{update-plain, op-plain}
@@ -70,8 +70,10 @@ message-printed : (m : WireMessage) → IsMessage m → IsPrinted (message_text 
 message-printed m is =
     let us = carried m.body in
     joined-printed 59 (joined_by 32 (head_words m) ∷ map update_text us) refl
-    (All-cons IsPrinted (joined_by 32 (head_words m)) (map update_text us) (words-printed (head_words m) (head-plain m is))
-    (All-map IsPrinted update_text us (All-weaker IsUpdate (λ u. IsPrinted (update_text u)) update-printed us (carried-updates m.body is.body))))
+    (All-cons IsPrinted (joined_by 32 (head_words m)) (map update_text us) (words-printed (head_words m) (head-plain m
+        is))
+    (All-map IsPrinted update_text us (All-weaker IsUpdate (λ u. IsPrinted (update_text u)) update-printed us
+        (carried-updates m.body is.body))))
 
 keyword-words : (word : List ℕ) (words : List (List ℕ)) → IsPlain word → All IsPlain words
     → IsPrinted (joined_by 32 (word ∷ words))
@@ -92,18 +94,18 @@ text-printed (Ask r o q) is =
 text-printed Tick is = plain-printed tick_word (AllPass-from_list_all is_plain tick_word refl)
 text-printed (Receive m) is = message-printed m is
 
-kind-first : (k : Kind) (a b : List ℕ) → is_no_state ((kind_word k ++ a) ++ b) ≡ true
+kind-first : (k : Kind) (a b : List ℕ) → is_no_mark ((kind_word k ++ a) ++ b) ≡ true
 kind-first kind.Offer a b = refl
 kind-first kind.Yes a b = refl
 kind-first kind.No a b = refl
 kind-first kind.Tell a b = refl
 
-no-state : (c : WireCall) → is_no_state (call_line_text c) ≡ true
-no-state (Submit r o does) = refl
-no-state (Decide r c v) = refl
-no-state (Ask r o q) = refl
-no-state Tick = refl
-no-state (Receive m) =
+no-mark : (c : WireCall) → is_no_mark (call_line_text c) ≡ true
+no-mark (Submit r o does) = refl
+no-mark (Decide r c v) = refl
+no-mark (Ask r o q) = refl
+no-mark Tick = refl
+no-mark (Receive m) =
     kind-first (kind_in m.body)
     (spaced 32
     (decimal m.replicas ∷ decimal m.from ∷ decimal m.to ∷ decimal m.instance ∷ decimal m.ballot ∷ base_words m.body))
@@ -111,4 +113,5 @@ no-state (Receive m) =
 
 -- the line of a call that can be had may stand in a file of lines
 pub call-stands : (c : WireCall) → IsCall c → may_stand (call_line_text c) ≡ true
-call-stands c is = ap (λ b. b && is_no_state (call_line_text c)) (clean (call_line_text c) (text-printed c is)) ∙ no-state c
+call-stands c is = ap (λ b. b && is_no_mark (call_line_text c)) (clean (call_line_text c) (text-printed c is)) ∙
+    no-mark c

@@ -37,7 +37,8 @@ tick_word = codes "tick"
 
 -- the line of a call
 abbrev pub call_line_text : WireCall → List ℕ
-call_line_text (Submit replica object op) = joined_by 32 (spelling keyword.Submit ∷ decimal replica ∷ decimal object ∷ op_words op)
+call_line_text (Submit replica object op) = joined_by 32 (spelling keyword.Submit ∷ decimal replica ∷ decimal object ∷
+    op_words op)
 call_line_text (Decide replica commit value) =
     joined_by 32 (spelling keyword.Decide ∷ decimal replica ∷ decimal commit ∷ decimal value ∷ [])
 call_line_text (Ask replica object query) =
@@ -92,10 +93,10 @@ named_call line = said_ok (call_of line)
 abbrev pub is_clean_byte : ℕ → Bool
 is_clean_byte b = not (b == 0) && not (b == 10)
 
--- and it does not begin with `=`, as the line of a state
-abbrev pub is_no_state : List ℕ → Bool
-is_no_state [] = true
-is_no_state (b ∷ bytes) = not (b == 61)
+-- and it does not begin with `=`, as the line of a state, or with `~`, as a group's record
+abbrev pub is_no_mark : List ℕ → Bool
+is_no_mark [] = true
+is_no_mark (b ∷ bytes) = not (b == 61) && not (b == 126)
 
 abbrev pub may_stand : List ℕ → Bool
-may_stand line = list_all is_clean_byte line && is_no_state line
+may_stand line = list_all is_clean_byte line && is_no_mark line

@@ -14,7 +14,7 @@ pub fn calls_are_read_back()
 {}
 
 /// What is written of a call may stand in a file of lines: it has no byte 0 and no line's end, and does not begin
-/// with `=`.
+/// with `=` or `~`.
 pub fn calls_may_stand_in_files()
     ensures { (c : WireCall) → IsCall c → may_stand (call_line_text c) ≡ true }
 {}

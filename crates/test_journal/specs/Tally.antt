@@ -1,6 +1,7 @@
 -- A number that goes up and down, by lines of text.
 use Rattle.std.specs.Prelude.{◌≡◌, ℕ, suc, zero, ◌+◌, List, [], ◌∷◌, Option, Some, None, if◌then◌else◌, ◌==◌, refl}
 use Rattle.std.proofs.Common.{arith}
+use Rattle.la_journal.specs.Lines.{IsClean}
 use Rattle.la_journal.specs.Journal.{IsCallLine}
 use Rattle.test_journal.specs.declared.tally.Move.{Move}
 use Rattle.test_journal.specs.declared.tally.Move.TheVariants.{Up, Down}
@@ -36,5 +37,16 @@ abbrev pub number_in : List ℕ → Option ℕ
 number_in bytes = ups_from 0 bytes
 
 pub clean : (m : Move) → IsCallLine (text m)
-clean Up = ((omega arith, omega arith, tt), refl)
-clean Down = ((omega arith, omega arith, tt), refl)
+clean Up = ((omega arith, omega arith, tt), refl, refl)
+clean Down = ((omega arith, omega arith, tt), refl, refl)
+
+-- 'tally 1'
+abbrev pub head : ℕ → List ℕ
+head n = 116 ∷ 97 ∷ 108 ∷ 108 ∷ 121 ∷ 32 ∷ 49 ∷ []
+
+pub clean_head : (n : ℕ) → IsClean (head n)
+clean_head n =
+    let digit : IsClean (32 ∷ 49 ∷ []) = (omega arith, omega arith, (omega arith, omega arith, tt)) in
+    let end : IsClean (108 ∷ 108 ∷ 121 ∷ 32 ∷ 49 ∷ []) =
+    (omega arith, omega arith, (omega arith, omega arith, (omega arith, omega arith, digit))) in
+    (omega arith, omega arith, (omega arith, omega arith, end))

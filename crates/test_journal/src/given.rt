@@ -1,28 +1,38 @@
-// Journals as text, and what a start on them comes to.
+// Journals of a tally, and what a start on them comes to.
 ghost use Rattle.std.specs.Prelude.{◌≡◌, false, IfOk};
 ghost use Rattle.la_journal.specs.Durable.{IsSettled};
 
-use crate::{MoveError, Tally};
+use crate::{HEAD, MoveError, Tally, journal_of};
 use la_journal::{Disk, Durable, MemoryDisk, Unplayed, recover};
-use std::alloc::Global;
+use std::alloc::{AllocError, Global};
 use std::process::Abort;
-
-/// The marks of a crash: a byte as it was written, and one that is spoilt.
-pub const KEPT: bool = false;
-
-pub const SPOILT: bool = true;
 
 /// Stops a test that has found this to be false.
 pub fn holds(rt: &impl Abort, what: &str, found: bool) {
     assert!(rt; found, "{what}");
 }
 
-/// A disk that has this text.
-pub fn disk_of(rt: &impl Abort, alloc: Global, text: &str) -> MemoryDisk {
-    let Ok(bytes) = text.as_bytes().to_vec(alloc) else {
+/// A tally's journal with these groups, and these bytes behind it.
+pub fn file_of(alloc: Global, groups: &[&[u8]], behind: &[u8]) -> Result<Vec<u8>, AllocError> {
+    let mut file = journal_of(alloc, HEAD, groups)?;
+    file.extend_from_slice(behind)?;
+    Ok(file)
+}
+
+/// A disk that has this, all of it on the disk.
+pub fn disk_of(rt: &impl Abort, alloc: Global, groups: &[&[u8]], behind: &[u8]) -> MemoryDisk {
+    let Ok(bytes) = file_of(alloc, groups, behind) else {
         panic!(rt; "out of memory");
     };
     MemoryDisk::new(alloc, bytes)
+}
+
+/// Whether a disk has the journal with these groups, and nothing else.
+pub fn has(alloc: Global, disk: &MemoryDisk, groups: &[&[u8]]) -> bool {
+    match journal_of(alloc, HEAD, groups) {
+        Ok(file) => disk.bytes() == file.as_slice(),
+        Err(_) => false,
+    }
 }
 
 /// A tally as the disk says, whose bytes it finds.
@@ -58,17 +68,21 @@ pub fn tally_over(rt: &impl Abort, alloc: Global, disk: MemoryDisk) -> Durable<T
 /// What a start comes to.
 #[derive(Clone, Copy, Debug, PartialEq, Eq)]
 pub enum Start {
-    /// A tally at this number.
-    At(u64),
-    /// The machine reads no state from the first line.
-    NoState,
-    /// The line at this byte is a state's.
+    /// A tally at this number, where so many bytes were cut.
+    At(u64, usize),
+    /// The first line is no head.
+    NoHead,
+    /// The head is another machine's, from this byte on.
+    OtherHead(usize),
+    /// The machine reads no state from this line.
+    NoState(usize),
+    /// This line is a state's.
     Misplaced(usize),
-    /// The line at this byte is no call.
+    /// This line is no call.
     NoCall(usize),
-    /// The line at this byte is refused.
+    /// This line is refused.
     Refused(usize),
-    /// After the lines that end at this byte is what no crash leaves.
+    /// From this line on it is what no crash leaves.
     Damaged(usize),
     /// There is no memory, or the disk failed.
     Failed,
@@ -77,18 +91,20 @@ pub enum Start {
 /// Starts on a disk.
 pub fn started(alloc: Global, disk: MemoryDisk) -> Start {
     match recovered(alloc, disk) {
-        Ok(node) => Start::At(node.machine.total),
+        Ok(node) => Start::At(node.machine.total, node.cut),
         Err((why, _)) => refusal(why),
     }
 }
 
 fn refusal<R: Drop>(why: Unplayed<R>) -> Start {
     match why {
-        Unplayed::NoState => Start::NoState,
-        Unplayed::Misplaced(place) => Start::Misplaced(place),
-        Unplayed::NoCall(place) => Start::NoCall(place),
-        Unplayed::Refused(place, _) => Start::Refused(place),
-        Unplayed::Damaged(place) => Start::Damaged(place),
+        Unplayed::NoHead => Start::NoHead,
+        Unplayed::OtherHead(place) => Start::OtherHead(place),
+        Unplayed::NoState(line) => Start::NoState(line),
+        Unplayed::Misplaced(line) => Start::Misplaced(line),
+        Unplayed::NoCall(line) => Start::NoCall(line),
+        Unplayed::Refused(line, _) => Start::Refused(line),
+        Unplayed::Damaged(line) => Start::Damaged(line),
         Unplayed::Memory | Unplayed::Disk => Start::Failed,
     }
 }

@@ -1,8 +1,8 @@
 // Calls whose lines are put on the disk together.
 ghost use Rattle.std.specs.Prelude.{◌≡◌};
 
-use crate::crashes::TWO_LINES;
-use crate::given::{Start, disk_of, holds, recovered, started, tally_over};
+use crate::given::{Start, disk_of, has, holds, started, tally_over};
+use crate::torn::are_met;
 use crate::{Move, Tally};
 use la_journal::{Disk, Staged, Uncommitted, Unstaged};
 use std::alloc::Global;
@@ -21,37 +21,30 @@ fn stages<D: Disk>(group: &mut Staged<Tally, D>, alloc: Global, way: Move, total
 #[test]
 fn together(rt: HostRuntime) {
     let alloc = rt.alloc();
-    let node = tally_over(&rt, alloc, disk_of(&rt, alloc, "u\n"));
+    let node = tally_over(&rt, alloc, disk_of(&rt, alloc, &[b"u\n"], b""));
     let mut group = Staged::new(alloc, node);
     holds(&rt, "an up", stages(&mut group, alloc, Move::Up, 2));
     holds(&rt, "a down", stages(&mut group, alloc, Move::Down, 1));
-    holds(
-        &rt,
-        "the file",
-        group.durable.disk.bytes() == b"u\n".as_slice(),
-    );
+    holds(&rt, "the file", has(alloc, &group.durable.disk, &[b"u\n"]));
     holds(&rt, "a commit", group.commit().is_ok());
     holds(
         &rt,
-        "both lines",
-        group.durable.disk.bytes() == b"u\nu\nd\n".as_slice(),
+        "one group",
+        has(alloc, &group.durable.disk, &[b"u\n", b"u\nd\n"]),
     );
-    holds(&rt, "no line more", group.commit().is_ok());
-    let Ok(left) = group.durable.disk.crash(&[]) else {
+    holds(&rt, "no more", group.commit().is_ok());
+    let Ok(Some(left)) = group.durable.disk.crash(b"") else {
         panic!(rt; "out of memory");
     };
-    holds(&rt, "a start", started(alloc, left) == Start::At(1));
+    holds(&rt, "a start", started(alloc, left) == Start::At(1, 0));
 }
 
-// A start takes one sync: that of the commit fails.
 #[test]
 fn in_part(rt: HostRuntime) {
     let alloc = rt.alloc();
-    let mut disk = disk_of(&rt, alloc, "u\n");
-    disk.fail_after(1);
-    let Ok(node) = recovered(alloc, disk) else {
-        panic!(rt; "no start");
-    };
+    let mut node = tally_over(&rt, alloc, disk_of(&rt, alloc, &[b"u\n"], b""));
+    node.disk.fail_after(0);
+    let kept = node.disk.bytes().len();
     let mut group = Staged::new(alloc, node);
     holds(&rt, "an up", stages(&mut group, alloc, Move::Up, 2));
     holds(&rt, "another", stages(&mut group, alloc, Move::Up, 3));
@@ -61,10 +54,9 @@ fn in_part(rt: HostRuntime) {
     holds(&rt, "an end", closed == Err(Uncommitted::Closed));
     let refused = group.stage(alloc, &Move::Up);
     holds(&rt, "no more", matches!(refused, Err(Unstaged::Closed)));
-    for (spoilt, start) in TWO_LINES {
-        let Ok(left) = group.durable.disk.crash(spoilt) else {
-            panic!(rt; "out of memory");
-        };
-        holds(&rt, "a crash", started(alloc, left) == *start);
-    }
+    holds(
+        &rt,
+        "each crash",
+        are_met(alloc, &group.durable.disk, kept, (1, 3)),
+    );
 }

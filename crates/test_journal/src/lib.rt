@@ -6,6 +6,8 @@ mod compactions;
 #[cfg(test)]
 mod crashes;
 #[cfg(test)]
+mod damages;
+#[cfg(test)]
 mod folders;
 #[cfg(test)]
 mod given;
@@ -14,11 +16,15 @@ mod groups;
 mod kept;
 #[cfg(test)]
 mod lives;
+mod made;
 #[cfg(test)]
 mod recorded;
 mod tally;
 #[cfg(test)]
 mod told;
+#[cfg(test)]
+mod torn;
 
 pub use kept::{Uncounted, counted_in};
-pub use tally::{Move, MoveError, Stopped, Tally, counted};
+pub use made::{journal_of, put_line};
+pub use tally::{HEAD, Move, MoveError, Stopped, Tally, counted};

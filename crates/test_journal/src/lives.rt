@@ -3,8 +3,9 @@
 ghost use Rattle.std.specs.Prelude.{◌≡◌, false};
 ghost use Rattle.la_journal.specs.Durable.{IsSettled};
 
-use crate::given::{KEPT, SPOILT, Start, disk_of, holds, recovered, started, tally_over};
+use crate::given::{Start, disk_of, has, holds, recovered, started, tally_over};
 use crate::told::{Failing, Told};
+use crate::torn::{Way, are_met, behind, is_never_left, torn_of};
 use crate::{Move, Tally};
 use la_journal::{
     Disk, Durable, MemoryDisk, Refused, Unserved, serve_all, serve_groups, start_again,
@@ -12,17 +13,28 @@ use la_journal::{
 use std::alloc::Global;
 use std::process::Abort;
 
-// After so many syncs the disk fails; what a crash then leaves of the last line; where the next life begins.
-type Life = (u32, &'static [bool], u64);
+// What a crash leaves of the group that was written last, where that is not on the disk.
+type Left = (Way, usize);
+
+const NOTHING: Left = (Way::Front, 0);
+
+const WHOLE: Left = (Way::Front, usize::MAX);
+
+// After so many syncs the disk fails; what a crash then leaves; where the next life begins.
+type Life = (u32, Left, u64);
 
 // Each life is asked to go up three times.
 const LIVES: &[(Life, Life)] = &[
-    ((0, &[], 0), (0, &[KEPT, KEPT], 1)),
-    ((0, &[KEPT, KEPT], 1), (2, &[SPOILT, KEPT], 3)),
-    ((1, &[KEPT, SPOILT], 1), (1, &[KEPT], 2)),
-    ((2, &[KEPT, KEPT], 3), (0, &[], 3)),
-    ((3, &[], 3), (3, &[SPOILT], 6)),
+    ((0, NOTHING, 0), (0, WHOLE, 1)),
+    ((0, WHOLE, 1), (2, (Way::Zero, 0), 3)),
+    ((1, (Way::Front, 2), 1), (1, (Way::Garbage, 2), 2)),
+    ((1, (Way::Zeros, 39), 1), (1, (Way::Changed, 39), 2)),
+    ((2, WHOLE, 3), (0, NOTHING, 3)),
+    ((3, NOTHING, 3), (3, NOTHING, 6)),
 ];
+
+// The bytes of a group of one move, with its record.
+const GROUP: usize = 40;
 
 // One life, and the start of the next one: what was given out are the numbers that follow one another from where it
 // began, as many as there were syncs, and the next one has them.
@@ -47,12 +59,23 @@ fn lives<A: Abort + Copy + Drop>(
         "answers",
         follow(&told.given, begun) && told.given.len() == life.0 as usize,
     );
+    let torn = torn_by(rt, alloc, &node.disk, life.1);
     let Durable { disk, .. } = node;
-    let Ok(next) = start_again(alloc, disk, life.1, Tally { total: 0 }) else {
+    let Ok(Some(next)) = start_again(alloc, disk, &torn, Tally { total: 0 }) else {
         panic!(rt; "no start");
     };
     holds(rt, "a start", next.machine.total == life.2);
     next
+}
+
+// What a crash leaves of the last group.
+fn torn_by(rt: &impl Abort, alloc: Global, disk: &MemoryDisk, left: Left) -> Vec<u8> {
+    let bytes = disk.bytes();
+    let group = behind(bytes, bytes.len().saturating_sub(GROUP));
+    let Ok(torn) = torn_of(alloc, group, left.1, left.0) else {
+        panic!(rt; "out of memory");
+    };
+    torn
 }
 
 // Whether these are the numbers behind one.
@@ -71,45 +94,68 @@ fn follow(given: &[(u64, u64)], begun: u64) -> bool {
 fn three_lives(rt: HostRuntime) {
     let alloc = rt.alloc();
     for (one, two) in LIVES {
-        let node = tally_over(&rt, alloc, disk_of(&rt, alloc, ""));
+        let node = tally_over(&rt, alloc, disk_of(&rt, alloc, &[], b""));
         let node = lives(&rt, alloc, node, one);
         let _third = lives(&rt, alloc, node, two);
     }
 }
 
-// A line that was written and not synced is read by the next process, and a crash while that starts leaves it or not.
+// A disk whose group was written and not synced.
+fn unsynced(rt: &impl Abort, alloc: Global) -> MemoryDisk {
+    let mut node = tally_over(rt, alloc, disk_of(rt, alloc, &[b"u\n"], b""));
+    node.disk.fail_after(0);
+    let failed = matches!(node.handle(alloc, &Move::Up), Err(Refused::Disk));
+    holds(rt, "a failure", failed);
+    let Durable { disk, .. } = node;
+    disk
+}
+
+// The next process reads a group that was written and not synced; where its start fails, a crash leaves that too.
 #[test]
 fn a_crash_during_a_start(rt: HostRuntime) {
     let alloc = rt.alloc();
-    let mut node = tally_over(&rt, alloc, disk_of(&rt, alloc, "u\n"));
-    node.disk.fail_after(0);
-    holds(
-        &rt,
-        "a failure",
-        matches!(node.handle(alloc, &Move::Up), Err(Refused::Disk)),
-    );
-    let Durable { disk, .. } = node;
-    let Ok(mut found) = disk.restart(&[KEPT, KEPT]) else {
-        panic!(rt; "out of memory");
+    let disk = unsynced(&rt, alloc);
+    let kept = disk.bytes().len().saturating_sub(GROUP);
+    holds(&rt, "each crash", are_met(alloc, &disk, kept, (1, 2)));
+    let group = torn_by(&rt, alloc, &disk, WHOLE);
+    let Ok(Some(mut found)) = disk.restart(&group) else {
+        panic!(rt; "no restart");
     };
-    holds(&rt, "the lines", found.bytes() == b"u\nu\n".as_slice());
+    holds(&rt, "the groups", has(alloc, &found, &[b"u\n", b"u\n"]));
     found.fail_after(0);
     let Err((_, dead)) = recovered(alloc, found) else {
         panic!(rt; "a start");
     };
-    for (spoilt, start) in crate::crashes::ONE_LINE {
-        let Ok(left) = dead.crash(spoilt) else {
-            panic!(rt; "out of memory");
-        };
-        holds(&rt, "a crash", started(alloc, left) == *start);
-    }
+    let Ok(Some(left)) = dead.crash(b"") else {
+        panic!(rt; "out of memory");
+    };
+    holds(&rt, "a crash", started(alloc, left) == Start::At(2, 0));
+}
+
+// The next process reads a part of a group, which it cuts; where its start fails, it stands there yet.
+#[test]
+fn a_crash_before_a_cut(rt: HostRuntime) {
+    let alloc = rt.alloc();
+    let disk = unsynced(&rt, alloc);
+    let Ok(Some(mut found)) = disk.restart(b"u\n~") else {
+        panic!(rt; "no restart");
+    };
+    found.fail_after(0);
+    let Err((_, dead)) = recovered(alloc, found) else {
+        panic!(rt; "a start");
+    };
+    holds(&rt, "no other", is_never_left(&dead, b"u"));
+    let Ok(Some(left)) = dead.crash(b"") else {
+        panic!(rt; "out of memory");
+    };
+    holds(&rt, "a crash", started(alloc, left) == Start::At(1, 3));
 }
 
 // An outlet that fails ends the serving: what it was given was taken, and no more.
 #[test]
 fn an_outlet_that_fails(rt: HostRuntime) {
     let alloc = rt.alloc();
-    let mut node = tally_over(&rt, alloc, disk_of(&rt, alloc, ""));
+    let mut node = tally_over(&rt, alloc, disk_of(&rt, alloc, &[], b""));
     let mut failing = Failing {
         told: Told::new(&rt, alloc),
         most: 1,
@@ -129,17 +175,13 @@ fn an_outlet_that_fails(rt: HostRuntime) {
     holds(
         &rt,
         "what was taken",
-        node.machine.total == 2 && node.disk.bytes() == b"u\nu\n".as_slice(),
+        node.machine.total == 2 && has(alloc, &node.disk, &[b"u\n", b"u\n"]),
     );
 }
 
-// After so many syncs the disk fails, of two groups of two and one: so many answers, and where the next life begins.
-const GROUPS: &[(u32, &[bool], usize, u64)] = &[
-    (0, &[KEPT, KEPT], 0, 1),
-    (1, &[], 1, 2),
-    (1, &[KEPT, KEPT], 1, 3),
-    (2, &[], 2, 3),
-];
+// After so many syncs the disk fails, of two groups of two and one: so many answers, and where the next life begins, if
+// the crash leaves none of the group whose sync failed, and if it leaves all of it.
+const GROUPS: &[(u32, usize, (u64, u64))] = &[(0, 0, (0, 2)), (1, 1, (2, 3))];
 
 fn groups_of(rt: &impl Abort, alloc: Global) -> Vec<Vec<Move>> {
     let Ok(groups) = two_groups(alloc) else {
@@ -158,8 +200,8 @@ fn two_groups(alloc: Global) -> Result<Vec<Vec<Move>>, std::alloc::AllocError> {
 #[test]
 fn lives_in_groups(rt: HostRuntime) {
     let alloc = rt.alloc();
-    for (syncs, spoilt, answered, total) in GROUPS {
-        let mut node = tally_over(&rt, alloc, disk_of(&rt, alloc, ""));
+    for (syncs, answered, totals) in GROUPS {
+        let mut node = tally_over(&rt, alloc, disk_of(&rt, alloc, &[], b""));
         node.disk.fail_after(*syncs);
         let groups = groups_of(&rt, alloc);
         let mut told = Told::new(&rt, alloc);
@@ -167,21 +209,47 @@ fn lives_in_groups(rt: HostRuntime) {
         holds(
             &rt,
             "an end",
-            served.is_ok() == (*answered == 2) && told.given.len() == *answered,
+            served.is_err() && told.given.len() == *answered,
         );
-        let Durable { disk, .. } = node;
-        let Ok(left) = disk.crash(spoilt) else {
-            panic!(rt; "out of memory");
-        };
-        holds(&rt, "a start", started(alloc, left) == Start::At(*total));
+        let kept = kept_of(&rt, alloc, *answered);
+        let met = are_met(alloc, &node.disk, kept, *totals);
+        holds(&rt, "each crash", met);
     }
+}
+
+// The bytes of the first some of these groups.
+fn kept_of(rt: &impl Abort, alloc: Global, answered: usize) -> usize {
+    let both: [&[u8]; 2] = [b"u\nu\n", b"u\n"];
+    disk_of(rt, alloc, &both[..answered.min(2)], b"")
+        .bytes()
+        .len()
+}
+
+#[test]
+fn a_life_in_groups(rt: HostRuntime) {
+    let alloc = rt.alloc();
+    let mut node = tally_over(&rt, alloc, disk_of(&rt, alloc, &[], b""));
+    node.disk.fail_after(2);
+    let groups = groups_of(&rt, alloc);
+    let mut told = Told::new(&rt, alloc);
+    let served = serve_groups(alloc, &mut node, &groups, &mut told);
+    holds(&rt, "an end", served.is_ok() && told.given.len() == 2);
+    holds(
+        &rt,
+        "the groups",
+        has(alloc, &node.disk, &[b"u\nu\n", b"u\n"]),
+    );
+    let Ok(Some(left)) = node.disk.crash(b"") else {
+        panic!(rt; "out of memory");
+    };
+    holds(&rt, "a start", started(alloc, left) == Start::At(3, 0));
 }
 
 // Of a group whose last input is refused the others are taken and answered.
 #[test]
 fn a_refusal_in_a_group(rt: HostRuntime) {
     let alloc = rt.alloc();
-    let mut node = tally_over(&rt, alloc, disk_of(&rt, alloc, ""));
+    let mut node = tally_over(&rt, alloc, disk_of(&rt, alloc, &[], b""));
     let Ok(group) = vec![in alloc; Move::Up, Move::Down, Move::Down] else {
         panic!(rt; "out of memory");
     };

@@ -1,6 +1,7 @@
 // Groups with their records, written and read back, and what is found where a file is damaged.
 use crate::given::holds;
-use la_journal::{head_line, is_damage, next_group, record_line, text_of_head};
+use crate::{journal_of, put_line};
+use la_journal::{is_damage, next_group, text_of_head};
 use std::alloc::{AllocError, Global};
 use std::process::Abort;
 
@@ -44,25 +45,6 @@ fn is_told(found: Reading) -> bool {
     matches!(found, Reading::NoHead | Reading::Groups(_, true))
 }
 
-fn put(file: &mut Vec<u8>, line: &[u8]) -> Result<(), AllocError> {
-    file.extend_from_slice(line)?;
-    file.push(b'\n')?;
-    Ok(())
-}
-
-fn written(alloc: Global) -> Result<Vec<u8>, AllocError> {
-    let mut file = Vec::new(alloc);
-    let mut before = head_line(alloc, TEXT)?;
-    put(&mut file, &before)?;
-    for group in GROUPS {
-        let record = record_line(alloc, &before, group)?;
-        file.extend_from_slice(group)?;
-        put(&mut file, &record)?;
-        before = record;
-    }
-    Ok(file)
-}
-
 fn found(file: &[u8]) -> Reading {
     let Some(end) = file.iter().position(|b| *b == b'\n') else {
         return Reading::NoHead;
@@ -94,7 +76,7 @@ fn groups_found(bytes: &[u8], head: &[u8]) -> Reading {
 }
 
 fn file_of(rt: &impl Abort, alloc: Global) -> Vec<u8> {
-    let Ok(file) = written(alloc) else {
+    let Ok(file) = journal_of(alloc, TEXT, &GROUPS) else {
         panic!(rt; "out of memory");
     };
     file
@@ -169,16 +151,16 @@ fn changed(
     let mut held: Option<&Vec<u8>> = None;
     for (place, line) in lines.iter().enumerate() {
         if place != at {
-            put(&mut file, line)?;
+            put_line(&mut file, line)?;
         } else if change == Change::Doubled {
-            put(&mut file, line)?;
-            put(&mut file, line)?;
+            put_line(&mut file, line)?;
+            put_line(&mut file, line)?;
         } else if change == Change::Swapped {
             held = Some(line);
             continue;
         }
         if let Some(line) = held {
-            put(&mut file, line)?;
+            put_line(&mut file, line)?;
             held = None;
         }
     }

@@ -1,7 +1,7 @@
 // A number that goes up and down, one line a move.
 ghost use Rattle.std.specs.Prelude.{◌≡◌, ◌++◌, ◌∷◌, [], ℕ, Option, Some, None, IfOk, IfSome, IfNone};
 ghost use Rattle.la_journal.specs.Disk.{Only};
-ghost use Rattle.la_journal.specs.Lines.{lines};
+ghost use Rattle.la_journal.specs.Journal.{lines};
 ghost use Rattle.test_journal.specs.declared.tally.Move.TheVariants.{Up};
 ghost use Rattle.test_journal.specs.Tally.{text, number_in};
 
@@ -28,6 +28,9 @@ pub enum MoveError {
     Empty,
 }
 
+/// What the journal of a tally begins with.
+pub const HEAD: &[u8] = b"tally 1";
+
 /// A number.
 #[derive(Drop)]
 pub struct Tally {
@@ -36,7 +39,7 @@ pub struct Tally {
 
 impl Machine for Tally {
     ghost use Rattle.test_journal.specs.declared.tally.Move.{Move};
-    ghost use Rattle.test_journal.specs.Tally.{moved, text, named, number_in, round_trip, clean};
+    ghost use Rattle.test_journal.specs.Tally.{moved, text, named, number_in, head, round_trip, clean, clean_head};
 
     type Input = Move;
 
@@ -68,9 +71,17 @@ impl Machine for Tally {
 
     ghost lacks_memory = { λ _. ⊥ };
 
+    ghost head = { head };
+
     ghost round_trip = { round_trip };
 
     ghost clean = { clean };
+
+    ghost clean_head = { clean_head };
+
+    fn head(&self, alloc: Global) -> Result<Vec<u8>, AllocError> {
+        HEAD.to_vec(alloc)
+    }
 
     fn apply(&mut self, input: &Move) -> Result<u64, MoveError> {
         match input {

@@ -12,12 +12,33 @@ use la_journal::{
 use std::alloc::Global;
 use test_journal::{Move, MoveError, Tally};
 
-// Two whole lines, and a part of one.
-const TORN: &str = "u\nu\nu";
+// Journals by another program: a new one, one of two groups, and what calls make of that.
+const NEW: &str = "tally 1 c68c68fe2083a7e7\n";
 
-const WHOLE: &str = "u\nu\n";
+const WHOLE: &str = "tally 1 c68c68fe2083a7e7\n\
+u\n~ 1 c68c68fe2083a7e7 4b86e98aa8af0c6a\n\
+u\n~ 1 4b86e98aa8af0c6a 85e6c708bc0d4e86\n";
 
-const MORE: &str = "u\nu\nu\nd\n";
+// And a part of a group behind it.
+const TORN: &str = "tally 1 c68c68fe2083a7e7\n\
+u\n~ 1 c68c68fe2083a7e7 4b86e98aa8af0c6a\n\
+u\n~ 1 4b86e98aa8af0c6a 85e6c708bc0d4e86\n\
+u\n~";
+
+const ONE_MORE: &str = "tally 1 c68c68fe2083a7e7\n\
+u\n~ 1 c68c68fe2083a7e7 4b86e98aa8af0c6a\n\
+u\n~ 1 4b86e98aa8af0c6a 85e6c708bc0d4e86\n\
+u\n~ 1 85e6c708bc0d4e86 223e34339b37a5cf\n";
+
+const TWO_MORE: &str = "tally 1 c68c68fe2083a7e7\n\
+u\n~ 1 c68c68fe2083a7e7 4b86e98aa8af0c6a\n\
+u\n~ 1 4b86e98aa8af0c6a 85e6c708bc0d4e86\n\
+u\nd\n~ 2 85e6c708bc0d4e86 cd0d9be61601707e\n";
+
+const COMPACTED: &str = "tally 1 c68c68fe2083a7e7\n\
+=uu\n~ 1 c68c68fe2083a7e7 b9646c94824bc37f\n\
+~ 0 b9646c94824bc37f ee2ec01866b0b7f6\n\
+~ 0 ee2ec01866b0b7f6 ea6569b7e1e9dd36\n";
 
 fn is_text(disk: &MemoryDisk, text: &str) -> bool {
     disk.bytes() == text.as_bytes()
@@ -44,43 +65,59 @@ fn recovered(
 
 // ## Starts
 
-// Whether a start comes to the lines, or the disk, where memory was refused.
-fn starts(alloc: Global, disk: MemoryDisk) -> Result<bool, MemoryDisk> {
+// What a disk has, where a start puts the number, what the disk then has, and how many bytes were cut.
+type Begun = (&'static str, u64, &'static str, usize);
+
+const PLAYED: Begun = (TORN, 2, WHOLE, 3);
+
+const BEGUN: Begun = ("", 0, NEW, 0);
+
+// Whether a start comes to this, or the disk, where memory was refused.
+fn starts(alloc: Global, disk: MemoryDisk, begun: &Begun) -> Result<bool, MemoryDisk> {
     match recovered(alloc, disk) {
-        Ok(node) => Ok(node.machine.total == 2 && !node.closed && is_text(&node.disk, WHOLE)),
+        Ok(node) => Ok(is_begun(&node, begun)),
         Err((Unplayed::Memory | Unplayed::Disk, disk)) => Err(disk),
         Err(_) => Ok(false),
     }
 }
 
-fn starts_again(alloc: Global, disk: MemoryDisk) -> Came {
-    if !is_text(&disk, TORN) {
-        return Some(false);
-    }
-    starts(alloc, disk).ok()
+fn is_begun(node: &Durable<Tally, MemoryDisk>, begun: &Begun) -> bool {
+    node.machine.total == begun.1
+        && !node.closed
+        && is_text(&node.disk, begun.2)
+        && node.cut == begun.3
 }
 
-fn recovers(alloc: Global) -> Came {
-    let disk = disk_of(alloc, TORN)?;
-    match starts(alloc, disk) {
+fn starts_again(alloc: Global, disk: MemoryDisk, begun: &Begun) -> Came {
+    if !is_text(&disk, begun.0) {
+        return Some(false);
+    }
+    starts(alloc, disk, begun).ok()
+}
+
+fn begins(alloc: Global, begun: &Begun) -> Came {
+    let disk = disk_of(alloc, begun.0)?;
+    match starts(alloc, disk, begun) {
         Ok(well) => Some(well),
-        Err(disk) => second(alloc, starts_again(alloc, disk)),
+        Err(disk) => second(alloc, starts_again(alloc, disk, begun)),
     }
 }
 
 // A refused restart leaves nothing: each try has a disk of its own.
 fn restarts(alloc: Global) -> Came {
     let disk = disk_of(alloc, TORN)?;
-    match disk.restart(&[]) {
-        Ok(found) => Some(is_text(&found, TORN)),
+    match disk.restart(b"".as_slice()) {
+        Ok(Some(found)) => Some(is_text(&found, TORN)),
+        Ok(None) => Some(false),
         Err(_) => None,
     }
 }
 
 fn starts_anew(alloc: Global) -> Came {
     let disk = disk_of(alloc, WHOLE)?;
-    match start_again(alloc, disk, &[], Tally { total: 0 }) {
-        Ok(node) => Some(node.machine.total == 2 && is_text(&node.disk, WHOLE)),
+    match start_again(alloc, disk, b"".as_slice(), Tally { total: 0 }) {
+        Ok(Some(node)) => Some(node.machine.total == 2 && is_text(&node.disk, WHOLE)),
+        Ok(None) => Some(false),
         Err(Unplayed::Memory | Unplayed::Disk) => None,
         Err(_) => Some(false),
     }
@@ -165,7 +202,7 @@ fn handles(alloc: Global) -> Came {
         None if !node.closed => second(alloc, handle(&mut node, alloc)),
         came => came,
     };
-    if leaves(&node.disk, came, "u\nu\nu\n") {
+    if leaves(&node.disk, came, ONE_MORE) {
         came
     } else {
         Some(false)
@@ -180,7 +217,7 @@ fn handles_all(alloc: Global) -> Came {
         None if !node.closed => second(alloc, handle_all(&mut node, alloc, &mut answers)),
         came => came,
     };
-    if leaves(&node.disk, came, MORE) {
+    if leaves(&node.disk, came, TWO_MORE) {
         came
     } else {
         Some(false)
@@ -202,7 +239,7 @@ fn commits(alloc: Global) -> Came {
     let mut group = staged_over(alloc, node);
     let staged = again!(alloc, stage(&mut group, alloc));
     let came = commit(&mut group);
-    if staged == Some(true) && leaves(&group.durable.disk, came, "u\nu\nu\n") {
+    if staged == Some(true) && leaves(&group.durable.disk, came, ONE_MORE) {
         came
     } else {
         Some(false)
@@ -216,7 +253,7 @@ fn compacts(alloc: Global) -> Came {
         None if !node.closed => second(alloc, compact(&mut node, alloc)),
         came => came,
     };
-    if leaves(&node.disk, came, "=uu\n") {
+    if leaves(&node.disk, came, COMPACTED) {
         came
     } else {
         Some(false)
@@ -226,8 +263,9 @@ fn compacts(alloc: Global) -> Came {
 // ## The disk
 
 fn crash(disk: &MemoryDisk) -> Came {
-    match disk.crash(&[false, true]) {
-        Ok(left) => Some(is_text(&left, TORN)),
+    match disk.crash(b"".as_slice()) {
+        Ok(Some(left)) => Some(is_text(&left, TORN)),
+        Ok(None) => Some(false),
         Err(_) => refused(is_text(disk, TORN)),
     }
 }
@@ -240,8 +278,8 @@ fn replace(disk: &mut MemoryDisk) -> Came {
 }
 
 fn append(disk: &mut MemoryDisk) -> Came {
-    match disk.append(b"u\nd\n") {
-        Ok(()) => Some(is_text(disk, MORE)),
+    match disk.append(b"u\n~".as_slice()) {
+        Ok(()) => Some(is_text(disk, TORN)),
         Err(DiskFault) => refused(is_text(disk, WHOLE)),
     }
 }
@@ -273,7 +311,8 @@ fn records(alloc: Global) -> Came {
 
 fn scenes(alloc: Global) -> Came {
     Some(
-        recovers(alloc)?
+        begins(alloc, &PLAYED)?
+            && begins(alloc, &BEGUN)?
             && again!(alloc, heads(alloc))?
             && again!(alloc, records(alloc))?
             && again!(alloc, restarts(alloc))?

@@ -5,7 +5,7 @@ ghost use Rattle.std.specs.Prelude.{◌<◌};
 use crate::holds::holds;
 use la_acceptor::{Acceptor, Reply};
 use la_commit::{Outcome, Vote};
-use la_journal::MemoryDisk;
+use la_journal::{Machine, MemoryDisk};
 use la_node::{Config, Node};
 use la_object::{Answer, Counter, Query, Replicated};
 use la_orset::OrSet;
@@ -14,6 +14,7 @@ use la_replica::{Body, Mail, Message, Replica, ReplicaError};
 use la_set::{Op, Update, UpdateId, UpdateSet};
 use la_world::Report;
 use std::alloc::Global;
+use test_journal::journal_of;
 use uses::acceptors::acknowledges;
 use uses::commits::{Learner, finish_both};
 use uses::deltas::{read, written};
@@ -340,7 +341,16 @@ fn leases(alloc: Global) -> Option<bool> {
     let mut lease = start_in_memory(alloc, Lease { taken: false }, disk).ok()?;
     let taken = answer(&mut lease, alloc, b"t").ok()??;
     let after = answer_and_compact(&mut lease, alloc, &Ask::Release).ok()?;
-    Some(taken && !after && matches!(lease.disk.bytes(), b"=f\n" | b"t\nr\n"))
+    let head = lease.machine.head(alloc).ok()?;
+    let says = is_released(alloc, &head, lease.disk.bytes())?;
+    Some(taken && !after && says)
+}
+
+// Whether these are the bytes of its journal, compacted, or not where memory was refused for that.
+fn is_released(alloc: Global, head: &[u8], bytes: &[u8]) -> Option<bool> {
+    let compacted = journal_of(alloc, head, &[b"=f\n", b"", b""]).ok()?;
+    let calls = journal_of(alloc, head, &[b"t\n", b"r\n"]).ok()?;
+    Some(bytes == compacted.as_slice() || bytes == calls.as_slice())
 }
 
 fn leases_stay(alloc: Global) -> Option<bool> {

@@ -4,12 +4,13 @@ ghost use Rattle.la_journal.specs.Durable.{IsSettled};
 
 use crate::holds::holds;
 use la_durable::{NodeError, NodeMachine};
-use la_journal::{Disk, Durable, MemoryDisk, Refused, recover};
+use la_journal::{Disk, Durable, Machine, MemoryDisk, Refused, recover};
 use la_node::{Config, WorldError};
 use la_proposer::Votes;
 use la_replica::{Mail, ReplicaError};
 use la_wire::put_message;
 use std::alloc::Global;
+use test_journal::journal_of;
 use uses::restarts::take_line;
 
 // What a group of one is handed, and what it sends.
@@ -25,8 +26,12 @@ const ROUND: [(&str, &str); 3] = [
     ("yes 1 0 0 0 1", ""),
 ];
 
-const JOURNAL: &str =
-    "submit 0 1 inc 5\noffer 1 0 0 0 1 base 0 0 0 0 0 0 0 0;0.1 1 inc 5\nyes 1 0 0 0 1\n";
+// And its lines, each a group.
+const GROUPS: &[&[u8]] = &[
+    b"submit 0 1 inc 5\n",
+    b"offer 1 0 0 0 1 base 0 0 0 0 0 0 0 0;0.1 1 inc 5\n",
+    b"yes 1 0 0 0 1\n",
+];
 
 const REFUSED: [(&str, NodeError); 7] = [
     ("submit 1 1 inc 5", NodeError::Elsewhere),
@@ -54,16 +59,38 @@ fn machine(alloc: Global) -> Option<NodeMachine> {
     NodeMachine::new(alloc, config, 0).ok()
 }
 
-fn started(alloc: Global, journal: &str) -> Option<Durable<NodeMachine, MemoryDisk>>
+// A node's journal with these groups, and these bytes behind it.
+fn file_of(alloc: Global, groups: &[&[u8]], behind: &[u8]) -> Option<Vec<u8>> {
+    let head = machine(alloc)?.head(alloc).ok()?;
+    let mut file = journal_of(alloc, &head, groups).ok()?;
+    file.extend_from_slice(behind).ok()?;
+    Some(file)
+}
+
+fn started(alloc: Global, file: Option<Vec<u8>>) -> Option<Durable<NodeMachine, MemoryDisk>>
     ensures { IfSome result (λ node. IsSettled ⟦<MemoryDisk as Disk>⟧.seen ⟦<MemoryDisk as Disk>⟧.may_leave node.disk) }
 {
-    let disk = MemoryDisk::new(alloc, journal.as_bytes().to_vec(alloc).ok()?);
+    let disk = MemoryDisk::new(alloc, file?);
     let Ok(found) = disk.bytes().to_vec(alloc) else {
         return None;
     };
     match recover(alloc, machine(alloc)?, found, disk) {
         Ok(node) => Some(node),
         Err(_) => None,
+    }
+}
+
+// Whether a start on these groups, with these bytes behind them, cuts so many of them; `None` where there is none.
+fn cut(alloc: Global, groups: &[&[u8]], behind: &[u8]) -> Option<usize> {
+    let node = started(alloc, file_of(alloc, groups, behind))?;
+    Some(node.cut)
+}
+
+// Whether a node's journal has these groups, and nothing else.
+fn has(alloc: Global, node: &Durable<NodeMachine, MemoryDisk>, groups: &[&[u8]]) -> bool {
+    match file_of(alloc, groups, b"") {
+        Some(file) => node.disk.bytes() == file.as_slice(),
+        None => false,
     }
 }
 
@@ -109,7 +136,7 @@ fn has_learnt(node: &Durable<NodeMachine, MemoryDisk>) -> bool {
 #[test]
 fn a_round_and_a_start(rt: HostRuntime) {
     let alloc = rt.alloc();
-    let Some(mut node) = started(alloc, "") else {
+    let Some(mut node) = started(alloc, Some(Vec::new(alloc))) else {
         panic!(rt; "no start");
     };
     let [submits, offers, learns] = &ROUND;
@@ -117,31 +144,54 @@ fn a_round_and_a_start(rt: HostRuntime) {
     holds(&rt, offers.0, takes(alloc, &mut node, offers));
     holds(&rt, learns.0, takes(alloc, &mut node, learns));
     holds(&rt, "learnt", has_learnt(&node));
-    holds(&rt, "journal", node.disk.bytes() == JOURNAL.as_bytes());
+    holds(&rt, "journal", has(alloc, &node, GROUPS));
 }
+
+// Groups and bytes behind them, and how many of these a start cuts; `None` where there is no start.
+const STARTS: &[(&[&[u8]], &[u8], Option<usize>)] = &[
+    (GROUPS, b"", Some(0)),
+    (&[b"submit 0 1 inc 5\n"], b"sub", Some(3)),
+    (&[b"submit 0 1 inc 5\n"], b"yes 1 3 0 0 1\n", Some(14)),
+    (&[b"submit 0 1\n"], b"", None),
+    (&[b"yes 1 3 0 0 1\n"], b"", None),
+];
 
 #[test]
 fn starts_of_a_node(rt: HostRuntime) {
     let alloc = rt.alloc();
-    let Some(node) = started(alloc, JOURNAL) else {
+    let Some(node) = started(alloc, file_of(alloc, GROUPS, b"")) else {
         panic!(rt; "no start");
     };
     holds(&rt, "learnt", has_learnt(&node));
+    for (groups, behind, comes) in STARTS {
+        holds(&rt, "a start", cut(alloc, groups, behind) == *comes);
+    }
+}
+
+// Lines without a head, and under the head of another machine.
+#[test]
+fn no_journals_of_a_node(rt: HostRuntime) {
+    let alloc = rt.alloc();
+    let lines = b"submit 0 1 inc 5\n".to_vec(alloc).ok();
     holds(
         &rt,
-        "half",
-        started(alloc, "submit 0 1 inc 5\nsub").is_some(),
+        "no head",
+        lines.is_some() && started(alloc, lines).is_none(),
     );
-    holds(&rt, "no call", started(alloc, "submit 0 1\n").is_none());
-    holds(&rt, "refused", started(alloc, "yes 1 3 0 0 1\n").is_none());
+    let other = journal_of(alloc, b"tally 1", &[]).ok();
+    holds(
+        &rt,
+        "another",
+        other.is_some() && started(alloc, other).is_none(),
+    );
 }
 
 // Whether a node refuses so, and its journal stays.
 fn refuses_and_stays(alloc: Global, row: &(&str, NodeError)) -> bool {
-    let Some(mut node) = started(alloc, JOURNAL) else {
+    let Some(mut node) = started(alloc, file_of(alloc, GROUPS, b"")) else {
         return false;
     };
-    refuses(alloc, &mut node, row) && node.disk.bytes() == JOURNAL.as_bytes()
+    refuses(alloc, &mut node, row) && has(alloc, &node, GROUPS)
 }
 
 #[test]

@@ -36,6 +36,15 @@ fn makes(alloc: Global) -> Came {
     }
 }
 
+fn heads(alloc: Global, machine: &NodeMachine) -> Came {
+    match machine.head(alloc) {
+        Ok(head) => Some(
+            head.as_slice() == b"lattice 1 replica 0 of 1 votes 1 commits 0 cap 10".as_slice(),
+        ),
+        Err(_) => None,
+    }
+}
+
 fn reads(alloc: Global, text: &str) -> Came {
     match Input::read(alloc, text.as_bytes()) {
         Ok(input) => Some(input.line() == text.as_bytes()),
@@ -101,7 +110,7 @@ fn scenes(alloc: Global) -> Came {
             return came;
         }
     }
-    again!(alloc, makes(alloc))
+    Some(again!(alloc, makes(alloc))? && again!(alloc, heads(alloc, &first))?)
 }
 
 #[test]

@@ -9,7 +9,7 @@ use clap::error::ErrorKind;
 use la_cli::end_without_call;
 use la_durable::NodeMachine;
 use la_io::{Listener, WriteFailed, flush, write_some};
-use la_journal::{Disk, Durable, MemoryDisk, Staged, recover};
+use la_journal::{Disk, Durable, MemoryDisk, Staged, next_group, recover};
 use la_node::Config;
 use la_object::Shelf;
 use la_orset::OrSet;
@@ -24,7 +24,7 @@ use test_memory::{Came, again, refused, second};
 // ## Lines that are served
 
 // What a journal has, a line, whether that is kept, and what is written of it: also where the journal has gained
-// it once already, and nothing was written.
+// it once already, and nothing was written. An empty file is a new journal.
 struct Row {
     journal: &'static str,
     line: &'static str,
@@ -42,14 +42,18 @@ const ROWS: [Row; 4] = [
         later: "# r0 submitted 0.2\n",
     },
     Row {
-        journal: "submit 0 3 put 7\n",
+        journal: "lattice 1 replica 0 of 1 votes 1 commits 0 cap 10 5587c1eefb08da26\nsubmit 0 3 put 7\n\
+            ~ 1 5587c1eefb08da26 426c0ba6151fc437\n",
         line: "tick\n",
         is_kept: false,
         text: "offer 1 0 0 0 1 base 0 0 0 0 0 0 0 0;0.1 3 put 7\n",
         later: "",
     },
     Row {
-        journal: "submit 0 3 put 7\noffer 1 0 0 0 1 base 0 0 0 0 0 0 0 0;0.1 3 put 7\n",
+        journal: "lattice 1 replica 0 of 1 votes 1 commits 0 cap 10 5587c1eefb08da26\nsubmit 0 3 put 7\n\
+            ~ 1 5587c1eefb08da26 426c0ba6151fc437\n\
+            offer 1 0 0 0 1 base 0 0 0 0 0 0 0 0;0.1 3 put 7\n\
+            ~ 1 426c0ba6151fc437 5c0a4965d7c9201f\n",
         line: "yes 1 0 0 0 1\n",
         is_kept: true,
         text: "# r0 learnt 0 1 1 0 0 0 0 0 0 0\n# r0 view 1 0 0 0 0 0 0 0\n",
@@ -64,8 +68,14 @@ const ROWS: [Row; 4] = [
     },
 ];
 
-const ROUND: &str = "submit 0 3 put 7\noffer 1 0 0 0 1 base 0 0 0 0 0 0 0 0;0.1 3 put 7\n\
-     yes 1 0 0 0 1\n";
+// The head of the node's journal.
+const HEAD: &str = "lattice 1 replica 0 of 1 votes 1 commits 0 cap 10 5587c1eefb08da26\n";
+
+// A journal with the three lines as one group.
+const ROUND: &str =
+    "lattice 1 replica 0 of 1 votes 1 commits 0 cap 10 5587c1eefb08da26\nsubmit 0 3 put 7\n\
+     offer 1 0 0 0 1 base 0 0 0 0 0 0 0 0;0.1 3 put 7\nyes 1 0 0 0 1\n\
+     ~ 3 5587c1eefb08da26 6518e0c7d86d5258\n";
 
 const ANSWER: &str = "# r0 answered 3 items [7]\n";
 
@@ -171,11 +181,24 @@ fn serve_line<D: Disk>(
     }
 }
 
-// Whether a journal has this line behind what it had.
+// Whether a journal has this line behind what it had, as a group.
 fn has_gained(after: &[u8], before: &[u8], line: &str) -> bool {
-    after.starts_with(before)
-        && after.ends_with(line.as_bytes())
-        && after.len() == before.len().saturating_add(line.len())
+    let Some(behind) = after.strip_prefix(before) else {
+        return false;
+    };
+    let (last, _) = before.split_at(before.len().saturating_sub(1));
+    match next_group(behind, last) {
+        Some(group) => group.lines == line.as_bytes() && group.rest.is_empty(),
+        None => false,
+    }
+}
+
+// What a journal has once a node started on it.
+fn begun(journal: &'static str) -> &'static [u8] {
+    if journal.is_empty() {
+        return HEAD.as_bytes();
+    }
+    journal.as_bytes()
 }
 
 // Where nothing was written the journal has gained the line or not.
@@ -192,7 +215,7 @@ fn came_of(row: &Row, served: Served, before: &[u8], after: &[u8]) -> Came {
 
 // The same line, by a node that starts on the journal that the first has left.
 fn serves_again(alloc: Global, row: &Row, journal: &[u8]) -> Came {
-    let is_first = journal == row.journal.as_bytes();
+    let is_first = journal == begun(row.journal);
     let text = if is_first { row.text } else { row.later };
     let mut server = start(alloc, journal)?;
     let served = serve_line(alloc, &mut server, row.line, text);
@@ -200,11 +223,10 @@ fn serves_again(alloc: Global, row: &Row, journal: &[u8]) -> Came {
 }
 
 fn serves(alloc: Global, row: &Row) -> Came {
-    let journal = row.journal.as_bytes();
-    let mut server = start(alloc, journal)?;
+    let mut server = start(alloc, row.journal.as_bytes())?;
     let served = serve_line(alloc, &mut server, row.line, row.text);
     let left = server.node.durable.disk.bytes();
-    match came_of(row, served, journal, left) {
+    match came_of(row, served, begun(row.journal), left) {
         Some(well) => Some(well),
         None => second(alloc, serves_again(alloc, row, left)),
     }

@@ -13,4 +13,5 @@ mod ByParcels
 mod Restarting
 mod Leasing
 mod Newest
+mod Nothing
 pub mod CarriedLines

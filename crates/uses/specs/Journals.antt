@@ -1,8 +1,10 @@
 -- What a node comes to over its journal, by what its machine and its disk state.
 use Rattle.std.specs.Prelude.{◌≡◌, ℕ, false, List, [], ◌∷◌, ◌++◌, Option, Some}
+use Rattle.la_journal.specs.declared.machine.Machine.{Ghosts}
+use Rattle.la_journal.specs.declared.disk.Disk.{Ghosts as DiskGhosts}
 use Rattle.la_journal.specs.declared.durable.Durable.{Durable}
 use Rattle.la_journal.specs.Disk.{Only}
-use Rattle.la_journal.specs.Lines.{lines}
+use Rattle.la_journal.specs.Journal.{lines}
 use Rattle.la_journal.specs.Machine.{state_after, calls, LeadsToSome}
 use Rattle.la_journal.specs.Served.{SaidAt, LeadsToAtLeast, answer_alone, answers_since}
 use Rattle.la_journal.specs.Starts.{IsStart}
@@ -22,10 +24,11 @@ pub record Stated (M I O S C A : Type 0) : Type 0 where
   pub call : I → C
   pub answer : O → A
 
-abbrev pub stated : {M I O S C A : Type 0} → (named_state : List ℕ → Option S) → (named : List ℕ → Option C)
-    → (step : S → C → Option S) → (state : M → S) → (call : I → C) → (answer : O → A) → Stated M I O S C A
-stated named_state named step state call answer = record {
-  leads = state_after named_state named step;
+abbrev pub stated : {M I O S C A : Type 0} → (head : S → List ℕ) → (named_state : List ℕ → Option S)
+    → (named : List ℕ → Option C) → (step : S → C → Option S) → (state : M → S) → (call : I → C) → (answer : O → A)
+    → Stated M I O S C A
+stated head named_state named step state call answer = record {
+  leads = state_after head named_state named step;
   step = step;
   state = state;
   call = call;
@@ -46,8 +49,8 @@ stated_disk seen may_leave moment left_since =
 
 -- An open node, whose file leads to its state, takes these inputs: who starts on what a crash at any moment of that
 -- left comes to where the first some of them lead, none skipped and none in part.
-abbrev pub CrashKeepsSome : {D M I O R S C A : Type 0} → Stated M I O S C A → StatedDisk D → List I
-    → (old new : Durable M D I O R) → Type 0
+abbrev pub CrashKeepsSome : {D M I O R S C A : Type 0} {g : Ghosts M I O R} {h : DiskGhosts D} → Stated M I O S C A
+    → StatedDisk D → List I → (old new : Durable M D I O R g h) → Type 0
 CrashKeepsSome {D} {M} {I} {O} {R} {S} m d inputs old new =
     (start : S) (found : D) → old.closed ≡ false
     → m.leads start (d.seen old.disk) ≡ Some (m.state old.machine)

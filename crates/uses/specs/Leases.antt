@@ -1,6 +1,7 @@
 -- A lease that one holder has at a time, by lines of text.
 use Rattle.std.specs.Prelude.{◌≡◌, ℕ, Bool, true, false, List, [], ◌∷◌, Option, Some, None, if◌then◌else◌, ◌==◌, refl}
 use Rattle.std.proofs.Common.{arith}
+use Rattle.la_journal.specs.Lines.{IsClean}
 use Rattle.la_journal.specs.Journal.{IsCallLine}
 use Rattle.uses.specs.declared.journals.Ask.{Ask}
 use Rattle.uses.specs.declared.journals.Ask.TheVariants.{Take, Release}
@@ -26,11 +27,34 @@ ask_round_trip Take = refl
 ask_round_trip Release = refl
 
 pub ask_is_clean : (ask : Ask) → IsCallLine (ask_text ask)
-ask_is_clean Take = ((omega arith, omega arith, tt), refl)
-ask_is_clean Release = ((omega arith, omega arith, tt), refl)
+ask_is_clean Take = ((omega arith, omega arith, tt), refl, refl)
+ask_is_clean Release = ((omega arith, omega arith, tt), refl, refl)
 
 -- the state as a text
 abbrev pub taken_in : List ℕ → Option Bool
 taken_in [] = None
 taken_in (b ∷ []) = if b == 116 then Some true else (if b == 102 then Some false else None)
 taken_in (b ∷ c ∷ bytes) = None
+
+-- what a journal of a lease begins with: lease 1
+abbrev pub lease_head : Bool → List ℕ
+lease_head taken = 108 ∷ 101 ∷ 97 ∷ 115 ∷ 101 ∷ 32 ∷ 49 ∷ []
+
+pub lease_head_is_clean : (taken : Bool) → IsClean (lease_head taken)
+lease_head_is_clean taken = (
+  omega arith,
+  omega arith,
+  (
+    omega arith,
+    omega arith,
+    (
+      omega arith,
+      omega arith,
+      (
+        omega arith,
+        omega arith,
+        (omega arith, omega arith, (omega arith, omega arith, (omega arith, omega arith, tt))),
+      ),
+    ),
+  ),
+)

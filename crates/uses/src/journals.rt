@@ -25,6 +25,7 @@ pub struct Lease {
 impl Machine for Lease {
     ghost use Rattle.uses.specs.declared.journals.Ask.{Ask};
     ghost use Rattle.uses.specs.Leases.{taken_after, ask_text, named_ask, taken_in, ask_round_trip, ask_is_clean};
+    ghost use Rattle.uses.specs.Leases.{lease_head, lease_head_is_clean};
 
     type Input = Ask;
 
@@ -56,9 +57,17 @@ impl Machine for Lease {
 
     ghost lacks_memory = { λ _. ⊥ };
 
+    ghost head = { lease_head };
+
     ghost round_trip = { ask_round_trip };
 
     ghost clean = { ask_is_clean };
+
+    ghost clean_head = { lease_head_is_clean };
+
+    fn head(&self, alloc: Global) -> Result<Vec<u8>, AllocError> {
+        b"lease 1".to_vec(alloc)
+    }
 
     fn apply(&mut self, ask: &Ask) -> Result<bool, SoAlready> {
         let take = matches!(ask, Ask::Take);
@@ -105,8 +114,8 @@ impl Snapshot for Lease {
 }
 
 // ---- callers
-ghost use Rattle.std.specs.Prelude.{IfSome, Err};
-ghost use Rattle.la_journal.specs.Lines.{lines};
+ghost use Rattle.std.specs.Prelude.{◌≢◌, IfSome, Err};
+ghost use Rattle.la_journal.specs.Journal.{lines};
 ghost use Rattle.la_journal.specs.Machine.{state_after};
 ghost use Rattle.la_journal.specs.Durable.{IsSettled};
 ghost use Rattle.la_journal.specs.declared.durable.Refused.TheVariants.{Machine as ByMachine};
@@ -117,8 +126,8 @@ use la_journal::{
     Disk, Durable, MemoryDisk, Outlet, Refused, Unplayed, laws, recover, serve_all, start_again,
 };
 
-/// A machine as its journal says, whose bytes were found, ready to be asked: all that was answered before is played, and
-/// is on the disk.
+/// A machine as its journal says, whose bytes were found, ready to be asked: all that was answered before is played,
+/// and is on the disk.
 pub fn start<M: Machine, D: Disk>(
     alloc: Global,
     machine: M,
@@ -126,10 +135,10 @@ pub fn start<M: Machine, D: Disk>(
     disk: D,
 ) -> Result<Durable<M, D>, Unplayed<M::Refusal>>
     requires { D.seen disk ≡ found.items }
-    ensures state { IfOk result (λ node. state_after M.named_state M.named M.step (M.state machine) (D.seen disk)
-        ≡ Some (M.state node.machine)) }
-    ensures leads { IfOk result (λ node. state_after M.named_state M.named M.step (M.state machine) (D.seen node.disk)
-        ≡ Some (M.state node.machine)) }
+    ensures state { IfOk result (λ node. state_after M.head M.named_state M.named M.step (M.state machine)
+        (D.seen disk) ≡ Some (M.state node.machine)) }
+    ensures leads { IfOk result (λ node. state_after M.head M.named_state M.named M.step (M.state machine)
+        (D.seen node.disk) ≡ Some (M.state node.machine)) }
     ensures ready { IfOk result (λ node. (node.closed ≡ false) × IsSettled D.seen D.may_leave node.disk) }
 {
     match recover(alloc, machine, found, disk) {
@@ -144,9 +153,9 @@ pub fn start_in_memory<M: Machine>(
     machine: M,
     disk: MemoryDisk,
 ) -> Result<Durable<M, MemoryDisk>, Unplayed<M::Refusal>>
-    ensures state { IfOk result (λ node. state_after M.named_state M.named M.step (M.state machine)
+    ensures state { IfOk result (λ node. state_after M.head M.named_state M.named M.step (M.state machine)
         (⟦<MemoryDisk as Disk>⟧.seen disk) ≡ Some (M.state node.machine)) }
-    ensures leads { IfOk result (λ node. state_after M.named_state M.named M.step (M.state machine)
+    ensures leads { IfOk result (λ node. state_after M.head M.named_state M.named M.step (M.state machine)
         (⟦<MemoryDisk as Disk>⟧.seen node.disk) ≡ Some (M.state node.machine)) }
     ensures ready { IfOk result (λ node. (node.closed ≡ false)
         × IsSettled ⟦<MemoryDisk as Disk>⟧.seen ⟦<MemoryDisk as Disk>⟧.may_leave node.disk) }
@@ -190,7 +199,7 @@ pub fn take_all<M: Machine, D: Disk>(
     answers: &mut Vec<M::Output>,
 ) -> Result<(), Refused<M::Refusal>>
     requires { node.old.closed ≡ false → IsSettled D.seen D.may_leave node.old.disk }
-    ensures crash { CrashKeepsSome (stated M.named_state M.named M.step M.state M.call M.answer)
+    ensures crash { CrashKeepsSome (stated M.head M.named_state M.named M.step M.state M.call M.answer)
         (stated_disk D.seen D.may_leave D.moment D.left_since) inputs.now node.old node.new }
     ensures ready { node.new.closed ≡ false → IsSettled D.seen D.may_leave node.new.disk }
 {
@@ -205,7 +214,7 @@ pub fn answer_and_compact<M: Snapshot, D: Disk>(
     input: &M::Input,
 ) -> Result<M::Output, Refused<M::Refusal>>
     requires { node.old.closed ≡ false → IsSettled D.seen D.may_leave node.old.disk }
-    ensures crash { CrashKeepsSome (stated M.named_state M.named M.step M.state M.call M.answer)
+    ensures crash { CrashKeepsSome (stated M.head M.named_state M.named M.step M.state M.call M.answer)
         (stated_disk D.seen D.may_leave D.moment D.left_since) (input.now ∷ []) node.old node.new }
     ensures answered { OnOk result (M.step (M.state node.old.machine) (M.call input.now)
         ≡ Some (M.state node.new.machine)) }
@@ -217,12 +226,12 @@ pub fn answer_and_compact<M: Snapshot, D: Disk>(
     Ok(output)
 }
 
-/// Takes a lease, and then the power fails, whatever that spoils of what was not on the disk. The machine that
-/// starts then finds it taken.
+/// Takes a lease, and then the power fails, and leaves these bytes behind what was on the disk. Whatever they are, the
+/// machine that starts then finds it taken. `None` where no crash leaves them, or one of the steps is refused.
 pub fn taken_for_good(
     alloc: Global,
     journal: Vec<u8>,
-    spoilt: &[bool],
+    torn: &[u8],
 ) -> Option<Durable<Lease, MemoryDisk>>
     ensures { IfSome result (λ lease. lease.machine.taken ≡ true) }
 {
@@ -233,7 +242,7 @@ pub fn taken_for_good(
     let Ok(_) = lease.handle(alloc, &Ask::Take) else {
         return None;
     };
-    let Ok(left) = lease.disk.crash(spoilt) else {
+    let Ok(Some(left)) = lease.disk.crash(torn) else {
         return None;
     };
     match start_in_memory(alloc, Lease { taken: false }, left) {
@@ -242,27 +251,30 @@ pub fn taken_for_good(
     }
 }
 
-/// Serves the inputs, and then the process dies, and a crash spoils what it may. Who starts again comes to where the
-/// first some of the inputs lead, all that were answered among them.
+/// Serves the inputs, and then the process dies, and a crash leaves these bytes behind what was on the disk; `None`
+/// where no crash leaves them. Who starts again comes to where the first some of the inputs lead, all that were
+/// answered among them.
 pub fn serve_and_start_again<M: Machine, O: Outlet<MemoryDisk, Item = M::Output>>(
     node: Durable<M, MemoryDisk>,
     alloc: Global,
     inputs: &[M::Input],
     outlet: &mut O,
-    spoilt: &[bool],
+    torn: &[u8],
     anew: M,
-) -> Result<Durable<M, MemoryDisk>, Unplayed<M::Refusal>>
+) -> Result<Option<Durable<M, MemoryDisk>>, Unplayed<M::Refusal>>
     requires settled { IsSettled ⟦<MemoryDisk as Disk>⟧.seen ⟦<MemoryDisk as Disk>⟧.may_leave node.disk }
     requires unclosed { node.closed ≡ false }
-    requires leads { state_after M.named_state M.named M.step (M.state anew) (⟦<MemoryDisk as Disk>⟧.seen node.disk)
-        ≡ Some (M.state node.machine) }
-    ensures { IfOk result (λ again. HoldsAnswered (stated M.named_state M.named M.step M.state M.call M.answer)
-        anew node.machine inputs.now O.said outlet.old outlet.new (⟦<MemoryDisk as Disk>⟧.seen again.disk)) }
+    requires leads { state_after M.head M.named_state M.named M.step (M.state anew)
+        (⟦<MemoryDisk as Disk>⟧.seen node.disk) ≡ Some (M.state node.machine) }
+    ensures held { IfOk result (λ some. IfSome some (λ again.
+        HoldsAnswered (stated M.head M.named_state M.named M.step M.state M.call M.answer)
+        anew node.machine inputs.now O.said outlet.old outlet.new (⟦<MemoryDisk as Disk>⟧.seen again.disk))) }
+    ensures none { IfOk result (λ some. some ≡ None → torn.now ≢ []) }
 {
     let mut node = node;
     let _all_or_some = serve_all(alloc, &mut node, inputs, outlet);
     let Durable { disk, .. } = node;
-    match start_again(alloc, disk, spoilt, anew) {
+    match start_again(alloc, disk, torn, anew) {
         Ok(again) => Ok(again),
         Err(why) => Err(why),
     }

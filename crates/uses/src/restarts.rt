@@ -1,7 +1,7 @@
 // A node that keeps its state over a crash.
 ghost use Rattle.std.specs.Prelude.{◌≡◌, ◌∷◌, [], ◌++◌, false, IfOk, IfSome};
 ghost use Rattle.la_journal.specs.Disk.{Only};
-ghost use Rattle.la_journal.specs.Lines.{lines};
+ghost use Rattle.la_journal.specs.Journal.{lines};
 ghost use Rattle.la_journal.specs.Durable.{IsSettled};
 ghost use Rattle.uses.specs.Restarts.{RestartsLive};
 
@@ -12,8 +12,8 @@ use la_wire::LineError;
 use la_world::live;
 use std::alloc::Global;
 
-/// A node as its journal says, whose bytes were found. Whatever crash left this of the lines that it was handed since it last gave
-/// something out, its group is live with it.
+/// A node as its journal says, whose bytes were found. Whatever crash left this of the lines that it was handed since
+/// it last gave something out, its group is live with it.
 pub fn restart<D: Disk>(
     alloc: Global,
     start: NodeMachine,

@@ -3,7 +3,8 @@ use Rattle.std.proofs.Common.{◌≡◌, ℕ, List, [], ◌++◌, Some, ap, sym,
 use Rattle.std.proofs.lemmas.List.{append-nil}
 use Rattle.la_journal.specs.declared.disk.Disk.{Ghosts}
 use Rattle.la_journal.specs.Giving.{GivenAt}
-use Rattle.la_journal.specs.Lines.{lines, file_of}
+use Rattle.la_journal.specs.Lines.{file_of}
+use Rattle.la_journal.specs.Journal.{lines}
 use Rattle.la_durable.specs.Nodes.{kept_by}
 use Rattle.la_serve.specs.declared.server.Server.{Server}
 use Rattle.la_serve.specs.Io.{Io}

@@ -2,7 +2,8 @@
 use Rattle.std.specs.Prelude.{◌≡◌, ℕ, List, ◌++◌, Some}
 use Rattle.la_journal.specs.declared.disk.Disk.{Ghosts}
 use Rattle.la_journal.specs.Giving.{GivenAt}
-use Rattle.la_journal.specs.Lines.{lines, file_of}
+use Rattle.la_journal.specs.Lines.{file_of}
+use Rattle.la_journal.specs.Journal.{lines}
 use Rattle.la_durable.specs.CallLines.{CallLine}
 use Rattle.la_durable.specs.Nodes.{kept_by}
 use Rattle.la_durable.specs.Restarts.{leads_from}

@@ -94,6 +94,12 @@ fn status_is_exact(proposer: &Proposer) -> (Status, Status)
     (proposer.status(), proposer.status())
 }
 
+fn cap_is_exact(proposer: &Proposer) -> (u32, u32)
+    ensures { result.0 ≡ result.1 }
+{
+    (proposer.cap(), proposer.cap())
+}
+
 fn updates_are_exact(proposer: &Proposer) -> bool
     ensures { IsTrue result }
 {

@@ -292,6 +292,24 @@ fn own_is_exact(replica: &Replica) -> (u8, u8)
     (replica.own(), replica.own())
 }
 
+fn votes_are_exact(replica: &Replica) -> (Votes, Votes)
+    ensures { votes_of result.0 ≡ votes_of result.1 }
+{
+    (replica.votes(), replica.votes())
+}
+
+fn cap_is_exact(replica: &Replica) -> (u32, u32)
+    ensures { result.0 ≡ result.1 }
+{
+    (replica.cap(), replica.cap())
+}
+
+fn commits_is_exact(replica: &Replica) -> (u8, u8)
+    ensures { result.0 ≡ result.1 }
+{
+    (replica.commits(), replica.commits())
+}
+
 fn view_is_exact(replica: &Replica) -> bool
     ensures { IsTrue result }
 {

@@ -1,6 +1,7 @@
 // A node's calls, each made twice, or at two nodes that are one.
 ghost use Rattle.std.specs.Prelude.{◌≡◌, ◌≢◌, ◌↔◌, IsTrue, IfOk, IfErr, OnOk, OnErr};
 ghost use Rattle.std.specs.Option.{option_copied};
+ghost use Rattle.la_proposer.specs.Majority.{votes_of};
 ghost use Rattle.la_object.specs.declared.error.ShelfError.TheVariants.{Memory as MemoryIs};
 ghost use Rattle.la_node.specs.Preparing.{FitsHere};
 ghost use Rattle.la_replica.specs.Steps.{learnt_in};
@@ -8,6 +9,7 @@ ghost use Rattle.la_replica.specs.Steps.{learnt_in};
 use la_commit::Outcome;
 use la_node::{Config, Done, Node, Received, WorldError, outcome_by};
 use la_object::{Answer, Query, Replicated, Shelf, ShelfError, State};
+use la_proposer::Votes;
 use la_replica::{Mail, Message, Out, Parcel, ReplicaError};
 use la_set::{Op, Tags, UpdateSet};
 use std::alloc::{AllocError, Global};
@@ -35,7 +37,7 @@ fn is_group_is_exact(config: &Config) -> (bool, bool)
     (config.is_group(), config.is_group())
 }
 
-// What a node tells of itself: which replica it is, and of how many, its view and what it learnt last and submitted in an
+// What a node tells of itself: which replica it is, its group, its view and what it learnt last and submitted in an
 // instance, and whether it has an object.
 fn own_is_exact<B: Replicated>(node: &Node<B>) -> (u8, u8)
     ensures { result.0 ≡ result.1 }
@@ -47,6 +49,24 @@ fn replicas_is_exact<B: Replicated>(node: &Node<B>) -> (u8, u8)
     ensures { result.0 ≡ result.1 }
 {
     (node.replicas(), node.replicas())
+}
+
+fn votes_are_exact<B: Replicated>(node: &Node<B>) -> (Votes, Votes)
+    ensures { votes_of result.0 ≡ votes_of result.1 }
+{
+    (node.votes(), node.votes())
+}
+
+fn cap_is_exact<B: Replicated>(node: &Node<B>) -> (u32, u32)
+    ensures { result.0 ≡ result.1 }
+{
+    (node.cap(), node.cap())
+}
+
+fn commits_is_exact<B: Replicated>(node: &Node<B>) -> (u8, u8)
+    ensures { result.0 ≡ result.1 }
+{
+    (node.commits(), node.commits())
 }
 
 fn view_is_exact<B: Replicated>(node: &Node<B>) -> (&UpdateSet, &UpdateSet)

@@ -1,6 +1,7 @@
 use Rattle.std.proofs.Common.{◌+◌, take, drop, refl}
 use Rattle.std.proofs.lemmas.List.{take_rest}
 use Rattle.la_journal.proofs.FileParts.{no_parts, no_head, head_is}
+use Rattle.la_journal.proofs.Told.{head_linked}
 use Rattle.la_journal.proofs.grouped.head_of.Goals as goal
 
 pub returns-in_err-n-clause-none : goal.returns-in_err-n-clause-none
@@ -20,3 +21,7 @@ returns-clause-some c =
     rw take_rest
     (head_is file (take n file) (drop (n + 1) file) c.in_ok-n.ensures.split c.in_ok-n.ensures.line
     c.in_ok-text_of_head.field-0.now c.in_ok-text_of_head.ensures.some)
+
+pub returns-clause-linked : goal.returns-clause-linked
+returns-clause-linked c =
+    head_linked (take c.in_ok-n.n c.args.file.now) c.in_ok-text_of_head.field-0.now c.in_ok-text_of_head.ensures.some

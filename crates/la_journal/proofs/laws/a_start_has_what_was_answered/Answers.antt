@@ -1,5 +1,4 @@
 use Rattle.std.proofs.Common.{⊎_elim, ◌∙◌}
-use Rattle.la_journal.proofs.Leading.{same_lines}
 use Rattle.la_journal.proofs.laws.a_start_has_what_was_answered.Goals as goal
 
 pub returns : goal.returns
@@ -10,8 +9,7 @@ returns g c dead found recovered t start first calls known begun leaves =
           (λ same. (
             read.0,
             read.1,
-            same_lines g.M.Machine.named_state g.M.Machine.named g.M.Machine.step start
-                (g.D.Disk.seen found) c same ∙ read.2,
+            same ∙ read.2,
           ))
           (leaves.each c left),
     )

@@ -7,7 +7,7 @@ use Rattle.la_journal.proofs.laws.calls_follow_one_another.Goals as goal
 
 pub returns : goal.returns
 returns g c old mid new start first next taken later one led two =
-    let leads = state_after g.M.Machine.named_state g.M.Machine.named g.M.Machine.step start in
+    let leads = state_after g.M.Machine.head g.M.Machine.named_state g.M.Machine.named g.M.Machine.step start in
     let P = LeadsToSome leads g.M.Machine.step (taken ++ later) first in
     joined g.D.Disk.moment g.D.Disk.left_since P old mid new
     (weaker g.D.Disk.moment g.D.Disk.left_since old mid _ P

@@ -2,7 +2,7 @@ use Rattle.std.proofs.Common.{◌≡◌, ℕ, ◌+◌, ◌≤◌, ◌++◌, map,
 use Rattle.std.specs.Global.{Vec}
 use Rattle.std.proofs.lemmas.List.{length-map, take_all}
 use Rattle.la_journal.specs.declared.outlet.Unserved.TheVariants.{Refused}
-use Rattle.la_journal.specs.Lines.{lines}
+use Rattle.la_journal.specs.Journal.{lines}
 use Rattle.la_journal.specs.Machine.{calls, group_calls, state_after, steps}
 use Rattle.la_journal.specs.Served.{SaidAt, together, unless_none, answers_of, answers_since, given_since, KeepsAnswers}
 use Rattle.la_journal.proofs.GroupCalls.{next_group, split_groups}
@@ -26,7 +26,10 @@ returns-in-Err-clause-answers g c =
     let said_so = c.take_group-taken.ensures in
     let items = c.take_group-taken.new.answers.items in
     let n = length items in
-    let s : SaidAt (Vec g.row.M-Output.Denot) = record { moment = g.D.Disk.moment c.take_group-taken.new.durable.disk; item = c.take_group-taken.new.answers } in
+    let s : SaidAt (Vec g.row.M-Output.Denot) = record {
+      moment = g.D.Disk.moment c.take_group-taken.new.durable.disk;
+      item = c.take_group-taken.new.answers;
+    } in
     let more = unless_none items s in
     let old = g.O.Outlet.said c.args.outlet.now in
     let before = g.O.Outlet.said c.loop-group.outlet in
@@ -53,11 +56,14 @@ returns-in-Err-clause-keeps g c start was =
     let between = g.M.Machine.state c.loop-group.durable.machine in
     let split : all ≡ done ++ (group ++ rest) =
     split_groups g.M.Machine.call c.args.groups.now k item c.loop-group-test.true c.group-item.is in
-    let leads = state_after g.M.Machine.named_state g.M.Machine.named g.M.Machine.step start in
+    let leads = state_after g.M.Machine.head g.M.Machine.named_state g.M.Machine.named g.M.Machine.step start in
     let said_so = c.take_group-taken.ensures in
     let items = c.take_group-taken.new.answers.items in
     let n = length items in
-    let s : SaidAt (Vec g.row.M-Output.Denot) = record { moment = g.D.Disk.moment c.take_group-taken.new.durable.disk; item = c.take_group-taken.new.answers } in
+    let s : SaidAt (Vec g.row.M-Output.Denot) = record {
+      moment = g.D.Disk.moment c.take_group-taken.new.durable.disk;
+      item = c.take_group-taken.new.answers;
+    } in
     let more = unless_none items s in
     let old = g.O.Outlet.said c.args.outlet.now in
     let before = g.O.Outlet.said c.loop-group.outlet in
@@ -72,11 +78,16 @@ returns-in-Err-clause-keeps g c start was =
     (KeepsAnswers (together g.M.Machine.answer) (g.D.Disk.moment c.take_group-taken.new.durable.disk)
     (g.D.Disk.left_since c.take_group-taken.new.durable.disk) leads g.M.Machine.step all first)
     (sym (since_more more old before now inv.so.behind c.give_out.ensures.said))
-    (keeps_more g.M.Machine.step all done group rest split first between inv.led leads g.D.Disk.moment g.D.Disk.left_since (together g.M.Machine.answer) c.loop-group.durable.disk c.take_group-taken.new.durable.disk (given_since old before) more inv.so.many
+    (keeps_more g.M.Machine.step all done group rest split first between inv.led leads g.D.Disk.moment
+    g.D.Disk.left_since (together g.M.Machine.answer) c.loop-group.durable.disk
+    c.take_group-taken.new.durable.disk (given_since old before) more inv.so.many
     (said_so.any_moment start (inv.leads start was)) (inv.keeps start was)
-    (keeps_given g.M.Machine.answer (g.D.Disk.moment c.take_group-taken.new.durable.disk) (g.D.Disk.left_since c.take_group-taken.new.durable.disk) leads g.M.Machine.step group between (g.D.Disk.moment c.take_group-taken.new.durable.disk) c.take_group-taken.new.answers items refl within (omega arith)
+    (keeps_given g.M.Machine.answer (g.D.Disk.moment c.take_group-taken.new.durable.disk) (g.D.Disk.left_since
+    c.take_group-taken.new.durable.disk) leads g.M.Machine.step group between (g.D.Disk.moment
+    c.take_group-taken.new.durable.disk) c.take_group-taken.new.answers items refl within (omega arith)
     (λ some f left. let is_open = not_closed c.take_group-taken.new.durable.closed n said_so.closed some in
-    ap leads ((said_so.open is_open).durable f (g.met.D.Disk.only_now c.take_group-taken.new.durable.disk f left)) ∙ said_so.leads is_open start (inv.leads start was) ∙ sym (said_so.state is_open))))
+    ap leads ((said_so.open is_open).durable f (g.met.D.Disk.only_now c.take_group-taken.new.durable.disk f left)) ∙
+    said_so.leads is_open start (inv.leads start was) ∙ sym (said_so.state is_open))))
 
 pub returns-in-Err-clause-any_moment : goal.returns-in-Err-clause-any_moment
 returns-in-Err-clause-any_moment g c start was =
@@ -91,7 +102,7 @@ returns-in-Err-clause-any_moment g c start was =
     let between = g.M.Machine.state c.loop-group.durable.machine in
     let split : all ≡ done ++ (group ++ rest) =
     split_groups g.M.Machine.call c.args.groups.now k item c.loop-group-test.true c.group-item.is in
-    let leads = state_after g.M.Machine.named_state g.M.Machine.named g.M.Machine.step start in
+    let leads = state_after g.M.Machine.head g.M.Machine.named_state g.M.Machine.named g.M.Machine.step start in
     let said_so = c.take_group-taken.ensures in
     leaves_more g.M.Machine.step all done group rest split first between inv.led leads g.D.Disk.moment
     g.D.Disk.left_since c.args.durable.now.disk c.loop-group.durable.disk c.take_group-taken.new.durable.disk
@@ -113,7 +124,10 @@ returns-in-Err-clause-state g c is_open =
     let said_so = c.take_group-taken.ensures in
     let items = c.take_group-taken.new.answers.items in
     let n = length items in
-    let s : SaidAt (Vec g.row.M-Output.Denot) = record { moment = g.D.Disk.moment c.take_group-taken.new.durable.disk; item = c.take_group-taken.new.answers } in
+    let s : SaidAt (Vec g.row.M-Output.Denot) = record {
+      moment = g.D.Disk.moment c.take_group-taken.new.durable.disk;
+      item = c.take_group-taken.new.answers;
+    } in
     let more = unless_none items s in
     let old = g.O.Outlet.said c.args.outlet.now in
     let before = g.O.Outlet.said c.loop-group.outlet in
@@ -146,7 +160,10 @@ returns-in-Err-clause-lines g c is_open =
     let said_so = c.take_group-taken.ensures in
     let items = c.take_group-taken.new.answers.items in
     let n = length items in
-    let s : SaidAt (Vec g.row.M-Output.Denot) = record { moment = g.D.Disk.moment c.take_group-taken.new.durable.disk; item = c.take_group-taken.new.answers } in
+    let s : SaidAt (Vec g.row.M-Output.Denot) = record {
+      moment = g.D.Disk.moment c.take_group-taken.new.durable.disk;
+      item = c.take_group-taken.new.answers;
+    } in
     let more = unless_none items s in
     let old = g.O.Outlet.said c.args.outlet.now in
     let before = g.O.Outlet.said c.loop-group.outlet in
@@ -180,7 +197,10 @@ returns-in-Err-taken-clause-answers g c =
     let said_so = c.take_group-taken.ensures in
     let items = c.take_group-taken.new.answers.items in
     let n = length items in
-    let s : SaidAt (Vec g.row.M-Output.Denot) = record { moment = g.D.Disk.moment c.take_group-taken.new.durable.disk; item = c.take_group-taken.new.answers } in
+    let s : SaidAt (Vec g.row.M-Output.Denot) = record {
+      moment = g.D.Disk.moment c.take_group-taken.new.durable.disk;
+      item = c.take_group-taken.new.answers;
+    } in
     let more = unless_none items s in
     let old = g.O.Outlet.said c.args.outlet.now in
     let before = g.O.Outlet.said c.loop-group.outlet in
@@ -207,11 +227,14 @@ returns-in-Err-taken-clause-keeps g c start was =
     let between = g.M.Machine.state c.loop-group.durable.machine in
     let split : all ≡ done ++ (group ++ rest) =
     split_groups g.M.Machine.call c.args.groups.now k item c.loop-group-test.true c.group-item.is in
-    let leads = state_after g.M.Machine.named_state g.M.Machine.named g.M.Machine.step start in
+    let leads = state_after g.M.Machine.head g.M.Machine.named_state g.M.Machine.named g.M.Machine.step start in
     let said_so = c.take_group-taken.ensures in
     let items = c.take_group-taken.new.answers.items in
     let n = length items in
-    let s : SaidAt (Vec g.row.M-Output.Denot) = record { moment = g.D.Disk.moment c.take_group-taken.new.durable.disk; item = c.take_group-taken.new.answers } in
+    let s : SaidAt (Vec g.row.M-Output.Denot) = record {
+      moment = g.D.Disk.moment c.take_group-taken.new.durable.disk;
+      item = c.take_group-taken.new.answers;
+    } in
     let more = unless_none items s in
     let old = g.O.Outlet.said c.args.outlet.now in
     let before = g.O.Outlet.said c.loop-group.outlet in
@@ -226,11 +249,16 @@ returns-in-Err-taken-clause-keeps g c start was =
     (KeepsAnswers (together g.M.Machine.answer) (g.D.Disk.moment c.take_group-taken.new.durable.disk)
     (g.D.Disk.left_since c.take_group-taken.new.durable.disk) leads g.M.Machine.step all first)
     (sym (since_more more old before now inv.so.behind c.give_out.ensures.said))
-    (keeps_more g.M.Machine.step all done group rest split first between inv.led leads g.D.Disk.moment g.D.Disk.left_since (together g.M.Machine.answer) c.loop-group.durable.disk c.take_group-taken.new.durable.disk (given_since old before) more inv.so.many
+    (keeps_more g.M.Machine.step all done group rest split first between inv.led leads g.D.Disk.moment
+    g.D.Disk.left_since (together g.M.Machine.answer) c.loop-group.durable.disk
+    c.take_group-taken.new.durable.disk (given_since old before) more inv.so.many
     (said_so.any_moment start (inv.leads start was)) (inv.keeps start was)
-    (keeps_given g.M.Machine.answer (g.D.Disk.moment c.take_group-taken.new.durable.disk) (g.D.Disk.left_since c.take_group-taken.new.durable.disk) leads g.M.Machine.step group between (g.D.Disk.moment c.take_group-taken.new.durable.disk) c.take_group-taken.new.answers items refl within (omega arith)
+    (keeps_given g.M.Machine.answer (g.D.Disk.moment c.take_group-taken.new.durable.disk) (g.D.Disk.left_since
+    c.take_group-taken.new.durable.disk) leads g.M.Machine.step group between (g.D.Disk.moment
+    c.take_group-taken.new.durable.disk) c.take_group-taken.new.answers items refl within (omega arith)
     (λ some f left. let is_open = not_closed c.take_group-taken.new.durable.closed n said_so.closed some in
-    ap leads ((said_so.open is_open).durable f (g.met.D.Disk.only_now c.take_group-taken.new.durable.disk f left)) ∙ said_so.leads is_open start (inv.leads start was) ∙ sym (said_so.state is_open))))
+    ap leads ((said_so.open is_open).durable f (g.met.D.Disk.only_now c.take_group-taken.new.durable.disk f left)) ∙
+    said_so.leads is_open start (inv.leads start was) ∙ sym (said_so.state is_open))))
 
 pub returns-in-Err-taken-clause-any_moment : goal.returns-in-Err-taken-clause-any_moment
 returns-in-Err-taken-clause-any_moment g c start was =
@@ -245,7 +273,7 @@ returns-in-Err-taken-clause-any_moment g c start was =
     let between = g.M.Machine.state c.loop-group.durable.machine in
     let split : all ≡ done ++ (group ++ rest) =
     split_groups g.M.Machine.call c.args.groups.now k item c.loop-group-test.true c.group-item.is in
-    let leads = state_after g.M.Machine.named_state g.M.Machine.named g.M.Machine.step start in
+    let leads = state_after g.M.Machine.head g.M.Machine.named_state g.M.Machine.named g.M.Machine.step start in
     let said_so = c.take_group-taken.ensures in
     leaves_more g.M.Machine.step all done group rest split first between inv.led leads g.D.Disk.moment
     g.D.Disk.left_since c.args.durable.now.disk c.loop-group.durable.disk c.take_group-taken.new.durable.disk
@@ -267,7 +295,10 @@ returns-in-Err-taken-clause-state g c is_open =
     let said_so = c.take_group-taken.ensures in
     let items = c.take_group-taken.new.answers.items in
     let n = length items in
-    let s : SaidAt (Vec g.row.M-Output.Denot) = record { moment = g.D.Disk.moment c.take_group-taken.new.durable.disk; item = c.take_group-taken.new.answers } in
+    let s : SaidAt (Vec g.row.M-Output.Denot) = record {
+      moment = g.D.Disk.moment c.take_group-taken.new.durable.disk;
+      item = c.take_group-taken.new.answers;
+    } in
     let more = unless_none items s in
     let old = g.O.Outlet.said c.args.outlet.now in
     let before = g.O.Outlet.said c.loop-group.outlet in
@@ -300,7 +331,10 @@ returns-in-Err-taken-clause-lines g c is_open =
     let said_so = c.take_group-taken.ensures in
     let items = c.take_group-taken.new.answers.items in
     let n = length items in
-    let s : SaidAt (Vec g.row.M-Output.Denot) = record { moment = g.D.Disk.moment c.take_group-taken.new.durable.disk; item = c.take_group-taken.new.answers } in
+    let s : SaidAt (Vec g.row.M-Output.Denot) = record {
+      moment = g.D.Disk.moment c.take_group-taken.new.durable.disk;
+      item = c.take_group-taken.new.answers;
+    } in
     let more = unless_none items s in
     let old = g.O.Outlet.said c.args.outlet.now in
     let before = g.O.Outlet.said c.loop-group.outlet in
@@ -334,7 +368,10 @@ returns-in-Err-taken-clause-cause g c =
     let said_so = c.take_group-taken.ensures in
     let items = c.take_group-taken.new.answers.items in
     let n = length items in
-    let s : SaidAt (Vec g.row.M-Output.Denot) = record { moment = g.D.Disk.moment c.take_group-taken.new.durable.disk; item = c.take_group-taken.new.answers } in
+    let s : SaidAt (Vec g.row.M-Output.Denot) = record {
+      moment = g.D.Disk.moment c.take_group-taken.new.durable.disk;
+      item = c.take_group-taken.new.answers;
+    } in
     let more = unless_none items s in
     let old = g.O.Outlet.said c.args.outlet.now in
     let before = g.O.Outlet.said c.loop-group.outlet in
@@ -383,7 +420,10 @@ loop-group-preserved g c =
     let said_so = c.take_group-taken.ensures in
     let items = c.take_group-taken.new.answers.items in
     let n = length items in
-    let s : SaidAt (Vec g.row.M-Output.Denot) = record { moment = g.D.Disk.moment c.take_group-taken.new.durable.disk; item = c.take_group-taken.new.answers } in
+    let s : SaidAt (Vec g.row.M-Output.Denot) = record {
+      moment = g.D.Disk.moment c.take_group-taken.new.durable.disk;
+      item = c.take_group-taken.new.answers;
+    } in
     let more = unless_none items s in
     let old = g.O.Outlet.said c.args.outlet.now in
     let before = g.O.Outlet.said c.loop-group.outlet in
@@ -416,24 +456,30 @@ loop-group-preserved g c =
       disk_faults = omega (arith, inv.disk_faults, said_so.later);
       outlet_faults = omega (arith, inv.outlet_faults, c.give_out.ensures.later);
       so =
-          subst (λ l. SoFar g.M.Machine.step (together g.M.Machine.answer) g.M.Machine.answers l first old now) (sym next)
+          subst (λ l. SoFar g.M.Machine.step (together g.M.Machine.answer) g.M.Machine.answers l first old now) (sym
+          next)
           (so_more g.M.Machine.step all done group rest split first between inv.led (together g.M.Machine.answer)
           g.M.Machine.answers old before now more inv.so c.give_out.ensures.said n within many full
           (given ∙ said_so.answers));
       leads = λ start was. said_so.leads whole.0 start (inv.leads start was);
       keeps = λ start was.
-          let leads = state_after g.M.Machine.named_state g.M.Machine.named g.M.Machine.step start in
+          let leads = state_after g.M.Machine.head g.M.Machine.named_state g.M.Machine.named g.M.Machine.step start in
           subst
           (KeepsAnswers (together g.M.Machine.answer) (g.D.Disk.moment c.take_group-taken.new.durable.disk)
           (g.D.Disk.left_since c.take_group-taken.new.durable.disk) leads g.M.Machine.step all first)
           (sym (since_more more old before now inv.so.behind c.give_out.ensures.said))
-          (keeps_more g.M.Machine.step all done group rest split first between inv.led leads g.D.Disk.moment g.D.Disk.left_since (together g.M.Machine.answer) c.loop-group.durable.disk c.take_group-taken.new.durable.disk (given_since old before) more inv.so.many
+          (keeps_more g.M.Machine.step all done group rest split first between inv.led leads g.D.Disk.moment
+          g.D.Disk.left_since (together g.M.Machine.answer) c.loop-group.durable.disk
+          c.take_group-taken.new.durable.disk (given_since old before) more inv.so.many
           (said_so.any_moment start (inv.leads start was)) (inv.keeps start was)
-          (keeps_given g.M.Machine.answer (g.D.Disk.moment c.take_group-taken.new.durable.disk) (g.D.Disk.left_since c.take_group-taken.new.durable.disk) leads g.M.Machine.step group between (g.D.Disk.moment c.take_group-taken.new.durable.disk) c.take_group-taken.new.answers items refl within (omega arith)
+          (keeps_given g.M.Machine.answer (g.D.Disk.moment c.take_group-taken.new.durable.disk) (g.D.Disk.left_since
+          c.take_group-taken.new.durable.disk) leads g.M.Machine.step group between (g.D.Disk.moment
+          c.take_group-taken.new.durable.disk) c.take_group-taken.new.answers items refl within (omega arith)
           (λ some f left. let is_open = not_closed c.take_group-taken.new.durable.closed n said_so.closed some in
-          ap leads ((said_so.open is_open).durable f (g.met.D.Disk.only_now c.take_group-taken.new.durable.disk f left)) ∙ said_so.leads is_open start (inv.leads start was) ∙ sym (said_so.state is_open))));
+          ap leads ((said_so.open is_open).durable f (g.met.D.Disk.only_now c.take_group-taken.new.durable.disk f
+          left)) ∙ said_so.leads is_open start (inv.leads start was) ∙ sym (said_so.state is_open))));
       any_moment = λ start was.
-          let leads = state_after g.M.Machine.named_state g.M.Machine.named g.M.Machine.step start in
+          let leads = state_after g.M.Machine.head g.M.Machine.named_state g.M.Machine.named g.M.Machine.step start in
           leaves_more g.M.Machine.step all done group rest split first between inv.led leads g.D.Disk.moment
           g.D.Disk.left_since c.args.durable.now.disk c.loop-group.durable.disk c.take_group-taken.new.durable.disk
           (inv.any_moment start was) (said_so.any_moment start (inv.leads start was));

@@ -1,5 +1,5 @@
 use Rattle.std.proofs.Common.{◌≡◌, ◌-◌, ◌++◌, List, ℕ, length, take, ◌∙◌, ap, arith}
-use Rattle.la_journal.specs.Lines.{lines}
+use Rattle.la_journal.specs.Journal.{lines}
 use Rattle.la_journal.specs.Machine.{call_texts}
 use Rattle.la_journal.proofs.Leading.{texts_are}
 use Rattle.la_journal.proofs.serving.take_group.Goals as goal
@@ -11,4 +11,4 @@ returns-clause-lines g c is_open =
     c.handle_all.ensures.lines is_open
     ∙ ap (λ (ls : List (List ℕ)). lines (g.D.Disk.seen c.args.durable.now.disk) ++ ls)
     ((λ i. take (many i) (call_texts g.M.Machine.call g.M.Machine.text (c.as_slice.ensures.value i)))
-    ∙ texts_are g.M.Machine.named_state g.M.Machine.named g.M.Machine.step g.M.Machine.text g.met.M.Machine.round_trip g.met.M.Machine.clean g.M.Machine.call taken c.args.inputs.now.items)
+    ∙ texts_are g.M.Machine.call g.M.Machine.text taken c.args.inputs.now.items)

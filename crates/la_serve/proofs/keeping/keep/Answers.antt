@@ -1,5 +1,5 @@
 use Rattle.std.proofs.Common.{◌++◌, ◌∷◌, [], ◌∙◌, ap}
-use Rattle.la_journal.specs.Lines.{lines}
+use Rattle.la_journal.specs.Records.{ended}
 use Rattle.la_wire.specs.Calls.{called}
 use Rattle.la_durable.specs.CallLines.{or_tick, call_line}
 use Rattle.la_serve.proofs.Acting.{acted, line_of_input, cause_of}
@@ -11,7 +11,7 @@ returns-in-Ok-clause-outcome g c =
     let is = c.call-call.ensures.line in
     let says = c.call-call.ensures.says in (
       acted _ input.line (called input.call) is says _ _ c.in-Ok.ensures.staged.1 c.in-Ok.ensures.answer,
-      c.in-Ok.ensures.staged.0 ∙ ap (λ l. lines c.args.node.now.text.items ++ l ∷ []) (line_of_input input.line is),
+      c.in-Ok.ensures.staged.0 ∙ ap (λ l. ended c.args.node.now.text.items ++ l ∷ []) (line_of_input input.line is),
     )
 
 pub returns-in-Ok-clause-grows : goal.returns-in-Ok-clause-grows
@@ -25,5 +25,5 @@ returns-in-Err-Machine-clause-outcome g c =
     let same = c.in-Err-Machine.ensures.err in (
       cause_of _ input.line (called input.call) c.call-call.ensures.line c.call-call.ensures.says cause.1,
       same.1,
-      same.0,
+      ap ended same.0,
     )

@@ -8,7 +8,7 @@ use Rattle.la_serve.specs.declared.error.NodeFault.TheVariants as fault
 use Rattle.la_serve.specs.Io.{facts}
 use Rattle.la_serve.specs.Serving.{TurnSteps, IsServeRefusal}
 use Rattle.la_serve.proofs.Taking.{if_err_same, on_ok, if_err}
-use Rattle.la_serve.proofs.Behind.{held_io, run_io, Left, so_none, so_more, so_prepared, stopped, ended, step_cut, unflushed, then_refused, serves_all}
+use Rattle.la_serve.proofs.Behind.{held_io, run_io, Left, so_none, so_more, so_prepared, stopped, at_end, step_cut, unflushed, then_refused, serves_all}
 use Rattle.la_serve.proofs.Points.{point, start_at}
 use Rattle.la_serve.proofs.serving.serve.Goals as goal
 
@@ -96,7 +96,7 @@ returns-in-Ok-false-clause-err g c =
     let left = g.R.Read.remaining c.step.new.input in
     if_err c.flush.result
     (unflushed f first c.calls_follow_one_another.ensures left p2 p3 []
-    (ended f first p1 c.loop-number.number so p2 objects c.step.ensures.stages.1 refl refl (pending c.step.new.source)
+    (at_end f first p1 c.loop-number.number so p2 objects c.step.ensures.stages.1 refl refl (pending c.step.new.source)
     left
     refl ends)
     (ap kept_by c.flush.ensures.same.0) (g.met.D.Disk.only_now p3.disk) c.flush.ensures.any_moment

@@ -1,7 +1,8 @@
-use Rattle.std.proofs.Common.{inl, inr, sym, subst}
+use Rattle.std.proofs.Common.{inl, inr, sym, subst, IfErr}
 use Rattle.la_serve.specs.declared.error.NodeFault.TheVariants.{Memory}
+use Rattle.la_serve.specs.Ending.{node_objects}
 use Rattle.la_serve.specs.Io.{facts, io}
-use Rattle.la_serve.specs.Starting.{RunsNot}
+use Rattle.la_serve.specs.Starting.{RunsNot, IsServerStartRefusal}
 use Rattle.la_serve.proofs.Starts.{untouched}
 use Rattle.la_serve.proofs.starting.run_with.Goals as goal
 
@@ -15,8 +16,8 @@ returns-in_default g c =
       is = c.ended.ensures.status;
       between = c.args.errors.now;
       stops =
-          inl (subst (λ d. RunsNot f c.args.disk d old old) (sym c.ended.ensures.disk)
-          (untouched f c.args.disk old (g.met.D.Disk.only_now c.args.disk)));
+          inl (subst (λ d. RunsNot f c.args.options.now c.args.disk d old old) (sym c.ended.ensures.disk)
+          (untouched f c.args.options.now c.args.disk old (g.met.D.Disk.only_now c.args.disk)));
       told = c.ended.ensures.told;
     })
 
@@ -30,7 +31,32 @@ returns-in_default-shelf_of g c =
       is = c.ended-in_default-shelf_of.ensures.status;
       between = c.args.errors.now;
       stops =
-          inl (subst (λ d. RunsNot f c.args.disk d old old) (sym c.ended-in_default-shelf_of.ensures.disk)
-          (untouched f c.args.disk old (g.met.D.Disk.only_now c.args.disk)));
+          inl (subst (λ d. RunsNot f c.args.options.now c.args.disk d old old) (sym
+              c.ended-in_default-shelf_of.ensures.disk)
+          (untouched f c.args.options.now c.args.disk old (g.met.D.Disk.only_now c.args.disk)));
       told = c.ended-in_default-shelf_of.ensures.told;
+    })
+
+pub returns : goal.returns
+returns g c =
+    let f = facts g.D.Disk.seen g.D.Disk.may_leave g.D.Disk.moment g.D.Disk.left_since g.R.Read.remaining
+    g.W.Write.contents g.E.Write.contents g.E.Listener.refuses in
+    let old = io c.args.input.now c.args.output.now c.args.errors.now in
+    let new = io c.start.new.input c.start.new.out c.start.new.errors in
+    let why = c.in-Err-default.fault in
+    let stops : IsServerStartRefusal f node_objects c.args.options.now c.args.disk c.start.result.1 old new why =
+    subst (λ objects. IsServerStartRefusal f objects c.args.options.now c.args.disk c.start.result.1 old new why)
+    c.in-Ok-shelf_of.ensures.1
+    (subst
+    (λ r.
+    IfErr r (IsServerStartRefusal f c.in-Ok-shelf_of.shelf.objects c.args.options.now c.args.disk c.start.result.1 old
+    new)) c.in-Err-default.is-0 c.start.ensures.1) in
+    inr (record {
+      why = why;
+      is = c.ended-in-Err-default.ensures.status;
+      between = c.start.new.errors;
+      stops =
+          subst (λ d. IsServerStartRefusal f node_objects c.args.options.now c.args.disk d old new why)
+          (sym c.ended-in-Err-default.ensures.disk) stops;
+      told = c.ended-in-Err-default.ensures.told;
     })

@@ -1,16 +1,22 @@
-use Rattle.std.proofs.Common.{Some, OnOk, IfErr, rules, sym, subst, ap, ◌∙◌}
+use Rattle.std.proofs.Common.{◌≡◌, refl, ℕ, List, None, Some, OnOk, IfErr, rules, sym, subst, ap, ◌∙◌}
 use Rattle.la_set.specs.Histories.{Histories}
 use Rattle.la_set.specs.Inclusion.{IsSubset}
 use Rattle.la_journal.specs.Disk.{LeavesOnly}
 use Rattle.la_journal.specs.Durable.{IsSameOr}
-use Rattle.la_journal.specs.Lines.{lines}
+use Rattle.la_journal.specs.Journal.{lines}
 use Rattle.la_durable.specs.declared.machine.NodeMachine.{NodeMachine}
-use Rattle.la_durable.specs.Nodes.{kept_by}
+use Rattle.la_journal.specs.Playing.{IsNotPlayed}
+use Rattle.la_durable.specs.CallLines.{call_line}
+use Rattle.la_durable.specs.Errors.{IsForMemory}
+use Rattle.la_durable.specs.Heads.{node_head}
+use Rattle.la_durable.specs.Nodes.{kept_by, step}
+use Rattle.la_serve.specs.Faults.{of_journal}
 use Rattle.la_durable.specs.Restarts.{leads_from}
 use Rattle.la_serve.specs.Crashes.{at_start}
 use Rattle.la_serve.specs.Io.{facts, io}
-use Rattle.la_serve.specs.Starting.{RunsAll, IsServerStartRefusal}
-use Rattle.la_serve.proofs.Starts.{nothing_within, untouched, runs, stops}
+use Rattle.la_io.specs.Streams.{TellsAll}
+use Rattle.la_serve.specs.Starting.{RunsAll, RunsNot, IsServerStartRefusal, torn_told}
+use Rattle.la_serve.proofs.Starts.{nothing_within, untouched, runs, stops, not_played}
 use Rattle.la_serve.proofs.starting.start.Goals as goal
 
 pub serve-served-requires-clause-takes : goal.serve-served-requires-clause-takes
@@ -41,17 +47,25 @@ returns-in-Ok-recover g c =
     (sym c.in-Ok.ensures.start)
     ∙ c.in-Ok-recover.ensures.leads ∙ led in
     let same = ap (λ d. lines (f.seen d.disk)) is ∙ c.in-Ok-recover.ensures.same in
+    let told = subst
+    (λ (n : ℕ). TellsAll g.E.Write.contents g.E.Listener.refuses c.args.errors.now c.tell_cut.new.errors (torn_told n))
+    c.in-Ok-recover.ensures.cut c.tell_cut.ensures in
     let recovery = subst
     (λ d.
-    LeavesOnly f.moment f.left_since disk d.disk (IsSameOr (f.may_leave disk) (lines (f.seen disk)))) (sym is)
-    c.in-Ok-recover.ensures.any_moment in (
+    LeavesOnly f.moment f.left_since disk d.disk
+    (IsSameOr (f.may_leave disk) (leads_from (at_start options.config options.own)) (f.seen disk))) (sym is)
+    (subst
+    (λ (m : NodeMachine).
+    LeavesOnly f.moment f.left_since disk c.in-Ok-recover.durable.disk
+    (IsSameOr (f.may_leave disk) (leads_from (kept_by m)) (f.seen disk))) c.in-Ok.ensures.start
+    c.in-Ok-recover.ensures.any_moment) in (
       subst (λ d. OnOk c.serve-served.result (RunsAll f objects options disk d old new)) (sym c.into_disk.ensures)
-          (runs f objects _ options disk recovered final old new _ _ plays leads same recovery c.serve-served.result
-          c.serve-served.ensures.ok),
+          (runs f objects _ options disk recovered final old new c.tell_cut.new.errors _ _ plays leads same recovery
+          told c.serve-served.result c.serve-served.ensures.ok),
       subst (λ d. IfErr c.serve-served.result (IsServerStartRefusal f objects options disk d old new))
           (sym c.into_disk.ensures)
-          (stops f objects _ options disk recovered final old new _ _ plays leads same recovery c.serve-served.result
-          c.serve-served.ensures.err),
+          (stops f objects _ options disk recovered final old new c.tell_cut.new.errors _ _ plays leads same recovery
+          told c.serve-served.result c.serve-served.ensures.err),
     )
 
 pub returns-in-Err : goal.returns-in-Err
@@ -59,4 +73,38 @@ returns-in-Err g c =
     let f = facts g.D.Disk.seen g.D.Disk.may_leave g.D.Disk.moment g.D.Disk.left_since g.R.Read.remaining
     g.W.Write.contents g.E.Write.contents g.E.Listener.refuses in
     let old = io c.args.input.now c.args.out.now c.args.errors.now in
-    (tt, (untouched f c.args.disk old (g.met.D.Disk.only_now c.args.disk), search rules))
+    (tt, (untouched f c.args.options.now c.args.disk old (g.met.D.Disk.only_now c.args.disk), search rules))
+
+pub returns-in-Err-recover : goal.returns-in-Err-recover
+returns-in-Err-recover g c =
+    let f = facts g.D.Disk.seen g.D.Disk.may_leave g.D.Disk.moment g.D.Disk.left_since g.R.Read.remaining
+    g.W.Write.contents g.E.Write.contents g.E.Listener.refuses in
+    let disk = c.args.disk in
+    let options = c.args.options.now in
+    let final = c.in-Err-recover.disk in
+    let why = c.in-Err-recover.why in
+    let fresh = at_start options.config options.own in
+    let same = io c.args.input.now c.args.out.now c.args.errors.now in
+    let cause = subst
+    (λ (m : NodeMachine).
+    IsNotPlayed IsForMemory node_head (λ _. None) call_line step (kept_by m) (g.D.Disk.faults disk)
+    (g.D.Disk.faults final) (f.seen disk) why) c.in-Ok.ensures.start c.in-Err-recover.ensures.cause in
+    let left = subst
+    (λ (m : NodeMachine).
+    LeavesOnly f.moment f.left_since disk final (IsSameOr (f.may_leave disk) (leads_from (kept_by m)) (f.seen disk)))
+    c.in-Ok.ensures.start c.in-Err-recover.ensures.any_moment_err in
+    let not : RunsNot f options disk final same same = record {
+      unread = refl;
+      unwritten = refl;
+      ungiven = refl;
+      untold = refl;
+      left = left;
+    } in
+    let head : c.deref.result.now ≡ node_head fresh = search rules in
+    let told : c.fault_of-fault.result ≡ of_journal (node_head fresh) options.config.replicas why =
+    c.fault_of-fault.ensures ∙ ap (λ (h : List ℕ). of_journal h options.config.replicas why) head in (
+      tt,
+      subst (IsServerStartRefusal f c.args.shelf.objects options disk final same same) (sym told)
+          (not_played f c.args.shelf.objects options disk final same same (g.D.Disk.faults disk) (g.D.Disk.faults
+          final) not why c.in-Err-recover.ensures.untouched cause),
+    )

@@ -1,7 +1,7 @@
-use Rattle.std.proofs.Common.{List, subst}
-use Rattle.la_journal.specs.Note.{Moment, now_of, bytes_in, kept_in}
-use Rattle.la_journal.specs.Outcomes.{LeftAt}
-use Rattle.la_journal.proofs.Goes.{stored_alone, now_left, held_left}
+use Rattle.std.proofs.Common.{List, sym, subst}
+use Rattle.la_journal.specs.Note.{Moment, now_of, bytes_in}
+use Rattle.la_journal.specs.Outcomes.{LeftAt, left_there}
+use Rattle.la_journal.proofs.Goes.{stored_alone}
 use Rattle.la_journal.proofs.contents.Contents.sync.Goals as goal
 
 pub returns-clause-durable : goal.returns-clause-durable
@@ -12,4 +12,4 @@ returns-clause-durable c f left =
 pub returns-clause-crash : goal.returns-clause-crash
 returns-clause-crash c f left =
     let was = now_of c.args.self.now.past.events in
-    held_left was f c.args.self.now.there (now_left (kept_in was) (bytes_in was) f (returns-clause-durable c f left))
+    subst (LeftAt was) (sym (returns-clause-durable c f left)) (left_there was c.args.self.now.there)
