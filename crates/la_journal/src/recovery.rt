@@ -1,5 +1,5 @@
 // A journal played from its first line on.
-ghost use Rattle.std.specs.Prelude.{◌≡◌, ◌≢◌, ◌++◌, ◌∷◌, ◌+◌, ◌<◌, ◌^◌, ◌||◌, [], false, Some, None, length, IfOk, IfErr, OnOk, IfSome};
+ghost use Rattle.std.specs.Prelude.{◌≡◌, ◌≢◌, ◌++◌, ◌∷◌, ◌+◌, ◌<◌, ◌≤◌, ◌^◌, ◌||◌, [], false, Some, None, length, IfOk, IfErr, OnOk, IfSome};
 ghost use Rattle.la_journal.specs.Commits.{groups, last_record};
 ghost use Rattle.la_journal.specs.Disk.{LeavesOnly, MayBeOr, Only};
 ghost use Rattle.la_journal.specs.Records.{parts, ended, end_count, link, record_line, behind};
@@ -68,6 +68,7 @@ pub fn recover<M: Machine, D: Disk>(
     ensures settled { IfOk result (λ durable. (durable.closed ≡ false) × IsSettled D.seen D.may_leave durable.disk) }
     ensures same { IfOk result (λ durable. lines (D.seen durable.disk) ≡ lines (D.seen disk)) }
     ensures cut { IfOk result (λ durable. durable.cut ≡ length (rest_in (parts (D.seen disk)))) }
+    ensures later { IfOk result (λ durable. D.faults disk ≤ D.faults durable.disk) }
 
     // A crash at any moment leaves what might have been left before, or a file that leads to the same.
     ensures any_moment { IfOk result (λ durable. LeavesOnly D.moment D.left_since disk durable.disk
@@ -118,6 +119,7 @@ fn settle<M: Machine, D: Disk>(
         (MayBeOr (D.may_leave disk) file.now)) }
     ensures any_moment_err { IfErr result (λ e. LeavesOnly D.moment D.left_since disk e.1
         (MayBeOr (D.may_leave disk) file.now)) }
+    ensures later { IfOk result (λ durable. D.faults disk ≤ D.faults durable.disk) }
     ensures cause { IfErr result (λ e. (e.0 ≡ Failed) × (D.faults disk < D.faults e.1)) }
 {
     let mut disk = disk;

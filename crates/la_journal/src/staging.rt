@@ -111,6 +111,7 @@ impl<M: Machine, D: Disk> Staged<M, D> {
             × (self.new.durable.closed ≡ false → D.seen self.new.durable.disk ≡ D.seen self.old.durable.disk)) }
         ensures cause { IfErr result (IsNotCommitted self.old.durable.closed self.new.durable.closed
             (D.faults self.old.durable.disk) (D.faults self.new.durable.disk)) }
+        ensures later { D.faults self.old.durable.disk ≤ D.faults self.new.durable.disk }
         ensures still { self.old.durable.closed ≡ true → self.new ≡ self.old }
 
         // The journal leads on by the calls whose lines were staged.

@@ -1,5 +1,5 @@
 -- What a start leads to.
-use Rattle.std.proofs.Common.{◌≡◌, Bool, true, false, ℕ, zero, suc, List, [], ◌++◌, refl, sym, ap, ◌∙◌, arith, ◌⊎◌, length, Option, Some, None, option_map, Result, Ok, Err, OnOk, IfErr, inl, inr}
+use Rattle.std.proofs.Common.{◌≡◌, Bool, true, false, ℕ, zero, suc, List, [], ◌++◌, refl, sym, ap, ◌∙◌, arith, ◌⊎◌, length, ◌≤◌, ◌<◌, Option, Some, None, option_map, Result, Ok, Err, OnOk, IfErr, inl, inr}
 use Rattle.std.proofs.lemmas.Bool.{false≢true}
 use Rattle.std.proofs.lemmas.Option.{none-some}
 use Rattle.std.specs.Io.KnownBytes.{Appends}
@@ -21,7 +21,7 @@ use Rattle.la_durable.specs.Heads.{node_head}
 use Rattle.la_durable.specs.Errors.{IsForMemory}
 use Rattle.la_durable.specs.declared.error.NodeError.{NodeError}
 use Rattle.la_durable.specs.declared.error.NodeError.TheVariants as node
-use Rattle.la_serve.specs.Faults.{of_journal}
+use Rattle.la_serve.specs.Faults.{of_journal, IfDisk}
 use Rattle.la_journal.specs.Journal.{lines}
 use Rattle.la_durable.specs.Restarts.{leads_from}
 use Rattle.la_io.specs.Streams.{TellsAll}
@@ -254,3 +254,43 @@ module _ {D R W E : Type 0} (f : Facts D R W E) (objects : List (ℕ × Kind)) (
     not_played (cause.Refused line (node.Proposal e)) same is =
         bad line (cause.Refused line (node.Proposal e)) same (for_memory (node.Proposal e) led (λ m. false≢true (ap is_memory m)) is.0) is refl
     not_played (cause.Damaged line) same is = bad line (cause.Damaged line) same is.0 is refl
+
+-- a disk's fault comes only where it failed
+module _ (replicas : ℕ) (head file : List ℕ) (start : ReplicaState) (before after : ℕ) where
+  pub disk_failed : (why : Unplayed NodeError)
+      → IsNotPlayed IsForMemory node_head (λ _. None) call_line step start before after file why
+      → IfDisk (of_journal head replicas why) (before < after)
+  disk_failed cause.Memory is = tt
+  disk_failed cause.Disk is = is
+  disk_failed cause.NoHead is = tt
+  disk_failed (cause.OtherHead place) is = tt
+  disk_failed (cause.NoState line) is = tt
+  disk_failed (cause.NoCall line) is = tt
+  disk_failed (cause.Misplaced line) is = tt
+  disk_failed (cause.Refused line node.Memory) is = tt
+  disk_failed (cause.Refused line node.Elsewhere) is = tt
+  disk_failed (cause.Refused line node.Unkept) is = tt
+  disk_failed (cause.Refused line (node.Replica e)) is = tt
+  disk_failed (cause.Refused line (node.Proposal e)) is = tt
+  disk_failed (cause.Damaged line) is = tt
+
+-- of a run, by what was served behind its recovery
+pub failed_later : {T : Type 0} (r : Result T NodeFault) (first between last : ℕ) → first ≤ between
+    → IfErr r (λ why. IfDisk why (between < last)) → IfErr r (λ why. IfDisk why (first < last))
+failed_later (Ok x) first between last le failed = tt
+failed_later (Err why) first between last le failed = more why failed
+  where
+    more : (why : NodeFault) → IfDisk why (between < last) → IfDisk why (first < last)
+    more fault.DiskFault less = omega (arith, le, less)
+    more fault.ReadFault is = tt
+    more fault.WriteFault is = tt
+    more fault.Memory is = tt
+    more fault.BadConfig is = tt
+    more fault.Locked is = tt
+    more (fault.BadJournal line) is = tt
+    more (fault.OtherOptions option) is = tt
+
+pub err_both : {T : Type 0} (r : Result T NodeFault) (P Q : NodeFault → Type 0) → IfErr r P → IfErr r Q
+    → IfErr r (λ why. P why × Q why)
+err_both (Ok x) P Q p q = tt
+err_both (Err why) P Q p q = (p, q)

@@ -1,5 +1,5 @@
 -- How a node ends, and what is told of that.
-use Rattle.std.specs.Prelude.{◌≡◌, ◌⊎◌, ℕ, List, [], ◌∷◌, ◌++◌, codes, Option}
+use Rattle.std.specs.Prelude.{◌≡◌, ◌⊎◌, ℕ, ◌<◌, List, [], ◌∷◌, ◌++◌, codes, Option}
 use Rattle.std.specs.Fmt.{decimal}
 use Rattle.std.specs.declared.io.ErrorKind.{ErrorKind}
 use Rattle.std.specs.declared.io.ErrorKind.TheVariants as kind
@@ -14,6 +14,7 @@ use Rattle.la_serve.specs.declared.error.NodeOption.{NodeOption}
 use Rattle.la_serve.specs.declared.error.NodeOption.TheVariants.{Version, Own, Replicas, Votes, Commits, Cap}
 use Rattle.la_serve.specs.declared.ended.Ended.{Ended}
 use Rattle.la_serve.specs.declared.options.Options.{Options}
+use Rattle.la_serve.specs.Faults.{IfDisk}
 use Rattle.la_serve.specs.Io.{Streams, Facts, facts}
 use Rattle.la_serve.specs.Starting.{RunsAll, IsServerStartRefusal}
 
@@ -92,20 +93,23 @@ pub record ServerEndsWell {D R W E : Type 0} (f : Facts D R W E) (options : Opti
   pub runs : RunsAll f node_objects options disk final old new
 
 -- or ended by a fault, which is told last
-pub record EndsBadly {D R W E : Type 0} (f : Facts D R W E) (options : Options) (disk final : D)
+pub record EndsBadly {D R W E : Type 0} (f : Facts D R W E) (faults : D → ℕ) (options : Options) (disk final : D)
     (old new : Streams R W E) (status : ℕ) : Type 0 where
   pub why : NodeFault
   pub is : status ≡ node_status why
   pub between : E
   pub stops : IsServerStartRefusal f node_objects options disk final old (record new { errors = between }) why
+  -- a fault of the disk comes only where it failed
+  pub failed : IfDisk why (faults disk < faults final)
   pub told : TellsLine f.heard f.refuses between new.errors (end_line why)
 
 -- with this status, where the disk is this in the end
 abbrev pub ServerEnds : {D R W E : Type 0} (seen : D → List ℕ) (may_leave : D → List ℕ → Type 0) (moment : D → ℕ)
-    (left_since : D → ℕ → List ℕ → Type 0) (remaining : R → Option (List ℕ)) (contents : W → Option (List ℕ))
+    (left_since : D → ℕ → List ℕ → Type 0) (faults : D → ℕ) (remaining : R → Option (List ℕ))
+    (contents : W → Option (List ℕ))
     (heard : E → Option (List ℕ)) (refuses : E → List ℕ → E → Type 0)
     → Options → (disk : D) → (old new : Streams R W E) → Ended D → Type 0
-ServerEnds seen may_leave moment left_since remaining contents heard refuses options disk old new ended =
+ServerEnds seen may_leave moment left_since faults remaining contents heard refuses options disk old new ended =
     let f = facts seen may_leave moment left_since remaining contents heard refuses in
     ServerEndsWell f options disk ended.disk old new ended.status
-    ⊎ EndsBadly f options disk ended.disk old new ended.status
+    ⊎ EndsBadly f faults options disk ended.disk old new ended.status

@@ -1,5 +1,5 @@
 -- Why a node ends, by what failed.
-use Rattle.std.specs.Prelude.{ℕ, suc, ◌+◌, List, [], ◌∷◌, take, if◌then◌else◌, ◌==◌, nat_lt}
+use Rattle.std.specs.Prelude.{⊤, ℕ, suc, ◌+◌, List, [], ◌∷◌, take, if◌then◌else◌, ◌==◌, nat_lt}
 use Rattle.la_io.specs.declared.source.SourceFault.{SourceFault}
 use Rattle.la_io.specs.declared.source.SourceFault.TheVariants as source
 use Rattle.la_journal.specs.declared.recovery.Unplayed.{Unplayed}
@@ -38,3 +38,8 @@ of_journal head replicas (journal.Refused line _) = BadJournal line
 of_journal head replicas (journal.Damaged line) = BadJournal line
 of_journal head replicas (journal.OtherHead place) =
     OtherOptions (option_at (space_count (take place head)) replicas)
+
+-- where it is the disk that failed
+abbrev pub IfDisk : NodeFault → Type 0 → Type 0
+IfDisk DiskFault P = P
+IfDisk _ P = ⊤

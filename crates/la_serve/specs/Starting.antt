@@ -1,5 +1,5 @@
 -- A node that plays its journal and then takes lines.
-use Rattle.std.specs.Prelude.{◌≡◌, ◌⊎◌, ℕ, zero, suc, List, [], ◌∷◌, ◌++◌, codes, length, Option, Some, None, Result, OnOk, IfErr}
+use Rattle.std.specs.Prelude.{◌≡◌, ◌⊎◌, ℕ, zero, suc, List, [], ◌∷◌, ◌++◌, codes, length, ◌<◌, Option, Some, None, Result, OnOk, IfErr}
 use Rattle.std.specs.Fmt.{decimal}
 use Rattle.la_object.specs.declared.kind.Kind.{Kind}
 use Rattle.la_object.specs.Shelves.{ShelfState}
@@ -21,7 +21,7 @@ use Rattle.la_io.specs.Streams.{TellsAll}
 use Rattle.la_serve.specs.declared.error.NodeFault.{NodeFault}
 use Rattle.la_serve.specs.declared.error.NodeFault.TheVariants as fault
 use Rattle.la_serve.specs.declared.options.Options.{Options}
-use Rattle.la_serve.specs.Faults.{of_journal}
+use Rattle.la_serve.specs.Faults.{of_journal, IfDisk}
 use Rattle.la_serve.specs.Io.{Streams, Facts, facts, io_with}
 use Rattle.la_serve.specs.Serving.{ServesAll, IsServeRefusal}
 use Rattle.la_serve.specs.Crashes.{at_start, LeftBy}
@@ -103,10 +103,12 @@ IsServerStartRefusal f objects options disk final old new why =
 
 -- it took all lines, or stopped for a cause
 abbrev pub Starts : {D R W E T : Type 0} (seen : D → List ℕ) (may_leave : D → List ℕ → Type 0) (moment : D → ℕ)
-    (left_since : D → ℕ → List ℕ → Type 0) (remaining : R → Option (List ℕ)) (contents : W → Option (List ℕ))
+    (left_since : D → ℕ → List ℕ → Type 0) (faults : D → ℕ) (remaining : R → Option (List ℕ))
+    (contents : W → Option (List ℕ))
     (heard : E → Option (List ℕ)) (refuses : E → List ℕ → E → Type 0)
     → ShelfState → Options → (disk : D) → (old new : Streams R W E) → Result T NodeFault → (final : D) → Type 0
-Starts seen may_leave moment left_since remaining contents heard refuses shelf options disk old new served final =
+Starts seen may_leave moment left_since faults remaining contents heard refuses shelf options disk old new served final =
     let f = facts seen may_leave moment left_since remaining contents heard refuses in
     OnOk served (RunsAll f shelf.objects options disk final old new)
-    × IfErr served (IsServerStartRefusal f shelf.objects options disk final old new)
+    × IfErr served (λ why.
+    IsServerStartRefusal f shelf.objects options disk final old new why × IfDisk why (faults disk < faults final))

@@ -1,8 +1,9 @@
-ghost use Rattle.std.specs.Prelude.{◌≡◌, [], true, false, IfOk, IfErr, OnOk, OnErr};
+ghost use Rattle.std.specs.Prelude.{◌<◌, ◌≤◌, ◌≡◌, [], true, false, IfOk, IfErr, OnOk, OnErr};
 ghost use Rattle.std.specs.Io.KnownBytes.{IsAtEnd};
 ghost use Rattle.la_journal.specs.Durable.{IsSettled};
 ghost use Rattle.la_io.specs.Sources.{ahead, has_line};
 ghost use Rattle.la_serve.specs.Io.{TakesLines, OnlyStages, step_at, at_flush, io};
+ghost use Rattle.la_serve.specs.Faults.{IfDisk};
 ghost use Rattle.la_serve.specs.Serving.{StepsOn, StopsOn, of_step};
 ghost use Rattle.la_serve.specs.Crashes.{CommitsSome, Flushes, FlushesOrNot, FlushesNot, ServesLines, Ceases};
 
@@ -66,6 +67,8 @@ fn flush<W: Write + Drop, D: Disk, B: Replicated>(
     ensures settled { server.new.node.durable.closed ≡ false → IsSettled D.seen D.may_leave server.new.node.durable.disk }
     ensures unclosed { OnOk result (server.new.node.durable.closed ≡ false) }
     ensures same { (server.new.node.durable.machine ≡ server.old.node.durable.machine) × (server.new.shelf ≡ server.old.shelf) }
+    ensures later { D.faults server.old.node.durable.disk ≤ D.faults server.new.node.durable.disk }
+    ensures failed { IfErr result (λ why. IfDisk why (D.faults server.old.node.durable.disk < D.faults server.new.node.durable.disk)) }
 {
     match server.node.commit() {
         Ok(()) => {
@@ -93,6 +96,8 @@ fn prepare<W: Write + Drop, D: Disk, B: Replicated>(
     ensures unclosed { OnOk result (server.new.node.durable.closed ≡ false) }
     ensures flushed { OnOk result (has_line source.now ≡ false → (held.new.items ≡ []) × (server.new.node.text.items ≡ [])) }
     ensures same { (server.new.node.durable.machine ≡ server.old.node.durable.machine) × (server.new.shelf ≡ server.old.shelf) }
+    ensures later { D.faults server.old.node.durable.disk ≤ D.faults server.new.node.durable.disk }
+    ensures failed { IfErr result (λ why. IfDisk why (D.faults server.old.node.durable.disk < D.faults server.new.node.durable.disk)) }
 {
     if source.has_line() {
         return Ok(());
@@ -134,6 +139,8 @@ pub fn serve<R: Read, W: Write + Drop, E: Listener, D: Disk, B: Replicated>(
     ensures err { IfErr result (Ceases D.seen D.may_leave D.moment D.left_since R.remaining W.contents E.contents E.refuses (io input.old out.old errors.old) (io input.new out.new errors.new) server.old server.new) }
     ensures settled { server.new.node.durable.closed ≡ false → IsSettled D.seen D.may_leave server.new.node.durable.disk }
     ensures unclosed { OnOk result (server.new.node.durable.closed ≡ false) }
+    ensures later { D.faults server.old.node.durable.disk ≤ D.faults server.new.node.durable.disk }
+    ensures failed { IfErr result (λ why. IfDisk why (D.faults server.old.node.durable.disk < D.faults server.new.node.durable.disk)) }
 {
     // a hint to the prover: what is left by one call after another
     laws::calls_follow_one_another::<NodeMachine, D>();

@@ -175,7 +175,7 @@ fn start<R: Read, W: Write + Drop, E: Listener, D: Disk, B: Replicated>(
     errors: &mut E,
 ) -> (Result<(), NodeFault>, D)
     requires { (shelf.view ≡ empty) × (D.seen disk ≡ found.items) }
-    ensures { Starts D.seen D.may_leave D.moment D.left_since R.remaining W.contents E.contents E.refuses shelf options.now disk (io input.old out.old errors.old) (io input.new out.new errors.new) result.0 result.1 }
+    ensures { Starts D.seen D.may_leave D.moment D.left_since D.faults R.remaining W.contents E.contents E.refuses shelf options.now disk (io input.old out.old errors.old) (io input.new out.new errors.new) result.0 result.1 }
 {
     let machine = match NodeMachine::new(alloc, options.config, options.own) {
         Ok(machine) => machine,
@@ -226,7 +226,7 @@ fn run_with<
     found: Vec<u8>,
     disk: D,
     input: &mut R,
-    output: &mut Output<W>,
+    out: &mut Output<W>,
     errors: &mut E,
     make: F,
 ) -> Ended<D>
@@ -234,8 +234,8 @@ fn run_with<
     requires callable { F.pre make }
     requires made { (made : _) → F.post make made
         → IfOk made (λ o. AreAtStart B.state o.0 o.1 o.2) }
-    ensures { ServerEnds D.seen D.may_leave D.moment D.left_since R.remaining W.contents E.contents E.refuses
-        options.now disk (io input.old output.old errors.old) (io input.new output.new errors.new) result }
+    ensures { ServerEnds D.seen D.may_leave D.moment D.left_since D.faults R.remaining W.contents E.contents E.refuses
+        options.now disk (io input.old out.old errors.old) (io input.new out.new errors.new) result }
 {
     let Ok((counter, register, set)) = make() else {
         return ended(NodeFault::Memory, disk, errors);
@@ -243,7 +243,7 @@ fn run_with<
     let Ok(shelf) = shelf_of(alloc, counter, register, set) else {
         return ended(NodeFault::Memory, disk, errors);
     };
-    match start(alloc, options, shelf, found, disk, input, output, errors) {
+    match start(alloc, options, shelf, found, disk, input, out, errors) {
         (Ok(()), disk) => Ended { status: 0, disk },
         (Err(fault), disk) => ended(fault, disk, errors),
     }
@@ -273,12 +273,12 @@ pub fn run<R: Read, W: Write + Drop, E: Listener, D: Disk>(
     found: Vec<u8>,
     disk: D,
     input: &mut R,
-    output: &mut Output<W>,
+    out: &mut Output<W>,
     errors: &mut E,
 ) -> Ended<D>
     requires { D.seen disk ≡ found.items }
-    ensures { ServerEnds D.seen D.may_leave D.moment D.left_since R.remaining W.contents E.contents E.refuses
-        options.now disk (io input.old output.old errors.old) (io input.new output.new errors.new) result }
+    ensures { ServerEnds D.seen D.may_leave D.moment D.left_since D.faults R.remaining W.contents E.contents E.refuses
+        options.now disk (io input.old out.old errors.old) (io input.new out.new errors.new) result }
 {
     let make = || -> Result<
         (
@@ -295,5 +295,5 @@ pub fn run<R: Read, W: Write + Drop, E: Listener, D: Disk>(
         let set: Box<dyn Replicated + Send> = Box::new(alloc, OrSet::new(alloc))?;
         Ok(three(counter, register, set))
     };
-    run_with(alloc, options, found, disk, input, output, errors, make)
+    run_with(alloc, options, found, disk, input, out, errors, make)
 }

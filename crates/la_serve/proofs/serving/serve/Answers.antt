@@ -1,4 +1,4 @@
-use Rattle.std.proofs.Common.{◌≡◌, IfErr, refl, sym, subst, ap, ◌∙◌, rules, []}
+use Rattle.std.proofs.Common.{◌≡◌, IfErr, refl, sym, subst, ap, ◌∙◌, rules, [], arith}
 use Rattle.std.proofs.lemmas.Bool.{false≢true}
 use Rattle.la_journal.specs.Durable.{IsSettled}
 use Rattle.la_durable.specs.Nodes.{kept_by}
@@ -25,6 +25,7 @@ loop-number-init g c =
       over = λ is. absurd (false≢true (sym c.new-source.ensures.«open» ∙ is));
       settled = c.requires.settled;
       takes = c.requires.takes;
+      later = omega arith;
       objects = refl;
     }
 
@@ -189,6 +190,13 @@ loop-number-preserved g c =
           subst (λ d. IsSettled g.D.Disk.seen g.D.Disk.may_leave d) (sym c.step.ensures.stages.1)
           (c.in_ok-prepare.ensures.settled c.in_ok-prepare.ensures.unclosed);
       takes = c.step.ensures.stages.0;
+      later =
+          omega (
+            arith,
+            c.loop-number.invariant.later,
+            c.prepare.ensures.later,
+            ap g.D.Disk.faults c.step.ensures.stages.1,
+          );
       objects = c.step.ensures.stages.2 ∙ objects;
     }
 

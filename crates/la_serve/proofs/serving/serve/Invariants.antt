@@ -1,4 +1,4 @@
-use Rattle.std.proofs.Common.{◌≡◌, true}
+use Rattle.std.proofs.Common.{◌≡◌, ◌≤◌, true}
 use Rattle.std.specs.Io.KnownBytes.{IsAtEnd}
 use Rattle.la_journal.specs.Durable.{IsSettled}
 use Rattle.la_io.specs.Sources.{ahead}
@@ -17,5 +17,6 @@ invariant-loop-number g l =
       over : l.source.over ≡ true → IsAtEnd (ahead l.source (g.R.Read.remaining l.input));
       settled : IsSettled g.D.Disk.seen g.D.Disk.may_leave l.server.node.durable.disk;
       takes : TakesLines l.server;
+      later : g.D.Disk.faults l.initial.server.node.durable.disk ≤ g.D.Disk.faults l.server.node.durable.disk;
       objects : l.server.shelf.objects ≡ l.initial.server.shelf.objects;
     }

@@ -1,4 +1,4 @@
-use Rattle.std.proofs.Common.{◌≡◌, refl, ℕ, List, None, Some, OnOk, IfErr, rules, sym, subst, ap, ◌∙◌}
+use Rattle.std.proofs.Common.{◌≤◌, ◌<◌, ◌≡◌, refl, ℕ, List, None, Some, OnOk, IfErr, rules, sym, subst, ap, ◌∙◌}
 use Rattle.la_set.specs.Histories.{Histories}
 use Rattle.la_set.specs.Inclusion.{IsSubset}
 use Rattle.la_journal.specs.Disk.{LeavesOnly}
@@ -10,13 +10,14 @@ use Rattle.la_durable.specs.CallLines.{call_line}
 use Rattle.la_durable.specs.Errors.{IsForMemory}
 use Rattle.la_durable.specs.Heads.{node_head}
 use Rattle.la_durable.specs.Nodes.{kept_by, step}
-use Rattle.la_serve.specs.Faults.{of_journal}
+use Rattle.la_serve.specs.Faults.{of_journal, IfDisk}
+use Rattle.la_serve.specs.declared.error.NodeFault.{NodeFault}
 use Rattle.la_durable.specs.Restarts.{leads_from}
 use Rattle.la_serve.specs.Crashes.{at_start}
 use Rattle.la_serve.specs.Io.{facts, io}
 use Rattle.la_io.specs.Streams.{TellsAll}
 use Rattle.la_serve.specs.Starting.{RunsAll, RunsNot, IsServerStartRefusal, torn_told}
-use Rattle.la_serve.proofs.Starts.{nothing_within, untouched, runs, stops, not_played}
+use Rattle.la_serve.proofs.Starts.{nothing_within, untouched, runs, stops, not_played, disk_failed, failed_later, err_both}
 use Rattle.la_serve.proofs.starting.start.Goals as goal
 
 pub serve-served-requires-clause-takes : goal.serve-served-requires-clause-takes
@@ -47,6 +48,8 @@ returns-in-Ok-recover g c =
     (sym c.in-Ok.ensures.start)
     ∙ c.in-Ok-recover.ensures.leads ∙ led in
     let same = ap (λ d. lines (f.seen d.disk)) is ∙ c.in-Ok-recover.ensures.same in
+    let later : g.D.Disk.faults disk ≤ g.D.Disk.faults recovered =
+    subst (λ d. g.D.Disk.faults disk ≤ g.D.Disk.faults d.disk) (sym is) c.in-Ok-recover.ensures.later in
     let told = subst
     (λ (n : ℕ). TellsAll g.E.Write.contents g.E.Listener.refuses c.args.errors.now c.tell_cut.new.errors (torn_told n))
     c.in-Ok-recover.ensures.cut c.tell_cut.ensures in
@@ -62,10 +65,16 @@ returns-in-Ok-recover g c =
       subst (λ d. OnOk c.serve-served.result (RunsAll f objects options disk d old new)) (sym c.into_disk.ensures)
           (runs f objects _ options disk recovered final old new c.tell_cut.new.errors _ _ plays leads same recovery
           told c.serve-served.result c.serve-served.ensures.ok),
-      subst (λ d. IfErr c.serve-served.result (IsServerStartRefusal f objects options disk d old new))
+      subst
+          (λ d.
+          IfErr c.serve-served.result (λ why. IsServerStartRefusal f objects options disk d old new why × IfDisk why
+          (g.D.Disk.faults disk < g.D.Disk.faults d)))
           (sym c.into_disk.ensures)
+          (err_both c.serve-served.result _ _
           (stops f objects _ options disk recovered final old new c.tell_cut.new.errors _ _ plays leads same recovery
-          told c.serve-served.result c.serve-served.ensures.err),
+          told c.serve-served.result c.serve-served.ensures.err)
+          (failed_later c.serve-served.result (g.D.Disk.faults disk) (g.D.Disk.faults recovered)
+          (g.D.Disk.faults final) later c.serve-served.ensures.failed)),
     )
 
 pub returns-in-Err : goal.returns-in-Err
@@ -73,7 +82,7 @@ returns-in-Err g c =
     let f = facts g.D.Disk.seen g.D.Disk.may_leave g.D.Disk.moment g.D.Disk.left_since g.R.Read.remaining
     g.W.Write.contents g.E.Write.contents g.E.Listener.refuses in
     let old = io c.args.input.now c.args.out.now c.args.errors.now in
-    (tt, (untouched f c.args.options.now c.args.disk old (g.met.D.Disk.only_now c.args.disk), search rules))
+    (tt, ((untouched f c.args.options.now c.args.disk old (g.met.D.Disk.only_now c.args.disk), search rules), tt))
 
 pub returns-in-Err-recover : goal.returns-in-Err-recover
 returns-in-Err-recover g c =
@@ -104,7 +113,13 @@ returns-in-Err-recover g c =
     let told : c.fault_of-fault.result ≡ of_journal (node_head fresh) options.config.replicas why =
     c.fault_of-fault.ensures ∙ ap (λ (h : List ℕ). of_journal h options.config.replicas why) head in (
       tt,
-      subst (IsServerStartRefusal f c.args.shelf.objects options disk final same same) (sym told)
-          (not_played f c.args.shelf.objects options disk final same same (g.D.Disk.faults disk) (g.D.Disk.faults
-          final) not why c.in-Err-recover.ensures.untouched cause),
+      subst
+          (λ (w : NodeFault).
+          IsServerStartRefusal f c.args.shelf.objects options disk final same same w × IfDisk w (g.D.Disk.faults disk
+          < g.D.Disk.faults final)) (sym told) (
+            not_played f c.args.shelf.objects options disk final same same (g.D.Disk.faults disk) (g.D.Disk.faults
+                final) not why c.in-Err-recover.ensures.untouched cause,
+            disk_failed options.config.replicas (node_head fresh) (f.seen disk) fresh (g.D.Disk.faults disk)
+                (g.D.Disk.faults final) why cause,
+          ),
     )
