@@ -346,6 +346,7 @@ module _ {D R W E : Type 0} (f : Facts D R W E) (first : Point D E) where
         step_cut fault.Locked r = absurd r
         step_cut (fault.BadJournal line) r = absurd r
         step_cut (fault.OtherOptions option) r = absurd r
+        step_cut (fault.StartFault found) r = absurd r
         step_cut fault.DiskFault r = absurd r
 
   -- ## What is held back is written, or is not
@@ -513,6 +514,7 @@ module _ {D R W E : Type 0} (f : Facts D R W E) (first : Point D E) where
         unflushed fault.Locked r = absurd r
         unflushed (fault.BadJournal line) r = absurd r
         unflushed (fault.OtherOptions option) r = absurd r
+        unflushed (fault.StartFault found) r = absurd r
 
       -- and why no more is read
       pub then_refused : (why : NodeFault) → Missing why more → Flushed p q
@@ -524,6 +526,7 @@ module _ {D R W E : Type 0} (f : Facts D R W E) (first : Point D E) where
       then_refused fault.Locked m w = absurd m
       then_refused (fault.BadJournal line) m w = absurd m
       then_refused (fault.OtherOptions option) m w = absurd m
+      then_refused (fault.StartFault found) m w = absurd m
       then_refused fault.DiskFault m w = absurd m
 
     -- all was read and written

@@ -21,7 +21,7 @@ use Rattle.la_durable.specs.Heads.{node_head}
 use Rattle.la_durable.specs.Errors.{IsForMemory}
 use Rattle.la_durable.specs.declared.error.NodeError.{NodeError}
 use Rattle.la_durable.specs.declared.error.NodeError.TheVariants as node
-use Rattle.la_serve.specs.Faults.{of_journal, IfDisk}
+use Rattle.la_serve.specs.Faults.{of_journal, start_fault, IfDisk}
 use Rattle.la_journal.specs.Journal.{lines}
 use Rattle.la_durable.specs.Restarts.{leads_from}
 use Rattle.la_io.specs.Streams.{TellsAll}
@@ -110,6 +110,7 @@ module _ (Told Told2 : List (List ℕ) → Type 0) (told : (ts : List (List ℕ)
   refusal_to fault.Locked s = s
   refusal_to (fault.BadJournal line) s = s
   refusal_to (fault.OtherOptions option) s = s
+  refusal_to (fault.StartFault found) s = s
 
 -- ## A run, by what was served behind its recovery
 
@@ -177,6 +178,7 @@ module _ {D R W E : Type 0} (f : Facts D R W E) (objects objects2 : List (ℕ ×
     run_stops fault.Locked s = absurd s
     run_stops (fault.BadJournal line) s = absurd s
     run_stops (fault.OtherOptions option) s = absurd s
+    run_stops (fault.StartFault found) s = absurd s
 
     pub stops : {T : Type 0} (r : Result T NodeFault) → IfErr r (IsServeRefusal Told Here at_first at_last)
         → IfErr r (IsServerStartRefusal f objects options disk final old new)
@@ -224,7 +226,7 @@ module _ {D R W E : Type 0} (f : Facts D R W E) (objects : List (ℕ × Kind)) (
       IsNotPlayed IsForMemory node_head (λ _. None) call_line step fresh before after (f.seen disk) why
 
   abbrev told_of : Unplayed NodeError → NodeFault
-  told_of why = of_journal (node_head fresh) options.config.replicas why
+  told_of why = of_journal (node_head fresh) options.config.replicas (length (f.seen disk)) why
 
   -- a journal was not played: what is told says why
   module _ (not : RunsNot f options disk final old new) where
@@ -237,7 +239,12 @@ module _ {D R W E : Type 0} (f : Facts D R W E) (objects : List (ℕ × Kind)) (
     pub not_played : (why : Unplayed NodeError) → IsUntouched disk final why → Cause faults faults_after why
         → IsServerStartRefusal f objects options disk final old new (told_of why)
     not_played cause.Memory same is = inl not
-    not_played cause.Disk same is = inl not
+    not_played cause.Disk same is = of_disk (length (f.seen disk)) refl
+      where
+        of_disk : (n : ℕ) → n ≡ length (f.seen disk)
+            → IsServerStartRefusal f objects options disk final old new (start_fault n)
+        of_disk zero is = inl not
+        of_disk (suc n) is = (not, is)
     not_played cause.NoHead same is = bad 1 cause.NoHead same is.0 is refl
     not_played (cause.OtherHead place) same is =
         (not, same, record { nowhere = is.0; why = cause.OtherHead place; is = is; told_as = refl })
@@ -256,12 +263,16 @@ module _ {D R W E : Type 0} (f : Facts D R W E) (objects : List (ℕ × Kind)) (
     not_played (cause.Damaged line) same is = bad line (cause.Damaged line) same is.0 is refl
 
 -- a disk's fault comes only where it failed
-module _ (replicas : ℕ) (head file : List ℕ) (start : ReplicaState) (before after : ℕ) where
+module _ (replicas found : ℕ) (head file : List ℕ) (start : ReplicaState) (before after : ℕ) where
   pub disk_failed : (why : Unplayed NodeError)
       → IsNotPlayed IsForMemory node_head (λ _. None) call_line step start before after file why
-      → IfDisk (of_journal head replicas why) (before < after)
+      → IfDisk (of_journal head replicas found why) (before < after)
   disk_failed cause.Memory is = tt
-  disk_failed cause.Disk is = is
+  disk_failed cause.Disk is = of_disk found
+    where
+      of_disk : (n : ℕ) → IfDisk (start_fault n) (before < after)
+      of_disk zero = is
+      of_disk (suc n) = is
   disk_failed cause.NoHead is = tt
   disk_failed (cause.OtherHead place) is = tt
   disk_failed (cause.NoState line) is = tt
@@ -289,6 +300,7 @@ failed_later (Err why) first between last le failed = more why failed
     more fault.Locked is = tt
     more (fault.BadJournal line) is = tt
     more (fault.OtherOptions option) is = tt
+    more (fault.StartFault found) less = omega (arith, le, less)
 
 pub err_both : {T : Type 0} (r : Result T NodeFault) (P Q : NodeFault → Type 0) → IfErr r P → IfErr r Q
     → IfErr r (λ why. P why × Q why)

@@ -46,6 +46,7 @@ module _ (Is More : (before after : Io) → Turn → Type 0) {Told ToldMore : Li
   breaks_more fault.Locked b = b
   breaks_more (fault.BadJournal line) b = b
   breaks_more (fault.OtherOptions option) b = b
+  breaks_more (fault.StartFault found) b = b
   breaks_more fault.DiskFault b = b
 
   pub on_ok_more : {T E : Type 0} (r : Result T E) → OnOk r (TakesLine Is Told before after)

@@ -37,6 +37,7 @@ node_status fault.Locked = 5
 node_status (fault.BadJournal line) = 5
 node_status (fault.OtherOptions option) = 5
 node_status fault.DiskFault = 5
+node_status (fault.StartFault found) = 5
 
 abbrev pub end_name : NodeFault → List ℕ
 end_name fault.ReadFault = codes "ReadFault"
@@ -47,6 +48,7 @@ end_name fault.Locked = codes "Locked"
 end_name (fault.BadJournal line) = codes "BadJournal"
 end_name (fault.OtherOptions option) = codes "OtherOptions"
 end_name fault.DiskFault = codes "DiskFault"
+end_name (fault.StartFault found) = codes "DiskFault"
 
 abbrev pub option_name : NodeOption → List ℕ
 option_name Version = codes "version"
@@ -60,6 +62,7 @@ option_name Cap = codes "cap"
 abbrev pub end_detail : NodeFault → List ℕ
 end_detail (fault.BadJournal line) = codes ": line " ++ decimal line
 end_detail (fault.OtherOptions option) = codes ": " ++ option_name option
+end_detail (fault.StartFault found) = codes ": needs " ++ (decimal found ++ codes " bytes")
 end_detail _ = []
 
 -- the line that tells it

@@ -1,5 +1,5 @@
 -- Why a node ends, by what failed.
-use Rattle.std.specs.Prelude.{⊤, ℕ, suc, ◌+◌, List, [], ◌∷◌, take, if◌then◌else◌, ◌==◌, nat_lt}
+use Rattle.std.specs.Prelude.{⊤, ℕ, zero, suc, ◌+◌, List, [], ◌∷◌, take, if◌then◌else◌, ◌==◌, nat_lt}
 use Rattle.la_io.specs.declared.source.SourceFault.{SourceFault}
 use Rattle.la_io.specs.declared.source.SourceFault.TheVariants as source
 use Rattle.la_journal.specs.declared.recovery.Unplayed.{Unplayed}
@@ -7,7 +7,7 @@ use Rattle.la_journal.specs.declared.recovery.Unplayed.TheVariants as journal
 use Rattle.la_durable.specs.declared.error.NodeError.{NodeError}
 use Rattle.la_durable.specs.declared.error.NodeError.TheVariants as node
 use Rattle.la_serve.specs.declared.error.NodeFault.{NodeFault}
-use Rattle.la_serve.specs.declared.error.NodeFault.TheVariants.{ReadFault, Memory, BadJournal, OtherOptions, DiskFault}
+use Rattle.la_serve.specs.declared.error.NodeFault.TheVariants.{ReadFault, Memory, BadJournal, OtherOptions, DiskFault, StartFault}
 use Rattle.la_serve.specs.declared.error.NodeOption.{NodeOption}
 use Rattle.la_serve.specs.declared.error.NodeOption.TheVariants.{Version, Own, Replicas, Votes, Commits, Cap}
 
@@ -25,21 +25,28 @@ abbrev pub option_at : (spaces replicas : ℕ) → NodeOption
 option_at spaces replicas =
     if nat_lt spaces 2 then Version else if nat_lt spaces 4 then Own else if nat_lt spaces 6 then Replicas else if nat_lt spaces (replicas + 7) then Votes else if nat_lt spaces (replicas + 9) then Commits else Cap
 
--- where a journal was not played, by the head that it should have and how many replicas the group has
-abbrev pub of_journal : (head : List ℕ) → (replicas : ℕ) → Unplayed NodeError → NodeFault
-of_journal head replicas journal.Memory = Memory
-of_journal head replicas journal.Disk = DiskFault
-of_journal head replicas (journal.Refused line node.Memory) = Memory
-of_journal head replicas journal.NoHead = BadJournal 1
-of_journal head replicas (journal.NoState line) = BadJournal line
-of_journal head replicas (journal.NoCall line) = BadJournal line
-of_journal head replicas (journal.Misplaced line) = BadJournal line
-of_journal head replicas (journal.Refused line _) = BadJournal line
-of_journal head replicas (journal.Damaged line) = BadJournal line
-of_journal head replicas (journal.OtherHead place) =
+-- where the disk failed at a start, which writes anew what was found
+abbrev pub start_fault : (found : ℕ) → NodeFault
+start_fault zero = DiskFault
+start_fault (suc n) = StartFault (suc n)
+
+-- where a journal was not played, by the head that it should have, how many replicas the group has, and how many bytes
+-- were found
+abbrev pub of_journal : (head : List ℕ) → (replicas found : ℕ) → Unplayed NodeError → NodeFault
+of_journal head replicas found journal.Memory = Memory
+of_journal head replicas found journal.Disk = start_fault found
+of_journal head replicas found (journal.Refused line node.Memory) = Memory
+of_journal head replicas found journal.NoHead = BadJournal 1
+of_journal head replicas found (journal.NoState line) = BadJournal line
+of_journal head replicas found (journal.NoCall line) = BadJournal line
+of_journal head replicas found (journal.Misplaced line) = BadJournal line
+of_journal head replicas found (journal.Refused line _) = BadJournal line
+of_journal head replicas found (journal.Damaged line) = BadJournal line
+of_journal head replicas found (journal.OtherHead place) =
     OtherOptions (option_at (space_count (take place head)) replicas)
 
 -- where it is the disk that failed
 abbrev pub IfDisk : NodeFault → Type 0 → Type 0
 IfDisk DiskFault P = P
+IfDisk (StartFault found) P = P
 IfDisk _ P = ⊤

@@ -149,6 +149,7 @@ of_step fault.Locked = fault.Locked
 of_step (fault.BadJournal line) = fault.BadJournal line
 of_step (fault.OtherOptions option) = fault.OtherOptions option
 of_step fault.DiskFault = fault.DiskFault
+of_step (fault.StartFault found) = fault.StartFault found
 
 -- ## All of them
 

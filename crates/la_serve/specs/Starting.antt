@@ -77,7 +77,8 @@ pub record IsUnplayable (options : Options) (file : List ℕ) (told : NodeFault)
   pub why : Unplayed NodeError
   pub is : IsNotPlayed IsForMemory node_head (λ _. None) call_line step (at_start options.config options.own) 0 0 file
       why
-  pub told_as : told ≡ of_journal (node_head (at_start options.config options.own)) options.config.replicas why
+  pub told_as : told ≡ of_journal (node_head (at_start options.config options.own)) options.config.replicas (length file)
+      why
 
 abbrev pub IsServerStartRefusal : {D R W E : Type 0} → Facts D R W E → (objects : List (ℕ × Kind)) → Options
     → (disk final : D)
@@ -90,6 +91,8 @@ IsServerStartRefusal f objects options disk final old new (fault.BadJournal line
 IsServerStartRefusal f objects options disk final old new (fault.OtherOptions option) =
     RunsNot f options disk final old new × (final ≡ disk)
     × IsUnplayable options (f.seen disk) (fault.OtherOptions option)
+IsServerStartRefusal f objects options disk final old new (fault.StartFault found) =
+    RunsNot f options disk final old new × (found ≡ length (f.seen disk))
 -- its disk is open
 IsServerStartRefusal f objects options disk final old new fault.Locked = ⊥
 IsServerStartRefusal f objects options disk final old new fault.ReadFault =

@@ -39,6 +39,10 @@ pub enum NodeFault {
     /// The disk failed.
     #[error("DiskFault")]
     DiskFault,
+
+    /// The disk failed at a start, which writes the journal anew and so needs this many bytes, at most.
+    #[error("DiskFault: needs {0} bytes")]
+    StartFault(usize),
 }
 
 /// What a journal's head says of a node, in its order.

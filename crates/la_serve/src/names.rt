@@ -69,7 +69,7 @@ pub fn end_name(fault: NodeFault) -> &'static str
         NodeFault::Locked => "Locked",
         NodeFault::BadJournal(_) => "BadJournal",
         NodeFault::OtherOptions(_) => "OtherOptions",
-        NodeFault::DiskFault => "DiskFault",
+        NodeFault::DiskFault | NodeFault::StartFault(_) => "DiskFault",
     }
 }
 

@@ -5,7 +5,7 @@ ghost use Rattle.la_object.specs.declared.kind.Kind.TheVariants.{MaxRegister as 
 ghost use Rattle.la_object.specs.declared.kind.Kind.TheVariants.{OrSet as SetKind};
 ghost use Rattle.la_object.specs.Objects.{start};
 ghost use Rattle.la_io.specs.Streams.{TellsLine, TellsAll};
-ghost use Rattle.la_serve.specs.Faults.{of_journal, space_count, option_at};
+ghost use Rattle.la_serve.specs.Faults.{of_journal, start_fault, space_count, option_at};
 ghost use Rattle.la_serve.specs.Ending.{node_status, end_line, end_detail, no_journal_line, AreAtStart, ServerEnds};
 ghost use Rattle.la_serve.specs.Io.{io};
 ghost use Rattle.la_serve.specs.Starting.{Starts, torn_told};
@@ -25,8 +25,8 @@ use la_orset::OrSet;
 use std::alloc::{AllocError, Global};
 use std::io::{ErrorKind, Read, Write};
 
-// The longest line is that of a bad journal.
-type Line = ArrayString<40>;
+// The longest line is that of a start's fault.
+type Line = ArrayString<47>;
 
 // The exit status after a fault.
 fn status_of(fault: NodeFault) -> u8
@@ -38,7 +38,8 @@ fn status_of(fault: NodeFault) -> u8
         NodeFault::Locked
         | NodeFault::BadJournal(_)
         | NodeFault::OtherOptions(_)
-        | NodeFault::DiskFault => 5,
+        | NodeFault::DiskFault
+        | NodeFault::StartFault(_) => 5,
     }
 }
 
@@ -64,7 +65,7 @@ fn end_line(fault: NodeFault) -> Line
 }
 
 // What is told behind a fault's name.
-fn end_detail(fault: NodeFault) -> ArrayString<27>
+fn end_detail(fault: NodeFault) -> ArrayString<34>
     ensures { result.bytes ≡ end_detail fault }
 {
     let mut detail = ArrayString::new();
@@ -76,6 +77,11 @@ fn end_detail(fault: NodeFault) -> ArrayString<27>
         NodeFault::OtherOptions(option) => {
             detail.push_str(": ");
             detail.push_str(option_name(option));
+        }
+        NodeFault::StartFault(bytes) => {
+            detail.push_str(": needs ");
+            detail.push_str(Buffer::new().format(bytes));
+            detail.push_str(" bytes");
         }
         _ => {}
     }
@@ -111,12 +117,12 @@ pub fn end_without_journal<E: Listener>(kind: ErrorKind, errors: &mut E) -> u8
 
 // Why a node does not begin whose journal was not played, by the head of its own. A line that finds no room says
 // nothing against the journal.
-fn fault_of(why: Unplayed<NodeError>, head: &[u8], replicas: u8) -> NodeFault
-    ensures { result ≡ of_journal head.now replicas why }
+fn fault_of(why: Unplayed<NodeError>, head: &[u8], replicas: u8, found: usize) -> NodeFault
+    ensures { result ≡ of_journal head.now replicas found why }
 {
     match why {
         Unplayed::Memory | Unplayed::Refused(_, NodeError::Memory) => NodeFault::Memory,
-        Unplayed::Disk => NodeFault::DiskFault,
+        Unplayed::Disk => start_fault(found),
         Unplayed::NoHead => NodeFault::BadJournal(1),
         Unplayed::NoState(line)
         | Unplayed::NoCall(line)
@@ -127,6 +133,17 @@ fn fault_of(why: Unplayed<NodeError>, head: &[u8], replicas: u8) -> NodeFault
             let spaces = space_count(&head[..place.min(head.len())]);
             NodeFault::OtherOptions(option_at(spaces, usize::from(replicas)))
         }
+    }
+}
+
+// The disk failed at a start on so many bytes.
+fn start_fault(found: usize) -> NodeFault
+    ensures { result ≡ start_fault found }
+{
+    if found == 0 {
+        NodeFault::DiskFault
+    } else {
+        NodeFault::StartFault(found)
     }
 }
 
@@ -185,6 +202,7 @@ fn start<R: Read, W: Write + Drop, E: Listener, D: Disk, B: Replicated>(
     let Ok(head) = machine.head(alloc) else {
         return (Err(NodeFault::Memory), disk);
     };
+    let found_count = found.len();
     match recover(alloc, machine, found, disk) {
         Ok(durable) => {
             tell_cut(durable.cut, errors);
@@ -196,7 +214,7 @@ fn start<R: Read, W: Write + Drop, E: Listener, D: Disk, B: Replicated>(
             (served, server.into_disk())
         }
         Err((why, disk)) => {
-            let fault = fault_of(why, &head, options.config.replicas);
+            let fault = fault_of(why, &head, options.config.replicas, found_count);
             (Err(fault), disk)
         }
     }

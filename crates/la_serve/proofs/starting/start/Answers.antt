@@ -1,4 +1,4 @@
-use Rattle.std.proofs.Common.{◌≤◌, ◌<◌, ◌≡◌, refl, ℕ, List, None, Some, OnOk, IfErr, rules, sym, subst, ap, ◌∙◌}
+use Rattle.std.proofs.Common.{◌≤◌, ◌<◌, ◌≡◌, refl, ℕ, None, Some, OnOk, IfErr, rules, length, sym, subst, ap, ◌∙◌}
 use Rattle.la_set.specs.Histories.{Histories}
 use Rattle.la_set.specs.Inclusion.{IsSubset}
 use Rattle.la_journal.specs.Disk.{LeavesOnly}
@@ -110,8 +110,11 @@ returns-in-Err-recover g c =
       left = left;
     } in
     let head : c.deref.result.now ≡ node_head fresh = search rules in
-    let told : c.fault_of-fault.result ≡ of_journal (node_head fresh) options.config.replicas why =
-    c.fault_of-fault.ensures ∙ ap (λ (h : List ℕ). of_journal h options.config.replicas why) head in (
+    let count : c.len-found_count.result ≡ length (f.seen disk) = search rules in
+    let told : c.fault_of-fault.result ≡ of_journal (node_head fresh) options.config.replicas (length (f.seen disk)) why
+    =
+    c.fault_of-fault.ensures
+    ∙ (λ i. of_journal (head i) options.config.replicas (count i) why) in (
       tt,
       subst
           (λ (w : NodeFault).
@@ -119,7 +122,7 @@ returns-in-Err-recover g c =
           < g.D.Disk.faults final)) (sym told) (
             not_played f c.args.shelf.objects options disk final same same (g.D.Disk.faults disk) (g.D.Disk.faults
                 final) not why c.in-Err-recover.ensures.untouched cause,
-            disk_failed options.config.replicas (node_head fresh) (f.seen disk) fresh (g.D.Disk.faults disk)
+            disk_failed options.config.replicas (length (f.seen disk)) (node_head fresh) (f.seen disk) fresh (g.D.Disk.faults disk)
                 (g.D.Disk.faults final) why cause,
           ),
     )
