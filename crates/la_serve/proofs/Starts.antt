@@ -41,7 +41,7 @@ pub nothing_within : (s : Histories) → IsSubset empty s
 nothing_within s u is =
     absurd
     (none-some u (sym (ap (λ (ds : List ObjectOp). option_map (update_of u.id.replica u.id.number) (object_op_number
-        ds u.id.number)) (history-empty u.id.replica)
+    ds u.id.number)) (history-empty u.id.replica)
     ∙ ap (option_map (update_of u.id.replica u.id.number)) (nothing_at u.id.number)) ∙ is))
   where
     nothing_at : (k : ℕ) → object_op_number [] k ≡ None

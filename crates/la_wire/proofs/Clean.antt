@@ -71,9 +71,9 @@ message-printed m is =
     let us = carried m.body in
     joined-printed 59 (joined_by 32 (head_words m) ∷ map update_text us) refl
     (All-cons IsPrinted (joined_by 32 (head_words m)) (map update_text us) (words-printed (head_words m) (head-plain m
-        is))
+    is))
     (All-map IsPrinted update_text us (All-weaker IsUpdate (λ u. IsPrinted (update_text u)) update-printed us
-        (carried-updates m.body is.body))))
+    (carried-updates m.body is.body))))
 
 keyword-words : (word : List ℕ) (words : List (List ℕ)) → IsPlain word → All IsPlain words
     → IsPrinted (joined_by 32 (word ∷ words))

@@ -34,7 +34,7 @@ returns-in_default-shelf_of g c =
       between = c.args.errors.now;
       stops =
           inl (subst (λ d. RunsNot f c.args.options.now c.args.disk d old old) (sym
-              c.ended-in_default-shelf_of.ensures.disk)
+          c.ended-in_default-shelf_of.ensures.disk)
           (untouched f c.args.options.now c.args.disk old (g.met.D.Disk.only_now c.args.disk)));
       failed = tt;
       told = c.ended-in_default-shelf_of.ensures.told;
