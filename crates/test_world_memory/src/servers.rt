@@ -282,9 +282,9 @@ fn is_memory(output: &[u8], told: &[u8]) -> bool {
     output.is_empty() && told == b"Memory\n".as_slice()
 }
 
-// The same of a disk in memory that found none.
+// The same of a disk in memory that found none, at a start on that journal.
 fn is_disk(output: &[u8], told: &[u8]) -> bool {
-    output.is_empty() && told == b"DiskFault\n".as_slice()
+    output.is_empty() && told == b"DiskFault: needs 185 bytes\n".as_slice()
 }
 
 // A question to a node that starts on its journal.
