@@ -1,4 +1,5 @@
 mod exactness;
 mod following;
 mod laws;
+mod links;
 mod nodes;

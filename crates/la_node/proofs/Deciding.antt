@@ -1,5 +1,7 @@
 -- The tests of `specs/Accepting` decide what `la_replica` accepts.
-use Rattle.std.proofs.Common.{◌≡◌, ◌≢◌, ◌⊎◌, ℕ, zero, suc, ◌+◌, ◌<◌, ◌≤◌, Bool, true, false, leb, ltb, eqb, not, ◌&&◌, ◌||◌, List, [], ◌∷◌, length, get_or, All, Contains, slice_get, Option, Some, None, IsSomeAnd, IfSome, IsSome, refl, sym, ap, subst, ◌∙◌, arith, inl, inr}
+use Rattle.std.proofs.Common.{◌≡◌, ◌≢◌, ◌⊎◌, ℕ, zero, suc, ◌+◌, ◌<◌, ◌≤◌, Bool, true, false, leb, ltb, eqb, not, ◌&&◌}
+use Rattle.std.proofs.Common.{◌||◌, List, [], ◌∷◌, length, get_or, All, Contains, slice_get, Option, Some, None}
+use Rattle.std.proofs.Common.{IsSomeAnd, IfSome, IsSome, refl, sym, ap, subst, ◌∙◌, arith, inl, inr}
 use Rattle.std.proofs.Common.{⊎_elim, unwrap_or, option_map}
 use Rattle.std.specs.Bool.{Decides}
 use Rattle.std.specs.List.{list_all}
@@ -34,11 +36,17 @@ use Rattle.la_replica.specs.declared.message.Message as code
 use Rattle.la_replica.specs.Whole.{Message, Body, Offer, Yes, No, Tell}
 use Rattle.la_replica.specs.Received.{Told, told_at, rebuilt_at, received_at, message_with, received_in, StandsAt}
 use Rattle.la_replica.specs.ReplicaState.{ReplicaState, submitted_in}
-use Rattle.la_replica.specs.Refusals.{HasRoom, SubmittingSpares, FitsBody, SparesBody, FitsMessage, SparesMessage, IsFor, TakesMessage}
+use Rattle.la_replica.specs.Refusals.{HasRoom, SubmittingSpares, FitsBody, SparesBody, FitsMessage, SparesMessage}
+use Rattle.la_replica.specs.Refusals.{IsFor, TakesMessage}
 use Rattle.la_node.specs.Calls.{NodeCall, Submitted, Proposed, Received}
 use Rattle.la_commit.specs.Instances.{first_instance}
-use Rattle.la_node.specs.Accepting.{submission_spends, takes_submission, is_first, has_counts, is_next, are_next, is_over_base}
-use Rattle.la_node.specs.Accepting.{is_none_but, is_compatible, fits_reply, fits_tally, is_own_known, fits_refusal, is_fitting_reply, spares, hears_reply, takes_body, takes_message, is_for, accepts}
+use Rattle.la_replica.specs.declared.parcel.Content.{Content}
+use Rattle.la_replica.specs.declared.parcel.Content.TheVariants as content
+use Rattle.la_replica.specs.Parcels.{Unwraps}
+use Rattle.la_node.specs.Accepting.{submission_spends, takes_submission, is_first, has_counts, is_next, are_next}
+use Rattle.la_node.specs.Accepting.{is_over_base, unwraps_over}
+use Rattle.la_node.specs.Accepting.{is_none_but, is_compatible, fits_reply, fits_tally, is_own_known, fits_refusal}
+use Rattle.la_node.specs.Accepting.{is_fitting_reply, spares, hears_reply, takes_body, takes_message, is_for, accepts}
 
 -- ## Tests of all kinds
 
@@ -98,7 +106,7 @@ of_eight P each (suc (suc (suc (suc (suc (suc zero)))))) past = each 6 (omega ar
 of_eight P each (suc (suc (suc (suc (suc (suc (suc zero))))))) past = each 7 (omega arith)
 of_eight P each (suc (suc (suc (suc (suc (suc (suc (suc r)))))))) past = past (omega arith)
 
-decides-has_counts : (s : Histories) (c : Counts) → Decides (has_counts s c) (HasCounts s c)
+pub decides-has_counts : (s : Histories) (c : Counts) → Decides (has_counts s c) (HasCounts s c)
 unfolding eight
 decides-has_counts s c =
     let P = λ (r : ℕ). count_in c r ≤ count s r in
@@ -126,6 +134,15 @@ decides-over (Some t) =
     Decides-like (is_over_base (Some t)) (λ p. record { base = p.0; next = p.1 }) (λ is. (is.base, is.next))
     (Decides-and (has_counts t.over t.delta.base) (are_next (within t.over t.delta.base) t.delta.more)
     (decides-has_counts t.over t.delta.base) (decides-are_next (within t.over t.delta.base) t.delta.more))
+
+pub decides-unwraps : (over : Histories) (c : Content) → Decides (unwraps_over over c) (Unwraps over c)
+decides-unwraps over (content.Offer d) = (λ e. tt, λ h. refl)
+decides-unwraps over content.Yes = (λ e. tt, λ h. refl)
+decides-unwraps over (content.No d) = (λ e. tt, λ h. refl)
+decides-unwraps over (content.Tell d) =
+    Decides-like (unwraps_over over (content.Tell d)) (λ p. record { base = p.0; next = p.1 }) (λ is. (is.base, is.next))
+    (Decides-and (has_counts over d.base) (are_next (within over d.base) d.more) (decides-has_counts over d.base)
+    (decides-are_next (within over d.base) d.more))
 
 -- ## What fits
 

@@ -3,3 +3,4 @@ pub mod SecondVotes
 pub mod Telling
 pub mod Told
 pub mod Stepping
+pub mod Tests

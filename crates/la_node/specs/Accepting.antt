@@ -1,6 +1,7 @@
 -- Whether a replica accepts a call, want of memory aside, as a test: by the rules of `la_replica`'s
 -- refusals, and of a proposal that it is the first to its object.
-use Rattle.std.specs.Prelude.{ℕ, ◌+◌, nat_lt, nat_le, ◌==◌, Bool, true, false, not, ◌&&◌, ◌||◌, List, [], ◌∷◌, length, slice_get, Option, Some, None}
+use Rattle.std.specs.Prelude.{ℕ, ◌+◌, nat_lt, nat_le, ◌==◌, Bool, true, false, not, ◌&&◌, ◌||◌, List, [], ◌∷◌, length}
+use Rattle.std.specs.Prelude.{slice_get, Option, Some, None, if◌then◌else◌}
 use Rattle.std.specs.List.{list_all}
 use Rattle.std.specs.Option.{is_some}
 use Rattle.la_set.specs.declared.set.TheConstants.{REPLICAS, MAX_NUMBER}
@@ -19,6 +20,10 @@ use Rattle.la_proposer.specs.Refusals.{opens_by}
 use Rattle.la_commit.specs.Instances.{first_instance}
 use Rattle.la_replica.specs.declared.instance.Instance.{Instance}
 use Rattle.la_replica.specs.declared.message.Message as code
+use Rattle.la_replica.specs.declared.parcel.Parcel.{Parcel}
+use Rattle.la_replica.specs.declared.parcel.Content.{Content}
+use Rattle.la_replica.specs.declared.parcel.Content.TheVariants as content
+use Rattle.la_replica.specs.Parcels.{view_of, unwrapped_in}
 use Rattle.la_replica.specs.Whole.{Message, Body, Offer, Yes, No, Tell}
 use Rattle.la_replica.specs.Received.{Told, told_at, received_at}
 use Rattle.la_replica.specs.ReplicaState.{ReplicaState, submitted_in}
@@ -130,3 +135,19 @@ unfoldable pub accepts : ReplicaState → NodeCall → Bool
 accepts r (Submitted d) = takes_submission (slice_get r.instances 0)
 accepts r (Proposed k value) = is_first (submitted_in r (first_instance k))
 accepts r (Received m) = is_for r m && takes_message (slice_get r.instances m.instance) m
+
+-- ## A parcel
+
+-- a told set stands for something over this one
+abbrev pub unwraps_over : (over : Histories) → Content → Bool
+unwraps_over over (content.Offer d) = true
+unwraps_over over content.Yes = true
+unwraps_over over (content.No d) = true
+unwraps_over over (content.Tell d) = has_counts over d.base && are_next (within over d.base) d.more
+
+abbrev pub unwraps : ReplicaState → Parcel → Bool
+unwraps r p = unwraps_over (view_of r p.instance) p.content
+
+-- a parcel as a call: the message that it is here; none, where its told set stands for nothing
+abbrev pub parcel_call : ReplicaState → Parcel → Option NodeCall
+parcel_call r p = if unwraps r p then Some (Received (unwrapped_in r p)) else None

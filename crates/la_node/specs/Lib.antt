@@ -7,3 +7,4 @@ pub mod Calls
 pub mod Accepting
 pub mod Telling
 pub mod Steps
+pub mod Links

@@ -11,11 +11,13 @@ mod config;
 mod done;
 mod error;
 pub mod laws;
+mod link;
 mod node;
 mod participant;
 
 pub use config::Config;
 pub use done::{Done, Voted};
 pub use error::WorldError;
+pub use link::{Letter, Links, Standing};
 pub use node::{Node, Received};
 pub use participant::outcome_by;

@@ -18,7 +18,9 @@ ghost use Rattle.la_replica.specs.Refusals.{IsSubmitRefusal, IsReceiptRefusal};
 ghost use Rattle.la_replica.specs.Steps.{learnt_in};
 ghost use Rattle.la_replica.specs.Refusals.{HasRoom, SubmittingSpares};
 ghost use Rattle.la_replica.specs.Again.{again};
+ghost use Rattle.la_replica.specs.Progress.{progress_of};
 ghost use Rattle.la_node.specs.Nodes.{returned_by};
+ghost use Rattle.la_node.specs.Links.{standing_of};
 ghost use Rattle.la_node.specs.Preparing.{FitsHere};
 ghost use Rattle.la_node.specs.Calls as call;
 ghost use Rattle.la_node.specs.Steps.{node_step, given_out, given_of, given_due};
@@ -27,11 +29,11 @@ ghost use Rattle.la_node.specs.Nodes.{IsStartRefusal, IsProposeRefusal, IsObserv
 ghost use Rattle.la_node.specs.Nodes.{outcome_due, OutcomesStayIn, ReturnsIn, LeftUntoldNode};
 
 use crate::participant::{for_memory, outcome_by, returned, take_prepared};
-use crate::{Config, Done, WorldError};
+use crate::{Config, Done, Standing, WorldError};
 use la_commit::{Fresh, MAX_COMMITS, Outcome, first_instance};
 use la_object::{Answer, Query, Replicated, Shelf, ShelfError, State};
 use la_proposer::Votes;
-use la_replica::{Mail, Message, Out, Parcel, Replica, ReplicaError};
+use la_replica::{Mail, Message, Out, Parcel, Progress, Replica, ReplicaError};
 use la_set::{Counts, Op, Tags, UpdateSet};
 use std::alloc::{AllocError, Global};
 use std::marker::Model;
@@ -131,6 +133,25 @@ impl<B: Replicated> Node<B> {
         ensures { result ≡ commits_of self.now.replica }
     {
         self.replica.commits()
+    }
+
+    /// How far it is in instance 0.
+    pub fn progress(&self) -> Progress
+        ensures { result ≡ progress_of self.now.replica }
+    {
+        self.replica.progress()
+    }
+
+    /// How far it is, for another replica: the answer to a letter of that one which told it nothing new.
+    pub fn standing(&self, to: u8) -> Standing
+        ensures { result ≡ standing_of self.now.replica to }
+    {
+        Standing {
+            replicas: self.replicas(),
+            from: self.own(),
+            to,
+            progress: self.progress(),
+        }
     }
 
     /// What it answers questions from.

@@ -1,3 +1,4 @@
+pub mod Furthering
 pub mod Growing
 pub mod Carrying
 pub mod Alike

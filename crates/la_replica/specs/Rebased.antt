@@ -1,11 +1,11 @@
 -- A message whose set is told over other counts than those that it was sent over: over whatever the
 -- sender's link believes that its receiver has.
-use Rattle.std.specs.Prelude.{◌≡◌, ◌⊎◌, IfSome}
+use Rattle.std.specs.Prelude.{◌≡◌, ◌⊎◌, ℕ, ◌==◌, IfSome, if◌then◌else◌}
 use Rattle.la_set.specs.declared.counts.Counts.{Counts}
 use Rattle.la_set.specs.Histories.{Histories, IsWithinLimit}
 use Rattle.la_set.specs.Join.{IsCompatible}
-use Rattle.la_set.specs.Counts.{HasCounts}
-use Rattle.la_set.specs.Deltas.{DeltaState, delta_over}
+use Rattle.la_set.specs.Counts.{HasCounts, zero_counts}
+use Rattle.la_set.specs.Deltas.{DeltaState, delta_over, further}
 use Rattle.la_replica.specs.declared.error.ReplicaError.{ReplicaError}
 use Rattle.la_replica.specs.declared.error.ReplicaError.TheVariants.{NoBase, Memory}
 use Rattle.la_replica.specs.declared.instance.Instance.{Instance}
@@ -68,3 +68,37 @@ IsOneIn r m = InInstance r m.instance (λ x. IsOneAt x m)
 abbrev pub IsRefusalOver : ReplicaState → (rebased sent : code.Message) → ReplicaError → Type 0
 IsRefusalOver r n m e =
     ((e ≡ NoBase) × (¬ HasBaseIn r n)) ⊎ ((e ≡ Memory) ⊎ IsReceiveRefusal r (whole_of m) e)
+
+-- ## Further
+
+-- an offer is told over as much of these counts as its set has, where that is more than what it is told over
+abbrev pub further_body : Counts → code_body.Body → code_body.Body
+further_body c (body.Offer d) = body.Offer (further c d)
+further_body c body.Yes = body.Yes
+further_body c (body.No d) = body.No d
+further_body c (body.Tell told) = body.Tell told
+
+-- what of these counts of accepted updates is of an instance: they are of instance 0
+abbrev pub further_counts : Counts → (instance : ℕ) → Counts
+further_counts c i = if i == 0 then c else zero_counts
+
+abbrev pub told_further : Counts → code.Message → code.Message
+told_further c m = record {
+  instance = m.instance;
+  from = m.from;
+  to = m.to;
+  ballot = m.ballot;
+  body = further_body (further_counts c m.instance) m.body;
+}
+
+-- an offer that was made of a set is over one of that set's bases
+abbrev pub IsOfferOver : code_body.Body → Type 0
+IsOfferOver (body.Offer d) = IfSome d.made_of (IsBaseOf d.base)
+IsOfferOver body.Yes = Unit {0}
+IsOfferOver (body.No d) = Unit {0}
+IsOfferOver (body.Tell told) = Unit {0}
+
+-- a message that is told further is that message, or the same over another base of its set
+abbrev pub FurtherIsRebased : Type 0
+FurtherIsRebased = (c : Counts) (m : code.Message) → IsOfferOver (told_further c m).body →
+    (told_further c m ≡ m) ⊎ ((b : Counts) × MayBeOver b m.body × (told_further c m ≡ rebased_message b m))

@@ -53,6 +53,18 @@ impl Content {
         }
     }
 
+    // A copy.
+    fn copy(&self) -> Result<Content, AllocError>
+        ensures { IfOk result (λ content. content ≡ self.now) }
+    {
+        Ok(match self {
+            Content::Offer(delta) => Content::Offer(delta.copy()?),
+            Content::Yes => Content::Yes,
+            Content::No(delta) => Content::No(delta.copy()?),
+            Content::Tell(delta) => Content::Tell(delta.copy()?),
+        })
+    }
+
     // What it says as a message does, a told set rebuilt over this one.
     fn over(self, set: &UpdateSet) -> Result<Body, SetError>
         ensures ok { IfOk result (λ body. body ≡ unwrapped_body set.now self) }
@@ -94,6 +106,19 @@ impl Parcel {
             to,
             ballot,
             content,
+        })
+    }
+
+    /// A copy, at the cost of [`Delta::copy`].
+    pub fn copy(&self) -> Result<Parcel, AllocError>
+        ensures { IfOk result (λ parcel. parcel ≡ self.now) }
+    {
+        Ok(Parcel {
+            instance: self.instance,
+            from: self.from,
+            to: self.to,
+            ballot: self.ballot,
+            content: self.content.copy()?,
         })
     }
 

@@ -25,6 +25,7 @@ ghost use Rattle.la_replica.specs.Changes.{IsPreparedFrom, after_commit, AreSame
 ghost use Rattle.la_replica.specs.Changes.{IsVerdictIn, IsDecidedIn, candidate};
 ghost use Rattle.la_replica.specs.Prepared.{PreparesReceiptIn, PreparesSubmissionIn};
 ghost use Rattle.la_replica.specs.Again.{again};
+ghost use Rattle.la_replica.specs.Progress.{progress_of};
 ghost use Rattle.la_replica.specs.Parcels.{view_of, unwrapped_in, UnwrapsIn, base_of_told, TellsNothing};
 ghost use Rattle.la_replica.specs.Parcels.{IsUnwrapRefusal, IsParcelRefusal};
 
@@ -33,7 +34,7 @@ use crate::instance::Instance;
 use crate::sender::Sender;
 use crate::view::{is_taken, is_taken_fitting};
 use crate::whole::{Whole, WholeBody};
-use crate::{Change, Mail, Message, Out, Parcel, ReplicaError};
+use crate::{Change, Mail, Message, Out, Parcel, Progress, ReplicaError};
 use la_commit::MAX_COMMITS;
 use la_proposer::{Verdict, Votes};
 use la_set::{Counts, Op, UpdateSet};
@@ -155,6 +156,16 @@ impl Replica {
         ensures { result.now ≡ self.now.view }
     {
         &self.view
+    }
+
+    /// How far it is in instance 0.
+    pub fn progress(&self) -> Progress
+        ensures { result ≡ progress_of self.now }
+    {
+        Progress {
+            accepted: self.instances[0].acceptor.accepted().counts(),
+            view: self.view.counts(),
+        }
     }
 
     /// The set that it learnt last in an instance; `None` where it learnt none there, or there is

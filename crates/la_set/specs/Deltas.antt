@@ -1,5 +1,5 @@
 -- A set, told to one who has a part of it: what that one is known to have, and what comes beyond.
-use Rattle.std.specs.Prelude.{◌≡◌, nat_lt, Bool, List, [], ◌∷◌, filter, Option, Some, None}
+use Rattle.std.specs.Prelude.{◌≡◌, nat_lt, max, min, Bool, List, [], ◌∷◌, filter, Option, Some, None}
 use Rattle.la_set.specs.declared.update.Update.{Update}
 use Rattle.la_set.specs.declared.counts.Counts.{Counts}
 use Rattle.la_set.specs.declared.delta.More.{More}
@@ -7,8 +7,8 @@ use Rattle.la_set.specs.declared.delta.More.TheVariants.{Whole, Listed}
 use Rattle.la_set.specs.declared.delta.Delta.TheInside.{Inside}
 use Rattle.la_set.specs.declared.error.SetError.{SetError}
 use Rattle.la_set.specs.declared.error.SetError.TheVariants.{TooManyTags, Gap, Clash, NoBase, Memory}
-use Rattle.la_set.specs.Histories.{Histories, updates, push, IsNext}
-use Rattle.la_set.specs.Counts.{count_in, HasCounts, within}
+use Rattle.la_set.specs.Histories.{Histories, updates, count, push, IsNext}
+use Rattle.la_set.specs.Counts.{count_in, from_counts, HasCounts, within}
 
 pub record DeltaState : Type 0 where
   -- how many updates of each replica its receiver is known to have
@@ -29,6 +29,18 @@ over s base = filter (is_over base) (updates s)
 -- the delta of a set
 abbrev pub delta_over : Histories → Counts → DeltaState
 delta_over s base = record { base = base; more = over s base; made_of = Some s }
+
+-- over the larger, of each replica, of a base and of as much of these counts as the set has
+abbrev pub further_base : Histories → (base counts : Counts) → Counts
+further_base s base c = from_counts (λ r. max (count_in base r) (min (count_in c r) (count s r)))
+
+-- a delta that was made of a set is told further so; one that was made from a list stays
+abbrev pub further_of : Option Histories → Counts → DeltaState → DeltaState
+further_of None c d = d
+further_of (Some s) c d = delta_over s (further_base s d.base c)
+
+abbrev pub further : Counts → DeltaState → DeltaState
+further c d = further_of d.made_of c d
 
 -- these updates are each the next one, where they are pushed one after another
 abbrev pub AreNext : Histories → List Update → Type 0

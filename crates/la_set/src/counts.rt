@@ -1,4 +1,4 @@
-ghost use Rattle.std.specs.Prelude.{◌≡◌, ◌<◌, ◌==◌, ◌++◌, ℕ, length, min, slice_index_or, if◌then◌else◌};
+ghost use Rattle.std.specs.Prelude.{◌≡◌, ◌<◌, ◌==◌, ◌++◌, ℕ, length, max, min, slice_index_or, if◌then◌else◌};
 ghost use Rattle.la_set.specs.Counts.{count_in, from_counts, zero_counts};
 
 use crate::REPLICAS;
@@ -77,6 +77,24 @@ impl Counts {
                 self.of(5).min(other.of(5)),
                 self.of(6).min(other.of(6)),
                 self.of(7).min(other.of(7)),
+            ],
+        }
+    }
+
+    /// The counts that have of each replica the larger of the two numbers.
+    pub fn max(self, other: Counts) -> Counts
+        ensures { result ≡ from_counts (λ r. max (count_in self r) (count_in other r)) }
+    {
+        Counts {
+            of: [
+                self.of(0).max(other.of(0)),
+                self.of(1).max(other.of(1)),
+                self.of(2).max(other.of(2)),
+                self.of(3).max(other.of(3)),
+                self.of(4).max(other.of(4)),
+                self.of(5).max(other.of(5)),
+                self.of(6).max(other.of(6)),
+                self.of(7).max(other.of(7)),
             ],
         }
     }

@@ -5,7 +5,7 @@ ghost use Rattle.la_set.specs.Links.{lent_items};
 ghost use Rattle.la_set.specs.Histories.{history, updates_of, push, IsNext, IsWithinLimit};
 ghost use Rattle.la_set.specs.Representation.{represented, IsRepresentation, IsFront, GrowsFrom};
 ghost use Rattle.la_set.specs.Counts.{count_in, HasCounts, within};
-ghost use Rattle.la_set.specs.Deltas.{over, delta_over, rebuilt, pushed, AreNext, AgreesWithin};
+ghost use Rattle.la_set.specs.Deltas.{over, delta_over, further, further_base, rebuilt, pushed, AreNext, AgreesWithin};
 ghost use Rattle.la_set.specs.Deltas.{IsOver, IsRebuildRefusal};
 
 use crate::algebra::append_reversed;
@@ -110,6 +110,26 @@ impl Delta {
         })
     }
 
+    /// The same set told further: over the larger, of each replica, of its base and of as much of these
+    /// counts as the set has. A delta that was made from a list stays as it is. It takes no memory.
+    pub fn further(self, counts: Counts) -> Delta
+        ensures told { result ≡ further counts self }
+        ensures has { IfSome result.made_of (λ s. HasCounts s result.base) }
+        ensures limit { IfSome result.made_of IsWithinLimit }
+    {
+        let Delta { base, more } = self;
+        match more {
+            More::Whole(set) => Delta {
+                base: set.further_base(base, counts),
+                more: More::Whole(set),
+            },
+            More::Listed(updates) => Delta {
+                base,
+                more: More::Listed(updates),
+            },
+        }
+    }
+
     /// Whether two deltas have one base and the same updates beyond it, whatever they were made of.
     /// The bases and the lengths are compared first, and then the updates, each at logarithmic cost.
     pub fn same(&self, other: &Delta) -> bool
@@ -176,6 +196,18 @@ impl UpdateSet {
             base,
             more: More::Whole(self.copy()?),
         })
+    }
+
+    // The base over which a delta of this set is told further.
+    fn further_base(&self, base: Counts, counts: Counts) -> Counts
+        requires { HasCounts self.now base }
+        ensures further { result ≡ further_base self.now base counts }
+        ensures has { HasCounts self.now result }
+        ensures limit { IsWithinLimit self.now }
+    {
+        // a hint to the prover: no number is over the limit
+        let _ = self.allocator();
+        base.max(counts.min(self.counts()))
     }
 
     /// What a delta stands for over this set: what is here within its base, and then what comes

@@ -1,3 +1,4 @@
 pub mod Playback
 pub mod Starting
 pub mod Retelling
+pub mod Letters

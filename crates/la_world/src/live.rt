@@ -5,7 +5,7 @@ ghost use Rattle.la_world.specs.LiveGroups.{LiveGroupsStandForEvents, LiveGroups
 ghost use Rattle.la_world.specs.LiveGroups.{LiveLearntAreComparable, LiveViewsAreComparable};
 ghost use Rattle.la_world.specs.LiveGroups.{LiveNodesAreOneHistory, NewNodesAreLive};
 ghost use Rattle.la_world.specs.LiveGroups.{NetworksMayLose, CallsKeepLive, UnheardCallsKeepLive};
-ghost use Rattle.la_world.specs.LiveParcels.{ParcelReceiptsKeepLive};
+ghost use Rattle.la_world.specs.LiveParcels.{ParcelReceiptsKeepLive, LettersTellWhatWasSent};
 
 pub use la_node::laws::{kept_lists_are_played_again, kept_lists_lead_on};
 
@@ -60,6 +60,13 @@ pub fn calls_keep_live()
 /// receiver.
 pub fn parcel_receipts_keep_live()
     ensures { ParcelReceiptsKeepLive }
+{}
+
+/// The letters of a node's mail ([`Links::letters`](la_node::Links::letters)) are parcels of that mail, told over
+/// other bases of its sets, whatever is known of their receivers: with these nodes are live after the call that
+/// sent it, by `calls_keep_live` or `parcel_receipts_keep_live`.
+pub fn letters_tell_what_was_sent()
+    ensures { LettersTellWhatWasSent }
 {}
 
 /// Nodes are live after any calls of one of them whose mail is lost: so a node that is started again in a state

@@ -14,7 +14,7 @@ use la_acceptor::AcceptorError;
 use la_commit::{MAX_COMMITS, laws};
 use la_proposer::{Heard, MAX_CAP, ProposerError, Votes};
 use la_replica::{
-    Body, Change, Mail, Message, Out, Parcel, Replica, ReplicaError, Said, StoredMessage,
+    Body, Change, Mail, Message, Out, Parcel, Progress, Replica, ReplicaError, Said, StoredMessage,
 };
 use la_set::{Counts, Op, SetError, UpdateSet};
 use smallvec::SmallVec;
@@ -96,6 +96,13 @@ fn messages_are_the_same_alike(message: &Message, other: &Message) -> (bool, boo
     ensures { IsTrue result.0 ↔ IsTrue result.1 }
 {
     (message.same(other), message.same(other))
+}
+
+fn further_is_exact(messages: (Message, Message), accepted: Counts) -> (Message, Message)
+    requires { messages.0 ≡ messages.1 }
+    ensures { result.0 ≡ result.1 }
+{
+    (messages.0.further(accepted), messages.1.further(accepted))
 }
 
 fn sayings_are_one(heard: (Heard, Heard)) -> (Said, Said)
@@ -239,6 +246,26 @@ fn unwrapped_is_exact(replica: &Replica, parcels: (Parcel, Parcel)) -> (Unwraps,
     ensures { IfOk result.0 (λ a. IfOk result.1 (λ b. a ≡ b)) }
 {
     (replica.unwrapped(parcels.0), replica.unwrapped(parcels.1))
+}
+
+// ## Progress
+
+fn no_progress_is_exact() -> (Progress, Progress)
+    ensures { result.0 ≡ result.1 }
+{
+    (Progress::none(), Progress::none())
+}
+
+fn max_is_exact(progress: Progress, other: Progress) -> (Progress, Progress)
+    ensures { result.0 ≡ result.1 }
+{
+    (progress.max(other), progress.max(other))
+}
+
+fn progress_is_exact(replica: &Replica) -> (Progress, Progress)
+    ensures { result.0 ≡ result.1 }
+{
+    (replica.progress(), replica.progress())
 }
 
 // ## Errors

@@ -470,6 +470,12 @@ fn min_is_exact(counts: Counts, other: Counts) -> (Counts, Counts)
     (counts.min(other), counts.min(other))
 }
 
+fn max_is_exact(counts: Counts, other: Counts) -> (Counts, Counts)
+    ensures { result.0 ≡ result.1 }
+{
+    (counts.max(other), counts.max(other))
+}
+
 fn equal_counts_are_one(counts: Counts, other: Counts) -> bool
     ensures { IsTrue result ↔ (counts ≡ other) }
 {
@@ -530,6 +536,13 @@ fn delta_copies_are_one(delta: &Delta) -> Result<(Delta, Delta), AllocError>
     ensures { IfOk result (λ both. both.0 ≡ both.1) }
 {
     Ok((delta.copy()?, delta.copy()?))
+}
+
+fn further_is_exact(delta: Delta, again: Delta, counts: Counts) -> (Delta, Delta)
+    requires { delta ≡ again }
+    ensures { result.0 ≡ result.1 }
+{
+    (delta.further(counts), again.further(counts))
 }
 
 // A delta of a set is what it was made of, however it is kept.

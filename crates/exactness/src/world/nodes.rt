@@ -10,7 +10,7 @@ use la_commit::Outcome;
 use la_node::{Config, Done, Node, Received, WorldError, outcome_by};
 use la_object::{Answer, Query, Replicated, Shelf, ShelfError, State};
 use la_proposer::Votes;
-use la_replica::{Mail, Message, Out, Parcel, ReplicaError};
+use la_replica::{Mail, Message, Out, Parcel, Progress, ReplicaError};
 use la_set::{Op, Tags, UpdateSet};
 use std::alloc::{AllocError, Global};
 
@@ -37,8 +37,8 @@ fn is_group_is_exact(config: &Config) -> (bool, bool)
     (config.is_group(), config.is_group())
 }
 
-// What a node tells of itself: which replica it is, its group, its view and what it learnt last and submitted in an
-// instance, and whether it has an object.
+// What a node tells of itself: which replica it is, its group, how far it is, its view and what it learnt last and
+// submitted in an instance, and whether it has an object.
 fn own_is_exact<B: Replicated>(node: &Node<B>) -> (u8, u8)
     ensures { result.0 ≡ result.1 }
 {
@@ -67,6 +67,12 @@ fn commits_is_exact<B: Replicated>(node: &Node<B>) -> (u8, u8)
     ensures { result.0 ≡ result.1 }
 {
     (node.commits(), node.commits())
+}
+
+fn progress_is_exact<B: Replicated>(node: &Node<B>) -> (Progress, Progress)
+    ensures { result.0 ≡ result.1 }
+{
+    (node.progress(), node.progress())
 }
 
 fn view_is_exact<B: Replicated>(node: &Node<B>) -> (&UpdateSet, &UpdateSet)
