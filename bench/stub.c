@@ -1,6 +1,6 @@
 // A stub that knows beforehand what a node of three writes for a submission of replica 0: it appends each
-// line that a node keeps to a file, has it on the disk, and works nothing out. So what it takes is the broker's,
-// the pipes' and the disk's.
+// line that a node keeps to a file, has it on the disk, and works nothing out; all that it says, also of how far
+// it is, is that of a first update. So what it takes is the broker's, the pipes' and the disk's.
 //
 // usage: stub node --replicas 3 --own R --journal FOLDER
 #include <fcntl.h>
@@ -27,14 +27,14 @@ static void offer(void) {
     snprintf(line, sizeof line, "# r0 submitted 0.%d\n", ++submitted);
     say(line);
     for (int to = 0; to < 3; to++) {
-        snprintf(line, sizeof line, "offer 3 0 %d 0 1 base 0 0 0 0 0 0 0 0;0.1 1 inc 1\n", to);
+        snprintf(line, sizeof line, "offer 3 0 %d 0 1 has 0 view 0 base 0;0.1 1 inc 1\n", to);
         say(line);
     }
 }
 
 static void acknowledge(void) {
     char line[64];
-    snprintf(line, sizeof line, "yes 3 %d 0 0 1\n", own);
+    snprintf(line, sizeof line, "yes 3 %d 0 0 1 has 1 view 0\n", own);
     say(line);
 }
 
@@ -43,8 +43,8 @@ static void count(void) {
         return;
     say("# r0 learnt 0 1 1 0 0 0 0 0 0 0\n");
     say("# r0 view 1 0 0 0 0 0 0 0\n");
-    say("tell 3 0 1 0 1;0.1 1 inc 1\n");
-    say("tell 3 0 2 0 1;0.1 1 inc 1\n");
+    say("tell 3 0 1 0 1 has 1 view 1 base 0;0.1 1 inc 1\n");
+    say("tell 3 0 2 0 1 has 1 view 1 base 0;0.1 1 inc 1\n");
 }
 
 static void follow(void) {

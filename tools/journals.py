@@ -12,7 +12,7 @@ def digest(of: bytes) -> bytes:
 def head(own: int = 0, replicas: int = 1, votes: Sequence[int] = (), commits: int = 0, cap: int = 1_000_000) -> bytes:
     """The first line of a node's journal; one vote each, where none are given."""
     words = " ".join(map(str, votes or (1,) * replicas))
-    text = b"lattice 1 replica %d of %d votes %s commits %d cap %d" % (own, replicas, words.encode(), commits, cap)
+    text = b"lattice 2 replica %d of %d votes %s commits %d cap %d" % (own, replicas, words.encode(), commits, cap)
     return text + b" " + digest(text) + b"\n"
 
 

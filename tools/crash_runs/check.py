@@ -12,11 +12,11 @@ import re
 from collections import Counter, defaultdict, deque
 from dataclasses import dataclass, field
 
-from .lines import FAULTY, REPLICAS, Counts, Malformed, Message, read_counts, read_message, read_note
+from .hearing import Hearing, Told, larger, smaller, within
+from .lines import FAULTY, FORMS, NOTHING, Counts, Malformed, Message, read_counts, read_message, read_note
 from .objects import COUNTER, REGISTER, SET, Named, answer
 
 Entry = tuple[str, int, str]
-NOTHING: Counts = (0,) * REPLICAS
 # No refusal of a group to whose nodes nobody lies.
 NEVER = ("NoSuchReplica", "NoSuchInstance", "NoBase", "Gap", "Clash", "BallotsSpent", "Memory")
 # What a node comes to where a bit of its journal has flipped.
@@ -31,10 +31,6 @@ class Group:
     commits: int
     cap: int
     votes: tuple[int, ...]
-
-
-def within(less: Counts, more: Counts) -> bool:
-    return all(a <= b for a, b in zip(less, more))
 
 
 @dataclass
@@ -53,6 +49,12 @@ class Seen:
     view: Counts = NOTHING
     # Whether no kill may have swallowed a later view.
     exact: bool = True
+    # What it has said that it has accepted in instance 0, and whether no kill may have swallowed more.
+    has: Counts = NOTHING
+    firm: bool = True
+    hearing: Hearing = field(default_factory=Hearing)
+    # To whom it has still to tell for the first time what it learnt last.
+    untold: set[int] = field(default_factory=set)
     # Whether all that it may still be at is passed over, or answered alone.
     passed: bool = True
     # What it has to say of faulty lines.
@@ -98,6 +100,8 @@ class Checker:
 
     def take_start(self, own: int, torn: str) -> None:
         self.nodes[own].line, self.nodes[own].passed = 0, True
+        self.nodes[own].hearing.begin()
+        self.nodes[own].untold.clear()
         if torn != "0":
             self.nodes[own].to_say.append(f"cut {torn}")
 
@@ -114,12 +118,30 @@ class Checker:
         mailed = words[0] in ("offer", "yes", "no", "tell") and words[1:4:2] == here
         if line in FAULTY:
             return node.to_say.append(f"line {node.line}: {FAULTY[line]}")
+        self.hear(own, line)
         node.passed = node.passed and not (mine and words[0] != "ask" or mailed or words == ["tick"])
         if mine:
             node.awaited.append((node.line, words))
         if mine and words[0] == "decide":
             self.proposals[int(words[2]), own].append(int(words[3]))
             self.decides[int(words[2]), own] += 1
+
+    def hear(self, own: int, line: str) -> None:
+        """A node takes note of how far the sender of a line of its group is, whoever that is for."""
+        node = self.nodes[own]
+        try:
+            it = read_message(line) if line.split(" ", 1)[0] in FORMS else None
+        except Malformed:
+            return
+        if it and it.group == self.group.replicas and it.sender < it.group:
+            node.hearing.given(node.line, it)
+            if it.verb == "tell" and it.to == own:
+                node.hearing.told.append(Told(node.line, it, within(it.counts, node.view)))
+
+    def handled(self, own: int, line: int) -> None:
+        """A node has handled all its lines up to this one."""
+        for at in self.nodes[own].hearing.handled(line):
+            self.fault("known", own, f"no answer to the tell of line {at}")
 
     def take_killed(self, own: int, _line: str) -> None:
         node = self.nodes[own]
@@ -128,7 +150,7 @@ class Checker:
         node.ever_lost.update(lost)
         node.awaited.clear()
         node.to_say.clear()
-        node.exact = False
+        node.exact = node.firm = False
         for key in node.kills_since:
             node.kills_since[key] += 1
 
@@ -139,6 +161,7 @@ class Checker:
             self.fault("answers", own, f"none to line {at}, {' '.join(words)}")
         for line in self.nodes[own].to_say:
             self.fault("said", own, f"not said: {line}")
+        self.handled(own, self.nodes[own].line)
         self.nodes[own].awaited.clear()
         self.nodes[own].to_say.clear()
 
@@ -164,7 +187,9 @@ class Checker:
         """Takes the words of the line to which an answer of this kind belongs: the oldest that has none."""
         awaited = self.nodes[own].awaited
         if awaited and awaited[0][1][0] == word:
-            return awaited.popleft()[1]
+            line, words = awaited.popleft()
+            self.handled(own, line)
+            return words
         raise Malformed(f"answers {word}, and the oldest line without an answer is {awaited[0] if awaited else None}")
 
     def note_submitted(self, own: int, replica: str, number: str) -> None:
@@ -193,6 +218,7 @@ class Checker:
         if not node.awaited or node.awaited[0][0] != int(line):
             return self.fault("refused", own, f"line {line}, {name}: {len(node.awaited)} without an answer")
         _, words = node.awaited.popleft()
+        self.handled(own, int(line))
         count = max(node.submitted, default=0) + len(node.lost)
         just = {
             "Full": words[0] == "submit" and count >= self.group.cap,
@@ -238,6 +264,8 @@ class Checker:
         yeses = self.yeses[own, int(instance), int(ballot)]
         if 2 * sum(self.group.votes[it] for it in yeses) <= sum(self.group.votes):
             self.fault("majority", own, f"instance {instance}, ballot {ballot}: by {sorted(yeses)} alone")
+        if instance == "0":
+            self.nodes[own].untold = set(range(self.group.replicas)) - {own}
 
     def learn(self, own: int, instance: int, ballot: int, counts: Counts) -> None:
         """Notes a set that this replica has learnt, as it says itself or by a tell."""
@@ -271,18 +299,56 @@ class Checker:
     def message(self, own: int, it: Message) -> None:
         wrong = it.group != self.group.replicas or it.sender != own or it.to >= it.group
         wrong = wrong or it.instance > 2 * self.group.commits or it.verb == "tell" and it.instance > 0
-        if wrong or it.ballot == 0 or any(replica >= it.group for replica, _, _ in it.updates):
+        wrong = wrong or it.verb != "known" and it.ballot == 0 or any(it.has[it.group :] + it.view[it.group :])
+        if wrong or any(it.counts[it.group :]):
             raise Malformed("not a message of this node")
+        self.progress(own, it)
         for update in it.updates:
             self.content(it.instance, update)
-        if it.verb == "tell":
-            self.learn(own, 0, it.ballot, it.counts)
+        if it.verb == "known":
+            if not self.nodes[own].hearing.answered(it.to, it.view):
+                self.fault("known", own, f"an answer to no tell of {it.to}")
+        elif it.verb == "tell":
+            self.tell(own, it)
         elif it.verb == "offer":
-            before = self.offered.setdefault((own, it.instance, it.ballot), it.counts)
-            if before != it.counts:
-                self.fault("ballots", own, f"instance {it.instance}, ballot {it.ballot}: {before} and {it.counts}")
+            self.offer(own, it)
         else:
             self.reply(own, it)
+
+    def progress(self, own: int, it: Message) -> None:
+        """How far a node says that it is: it never shrinks, and is what it has said of its steps before."""
+        node = self.nodes[own]
+        is_reply = it.verb in ("yes", "no") and it.instance == 0
+        if not within(node.has, it.has) or node.firm and not is_reply and it.has != node.has:
+            self.fault("progress", own, f"has {it.has} after {node.has}")
+        if not within(node.view, it.view) or node.exact and it.view != node.view:
+            self.fault("progress", own, f"view {it.view} after {node.view}")
+        node.has, node.view = larger(node.has, it.has), larger(node.view, it.view)
+        node.firm = node.exact = True
+
+    def tell(self, own: int, it: Message) -> None:
+        """A tell goes over what is known of its receiver's view, and not once more where that has it all."""
+        self.learn(own, 0, it.ballot, it.counts)
+        node = self.nodes[own]
+        must, may = node.hearing.must[it.to].view, node.hearing.may[it.to].view
+        if not within(smaller(must, it.counts), it.base) or not within(it.base, may):
+            self.fault("base", own, f"a tell to {it.to} over {it.base}, of which is known {must} to {may}")
+        if it.to in node.untold:
+            node.untold.remove(it.to)
+        elif within(it.counts, must):
+            self.fault("again", own, f"a tell of {it.counts} to {it.to}, whose view has {must}")
+
+    def offer(self, own: int, it: Message) -> None:
+        """An offer goes over what its receiver has said that it has accepted, in instance 0 on whatever line."""
+        before = self.offered.setdefault((own, it.instance, it.ballot), it.counts)
+        if before != it.counts:
+            self.fault("ballots", own, f"instance {it.instance}, ballot {it.ballot}: {before} and {it.counts}")
+        hearing = self.nodes[own].hearing
+        must = hearing.must[it.to].has if it.instance == 0 else NOTHING
+        may = hearing.ever[it.to].has if it.instance == 0 else self.accepted.get((it.to, it.instance), NOTHING)
+        if not within(smaller(must, it.counts), it.base) or not within(it.base, may):
+            what = f"an offer in instance {it.instance} to {it.to} over {it.base}"
+            self.fault("base", own, f"{what}, of which is known {must} to {may}")
 
     def reply(self, own: int, it: Message) -> None:
         """An acceptor's reply; what it has accepted only grows."""
@@ -293,10 +359,14 @@ class Checker:
         now = offered if it.verb == "yes" else it.counts
         if not within(before, now):
             self.fault("accepted", own, f"instance {it.instance}: {it.verb} to {now} after {before}")
+        if it.instance == 0 and now != it.has:
+            self.fault("progress", own, f"has {it.has} at {it.verb} to {now}")
         if it.verb == "yes":
             self.yeses[it.to, it.instance, it.ballot].add(own)
         elif not within(offered, now) or now == offered:
             self.fault("replies", own, f"no to {offered} with {now}")
+        elif it.base != offered:
+            self.fault("base", own, f"a no to {offered} over {it.base}")
         self.accepted[own, it.instance] = now
 
     def content(self, instance: int, update: tuple[int, int, str]) -> None:

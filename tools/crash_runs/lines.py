@@ -9,8 +9,19 @@ NUMBER = "(0|[1-9][0-9]{0,19})"
 TAGS = rf"( {NUMBER}\.{NUMBER}){{0,64}}"
 OBJECTS = rf"inc {NUMBER}|dec {NUMBER}|raise {NUMBER}|put {NUMBER}|remove{TAGS}|mark"
 UPDATE = re.compile(rf"{NUMBER}\.{NUMBER} ({NUMBER} (?:{OBJECTS}|vote {NUMBER}|sole {NUMBER}))")
-HEAD = re.compile(rf"(offer|yes|no|tell) {NUMBER} {NUMBER} {NUMBER} {NUMBER} {NUMBER}")
-BASE = re.compile(rf" base((?: {NUMBER}){{{REPLICAS}}})")
+# Of each kind of line, how many numbers stand behind the word, and behind which words then counts do.
+FORMS = {
+    "offer": (5, ("has", "view", "base")),
+    "yes": (5, ("has", "view")),
+    "no": (5, ("has", "view", "base")),
+    "tell": (5, ("has", "view", "base")),
+    "known": (3, ("has", "view")),
+}
+HEADS = {
+    verb: re.compile(verb + f" {NUMBER}" * numbers + "".join(f" {it} ([0-9,]+)" for it in words))
+    for verb, (numbers, words) in FORMS.items()
+}
+WORD = re.compile(r"0|(?:(?:0|[1-9][0-9]*),){0,7}[1-9][0-9]*")
 TOTAL = "total (?:0|-?[1-9][0-9]*)"
 ANSWER = rf"{TOTAL}|largest {NUMBER}|(?:has|reached) (?:yes|no)|size {NUMBER}|items \[[0-9 ]*\]|foreign"
 COUNTS = rf"((?: {NUMBER}){{{REPLICAS}}})"
@@ -30,12 +41,18 @@ FAULTY = {
     "submit 0 1 inc 05": "BadNumber",
     "submit 0 1 inc 4294967296": "BadNumber",
     "deliver 0": "BadLine",
-    "tell 3 0 1 0 1;0.2 1 inc 5": "BadSet",
+    "tell 3 0 1 0 1;0.2 1 inc 5": "BadLine",
     " tick": "BadLine",
-    "yes 3 1 0 0 5;": "BadLine",
+    "yes 3 1 0 0 5 has 9 view 9;": "BadLine",
+    "yes 3 1 0 0 5 view 9 has 9": "BadLine",
+    "offer 3 1 0 0 5 has 9,9 view 9 base 0,;1.1 1 inc 5": "BadNumber",
+    "no 3 2 0 0 5 has 9,9,9,9,9,9,9,9,9 view 9 base 0": "BadNumber",
+    "known 3 1 0 has 9": "BadLine",
+    "known 3 1 0 has 9 view 9 base 9": "BadLine",
 }
 
 Counts = tuple[int, ...]
+NOTHING: Counts = (0,) * REPLICAS
 # An update's replica and number, and what it does: its object and operation, as written.
 Update = tuple[int, int, str]
 
@@ -46,7 +63,8 @@ class Malformed(Exception):
 
 @dataclass(frozen=True)
 class Message:
-    """A message; of a Yes base and updates are empty."""
+    """A message, or what is told by `known`, which has no instance and no ballot. How far its sender is: `has`, what
+    that has accepted in instance 0, and its `view`. Of a Yes and of a `known` base and updates are empty."""
 
     verb: str
     group: int
@@ -54,6 +72,8 @@ class Message:
     to: int
     instance: int
     ballot: int
+    has: Counts
+    view: Counts
     base: Counts
     updates: tuple[Update, ...]
 
@@ -69,6 +89,14 @@ class Message:
 def read_counts(text: str) -> Counts:
     """Numbers of updates of replicas 0 to 7."""
     return tuple(int(it) for it in text.split())
+
+
+def read_word(word: str) -> Counts:
+    """The same as one word, as a node writes it: up to the last that is not 0, at least one."""
+    if not WORD.fullmatch(word):
+        raise Malformed(f"no counts: {word}")
+    found = tuple(int(it) for it in word.split(","))
+    return found + (0,) * (REPLICAS - len(found))
 
 
 def read_updates(base: Counts, parts: list[str]) -> tuple[Update, ...]:
@@ -87,21 +115,18 @@ def read_updates(base: Counts, parts: list[str]) -> tuple[Update, ...]:
 
 
 def read_message(line: str) -> Message:
-    """A message by its line."""
+    """A message by its line, or how far another is."""
     head, *parts = line.split(";")
-    match = HEAD.match(head)
+    verb = head.split(" ", 1)[0]
+    match = HEADS[verb].fullmatch(head) if verb in HEADS else None
     if not match:
         raise Malformed("no message")
-    verb, rest, base = match[1], head[match.end():], (0,) * REPLICAS
-    if verb in ("offer", "no"):
-        based = BASE.fullmatch(rest)
-        if not based:
-            raise Malformed(f"no base: {rest}")
-        base = read_counts(based[1])
-    elif rest or verb == "yes" and parts:
+    if verb in ("yes", "known") and parts:
         raise Malformed(f"more than a {verb}")
-    group, sender, to, instance, ballot = (int(it) for it in match.groups()[1:])
-    return Message(verb, group, sender, to, instance, ballot, base, read_updates(base, parts))
+    count = FORMS[verb][0]
+    group, sender, to, instance, ballot = (*(int(it) for it in match.groups()[:count]), 0, 0)[:5]
+    has, view, base = (*(read_word(it) for it in match.groups()[count:]), NOTHING)[:3]
+    return Message(verb, group, sender, to, instance, ballot, has, view, base, read_updates(base, parts))
 
 
 def read_note(line: str, own: int) -> tuple[str, tuple[str, ...]]:

@@ -93,7 +93,10 @@ class Run:
         other = (own + 1) % self.group.replicas
         mail = [it for it in self.pool if receiver(it) != own]
         elsewhere = ["", "# tick", f"# r{other} view 1 1 1 1 1 1 1 1", f"submit {other} 1 inc 7", f"decide {other} 0 9"]
-        elsewhere += [f"ask {other} 1 total", f"yes {self.group.replicas % 8 + 1} {other} {own} 0 1"]
+        # What lines of another group say of it is none of this one's.
+        far, group = "has 99,99,99 view 99,99,99", self.group.replicas
+        elsewhere += [f"yes {group % 8 + 1} {other} {own} 0 1 {far}", f"known {group % 8 + 1} {other} {own} {far}"]
+        elsewhere += [f"ask {other} 1 total", f"known {group} {other} {own} has 0 view 0"]
         elsewhere += self.draw.sample(mail, min(3, len(mail)))
         return self.draw.choice((*elsewhere, *FAULTY))
 

@@ -5,17 +5,6 @@ use Rattle.la_node.specs.declared.error.WorldError.{WorldError}
 use Rattle.la_node.specs.declared.error.WorldError.TheVariants as world
 use Rattle.la_durable.specs.Errors.{by_replica, by_proposal, OfReplica, OfProposal, OfCopied, IfHere}
 
-pub named_by_replica : (Is : ReplicaError → Type 0) (here : Type 0) (e : ReplicaError) → here → Is e
-    → IfHere here (OfReplica Is) (by_replica e)
-named_by_replica Is here replica.Memory h is = (h, is)
-named_by_replica Is here replica.NoSuchReplica h is = (h, is)
-named_by_replica Is here replica.NoSuchInstance h is = (h, is)
-named_by_replica Is here replica.Full h is = (h, is)
-named_by_replica Is here replica.NoBase h is = (h, is)
-named_by_replica Is here replica.Gap h is = (h, is)
-named_by_replica Is here (replica.Clash id) h is = (h, is)
-named_by_replica Is here replica.BallotsSpent h is = (h, is)
-
 pub named_by_proposal : (Is : WorldError → Type 0) (here : Type 0) (e : WorldError) → here → Is e
     → IfHere here (OfProposal Is) (by_proposal e)
 named_by_proposal Is here world.Memory h is = (h, is)

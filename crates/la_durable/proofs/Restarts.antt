@@ -1,7 +1,7 @@
 -- Lines that were taken, one after another, as calls of a node.
-use Rattle.std.proofs.Common.{◌≡◌, ℕ, zero, suc, List, [], ◌∷◌, take, drop, take-append-drop, fold, Contains, Option, Some, None, option_map, option_and_then, refl, sym, ap, subst, ◌∙◌, inl, inr, arith}
-use Rattle.std.proofs.lemmas.Option.{none-some}
-use Rattle.std.proofs.lemmas.List.Elements.{Contains-append_left, Contains-append_right, Contains-append_cases}
+use Rattle.std.proofs.Common.{◌≡◌, List, [], ◌∷◌, take, drop, take-append-drop, Contains, Option, Some, None, option_map, option_and_then, refl, sym, ap, subst, ◌∙◌, arith}
+use Rattle.std.proofs.lemmas.Option.{none-some, same_Some}
+use Rattle.std.proofs.lemmas.List.Elements.{Contains-append_left, Contains-append_right}
 use Rattle.la_journal.specs.Machine.{steps, steps_from}
 use Rattle.la_replica.specs.ReplicaState.{ReplicaState}
 use Rattle.la_node.specs.Calls.{NodeCall}
@@ -11,7 +11,7 @@ use Rattle.la_wire.specs.Calls.{WireCall}
 use Rattle.la_wire.specs.CallLines.{named_call}
 use Rattle.la_durable.specs.CallLines.{CallLine}
 use Rattle.la_durable.specs.Nodes.{node_call, acts, acts_by, step, LinesGrowViews}
-use Rattle.la_durable.specs.Restarts.{IsCallOf, LeadsByCalls, RestartsTakeCalls}
+use Rattle.la_durable.specs.Restarts.{LeadBetween, RestartsTakeCalls}
 
 -- ## One step
 
@@ -57,69 +57,53 @@ nowhere : (lines : List CallLine) (next : ReplicaState) → steps_from step line
 nowhere [] next e = none-some next e
 nowhere (c ∷ lines) next e = nowhere lines next e
 
-within_more : (c : CallLine) (lines : List CallLine) (call : NodeCall) → IsCallOf lines call → IsCallOf (c ∷ lines) call
-within_more c lines call is = record {
-  line = is.line;
-  among = Contains-append_right (c ∷ []) lines is.line is.among;
-  says = is.says;
-  named = is.named;
-  replica = is.replica;
-  is = is.is;
-}
+within : (some all : List CallLine) → ((c : CallLine) → Contains some c → Contains all c) → (calls : List NodeCall)
+    → (r after : ReplicaState) → LeadBetween some calls r after → LeadBetween all calls r after
+within some all more [] r after is = is
+within some all more (call ∷ calls) r after is = (
+  record {
+    line = is.0.line;
+    among = more is.0.line is.0.among;
+    says = is.0.says;
+    named = is.0.named;
+    is = is.0.is;
+  },
+  (is.1.0, is.1.1, within some all more calls is.1.0 after is.1.2),
+)
 
-the_one : (a b : NodeCall) → Contains (a ∷ []) b → a ≡ b
-the_one a b (zero, lt, is) = is
-the_one a b (suc n, lt, is) = absurd (omega arith)
+-- what lines lead to, by calls
+abbrev LeadByCalls : List CallLine → (r after : ReplicaState) → Type 0
+LeadByCalls lines r after = (calls : List NodeCall) × LeadBetween lines calls r after
 
 one_more : (r : ReplicaState) (c : CallLine) (lines : List CallLine) (next after : ReplicaState) → IsTaken r c next
-    → LeadsByCalls lines next after → LeadsByCalls (c ∷ lines) r after
-one_more r c lines next after is more =
-    let here : IsCallOf (c ∷ lines) is.action =
-    record { line = c; among = (0, omega arith, refl); says = is.call; named = is.names; replica = r; is = is.is } in
-    record {
-      calls = is.action ∷ more.calls;
-      of = λ call has. elim (Contains-append_cases (is.action ∷ []) more.calls call has) [
-        | inl one ↦ subst (IsCallOf (c ∷ lines)) (the_one is.action call one) here
-        | inr later ↦ within_more c lines call (more.of call later)
-      ];
-      leads = ap (λ o. fold (λ o call. option_and_then (λ s. after_call s call) o) o more.calls) is.leads ∙ more.leads;
-    }
+    → LeadByCalls lines next after → LeadByCalls (c ∷ lines) r after
+one_more r c lines next after is more = (
+  is.action ∷ more.0,
+  (
+    record { line = c; among = (0, omega arith, refl); says = is.call; named = is.names; is = is.is },
+    (next, is.leads, within lines (c ∷ lines) (Contains-append_right (c ∷ []) lines) more.0 next after more.1),
+  ),
+)
 
--- what the rest leads to by calls, after a first step
-abbrev Leads : List CallLine → Type 0
-Leads lines = (r after : ReplicaState) → steps step lines r ≡ Some after → LeadsByCalls lines r after
-
-first_then : (c : CallLine) (lines : List CallLine) → Leads lines → (r after : ReplicaState) (o : Option ReplicaState)
-    → step r c ≡ o → steps_from step lines o ≡ Some after → LeadsByCalls (c ∷ lines) r after
+first_then : (c : CallLine) (lines : List CallLine)
+    → ((r after : ReplicaState) → steps step lines r ≡ Some after → LeadByCalls lines r after)
+    → (r after : ReplicaState) (o : Option ReplicaState) → step r c ≡ o → steps_from step lines o ≡ Some after
+    → LeadByCalls (c ∷ lines) r after
 first_then c lines more r after None came rest = absurd (nowhere lines after rest)
 first_then c lines more r after (Some next) came rest =
     one_more r c lines next after (taken r c next came) (more next after rest)
 
-by_lines : (lines : List CallLine) → Leads lines
-by_lines [] r after e = record { calls = []; of = λ call has. absurd (omega (arith, has.1)); leads = e }
+by_lines : (lines : List CallLine) (r after : ReplicaState) → steps step lines r ≡ Some after
+    → LeadByCalls lines r after
+by_lines [] r after e = ([], same_Some r after e)
 by_lines (c ∷ lines) r after e = first_then c lines (by_lines lines) r after (step r c) refl e
-
--- lines that are some first ones are lines of all
-first_some : (k : ℕ) (lines : List CallLine) (r after : ReplicaState) → LeadsByCalls (take k lines) r after
-    → LeadsByCalls lines r after
-first_some k lines r after is = record {
-  calls = is.calls;
-  of = λ call has. wider (is.of call has);
-  leads = is.leads;
-}
-  where
-    wider : {call : NodeCall} → IsCallOf (take k lines) call → IsCallOf lines call
-    wider of = record {
-      line = of.line;
-      among =
-          subst (λ ls. Contains ls of.line) (take-append-drop k lines)
-          (Contains-append_left (take k lines) (drop k lines) of.line of.among);
-      says = of.says;
-      named = of.named;
-      replica = of.replica;
-      is = of.is;
-    }
 
 pub restarts : RestartsTakeCalls
 restarts start r after handed file leads to =
-    first_some leads.0 handed r after (by_lines (take leads.0 handed) r after (sym leads.2 ∙ to))
+    let first = by_lines (take leads.0 handed) r after (sym leads.2 ∙ to) in (
+      first.0,
+      within (take leads.0 handed) handed
+          (λ c has. subst (λ ls. Contains ls c) (take-append-drop leads.0 handed)
+          (Contains-append_left (take leads.0 handed) (drop leads.0 handed) c has))
+          first.0 r after first.1,
+    )

@@ -6,10 +6,11 @@ use Rattle.la_node.specs.declared.error.WorldError.{WorldError}
 use Rattle.la_node.specs.declared.error.WorldError.TheVariants as world
 use Rattle.la_durable.specs.declared.error.NodeError.{NodeError}
 use Rattle.la_durable.specs.declared.error.NodeError.TheVariants.{Elsewhere, Unkept, Replica, Proposal, Memory}
-use Rattle.la_replica.specs.Refusals.{IsSubmitRefusal, IsReceiptRefusal}
+use Rattle.la_replica.specs.Refusals.{IsSubmitRefusal}
+use Rattle.la_replica.specs.Parcels.{IsParcelRefusal}
 use Rattle.la_node.specs.Nodes.{IsProposeRefusal}
 use Rattle.la_replica.specs.ReplicaState.{ReplicaState}
-use Rattle.la_wire.specs.declared.letter.Letter.{Letter}
+use Rattle.la_node.specs.declared.link.Letter.{Letter}
 use Rattle.la_wire.specs.declared.calls.Call as code
 use Rattle.la_wire.specs.declared.calls.Call.TheVariants as call
 
@@ -38,7 +39,7 @@ OfProposal Is (Proposal e) = Is e
 OfProposal Is Memory = Is world.Memory
 OfProposal Is _ = ⊥
 
--- the same of an operation that is copied first: memory may run out whatever else fits
+-- the same of an operation or a parcel that is copied first: memory may run out whatever else fits
 abbrev pub OfCopied : (NodeError → Type 0) → NodeError → Type 0
 OfCopied Is Memory = Unit {0}
 OfCopied Is e = Is e
@@ -61,11 +62,12 @@ RefusesProposal r replica commit = IfHere (replica ≡ r.own) (OfProposal (IsPro
 
 abbrev pub RefusesLetter : ReplicaState → Letter → NodeError → Type 0
 RefusesLetter r letter =
-    IfHere (letter.replicas ≡ length r.votes) (OfReplica (IsReceiptRefusal r letter.message))
+    IfHere (letter.replicas ≡ length r.votes) (OfCopied (OfReplica (IsParcelRefusal r letter.parcel)))
 
 abbrev pub IsActRefusal : ReplicaState → code.Call → NodeError → Type 0
 IsActRefusal r (call.Submit replica object op) e = RefusesSubmission r replica e
 IsActRefusal r (call.Decide replica commit value) e = RefusesProposal r replica commit e
 IsActRefusal r (call.Ask replica object query) e = IsNeverKept e
 IsActRefusal r call.Tick e = IsNeverKept e
+IsActRefusal r (call.Known standing) e = IsNeverKept e
 IsActRefusal r (call.Receive letter) e = RefusesLetter r letter e

@@ -1,5 +1,6 @@
 -- The head of a node's journal: of which replica it is, and all that its group was made with.
-use Rattle.std.specs.Prelude.{◌≡◌, ℕ, zero, suc, ◌+◌, ◌/◌, ◌%◌, ◌<◌, ◌==◌, Bool, true, false, List, [], ◌∷◌, ◌++◌, codes, length, if◌then◌else◌, refl}
+use Rattle.std.specs.Prelude.{◌≡◌, ℕ, zero, suc, ◌+◌, ◌/◌, ◌%◌, ◌<◌, ◌==◌, Bool, true, false, List, [], ◌∷◌, ◌++◌}
+use Rattle.std.specs.Prelude.{codes, length, if◌then◌else◌, refl}
 use Rattle.std.specs.Fmt.{decimal, digits, digits_onto, digit_glyph}
 use Rattle.std.proofs.Common.{arith}
 use Rattle.std.proofs.lemmas.Bool.Decides.{nat_tests}
@@ -22,7 +23,7 @@ group_text r =
 
 -- the format and its version, the replica's number, and its group
 abbrev pub node_head : ReplicaState → List ℕ
-node_head r = codes "lattice 1" ++ (word_number (codes " replica ") r.own ++ group_text r)
+node_head r = codes "lattice 2" ++ (word_number (codes " replica ") r.own ++ group_text r)
 
 -- ## It may stand as a line
 
@@ -76,5 +77,5 @@ group_is_clean r =
 pub head_is_clean : (r : ReplicaState) → IsClean (node_head r)
 head_is_clean r =
     let own = word_number (codes " replica ") r.own ++ group_text r in
-    clean_append (codes "lattice 1") own (clean_bytes (codes "lattice 1") refl)
+    clean_append (codes "lattice 2") own (clean_bytes (codes "lattice 2") refl)
     (number_then (codes " replica ") r.own (group_text r) refl (group_is_clean r))

@@ -1,17 +1,22 @@
 -- A node as a machine: what it keeps is its replica, and what it makes of a line.
-use Rattle.std.specs.Prelude.{◌≡◌, ◌==◌, [], length, Option, Some, None, option_map, option_and_then, if◌then◌else◌}
+use Rattle.std.specs.Prelude.{◌≡◌, ◌==◌, List, [], length, Option, Some, None, option_map, option_and_then}
+use Rattle.std.specs.Prelude.{if◌then◌else◌}
+use Rattle.la_set.specs.declared.counts.Counts.{Counts}
+use Rattle.la_set.specs.declared.update.Update.{Update}
+use Rattle.la_set.specs.Deltas.{DeltaState}
 use Rattle.la_set.specs.Histories.{empty}
 use Rattle.la_set.specs.Inclusion.{IsSubset}
 use Rattle.la_proposer.specs.ProposerState.{op_on}
 use Rattle.la_object.specs.Shelves.{ShelfState}
-use Rattle.la_replica.specs.declared.message.Message as code
-use Rattle.la_replica.specs.declared.message.Body as code_body
-use Rattle.la_replica.specs.declared.message.Body.TheVariants as body
+use Rattle.la_replica.specs.declared.parcel.Parcel.{Parcel}
+use Rattle.la_replica.specs.declared.parcel.Content.{Content}
+use Rattle.la_replica.specs.declared.parcel.Content.TheVariants as content
 use Rattle.la_replica.specs.ReplicaState.{ReplicaState}
-use Rattle.la_node.specs.Calls.{NodeCall, Submitted, Proposed, Received}
+use Rattle.la_node.specs.Calls.{NodeCall, Submitted, Proposed}
+use Rattle.la_node.specs.Accepting.{parcel_call}
 use Rattle.la_node.specs.Steps.{Given, node_step}
 use Rattle.la_wire.specs.Messages.{WireMessage, WireBody, Offer, Yes, No, Tell}
-use Rattle.la_wire.specs.Calls.{WireCall, Submit, Decide, Ask, Tick, Receive}
+use Rattle.la_wire.specs.Calls.{WireCall, Submit, Decide, Ask, Tick, Receive, Known}
 use Rattle.la_wire.specs.CallLines.{named_call}
 use Rattle.la_durable.specs.declared.machine.NodeMachine.{NodeMachine}
 use Rattle.la_durable.specs.CallLines.{CallLine}
@@ -26,29 +31,34 @@ empty_shelf = record { view = empty; objects = [] }
 
 -- ## A call of a line, as this node takes it
 
--- a message that says this: its delta is a list's
-abbrev pub replica_body : WireBody → code_body.Body
-replica_body (Offer base more) = body.Offer (record { base = base; more = more; made_of = None })
-replica_body Yes = body.Yes
-replica_body (No base more) = body.No (record { base = base; more = more; made_of = None })
-replica_body (Tell told) = body.Tell told
+-- a parcel that says this: its delta is a list's
+abbrev pub listed_over : Counts → List Update → DeltaState
+listed_over base more = record { base = base; more = more; made_of = None }
 
-abbrev pub replica_message : WireMessage → code.Message
-replica_message m = record {
+abbrev pub content_of : WireBody → Content
+content_of (Offer base more) = content.Offer (listed_over base more)
+content_of Yes = content.Yes
+content_of (No base more) = content.No (listed_over base more)
+content_of (Tell base more) = content.Tell (listed_over base more)
+
+abbrev pub parcel_of : WireMessage → Parcel
+parcel_of m = record {
   instance = m.instance;
   from = m.from;
   to = m.to;
   ballot = m.ballot;
-  body = replica_body m.body;
+  content = content_of m.body;
 }
 
--- a call as a node of this replica takes it: not one that is for another replica or group, or changes nothing
+-- a call as a node of this replica takes it: not one that is for another replica or group, or changes nothing, or tells
+-- a set that stands for nothing over its view
 abbrev pub node_call : ReplicaState → WireCall → Option NodeCall
 node_call r (Submit replica object op) = if replica == r.own then Some (Submitted (op_on object op)) else None
 node_call r (Decide replica commit value) = if replica == r.own then Some (Proposed commit value) else None
 node_call r (Ask replica object query) = None
 node_call r Tick = None
-node_call r (Receive m) = if m.replicas == length r.votes then Some (Received (replica_message m)) else None
+node_call r (Known standing) = None
+node_call r (Receive m) = if m.replicas == length r.votes then parcel_call r (parcel_of m) else None
 
 -- ## A step
 

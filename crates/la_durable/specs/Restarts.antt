@@ -1,10 +1,10 @@
 -- A node that was started again after a crash.
-use Rattle.std.specs.Prelude.{◌≡◌, ℕ, List, Contains, Option, Some, None}
+use Rattle.std.specs.Prelude.{◌≡◌, ℕ, List, [], ◌∷◌, Contains, Option, Some, None}
 use Rattle.la_journal.specs.Machine.{LeadsToSome}
 use Rattle.la_journal.specs.Machine as journal
 use Rattle.la_replica.specs.ReplicaState.{ReplicaState}
 use Rattle.la_node.specs.Calls.{NodeCall}
-use Rattle.la_node.specs.Steps.{after_calls}
+use Rattle.la_node.specs.Steps.{after_call}
 use Rattle.la_wire.specs.Calls.{WireCall}
 use Rattle.la_wire.specs.CallLines.{named_call}
 use Rattle.la_durable.specs.CallLines.{CallLine, call_line}
@@ -15,25 +15,26 @@ use Rattle.la_durable.specs.Nodes.{node_call, step}
 abbrev pub leads_from : ReplicaState → List ℕ → Option ReplicaState
 leads_from start = journal.state_after node_head (λ _. None) call_line step start
 
--- a line of these says this call, to some replica
-pub record IsCallOf (handed : List CallLine) (call : NodeCall) : Type 0 where
+-- a line of these says this call to a replica
+pub record IsCallOf (handed : List CallLine) (replica : ReplicaState) (call : NodeCall) : Type 0 where
   pub line : CallLine
   pub among : Contains handed line
   pub says : WireCall
   pub named : named_call line.line ≡ Some says
-  pub replica : ReplicaState
   pub is : node_call replica says ≡ Some call
 
--- these are calls of these lines, and lead from one replica to another
-pub record LeadsByCalls (handed : List CallLine) (before after : ReplicaState) : Type 0 where
-  pub calls : List NodeCall
-  pub of : (call : NodeCall) → Contains calls call → IsCallOf handed call
-  pub leads : after_calls before calls ≡ Some after
+-- these calls lead from one replica to another, each of which a line of these says to the replica that it comes to
+abbrev pub LeadBetween : (handed : List CallLine) → List NodeCall → (before after : ReplicaState) → Type 0
+LeadBetween handed [] before after = before ≡ after
+LeadBetween handed (call ∷ calls) before after =
+    IsCallOf handed before call
+    × ((next : ReplicaState) × (after_call before call ≡ Some next) × LeadBetween handed calls next after)
 
 -- A node's replica was this when it last gave something out. It was then handed these lines, and crashed. Started
--- again on a file that leads to where the first some of them lead, it is where calls of theirs lead.
+-- again on a file that leads to where the first some of them lead, it is where calls of theirs lead, one after another.
 abbrev pub RestartsTakeCalls : Type 0
 RestartsTakeCalls =
     (start replica after : ReplicaState) (handed : List CallLine) (file : List ℕ) →
     LeadsToSome (leads_from start) step handed replica file →
-    leads_from start file ≡ Some after → LeadsByCalls handed replica after
+    leads_from start file ≡ Some after →
+    (calls : List NodeCall) × LeadBetween handed calls replica after

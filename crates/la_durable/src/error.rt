@@ -15,7 +15,7 @@ pub enum NodeError {
     #[error("for another node")]
     Elsewhere,
 
-    /// The call is a question or the timer's: these change nothing, and are not kept.
+    /// The call is a question, the timer's, or tells how far another is: these change nothing, and are not kept.
     #[error("not a call that is kept")]
     Unkept,
 

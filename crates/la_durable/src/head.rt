@@ -36,7 +36,7 @@ fn put_votes(text: &mut Vec<u8>, votes: &Votes) -> Result<(), AllocError>
 pub(crate) fn head_of(alloc: Global, node: &Node<Counter>) -> Result<Vec<u8>, AllocError>
     ensures { IfOk result (λ text. text.items ≡ node_head node.now.replica) }
 {
-    let mut text = b"lattice 1".to_vec(alloc)?;
+    let mut text = b"lattice 2".to_vec(alloc)?;
     put_number(&mut text, b" replica ", u64::from(node.own()))?;
     put_number(&mut text, b" of ", u64::from(node.replicas()))?;
     text.extend_from_slice(b" votes")?;

@@ -4,8 +4,8 @@ ghost use Rattle.la_durable.specs.Restarts.{RestartsTakeCalls};
 
 /// A node that is started again, on what a crash left at any moment of the calls that it was handed since it
 /// last gave something out ([`la_journal::laws`], clauses `any_moment` and `leads`), is where some calls of
-/// these lines lead, whose mail is lost. So its group is live with it (`la_world::live`,
-/// `unheard_calls_keep_live`): a crash is no event of a group.
+/// these lines lead, one after another, whose mail is lost. So its group is live with it (`la_world::live`,
+/// `unheard_calls_keep_live`, `parcel_receipts_keep_live`): a crash is no event of a group.
 pub fn restarts_take_calls()
     ensures { RestartsTakeCalls }
 {}

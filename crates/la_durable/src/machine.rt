@@ -45,7 +45,8 @@ impl NodeMachine {
     /// Takes a call, without any journal: a submission, a proposal or a message, at the cost of the node's.
     ///
     /// In this order: `Unkept`; `Elsewhere`; what the node refuses, `Memory` where nothing else fits; but a
-    /// submission's operation is copied first, so that `Memory` may come before the cap is looked at.
+    /// submission's operation and a letter's parcel are copied first, so that `Memory` may come before anything
+    /// else is looked at.
     pub fn act(&mut self, call: &Call) -> Result<Received, NodeError>
         ensures ok { IfOk result (λ given.
             acts (kept_by self.old) (called call.now) ≡ Some (given_of given, kept_by self.new)) }
@@ -71,6 +72,7 @@ impl NodeMachine {
                 query: _,
             } => Err(NodeError::Unkept),
             Call::Tick => Err(NodeError::Unkept),
+            Call::Known(_) => Err(NodeError::Unkept),
         }
     }
 
@@ -112,7 +114,7 @@ impl NodeMachine {
         }
     }
 
-    #[tactic(auto, using(crate::proofs::Acting::message_elsewhere, crate::proofs::Acting::refusal_of_message, crate::proofs::Naming::named_by_replica))]
+    #[tactic(auto, using(crate::proofs::Acting::message_elsewhere, crate::proofs::Acting::refusal_of_message, crate::proofs::Naming::named_of_copied))]
     fn receive(&mut self, letter: &Letter) -> Result<Received, NodeError>
         ensures ok { IfOk result (λ given.
             acts (kept_by self.old) (Receive (letter_message letter.now))
@@ -125,7 +127,7 @@ impl NodeMachine {
         if letter.replicas != self.node.replicas() {
             return Err(NodeError::Elsewhere);
         }
-        match self.node.receive(&letter.message) {
+        match self.node.receive_parcel(letter.parcel.copy()?) {
             Ok(received) => Ok(received),
             Err(refused) => Err(NodeError::from(refused)),
         }

@@ -1,17 +1,20 @@
 -- What the journal says of lines that were taken.
-use Rattle.std.proofs.Common.{◌≡◌, ◌⊎◌, inl, inr, ℕ, ◌+◌, ◌||◌, Bool, true, false, List, [], ◌∷◌, ◌++◌, length, map, refl, sym, ap, subst, ◌∙◌, Option, Some, None, option_map, nat_lt}
+use Rattle.std.proofs.Common.{◌≡◌, ◌⊎◌, inl, inr, ℕ, ◌+◌, Bool, true, false, List, [], ◌∷◌, ◌++◌, length, map, refl}
+use Rattle.std.proofs.Common.{sym, ap, subst, ◌∙◌, Option, Some, None, option_map, nat_lt}
 use Rattle.la_object.specs.declared.kind.Kind.{Kind}
 use Rattle.la_object.specs.declared.query.Answer.{Answer}
 use Rattle.la_journal.specs.Machine.{steps, steps_from}
 use Rattle.la_io.specs.declared.source.TheConstants.{MAX_LINE}
 use Rattle.la_wire.specs.declared.error.LineFault.TheVariants.{TooLong}
-use Rattle.la_wire.specs.Calls.{WireCall, Submit, Decide, Ask, Tick, Receive}
+use Rattle.la_wire.specs.Calls.{WireCall, Submit, Decide, Ask, Tick, Receive, Known}
 use Rattle.la_wire.specs.CallLines.{named_call}
 use Rattle.la_durable.specs.declared.error.NodeError.TheVariants.{Memory}
 use Rattle.la_node.specs.Steps.{Given}
 use Rattle.la_durable.specs.Nodes.{acts_by, step}
 use Rattle.la_durable.specs.CallLines.{CallLine, is_line}
-use Rattle.la_serve.specs.Turns.{Turn, only_writes, turn_refused, faulty, question_answered, question, is_note, is_elsewhere, is_stale, OneOf, IsCallTaken, IsStarved, IsKeptTurn, IsTurnHere, SaysCall, IsShortTurn, IsTurn}
+use Rattle.la_serve.specs.Turns.{Turn, only_writes, turn_refused, faulty, question_answered, question, is_note}
+use Rattle.la_serve.specs.Turns.{is_elsewhere, is_stale, OneOf, IsCallTaken, IsStarved, IsKeptTurn, IsTurnHere}
+use Rattle.la_serve.specs.Turns.{SaysCall, IsShortTurn, IsTurn}
 use Rattle.la_serve.specs.Said.{answer_by}
 use Rattle.la_serve.specs.Serving.{AreTurns, kept_lines}
 use Rattle.la_replica.specs.ReplicaState.{ReplicaState}
@@ -66,10 +69,15 @@ module _ (objects : List (ℕ × Kind)) (n : ReplicaState) (k : ℕ) (t : Turn) 
   here_goes (Ask replica object query) stands says (inr is) = starved_goes is
   here_goes Tick stands says (inl again) = inl (still n t _ again.turn (refl, refl))
   here_goes Tick stands says (inr is) = starved_goes is
-  here_goes (Receive m) stands says is = kept_goes (Receive m) stands says is
+  here_goes (Receive m) stands says is = elim (one_of (is_stale n m) is) [
+    | inl (inl back) ↦ inl (still n t _ back (refl, refl))
+    | inl (inr starved) ↦ starved_goes starved
+    | inr kept ↦ kept_goes (Receive m) stands says kept
+  ]
+  here_goes (Known standing) stands says is = inl (still n t (only_writes n t.line []) is (refl, refl))
 
   says_goes : SaysCall objects n k t → Goes n t
-  says_goes s = elim (one_of (is_elsewhere n s.call || is_stale n s.call) s.turn) [
+  says_goes s = elim (one_of (is_elsewhere n s.call) s.turn) [
     | inl passed ↦ inl (still n t (only_writes n t.line []) passed (refl, refl))
     | inr here ↦ here_goes s.call s.stands s.says here
   ]

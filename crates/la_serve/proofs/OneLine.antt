@@ -1,5 +1,6 @@
 -- A line's turn, by what became of it.
-use Rattle.std.proofs.Common.{◌≡◌, ℕ, ◌≤◌, ◌||◌, Bool, true, false, List, [], length, codes, refl, sym, subst, ap, ◌∙◌, append-nil, Option, Some, Result, OnOk, IfErr}
+use Rattle.std.proofs.Common.{◌≡◌, ℕ, ◌≤◌, true, false, List, [], length, codes, refl, sym, subst, ap, ◌∙◌}
+use Rattle.std.proofs.Common.{append-nil, Option, Some, Result, OnOk, IfErr}
 use Rattle.std.specs.Io.KnownBytes.{Appends}
 use Rattle.std.proofs.KnownBytes.{Appends-nil}
 use Rattle.la_io.specs.declared.source.TheConstants.{MAX_LINE}
@@ -13,26 +14,18 @@ use Rattle.la_wire.specs.Notes.{refused_note, line_fault_line}
 use Rattle.la_io.specs.Streams.{TellsLine, TellsAll}
 use Rattle.la_serve.specs.declared.error.NodeFault.{NodeFault}
 use Rattle.la_serve.specs.Io.{Io}
-use Rattle.la_serve.specs.Turns.{Turn, faulty, own_of, is_note, is_elsewhere, is_stale, IsCallTurn}
+use Rattle.la_serve.specs.Turns.{Turn, faulty, own_of, is_note, is_elsewhere, IsCallTurn}
 use Rattle.la_serve.specs.Serving.{OfLine, OfCall, TakesBy, TakesLine, Breaks, TellsNoLine}
 use Rattle.la_serve.proofs.Taking.{takes_only, takes_more, on_ok_more, if_err_more}
 use Rattle.la_serve.proofs.Turns.{note_turn, fault_turn, starved_turn, call_turn, passed_turn}
 
 -- a call that is passed over
 pub call_passed : (input : InputState) (k : ℕ) (io : Io)
-    → (is_elsewhere io.state (called input.call) || is_stale io.state (called input.call)) ≡ true
+    → is_elsewhere io.state (called input.call) ≡ true
     → TakesLine (OfCall input IsCallTurn k) TellsNoLine io io
 call_passed input k io is =
     takes_only Appends (OfCall input IsCallTurn k) io io input.line []
     (refl, passed_turn io.objects io.state k input.line (called input.call) true refl is) refl refl (Appends-nil io.out)
-
-pub first_of : (a b : Bool) → a ≡ true → (a || b) ≡ true
-first_of true b e = refl
-first_of false b e = absurd cc
-
-pub second_of : (a b : Bool) → b ≡ true → (a || b) ≡ true
-second_of true b e = refl
-second_of false b e = e
 
 -- ## A line
 

@@ -1,15 +1,31 @@
 -- A turn by what is written of its line, where the journal does not gain it.
-use Rattle.std.proofs.Common.{◌≡◌, ℕ, List, Option, refl, sym, ap, subst, ◌∙◌, inl, inr}
+use Rattle.std.proofs.Common.{◌≡◌, ◌↔◌, IsTrue, ℕ, Bool, true, false, ◌&&◌, [], List, take, get_or, ◌+◌, slice_get}
+use Rattle.std.proofs.Common.{Some, Option, refl, sym, ap, subst, ◌∙◌, inl, inr}
+use Rattle.std.specs.List.{list_all}
+use Rattle.std.specs.Io.KnownBytes.{Appends}
+use Rattle.std.proofs.KnownBytes.{Appends-nil}
+use Rattle.std.specs.Cmp.{both_ways}
+use Rattle.std.proofs.lemmas.List.Folds.{list_all_more}
+use Rattle.std.proofs.lemmas.Option.{slice_get_within, get_or_from_slice_get}
+use Rattle.la_set.specs.declared.counts.Counts.{Counts}
+use Rattle.la_set.specs.declared.update.Update.{Update}
+use Rattle.la_set.specs.Histories.{Histories}
+use Rattle.la_set.specs.Counts.{counts_of, HasCounts}
+use Rattle.la_node.specs.declared.link.Standing.{Standing}
+use Rattle.la_node.specs.Accepting.{has_counts}
+use Rattle.la_node.proofs.lemmas.Tests.{decides-has_counts}
 use Rattle.la_object.specs.declared.kind.Kind.{Kind}
 use Rattle.la_object.specs.declared.query.Query.{Query}
-use Rattle.la_wire.specs.Calls.{WireCall, Ask, Tick, called}
+use Rattle.la_wire.specs.Calls.{WireCall, Ask, Tick, Receive, Known, called}
+use Rattle.la_wire.specs.Messages.{WireMessage, Tell}
 use Rattle.la_durable.specs.Inputs.{InputState}
 use Rattle.la_serve.specs.declared.said.Said.{Said}
 use Rattle.la_serve.specs.declared.said.Said.TheVariants as said
 use Rattle.la_serve.specs.Io.{Io}
+use Rattle.la_serve.specs.Turns.{Turn, OneOf, IsKeptTurn, IsToldBack, is_stale, is_reached, is_told_known}
 use Rattle.la_serve.specs.Turns.{only_writes, own_of, question_answered, IsAnsweredTurn, IsTicked, IsTurnHere}
-use Rattle.la_serve.specs.Said.{said_text, IsSaidAnswer, answer_by, IsSaidAgain}
-use Rattle.la_serve.specs.Serving.{OfCall, TakesBy, TellsNoLine}
+use Rattle.la_serve.specs.Said.{said_text, IsSaidAnswer, answer_by, IsSaidAgain, IsSaidBack}
+use Rattle.la_serve.specs.Serving.{OfCall, TakesBy, TakesLine, TellsNoLine}
 use Rattle.la_serve.proofs.Taking.{takes_only}
 use Rattle.la_replica.specs.ReplicaState.{ReplicaState}
 
@@ -25,9 +41,21 @@ is_answered objects n k object query line said.Memory is = inr refl
 pub is_ticked : (n : ReplicaState) (k : ℕ) (line : List ℕ) (s : Said) → IsSaidAgain n s
     → IsTicked n k (only_writes n line (said_text (own_of n) k s))
 is_ticked n k line (said.Lines text) is =
-    inl (record { mail = is.0; whole = is.1; over = is.2; turn = ap (only_writes n line) is.3 })
+    inl (record { mail = is.0; whole = is.1; over = is.2; known = is.3; turn = ap (only_writes n line) is.4 })
 is_ticked n k line said.NoSuchObject is = absurd is
 is_ticked n k line said.Memory is = inr refl
+
+pub is_told_back : (n : ReplicaState) (k from : ℕ) (line : List ℕ) (s : Said) → IsSaidBack n from s
+    → IsToldBack n k from (only_writes n line (said_text (own_of n) k s))
+is_told_back n k from line (said.Lines text) is = inl (ap (only_writes n line) is)
+is_told_back n k from line said.NoSuchObject is = absurd is
+is_told_back n k from line said.Memory is = inr refl
+
+-- of a letter that brings no news
+is_received : (n : ReplicaState) (k : ℕ) (m : WireMessage) (t : Turn) (b : Bool) → is_stale n m ≡ b → b ≡ true
+    → IsToldBack n k m.from t → OneOf (is_stale n m) (IsToldBack n k m.from t) (IsKeptTurn n k (Receive m) t)
+is_received n k m t b is stale back =
+    subst (λ z. OneOf z (IsToldBack n k m.from t) (IsKeptTurn n k (Receive m) t)) (sym (is ∙ stale)) back
 
 -- it was written
 module _ (Wrote : (before after : Option (List ℕ)) → List ℕ → Type 0) (k : ℕ) (input : InputState) (before after : Io)
@@ -54,6 +82,42 @@ module _ (Wrote : (before after : Option (List ℕ)) → List ℕ → Type 0) (k
       said_taken (Ask replica object query) e
       (is_answered before.objects before.state k object query input.line s is)
 
+  pub back_taken : (m : WireMessage) → called input.call ≡ Receive m → is_stale before.state m ≡ true
+      → IsSaidBack before.state m.from s → TakesBy Wrote (OfCall input IsTurnHere k) TellsNoLine before after
+  back_taken m e stale is =
+      said_taken (Receive m) e
+      (is_received before.state k m (only_writes before.state input.line (said_text (own_of before.state) k s)) true stale refl
+      (is_told_back before.state k m.from input.line s is))
+
   pub tick_taken : called input.call ≡ Tick → IsSaidAgain before.state s
       → TakesBy Wrote (OfCall input IsTurnHere k) TellsNoLine before after
   tick_taken e is = said_taken Tick e (is_ticked before.state k input.line s is)
+
+-- what another is known to have changes nothing else
+pub known_taken : (input : InputState) (k : ℕ) (io : Io) (standing : Standing) → called input.call ≡ Known standing
+    → TakesLine (OfCall input IsTurnHere k) TellsNoLine io io
+known_taken input k io standing e =
+    takes_only Appends (OfCall input IsTurnHere k) io io input.line [] (
+      refl,
+      subst (λ (x : WireCall). IsTurnHere io.objects io.state k x (only_writes io.state input.line [])) (sym e) refl,
+    )
+    refl refl (Appends-nil io.out)
+
+-- ## Whether a told set is known
+
+same_counts_test : (b : Bool) (s : Histories) (c : Counts) → (IsTrue b ↔ HasCounts s c) → b ≡ has_counts s c
+same_counts_test b s c is =
+    let test = decides-has_counts s c in
+    both_ways b (has_counts s c) (λ e. test.1 (is.0 e)) (λ e. is.1 (test.0 e))
+
+pub not_known : (b : Bool) (view : Histories) (base : Counts) (more : List Update) → (IsTrue b ↔ HasCounts view base)
+    → b ≡ false → b ≡ is_told_known view (Tell base more)
+not_known b view base more is lacks =
+    lacks ∙ ap (λ t. t && list_all (is_reached (counts_of view)) more) (sym lacks ∙ same_counts_test b view base is)
+
+-- one more update
+pub one_more : (p : Update → Bool) (us : List Update) (k : ℕ) (u : Update) (before : Bool) → slice_get us k ≡ Some u
+    → before ≡ list_all p (take k us) → (before && p u) ≡ list_all p (take (k + 1) us)
+one_more p us k u before at is =
+    sym (list_all_more p us k u (slice_get_within us k u at)
+    ∙ ap (λ b. b && p (get_or us k u)) (sym is) ∙ ap (λ v. before && p v) (get_or_from_slice_get us k u u at))

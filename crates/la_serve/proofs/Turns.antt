@@ -1,5 +1,6 @@
 -- What makes a turn.
-use Rattle.std.proofs.Common.{◌≡◌, ◌⊎◌, ℕ, ◌<◌, ◌≤◌, nat_lt, ◌||◌, Bool, true, false, List, [], ◌∷◌, ◌++◌, length, refl, sym, subst, ap, ◌∙◌, append-nil, Option, Some, None, inl, inr, arith}
+use Rattle.std.proofs.Common.{◌≡◌, ◌⊎◌, ℕ, ◌<◌, ◌≤◌, nat_lt, Bool, true, false, List, [], ◌∷◌, ◌++◌, length, refl}
+use Rattle.std.proofs.Common.{sym, subst, ap, ◌∙◌, append-nil, Option, Some, None, inl, inr, arith}
 use Rattle.std.proofs.lemmas.Bool.Decides.{nat_tests}
 use Rattle.la_set.specs.Histories.{updates}
 use Rattle.la_object.specs.declared.kind.Kind.{Kind}
@@ -11,6 +12,7 @@ use Rattle.la_wire.specs.Calls.{WireCall, called}
 use Rattle.la_wire.specs.CallLines.{named_call}
 use Rattle.la_durable.specs.declared.error.NodeError.{NodeError}
 use Rattle.la_durable.specs.declared.error.NodeError.TheVariants.{Memory}
+use Rattle.la_node.specs.declared.link.Links.{Links}
 use Rattle.la_node.specs.Steps.{Given}
 use Rattle.la_durable.specs.Nodes.{acts}
 use Rattle.la_durable.specs.Errors.{IsForMemory}
@@ -18,7 +20,9 @@ use Rattle.la_durable.specs.Inputs.{InputState, IsInputRefusal}
 use Rattle.la_wire.specs.Notes.{refused_note}
 use Rattle.la_durable.specs.CallLines.{is_line}
 use Rattle.la_serve.specs.Names.{refusal_name}
-use Rattle.la_serve.specs.Turns.{Turn, only_writes, turn_refused, faulty, call_text, own_of, is_note, OneOf, SaysCall, HasFault, IsStarved, IsTurnHere, IsCallTurn, IsShortTurn, IsTurn, IsKeptTurn, is_elsewhere, is_stale}
+use Rattle.la_serve.specs.Turns.{Turn, only_writes, turn_refused, faulty, call_text, own_of, is_note, OneOf, SaysCall}
+use Rattle.la_serve.specs.Turns.{HasFault, IsStarved, IsTurnHere, IsCallTurn, IsShortTurn, IsTurn, IsKeptTurn}
+use Rattle.la_serve.specs.Turns.{is_elsewhere}
 use Rattle.la_serve.specs.Io.{Io}
 use Rattle.la_serve.specs.Serving.{OfCall, TakesBy, TellsNoLine}
 use Rattle.la_replica.specs.ReplicaState.{ReplicaState}
@@ -86,7 +90,7 @@ module _ (objects : List (ℕ × Kind)) (n : ReplicaState) (k : ℕ) where
   starved_turn line le is = other_turn (turn_refused n k line Memory) le is (inr (inr refl))
 
   -- a call that is passed over
-  pub passed_turn : (line : List ℕ) (call : WireCall) (b : Bool) → b ≡ true → is_elsewhere n call || is_stale n call ≡ b
+  pub passed_turn : (line : List ℕ) (call : WireCall) (b : Bool) → b ≡ true → is_elsewhere n call ≡ b
       → IsCallTurn objects n k call (only_writes n line [])
   passed_turn line call b so is =
       subst (λ b. OneOf b (only_writes n line [] ≡ only_writes n line []) (IsTurnHere objects n k call
@@ -101,14 +105,14 @@ OfKept input k = OfCall input (λ _. IsKeptTurn) k
 module _ (Wrote : (before after : Option (List ℕ)) → List ℕ → Type 0) (k : ℕ) (input : InputState) (before after : Io)
   where
     pub take_taken : (given : Given) → acts before.state (called input.call) ≡ Some (given, after.state)
-        → after.journal ≡ before.journal ++ input.line ∷ [] → (text : List ℕ)
-        → text ≡ call_text (length (updates before.state.view)) after.state (called input.call) given
+        → after.journal ≡ before.journal ++ input.line ∷ [] → (text : List ℕ) (known : Links)
+        → text ≡ call_text (length (updates before.state.view)) known after.state (called input.call) given
         → Wrote before.out after.out text → TakesBy Wrote (OfKept input k) TellsNoLine before after
-    take_taken given acted journal text is w = record {
+    take_taken given acted journal text known is w = record {
       turn = record { line = input.line; text = text; kept = input.line ∷ []; told = []; after = after.state };
       is = (
         refl,
-        inl (record { given = given; acted = acted; written = is; journal = refl; silent = refl }),
+        inl (record { given = given; acted = acted; known = known; written = is; journal = refl; silent = refl }),
       );
       now_is = refl;
       wrote = w;
@@ -129,10 +133,11 @@ module _ (Wrote : (before after : Option (List ℕ)) → List ℕ → Type 0) (k
       tells = refl;
     }
 
-pub same_text : (text : List ℕ) (before b : ℕ) (after : ReplicaState) (call call2 : WireCall) (given : Given)
-    → text ≡ call_text before after call given → before ≡ b → call ≡ call2 → text ≡ call_text b after call2 given
-same_text text before b after call call2 given e p q =
-    e ∙ ap (λ x. call_text x after call given) p ∙ ap (λ y. call_text b after y given) q
+pub same_text : (text : List ℕ) (before b : ℕ) (known : Links) (after : ReplicaState) (call call2 : WireCall)
+    (given : Given) → text ≡ call_text before known after call given → before ≡ b → call ≡ call2
+    → text ≡ call_text b known after call2 given
+same_text text before b known after call call2 given e p q =
+    e ∙ ap (λ x. call_text x known after call given) p ∙ ap (λ y. call_text b known after y given) q
 
 pub same_refusal : (P : List ℕ → Type 0) (own own2 k : ℕ) (name name2 : List ℕ) → own ≡ own2 → name ≡ name2
     → P (refused_note own k name) → P (refused_note own2 k name2)

@@ -1,5 +1,5 @@
 -- What is written of a line that the journal does not gain.
-use Rattle.std.specs.Prelude.{length, ◌≡◌, ⊤, ℕ, List, codes, Option, Some, None}
+use Rattle.std.specs.Prelude.{◌≡◌, ⊤, ℕ, List, filter, codes, Option, Some, None}
 use Rattle.la_set.specs.declared.counts.Counts.{Counts}
 use Rattle.la_object.specs.declared.kind.Kind.{Kind}
 use Rattle.la_object.specs.declared.query.Query.{Query}
@@ -9,7 +9,9 @@ use Rattle.la_replica.specs.declared.message.Message as code
 use Rattle.la_replica.specs.Whole.{whole_mail}
 use Rattle.la_replica.specs.Again.{again}
 use Rattle.la_replica.specs.Bases.{AreToldIn}
-use Rattle.la_wire.specs.Notes.{answered_note, refused_note, letters_text}
+use Rattle.la_node.specs.declared.link.Links.{Links}
+use Rattle.la_node.specs.Links.{letters_of, is_owed, standing_of}
+use Rattle.la_wire.specs.Notes.{answered_note, refused_note, letters_text, known_line}
 use Rattle.la_serve.specs.declared.said.Said.{Said}
 use Rattle.la_serve.specs.declared.said.Said.TheVariants as said
 use Rattle.la_replica.specs.ReplicaState.{ReplicaState}
@@ -34,7 +36,13 @@ answer_by objects n object query = answer_at (record { view = n.view; objects = 
 -- what waits for an answer, once more; or there was no memory
 abbrev pub IsSaidAgain : ReplicaState → Said → Type 0
 IsSaidAgain n (said.Lines text) =
-    (mail : List code.Message) × (whole_mail mail ≡ again n)
-    × ((offered : Counts) → AreToldIn n offered mail) × (text.items ≡ letters_text (length n.votes) mail)
+    (mail : List code.Message) × (whole_mail mail ≡ again n) × ((offered : Counts) → AreToldIn n offered mail)
+    × (known : Links) × (text.items ≡ letters_text (letters_of known n (filter (is_owed known) mail)))
 IsSaidAgain n said.NoSuchObject = ⊥
 IsSaidAgain n said.Memory = ⊤
+
+-- how far a node is; or there was no memory
+abbrev pub IsSaidBack : ReplicaState → (to : ℕ) → Said → Type 0
+IsSaidBack n to (said.Lines text) = text.items ≡ known_line (standing_of n to)
+IsSaidBack n to said.NoSuchObject = ⊥
+IsSaidBack n to said.Memory = ⊤

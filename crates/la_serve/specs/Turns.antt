@@ -1,9 +1,11 @@
 -- What a line comes to: what is written of it, what the journal gains, and the state after it.
-use Rattle.std.specs.Prelude.{◌≡◌, ◌⊎◌, ℕ, ◌-◌, nat_lt, ◌==◌, Bool, true, false, not, ◌&&◌, ◌||◌, List, [], ◌∷◌, ◌++◌, codes, length, Option, Some, None, if◌then◌else◌}
+use Rattle.std.specs.Prelude.{◌≡◌, ◌⊎◌, ℕ, ◌-◌, nat_lt, nat_le, ◌==◌, Bool, true, false, not, ◌&&◌, ◌||◌, List, []}
+use Rattle.std.specs.Prelude.{◌∷◌, ◌++◌, codes, length, filter, Option, Some, None, if◌then◌else◌}
+use Rattle.std.specs.List.{list_all}
 use Rattle.la_set.specs.declared.counts.Counts.{Counts}
+use Rattle.la_set.specs.declared.update.Update.{Update}
 use Rattle.la_set.specs.Histories.{Histories, updates}
-use Rattle.la_set.specs.Counts.{counts_of}
-use Rattle.la_set.specs.Inclusion.{is_subset}
+use Rattle.la_set.specs.Counts.{count_in, counts_of}
 use Rattle.la_commit.specs.declared.outcome.Outcome.{Outcome}
 use Rattle.la_commit.specs.Instances.{commit_of}
 use Rattle.la_object.specs.declared.kind.Kind.{Kind}
@@ -20,12 +22,15 @@ use Rattle.la_io.specs.declared.source.TheConstants.{MAX_LINE}
 use Rattle.la_wire.specs.declared.error.LineFault.{LineFault}
 use Rattle.la_wire.specs.declared.error.LineFault.TheVariants.{TooLong}
 use Rattle.la_wire.specs.declared.error.LineError.TheVariants.{Fault}
-use Rattle.la_wire.specs.Messages.{WireBody, Offer, Yes, No, Tell}
-use Rattle.la_wire.specs.Calls.{WireCall, Submit, Decide, Ask, Tick, Receive}
+use Rattle.la_wire.specs.Messages.{WireMessage, WireBody, Offer, Yes, No, Tell}
+use Rattle.la_wire.specs.Calls.{WireCall, Submit, Decide, Ask, Tick, Receive, Known}
 use Rattle.la_wire.specs.CallLines.{named_call}
 use Rattle.la_durable.specs.declared.error.NodeError.{NodeError}
 use Rattle.la_durable.specs.declared.error.NodeError.TheVariants.{Memory}
 use Rattle.la_durable.specs.CallLines.{is_line}
+use Rattle.la_node.specs.declared.link.Links.{Links}
+use Rattle.la_node.specs.Accepting.{has_counts}
+use Rattle.la_node.specs.Links.{letters_of, is_owed, standing_of}
 use Rattle.la_node.specs.Steps.{Given, given_of}
 use Rattle.la_durable.specs.Nodes.{acts}
 use Rattle.la_durable.specs.Errors.{IsForMemory}
@@ -33,7 +38,8 @@ use Rattle.la_durable.specs.Inputs.{IsInputRefusal}
 use Rattle.la_serve.specs.declared.keeping.Kept.{Kept}
 use Rattle.la_serve.specs.declared.keeping.Kept.TheVariants as kept
 use Rattle.la_serve.specs.Names.{refusal_name}
-use Rattle.la_wire.specs.Notes.{submitted_note, proposed_note, learnt_note, view_note, outcome_note, answered_note, refused_note, line_fault_line, letters_text}
+use Rattle.la_wire.specs.Notes.{submitted_note, proposed_note, learnt_note, view_note, outcome_note, answered_note}
+use Rattle.la_wire.specs.Notes.{refused_note, line_fault_line, letters_text, known_line}
 
 abbrev pub own_of : ReplicaState → ℕ
 own_of n = n.own
@@ -51,6 +57,7 @@ taken_text after (Decide replica commit value) = proposed_note after.own commit
 taken_text after (Ask replica object query) = []
 taken_text after Tick = []
 taken_text after (Receive m) = []
+taken_text after (Known standing) = []
 
 -- what was learnt by a message of an instance and a ballot
 abbrev pub learnt_line : (own instance ballot : ℕ) → Option Histories → List ℕ
@@ -76,11 +83,12 @@ receipt_text before after (Submit replica object op) given = []
 receipt_text before after (Decide replica commit value) given = []
 receipt_text before after (Ask replica object query) given = []
 receipt_text before after Tick given = []
+receipt_text before after (Known standing) given = []
 
--- first the notes, then the messages, in order
-abbrev pub call_text : (before : ℕ) → (after : ReplicaState) → WireCall → Given → List ℕ
-call_text before after call given =
-    taken_text after call ++ receipt_text before after call given ++ letters_text (length after.votes) given.mail
+-- first the notes, then the messages, in order, each as a letter over what is known of its receiver
+abbrev pub call_text : (before : ℕ) → (known : Links) → (after : ReplicaState) → WireCall → Given → List ℕ
+call_text before known after call given =
+    taken_text after call ++ receipt_text before after call given ++ letters_text (letters_of known after given.mail)
 
 -- ## Lines that are passed over
 
@@ -96,6 +104,7 @@ is_elsewhere n (Decide replica commit value) = not (replica == own_of n)
 is_elsewhere n (Ask replica object query) = not (replica == own_of n)
 is_elsewhere n Tick = false
 is_elsewhere n (Receive m) = not (m.replicas == length n.votes) || not (m.to == own_of n)
+is_elsewhere n (Known s) = not (s.replicas == length n.votes) || not (s.to == own_of n)
 
 -- ## A turn
 
@@ -136,7 +145,9 @@ IsOutcome n after call line journal_before journal_after (kept.Refused why) =
 pub record IsCallTaken (n : ReplicaState) (call : WireCall) (t : Turn) : Type 0 where
   pub given : Given
   pub acted : acts n call ≡ Some (given, t.after)
-  pub written : t.text ≡ call_text (length (updates n.view)) t.after call given
+  -- for whatever is known of other replicas
+  pub known : Links
+  pub written : t.text ≡ call_text (length (updates n.view)) known t.after call given
   pub journal : t.kept ≡ t.line ∷ []
   pub silent : t.told ≡ []
 
@@ -165,7 +176,9 @@ pub record IsSentAgain (n : ReplicaState) (t : Turn) : Type 0 where
   pub mail : List code.Message
   pub whole : whole_mail mail ≡ again n
   pub over : (offered : Counts) → AreToldIn n offered mail
-  pub turn : t ≡ only_writes n t.line (letters_text (length n.votes) mail)
+  -- but for what is known to be known
+  pub known : Links
+  pub turn : t ≡ only_writes n t.line (letters_text (letters_of known n (filter (is_owed known) mail)))
 
 abbrev pub IsAnsweredTurn : List (ℕ × Kind) → ReplicaState → (k object : ℕ) → Query → Turn → Type 0
 IsAnsweredTurn objects n k object query t = (t ≡ question objects n k object query t.line) ⊎ IsStarved n k t
@@ -176,37 +189,45 @@ IsTicked n k t = IsSentAgain n t ⊎ IsStarved n k t
 abbrev pub IsKeptTurn : ReplicaState → (k : ℕ) → WireCall → Turn → Type 0
 IsKeptTurn n k call t = IsCallTaken n call t ⊎ IsRefused n k call t
 
-abbrev pub IsTurnHere : List (ℕ × Kind) → ReplicaState → (k : ℕ) → WireCall → Turn → Type 0
-IsTurnHere objects n k (Submit replica object op) t = IsKeptTurn n k (Submit replica object op) t
-IsTurnHere objects n k (Decide replica commit value) t = IsKeptTurn n k (Decide replica commit value) t
-IsTurnHere objects n k (Ask replica object query) t = IsAnsweredTurn objects n k object query t
-IsTurnHere objects n k Tick t = IsTicked n k t
-IsTurnHere objects n k (Receive m) t = IsKeptTurn n k (Receive m) t
+-- an update of this number, or a later one, of the same replica is there
+abbrev pub is_reached : (view : Counts) → Update → Bool
+is_reached view u = nat_le u.id.number (count_in view u.id.replica)
 
--- a set that was learnt is told, and the view has all of it
+-- a set that was learnt is told, and by its counts it has no more than the view
 abbrev pub is_told_known : (view : Histories) → WireBody → Bool
-is_told_known view (Tell told) = is_subset told view
+is_told_known view (Tell base more) = has_counts view base && list_all (is_reached (counts_of view)) more
 is_told_known view (Offer base more) = false
 is_told_known view Yes = false
 is_told_known view (No base more) = false
 
 -- a message that brings no news: it would change nothing, and nothing would be sent for it
-abbrev pub is_stale : ReplicaState → WireCall → Bool
-is_stale n (Submit replica object op) = false
-is_stale n (Decide replica commit value) = false
-is_stale n (Ask replica object query) = false
-is_stale n Tick = false
-is_stale n (Receive m) = (m.instance == 0) && is_told_known n.view m.body
+abbrev pub is_stale : ReplicaState → WireMessage → Bool
+is_stale n m = (m.instance == 0) && is_told_known n.view m.body
 
 -- one of two
 abbrev pub OneOf : Bool → (A B : Type 0) → Type 0
 OneOf true A B = A
 OneOf false A B = B
 
--- a call that is for another node, or brings no news, is passed over
+-- it is answered by how far this node is, so that it is not sent again
+abbrev pub IsToldBack : ReplicaState → (k from : ℕ) → Turn → Type 0
+IsToldBack n k from t = (t ≡ only_writes n t.line (known_line (standing_of n from))) ⊎ IsStarved n k t
+
+abbrev pub IsReceivedTurn : ReplicaState → (k : ℕ) → WireMessage → Turn → Type 0
+IsReceivedTurn n k m t = OneOf (is_stale n m) (IsToldBack n k m.from t) (IsKeptTurn n k (Receive m) t)
+
+abbrev pub IsTurnHere : List (ℕ × Kind) → ReplicaState → (k : ℕ) → WireCall → Turn → Type 0
+IsTurnHere objects n k (Submit replica object op) t = IsKeptTurn n k (Submit replica object op) t
+IsTurnHere objects n k (Decide replica commit value) t = IsKeptTurn n k (Decide replica commit value) t
+IsTurnHere objects n k (Ask replica object query) t = IsAnsweredTurn objects n k object query t
+IsTurnHere objects n k Tick t = IsTicked n k t
+IsTurnHere objects n k (Receive m) t = IsReceivedTurn n k m t
+IsTurnHere objects n k (Known standing) t = t ≡ only_writes n t.line []
+
+-- a call that is for another node is passed over
 abbrev pub IsCallTurn : List (ℕ × Kind) → ReplicaState → (k : ℕ) → WireCall → Turn → Type 0
 IsCallTurn objects n k call t =
-    OneOf (is_elsewhere n call || is_stale n call) (t ≡ only_writes n t.line []) (IsTurnHere objects n k call t)
+    OneOf (is_elsewhere n call) (t ≡ only_writes n t.line []) (IsTurnHere objects n k call t)
 
 -- a line that says a call, and that a journal may have
 pub record SaysCall (objects : List (ℕ × Kind)) (n : ReplicaState) (k : ℕ) (t : Turn) : Type 0 where

@@ -3,27 +3,29 @@ ghost use Rattle.std.specs.Prelude.{◌≡◌, ◌≤◌, length, true, IfErr, O
 ghost use Rattle.la_io.specs.Streams.{Writes, WritesPrefix};
 ghost use Rattle.la_io.specs.declared.source.TheConstants.{MAX_LINE};
 ghost use Rattle.la_wire.specs.Calls.{called};
-ghost use Rattle.la_wire.specs.Messages.{said_body};
+ghost use Rattle.la_wire.specs.Messages.{said_content, letter_message};
 ghost use Rattle.la_io.specs.Streams.{TellsAll};
 ghost use Rattle.la_durable.specs.Nodes.{kept_by};
+ghost use Rattle.std.specs.List.{list_all};
 ghost use Rattle.la_set.specs.Inclusion.{IsSubset};
-ghost use Rattle.la_serve.specs.Turns.{is_note, is_elsewhere, IsKeptTurn, IsCallTurn, IsTurnHere, is_stale, is_told_known};
+ghost use Rattle.la_serve.specs.Turns.{is_note, is_elsewhere, IsKeptTurn, IsCallTurn, IsTurnHere, is_stale, is_told_known, is_reached};
 ghost use Rattle.la_object.specs.Shelves.{answer_at};
-ghost use Rattle.la_serve.specs.Said.{said_text, IsSaidAnswer, answer_by, IsSaidAgain};
+ghost use Rattle.la_serve.specs.Said.{said_text, IsSaidAnswer, answer_by, IsSaidAgain, IsSaidBack};
 ghost use Rattle.la_serve.specs.Io.{io_of, TakesLines, OnlyStages};
 ghost use Rattle.la_serve.specs.Serving.{OfLine, OfCall, TakesLine, Breaks, TellsNoLine};
 
 use crate::keeping::{Kept, keep};
 use crate::names::refusal_name;
 use crate::said::Said;
-use crate::texts::{answer_text, mail_text, text_of};
+use crate::texts::{answer_text, mail_text, standing_text, text_of};
 use crate::{NodeFault, Server};
 use la_durable::{Input, NodeMachine};
 use la_io::{Listener, WriteFailed, write_lines};
 use la_journal::Disk;
+use la_node::{Letter, Links};
 use la_object::{Query, Replicated, Shelf, ShelfError};
-use la_replica::Body;
-use la_set::UpdateSet;
+use la_replica::Content;
+use la_set::{Counts, Delta, UpdateSet};
 use la_wire::{Call, LineError, LineFault, refuse, tell_fault};
 use std::alloc::Global;
 use std::io::Write;
@@ -47,31 +49,58 @@ fn is_elsewhere(machine: &NodeMachine, call: &Call) -> bool
         Call::Submit { replica, .. } | Call::Decide { replica, .. } | Call::Ask { replica, .. } => {
             *replica != own
         }
-        Call::Receive(letter) => letter.replicas != machine.node.replicas()
-            || letter.message.to != own,
+        Call::Receive(letter) => {
+            letter.replicas != machine.node.replicas() || letter.parcel.to != own
+        }
+        Call::Known(standing) => {
+            standing.replicas != machine.node.replicas() || standing.to != own
+        }
         Call::Tick => false,
     }
 }
 
-// Whether a message brings no news.
-fn is_stale(machine: &NodeMachine, call: &Call) -> bool
-    ensures { result ≡ is_stale (kept_by machine.now) (called call.now) }
+// Whether a letter brings no news.
+fn is_stale(machine: &NodeMachine, letter: &Letter) -> bool
+    ensures { result ≡ is_stale (kept_by machine.now) (letter_message letter.now) }
 {
-    match call {
-        Call::Receive(letter) => {
-            letter.message.instance == 0 && is_known(machine.node.view(), &letter.message.body)
-        }
-        Call::Submit { .. } | Call::Decide { .. } | Call::Ask { .. } | Call::Tick => false,
+    letter.parcel.instance == 0 && is_known(machine.node.view(), &letter.parcel.content)
+}
+
+// Whether a set is told that has no more than a view, by its counts.
+fn is_known(view: &UpdateSet, content: &Content) -> bool
+    ensures { result ≡ is_told_known view.now (said_content content.now) }
+{
+    match content {
+        Content::Tell(delta) => view.has_counts(delta.base()) && is_within(view.counts(), delta),
+        Content::Offer(_) | Content::Yes | Content::No(_) => false,
     }
 }
 
-// Whether a view has all of a set that is told.
-fn is_known(view: &UpdateSet, body: &Body) -> bool
-    ensures { result ≡ is_told_known view.now (said_body body.now) }
+// Whether no update beyond a delta's base has a number over these counts.
+fn is_within(counts: Counts, delta: &Delta) -> bool
+    ensures { result ≡ list_all (is_reached counts) delta.now.more }
 {
-    match body {
-        Body::Tell(told) => view.contains_all(told),
-        Body::Offer(_) | Body::Yes | Body::No(_) => false,
+    let mut within = true;
+    for place in 0..delta.len() {
+        let Some(update) = delta.at(place) else {
+            unreachable!()
+        };
+        within = within && update.id.number <= counts.of(update.id.replica);
+    }
+    within
+}
+
+// Takes note of how far the replica of this group is that a call comes from.
+fn hear(links: &mut Links, machine: &NodeMachine, call: &Call) {
+    let replicas = machine.node.replicas();
+    match call {
+        Call::Receive(letter) if letter.replicas == replicas => {
+            links.hear(letter.parcel.from, letter.progress);
+        }
+        Call::Known(standing) if standing.replicas == replicas => {
+            links.hear(standing.from, standing.progress);
+        }
+        _ => {}
     }
 }
 
@@ -88,12 +117,14 @@ fn take<W: Write, D: Disk, B: Replicated>(
     ensures err { IfErr result (Breaks (OfCall input.now (λ _. IsKeptTurn) number) TellsNoLine (io_of (W.contents output.old) server.old) (io_of (W.contents output.new) server.new)) }
     ensures stages { OnlyStages server.old server.new }
 {
-    let own = server.node.durable.machine.node.own();
-    let before = server.node.durable.machine.node.view().len();
-    match keep(alloc, &mut server.node, input) {
+    let Server { node, links, .. } = server;
+    let own = node.durable.machine.node.own();
+    let before = node.durable.machine.node.view().len();
+    match keep(alloc, node, input) {
         Kept::Taken(given) => match text_of(
             alloc,
-            &server.node.durable.machine,
+            &node.durable.machine,
+            links,
             before,
             input.call(),
             &given,
@@ -136,13 +167,23 @@ fn said_by_view<B: Replicated>(
 }
 
 // What waits for an answer, once more.
-fn said_again(alloc: Global, machine: &NodeMachine) -> Said
+fn said_again(alloc: Global, machine: &NodeMachine, links: &Links) -> Said
     ensures { IsSaidAgain (kept_by machine.now) result }
 {
     let Ok(mail) = machine.node.again() else {
         return Said::Memory;
     };
-    match mail_text(alloc, machine.node.replicas(), &mail) {
+    match mail_text(alloc, links, &machine.node, &mail) {
+        Ok(text) => Said::Lines(text),
+        Err(_) => Said::Memory,
+    }
+}
+
+// How far a node is, for another whose letter brought no news.
+fn said_back(alloc: Global, machine: &NodeMachine, to: u8) -> Said
+    ensures { IsSaidBack (kept_by machine.now) to result }
+{
+    match standing_text(alloc, &machine.node.standing(to)) {
         Ok(text) => Said::Lines(text),
         Err(_) => Said::Memory,
     }
@@ -175,18 +216,26 @@ fn call_here<W: Write, D: Disk, B: Replicated>(
 {
     match input.call() {
         Call::Ask { object, query, .. } => {
-            let Server { node, shelf } = server;
+            let Server { node, shelf, .. } = server;
             let machine = &node.durable.machine;
             let said = said_by_view(alloc, machine, shelf, *object, query);
             put(output, machine.node.own(), number, &said)?;
             Ok(())
         }
         Call::Tick => {
-            let machine = &server.node.durable.machine;
-            let said = said_again(alloc, machine);
+            let Server { node, links, .. } = server;
+            let machine = &node.durable.machine;
+            let said = said_again(alloc, machine, links);
             put(output, machine.node.own(), number, &said)?;
             Ok(())
         }
+        Call::Receive(letter) if is_stale(&server.node.durable.machine, letter) => {
+            let machine = &server.node.durable.machine;
+            let said = said_back(alloc, machine, letter.parcel.from);
+            put(output, machine.node.own(), number, &said)?;
+            Ok(())
+        }
+        Call::Known(_) => Ok(()),
         Call::Submit { .. } | Call::Decide { .. } | Call::Receive(_) => {
             take(alloc, server, number, input, output)
         }
@@ -207,9 +256,8 @@ fn call<W: Write, D: Disk, B: Replicated>(
     ensures stages { OnlyStages server.old server.new }
 {
     let call = input.call();
-    if is_elsewhere(&server.node.durable.machine, call)
-        || is_stale(&server.node.durable.machine, call)
-    {
+    hear(&mut server.links, &server.node.durable.machine, call);
+    if is_elsewhere(&server.node.durable.machine, call) {
         return Ok(());
     }
     call_here(alloc, server, number, input, output)

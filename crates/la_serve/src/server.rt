@@ -2,14 +2,16 @@ ghost use Rattle.std.specs.Prelude.{◌≡◌};
 
 use la_durable::NodeMachine;
 use la_journal::{Disk, Durable, Staged};
+use la_node::Links;
 use la_object::{Replicated, Shelf};
 
-/// A node with its journal, and a shelf of objects that answer by its view. What the shelf has absorbed
-/// is not kept.
+/// A node with its journal, a shelf of objects that answer by its view, and how far other replicas are, as far
+/// as is known. What the shelf has absorbed, and what is known of others, is not kept.
 #[derive(Drop)]
 pub struct Server<D: Disk, B: Replicated> {
     pub node: Staged<NodeMachine, D>,
     pub shelf: Shelf<B>,
+    pub links: Links,
 }
 
 impl<D: Disk, B: Replicated> Server<D, B> {

@@ -19,7 +19,7 @@ use itoa::Buffer;
 use la_durable::{NodeError, NodeMachine};
 use la_io::{Listener, tell_all};
 use la_journal::{Disk, Machine, Staged, Unplayed, recover};
-use la_node::WorldError;
+use la_node::{Links, WorldError};
 use la_object::{Counter, MaxRegister, Replicated, Shelf};
 use la_orset::OrSet;
 use std::alloc::{AllocError, Global};
@@ -209,6 +209,7 @@ fn start<R: Read, W: Write + Drop, E: Listener, D: Disk, B: Replicated>(
             let mut server = Server {
                 node: Staged::new(alloc, durable),
                 shelf,
+                links: Links::new(),
             };
             let served = serve(alloc, &mut server, input, out, errors);
             (served, server.into_disk())

@@ -1,21 +1,22 @@
 // What a node writes for one call.
-ghost use Rattle.std.specs.Prelude.{◌≡◌, ◌++◌, IfOk, OnOk};
+ghost use Rattle.std.specs.Prelude.{◌≡◌, ◌++◌, IfOk, OnOk, filter};
 ghost use Rattle.la_replica.specs.Steps.{learnt_in};
 ghost use Rattle.la_wire.specs.Calls.{called};
 ghost use Rattle.la_node.specs.Steps.{given_of};
-ghost use Rattle.la_wire.specs.Notes.{answered_note, letters_text};
+ghost use Rattle.la_node.specs.Links.{letter_of, letters_of, is_owed};
+ghost use Rattle.la_wire.specs.Notes.{answered_note, message_line, letters_text, known_line};
 ghost use Rattle.la_durable.specs.Nodes.{kept_by};
 ghost use Rattle.la_serve.specs.Turns.{taken_text, learnt_line, growth_text, return_text};
 ghost use Rattle.la_serve.specs.Turns.{receipt_text, call_text};
 
 use la_durable::NodeMachine;
-use la_node::{Node, Received};
+use la_node::{Links, Node, Received, Standing};
 use la_object::{Answer, Counter};
-use la_replica::Mail;
+use la_replica::{Mail, Message};
 use la_set::UpdateSet;
 use la_wire::{
-    Call, Letter, put_answered, put_learnt, put_mail, put_outcome, put_proposed, put_submitted,
-    put_view,
+    Call, Letter, put_answered, put_known_line, put_learnt, put_letter_line, put_outcome,
+    put_proposed, put_submitted, put_view,
 };
 use std::alloc::{AllocError, Global};
 
@@ -32,7 +33,7 @@ fn put_taken(out: &mut Vec<u8>, call: &Call, node: &Node<Counter>) -> Result<(),
             None => Ok(()),
         },
         Call::Decide { commit, .. } => put_proposed(out, node.own(), *commit),
-        Call::Ask { .. } | Call::Tick | Call::Receive(_) => Ok(()),
+        Call::Ask { .. } | Call::Tick | Call::Receive(_) | Call::Known(_) => Ok(()),
     }
 }
 
@@ -43,11 +44,11 @@ fn put_learning(
     letter: &Letter,
     given: &Received,
 ) -> Result<(), AllocError>
-    ensures { OnOk result (out.new.items ≡ out.old.items ++ learnt_line own letter.now.message.instance letter.now.message.ballot (learnt_in given.now.done.said)) }
+    ensures { OnOk result (out.new.items ≡ out.old.items ++ learnt_line own letter.now.parcel.instance letter.now.parcel.ballot (learnt_in given.now.done.said)) }
 {
-    let message = &letter.message;
+    let parcel = &letter.parcel;
     match given.done.said.learnt() {
-        Some(learnt) => put_learnt(out, own, message.instance, message.ballot, learnt.counts()),
+        Some(learnt) => put_learnt(out, own, parcel.instance, parcel.ballot, learnt.counts()),
         None => Ok(()),
     }
 }
@@ -70,11 +71,11 @@ fn put_return(
     letter: &Letter,
     given: &Received,
 ) -> Result<(), AllocError>
-    ensures { OnOk result (out.new.items ≡ out.old.items ++ return_text own letter.now.message.instance given.now.outcome) }
+    ensures { OnOk result (out.new.items ≡ out.old.items ++ return_text own letter.now.parcel.instance given.now.outcome) }
 {
     match given.outcome {
         Some(outcome) => {
-            let commit = letter.message.instance.saturating_sub(1) / 2;
+            let commit = letter.parcel.instance.saturating_sub(1) / 2;
             put_outcome(out, own, commit, outcome)
         }
         None => Ok(()),
@@ -99,24 +100,75 @@ fn put_receipt(
             put_growth(out, own, before, node.view())?;
             put_return(out, own, letter, given)
         }
-        Call::Submit { .. } | Call::Decide { .. } | Call::Ask { .. } | Call::Tick => Ok(()),
+        Call::Submit { .. }
+        | Call::Decide { .. }
+        | Call::Ask { .. }
+        | Call::Tick
+        | Call::Known(_) => Ok(()),
     }
+}
+
+// Writes a message as a letter over what is known of its receiver.
+fn put_message(
+    out: &mut Vec<u8>,
+    links: &Links,
+    node: &Node<Counter>,
+    message: &Message,
+) -> Result<(), AllocError>
+    ensures { OnOk result (out.new.items ≡ out.old.items ++ message_line (letter_of links.now node.now.replica message.now)) }
+{
+    let letter = links.letter(node, message.copy()?)?;
+    put_letter_line(out, &letter)
+}
+
+// Writes mail so, in order.
+fn put_mail(
+    out: &mut Vec<u8>,
+    links: &Links,
+    node: &Node<Counter>,
+    mail: &Mail,
+) -> Result<(), AllocError>
+    ensures { OnOk result (out.new.items ≡ out.old.items ++ letters_text (letters_of links.now node.now.replica mail.now)) }
+{
+    for message in mail.all() {
+        put_message(out, links, node, message)?;
+    }
+    Ok(())
+}
+
+// The same of mail that is sent again, but for what is known to be known.
+fn put_owed(
+    out: &mut Vec<u8>,
+    links: &Links,
+    node: &Node<Counter>,
+    mail: &Mail,
+) -> Result<(), AllocError>
+    ensures { OnOk result (out.new.items ≡ out.old.items
+        ++ letters_text (letters_of links.now node.now.replica (filter (is_owed links.now) mail.now))) }
+{
+    for message in mail.all() {
+        if links.is_owed(message) {
+            put_message(out, links, node, message)?;
+        }
+    }
+    Ok(())
 }
 
 /// What is written for a call that was accepted, once its view had so many updates.
 pub fn text_of(
     alloc: Global,
     machine: &NodeMachine,
+    links: &Links,
     before: usize,
     call: &Call,
     given: &Received,
 ) -> Result<Vec<u8>, AllocError>
-    ensures { IfOk result (λ text. text.items ≡ call_text before (kept_by machine.now) (called call.now) (given_of given.now)) }
+    ensures { IfOk result (λ text. text.items ≡ call_text before links.now (kept_by machine.now) (called call.now) (given_of given.now)) }
 {
     let mut out = Vec::with_capacity(alloc, LINE)?;
     put_taken(&mut out, call, &machine.node)?;
     put_receipt(&mut out, &machine.node, before, call, given)?;
-    put_mail(&mut out, machine.node.replicas(), given.done.mail.all())?;
+    put_mail(&mut out, links, &machine.node, &given.done.mail)?;
     Ok(out)
 }
 
@@ -134,11 +186,26 @@ pub fn answer_text(
     Ok(out)
 }
 
-/// What is written when the timer has run out.
-pub fn mail_text(alloc: Global, replicas: u8, mail: &Mail) -> Result<Vec<u8>, AllocError>
-    ensures { IfOk result (λ text. text.items ≡ letters_text replicas mail.now) }
+/// What is written of mail when the timer has run out.
+pub fn mail_text(
+    alloc: Global,
+    links: &Links,
+    node: &Node<Counter>,
+    mail: &Mail,
+) -> Result<Vec<u8>, AllocError>
+    ensures { IfOk result (λ text. text.items
+        ≡ letters_text (letters_of links.now node.now.replica (filter (is_owed links.now) mail.now))) }
 {
     let mut out = Vec::new(alloc);
-    put_mail(&mut out, replicas, mail.all())?;
+    put_owed(&mut out, links, node, mail)?;
+    Ok(out)
+}
+
+/// What is written to one whose letter brought no news.
+pub fn standing_text(alloc: Global, standing: &Standing) -> Result<Vec<u8>, AllocError>
+    ensures { IfOk result (λ text. text.items ≡ known_line standing.now) }
+{
+    let mut out = Vec::with_capacity(alloc, LINE)?;
+    put_known_line(&mut out, standing)?;
     Ok(out)
 }

@@ -1,34 +1,39 @@
 -- Letters that say the same.
 use Rattle.std.proofs.Common.{◌≡◌, ap}
-use Rattle.la_replica.specs.declared.message.Body as code
-use Rattle.la_replica.specs.declared.message.Body.TheVariants as body
-use Rattle.la_replica.specs.Alike.{AreAlike, AreAlikeBodies}
-use Rattle.la_wire.specs.declared.letter.Letter.{Letter}
-use Rattle.la_wire.specs.Messages.{WireMessage, said_body, letter_message}
+use Rattle.la_replica.specs.declared.parcel.Content.{Content}
+use Rattle.la_replica.specs.declared.parcel.Content.TheVariants.{Offer, Yes, No, Tell}
+use Rattle.la_replica.specs.Parcels.{AreAlikeContents, AreAlikeParcels}
+use Rattle.la_node.specs.declared.link.Letter.{Letter}
+use Rattle.la_wire.specs.Messages.{WireMessage, said_content, letter_message}
 
-alike-bodies : (a b : code.Body) → said_body a ≡ said_body b → AreAlikeBodies a b
-alike-bodies (body.Offer d) (body.Offer e) same = (cc, cc)
-alike-bodies (body.Offer d) body.Yes same = absurd cc
-alike-bodies (body.Offer d) (body.No e) same = absurd cc
-alike-bodies (body.Offer d) (body.Tell s) same = absurd cc
-alike-bodies body.Yes (body.Offer e) same = absurd cc
-alike-bodies body.Yes body.Yes same = tt
-alike-bodies body.Yes (body.No e) same = absurd cc
-alike-bodies body.Yes (body.Tell s) same = absurd cc
-alike-bodies (body.No d) (body.Offer e) same = absurd cc
-alike-bodies (body.No d) body.Yes same = absurd cc
-alike-bodies (body.No d) (body.No e) same = (cc, cc)
-alike-bodies (body.No d) (body.Tell s) same = absurd cc
-alike-bodies (body.Tell t) (body.Offer e) same = absurd cc
-alike-bodies (body.Tell t) body.Yes same = absurd cc
-alike-bodies (body.Tell t) (body.No e) same = absurd cc
-alike-bodies (body.Tell t) (body.Tell s) same = cc
+alike-contents : (a b : Content) → said_content a ≡ said_content b → AreAlikeContents a b
+alike-contents (Offer d) (Offer e) same = (cc, cc)
+alike-contents (Offer d) Yes same = absurd cc
+alike-contents (Offer d) (No e) same = absurd cc
+alike-contents (Offer d) (Tell e) same = absurd cc
+alike-contents Yes (Offer e) same = absurd cc
+alike-contents Yes Yes same = tt
+alike-contents Yes (No e) same = absurd cc
+alike-contents Yes (Tell e) same = absurd cc
+alike-contents (No d) (Offer e) same = absurd cc
+alike-contents (No d) Yes same = absurd cc
+alike-contents (No d) (No e) same = (cc, cc)
+alike-contents (No d) (Tell e) same = absurd cc
+alike-contents (Tell d) (Offer e) same = absurd cc
+alike-contents (Tell d) Yes same = absurd cc
+alike-contents (Tell d) (No e) same = absurd cc
+alike-contents (Tell d) (Tell e) same = (cc, cc)
 
-pub alike-letters : (a b : Letter) → letter_message a ≡ letter_message b → AreAlike a.message b.message
-alike-letters a b same = record {
-  instance = ap (λ (m : WireMessage). m.instance) same;
-  from = ap (λ (m : WireMessage). m.from) same;
-  to = ap (λ (m : WireMessage). m.to) same;
-  ballot = ap (λ (m : WireMessage). m.ballot) same;
-  body = alike-bodies a.message.body b.message.body (ap (λ (m : WireMessage). m.body) same);
-}
+pub alike-letters : (a b : Letter) → letter_message a ≡ letter_message b
+    → AreAlikeParcels a.parcel b.parcel × (a.progress ≡ b.progress) × (a.replicas ≡ b.replicas)
+alike-letters a b same = (
+  record {
+    instance = ap (λ (m : WireMessage). m.instance) same;
+    from = ap (λ (m : WireMessage). m.from) same;
+    to = ap (λ (m : WireMessage). m.to) same;
+    ballot = ap (λ (m : WireMessage). m.ballot) same;
+    content = alike-contents a.parcel.content b.parcel.content (ap (λ (m : WireMessage). m.body) same);
+  },
+  ap (λ (m : WireMessage). m.progress) same,
+  ap (λ (m : WireMessage). m.replicas) same,
+)

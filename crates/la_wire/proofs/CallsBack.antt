@@ -1,5 +1,6 @@
 -- Calls are read back from their lines.
-use Rattle.std.proofs.Common.{◌≡◌, ℕ, ◌≤◌, false, eqb, List, [], ◌∷◌, ◌++◌, length, map, All, Some, None, Ok, refl, ap, ◌∙◌, arith}
+use Rattle.std.proofs.Common.{◌≡◌, ℕ, ◌≤◌, true, false, eqb, List, [], ◌∷◌, ◌++◌, length, map, All, Some, None, Ok}
+use Rattle.std.proofs.Common.{refl, ap, ◌∙◌, arith}
 use Rattle.std.specs.Fmt.{decimal}
 use Rattle.std.specs.Str.{bytes_eq}
 use Rattle.std.proofs.lemmas.Bool.{le-leb, ne_eqb}
@@ -29,16 +30,19 @@ use Rattle.la_wire.specs.declared.messages.Kind.{Kind}
 use Rattle.la_wire.specs.declared.messages.Kind.TheVariants as kind
 use Rattle.la_wire.specs.Joined.{spaced}
 use Rattle.la_wire.specs.Updates.{update_text, op_words, made}
-use Rattle.la_wire.specs.Calls.{WireCall, Submit, Decide, Ask, Tick, Receive}
-use Rattle.la_wire.specs.CallLines.{query_words, tick_word, call_line_text, event_call, script_call, first_kind, call_by, call_of}
-use Rattle.la_wire.specs.MessageLines.{kind_text as kind_word, kind_in, base_words, carried, message_text, line_message}
+use Rattle.la_wire.specs.Calls.{WireCall, Submit, Decide, Ask, Tick, Receive, Known}
+use Rattle.la_wire.specs.CallLines.{query_words, tick_word, call_line_text, event_call, script_call, first_kind}
+use Rattle.la_wire.specs.CallLines.{is_known, known_by, known_call, call_by, call_of}
+use Rattle.la_wire.specs.MessageLines.{kind_text as kind_word, kind_in, progress_words, base_words, carried}
+use Rattle.la_wire.specs.MessageLines.{message_text, line_message, known_word, standing_words, standing_text}
+use Rattle.la_node.specs.declared.link.Standing.{Standing}
 use Rattle.la_wire.specs.Messages.{WireMessage}
-use Rattle.la_wire.specs.Writable.{IsId, IsOp, IsVoteless, IsQuery, IsCall, IsMessage}
+use Rattle.la_wire.specs.Writable.{IsId, IsOp, IsVoteless, IsQuery, IsCall, IsMessage, IsStanding}
 use Rattle.la_wire.proofs.Decimals.{number-decimal, decimal-plain, is_plain, IsPlain}
 use Rattle.la_wire.proofs.Joins.{words-back}
 use Rattle.la_wire.proofs.Ids.{tags-back}
 use Rattle.la_wire.proofs.UpdatesBack.{op-plain}
-use Rattle.la_wire.proofs.MessagesBack.{message-back}
+use Rattle.la_wire.proofs.MessagesBack.{message-back, standing-back, standing-plain}
 
 -- ## Forms of a script
 
@@ -251,16 +255,17 @@ query-plain query.Items is =
 
 -- a line that begins with none of the words of messages, nor is `tick`
 script-line : (line : List ℕ) (words : List (List ℕ)) (e : Event) (call : WireCall) → first_kind line ≡ None
+    → is_known line ≡ false
     → words_of line ≡ words → event_in words (form_of Two words) ≡ Ok e → event_call e ≡ Ok call
     → call_by (first_kind line) line ≡ Ok call
-script-line line words e call none is back event =
-    rw (none) (ap (λ ws. script_call (event_in ws (form_of Two ws))) is ∙ ap script_call back ∙ event)
+script-line line words e call none known is back event =
+    rw (none, known) (ap (λ ws. script_call (event_in ws (form_of Two ws))) is ∙ ap script_call back ∙ event)
 
 submit-back : (r o : ℕ) (does : Op) → IsCall (Submit r o does) → call_of (call_line_text (Submit r o does)) ≡ Ok (Submit r o does)
 unfolding call_of
 submit-back r o does is =
     script-line (call_line_text (Submit r o does)) (submitted r o is.0 is.1 (op_words does)) (event.Submit r o does)
-    (Submit r o does) refl
+    (Submit r o does) refl refl
     (words-back (spelling keyword.Submit) (decimal r ∷ decimal o ∷ op_words does)
     (AllPass-from_list_all is_plain (spelling keyword.Submit) refl)
     (front-plain r o is.0 is.1 (op_words does) (op-plain does is.2)))
@@ -270,7 +275,7 @@ decide-back : (r c v : ℕ) → IsCall (Decide r c v) → call_of (call_line_tex
 unfolding call_of
 decide-back r c v is =
     script-line (call_line_text (Decide r c v)) (spelling keyword.Decide ∷ decimal r ∷ decimal c ∷ decimal v ∷ [])
-    (event.Decide r c v) (Decide r c v) refl
+    (event.Decide r c v) (Decide r c v) refl refl
     (words-back (spelling keyword.Decide) (decimal r ∷ decimal c ∷ decimal v ∷ [])
     (AllPass-from_list_all is_plain (spelling keyword.Decide) refl) (decide-plain r c v is))
     (decide-event r c v is.0 is.1 is.2) refl
@@ -278,7 +283,7 @@ decide-back r c v is =
 ask-back : (r o : ℕ) (q : Query) → IsCall (Ask r o q) → call_of (call_line_text (Ask r o q)) ≡ Ok (Ask r o q)
 unfolding call_of
 ask-back r o q is =
-    script-line (call_line_text (Ask r o q)) (asked r o is.0 is.1 (query_words q)) (event.Ask r o q) (Ask r o q) refl
+    script-line (call_line_text (Ask r o q)) (asked r o is.0 is.1 (query_words q)) (event.Ask r o q) (Ask r o q) refl refl
     (words-back (spelling keyword.Ask) (decimal r ∷ decimal o ∷ query_words q)
     (AllPass-from_list_all is_plain (spelling keyword.Ask) refl)
     (front-plain r o is.0 is.1 (query_words q) (query-plain q is.2)))
@@ -305,10 +310,23 @@ receive-back : (m : WireMessage) → IsMessage m → call_of (message_text m) �
 receive-back m is =
     let a : List ℕ =
     decimal m.replicas
-    ++ spaced 32 (decimal m.from ∷ decimal m.to ∷ decimal m.instance ∷ decimal m.ballot ∷ base_words m.body) in
+    ++ spaced 32
+    (decimal m.from ∷ decimal m.to ∷ decimal m.instance ∷ decimal m.ballot ∷ progress_words m.progress ++ base_words m.body) in
     let b : List ℕ = spaced 59 (map update_text (carried m.body)) in
     receive-line (message_text m) (kind_in m.body) (kind-first (kind_in m.body) a b) (kind-no_tick (kind_in m.body) a b)
     ∙ ap (made Receive) (message-back m is)
+
+known-line : (line : List ℕ) → first_kind line ≡ None → bytes_eq line tick_word ≡ false → is_known line ≡ true
+    → call_of line ≡ known_call line
+unfolding call_of
+known-line line none other known = rw (other, none, known) refl
+
+known-back : (s : Standing) → IsStanding s → call_of (standing_text s) ≡ Ok (Known s)
+known-back s is =
+    known-line (standing_text s) refl refl refl
+    ∙ ap known_by
+    (words-back known_word (standing_words s) (AllPass-from_list_all is_plain known_word refl) (standing-plain s is))
+    ∙ ap (made Known) (standing-back s is)
 
 tick-back : call_of tick_word ≡ Ok Tick
 unfolding call_of
@@ -321,3 +339,4 @@ call-back (Decide r c v) is = decide-back r c v is
 call-back (Ask r o q) is = ask-back r o q is
 call-back Tick is = tick-back
 call-back (Receive m) is = receive-back m is
+call-back (Known s) is = known-back s is

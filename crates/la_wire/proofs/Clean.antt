@@ -1,5 +1,6 @@
 -- Lines of calls have no byte 0 and no line's end, and begin as no state's line does and no record.
-use Rattle.std.proofs.Common.{◌≡◌, ◌≢◌, ℕ, ◌≤◌, ◌==◌, true, false, not, ◌&&◌, leb, List, [], ◌∷◌, ◌++◌, map, All, refl, ap, ◌∙◌, arith}
+use Rattle.std.proofs.Common.{◌≡◌, ◌≢◌, ℕ, ◌≤◌, ◌==◌, true, false, not, ◌&&◌, leb, List, [], ◌∷◌, ◌++◌, map, All}
+use Rattle.std.proofs.Common.{refl, ap, ◌∙◌, arith}
 use Rattle.std.specs.Fmt.{decimal}
 use Rattle.std.specs.List.{list_all}
 use Rattle.std.proofs.lemmas.Bool.{leb-true}
@@ -14,13 +15,14 @@ use Rattle.la_wire.specs.declared.messages.Kind.TheVariants as kind
 use Rattle.la_wire.specs.Joined.{spaced, joined_by}
 use Rattle.la_wire.specs.Updates.{update_words, update_text, op_words}
 use Rattle.la_wire.specs.Messages.{WireMessage}
-use Rattle.la_wire.specs.MessageLines.{kind_text as kind_word, kind_in, base_words, carried, head_words, message_text}
-use Rattle.la_wire.specs.Calls.{WireCall, Submit, Decide, Ask, Tick, Receive}
+use Rattle.la_wire.specs.MessageLines.{kind_text as kind_word, kind_in, progress_words, base_words, carried}
+use Rattle.la_wire.specs.MessageLines.{head_words, message_text, known_word, standing_words}
+use Rattle.la_wire.specs.Calls.{WireCall, Submit, Decide, Ask, Tick, Receive, Known}
 use Rattle.la_wire.specs.CallLines.{query_words, tick_word, call_line_text, is_clean_byte, is_no_mark, may_stand}
 use Rattle.la_wire.specs.Writable.{IsUpdate, IsCall, IsMessage}
 use Rattle.la_wire.proofs.Decimals.{is_plain, IsPlain}
 use Rattle.la_wire.proofs.UpdatesBack.{update-plain, op-plain}
-use Rattle.la_wire.proofs.MessagesBack.{head-plain, carried-updates}
+use Rattle.la_wire.proofs.MessagesBack.{head-plain, carried-updates, standing-plain}
 use Rattle.la_wire.proofs.CallsBack.{front-plain, decide-plain, query-plain}
 
 -- each byte is a space or above it
@@ -93,6 +95,8 @@ text-printed (Ask r o q) is =
     (front-plain r o is.0 is.1 (query_words q) (query-plain q is.2))
 text-printed Tick is = plain-printed tick_word (AllPass-from_list_all is_plain tick_word refl)
 text-printed (Receive m) is = message-printed m is
+text-printed (Known s) is =
+    keyword-words known_word (standing_words s) (AllPass-from_list_all is_plain known_word refl) (standing-plain s is)
 
 kind-first : (k : Kind) (a b : List ℕ) → is_no_mark ((kind_word k ++ a) ++ b) ≡ true
 kind-first kind.Offer a b = refl
@@ -105,10 +109,12 @@ no-mark (Submit r o does) = refl
 no-mark (Decide r c v) = refl
 no-mark (Ask r o q) = refl
 no-mark Tick = refl
+no-mark (Known s) = refl
 no-mark (Receive m) =
     kind-first (kind_in m.body)
     (spaced 32
-    (decimal m.replicas ∷ decimal m.from ∷ decimal m.to ∷ decimal m.instance ∷ decimal m.ballot ∷ base_words m.body))
+    (decimal m.replicas ∷ decimal m.from ∷ decimal m.to ∷ decimal m.instance ∷ decimal m.ballot
+    ∷ progress_words m.progress ++ base_words m.body))
     (spaced 59 (map update_text (carried m.body)))
 
 -- the line of a call that can be had may stand in a file of lines

@@ -1,5 +1,6 @@
 -- What `decimal` writes is read back as a number, and has no byte that parts words.
-use Rattle.std.proofs.Common.{◌≡◌, ℕ, zero, suc, ◌<◌, ◌≤◌, ◌^◌, Bool, true, false, not, eqb, leb, ◌&&◌, List, [], ◌∷◌, get_or, All, Some, refl, arith, rules}
+use Rattle.std.proofs.Common.{◌≡◌, ℕ, zero, suc, ◌<◌, ◌≤◌, ◌^◌, Bool, true, false, not, eqb, leb, ◌&&◌, List, [], ◌∷◌}
+use Rattle.std.proofs.Common.{get_or, All, Some, refl, arith, rules}
 use Rattle.std.specs.Char.{is_ascii_digit}
 use Rattle.std.specs.List.{list_all}
 use Rattle.std.specs.Fmt.{decimal}
@@ -42,7 +43,7 @@ number-decimal low high n l h few =
 
 -- a byte that parts neither words nor parts, as all bytes of words are
 abbrev pub is_plain : ℕ → Bool
-is_plain b = leb 46 b && not (eqb b 59)
+is_plain b = leb 44 b && not (eqb b 59)
 
 abbrev pub IsPlain : List ℕ → Type 0
 IsPlain w = All (λ b. is_plain b ≡ true) w
@@ -58,4 +59,9 @@ decimal-plain n h =
 pub decimal-no_stop : (n : ℕ) → n < 2 ^ 64 → All (λ b. eqb b 46 ≡ false) (decimal n)
 decimal-no_stop n h =
     All-weaker (λ b. is_ascii_digit b ≡ true) (λ b. eqb b 46 ≡ false) (λ b d. grind (arith, nat_tests)) (decimal n)
+    (AllPass-from_list_all is_ascii_digit (decimal n) (decimal-digits n h))
+
+pub decimal-no_comma : (n : ℕ) → n < 2 ^ 64 → All (λ b. eqb b 44 ≡ false) (decimal n)
+decimal-no_comma n h =
+    All-weaker (λ b. is_ascii_digit b ≡ true) (λ b. eqb b 44 ≡ false) (λ b d. grind (arith, nat_tests)) (decimal n)
     (AllPass-from_list_all is_ascii_digit (decimal n) (decimal-digits n h))

@@ -1,5 +1,6 @@
 -- Parts that are joined are parted again.
-use Rattle.std.proofs.Common.{◌≡◌, ℕ, ◌+◌, true, false, eqb, List, [], ◌∷◌, ◌++◌, length, take, drop, All, refl, ap, ◌∙◌, append-nil, arith}
+use Rattle.std.proofs.Common.{◌≡◌, ℕ, ◌+◌, true, false, eqb, List, [], ◌∷◌, ◌++◌, length, take, drop, All, refl, ap}
+use Rattle.std.proofs.Common.{◌∙◌, append-nil, arith}
 use Rattle.std.specs.List.{slice_split, position_or_len, before_first, after_first}
 use Rattle.std.proofs.Math.Seq.{take-append_seam, drop-append-add}
 use Rattle.std.proofs.lemmas.Bool.Decides.{nat_tests}
@@ -12,7 +13,8 @@ use Rattle.la_wire.proofs.Decimals.{is_plain, IsPlain}
 abbrev pub Lacks : ℕ → List ℕ → Type 0
 Lacks byte w = All (λ b. eqb b byte ≡ false) w
 
-parted-joined : (byte : ℕ) (w : List ℕ) (ws : List (List ℕ)) → eqb byte byte ≡ true → Lacks byte w → All (Lacks byte) ws
+-- parts that lack the byte between them
+pub parted-joined : (byte : ℕ) (w : List ℕ) (ws : List (List ℕ)) → eqb byte byte ≡ true → Lacks byte w → All (Lacks byte) ws
     → parted byte (w ++ spaced byte ws) ≡ w ∷ ws
 parted-joined byte w [] own one rest =
     ap (slice_split (λ b. eqb b byte)) (append-nil w) ∙ slice_split_none (λ b. eqb b byte) w one
@@ -34,6 +36,20 @@ pub words-back : (w : List ℕ) (ws : List (List ℕ)) → IsPlain w → All IsP
     → parted 32 (joined_by 32 (w ∷ ws)) ≡ w ∷ ws
 words-back w ws one rest =
     parted-joined 32 w ws refl (plain-no_space w one) (All-weaker IsPlain (Lacks 32) plain-no_space ws rest)
+
+spaced-plain : (byte : ℕ) (ws : List (List ℕ)) → is_plain byte ≡ true → All IsPlain ws → IsPlain (spaced byte ws)
+spaced-plain byte [] own all = All-nil (λ b. is_plain b ≡ true)
+spaced-plain byte (w ∷ ws) own all =
+    All-cons (λ b. is_plain b ≡ true) byte (w ++ spaced byte ws) own
+    (All-append (λ b. is_plain b ≡ true) w (spaced byte ws) (All-head IsPlain w ws all)
+    (spaced-plain byte ws own (All-tail IsPlain w ws all)))
+
+-- texts that make one word
+pub joined-plain : (byte : ℕ) (ws : List (List ℕ)) → is_plain byte ≡ true → All IsPlain ws → IsPlain (joined_by byte ws)
+joined-plain byte [] own all = All-nil (λ b. is_plain b ≡ true)
+joined-plain byte (w ∷ ws) own all =
+    All-append (λ b. is_plain b ≡ true) w (spaced byte ws) (All-head IsPlain w ws all)
+    (spaced-plain byte ws own (All-tail IsPlain w ws all))
 
 spaced-one : (ws : List (List ℕ)) → All IsPlain ws → Lacks 59 (spaced 32 ws)
 spaced-one [] all = All-nil (λ b. eqb b 59 ≡ false)

@@ -2,7 +2,7 @@ pub mod Decimals
 pub mod Joins
 pub mod Ids
 pub mod UpdatesBack
-pub mod Sets
+pub mod CountTexts
 pub mod UpdateLists
 pub mod MessagesBack
 pub mod CallsBack

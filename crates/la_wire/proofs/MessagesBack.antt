@@ -1,13 +1,12 @@
 -- Messages are read back from their lines.
-use Rattle.std.proofs.Common.{◌≡◌, ℕ, ◌≤◌, ◌<◌, ◌^◌, List, [], ◌∷◌, length, get_or, map, All, Some, Ok, refl, sym, ap, ◌∙◌, arith}
+use Rattle.std.proofs.Common.{◌≡◌, ℕ, ◌≤◌, ◌<◌, ◌^◌, List, [], ◌∷◌, ◌++◌, map, All, Some, Ok, refl, ap, ◌∙◌, arith}
 use Rattle.std.specs.Fmt.{decimal}
 use Rattle.std.proofs.lemmas.List.Elements.{All-nil, All-cons}
 use Rattle.std.proofs.lemmas.List.Sums.{AllPass-from_list_all}
 use Rattle.la_set.specs.declared.counts.Counts.{Counts}
-use Rattle.la_set.specs.Counts.{count_in, from_counts}
-use Rattle.la_set.specs.Histories.{updates}
-use Rattle.la_set.proofs.lemmas.Counting.{count_in-known, eight-counts, same_counts}
-use Rattle.la_script.specs.Numbers.{u8_max, u32_max, u64_max, number}
+use Rattle.la_replica.specs.declared.progress.Progress.{Progress}
+use Rattle.la_node.specs.declared.link.Standing.{Standing}
+use Rattle.la_script.specs.Numbers.{u8_max, u32_max, u64_max}
 use Rattle.la_wire.specs.declared.messages.Header.{Header}
 use Rattle.la_wire.specs.declared.messages.Kind.{Kind}
 use Rattle.la_wire.specs.declared.messages.Kind.TheVariants as kind
@@ -15,12 +14,15 @@ use Rattle.la_wire.specs.Joined.{joined_by}
 use Rattle.la_wire.specs.Readings.{first_number}
 use Rattle.la_wire.specs.Updates.{update_text}
 use Rattle.la_wire.specs.Messages.{WireMessage, WireBody, Offer, Yes, No, Tell}
-use Rattle.la_wire.specs.MessageLines.{kind_text, base_word, count_words, kind_in, base_words, carried, head_words, message_text, kind_word, message_header, counts_in, base_on, body_in, message_at, message_in, message_of_parts, line_message}
-use Rattle.la_wire.specs.Writable.{IsUpdate, IsCounts, IsBody, IsMessage}
+use Rattle.la_wire.specs.MessageLines.{kind_text, has_word, view_word, base_word, counts_text, progress_words}
+use Rattle.la_wire.specs.MessageLines.{kind_in, base_words, carried, head_words, message_text, kind_word}
+use Rattle.la_wire.specs.MessageLines.{message_header, progress_in, base_on, body_in, message_at, message_in}
+use Rattle.la_wire.specs.MessageLines.{message_of_parts, line_message, standing_words, standing_in}
+use Rattle.la_wire.specs.Writable.{IsUpdate, IsCounts, IsBody, IsMessage, IsStanding}
 use Rattle.la_wire.proofs.Decimals.{number-decimal, decimal-plain, is_plain, IsPlain}
 use Rattle.la_wire.proofs.Joins.{words-back, words-part, parts-back}
 use Rattle.la_wire.proofs.UpdatesBack.{updates-back, updates-parts}
-use Rattle.la_wire.proofs.Sets.{set-back}
+use Rattle.la_wire.proofs.CountTexts.{counts-back, counts-plain}
 
 first-back : (low high n : ℕ) (rest : List (List ℕ)) → low ≤ n → n ≤ high → high < 2 ^ 64
     → first_number low high (decimal n ∷ rest) ≡ Ok (n, rest)
@@ -42,48 +44,14 @@ header-back m rest is =
       number-decimal 0 u32_max m.ballot (omega arith) is.ballot (omega arith),
     ) refl
 
-count-back : (n : ℕ) → n ≤ u32_max → number 0 u32_max (decimal n) ≡ Some n
-count-back n h = number-decimal 0 u32_max n (omega arith) h (omega arith)
+progress-back : (p : Progress) (rest : List (List ℕ)) → IsCounts p.accepted → IsCounts p.view
+    → progress_in (progress_words p ++ rest) ≡ Ok (p, rest)
+unfolding progress_in
+progress-back p rest has view = rw (counts-back p.accepted has, counts-back p.view view) refl
 
-eight-back : (a b c d e f g h : ℕ) → a ≤ u32_max → b ≤ u32_max → c ≤ u32_max → d ≤ u32_max → e ≤ u32_max → f ≤ u32_max
-    → g ≤ u32_max → h ≤ u32_max
-    → counts_in (decimal a ∷ decimal b ∷ decimal c ∷ decimal d ∷ decimal e ∷ decimal f ∷ decimal g ∷ decimal h ∷ [])
-    ≡ Ok (from_counts (λ r. get_or (a ∷ b ∷ c ∷ d ∷ e ∷ f ∷ g ∷ h ∷ []) r 0))
-unfolding counts_in
-eight-back a b c d e f g h la lb lc ld le lf lg lh =
-    rw (
-      count-back a la,
-      count-back b lb,
-      count-back c lc,
-      count-back d ld,
-      count-back e le,
-      count-back f lf,
-      count-back g
-          lg,
-      count-back h lh,
-    ) refl
-
-from-counts : (c : Counts) → length c.of ≡ 8 → from_counts (count_in c) ≡ c
-from-counts c eight =
-    same_counts (count_in c) (λ r. get_or c.of r 0) (λ r lt. count_in-known c r lt) ∙ sym (eight-counts c eight)
-
-eight-listed : (c : Counts)
-    → from_counts
-    (λ r.
-    get_or
-    (count_in c 0 ∷ count_in c 1 ∷ count_in c 2 ∷ count_in c 3 ∷ count_in c 4 ∷ count_in c 5 ∷ count_in c 6
-    ∷ count_in c 7 ∷ []) r 0) ≡ from_counts (count_in c)
-unfolding from_counts
-eight-listed c = refl
-
-counts-back : (c : Counts) → IsCounts c → counts_in (count_words c) ≡ Ok c
-counts-back c is =
-    eight-back (count_in c 0) (count_in c 1) (count_in c 2) (count_in c 3) (count_in c 4) (count_in c 5) (count_in c 6)
-    (count_in c 7) (is.each 0) (is.each 1) (is.each 2) (is.each 3) (is.each 4) (is.each 5) (is.each 6) (is.each 7)
-    ∙ ap Ok (eight-listed c ∙ from-counts c is.eight)
-
-base-back : (c : Counts) → IsCounts c → base_on (base_word ∷ count_words c) ≡ Ok c
-base-back c is = counts-back c is
+base-back : (c : Counts) → IsCounts c → base_on (base_word ∷ counts_text c ∷ []) ≡ Ok c
+unfolding base_on
+base-back c is = rw (counts-back c is) refl
 
 body-back : (body : WireBody) → IsBody body
     → body_in (kind_in body) (base_words body) (map update_text (carried body)) ≡ Ok body
@@ -91,14 +59,33 @@ unfolding body_in
 body-back (Offer base more) is = rw (base-back base is.0, updates-back more is.1) refl
 body-back Yes is = refl
 body-back (No base more) is = rw (base-back base is.0, updates-back more is.1) refl
-body-back (Tell told) is = rw (updates-back (updates told) is.1, set-back told is.0) refl
+body-back (Tell base more) is = rw (base-back base is.0, updates-back more is.1) refl
 
 message-parts : (m : WireMessage) → IsMessage m
     → message_at (kind_in m.body)
-    (decimal m.replicas ∷ decimal m.from ∷ decimal m.to ∷ decimal m.instance ∷ decimal m.ballot ∷ base_words m.body)
+    (decimal m.replicas ∷ decimal m.from ∷ decimal m.to ∷ decimal m.instance ∷ decimal m.ballot
+    ∷ progress_words m.progress ++ base_words m.body)
     (map update_text (carried m.body)) ≡ Ok m
 unfolding message_at
-message-parts m is = rw (header-back m (base_words m.body) is, body-back m.body is.body) refl
+message-parts m is =
+    rw (
+      header-back m (progress_words m.progress ++ base_words m.body) is,
+      progress-back m.progress (base_words m.body) is.accepted is.view,
+      body-back m.body is.body,
+    ) refl
+
+-- ## How far a replica is
+
+pub standing-back : (s : Standing) → IsStanding s → standing_in (standing_words s) ≡ Ok s
+unfolding standing_in progress_in
+standing-back s is =
+    rw (
+      number-decimal 1 8 s.replicas is.some is.few (omega arith),
+      number-decimal 0 u8_max s.from (omega arith) is.from (omega arith),
+      number-decimal 0 u8_max s.to (omega arith) is.to (omega arith),
+      counts-back s.progress.accepted is.accepted,
+      counts-back s.progress.view is.view,
+    ) refl
 
 kind-back : (k : Kind) → kind_word (kind_text k) ≡ Some k
 kind-back kind.Offer = refl
@@ -121,53 +108,62 @@ kind-plain kind.Tell = AllPass-from_list_all is_plain (kind_text kind.Tell) refl
 and-number : (n : ℕ) (words : List (List ℕ)) → n ≤ u64_max → All IsPlain words → All IsPlain (decimal n ∷ words)
 and-number n words few rest = All-cons IsPlain (decimal n) words (decimal-plain n (omega arith)) rest
 
-and-count : (c : Counts) (r : ℕ) (words : List (List ℕ)) → IsCounts c → All IsPlain words
-    → All IsPlain (decimal (count_in c r) ∷ words)
-and-count c r words is rest = and-number (count_in c r) words (omega (arith, is.each r)) rest
+-- counts behind a word
+labelled : (label : List ℕ) (c : Counts) (words : List (List ℕ)) → IsPlain label → IsCounts c → All IsPlain words
+    → All IsPlain (label ∷ counts_text c ∷ words)
+labelled label c words first is rest =
+    All-cons IsPlain label (counts_text c ∷ words) first
+    (All-cons IsPlain (counts_text c) words (counts-plain c is) rest)
 
-counts-plain : (c : Counts) → IsCounts c → All IsPlain (base_word ∷ count_words c)
-counts-plain c is =
-    let w7 : List (List ℕ) = decimal (count_in c 7) ∷ [] in
-    let w6 : List (List ℕ) = decimal (count_in c 6) ∷ w7 in
-    let w5 : List (List ℕ) = decimal (count_in c 5) ∷ w6 in
-    let w4 : List (List ℕ) = decimal (count_in c 4) ∷ w5 in
-    let w3 : List (List ℕ) = decimal (count_in c 3) ∷ w4 in
-    let w2 : List (List ℕ) = decimal (count_in c 2) ∷ w3 in
-    let w1 : List (List ℕ) = decimal (count_in c 1) ∷ w2 in
-    All-cons IsPlain base_word (count_words c) (AllPass-from_list_all is_plain base_word refl)
-    (and-count c 0 w1 is
-    (and-count c 1 w2 is
-    (and-count c 2 w3 is
-    (and-count c 3 w4 is
-    (and-count c 4 w5 is (and-count c 5 w6 is (and-count c 6 w7 is (and-count c 7 [] is (All-nil IsPlain)))))))))
+base-plain-of : (c : Counts) → IsCounts c → All IsPlain (base_word ∷ counts_text c ∷ [])
+base-plain-of c is = labelled base_word c [] (AllPass-from_list_all is_plain base_word refl) is (All-nil IsPlain)
 
 base-plain : (body : WireBody) → IsBody body → All IsPlain (base_words body)
-base-plain (Offer base more) is = counts-plain base is.0
+base-plain (Offer base more) is = base-plain-of base is.0
 base-plain Yes is = All-nil IsPlain
-base-plain (No base more) is = counts-plain base is.0
-base-plain (Tell told) is = All-nil IsPlain
+base-plain (No base more) is = base-plain-of base is.0
+base-plain (Tell base more) is = base-plain-of base is.0
 
 pub carried-updates : (body : WireBody) → IsBody body → All IsUpdate (carried body)
 carried-updates (Offer base more) is = is.1
 carried-updates Yes is = All-nil IsUpdate
 carried-updates (No base more) is = is.1
-carried-updates (Tell told) is = is.1
+carried-updates (Tell base more) is = is.1
+
+progress-plain : (m : WireMessage) → IsMessage m → All IsPlain (progress_words m.progress ++ base_words m.body)
+progress-plain m is =
+    let rest : List (List ℕ) = base_words m.body in
+    labelled has_word m.progress.accepted (view_word ∷ counts_text m.progress.view ∷ rest)
+    (AllPass-from_list_all is_plain has_word refl) is.accepted
+    (labelled view_word m.progress.view rest (AllPass-from_list_all is_plain view_word refl) is.view
+    (base-plain m.body is.body))
 
 behind : WireMessage → List (List ℕ)
 behind m =
-    decimal m.replicas ∷ decimal m.from ∷ decimal m.to ∷ decimal m.instance ∷ decimal m.ballot ∷ base_words m.body
+    decimal m.replicas ∷ decimal m.from ∷ decimal m.to ∷ decimal m.instance ∷ decimal m.ballot
+    ∷ progress_words m.progress ++ base_words m.body
 
 behind-plain : (m : WireMessage) → IsMessage m → All IsPlain (behind m)
 unfolding behind
 behind-plain m is =
-    let w5 : List (List ℕ) = base_words m.body in
+    let w5 : List (List ℕ) = progress_words m.progress ++ base_words m.body in
     let w4 : List (List ℕ) = decimal m.ballot ∷ w5 in
     let w3 : List (List ℕ) = decimal m.instance ∷ w4 in
     let w2 : List (List ℕ) = decimal m.to ∷ w3 in
     let w1 : List (List ℕ) = decimal m.from ∷ w2 in
     and-number m.replicas w1 (omega (arith, is.few))
     (and-number m.from w2 (omega (arith, is.from)) (and-number m.to w3 (omega (arith, is.to))
-    (and-number m.instance w4 (omega (arith, is.instance)) (and-number m.ballot w5 (omega (arith, is.ballot)) (base-plain m.body is.body)))))
+    (and-number m.instance w4 (omega (arith, is.instance)) (and-number m.ballot w5 (omega (arith, is.ballot)) (progress-plain m is)))))
+
+pub standing-plain : (s : Standing) → IsStanding s → All IsPlain (standing_words s)
+standing-plain s is =
+    let words : List (List ℕ) = progress_words s.progress in
+    and-number s.replicas (decimal s.from ∷ decimal s.to ∷ words) (omega (arith, is.few))
+    (and-number s.from (decimal s.to ∷ words) (omega (arith, is.from))
+    (and-number s.to words (omega (arith, is.to))
+    (labelled has_word s.progress.accepted (view_word ∷ counts_text s.progress.view ∷ [])
+    (AllPass-from_list_all is_plain has_word refl) is.accepted
+    (labelled view_word s.progress.view [] (AllPass-from_list_all is_plain view_word refl) is.view (All-nil IsPlain)))))
 
 pub head-plain : (m : WireMessage) → IsMessage m → All IsPlain (head_words m)
 unfolding behind

@@ -1,5 +1,6 @@
 -- The test tells what can be had.
-use Rattle.std.proofs.Common.{◌≡◌, ℕ, suc, ◌≤◌, Bool, true, false, leb, eqb, ◌&&◌, List, [], ◌∷◌, length, All, AllPairs, Decides, refl, sym, subst, arith, inl, inr}
+use Rattle.std.proofs.Common.{◌≡◌, ℕ, suc, ◌≤◌, Bool, true, false, leb, eqb, ◌&&◌, List, [], ◌∷◌, length, All}
+use Rattle.std.proofs.Common.{AllPairs, Decides, refl, sym, subst, arith, inl, inr}
 use Rattle.std.specs.List.{list_all}
 use Rattle.std.proofs.lemmas.Bool.{leb-true, le-leb, cases_lt}
 use Rattle.std.proofs.lemmas.Bool.Decides.{Decides-and, Decides-like, Decides-eqb}
@@ -14,17 +15,18 @@ use Rattle.la_set.specs.declared.counts.Counts.{Counts}
 use Rattle.la_set.specs.Ids.{IsBelow, id_below}
 use Rattle.la_set.specs.Tags.{IsTags}
 use Rattle.la_set.specs.Counts.{count_in}
-use Rattle.la_set.specs.Histories.{Histories, listed, history, updates, IsWithinLimit}
 use Rattle.la_set.proofs.lemmas.Counting.{count_in-known, count_in-past}
 use Rattle.la_set.proofs.lemmas.IdOrder.{below-test, test-below}
-use Rattle.la_set.proofs.lemmas.SetHistories.{count_past}
 use Rattle.la_object.specs.declared.query.Query.{Query}
 use Rattle.la_object.specs.declared.query.Query.TheVariants as query
 use Rattle.la_script.specs.Numbers.{u8_max, u16_max, u32_max, u64_max}
+use Rattle.la_node.specs.declared.link.Standing.{Standing}
 use Rattle.la_wire.specs.Messages.{WireMessage, WireBody, Offer, Yes, No, Tell}
-use Rattle.la_wire.specs.Calls.{WireCall, Submit, Decide, Ask, Tick, Receive}
-use Rattle.la_wire.specs.Writable.{IsId, IsOp, IsUpdate, IsCounts, IsBody, IsMessage, IsVoteless, IsQuery, IsCall}
-use Rattle.la_wire.specs.Tests.{is_id, are_ascending, are_tags, is_op, is_wire_update, are_counts, is_within_limit, is_body, is_message, is_voteless, is_query, is_call}
+use Rattle.la_wire.specs.Calls.{WireCall, Submit, Decide, Ask, Tick, Receive, Known}
+use Rattle.la_wire.specs.Writable.{IsId, IsOp, IsUpdate, IsCounts, IsBody, IsMessage, IsStanding, IsVoteless, IsQuery}
+use Rattle.la_wire.specs.Writable.{IsCall}
+use Rattle.la_wire.specs.Tests.{is_id, are_ascending, are_tags, is_op, is_wire_update, are_counts, is_body}
+use Rattle.la_wire.specs.Tests.{is_message, is_standing, is_voteless, is_query, is_call}
 
 decides-le : (a b : ℕ) → Decides (leb a b) (a ≤ b)
 decides-le a b = (leb-true a b, le-leb a b)
@@ -104,44 +106,43 @@ decides-counts c =
     (Decides-and (eqb (length c.of) 8) (list_all (λ n. leb n u32_max) c.of) (Decides-eqb (length c.of) 8)
     (decides-all (λ n. leb n u32_max) (λ n. n ≤ u32_max) (λ n. decides-le n u32_max) c.of))
 
-limit-from : (s : Histories) → All (λ ds. length ds ≤ 1000000) (listed s) → IsWithinLimit s
-unfolding history
-limit-from s all r = elim (cases_lt r 8) [
-  | inl lt ↦ All-get_or (λ ds. length ds ≤ 1000000) (listed s) r [] (omega (arith, lt)) all
-  | inr le ↦ omega (arith, count_past s r le)
-]
-
-limit-to : (s : Histories) → IsWithinLimit s → All (λ ds. length ds ≤ 1000000) (listed s)
-unfolding history
-limit-to s few = All-from_get_or (λ ds. length ds ≤ 1000000) (listed s) [] (λ i lt. few i)
-
-decides-limit : (s : Histories) → Decides (is_within_limit s) (IsWithinLimit s)
-decides-limit s =
-    Decides-like (is_within_limit s) (limit-from s) (limit-to s)
-    (decides-all (λ ds. leb (length ds) 1000000) (λ ds. length ds ≤ 1000000) (λ ds. decides-le (length ds) 1000000)
-    (listed s))
-
 decides-body : (body : WireBody) → Decides (is_body body) (IsBody body)
 decides-body (Offer base more) =
     Decides-and (are_counts base) (list_all is_wire_update more) (decides-counts base) (decides-updates more)
 decides-body Yes = decides-yes
 decides-body (No base more) =
     Decides-and (are_counts base) (list_all is_wire_update more) (decides-counts base) (decides-updates more)
-decides-body (Tell told) =
-    Decides-and (is_within_limit told) (list_all is_wire_update (updates told)) (decides-limit told)
-    (decides-updates (updates told))
+decides-body (Tell base more) =
+    Decides-and (are_counts base) (list_all is_wire_update more) (decides-counts base) (decides-updates more)
 
 decides-two : (a b c d : ℕ) → Decides (leb a b && leb c d) ((a ≤ b) × (c ≤ d))
 decides-two a b c d = Decides-and (leb a b) (leb c d) (decides-le a b) (decides-le c d)
 
+decides-both : (c d : Counts) → Decides (are_counts c && are_counts d) (IsCounts c × IsCounts d)
+decides-both c d = Decides-and (are_counts c) (are_counts d) (decides-counts c) (decides-counts d)
+
 decides-message : (m : WireMessage) → Decides (is_message m) (IsMessage m)
 decides-message m =
+    let content : Bool = (are_counts m.progress.accepted && are_counts m.progress.view) && is_body m.body in
     Decides-like (is_message m)
-    (λ p. record { some = p.0.0; few = p.0.1; from = p.1.0.0; to = p.1.0.1; instance = p.1.1.0.0; ballot = p.1.1.0.1; body = p.1.1.1 })
-    (λ is. ((is.some, is.few), ((is.from, is.to), ((is.instance, is.ballot), is.body))))
-    (Decides-and (leb 1 m.replicas && leb m.replicas 8) ((leb m.from u8_max && leb m.to u8_max) && ((leb m.instance u8_max && leb m.ballot u32_max) && is_body m.body)) (decides-two 1 m.replicas m.replicas 8)
-    (Decides-and (leb m.from u8_max && leb m.to u8_max) ((leb m.instance u8_max && leb m.ballot u32_max) && is_body m.body) (decides-two m.from u8_max m.to u8_max)
-    (Decides-and (leb m.instance u8_max && leb m.ballot u32_max) (is_body m.body) (decides-two m.instance u8_max m.ballot u32_max) (decides-body m.body))))
+    (λ p. record { some = p.0.0; few = p.0.1; from = p.1.0.0; to = p.1.0.1; instance = p.1.1.0.0; ballot = p.1.1.0.1; accepted = p.1.1.1.0.0; view = p.1.1.1.0.1; body = p.1.1.1.1 })
+    (λ is. ((is.some, is.few), ((is.from, is.to), ((is.instance, is.ballot), ((is.accepted, is.view), is.body)))))
+    (Decides-and (leb 1 m.replicas && leb m.replicas 8) ((leb m.from u8_max && leb m.to u8_max) && ((leb m.instance u8_max && leb m.ballot u32_max) && content)) (decides-two 1 m.replicas m.replicas 8)
+    (Decides-and (leb m.from u8_max && leb m.to u8_max) ((leb m.instance u8_max && leb m.ballot u32_max) && content) (decides-two m.from u8_max m.to u8_max)
+    (Decides-and (leb m.instance u8_max && leb m.ballot u32_max) content (decides-two m.instance u8_max m.ballot u32_max)
+    (Decides-and (are_counts m.progress.accepted && are_counts m.progress.view) (is_body m.body) (decides-both m.progress.accepted m.progress.view) (decides-body m.body)))))
+
+decides-standing : (s : Standing) → Decides (is_standing s) (IsStanding s)
+decides-standing s =
+    let counts = are_counts s.progress.accepted && are_counts s.progress.view in
+    Decides-like (is_standing s)
+    (λ p. record { some = p.0.0; few = p.0.1; from = p.1.0.0; to = p.1.0.1; accepted = p.1.1.0; view = p.1.1.1 })
+    (λ is. ((is.some, is.few), ((is.from, is.to), (is.accepted, is.view))))
+    (Decides-and (leb 1 s.replicas && leb s.replicas 8) ((leb s.from u8_max && leb s.to u8_max) && counts)
+    (decides-two 1 s.replicas s.replicas 8)
+    (Decides-and (leb s.from u8_max && leb s.to u8_max) counts (decides-two s.from u8_max s.to u8_max)
+    (Decides-and (are_counts s.progress.accepted) (are_counts s.progress.view) (decides-counts s.progress.accepted)
+    (decides-counts s.progress.view))))
 
 decides-voteless : (op : Op) → Decides (is_voteless op) (IsVoteless op)
 decides-voteless (Inc x) = decides-yes
@@ -174,3 +175,4 @@ decides-call (Ask r o q) =
     (Decides-and (leb o u16_max) (is_query q) (decides-le o u16_max) (decides-query q)))
 decides-call Tick = decides-yes
 decides-call (Receive m) = decides-message m
+decides-call (Known s) = decides-standing s

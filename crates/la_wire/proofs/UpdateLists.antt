@@ -1,10 +1,10 @@
 -- Updates that are read one after another, and parts that are written so.
-use Rattle.std.proofs.Common.{◌≡◌, ℕ, zero, suc, ◌+◌, ◌<◌, List, [], ◌∷◌, ◌++◌, drop, map, Some, ◌∙◌, Ok, Err, Result, refl, sym, ap, append_assoc, arith}
+use Rattle.std.proofs.Common.{◌≡◌, ℕ, zero, suc, ◌+◌, ◌<◌, List, [], ◌∷◌, ◌++◌, drop, map, Some, ◌∙◌, Ok, Err, Result}
+use Rattle.std.proofs.Common.{refl, sym, ap, append_assoc, arith}
 use Rattle.std.specs.Fmt.{decimal}
 use Rattle.std.specs.List.{slice_get}
 use Rattle.std.proofs.lemmas.Option.{none-some, same_Some}
 use Rattle.la_set.specs.declared.counts.Counts.{Counts}
-use Rattle.la_set.specs.declared.update.Update.{Update}
 use Rattle.la_set.specs.Counts.{count_in}
 use Rattle.la_wire.specs.declared.error.LineFault.{LineFault}
 use Rattle.la_wire.specs.Joined.{spaced}
@@ -12,8 +12,8 @@ use Rattle.la_wire.specs.Readings.{◌>>=◌}
 use Rattle.la_wire.specs.Updates.{made}
 use Rattle.la_wire.specs.MessageLines.{count_words}
 
--- one more update in front of those that are left
-pub goes_on : (us : List Update) (u : Update) (rest : Result (List Update) LineFault)
+-- one more in front of those that are left
+pub goes_on : {A : Type 0} (us : List A) (u : A) (rest : Result (List A) LineFault)
     → made (λ more. us ++ more) (rest >>= (λ more. Ok (u ∷ more))) ≡ made (λ more. (us ++ u ∷ []) ++ more) rest
 goes_on us u (Ok more) = ap Ok (sym (append_assoc us (u ∷ []) more))
 goes_on us u (Err fault) = refl

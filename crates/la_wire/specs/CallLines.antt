@@ -1,5 +1,6 @@
 -- A call as a line: a message, `tick`, or an event of a script of version 2 that is no delivery.
-use Rattle.std.specs.Prelude.{ℕ, nat_lt, Bool, true, not, ◌&&◌, List, [], ◌∷◌, codes, length, Option, Some, None, Result, Ok, Err, ◌==◌, if◌then◌else◌}
+use Rattle.std.specs.Prelude.{ℕ, nat_lt, Bool, true, not, ◌&&◌, List, [], ◌∷◌, codes, length, Option, Some, None}
+use Rattle.std.specs.Prelude.{Result, Ok, Err, ◌==◌, if◌then◌else◌}
 use Rattle.std.specs.List.{before_first, list_all}
 use Rattle.std.specs.Fmt.{decimal}
 use Rattle.std.specs.Str.{bytes_eq}
@@ -17,10 +18,10 @@ use Rattle.la_wire.specs.declared.error.LineFault.{LineFault}
 use Rattle.la_wire.specs.declared.error.LineFault.TheVariants.{TooLong, BadLine, BadNumber}
 use Rattle.la_wire.specs.declared.messages.Kind.{Kind}
 use Rattle.la_io.specs.declared.source.TheConstants.{MAX_LINE}
-use Rattle.la_wire.specs.Joined.{joined_by}
+use Rattle.la_wire.specs.Joined.{joined_by, parted}
 use Rattle.la_wire.specs.Updates.{made, op_words}
-use Rattle.la_wire.specs.MessageLines.{kind_word, message_text, line_message}
-use Rattle.la_wire.specs.Calls.{WireCall, Submit, Decide, Ask, Tick, Receive}
+use Rattle.la_wire.specs.MessageLines.{kind_word, message_text, line_message, known_word, standing_text, standing_in}
+use Rattle.la_wire.specs.Calls.{WireCall, Submit, Decide, Ask, Tick, Receive, Known}
 
 -- ## As it is written
 
@@ -45,6 +46,7 @@ call_line_text (Ask replica object query) =
     joined_by 32 (spelling keyword.Ask ∷ decimal replica ∷ decimal object ∷ query_words query)
 call_line_text Tick = tick_word
 call_line_text (Receive message) = message_text message
+call_line_text (Known standing) = standing_text standing
 
 -- ## As it is read
 
@@ -67,9 +69,21 @@ script_call (Err name) = Err (fault_of name)
 abbrev pub first_kind : List ℕ → Option Kind
 first_kind line = kind_word (before_first (λ b. b == 32) line)
 
+-- whether a line's first word is `known`
+abbrev pub is_known : List ℕ → Bool
+is_known line = bytes_eq (before_first (λ b. b == 32) line) known_word
+
+abbrev pub known_by : List (List ℕ) → Result WireCall LineFault
+known_by [] = Err BadLine
+known_by (word ∷ words) = made Known (standing_in words)
+
+-- how far a replica is, by such a line
+abbrev pub known_call : List ℕ → Result WireCall LineFault
+known_call line = known_by (parted 32 line)
+
 abbrev pub call_by : Option Kind → List ℕ → Result WireCall LineFault
 call_by (Some kind) line = made Receive (line_message line)
-call_by None line = script_call (line_event Two line)
+call_by None line = if is_known line then known_call line else script_call (line_event Two line)
 
 -- the call that a line says, or its first fault
 unfoldable pub call_of : List ℕ → Result WireCall LineFault

@@ -1,20 +1,24 @@
--- A message as a line: a head, and behind it, each with `;` before it, the updates.
-use Rattle.std.specs.Prelude.{ℕ, List, [], ◌∷◌, ◌++◌, map, codes, slice_index_or, Option, Some, None, Result, Ok, Err, if◌then◌else◌}
+-- A letter as a line: a head, and behind it, each with `;` before it, the updates.
+use Rattle.std.specs.Prelude.{ℕ, zero, suc, nat_le, ◌==◌, List, [], ◌∷◌, ◌++◌, map, take, length, codes}
+use Rattle.std.specs.Prelude.{slice_index_or, Option, Some, None, Result, Ok, Err, if◌then◌else◌}
+use Rattle.std.specs.Borrow.{Bor}
 use Rattle.std.specs.Fmt.{decimal}
 use Rattle.std.specs.Str.{bytes_eq}
 use Rattle.la_set.specs.declared.update.Update.{Update}
+use Rattle.la_set.specs.declared.set.TheConstants.{REPLICAS}
 use Rattle.la_set.specs.declared.counts.Counts.{Counts}
 use Rattle.la_set.specs.Counts.{count_in, from_counts}
-use Rattle.la_set.specs.Histories.{updates}
+use Rattle.la_replica.specs.declared.progress.Progress.{Progress}
 use Rattle.la_script.specs.Numbers.{u8_max, u32_max}
 use Rattle.la_wire.specs.declared.error.LineFault.{LineFault}
-use Rattle.la_wire.specs.declared.error.LineFault.TheVariants.{BadLine}
+use Rattle.la_wire.specs.declared.error.LineFault.TheVariants.{BadLine, BadNumber}
+use Rattle.la_node.specs.declared.link.Standing.{Standing}
 use Rattle.la_wire.specs.declared.messages.Kind.{Kind}
 use Rattle.la_wire.specs.declared.messages.Kind.TheVariants as kind
 use Rattle.la_wire.specs.declared.messages.Header.{Header}
-use Rattle.la_wire.specs.Joined.{joined_by, parted, spaced}
-use Rattle.la_wire.specs.Readings.{◌>>=◌, or_line_fault, first_number, at_end}
-use Rattle.la_wire.specs.Updates.{update_text, updates_in, rebuilt_set}
+use Rattle.la_wire.specs.Joined.{joined_by, parted}
+use Rattle.la_wire.specs.Readings.{◌>>=◌, or_line_fault, with_rest, number_on, first_number, at_end}
+use Rattle.la_wire.specs.Updates.{update_text, made, updates_in}
 use Rattle.la_wire.specs.Messages.{WireMessage, WireBody, Offer, Yes, No, Tell}
 
 -- ## As it is written
@@ -25,47 +29,85 @@ kind_text kind.Yes = codes "yes"
 kind_text kind.No = codes "no"
 kind_text kind.Tell = codes "tell"
 
+abbrev pub has_word : List ℕ
+has_word = codes "has"
+
+abbrev pub view_word : List ℕ
+view_word = codes "view"
+
 abbrev pub base_word : List ℕ
 base_word = codes "base"
 
 -- how many updates of each replica, from 0 on
+abbrev pub numbers_in : Counts → List ℕ
+numbers_in c =
+    count_in c 0 ∷ count_in c 1 ∷ count_in c 2 ∷ count_in c 3 ∷
+    count_in c 4 ∷ count_in c 5 ∷ count_in c 6 ∷ count_in c 7 ∷ []
+
+-- a word for each of them, as notes have them
 abbrev pub count_words : Counts → List (List ℕ)
-count_words base =
-    decimal (count_in base 0) ∷ decimal (count_in base 1) ∷ decimal (count_in base 2) ∷ decimal (count_in base 3) ∷
-    decimal (count_in base 4) ∷ decimal (count_in base 5) ∷ decimal (count_in base 6) ∷ decimal (count_in base 7) ∷ []
+count_words c = map decimal (numbers_in c)
+
+-- how many of the numbers up to this replica's are written: without the zeros at the end, but at least one
+abbrev pub used_from : Counts → (last : ℕ) → ℕ
+used_from c zero = 1
+used_from c (suc r) = if count_in c (suc r) == 0 then used_from c r else suc (suc r)
+
+-- how many numbers are written: 1 to 8, up to the last that is not 0
+unfoldable pub used : Counts → ℕ
+used c = used_from c 7
+
+-- counts as one word: these numbers, with `,` between them
+unfoldable pub counts_text : Counts → List ℕ
+counts_text c = joined_by 44 (map decimal (take (used c) (numbers_in c)))
 
 abbrev pub kind_in : WireBody → Kind
 kind_in (Offer base more) = kind.Offer
 kind_in Yes = kind.Yes
 kind_in (No base more) = kind.No
-kind_in (Tell told) = kind.Tell
+kind_in (Tell base more) = kind.Tell
 
 abbrev pub base_words : WireBody → List (List ℕ)
-base_words (Offer base more) = base_word ∷ count_words base
+base_words (Offer base more) = base_word ∷ counts_text base ∷ []
 base_words Yes = []
-base_words (No base more) = base_word ∷ count_words base
-base_words (Tell told) = []
+base_words (No base more) = base_word ∷ counts_text base ∷ []
+base_words (Tell base more) = base_word ∷ counts_text base ∷ []
 
--- the updates that a message carries: of a set, in the order of their ids
+-- the updates that a message carries
 abbrev pub carried : WireBody → List Update
 carried (Offer base more) = more
 carried Yes = []
 carried (No base more) = more
-carried (Tell told) = updates told
+carried (Tell base more) = more
 
--- the kind, then the group's size, sender, receiver, instance and ballot
-abbrev pub message_header_text : WireMessage → List ℕ
-message_header_text m = kind_text (kind_in m.body) ++ spaced 32
-    (decimal m.replicas ∷ decimal m.from ∷ decimal m.to ∷ decimal m.instance ∷ decimal m.ballot ∷ [])
+-- how far the sender is: by what it has accepted, and by its view
+abbrev pub progress_words : Progress → List (List ℕ)
+progress_words p = has_word ∷ counts_text p.accepted ∷ view_word ∷ counts_text p.view ∷ []
 
--- `offer`, `yes`, `no` or `tell`, then the group's size, sender, receiver, instance and ballot, and then the base
-abbrev pub head_words : WireMessage → List (List ℕ)
-head_words m =
+-- `offer`, `yes`, `no` or `tell`, then the group's size, sender, receiver, instance and ballot
+abbrev pub header_words : WireMessage → List (List ℕ)
+header_words m =
     kind_text (kind_in m.body) ∷ decimal m.replicas ∷ decimal m.from ∷ decimal m.to ∷ decimal m.instance ∷
-    decimal m.ballot ∷ base_words m.body
+    decimal m.ballot ∷ []
+
+-- then how far the sender is, and then the base
+abbrev pub head_words : WireMessage → List (List ℕ)
+head_words m = header_words m ++ progress_words m.progress ++ base_words m.body
 
 abbrev pub message_text : WireMessage → List ℕ
 message_text m = joined_by 59 (joined_by 32 (head_words m) ∷ map update_text (carried m.body))
+
+-- ## How far a replica is
+
+abbrev pub known_word : List ℕ
+known_word = codes "known"
+
+-- `known`, then the group's size, whose it is and for whom, and how far it is
+abbrev pub standing_words : Standing → List (List ℕ)
+standing_words s = decimal s.replicas ∷ decimal s.from ∷ decimal s.to ∷ progress_words s.progress
+
+abbrev pub standing_text : Standing → List ℕ
+standing_text s = joined_by 32 (known_word ∷ standing_words s)
 
 -- ## As it is read
 
@@ -86,51 +128,87 @@ message_header words = do
   ballot ← first_number 0 u32_max instance.1
   Ok (record { replicas = replicas.0; from = from.0; to = to.0; instance = instance.0; ballot = ballot.0 }, ballot.1)
 
--- eight counts, and nothing behind them
-unfoldable pub counts_in : List (List ℕ) → Result Counts LineFault
-counts_in words = do
-  a ← first_number 0 u32_max words
-  b ← first_number 0 u32_max a.1
-  c ← first_number 0 u32_max b.1
-  d ← first_number 0 u32_max c.1
-  e ← first_number 0 u32_max d.1
-  f ← first_number 0 u32_max e.1
-  g ← first_number 0 u32_max f.1
-  h ← first_number 0 u32_max g.1
-  end ← at_end h.1
-  Ok (from_counts (λ r. slice_index_or (a.0 ∷ b.0 ∷ c.0 ∷ d.0 ∷ e.0 ∷ f.0 ∷ g.0 ∷ h.0 ∷ []) r 0))
+-- the numbers that these texts are
+abbrev pub numbers_on : List (List ℕ) → Result (List ℕ) LineFault
+numbers_on [] = Ok []
+numbers_on (text ∷ texts) = do
+  n ← number_on 0 u32_max text
+  ns ← numbers_on texts
+  Ok (n ∷ ns)
 
-abbrev pub base_on : List (List ℕ) → Result Counts LineFault
-base_on [] = Err BadLine
-base_on (word ∷ words) = if bytes_eq word base_word then counts_in words else Err BadLine
+-- the counts with these numbers: of a replica that has none, 0
+abbrev pub counts_with : List ℕ → Counts
+counts_with numbers = from_counts (λ r. slice_index_or numbers r 0)
 
--- what stands behind the header, and the parts behind the head
-unfoldable pub body_in : Kind → List (List ℕ) → List (List ℕ) → Result WireBody LineFault
-body_in kind.Offer words parts = do
+-- the counts that a word is: at most eight numbers, with `,` between them
+unfoldable pub counts_on : List ℕ → Result Counts LineFault
+counts_on word =
+    if nat_le (length (parted 44 word)) REPLICAS then made counts_with (numbers_on (parted 44 word)) else Err BadNumber
+
+-- the texts in what is left of such a word: none, where nothing is left
+abbrev pub texts_left : Option (Bor (List ℕ)) → List (List ℕ)
+texts_left None = []
+texts_left (Some texts) = parted 44 texts.now
+
+-- the first of the words, as counts, and the words behind it
+abbrev pub first_counts : List (List ℕ) → Result (Counts × List (List ℕ)) LineFault
+first_counts [] = Err BadLine
+first_counts (word ∷ words) = with_rest words (counts_on word)
+
+-- the same, behind this word
+abbrev pub counts_behind : (label : List ℕ) → List (List ℕ) → Result (Counts × List (List ℕ)) LineFault
+counts_behind label [] = Err BadLine
+counts_behind label (word ∷ words) = if bytes_eq word label then first_counts words else Err BadLine
+
+-- how far the sender is, and the words behind it
+unfoldable pub progress_in : List (List ℕ) → Result (Progress × List (List ℕ)) LineFault
+progress_in words = do
+  accepted ← counts_behind has_word words
+  view ← counts_behind view_word accepted.1
+  Ok (record { accepted = accepted.0; view = view.0 }, view.1)
+
+-- how far a replica is, by the words behind `known`
+unfoldable pub standing_in : List (List ℕ) → Result Standing LineFault
+standing_in words = do
+  replicas ← first_number 1 8 words
+  from ← first_number 0 u8_max replicas.1
+  to ← first_number 0 u8_max from.1
+  progress ← progress_in to.1
+  end ← at_end progress.1
+  Ok (record { replicas = replicas.0; from = from.0; to = to.0; progress = progress.0 })
+
+-- the base, and nothing behind it
+unfoldable pub base_on : List (List ℕ) → Result Counts LineFault
+base_on words = do
+  base ← counts_behind base_word words
+  end ← at_end base.1
+  Ok base.0
+
+-- a base, and the updates over it
+abbrev pub delta_in : List (List ℕ) → List (List ℕ) → Result (Counts × List Update) LineFault
+delta_in words parts = do
   base ← base_on words
   more ← updates_in parts
-  Ok (Offer base more)
+  Ok (base, more)
+
+-- what stands behind the progress, and the parts behind the head
+unfoldable pub body_in : Kind → List (List ℕ) → List (List ℕ) → Result WireBody LineFault
+body_in kind.Offer words parts = made (λ d. Offer d.0 d.1) (delta_in words parts)
 body_in kind.Yes words parts = do
   end ← at_end words
   last ← at_end parts
   Ok Yes
-body_in kind.No words parts = do
-  base ← base_on words
-  more ← updates_in parts
-  Ok (No base more)
-body_in kind.Tell words parts = do
-  end ← at_end words
-  us ← updates_in parts
-  told ← rebuilt_set us
-  Ok (Tell told)
+body_in kind.No words parts = made (λ d. No d.0 d.1) (delta_in words parts)
+body_in kind.Tell words parts = made (λ d. Tell d.0 d.1) (delta_in words parts)
 
-abbrev pub letter : Header → WireBody → WireMessage
-letter h body = record {
+abbrev pub letter : Header → Progress → WireBody → WireMessage
+letter h progress body = record {
   replicas = h.replicas;
   from = h.from;
   to = h.to;
   instance = h.instance;
   ballot = h.ballot;
+  progress = progress;
   body = body;
 }
 
@@ -138,8 +216,9 @@ letter h body = record {
 unfoldable pub message_at : Kind → List (List ℕ) → List (List ℕ) → Result WireMessage LineFault
 message_at kind words parts = do
   header ← message_header words
-  body ← body_in kind header.1 parts
-  Ok (letter header.0 body)
+  progress ← progress_in header.1
+  body ← body_in kind progress.1 parts
+  Ok (letter header.0 progress.0 body)
 
 -- the message that a head's words and the parts behind it say
 abbrev pub message_in : List (List ℕ) → List (List ℕ) → Result WireMessage LineFault

@@ -1,11 +1,12 @@
--- What messages say: of a delta its base and its updates, whatever it was made of.
+-- What letters say: of a delta its base and its updates, whatever it was made of.
 use Rattle.std.specs.Prelude.{ℕ, List}
 use Rattle.la_set.specs.declared.update.Update.{Update}
 use Rattle.la_set.specs.declared.counts.Counts.{Counts}
-use Rattle.la_set.specs.Histories.{Histories}
-use Rattle.la_replica.specs.declared.message.Body as code
-use Rattle.la_replica.specs.declared.message.Body.TheVariants as body
-use Rattle.la_wire.specs.declared.letter.Letter.{Letter}
+use Rattle.la_set.specs.Deltas.{DeltaState}
+use Rattle.la_replica.specs.declared.parcel.Content.{Content}
+use Rattle.la_replica.specs.declared.parcel.Content.TheVariants as content
+use Rattle.la_replica.specs.declared.progress.Progress.{Progress}
+use Rattle.la_node.specs.declared.link.Letter.{Letter}
 
 pub data WireBody : Type 0 where
   -- over a base, these updates beyond it are offered
@@ -14,8 +15,8 @@ pub data WireBody : Type 0 where
   Yes : WireBody
   -- it is refused, and this is accepted now
   No : Counts → List Update → WireBody
-  -- this set was learnt
-  Tell : Histories → WireBody
+  -- a set was learnt: over a base, these updates beyond it
+  Tell : Counts → List Update → WireBody
 
 -- a message of a group
 pub record WireMessage : Type 0 where
@@ -28,21 +29,28 @@ pub record WireMessage : Type 0 where
   pub instance : ℕ
   -- the ballot's number
   pub ballot : ℕ
+  -- how far its sender is
+  pub progress : Progress
   pub body : WireBody
 
-abbrev pub said_body : code.Body → WireBody
-said_body (body.Offer d) = Offer d.base d.more
-said_body body.Yes = Yes
-said_body (body.No d) = No d.base d.more
-said_body (body.Tell told) = Tell told
+-- what a delta says
+abbrev pub said_delta : DeltaState → Counts × List Update
+said_delta d = (d.base, d.more)
+
+abbrev pub said_content : Content → WireBody
+said_content (content.Offer d) = Offer d.base d.more
+said_content content.Yes = Yes
+said_content (content.No d) = No d.base d.more
+said_content (content.Tell d) = Tell d.base d.more
 
 -- what a letter says
 abbrev pub letter_message : Letter → WireMessage
 letter_message l = record {
   replicas = l.replicas;
-  from = l.message.from;
-  to = l.message.to;
-  instance = l.message.instance;
-  ballot = l.message.ballot;
-  body = said_body l.message.body;
+  from = l.parcel.from;
+  to = l.parcel.to;
+  instance = l.parcel.instance;
+  ballot = l.parcel.ballot;
+  progress = l.progress;
+  body = said_content l.parcel.content;
 }

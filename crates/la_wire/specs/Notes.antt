@@ -1,4 +1,4 @@
--- Lines that a node writes: messages, and notes, which begin with `#`. Each ends with LF.
+-- Lines that a node writes: letters, and notes, which begin with `#`. Each ends with LF.
 use Rattle.std.specs.Prelude.{ℕ, List, [], ◌∷◌, ◌++◌, codes}
 use Rattle.std.specs.List.{flat_map}
 use Rattle.std.specs.Fmt.{decimal}
@@ -7,13 +7,14 @@ use Rattle.la_commit.specs.declared.outcome.Outcome.{Outcome}
 use Rattle.la_commit.specs.declared.outcome.Outcome.TheVariants.{Commit, Adopt}
 use Rattle.la_commit.specs.Outcomes.{value_of}
 use Rattle.la_object.specs.declared.query.Answer.{Answer}
-use Rattle.la_replica.specs.declared.message.Message.{Message}
+use Rattle.la_node.specs.declared.link.Letter.{Letter}
+use Rattle.la_node.specs.declared.link.Standing.{Standing}
 use Rattle.la_script.specs.Text.{id_text, answer_text}
 use Rattle.la_wire.specs.declared.error.LineFault.{LineFault}
 use Rattle.la_wire.specs.declared.error.LineFault.TheVariants as line
 use Rattle.la_wire.specs.Joined.{spaced}
 use Rattle.la_wire.specs.Messages.{letter_message}
-use Rattle.la_wire.specs.MessageLines.{count_words, message_text}
+use Rattle.la_wire.specs.MessageLines.{count_words, message_text, standing_text}
 
 -- ## Notes
 
@@ -58,16 +59,19 @@ abbrev pub fault_name : LineFault → List ℕ
 fault_name line.TooLong = codes "TooLong"
 fault_name line.BadLine = codes "BadLine"
 fault_name line.BadNumber = codes "BadNumber"
-fault_name line.BadSet = codes "BadSet"
 
 -- what is told on standard error of a line that has a fault
 abbrev pub line_fault_line : (number : ℕ) → LineFault → List ℕ
 line_fault_line number fault = codes "line " ++ decimal number ++ codes ": " ++ fault_name fault ++ 10 ∷ []
 
--- ## Messages
+-- ## Letters
 
-abbrev pub message_line : (replicas : ℕ) → Message → List ℕ
-message_line replicas m = message_text (letter_message (record { replicas = replicas; message = m })) ++ 10 ∷ []
+abbrev pub message_line : Letter → List ℕ
+message_line letter = message_text (letter_message letter) ++ 10 ∷ []
 
-abbrev pub letters_text : (replicas : ℕ) → List Message → List ℕ
-letters_text replicas mail = flat_map (message_line replicas) mail
+-- how far a replica is
+abbrev pub known_line : Standing → List ℕ
+known_line standing = standing_text standing ++ 10 ∷ []
+
+abbrev pub letters_text : List Letter → List ℕ
+letters_text letters = flat_map message_line letters

@@ -1,7 +1,6 @@
 -- What can be had, as a test.
 use Rattle.std.specs.Prelude.{nat_le, Bool, true, false, List, [], ◌∷◌, length, ◌==◌, ◌&&◌}
 use Rattle.std.specs.List.{list_all}
-use Rattle.la_set.specs.declared.set.TheConstants.{MAX_NUMBER}
 use Rattle.la_set.specs.declared.tags.TheConstants.{MAX_TAGS}
 use Rattle.la_set.specs.declared.update.Op.{Op}
 use Rattle.la_set.specs.declared.update.Op.TheVariants.{Inc, Dec, Raise, Put, Remove, Mark, Vote}
@@ -9,12 +8,12 @@ use Rattle.la_set.specs.declared.update.UpdateId.{UpdateId}
 use Rattle.la_set.specs.declared.update.Update.{Update}
 use Rattle.la_set.specs.declared.counts.Counts.{Counts}
 use Rattle.la_set.specs.Ids.{id_below}
-use Rattle.la_set.specs.Histories.{Histories, listed, updates}
+use Rattle.la_node.specs.declared.link.Standing.{Standing}
 use Rattle.la_object.specs.declared.query.Query.{Query}
 use Rattle.la_object.specs.declared.query.Query.TheVariants as query
 use Rattle.la_script.specs.Numbers.{u8_max, u16_max, u32_max, u64_max}
 use Rattle.la_wire.specs.Messages.{WireMessage, WireBody, Offer, Yes, No, Tell}
-use Rattle.la_wire.specs.Calls.{WireCall, Submit, Decide, Ask, Tick, Receive}
+use Rattle.la_wire.specs.Calls.{WireCall, Submit, Decide, Ask, Tick, Receive, Known}
 
 abbrev pub is_id : UpdateId → Bool
 is_id id = nat_le id.replica u8_max && (nat_le 1 id.number && nat_le id.number u32_max)
@@ -41,21 +40,25 @@ is_wire_update u = is_id u.id && (nat_le u.object u16_max && is_op u.op)
 abbrev pub are_counts : Counts → Bool
 are_counts c = (length c.of == 8) && list_all (λ n. nat_le n u32_max) c.of
 
-abbrev pub is_within_limit : Histories → Bool
-is_within_limit s = list_all (λ history. nat_le (length history) MAX_NUMBER) (listed s)
-
 abbrev pub is_body : WireBody → Bool
 is_body (Offer base more) = are_counts base && list_all is_wire_update more
 is_body Yes = true
 is_body (No base more) = are_counts base && list_all is_wire_update more
-is_body (Tell told) = is_within_limit told && list_all is_wire_update (updates told)
+is_body (Tell base more) = are_counts base && list_all is_wire_update more
 
 abbrev pub is_message : WireMessage → Bool
 is_message m =
     (nat_le 1 m.replicas && nat_le m.replicas 8)
     && ((nat_le m.from u8_max && nat_le m.to u8_max)
     && ((nat_le m.instance u8_max && nat_le m.ballot u32_max)
-    && is_body m.body))
+    && ((are_counts m.progress.accepted && are_counts m.progress.view)
+    && is_body m.body)))
+
+abbrev pub is_standing : Standing → Bool
+is_standing s =
+    (nat_le 1 s.replicas && nat_le s.replicas 8)
+    && ((nat_le s.from u8_max && nat_le s.to u8_max)
+    && (are_counts s.progress.accepted && are_counts s.progress.view))
 
 abbrev pub is_voteless : Op → Bool
 is_voteless (Vote x sole) = false
@@ -72,3 +75,4 @@ is_call (Decide replica commit value) = nat_le replica u8_max && (nat_le commit 
 is_call (Ask replica object query) = nat_le replica u8_max && (nat_le object u16_max && is_query query)
 is_call Tick = true
 is_call (Receive message) = is_message message
+is_call (Known standing) = is_standing standing

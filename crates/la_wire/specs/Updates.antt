@@ -1,28 +1,22 @@
 -- An update as a part of a line: `P.N O` and what it does, in the words of a script.
-use Rattle.std.specs.Prelude.{ℕ, ◌+◌, Bool, true, false, nat_lt, nat_le, ◌&&◌, List, [], ◌∷◌, map, length, codes, Option, Some, None, Result, Ok, Err, ◌==◌, if◌then◌else◌}
+use Rattle.std.specs.Prelude.{ℕ, Bool, true, false, nat_le, List, [], ◌∷◌, map, length, codes, Option, Some, None}
+use Rattle.std.specs.Prelude.{Result, Ok, Err, if◌then◌else◌}
 use Rattle.std.specs.Fmt.{decimal}
 use Rattle.std.specs.Str.{bytes_eq}
 use Rattle.la_set.specs.declared.update.Op.{Op}
 use Rattle.la_set.specs.declared.update.Op.TheVariants as op
 use Rattle.la_set.specs.declared.update.UpdateId.{UpdateId}
 use Rattle.la_set.specs.declared.update.Update.{Update}
-use Rattle.la_set.specs.declared.set.TheConstants.{REPLICAS, MAX_NUMBER}
 use Rattle.la_set.specs.declared.tags.TheConstants.{MAX_TAGS}
-use Rattle.la_set.specs.Histories.{Histories, empty, count, push}
-use Rattle.la_set.specs.Deltas.{pushed}
 use Rattle.la_script.specs.declared.forms.Keyword.TheVariants as keyword
 use Rattle.la_script.specs.Forms.{spelling as word_of}
 use Rattle.la_script.specs.Text.{id_text}
 use Rattle.la_script.specs.Tags.{tag_words}
 use Rattle.la_script.specs.Numbers.{u16_max, u32_max, u64_max}
 use Rattle.la_wire.specs.declared.error.LineFault.{LineFault}
-use Rattle.la_wire.specs.declared.error.LineFault.TheVariants.{BadLine, BadNumber, BadSet}
+use Rattle.la_wire.specs.declared.error.LineFault.TheVariants.{BadLine, BadNumber}
 use Rattle.la_wire.specs.declared.updates.Verb.{Verb}
 use Rattle.la_wire.specs.declared.updates.Verb.TheVariants as verb
-use Rattle.la_wire.specs.declared.error.LineError.{LineError}
-use Rattle.la_wire.specs.declared.error.LineError.TheVariants as error
-use Rattle.la_set.specs.declared.error.SetError.{SetError}
-use Rattle.la_set.specs.declared.error.SetError.TheVariants.{Memory}
 use Rattle.la_wire.specs.Joined.{joined_by, parted}
 use Rattle.la_wire.specs.Readings.{◌>>=◌, or_line_fault, number_on, first_number, first_id, at_end}
 
@@ -117,23 +111,3 @@ updates_in (part ∷ parts) = do
   u ← update_in (parted 32 part)
   us ← updates_in parts
   Ok (u ∷ us)
-
--- ## A set that is told
-
--- an id comes next, as a test
-abbrev pub comes_next : Histories → UpdateId → Bool
-comes_next s id = nat_lt id.replica REPLICAS && ((id.number == count s id.replica + 1) && nat_le id.number MAX_NUMBER)
-
--- each of the updates comes next, where they are pushed one after another
-abbrev pub come_next : Histories → List Update → Bool
-come_next s [] = true
-come_next s (u ∷ us) = comes_next s u.id && come_next (push s u) us
-
--- why the updates make no set
-abbrev pub refused_by : SetError → LineError
-refused_by Memory = error.Memory
-refused_by _ = error.Fault BadSet
-
--- the set of these updates
-unfoldable pub rebuilt_set : List Update → Result Histories LineFault
-rebuilt_set us = if come_next empty us then Ok (pushed empty us) else Err BadSet

@@ -1,5 +1,5 @@
--- What can be had, and so be written as a line: each number is in the range of its type, an id is an update's, tags are a
--- set of them, and a set that is told is one.
+-- What can be had, and so be written as a line: each number is in the range of its type, an id is an update's, and tags
+-- are a set of them.
 use Rattle.std.specs.Prelude.{◌≡◌, ℕ, ◌≤◌, length, All}
 use Rattle.la_set.specs.declared.update.Op.{Op}
 use Rattle.la_set.specs.declared.update.Op.TheVariants.{Inc, Dec, Raise, Put, Remove, Mark, Vote}
@@ -8,12 +8,12 @@ use Rattle.la_set.specs.declared.update.Update.{Update}
 use Rattle.la_set.specs.declared.counts.Counts.{Counts}
 use Rattle.la_set.specs.Counts.{count_in}
 use Rattle.la_set.specs.Tags.{IsTags}
-use Rattle.la_set.specs.Histories.{updates, IsWithinLimit}
 use Rattle.la_script.specs.Numbers.{u8_max, u16_max, u32_max, u64_max}
+use Rattle.la_node.specs.declared.link.Standing.{Standing}
 use Rattle.la_object.specs.declared.query.Query.{Query}
 use Rattle.la_object.specs.declared.query.Query.TheVariants as query
 use Rattle.la_wire.specs.Messages.{WireMessage, WireBody, Offer, Yes, No, Tell}
-use Rattle.la_wire.specs.Calls.{WireCall, Submit, Decide, Ask, Tick, Receive}
+use Rattle.la_wire.specs.Calls.{WireCall, Submit, Decide, Ask, Tick, Receive, Known}
 
 pub record IsId (id : UpdateId) : Type 0 where
   pub replica : id.replica ≤ u8_max
@@ -43,7 +43,7 @@ abbrev pub IsBody : WireBody → Type 0
 IsBody (Offer base more) = IsCounts base × All IsUpdate more
 IsBody Yes = Unit {0}
 IsBody (No base more) = IsCounts base × All IsUpdate more
-IsBody (Tell told) = IsWithinLimit told × All IsUpdate (updates told)
+IsBody (Tell base more) = IsCounts base × All IsUpdate more
 
 pub record IsMessage (m : WireMessage) : Type 0 where
   pub some : 1 ≤ m.replicas
@@ -52,7 +52,17 @@ pub record IsMessage (m : WireMessage) : Type 0 where
   pub to : m.to ≤ u8_max
   pub instance : m.instance ≤ u8_max
   pub ballot : m.ballot ≤ u32_max
+  pub accepted : IsCounts m.progress.accepted
+  pub view : IsCounts m.progress.view
   pub body : IsBody m.body
+
+pub record IsStanding (s : Standing) : Type 0 where
+  pub some : 1 ≤ s.replicas
+  pub few : s.replicas ≤ 8
+  pub from : s.from ≤ u8_max
+  pub to : s.to ≤ u8_max
+  pub accepted : IsCounts s.progress.accepted
+  pub view : IsCounts s.progress.view
 
 -- no vote, which no node is called for
 abbrev pub IsVoteless : Op → Type 0
@@ -70,3 +80,4 @@ IsCall (Decide replica commit value) = (replica ≤ u8_max) × (commit ≤ u8_ma
 IsCall (Ask replica object query) = (replica ≤ u8_max) × (object ≤ u16_max) × IsQuery query
 IsCall Tick = Unit {0}
 IsCall (Receive message) = IsMessage message
+IsCall (Known standing) = IsStanding standing

@@ -5,14 +5,15 @@ ghost use Rattle.la_script.specs.declared.script.Version.TheVariants.{Two};
 ghost use Rattle.la_script.specs.Lines.{line_event};
 ghost use Rattle.la_wire.specs.Readings.{GivesOnLine};
 ghost use Rattle.la_wire.specs.Calls.{called};
-ghost use Rattle.la_wire.specs.CallLines.{event_call, fault_of, script_call, first_kind};
+ghost use Rattle.la_wire.specs.CallLines.{event_call, fault_of, script_call, first_kind, is_known, known_call};
 ghost use Rattle.la_wire.specs.CallLines.{call_of, bounded_call_of, named_call};
 
-use crate::messages::{Kind, read_message};
+use crate::messages::{KNOWN, Kind, read_message, standing_in};
 use crate::{Letter, LineError, LineFault};
 use la_io::MAX_LINE;
+use la_node::Standing;
 use la_object::Query;
-use la_script::{FaultName, ReadError, Version, event_at, split_once};
+use la_script::{FaultName, ReadError, Version, event_at, split_once, words_of};
 use la_set::Op;
 use la_world::Event;
 use std::alloc::{AllocError, Global};
@@ -49,8 +50,10 @@ pub enum Call {
     },
     /// A timer has run out: what waits for an answer is sent once more.
     Tick,
-    /// A message has come.
+    /// A letter has come.
     Receive(Letter),
+    /// A replica has said how far it is.
+    Known(Standing),
 }
 
 // The call that an event is: a delivery is none.
@@ -109,6 +112,25 @@ fn script_call(alloc: Global, line: &[u8]) -> Result<Call, LineError>
     }
 }
 
+// Whether a line's first word is `known`.
+fn is_known(line: &[u8]) -> bool
+    ensures { result ≡ is_known line.now }
+{
+    let (first, _) = split_once(line, b' ');
+    first == KNOWN
+}
+
+// How far a replica is, by a line that begins with `known`.
+fn read_known(alloc: Global, line: &[u8]) -> Result<Call, LineError>
+    ensures { GivesOnLine called (known_call line.now) result }
+{
+    let words = words_of(alloc, line)?;
+    match words.as_slice() {
+        [_, rest @ ..] => Ok(Call::Known(standing_in(rest)?)),
+        [] => Err(LineError::Fault(LineFault::BadLine)),
+    }
+}
+
 // The kind of message that a line's first word is.
 fn first_kind(line: &[u8]) -> Option<Kind>
     ensures { result ≡ first_kind line.now }
@@ -123,9 +145,8 @@ fn first_kind(line: &[u8]) -> Option<Kind>
 /// `Fault` comes exactly where the line is no call, and names the first fault. Of a message it is, from left
 /// to right and part by part: `BadLine` where a word is to be one of the known and is none, or where there is
 /// a word or a part too few or too many; `BadNumber` where a number is not canonical or is out of its range,
-/// or an id or a tag is none; and then `BadSet` where the updates of a tell do not each come next. Of any
-/// other line it is the fault of a script's event, and `BadLine` for `deliver`. `Memory` may come at any line.
-/// Nothing stands after a refusal.
+/// or an id or a tag is none. Of any other line it is the fault of a script's event, and `BadLine` for
+/// `deliver`. `Memory` may come at any line. Nothing stands after a refusal.
 pub fn read(alloc: Global, line: &[u8]) -> Result<Call, LineError>
     ensures { GivesOnLine called (call_of line.now) result }
 {
@@ -134,6 +155,7 @@ pub fn read(alloc: Global, line: &[u8]) -> Result<Call, LineError>
     }
     match first_kind(line) {
         Some(_) => Ok(Call::Receive(read_message(alloc, line)?)),
+        None if is_known(line) => read_known(alloc, line),
         None => script_call(alloc, line),
     }
 }

@@ -19,10 +19,6 @@ pub enum LineFault {
     /// A number is not canonical or is out of its range, or an id is none.
     #[error("BadNumber")]
     BadNumber,
-
-    /// The updates of a set that is told do not each come next.
-    #[error("BadSet")]
-    BadSet,
 }
 
 /// Why a line was not read.

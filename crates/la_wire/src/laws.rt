@@ -1,7 +1,7 @@
 // What the definitions mean: laws over every call, which no code runs.
 ghost use Rattle.std.specs.Prelude.{◌≡◌, ◌↔◌, true, Some, IsTrue};
-ghost use Rattle.la_replica.specs.Alike.{AreAlike};
-ghost use Rattle.la_wire.specs.declared.letter.Letter.{Letter};
+ghost use Rattle.la_replica.specs.Parcels.{AreAlikeParcels};
+ghost use Rattle.la_node.specs.declared.link.Letter.{Letter};
 ghost use Rattle.la_wire.specs.Messages.{letter_message};
 ghost use Rattle.la_wire.specs.Calls.{WireCall};
 ghost use Rattle.la_wire.specs.CallLines.{call_line_text, named_call, may_stand};
@@ -24,7 +24,9 @@ pub fn the_test_decides()
     ensures { (c : WireCall) → IsTrue (is_call c) ↔ IsCall c }
 {}
 
-/// Messages that say the same are alike, whatever their deltas were made of.
+/// Letters that say the same have parcels that are alike, whatever their deltas were made of, and are of senders as
+/// far and of groups as large.
 pub fn what_says_the_same_is_alike()
-    ensures { (a b : Letter) → letter_message a ≡ letter_message b → AreAlike a.message b.message }
+    ensures { (a b : Letter) → letter_message a ≡ letter_message b
+        → AreAlikeParcels a.parcel b.parcel × (a.progress ≡ b.progress) × (a.replicas ≡ b.replicas) }
 {}

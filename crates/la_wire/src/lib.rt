@@ -1,27 +1,30 @@
-//! Messages of a group as lines of text, each written and read back.
+//! Letters of a group as lines of text, each written and read back.
 //!
 //! A line is a head, and behind it an update in each part, with `;` before it. Words are parted by single
 //! spaces.
 //!
 //! | Line | Numbers |
 //! |---|---|
-//! | `offer G F T I B base C C C C C C C C;U;U..` | G 1 to 8, F, T and I 8 bits, B and C 32 bits |
-//! | `yes G F T I B` | |
-//! | `no G F T I B base C C C C C C C C;U;U..` | |
-//! | `tell G F T I B;U;U..` | |
+//! | `offer G F T I B has C view C base C;U;U..` | G 1 to 8, F, T and I 8 bits, B 32 bits |
+//! | `yes G F T I B has C view C` | |
+//! | `no G F T I B has C view C base C;U;U..` | |
+//! | `tell G F T I B has C view C base C;U;U..` | |
+//! | `known G F T has C view C` | |
 //!
 //! G is how many replicas the group has, F who sends it, T to whom, I its instance and B the ballot's
-//! number; the Cs are the base's counts of replicas 0 to 7. An update U is `P.N O` and what it does, O of 16
+//! number. A C is counts as one word: up to eight numbers of 32 bits with `,` between them, how many updates of
+//! replicas 0, 1 and so on, without the zeros at the end; behind `has` what F has accepted, behind `view` what
+//! its view has, behind `base` what the updates go over. An update U is `P.N O` and what it does, O of 16
 //! bits: `inc X`, `dec X`, `raise X`, `put X`, `remove T ..` and `mark`, as in a script, and of an
 //! adopt-commit object `vote X`, or `sole X` where its voter saw that value alone, X of 64 bits.
 //!
-//! `specs/Messages.antt` has what messages say, `specs/Updates.antt` and `specs/MessageLines.antt` the lines.
+//! `specs/Messages.antt` has what letters say, `specs/Updates.antt` and `specs/MessageLines.antt` the lines.
 #![tactic(auto)]
 
 mod calls;
+mod counts;
 mod error;
 pub mod laws;
-mod letter;
 mod messages;
 mod notes;
 mod telling;
@@ -31,9 +34,10 @@ mod writing;
 
 pub use calls::{Call, named, read, read_bounded};
 pub use error::{LineError, LineFault};
-pub use letter::Letter;
+pub use la_node::{Letter, Standing};
 pub use notes::{
-    put_answered, put_learnt, put_mail, put_outcome, put_proposed, put_submitted, put_view,
+    put_answered, put_known_line, put_learnt, put_letter_line, put_outcome, put_proposed,
+    put_submitted, put_view,
 };
 pub use telling::{refuse, tell_fault};
-pub use writing::{put_message, write};
+pub use writing::{put_letter, write};

@@ -1,18 +1,23 @@
-// Messages, read from lines.
+// Letters, read from lines.
 ghost use Rattle.std.specs.Prelude.{◌≡◌, IfOk};
 ghost use Rattle.la_script.specs.Words.{bytes_of};
 ghost use Rattle.la_wire.specs.Readings.{GivesOnLine, GivesFirst};
-ghost use Rattle.la_wire.specs.Messages.{said_body, letter_message};
-ghost use Rattle.la_wire.specs.MessageLines.{kind_text, kind_word, message_header, counts_in, base_on};
-ghost use Rattle.la_wire.specs.MessageLines.{body_in, message_at, message_in, line_message};
+ghost use Rattle.la_wire.specs.Messages.{said_delta, said_content, letter_message};
+ghost use Rattle.la_wire.specs.MessageLines.{kind_text, kind_word, message_header, first_counts, counts_behind};
+ghost use Rattle.la_wire.specs.MessageLines.{progress_in, standing_in, base_on, delta_in, body_in, message_at, message_in, line_message};
 
-use crate::updates::{set_of, updates_in};
+use crate::counts::counts_on;
+use crate::updates::updates_in;
 use crate::words::{at_end, first_number, parts_of};
 use crate::{Letter, LineError, LineFault};
-use la_replica::{Body, Message};
+use la_node::Standing;
+use la_replica::{Content, Parcel, Progress};
 use la_script::words_of;
 use la_set::{Counts, Delta};
 use std::alloc::Global;
+
+/// The word before how far a replica is.
+pub const KNOWN: &[u8] = b"known";
 
 /// What a message is, as a word.
 #[derive(Clone, Copy)]
@@ -84,61 +89,99 @@ fn header_in<'a, 'b>(words: &'a [&'b [u8]]) -> Result<(Header, &'a [&'b [u8]]), 
     Ok((header, words))
 }
 
-// Eight counts, and nothing behind them.
-fn counts_in(words: &[&[u8]]) -> Result<Counts, LineFault>
-    ensures { result ≡ counts_in (bytes_of words.now) }
-{
-    let high = u64::from(u32::MAX);
-    let (a, words) = first_number(0, high, words)?;
-    let (b, words) = first_number(0, high, words)?;
-    let (c, words) = first_number(0, high, words)?;
-    let (d, words) = first_number(0, high, words)?;
-    let (e, words) = first_number(0, high, words)?;
-    let (f, words) = first_number(0, high, words)?;
-    let (g, words) = first_number(0, high, words)?;
-    let (h, words) = first_number(0, high, words)?;
-    at_end(words)?;
-    Ok(Counts::from([
-        a as u32, b as u32, c as u32, d as u32, e as u32, f as u32, g as u32, h as u32,
-    ]))
-}
-
-fn base_in(words: &[&[u8]]) -> Result<Counts, LineFault>
-    ensures { result ≡ base_on (bytes_of words.now) }
+// The first word as counts, and the words behind it.
+fn first_counts<'a, 'b>(words: &'a [&'b [u8]]) -> Result<(Counts, &'a [&'b [u8]]), LineFault>
+    ensures { GivesFirst (first_counts (bytes_of words.now)) result }
 {
     match words {
-        [word, rest @ ..] if *word == b"base".as_slice() => counts_in(rest),
+        [word, rest @ ..] => Ok((counts_on(word)?, rest)),
+        [] => Err(LineFault::BadLine),
+    }
+}
+
+// The same, behind this word.
+fn counts_behind<'a, 'b>(
+    label: &[u8],
+    words: &'a [&'b [u8]],
+) -> Result<(Counts, &'a [&'b [u8]]), LineFault>
+    ensures { GivesFirst (counts_behind label.now (bytes_of words.now)) result }
+{
+    match words {
+        [word, rest @ ..] if *word == label => first_counts(rest),
         _ => Err(LineFault::BadLine),
     }
 }
 
-// What stands behind the header, and in the parts behind the head.
-fn body_in(alloc: Global, kind: Kind, words: &[&[u8]], parts: &[&[u8]]) -> Result<Body, LineError>
-    ensures { GivesOnLine said_body (body_in kind (bytes_of words.now) (bytes_of parts.now)) result }
+// How far the sender is, and the words behind it.
+#[tactic(auto, unfolding(crate::specs::MessageLines::progress_in))]
+fn progress_in<'a, 'b>(words: &'a [&'b [u8]]) -> Result<(Progress, &'a [&'b [u8]]), LineFault>
+    ensures { GivesFirst (progress_in (bytes_of words.now)) result }
+{
+    let (accepted, words) = counts_behind(b"has", words)?;
+    let (view, words) = counts_behind(b"view", words)?;
+    Ok((Progress { accepted, view }, words))
+}
+
+/// How far a replica is, and nothing behind it, by the words behind `known`.
+#[tactic(auto, unfolding(crate::specs::MessageLines::standing_in))]
+pub fn standing_in(words: &[&[u8]]) -> Result<Standing, LineFault>
+    ensures { result ≡ standing_in (bytes_of words.now) }
+{
+    let byte = u64::from(u8::MAX);
+    let (replicas, words) = first_number(1, 8, words)?;
+    let (from, words) = first_number(0, byte, words)?;
+    let (to, words) = first_number(0, byte, words)?;
+    let (progress, words) = progress_in(words)?;
+    at_end(words)?;
+    Ok(Standing {
+        replicas: replicas as u8,
+        from: from as u8,
+        to: to as u8,
+        progress,
+    })
+}
+
+#[tactic(auto, unfolding(crate::specs::MessageLines::base_on))]
+fn base_on(words: &[&[u8]]) -> Result<Counts, LineFault>
+    ensures { result ≡ base_on (bytes_of words.now) }
+{
+    let (base, words) = counts_behind(b"base", words)?;
+    at_end(words)?;
+    Ok(base)
+}
+
+// A base, and the updates over it.
+fn delta_in(alloc: Global, words: &[&[u8]], parts: &[&[u8]]) -> Result<Delta, LineError>
+    ensures { GivesOnLine said_delta (delta_in (bytes_of words.now) (bytes_of parts.now)) result }
+{
+    let base = base_on(words)?;
+    Ok(Delta::new(base, updates_in(alloc, parts)?))
+}
+
+// What stands behind the progress, and in the parts behind the head.
+#[tactic(auto, unfolding(crate::specs::MessageLines::body_in))]
+fn content_in(
+    alloc: Global,
+    kind: Kind,
+    words: &[&[u8]],
+    parts: &[&[u8]],
+) -> Result<Content, LineError>
+    ensures { GivesOnLine said_content (body_in kind (bytes_of words.now) (bytes_of parts.now)) result }
 {
     match kind {
-        Kind::Offer => {
-            let base = base_in(words)?;
-            Ok(Body::Offer(Delta::new(base, updates_in(alloc, parts)?)))
-        }
+        Kind::Offer => Ok(Content::Offer(delta_in(alloc, words, parts)?)),
         Kind::Yes => {
             at_end(words)?;
             at_end(parts)?;
-            Ok(Body::Yes)
+            Ok(Content::Yes)
         }
-        Kind::No => {
-            let base = base_in(words)?;
-            Ok(Body::No(Delta::new(base, updates_in(alloc, parts)?)))
-        }
-        Kind::Tell => {
-            at_end(words)?;
-            let updates = updates_in(alloc, parts)?;
-            Ok(Body::Tell(set_of(alloc, updates)?))
-        }
+        Kind::No => Ok(Content::No(delta_in(alloc, words, parts)?)),
+        Kind::Tell => Ok(Content::Tell(delta_in(alloc, words, parts)?)),
     }
 }
 
-// A message of a kind, by the words behind it.
+// A letter of a kind, by the words behind it.
+#[tactic(auto, unfolding(crate::specs::MessageLines::message_at))]
 fn message_at(
     alloc: Global,
     kind: Kind,
@@ -148,17 +191,19 @@ fn message_at(
     ensures { GivesOnLine letter_message (message_at kind (bytes_of words.now) (bytes_of parts.now)) result }
 {
     let (header, words) = header_in(words)?;
-    let body = body_in(alloc, kind, words, parts)?;
-    let message = Message {
+    let (progress, words) = progress_in(words)?;
+    let content = content_in(alloc, kind, words, parts)?;
+    let parcel = Parcel {
         instance: header.instance,
         from: header.from,
         to: header.to,
         ballot: header.ballot,
-        body,
+        content,
     };
     Ok(Letter {
         replicas: header.replicas,
-        message,
+        progress,
+        parcel,
     })
 }
 
@@ -174,7 +219,7 @@ fn message_in(alloc: Global, words: &[&[u8]], parts: &[&[u8]]) -> Result<Letter,
     }
 }
 
-/// The message that a line says, at a cost linear in its bytes.
+/// The letter that a line says, at a cost linear in its bytes.
 pub fn read_message(alloc: Global, line: &[u8]) -> Result<Letter, LineError>
     ensures { GivesOnLine letter_message (line_message line.now) result }
 {

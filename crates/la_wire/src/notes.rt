@@ -1,14 +1,14 @@
-// Lines that a node writes: messages, and notes, which begin with `#`.
+// Lines that a node writes: letters, and notes, which begin with `#`.
 ghost use Rattle.std.specs.Prelude.{◌≡◌, ◌++◌, ◌∷◌, [], codes, OnOk};
 ghost use Rattle.std.specs.Fmt.{decimal};
-ghost use Rattle.la_wire.specs.Notes.{outcome_word, letters_text};
+ghost use Rattle.la_wire.specs.Notes.{outcome_word, message_line, known_line};
 ghost use Rattle.la_wire.specs.Notes.{submitted_note, proposed_note, learnt_note, view_note};
 ghost use Rattle.la_wire.specs.Notes.{outcome_note, answered_note};
 
-use crate::writing::{put_counts, put_decimal, put_message, put_number, put_word};
+use crate::writing::{put_counts, put_decimal, put_letter, put_number, put_standing, put_word};
+use crate::{Letter, Standing};
 use la_commit::Outcome;
 use la_object::Answer;
-use la_replica::Message;
 use la_script::{Pieces, put_answer};
 use la_set::Counts;
 use std::alloc::{AllocError, Global};
@@ -130,13 +130,18 @@ pub fn put_answered(
     put_end(out)
 }
 
-/// Writes messages, each as a line. After a refusal a part of them may stand there.
-pub fn put_mail(out: &mut Vec<u8>, replicas: u8, mail: &[Message]) -> Result<(), AllocError>
-    ensures { OnOk result (out.new.items ≡ out.old.items ++ letters_text replicas mail.now) }
+/// Writes a letter as a line, with the line's end. After a refusal a part of it may stand there.
+pub fn put_letter_line(out: &mut Vec<u8>, letter: &Letter) -> Result<(), AllocError>
+    ensures { OnOk result (out.new.items ≡ out.old.items ++ message_line letter.now) }
 {
-    for message in mail {
-        put_message(out, replicas, message)?;
-        put_end(out)?;
-    }
-    Ok(())
+    put_letter(out, letter)?;
+    put_end(out)
+}
+
+/// Writes how far a replica is as a line, with the line's end. After a refusal a part of it may stand there.
+pub fn put_known_line(out: &mut Vec<u8>, standing: &Standing) -> Result<(), AllocError>
+    ensures { OnOk result (out.new.items ≡ out.old.items ++ known_line standing.now) }
+{
+    put_standing(out, standing)?;
+    put_end(out)
 }

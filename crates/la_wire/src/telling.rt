@@ -72,6 +72,5 @@ fn fault_name(fault: LineFault) -> &'static str
         LineFault::TooLong => "TooLong",
         LineFault::BadLine => "BadLine",
         LineFault::BadNumber => "BadNumber",
-        LineFault::BadSet => "BadSet",
     }
 }

@@ -3,12 +3,12 @@ ghost use Rattle.std.specs.Prelude.{◌≡◌, ◌≤◌, IfOk};
 ghost use Rattle.la_script.specs.Words.{bytes_of};
 ghost use Rattle.la_wire.specs.Readings.{GivesOnLine};
 ghost use Rattle.la_wire.specs.Updates.{verb_spelling, vote_verb, verb_of, only_number, line_tags};
-ghost use Rattle.la_wire.specs.Updates.{op_at, op_in, update_in, updates_in, rebuilt_set, refused_by};
+ghost use Rattle.la_wire.specs.Updates.{op_at, op_in, update_in, updates_in};
 
 use crate::words::{at_end, first_id, first_number, number_at};
 use crate::{LineError, LineFault};
 use la_script::{tags_of, words_of};
-use la_set::{Counts, Delta, MAX_TAGS, Op, SetError, Tags, Update, UpdateSet, Updates};
+use la_set::{MAX_TAGS, Op, Tags, Update, Updates};
 use std::alloc::Global;
 
 /// What an update does, as a word.
@@ -160,25 +160,4 @@ pub fn updates_in(alloc: Global, parts: &[&[u8]]) -> Result<Updates, LineError>
         updates.push(update_in(alloc, &words)?)?;
     }
     Ok(updates)
-}
-
-/// The set of these updates, or `BadSet` where one of them does not come next.
-pub fn set_of(alloc: Global, updates: Updates) -> Result<UpdateSet, LineError>
-    ensures { GivesOnLine (λ set. set) (rebuilt_set updates) result }
-{
-    let delta = Delta::new(Counts::zero(), updates);
-    match UpdateSet::new(alloc).with(&delta) {
-        Ok(set) => Ok(set),
-        Err(refused) => Err(refused_by(refused)),
-    }
-}
-
-// Why updates make no set.
-fn refused_by(refused: SetError) -> LineError
-    ensures { result ≡ refused_by refused }
-{
-    match refused {
-        SetError::Memory => LineError::Memory,
-        _ => LineError::Fault(LineFault::BadSet),
-    }
 }

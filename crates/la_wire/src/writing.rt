@@ -1,24 +1,25 @@
-// Messages, written as lines.
+// Letters, written as lines.
 ghost use Rattle.std.specs.Prelude.{◌≡◌, ◌++◌, ◌∷◌, [], map, IfOk, OnOk};
 ghost use Rattle.std.specs.Fmt.{decimal};
-ghost use Rattle.la_set.specs.Histories.{updates};
 ghost use Rattle.la_script.specs.Text.{id_text};
 ghost use Rattle.la_wire.specs.Joined.{spaced, joined_by};
 ghost use Rattle.la_wire.specs.Updates.{op_words, update_text};
-ghost use Rattle.la_wire.specs.Messages.{letter_message, said_body};
-ghost use Rattle.la_wire.specs.MessageLines.{count_words, base_words, base_word, carried};
-ghost use Rattle.la_wire.specs.MessageLines.{kind_in, message_header_text, message_text};
+ghost use Rattle.la_wire.specs.Messages.{letter_message, said_content};
+ghost use Rattle.la_wire.specs.MessageLines.{count_words, counts_text, base_words, base_word, carried};
+ghost use Rattle.la_wire.specs.MessageLines.{kind_text, kind_in, progress_words, header_words, message_text, standing_text};
 ghost use Rattle.la_wire.specs.Updates.{verb_spelling};
 ghost use Rattle.la_wire.specs.Calls.{called};
 ghost use Rattle.la_wire.specs.CallLines.{query_words, call_line_text};
 
-use crate::messages::Kind;
+use crate::counts::put_counts_text;
+use crate::messages::{KNOWN, Kind};
 use crate::updates::Verb;
 use crate::{Call, Letter};
 use itoa::Buffer;
+use la_node::Standing;
 use la_object::Query;
-use la_replica::{Body, Message};
-use la_set::{Counts, Delta, Op, REPLICAS, Tags, Update, UpdateId, UpdateSet};
+use la_replica::{Content, Parcel, Progress};
+use la_set::{Counts, Delta, Op, REPLICAS, Tags, Update, UpdateId};
 use std::alloc::{AllocError, Global};
 
 pub(crate) fn put_decimal(out: &mut Vec<u8>, number: u64) -> Result<(), AllocError>
@@ -120,19 +121,6 @@ fn put_delta(out: &mut Vec<u8>, delta: &Delta) -> Result<(), AllocError>
     Ok(())
 }
 
-fn put_set(out: &mut Vec<u8>, set: &UpdateSet) -> Result<(), AllocError>
-    ensures { OnOk result
-        (out.new.items ≡ out.old.items ++ spaced 59 (map update_text (updates set.now))) }
-{
-    for place in 0..set.len() {
-        let Some(update) = set.at(place) else {
-            unreachable!()
-        };
-        put_update(out, update)?;
-    }
-    Ok(())
-}
-
 #[tactic(auto, using(crate::proofs::UpdateLists::next_count))]
 pub(crate) fn put_counts(out: &mut Vec<u8>, counts: Counts) -> Result<(), AllocError>
     ensures { OnOk result (out.new.items ≡ out.old.items ++ spaced 32 (count_words counts)) }
@@ -143,62 +131,89 @@ pub(crate) fn put_counts(out: &mut Vec<u8>, counts: Counts) -> Result<(), AllocE
     Ok(())
 }
 
-fn put_base(out: &mut Vec<u8>, delta: &Delta) -> Result<(), AllocError>
+// Writes counts as one word, behind this one.
+fn put_labelled(out: &mut Vec<u8>, label: &[u8], counts: Counts) -> Result<(), AllocError>
     ensures { OnOk result
-        (out.new.items ≡ out.old.items ++ spaced 32 (base_word ∷ count_words delta.now.base)) }
+        (out.new.items ≡ out.old.items ++ spaced 32 (label.now ∷ counts_text counts ∷ [])) }
 {
-    put_word(out, b"base")?;
-    put_counts(out, delta.base())
+    put_word(out, label)?;
+    out.push(b' ')?;
+    put_counts_text(out, counts)
 }
 
-// Writes the base, where the body has one, and then the updates.
-fn put_body(out: &mut Vec<u8>, body: &Body) -> Result<(), AllocError>
+// Writes the base, and then the updates.
+fn put_over(out: &mut Vec<u8>, delta: &Delta) -> Result<(), AllocError>
     ensures { OnOk result (out.new.items ≡ out.old.items
-        ++ spaced 32 (base_words (said_body body.now))
-        ++ spaced 59 (map update_text (carried (said_body body.now)))) }
+        ++ spaced 32 (base_word ∷ counts_text delta.now.base ∷ [])
+        ++ spaced 59 (map update_text delta.now.more)) }
 {
-    match body {
-        Body::Offer(delta) | Body::No(delta) => {
-            put_base(out, delta)?;
-            put_delta(out, delta)
-        }
-        Body::Yes => Ok(()),
-        Body::Tell(told) => put_set(out, told),
+    put_labelled(out, b"base", delta.base())?;
+    put_delta(out, delta)
+}
+
+// Writes the base and the updates, where there are any.
+fn put_content(out: &mut Vec<u8>, content: &Content) -> Result<(), AllocError>
+    ensures { OnOk result (out.new.items ≡ out.old.items
+        ++ spaced 32 (base_words (said_content content.now))
+        ++ spaced 59 (map update_text (carried (said_content content.now)))) }
+{
+    match content {
+        Content::Offer(delta) | Content::No(delta) | Content::Tell(delta) => put_over(out, delta),
+        Content::Yes => Ok(()),
     }
 }
 
-fn kind_of(body: &Body) -> Kind
-    ensures { result ≡ kind_in (said_body body.now) }
+fn kind_of(content: &Content) -> Kind
+    ensures { result ≡ kind_in (said_content content.now) }
 {
-    match body {
-        Body::Offer(_) => Kind::Offer,
-        Body::Yes => Kind::Yes,
-        Body::No(_) => Kind::No,
-        Body::Tell(_) => Kind::Tell,
+    match content {
+        Content::Offer(_) => Kind::Offer,
+        Content::Yes => Kind::Yes,
+        Content::No(_) => Kind::No,
+        Content::Tell(_) => Kind::Tell,
     }
 }
 
 // Writes the kind and the numbers behind it.
-fn put_header(out: &mut Vec<u8>, replicas: u8, message: &Message) -> Result<(), AllocError>
-    ensures { OnOk result (out.new.items ≡ out.old.items
-        ++ message_header_text (letter_message (record { replicas = replicas; message = message.now }))) }
+fn put_header(out: &mut Vec<u8>, letter: &Letter) -> Result<(), AllocError>
+    ensures { OnOk result (out.new.items ≡ out.old.items ++ joined_by 32 (header_words (letter_message letter.now))) }
 {
-    out.extend_from_slice(kind_of(&message.body).spelling())?;
-    put_number(out, u64::from(replicas))?;
-    put_number(out, u64::from(message.from))?;
-    put_number(out, u64::from(message.to))?;
-    put_number(out, u64::from(message.instance))?;
-    put_number(out, u64::from(message.ballot))
+    let parcel = &letter.parcel;
+    out.extend_from_slice(kind_of(&parcel.content).spelling())?;
+    put_number(out, u64::from(letter.replicas))?;
+    put_number(out, u64::from(parcel.from))?;
+    put_number(out, u64::from(parcel.to))?;
+    put_number(out, u64::from(parcel.instance))?;
+    put_number(out, u64::from(parcel.ballot))
 }
 
-/// Puts the line of a message behind what is there, without the line's end, at a cost linear in it but for
-/// finding each update. After a refusal a part of it may stand there.
-pub fn put_message(out: &mut Vec<u8>, replicas: u8, message: &Message) -> Result<(), AllocError>
-    ensures { OnOk result (out.new.items ≡ out.old.items
-        ++ message_text (letter_message (record { replicas = replicas; message = message.now }))) }
+fn put_progress(out: &mut Vec<u8>, progress: Progress) -> Result<(), AllocError>
+    ensures { OnOk result (out.new.items ≡ out.old.items ++ spaced 32 (progress_words progress)) }
 {
-    put_header(out, replicas, message)?;
-    put_body(out, &message.body)
+    put_labelled(out, b"has", progress.accepted)?;
+    put_labelled(out, b"view", progress.view)
+}
+
+/// Puts the line of a letter behind what is there, without the line's end, at a cost linear in it but for
+/// finding each update. After a refusal a part of it may stand there.
+pub fn put_letter(out: &mut Vec<u8>, letter: &Letter) -> Result<(), AllocError>
+    ensures { OnOk result (out.new.items ≡ out.old.items ++ message_text (letter_message letter.now)) }
+{
+    put_header(out, letter)?;
+    put_progress(out, letter.progress)?;
+    put_content(out, &letter.parcel.content)
+}
+
+/// Puts how far a replica is behind what is there, without the line's end. After a refusal a part of it may stand
+/// there.
+pub(crate) fn put_standing(out: &mut Vec<u8>, standing: &Standing) -> Result<(), AllocError>
+    ensures { OnOk result (out.new.items ≡ out.old.items ++ standing_text standing.now) }
+{
+    out.extend_from_slice(KNOWN)?;
+    put_number(out, u64::from(standing.replicas))?;
+    put_number(out, u64::from(standing.from))?;
+    put_number(out, u64::from(standing.to))?;
+    put_progress(out, standing.progress)
 }
 
 // Writes a question's words.
@@ -261,11 +276,12 @@ fn put_call(out: &mut Vec<u8>, call: &Call) -> Result<(), AllocError>
             put_query(out, *query)
         }
         Call::Tick => out.extend_from_slice(b"tick"),
-        Call::Receive(letter) => put_message(out, letter.replicas, &letter.message),
+        Call::Receive(letter) => put_letter(out, letter),
+        Call::Known(standing) => put_standing(out, standing),
     }
 }
 
-/// The line of a call, without the line's end, at the cost of [`put_message`]. A call that can be had, with a vote
+/// The line of a call, without the line's end, at the cost of [`put_letter`]. A call that can be had, with a vote
 /// in no submission and with ids from 1, is read back from it ([`laws`](crate::laws)).
 pub fn write(alloc: Global, call: &Call) -> Result<Vec<u8>, AllocError>
     ensures { IfOk result (λ line. line.items ≡ call_line_text (called call.now)) }

@@ -150,13 +150,16 @@ fn prepare(replica: &mut Replica, message: &Message) -> Result<Out, ReplicaError
     Ok(out)
 }
 
-// The same as a parcel, over what the view has.
+// The same as a copy of a parcel, over what the view has.
 fn receive_parcel(replica: &mut Replica, message: Message) -> Result<Out, ReplicaError> {
     let believed = replica.view().counts();
     let Ok(parcel) = Parcel::new(message, believed) else {
         return Err(ReplicaError::Memory);
     };
-    replica.receive_parcel(parcel)
+    let Ok(copy) = parcel.copy() else {
+        return Err(ReplicaError::Memory);
+    };
+    replica.receive_parcel(copy)
 }
 
 fn receive(

@@ -10,8 +10,8 @@ use la_node::{Config, Node};
 use la_object::{Answer, Counter, Query, Replicated};
 use la_orset::OrSet;
 use la_proposer::{Proposer, Votes};
-use la_replica::{Body, Mail, Message, Replica, ReplicaError};
-use la_set::{Op, Update, UpdateId, UpdateSet};
+use la_replica::{Body, Mail, Message, Progress, Replica, ReplicaError};
+use la_set::{Counts, Op, Update, UpdateId, UpdateSet};
 use la_world::Report;
 use std::alloc::Global;
 use test_journal::journal_of;
@@ -279,27 +279,32 @@ fn groups(alloc: Global) -> Option<bool> {
     Some(group.len() == 3 && are_one(group[0].view(), group[2].view()))
 }
 
-// And so where learnt sets go over what is believed of each view.
+// And so where messages go over what is known of their receivers.
 fn parcels(alloc: Global) -> Option<bool> {
     let group = count_in_parcels(alloc, three(), 100).ok()?;
     Some(group.len() == 3 && are_one(group[0].view(), group[2].view()))
 }
 
-// A set that is told over more than its receiver's view has is refused, and the node is as before; then nothing
-// is believed of it, and the set is taken.
+// A set that is told over more than its receiver's view has is refused, and the node is as before; from who
+// believes nothing of it, the set is taken.
 fn wrong_beliefs(alloc: Global) -> Option<bool> {
     let mut group = form(alloc, three()).ok()?;
     let mut set = UpdateSet::new(alloc);
     set.push(adds(0, 5)).ok()?;
     let mut link = Link::new(alloc);
-    link.believe(1, set.counts());
+    let wrong = Progress {
+        accepted: Counts::zero(),
+        view: set.counts(),
+    };
+    link.links[0].hear(1, wrong);
     let refused = tells(alloc, &mut group, &mut link, &set)?;
     let unchanged = group.get(1)?.view().len() == 0;
-    let taken = tells(alloc, &mut group, &mut link, &set)?;
+    let mut other = Link::new(alloc);
+    let taken = tells(alloc, &mut group, &mut other, &set)?;
     Some(!refused && unchanged && taken && group.get(1)?.view().same(&set))
 }
 
-// Whether node 1 takes a learnt set, and else has not its base.
+// Whether node 1 takes a set that node 0 tells it, and else has not its base.
 fn tells(
     alloc: Global,
     group: &mut [Node<Counter>],
@@ -313,7 +318,8 @@ fn tells(
         ballot: 1,
         body: Body::Tell(set.copy().ok()?),
     };
-    link.send(alloc, Mail::one(alloc, tell)).ok()?;
+    let mail = Mail::one(alloc, tell);
+    link.send(alloc, group.first()?, &mail).ok()?;
     match deliver_next(alloc, group, link) {
         Ok(()) => Some(true),
         Err(ReplicaError::NoBase) => Some(false),

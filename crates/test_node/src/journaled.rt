@@ -5,10 +5,10 @@ ghost use Rattle.la_journal.specs.Durable.{IsSettled};
 use crate::holds::holds;
 use la_durable::{NodeError, NodeMachine};
 use la_journal::{Disk, Durable, Machine, MemoryDisk, Refused, recover};
-use la_node::{Config, WorldError};
+use la_node::{Config, Links, WorldError};
 use la_proposer::Votes;
-use la_replica::{Mail, ReplicaError};
-use la_wire::put_message;
+use la_replica::{Mail, Message, ReplicaError};
+use la_wire::put_letter;
 use std::alloc::Global;
 use test_journal::journal_of;
 use uses::restarts::take_line;
@@ -17,36 +17,66 @@ use uses::restarts::take_line;
 const ROUND: [(&str, &str); 3] = [
     (
         "submit 0 1 inc 5",
-        "offer 1 0 0 0 1 base 0 0 0 0 0 0 0 0;0.1 1 inc 5",
+        "offer 1 0 0 0 1 has 0 view 0 base 0;0.1 1 inc 5",
     ),
     (
-        "offer 1 0 0 0 1 base 0 0 0 0 0 0 0 0;0.1 1 inc 5",
-        "yes 1 0 0 0 1",
+        "offer 1 0 0 0 1 has 0 view 0 base 0;0.1 1 inc 5",
+        "yes 1 0 0 0 1 has 1 view 0",
     ),
-    ("yes 1 0 0 0 1", ""),
+    ("yes 1 0 0 0 1 has 1 view 0", ""),
 ];
 
 // And its lines, each a group.
 const GROUPS: &[&[u8]] = &[
     b"submit 0 1 inc 5\n",
-    b"offer 1 0 0 0 1 base 0 0 0 0 0 0 0 0;0.1 1 inc 5\n",
-    b"yes 1 0 0 0 1\n",
+    b"offer 1 0 0 0 1 has 0 view 0 base 0;0.1 1 inc 5\n",
+    b"yes 1 0 0 0 1 has 1 view 0\n",
 ];
 
-const REFUSED: [(&str, NodeError); 7] = [
+const GAP: NodeError = NodeError::Replica(ReplicaError::Gap);
+
+const NO_BASE: NodeError = NodeError::Replica(ReplicaError::NoBase);
+
+// Once its view has one update, and nothing else.
+const REFUSED: [(&str, NodeError); 17] = [
     ("submit 1 1 inc 5", NodeError::Elsewhere),
     ("decide 1 0 7", NodeError::Elsewhere),
-    ("yes 2 0 0 0 1", NodeError::Elsewhere),
+    ("yes 2 0 0 0 1 has 1 view 0", NodeError::Elsewhere),
     ("tick", NodeError::Unkept),
     ("ask 0 1 total", NodeError::Unkept),
+    ("known 1 0 0 has 1 view 1", NodeError::Unkept),
     (
-        "yes 1 3 0 0 1",
+        "yes 1 3 0 0 1 has 1 view 0",
         NodeError::Replica(ReplicaError::NoSuchReplica),
     ),
+    (
+        "tell 1 0 1 0 2 has 2 view 2 base 1;0.2 1 inc 5",
+        NodeError::Replica(ReplicaError::NoSuchReplica),
+    ),
+    (
+        "tell 1 0 0 1 2 has 2 view 2 base 0",
+        NodeError::Replica(ReplicaError::NoSuchInstance),
+    ),
+    ("tell 1 0 0 0 2 has 2 view 2 base 0;0.2 1 inc 5", GAP),
+    (
+        "tell 1 0 0 0 2 has 2 view 2 base 0;0.1 1 inc 5;0.1 1 inc 5",
+        GAP,
+    ),
+    ("tell 1 0 0 0 2 has 2 view 2 base 0;8.1 1 inc 5", GAP),
+    ("tell 1 0 0 0 2 has 3 view 3 base 1;0.3 1 inc 5", GAP),
+    ("tell 1 0 0 0 2 has 2 view 2 base 2", NO_BASE),
+    ("tell 1 0 0 0 2 has 3 view 3 base 2;0.3 1 inc 5", NO_BASE),
+    ("tell 1 0 0 0 2 has 2 view 2 base 1,1;0.2 1 inc 5", NO_BASE),
     (
         "decide 0 0 7",
         NodeError::Proposal(WorldError::NoSuchCommit),
     ),
+];
+
+// A tell over what the view has, and one over nothing: what comes next is taken.
+const TOLD: [&str; 2] = [
+    "tell 1 0 0 0 2 has 2 view 2 base 1;0.2 1 inc 5",
+    "tell 1 0 0 0 2 has 2 view 2 base 0;0.1 1 inc 5;0.2 1 inc 5",
 ];
 
 fn machine(alloc: Global) -> Option<NodeMachine> {
@@ -94,15 +124,21 @@ fn has(alloc: Global, node: &Durable<NodeMachine, MemoryDisk>, groups: &[&[u8]])
     }
 }
 
+// Whether a message goes on this line, where nothing is known of its receiver.
+fn is_line(alloc: Global, machine: &NodeMachine, message: &Message, line: &str) -> Option<bool> {
+    let message = message.copy().ok()?;
+    let letter = Links::new().letter(&machine.node, message).ok()?;
+    let mut out = Vec::new(alloc);
+    put_letter(&mut out, &letter).ok()?;
+    Some(out.as_slice() == line.as_bytes())
+}
+
 // Whether this is sent: one message, or none.
-fn is_sent(alloc: Global, mail: &Mail, line: &str) -> bool {
+fn is_sent(alloc: Global, machine: &NodeMachine, mail: &Mail, line: &str) -> bool {
     let Some(message) = mail.at(0) else {
         return line.is_empty();
     };
-    let mut out = Vec::new(alloc);
-    mail.len() == 1
-        && put_message(&mut out, 1, message).is_ok()
-        && out.as_slice() == line.as_bytes()
+    mail.len() == 1 && is_line(alloc, machine, message, line) == Some(true)
 }
 
 fn takes(alloc: Global, node: &mut Durable<NodeMachine, MemoryDisk>, row: &(&str, &str)) -> bool
@@ -110,7 +146,7 @@ fn takes(alloc: Global, node: &mut Durable<NodeMachine, MemoryDisk>, row: &(&str
     ensures { node.new.closed ≡ false → IsSettled ⟦<MemoryDisk as Disk>⟧.seen ⟦<MemoryDisk as Disk>⟧.may_leave node.new.disk }
 {
     match take_line(node, alloc, row.0.as_bytes()) {
-        Ok(Some(given)) => is_sent(alloc, &given.done.mail, row.1),
+        Ok(Some(given)) => is_sent(alloc, &node.machine, &given.done.mail, row.1),
         _ => false,
     }
 }
@@ -151,9 +187,26 @@ fn a_round_and_a_start(rt: HostRuntime) {
 const STARTS: &[(&[&[u8]], &[u8], Option<usize>)] = &[
     (GROUPS, b"", Some(0)),
     (&[b"submit 0 1 inc 5\n"], b"sub", Some(3)),
-    (&[b"submit 0 1 inc 5\n"], b"yes 1 3 0 0 1\n", Some(14)),
+    (
+        &[b"submit 0 1 inc 5\n"],
+        b"yes 1 3 0 0 1 has 1 view 0\n",
+        Some(27),
+    ),
     (&[b"submit 0 1\n"], b"", None),
-    (&[b"yes 1 3 0 0 1\n"], b"", None),
+    (&[b"yes 1 3 0 0 1 has 1 view 0\n"], b"", None),
+    (&[b"yes 1 0 0 0 1\n"], b"", None),
+    (
+        &[b"tell 1 0 0 0 1 has 0 view 0 base 0;0.1 1 inc 5\n"],
+        b"",
+        Some(0),
+    ),
+    (
+        &[b"tell 1 0 0 0 1 has 0 view 0 base 0;0.2 1 inc 5\n"],
+        b"",
+        None,
+    ),
+    (&[b"tell 1 0 0 0 1 has 0 view 0 base 1\n"], b"", None),
+    (&[b"known 1 0 0 has 0 view 0\n"], b"", None),
 ];
 
 #[test]
@@ -168,7 +221,7 @@ fn starts_of_a_node(rt: HostRuntime) {
     }
 }
 
-// Lines without a head, and under the head of another machine.
+// Lines without a head, and under the head of another machine, or of one with other lines.
 #[test]
 fn no_journals_of_a_node(rt: HostRuntime) {
     let alloc = rt.alloc();
@@ -183,6 +236,13 @@ fn no_journals_of_a_node(rt: HostRuntime) {
         &rt,
         "another",
         other.is_some() && started(alloc, other).is_none(),
+    );
+    let before = b"lattice 1 replica 0 of 1 votes 1 commits 0 cap 10";
+    let old = journal_of(alloc, before, &[]).ok();
+    holds(
+        &rt,
+        "an older one",
+        old.is_some() && started(alloc, old).is_none(),
     );
 }
 
@@ -199,5 +259,21 @@ fn refusals_of_a_node(rt: HostRuntime) {
     let alloc = rt.alloc();
     for row in &REFUSED {
         holds(&rt, row.0, refuses_and_stays(alloc, row));
+    }
+}
+
+// Whether a node takes what it is told, and sends nothing.
+fn takes_told(alloc: Global, line: &str) -> bool {
+    let Some(mut node) = started(alloc, file_of(alloc, GROUPS, b"")) else {
+        return false;
+    };
+    takes(alloc, &mut node, &(line, "")) && node.machine.node.view().len() == 2
+}
+
+#[test]
+fn tells_of_a_node(rt: HostRuntime) {
+    let alloc = rt.alloc();
+    for line in &TOLD {
+        holds(&rt, line, takes_told(alloc, line));
     }
 }

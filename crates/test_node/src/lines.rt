@@ -1,8 +1,9 @@
-// Calls and messages as lines, against values made by hand. Where memory is refused a row is looked at again.
+// Calls and letters as lines, against values made by hand. Where memory is refused a row is looked at again.
 use crate::holds::holds;
+use la_node::Standing;
 use la_object::Query;
-use la_replica::{Body, Message};
-use la_set::{Delta, Op, SetError, Tags, Update, UpdateId, UpdateSet, Updates};
+use la_replica::{Content, Parcel, Progress};
+use la_set::{Delta, Op, SetError, Tags, Update, UpdateId, Updates};
 use la_wire::{Call, Letter, LineError, LineFault, read, read_bounded, write};
 use std::alloc::Global;
 use uses::lines::{came, carried, sent};
@@ -22,27 +23,38 @@ enum Act {
 // An update: replica, number, object, operation.
 type Row = (u8, u32, u16, Act);
 
-// What a call is to be; a message by its group's size, sender, receiver, instance and ballot.
+// How far a sender is to be: what it has accepted, and its view.
+type Far = ([u32; 8], [u32; 8]);
+
+// What a call is to be; a letter by its group's size, sender, receiver, instance and ballot, and how far its sender
+// is.
 #[derive(Clone, Copy)]
 enum Want {
     Submit(u8, u16, Act),
     Decide(u8, u8, u64),
     Ask(u8, u16, Query),
     Tick,
-    Offer([u8; 4], u32, [u32; 8], &'static [Row]),
-    Yes([u8; 4], u32),
-    No([u8; 4], u32, [u32; 8], &'static [Row]),
-    Tell([u8; 4], u32, &'static [Row]),
+    Offer([u8; 4], u32, Far, [u32; 8], &'static [Row]),
+    Yes([u8; 4], u32, Far),
+    No([u8; 4], u32, Far, [u32; 8], &'static [Row]),
+    Tell([u8; 4], u32, Far, [u32; 8], &'static [Row]),
+    Known([u8; 3], Far),
 }
 
 use self::Act::{Dec, Inc, Mark, Put, Raise, Remove, Vote};
-use self::Want::{Ask, Decide, No, Offer, Submit, Tell, Tick, Yes};
+use self::Want::{Ask, Decide, Known, No, Offer, Submit, Tell, Tick, Yes};
+
+const NONE: [u32; 8] = [0; 8];
 
 const ONE: [u32; 8] = [1, 0, 0, 0, 0, 0, 0, 0];
 
+const SEVEN: [u32; 8] = [0, 0, 7, 0, 0, 0, 0, 0];
+
 const EIGHT: [u32; 8] = [4294967295, 1, 20, 300, 4000, 50000, 600000, 1000000];
 
-const LINES: [(&str, Want); 23] = [
+const NOWHERE: Far = (NONE, NONE);
+
+const LINES: [(&str, Want); 32] = [
     ("tick", Tick),
     (
         "submit 255 65535 inc 4294967295",
@@ -73,16 +85,21 @@ const LINES: [(&str, Want); 23] = [
     ("ask 0 3 has 0", Ask(0, 3, Query::Has(0))),
     ("ask 0 3 size", Ask(0, 3, Query::Size)),
     ("ask 0 3 items", Ask(0, 3, Query::Items)),
-    ("yes 3 1 0 0 5", Yes([3, 1, 0, 0], 5)),
+    ("yes 3 1 0 0 5 has 0 view 0", Yes([3, 1, 0, 0], 5, NOWHERE)),
     (
-        "offer 3 0 1 0 5 base 1 0 0 0 0 0 0 0",
-        Offer([3, 0, 1, 0], 5, ONE, &[]),
+        "yes 3 1 0 0 5 has 0,0,7 view 1",
+        Yes([3, 1, 0, 0], 5, (SEVEN, ONE)),
     ),
     (
-        "offer 3 0 1 0 5 base 1 0 0 0 0 0 0 0;0.2 1 inc 5;0.3 3 remove 0.1 0.2;1.1 2 raise 7",
+        "offer 3 0 1 0 5 has 1 view 0 base 1",
+        Offer([3, 0, 1, 0], 5, (ONE, NONE), ONE, &[]),
+    ),
+    (
+        "offer 3 0 1 0 5 has 1 view 1 base 1;0.2 1 inc 5;0.3 3 remove 0.1 0.2;1.1 2 raise 7",
         Offer(
             [3, 0, 1, 0],
             5,
+            (ONE, ONE),
             ONE,
             &[
                 (0, 2, 1, Inc(5)),
@@ -92,43 +109,113 @@ const LINES: [(&str, Want); 23] = [
         ),
     ),
     (
-        "no 8 255 254 253 4294967295 base 4294967295 1 20 300 4000 50000 600000 1000000;255.4294967295 65535 mark",
+        "offer 3 0 1 0 5 has 0 view 0 base 0;0.3 1 inc 5",
+        Offer([3, 0, 1, 0], 5, NOWHERE, NONE, &[(0, 3, 1, Inc(5))]),
+    ),
+    (
+        "no 8 255 254 253 4294967295 has 4294967295,1,20,300,4000,50000,600000,1000000 view 0,0,7 \
+         base 4294967295,1,20,300,4000,50000,600000,1000000;255.4294967295 65535 mark",
         No(
             [8, 255, 254, 253],
             4294967295,
+            (EIGHT, SEVEN),
             EIGHT,
             &[(255, 4294967295, 65535, Mark)],
         ),
     ),
     (
-        "no 1 0 0 1 1 base 1 0 0 0 0 0 0 0;1.1 0 vote 9;2.1 0 sole 8",
+        "no 1 0 0 1 1 has 0 view 0 base 1;1.1 0 vote 9;2.1 0 sole 8",
         No(
             [1, 0, 0, 1],
             1,
+            NOWHERE,
             ONE,
             &[(1, 1, 0, Vote(9, false)), (2, 1, 0, Vote(8, true))],
         ),
     ),
-    ("tell 3 0 1 0 5", Tell([3, 0, 1, 0], 5, &[])),
     (
-        "tell 3 0 1 0 5;0.1 3 put 4;0.2 3 remove 0.1",
+        "tell 3 0 1 0 5 has 0 view 0 base 0",
+        Tell([3, 0, 1, 0], 5, NOWHERE, NONE, &[]),
+    ),
+    (
+        "tell 3 0 1 0 5 has 0,0,7 view 0,0,7 base 0,0,7",
+        Tell([3, 0, 1, 0], 5, (SEVEN, SEVEN), SEVEN, &[]),
+    ),
+    (
+        "tell 3 0 1 0 5 has 0 view 0 base 0;0.1 3 put 4;0.2 3 remove 0.1",
         Tell(
             [3, 0, 1, 0],
             5,
+            NOWHERE,
+            NONE,
             &[(0, 1, 3, Put(4)), (0, 2, 3, Remove(&[(0, 1)]))],
         ),
     ),
     (
-        "tell 2 1 0 0 9;0.1 1 dec 1;7.1 0 mark;7.2 0 mark",
+        "tell 2 1 0 0 9 has 1 view 0,0,7 base 1;0.2 1 dec 1;7.1 0 mark;7.2 0 mark",
         Tell(
             [2, 1, 0, 0],
             9,
-            &[(0, 1, 1, Dec(1)), (7, 1, 0, Mark), (7, 2, 0, Mark)],
+            (ONE, SEVEN),
+            ONE,
+            &[(0, 2, 1, Dec(1)), (7, 1, 0, Mark), (7, 2, 0, Mark)],
         ),
+    ),
+    // whose updates do not come next: what they come to is for the node to say
+    (
+        "tell 3 0 1 0 5 has 0 view 0 base 0;0.2 1 inc 5",
+        Tell([3, 0, 1, 0], 5, NOWHERE, NONE, &[(0, 2, 1, Inc(5))]),
+    ),
+    (
+        "tell 3 0 1 0 5 has 0 view 0 base 0;0.1 1 inc 5;0.1 1 inc 5",
+        Tell(
+            [3, 0, 1, 0],
+            5,
+            NOWHERE,
+            NONE,
+            &[(0, 1, 1, Inc(5)), (0, 1, 1, Inc(5))],
+        ),
+    ),
+    (
+        "tell 3 0 1 0 5 has 0 view 0 base 0;8.1 1 inc 5",
+        Tell([3, 0, 1, 0], 5, NOWHERE, NONE, &[(8, 1, 1, Inc(5))]),
+    ),
+    ("known 3 1 0 has 0 view 0", Known([3, 1, 0], NOWHERE)),
+    (
+        "known 1 0 0 has 1 view 0,0,7",
+        Known([1, 0, 0], (ONE, SEVEN)),
+    ),
+    (
+        "known 8 255 254 has 0,0,7 view 4294967295,1,20,300,4000,50000,600000,1000000",
+        Known([8, 255, 254], (SEVEN, EIGHT)),
     ),
 ];
 
-const FAULTS: [(&str, LineFault); 35] = [
+// Lines with zeros at the end of their counts, which are read, and written without them.
+const LONGER: [(&str, Want); 5] = [
+    (
+        "yes 3 1 0 0 5 has 0,0 view 0,0,7,0",
+        Yes([3, 1, 0, 0], 5, (NONE, SEVEN)),
+    ),
+    (
+        "offer 3 0 1 0 5 has 0,0,0,0,0,0,0,0 view 0 base 1,0,0,0,0,0,0",
+        Offer([3, 0, 1, 0], 5, NOWHERE, ONE, &[]),
+    ),
+    (
+        "no 3 0 1 0 5 has 1,0 view 0 base 1,0,0,0,0,0,0,0;1.1 1 inc 5",
+        No([3, 0, 1, 0], 5, (ONE, NONE), ONE, &[(1, 1, 1, Inc(5))]),
+    ),
+    (
+        "tell 3 0 1 0 5 has 0 view 0,0 base 0,0,7,0,0,0,0,0;0.1 1 inc 5",
+        Tell([3, 0, 1, 0], 5, NOWHERE, SEVEN, &[(0, 1, 1, Inc(5))]),
+    ),
+    (
+        "known 3 1 0 has 0,0,7,0,0,0,0,0 view 1,0",
+        Known([3, 1, 0], (SEVEN, ONE)),
+    ),
+];
+
+const FAULTS: [(&str, LineFault); 80] = [
     ("", LineFault::BadLine),
     ("tock", LineFault::BadLine),
     ("tick ", LineFault::BadLine),
@@ -138,50 +225,115 @@ const FAULTS: [(&str, LineFault); 35] = [
     ("submit 0 1 inc 5;0.1 1 inc 5", LineFault::BadLine),
     ("yes", LineFault::BadLine),
     ("yes 3 1 0 0", LineFault::BadLine),
-    ("yes 3 1 0 0 5 6", LineFault::BadLine),
-    ("yes  3 1 0 0 5", LineFault::BadNumber),
-    ("yes 3 1 0 0 5 ", LineFault::BadLine),
-    ("yes 3 1 0 0 5;", LineFault::BadLine),
-    ("yes 0 1 0 0 5", LineFault::BadNumber),
-    ("yes 9 1 0 0 5", LineFault::BadNumber),
-    ("yes 3 256 0 0 5", LineFault::BadNumber),
-    ("yes 3 1 256 0 5", LineFault::BadNumber),
-    ("yes 3 1 0 256 5", LineFault::BadNumber),
-    ("yes 3 1 0 0 4294967296", LineFault::BadNumber),
-    ("yes 3 1 0 0 05", LineFault::BadNumber),
-    ("offer 3 0 1 0 5", LineFault::BadLine),
-    ("offer 3 0 1 0 5 more 1 0 0 0 0 0 0 0", LineFault::BadLine),
-    ("offer 3 0 1 0 5 base 1 0 0 0 0 0 0", LineFault::BadLine),
-    ("offer 3 0 1 0 5 base 1 0 0 0 0 0 0 0 0", LineFault::BadLine),
+    ("yes 3 1 0 0 has 0 view 0", LineFault::BadNumber),
+    ("yes 3 1 0 0 5 6 has 0 view 0", LineFault::BadLine),
+    ("yes  3 1 0 0 5 has 0 view 0", LineFault::BadNumber),
+    ("yes 3 1 0 0 5  has 0 view 0", LineFault::BadLine),
+    ("yes 3 1 0 0 5 has 0 view 0 ", LineFault::BadLine),
+    ("yes 3 1 0 0 5 has 0 view 0;", LineFault::BadLine),
+    ("yes 3 1 0 0 5 has 0 view 0 base 0", LineFault::BadLine),
+    ("yes 0 1 0 0 5 has 0 view 0", LineFault::BadNumber),
+    ("yes 9 1 0 0 5 has 0 view 0", LineFault::BadNumber),
+    ("yes 3 256 0 0 5 has 0 view 0", LineFault::BadNumber),
+    ("yes 3 1 256 0 5 has 0 view 0", LineFault::BadNumber),
+    ("yes 3 1 0 256 5 has 0 view 0", LineFault::BadNumber),
+    ("yes 3 1 0 0 4294967296 has 0 view 0", LineFault::BadNumber),
+    ("yes 3 1 0 0 05 has 0 view 0", LineFault::BadNumber),
+    // how far the sender is
+    ("yes 3 1 0 0 5", LineFault::BadLine),
+    ("yes 3 1 0 0 5 view 0", LineFault::BadLine),
+    ("yes 3 1 0 0 5 view 0 has 0", LineFault::BadLine),
+    ("yes 3 1 0 0 5 had 0 view 0", LineFault::BadLine),
+    ("yes 3 1 0 0 5 has", LineFault::BadLine),
+    ("yes 3 1 0 0 5 has 0", LineFault::BadLine),
+    ("yes 3 1 0 0 5 has 0 0 view 0", LineFault::BadLine),
+    ("yes 3 1 0 0 5 has 0 base 0 view 0", LineFault::BadLine),
+    ("yes 3 1 0 0 5 has view 0", LineFault::BadNumber),
+    ("yes 3 1 0 0 5 has  view 0", LineFault::BadNumber),
+    ("yes 3 1 0 0 5 has 0 view", LineFault::BadLine),
+    ("yes 3 1 0 0 5 has 0 view ", LineFault::BadNumber),
+    ("yes 3 1 0 0 5 has 0 view 0 0", LineFault::BadLine),
+    ("yes 3 1 0 0 5 has 0, view 0", LineFault::BadNumber),
+    ("yes 3 1 0 0 5 has ,0 view 0", LineFault::BadNumber),
+    ("yes 3 1 0 0 5 has 0,,0 view 0", LineFault::BadNumber),
+    ("yes 3 1 0 0 5 has 00 view 0", LineFault::BadNumber),
+    ("yes 3 1 0 0 5 has 1,02 view 0", LineFault::BadNumber),
+    ("yes 3 1 0 0 5 has 0.1 view 0", LineFault::BadNumber),
+    ("yes 3 1 0 0 5 has 0 view x", LineFault::BadNumber),
+    ("yes 3 1 0 0 5 has 0 view 4294967296", LineFault::BadNumber),
     (
-        "offer 3 0 1 0 5 base 4294967296 0 0 0 0 0 0 0",
+        "yes 3 1 0 0 5 has 0 view 0,4294967296",
         LineFault::BadNumber,
     ),
     (
-        "no 3 0 1 0 5 base 1 0 0 0 0 0 0 0;0.0 1 inc 5",
+        "yes 3 1 0 0 5 has 0,0,0,0,0,0,0,0,0 view 0",
         LineFault::BadNumber,
     ),
     (
-        "no 3 0 1 0 5 base 1 0 0 0 0 0 0 0;0.2 65536 inc 5",
+        "yes 3 1 0 0 5 has 0 view 1,1,1,1,1,1,1,1,1",
+        LineFault::BadNumber,
+    ),
+    ("offer 3 0 1 0 5 base 1", LineFault::BadLine),
+    ("offer 3 0 1 0 5 has 0 view 0", LineFault::BadLine),
+    ("offer 3 0 1 0 5 has 0 view 0 more 1", LineFault::BadLine),
+    ("offer 3 0 1 0 5 has 0 view 0 base", LineFault::BadLine),
+    ("offer 3 0 1 0 5 has 0 view 0 base ", LineFault::BadNumber),
+    ("offer 3 0 1 0 5 has 0 view 0 base 1 0", LineFault::BadLine),
+    ("offer 3 0 1 0 5 base 1 has 0 view 0", LineFault::BadLine),
+    ("offer 3 0 1 0 5 base 1 0 0 0 0 0 0 0", LineFault::BadLine),
+    (
+        "offer 3 0 1 0 5 has 0 view 0 base 1,0,0,0,0,0,0,0,0",
         LineFault::BadNumber,
     ),
     (
-        "no 3 0 1 0 5 base 1 0 0 0 0 0 0 0;0.2 1 add 5",
+        "offer 3 0 1 0 5 has 0 view 0 base 4294967296",
+        LineFault::BadNumber,
+    ),
+    (
+        "no 3 0 1 0 5 has 0 view 0 base 1;0.0 1 inc 5",
+        LineFault::BadNumber,
+    ),
+    (
+        "no 3 0 1 0 5 has 0 view 0 base 1;0.2 65536 inc 5",
+        LineFault::BadNumber,
+    ),
+    (
+        "no 3 0 1 0 5 has 0 view 0 base 1;0.2 1 add 5",
         LineFault::BadLine,
     ),
     (
-        "no 3 0 1 0 5 base 1 0 0 0 0 0 0 0;0.2 1 inc 5 6",
+        "no 3 0 1 0 5 has 0 view 0 base 1;0.2 1 inc 5 6",
         LineFault::BadLine,
     ),
     (
-        "no 3 0 1 0 5 base 1 0 0 0 0 0 0 0;0.2 1 remove 0.1 x",
+        "no 3 0 1 0 5 has 0 view 0 base 1;0.2 1 remove 0.1 x",
         LineFault::BadNumber,
     ),
-    ("tell 3 0 1 0 5 base 1 0 0 0 0 0 0 0", LineFault::BadLine),
-    ("tell 3 0 1 0 5;0.2 1 inc 5", LineFault::BadSet),
-    ("tell 3 0 1 0 5;0.1 1 inc 5;0.1 1 inc 5", LineFault::BadSet),
-    ("tell 3 0 1 0 5;8.1 1 inc 5", LineFault::BadSet),
-    ("tell 3 0 1 0 5;0.2 1 inc 5;0.3 1 add 5", LineFault::BadLine),
+    ("tell 3 0 1 0 5", LineFault::BadLine),
+    ("tell 3 0 1 0 5;0.1 1 inc 5", LineFault::BadLine),
+    ("tell 3 0 1 0 5 has 0 view 0", LineFault::BadLine),
+    (
+        "tell 3 0 1 0 5 has 0 view 0;0.1 1 inc 5",
+        LineFault::BadLine,
+    ),
+    ("tell 3 0 1 0 5 has 0 view 0 base 0;", LineFault::BadNumber),
+    (
+        "tell 3 0 1 0 5 has 0 view 0 base 0;0.2 1 inc 5;0.3 1 add 5",
+        LineFault::BadLine,
+    ),
+    ("known", LineFault::BadLine),
+    ("known 3 1", LineFault::BadLine),
+    ("known 3 1 0", LineFault::BadLine),
+    ("known 3 1 0 has 0", LineFault::BadLine),
+    ("known 3 1 0 0 5 has 0 view 0", LineFault::BadLine),
+    ("known 3 1 0 view 0 has 0", LineFault::BadLine),
+    ("known 9 1 0 has 0 view 0", LineFault::BadNumber),
+    ("known 3 256 0 has 0 view 0", LineFault::BadNumber),
+    ("known 3 1 256 has 0 view 0", LineFault::BadNumber),
+    ("known 3 1 0 has 0 view 00", LineFault::BadNumber),
+    ("known 3 1 0 has 0 view 0 base 0", LineFault::BadLine),
+    // it has no parts, so that this is a word
+    ("known 3 1 0 has 0 view 0;0.1", LineFault::BadNumber),
 ];
 
 fn tags_of(alloc: Global, rows: &[(u8, u32)]) -> Result<Tags, SetError> {
@@ -224,24 +376,38 @@ fn updates_of(alloc: Global, rows: &[Row]) -> Result<Updates, SetError> {
     Ok(updates)
 }
 
-fn set_of(alloc: Global, rows: &[Row]) -> Result<UpdateSet, SetError> {
-    let mut set = UpdateSet::new(alloc);
-    for row in rows {
-        set.push(update_of(alloc, row)?)?;
+fn progress_of(far: Far) -> Progress {
+    let (accepted, view) = far;
+    Progress {
+        accepted: accepted.into(),
+        view: view.into(),
     }
-    Ok(set)
 }
 
-fn message_of(head: [u8; 4], ballot: u32, body: Body) -> Call {
+fn letter_of(head: [u8; 4], ballot: u32, far: Far, content: Content) -> Call {
     let [replicas, from, to, instance] = head;
-    let message = Message {
+    let parcel = Parcel {
         instance,
         from,
         to,
         ballot,
-        body,
+        content,
     };
-    Call::Receive(Letter { replicas, message })
+    Call::Receive(Letter {
+        replicas,
+        progress: progress_of(far),
+        parcel,
+    })
+}
+
+fn standing_of(head: [u8; 3], far: Far) -> Call {
+    let [replicas, from, to] = head;
+    Call::Known(Standing {
+        replicas,
+        from,
+        to,
+        progress: progress_of(far),
+    })
 }
 
 fn delta_of(alloc: Global, base: [u32; 8], rows: &[Row]) -> Result<Delta, SetError> {
@@ -266,15 +432,45 @@ fn call_of(alloc: Global, want: Want) -> Result<Call, SetError> {
             query,
         },
         Tick => Call::Tick,
-        Offer(head, ballot, base, rows) => {
-            message_of(head, ballot, Body::Offer(delta_of(alloc, base, rows)?))
+        Offer(head, ballot, far, base, rows) => {
+            let content = Content::Offer(delta_of(alloc, base, rows)?);
+            letter_of(head, ballot, far, content)
         }
-        Yes(head, ballot) => message_of(head, ballot, Body::Yes),
-        No(head, ballot, base, rows) => {
-            message_of(head, ballot, Body::No(delta_of(alloc, base, rows)?))
+        Yes(head, ballot, far) => letter_of(head, ballot, far, Content::Yes),
+        No(head, ballot, far, base, rows) => {
+            let content = Content::No(delta_of(alloc, base, rows)?);
+            letter_of(head, ballot, far, content)
         }
-        Tell(head, ballot, rows) => message_of(head, ballot, Body::Tell(set_of(alloc, rows)?)),
+        Tell(head, ballot, far, base, rows) => {
+            let content = Content::Tell(delta_of(alloc, base, rows)?);
+            letter_of(head, ballot, far, content)
+        }
+        Known(head, far) => standing_of(head, far),
     })
+}
+
+fn say_the_same(mine: &Content, theirs: &Content) -> bool {
+    match (mine, theirs) {
+        (Content::Offer(mine), Content::Offer(theirs)) => mine.same(theirs),
+        (Content::No(mine), Content::No(theirs)) => mine.same(theirs),
+        (Content::Tell(mine), Content::Tell(theirs)) => mine.same(theirs),
+        (Content::Yes, Content::Yes) => true,
+        _ => false,
+    }
+}
+
+fn are_same_parcels(mine: &Parcel, theirs: &Parcel) -> bool {
+    mine.instance == theirs.instance
+        && mine.from == theirs.from
+        && mine.to == theirs.to
+        && mine.ballot == theirs.ballot
+        && say_the_same(&mine.content, &theirs.content)
+}
+
+fn are_same_letters(mine: &Letter, theirs: &Letter) -> bool {
+    mine.replicas == theirs.replicas
+        && mine.progress == theirs.progress
+        && are_same_parcels(&mine.parcel, &theirs.parcel)
 }
 
 fn are_same(mine: &Call, theirs: &Call) -> bool {
@@ -316,9 +512,8 @@ fn are_same(mine: &Call, theirs: &Call) -> bool {
             },
         ) => replica == other_replica && object == other_object && query == other_query,
         (Call::Tick, Call::Tick) => true,
-        (Call::Receive(mine), Call::Receive(theirs)) => {
-            mine.replicas == theirs.replicas && mine.message.same(&theirs.message)
-        }
+        (Call::Receive(mine), Call::Receive(theirs)) => are_same_letters(mine, theirs),
+        (Call::Known(mine), Call::Known(theirs)) => mine == theirs,
         _ => false,
     }
 }
@@ -335,6 +530,24 @@ fn are_lines(alloc: Global) -> bool {
     for (line, want) in &LINES {
         let came = is_line(alloc, line, *want);
         if came != Some(true) && is_line(alloc, line, *want) != Some(true) {
+            return false;
+        }
+    }
+    true
+}
+
+// Whether a line is read as this call, and the call written otherwise.
+fn is_longer(alloc: Global, line: &str, want: Want) -> Option<bool> {
+    let call = call_of(alloc, want).ok()?;
+    let written = write(alloc, &call).ok()?;
+    let read = read(alloc, line.as_bytes()).ok()?;
+    Some(written.len() < line.len() && are_same(&read, &call))
+}
+
+fn are_read(alloc: Global) -> bool {
+    for (line, want) in &LONGER {
+        let came = is_longer(alloc, line, *want);
+        if came != Some(true) && is_longer(alloc, line, *want) != Some(true) {
             return false;
         }
     }
@@ -359,41 +572,50 @@ fn are_faults(alloc: Global) -> bool {
 
 // ## The callers
 
-fn tell(alloc: Global) -> Option<Message> {
-    let told = set_of(alloc, &[(0, 1, 3, Put(4)), (0, 2, 1, Inc(6))]).ok()?;
-    Some(Message {
-        instance: 0,
-        from: 0,
-        to: 1,
-        ballot: 5,
-        body: Body::Tell(told),
+fn tell(alloc: Global) -> Option<Letter> {
+    let told = delta_of(alloc, ONE, &[(0, 2, 3, Put(4)), (0, 3, 1, Inc(6))]).ok()?;
+    Some(Letter {
+        replicas: 3,
+        progress: progress_of((SEVEN, ONE)),
+        parcel: Parcel {
+            instance: 0,
+            from: 0,
+            to: 1,
+            ballot: 5,
+            content: Content::Tell(told),
+        },
     })
 }
 
-// A message comes as it was sent, in its group alone.
+// A letter comes as it was sent, in its group alone.
 fn comes(alloc: Global) -> Option<bool> {
-    let message = tell(alloc)?;
-    let line = sent(alloc, 3, &message).ok()?;
+    let letter = tell(alloc)?;
+    let line = sent(alloc, &letter).ok()?;
     let here = came(alloc, 3, &line).ok()??;
     let there = came(alloc, 4, &line).ok()?;
-    Some(here.same(&message) && there.is_none())
+    Some(are_same_letters(&here, &letter) && there.is_none())
 }
 
 fn is_carried(alloc: Global) -> Option<bool> {
-    let message = Message {
-        instance: 0,
-        from: 1,
-        to: 0,
-        ballot: 5,
-        body: Body::Yes,
+    let letter = Letter {
+        replicas: 3,
+        progress: Progress::none(),
+        parcel: Parcel {
+            instance: 0,
+            from: 1,
+            to: 0,
+            ballot: 5,
+            content: Content::Yes,
+        },
     };
-    let came = carried(alloc, 3, &message).ok()??;
-    Some(came.same(&message))
+    let came = carried(alloc, &letter).ok()??;
+    Some(are_same_letters(&came, &letter))
 }
 
 #[test]
 fn calls_are_lines(rt: HostRuntime) {
     holds(&rt, "calls", are_lines(rt.alloc()));
+    holds(&rt, "zeros at the end", are_read(rt.alloc()));
     holds(&rt, "faults", are_faults(rt.alloc()));
     let alloc = rt.alloc();
     holds(&rt, "a tell", comes(alloc).or(comes(alloc)) == Some(true));

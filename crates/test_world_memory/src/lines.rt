@@ -1,13 +1,14 @@
 // la_wire: calls as lines.
 use crate::holds::holds;
-use la_wire::{Call, LineError, named, put_message, read, read_bounded, write};
+use la_wire::{Call, LineError, named, put_letter, read, read_bounded, write};
 use std::alloc::Global;
 use test_memory::{Came, again, refused};
 
-// With more tags than lie in an operation, and one with a set.
-const LINES: [&str; 2] = [
+// With more tags than lie in an operation, one with a delta, and one with counts alone.
+const LINES: [&str; 3] = [
     "submit 0 3 remove 0.1 0.2 0.3",
-    "tell 3 0 1 0 5;0.1 3 put 4;0.2 3 remove 0.1 0.2 0.3",
+    "tell 3 0 1 0 5 has 0,2 view 1 base 1;0.2 3 put 4;0.3 3 remove 0.1 0.2 0.3",
+    "known 3 1 0 has 0,2 view 1,0,0,0,0,0,0,5",
 ];
 
 fn writes(alloc: Global, call: &Call, text: &str) -> Came {
@@ -39,13 +40,13 @@ fn names(alloc: Global, text: &str) -> Came {
     }
 }
 
-// A message behind a byte, which stands where memory was refused too.
+// A letter behind a byte, which stands where memory was refused too.
 fn puts(alloc: Global, call: &Call, text: &str) -> Came {
     let Call::Receive(letter) = call else {
         return Some(true);
     };
     let mut out = b"=".to_vec(alloc).ok()?;
-    let put = put_message(&mut out, letter.replicas, &letter.message);
+    let put = put_letter(&mut out, letter);
     let [first, line @ ..] = out.as_slice() else {
         return Some(false);
     };
@@ -70,8 +71,8 @@ fn scenes_of(alloc: Global, text: &str) -> Came {
 }
 
 fn scenes(alloc: Global) -> Came {
-    let [first, second] = LINES;
-    Some(scenes_of(alloc, first)? && scenes_of(alloc, second)?)
+    let [first, second, third] = LINES;
+    Some(scenes_of(alloc, first)? && scenes_of(alloc, second)? && scenes_of(alloc, third)?)
 }
 
 #[test]

@@ -9,14 +9,19 @@ use std::alloc::Global;
 use test_memory::{Came, again, refused};
 
 // A round, each line with how many messages it leads to, and how many updates are in the view then.
-const ROUND: [(&str, usize, usize); 3] = [
+const ROUND: [(&str, usize, usize); 4] = [
     ("submit 0 3 remove 0.1 0.2 0.3", 1, 0),
     (
-        "offer 1 0 0 0 1 base 0 0 0 0 0 0 0 0;0.1 3 remove 0.1 0.2 0.3",
+        "offer 1 0 0 0 1 has 0 view 0 base 0;0.1 3 remove 0.1 0.2 0.3",
         1,
         0,
     ),
-    ("yes 1 0 0 0 1", 0, 1),
+    ("yes 1 0 0 0 1 has 1 view 0", 0, 1),
+    (
+        "tell 1 0 0 0 2 has 2 view 2 base 1;0.2 3 remove 0.1 0.2 0.3",
+        0,
+        2,
+    ),
 ];
 
 fn machine(alloc: Global) -> Result<NodeMachine, WorldError> {
@@ -39,7 +44,7 @@ fn makes(alloc: Global) -> Came {
 fn heads(alloc: Global, machine: &NodeMachine) -> Came {
     match machine.head(alloc) {
         Ok(head) => Some(
-            head.as_slice() == b"lattice 1 replica 0 of 1 votes 1 commits 0 cap 10".as_slice(),
+            head.as_slice() == b"lattice 2 replica 0 of 1 votes 1 commits 0 cap 10".as_slice(),
         ),
         Err(_) => None,
     }

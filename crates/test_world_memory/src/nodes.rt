@@ -1,11 +1,11 @@
-// la_world: a node of a group of one, from its start to the retirement of its object.
+// la_node: a node of a group of one, from its start to the retirement of its object.
 use crate::holds::holds;
 use crate::texts::{Shelved, shelf_of};
-use la_node::{Config, Node, WorldError};
+use la_node::{Config, Links, Node, WorldError};
 use la_object::{Answer, Query, ShelfError, State};
 use la_orset::OrSet;
 use la_proposer::Votes;
-use la_replica::{Body, Message, Parcel, ReplicaError};
+use la_replica::{Body, Content, Message, Parcel, ReplicaError};
 use la_set::{Counts, Op};
 use std::alloc::{AllocError, Global};
 use std::sync::Arc;
@@ -26,6 +26,9 @@ enum Call {
     Observe,
     Propose,
     Again,
+    // What it would send of its view, and what it sends once more, as letters.
+    Letter,
+    Letters,
     Retire,
 }
 
@@ -33,7 +36,7 @@ enum Call {
 type Stand = (usize, u32, usize);
 
 // A call, what it answers, as a number, and what stands then.
-const STEPS: [(Call, usize, Stand); 9] = [
+const STEPS: [(Call, usize, Stand); 11] = [
     (Call::Add, 1, (0, 0, 2)),
     (Call::Submit, 1, (0, 1, 2)),
     (Call::Offer, 1, (0, 1, 2)),
@@ -42,6 +45,8 @@ const STEPS: [(Call, usize, Stand); 9] = [
     (Call::Observe, 1, (1, 1, 2)),
     (Call::Propose, 1, (1, 1, 2)),
     (Call::Again, 1, (1, 1, 2)),
+    (Call::Letter, 1, (1, 1, 2)),
+    (Call::Letters, 1, (1, 1, 2)),
     (Call::Retire, 0, (1, 1, 1)),
 ];
 
@@ -135,6 +140,21 @@ fn observe(node: &mut Alone) -> Result<usize, AllocError> {
     }
 }
 
+fn letter(node: &Alone) -> Result<usize, AllocError> {
+    let told = Body::Tell(node.view().copy()?);
+    let letter = Links::new().letter(node, message_of(told))?;
+    Ok(match &letter.parcel.content {
+        Content::Tell(delta) => delta.len(),
+        _ => WRONG,
+    })
+}
+
+fn letters(node: &Alone, alloc: Global) -> Result<usize, AllocError> {
+    let mail = node.again()?;
+    let letters = Links::new().letters(alloc, node, &mail)?;
+    Ok(letters.len())
+}
+
 fn retire(node: &mut Alone) -> Result<usize, AllocError> {
     match node.retire(3) {
         Ok(State::Set { .. }) => Ok(if node.has(3) { WRONG } else { 0 }),
@@ -158,6 +178,8 @@ fn answer_of(
         Call::Observe => observe(node),
         Call::Propose => propose(node),
         Call::Again => Ok(node.again()?.len()),
+        Call::Letter => letter(node),
+        Call::Letters => letters(node, alloc),
         Call::Retire => retire(node),
     }
 }

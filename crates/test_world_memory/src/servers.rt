@@ -10,7 +10,7 @@ use la_cli::end_without_call;
 use la_durable::NodeMachine;
 use la_io::{Listener, WriteFailed, flush, write_some};
 use la_journal::{Disk, Durable, MemoryDisk, Staged, next_group, recover};
-use la_node::Config;
+use la_node::{Config, Links};
 use la_object::Shelf;
 use la_orset::OrSet;
 use la_proposer::Votes;
@@ -33,28 +33,28 @@ struct Row {
     later: &'static str,
 }
 
-const ROWS: [Row; 4] = [
+const ROWS: [Row; 8] = [
     Row {
         journal: "",
         line: "submit 0 3 put 7\n",
         is_kept: true,
-        text: "# r0 submitted 0.1\noffer 1 0 0 0 1 base 0 0 0 0 0 0 0 0;0.1 3 put 7\n",
+        text: "# r0 submitted 0.1\noffer 1 0 0 0 1 has 0 view 0 base 0;0.1 3 put 7\n",
         later: "# r0 submitted 0.2\n",
     },
     Row {
-        journal: "lattice 1 replica 0 of 1 votes 1 commits 0 cap 10 5587c1eefb08da26\nsubmit 0 3 put 7\n\
-            ~ 1 5587c1eefb08da26 426c0ba6151fc437\n",
+        journal: "lattice 2 replica 0 of 1 votes 1 commits 0 cap 10 362792422aa91c16\nsubmit 0 3 put 7\n\
+            ~ 1 362792422aa91c16 d153d31f9cebc397\n",
         line: "tick\n",
         is_kept: false,
-        text: "offer 1 0 0 0 1 base 0 0 0 0 0 0 0 0;0.1 3 put 7\n",
+        text: "offer 1 0 0 0 1 has 0 view 0 base 0;0.1 3 put 7\n",
         later: "",
     },
     Row {
-        journal: "lattice 1 replica 0 of 1 votes 1 commits 0 cap 10 5587c1eefb08da26\nsubmit 0 3 put 7\n\
-            ~ 1 5587c1eefb08da26 426c0ba6151fc437\n\
-            offer 1 0 0 0 1 base 0 0 0 0 0 0 0 0;0.1 3 put 7\n\
-            ~ 1 426c0ba6151fc437 5c0a4965d7c9201f\n",
-        line: "yes 1 0 0 0 1\n",
+        journal: "lattice 2 replica 0 of 1 votes 1 commits 0 cap 10 362792422aa91c16\nsubmit 0 3 put 7\n\
+            ~ 1 362792422aa91c16 d153d31f9cebc397\n\
+            offer 1 0 0 0 1 has 0 view 0 base 0;0.1 3 put 7\n\
+            ~ 1 d153d31f9cebc397 9038bb4cf0fd4f18\n",
+        line: "yes 1 0 0 0 1 has 1 view 0\n",
         is_kept: true,
         text: "# r0 learnt 0 1 1 0 0 0 0 0 0 0\n# r0 view 1 0 0 0 0 0 0 0\n",
         later: "",
@@ -66,16 +66,45 @@ const ROWS: [Row; 4] = [
         text: ANSWER,
         later: "",
     },
+    // a tell that is no news, one with a gap, one over what it has not; and how far another is
+    Row {
+        journal: ROUND,
+        line: "tell 1 0 0 0 1 has 1 view 1 base 0;0.1 3 put 7\n",
+        is_kept: false,
+        text: "known 1 0 0 has 1 view 1\n",
+        later: "",
+    },
+    Row {
+        journal: ROUND,
+        line: "tell 1 0 0 0 2 has 3 view 3 base 0;0.1 3 put 7;0.3 3 put 8\n",
+        is_kept: false,
+        text: "# r0 refused 1 Gap\n",
+        later: "",
+    },
+    Row {
+        journal: ROUND,
+        line: "tell 1 0 0 0 2 has 3 view 3 base 2;0.3 3 put 8\n",
+        is_kept: false,
+        text: "# r0 refused 1 NoBase\n",
+        later: "",
+    },
+    Row {
+        journal: ROUND,
+        line: "known 1 0 0 has 1 view 1\n",
+        is_kept: false,
+        text: "",
+        later: "",
+    },
 ];
 
 // The head of the node's journal.
-const HEAD: &str = "lattice 1 replica 0 of 1 votes 1 commits 0 cap 10 5587c1eefb08da26\n";
+const HEAD: &str = "lattice 2 replica 0 of 1 votes 1 commits 0 cap 10 362792422aa91c16\n";
 
 // A journal with the three lines as one group.
 const ROUND: &str =
-    "lattice 1 replica 0 of 1 votes 1 commits 0 cap 10 5587c1eefb08da26\nsubmit 0 3 put 7\n\
-     offer 1 0 0 0 1 base 0 0 0 0 0 0 0 0;0.1 3 put 7\nyes 1 0 0 0 1\n\
-     ~ 3 5587c1eefb08da26 6518e0c7d86d5258\n";
+    "lattice 2 replica 0 of 1 votes 1 commits 0 cap 10 362792422aa91c16\nsubmit 0 3 put 7\n\
+     offer 1 0 0 0 1 has 0 view 0 base 0;0.1 3 put 7\nyes 1 0 0 0 1 has 1 view 0\n\
+     ~ 3 362792422aa91c16 b303719214ab9962\n";
 
 const ANSWER: &str = "# r0 answered 3 items [7]\n";
 
@@ -121,6 +150,7 @@ fn server_of<D: Disk>(
     Server {
         node: Staged::new(alloc, node),
         shelf,
+        links: Links::new(),
     }
 }
 
@@ -284,7 +314,7 @@ fn is_memory(output: &[u8], told: &[u8]) -> bool {
 
 // The same of a disk in memory that found none, at a start on that journal.
 fn is_disk(output: &[u8], told: &[u8]) -> bool {
-    output.is_empty() && told == b"DiskFault: needs 185 bytes\n".as_slice()
+    output.is_empty() && told == b"DiskFault: needs 197 bytes\n".as_slice()
 }
 
 // A question to a node that starts on its journal.

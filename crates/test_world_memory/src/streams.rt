@@ -9,8 +9,8 @@ use la_io::{Next, Source, SourceFault};
 use la_object::Answer;
 use la_set::Counts;
 use la_wire::{
-    Call, put_answered, put_learnt, put_mail, put_outcome, put_proposed, put_submitted, put_view,
-    read,
+    Call, put_answered, put_known_line, put_learnt, put_letter_line, put_outcome, put_proposed,
+    put_submitted, put_view, read,
 };
 use std::alloc::{AllocError, Global};
 use std::io::Read;
@@ -152,23 +152,39 @@ fn puts_answered(alloc: Global) -> Came {
     put(&out, came, "# r0 answered 1 total -40\n")
 }
 
-// A message with a set.
-const TOLD: &str = "tell 3 0 1 0 5;0.1 3 put 4;0.2 3 remove 0.1 0.2 0.3";
+// A letter with a delta.
+const TOLD: &str = "tell 3 0 1 0 5 has 0,2 view 1 base 1;0.2 3 put 4;0.3 3 remove 0.1 0.2 0.3";
 
-const TOLD_TWICE: &str = "tell 3 0 1 0 5;0.1 3 put 4;0.2 3 remove 0.1 0.2 0.3\n\
-     tell 3 0 1 0 5;0.1 3 put 4;0.2 3 remove 0.1 0.2 0.3\n";
+const TOLD_TWICE: &str =
+    "tell 3 0 1 0 5 has 0,2 view 1 base 1;0.2 3 put 4;0.3 3 remove 0.1 0.2 0.3\n\
+     tell 3 0 1 0 5 has 0,2 view 1 base 1;0.2 3 put 4;0.3 3 remove 0.1 0.2 0.3\n";
 
-fn puts_mail(alloc: Global) -> Came {
+fn puts_letters(alloc: Global) -> Came {
     let Call::Receive(letter) = read(alloc, TOLD.as_bytes()).ok()? else {
         return Some(false);
     };
     let Call::Receive(other) = read(alloc, TOLD.as_bytes()).ok()? else {
         return Some(false);
     };
-    let mail = [letter.message, other.message];
     let mut out = b"=".to_vec(alloc).ok()?;
-    let came = put_mail(&mut out, 3, &mail);
+    let came = match put_letter_line(&mut out, &letter) {
+        Ok(()) => put_letter_line(&mut out, &other),
+        Err(it) => Err(it),
+    };
     put(&out, came, TOLD_TWICE)
+}
+
+const KNOWN: &str = "known 3 1 0 has 0,2 view 1,0,0,0,0,0,0,5";
+
+const KNOWN_LINE: &str = "known 3 1 0 has 0,2 view 1,0,0,0,0,0,0,5\n";
+
+fn puts_known(alloc: Global) -> Came {
+    let Call::Known(standing) = read(alloc, KNOWN.as_bytes()).ok()? else {
+        return Some(false);
+    };
+    let mut out = b"=".to_vec(alloc).ok()?;
+    let came = put_known_line(&mut out, &standing);
+    put(&out, came, KNOWN_LINE)
 }
 
 fn puts(alloc: Global) -> Came {
@@ -187,7 +203,8 @@ fn puts(alloc: Global) -> Came {
                 puts_outcome(alloc, Outcome::Adopt(0), "# r3 outcome 2 adopt 0\n")
             )?
             && again!(alloc, puts_answered(alloc))?
-            && again!(alloc, puts_mail(alloc))?,
+            && again!(alloc, puts_letters(alloc))?
+            && again!(alloc, puts_known(alloc))?,
     )
 }
 

@@ -8,3 +8,4 @@ pub mod Leases
 pub mod Restarts
 pub mod LivePuts
 pub mod Journals
+pub mod Letters

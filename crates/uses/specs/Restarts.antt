@@ -8,15 +8,16 @@ use Rattle.la_wire.specs.Messages.{WireMessage}
 use Rattle.la_wire.specs.Calls.{Receive}
 use Rattle.la_wire.specs.CallLines.{named_call}
 use Rattle.la_durable.specs.CallLines.{CallLine}
-use Rattle.la_durable.specs.Nodes.{replica_message, step}
+use Rattle.la_durable.specs.Nodes.{parcel_of, step}
 use Rattle.la_durable.specs.Restarts.{leads_from}
-use Rattle.la_world.specs.LiveGroups.{AreLive, IsAmong}
+use Rattle.la_world.specs.LiveGroups.{AreLive}
+use Rattle.la_world.specs.LiveParcels.{IsParcelAmong}
 
--- a line that node r may be handed: where it is a message, the network has one that says the same, to r
+-- a line that node r may be handed: where it is a message to r, it is a parcel of one on the network
 abbrev pub IsHanded : (network : List Message) → (r : ℕ) → CallLine → Type 0
 IsHanded network r c =
     (m : WireMessage) → named_call c.line ≡ Some (Receive m) →
-    IsAmong (replica_message m) network × (m.to ≡ r)
+    IsParcelAmong (parcel_of m) network × (m.to ≡ r)
 
 -- Started again on this file it is this node, whatever its journal led to at first: whatever live group it was of
 -- when it last gave something out, and whatever lines it was then handed, of which a crash left the first some, the

@@ -1,83 +1,74 @@
-// A group in one process whose learnt sets go as parcels, each over what its receiver's view is believed to
-// have.
-ghost use Rattle.std.specs.Prelude.{◌≡◌, ◌<◌, [], ◌∷◌, ◌++◌, length, Some, Contains, List};
-ghost use Rattle.std.specs.Prelude.{IfOk, OnOk, OnErr};
+// A group in one process whose messages go as letters, each over what its sender knows of its receiver.
+ghost use Rattle.std.specs.Prelude.{◌≡◌, ◌<◌, [], ◌∷◌, ◌++◌, length, Some, List, IfOk, OnOk, OnErr};
 ghost use Rattle.la_replica.specs.declared.message.Message.{Message as MessageOf};
 ghost use Rattle.la_replica.specs.Parcels.{unwrapped_in, UnwrapsIn};
 ghost use Rattle.la_node.specs.Calls as call;
 ghost use Rattle.la_node.specs.Steps.{Given, node_step};
 ghost use Rattle.la_world.specs.LiveGroups.{AllViewsAreComparable};
-ghost use Rattle.la_world.specs.LiveParcels.{AreLiveBy, AreParcelsAmong};
+ghost use Rattle.la_world.specs.LiveParcels.{AreLiveBy, parcels_of};
+ghost use Rattle.uses.specs.Letters.{TakesAlong};
 
 use crate::groups::form;
-use la_node::{Config, Node, WorldError};
+use la_node::{Config, Letter, Links, Node, WorldError};
 use la_object::{Counter, Replicated};
-use la_replica::{Mail, Message, Parcel, ReplicaError};
-use la_set::{Counts, Op};
+use la_replica::{Mail, Parcel, ReplicaError};
+use la_set::Op;
 use la_world::live;
 use std::alloc::{AllocError, Global};
 use std::collections::VecDeque;
 
-/// Parcels on their way, and of each node what its view is believed to have.
+/// Letters on their way, and what each node knows of the others.
 #[derive(Drop)]
 pub struct Link {
-    /// The parcels, the oldest first.
-    pub parcels: VecDeque<Parcel>,
-    /// What is believed of each node's view, by its number.
-    pub believed: [Counts; 8],
+    /// The letters, the oldest first.
+    pub letters: VecDeque<Letter>,
+    /// What each node knows, by its number.
+    pub links: [Links; 8],
 }
 
 impl Link {
-    /// A link with nothing on its way, which believes nothing of any node.
+    /// A link with nothing on its way, whose nodes know nothing of each other.
     pub fn new(alloc: Global) -> Link
-        ensures { result.parcels.items ≡ [] }
+        ensures { result.letters.items ≡ [] }
     {
         Link {
-            parcels: VecDeque::new(alloc),
-            believed: [Counts::zero(); 8],
+            letters: VecDeque::new(alloc),
+            links: [Links::new(); 8],
         }
     }
 
-    /// What is believed of a node.
-    pub fn belief(&self, node: u8) -> Counts {
-        match self.believed.get(node as usize) {
-            Some(counts) => *counts,
-            None => Counts::zero(),
+    /// What a node knows of the others.
+    pub fn links_of(&self, node: u8) -> Links {
+        match self.links.get(node as usize) {
+            Some(links) => *links,
+            None => Links::new(),
         }
     }
 
-    /// From now on this is believed of a node.
-    pub fn believe(&mut self, node: u8, counts: Counts)
-        ensures { self.new.parcels.items ≡ self.old.parcels.items }
+    /// A node learns by a letter how far its sender is.
+    pub fn hear(&mut self, node: u8, letter: &Letter)
+        ensures { self.new.letters.items ≡ self.old.letters.items }
     {
         if (node as usize) < 8 {
-            self.believed[node as usize] = counts;
+            self.links[node as usize].hear(letter.parcel.from, letter.progress);
         }
     }
 
-    /// Takes mail along, each message as a parcel for what is believed of its receiver. Where memory is
-    /// refused the rest of the mail is lost.
-    pub fn send(&mut self, alloc: Global, mail: Mail) -> Result<(), AllocError>
-        ensures { (network : List MessageOf) → AreParcelsAmong self.old.parcels.items network
-            → AreParcelsAmong self.new.parcels.items (network ++ mail) }
+    /// Takes a node's mail along, as letters over what it knows. Where memory is refused the mail is lost.
+    pub fn send<B: Replicated>(
+        &mut self,
+        alloc: Global,
+        node: &Node<B>,
+        mail: &Mail,
+    ) -> Result<(), AllocError>
+        ensures { TakesAlong self.old.letters.items self.new.letters.items mail.now }
     {
-        let mut messages = VecDeque::new(alloc);
-        mail.hand_to(&mut messages)?;
-        while let Some(message) = messages.pop_front() {
-            self.send_one(message)?;
+        live::letters_tell_what_was_sent();
+        let letters = self.links_of(node.own()).letters(alloc, node, mail)?;
+        self.letters.reserve(letters.len())?;
+        for letter in letters {
+            self.letters.push_back_reserved(letter);
         }
-        Ok(())
-    }
-
-    // The same of one message.
-    fn send_one(&mut self, message: Message) -> Result<(), AllocError>
-        ensures { (network : List MessageOf) → Contains network message
-            → AreParcelsAmong self.old.parcels.items network
-            → AreParcelsAmong self.new.parcels.items network }
-    {
-        let believed = self.belief(message.to);
-        let parcel = Parcel::new(message, believed)?;
-        self.parcels.push_back(parcel)?;
         Ok(())
     }
 }
@@ -92,50 +83,49 @@ pub fn add_at<B: Replicated>(
     link: &mut Link,
 ) -> Result<(), ReplicaError>
     requires { at < length group.old }
-    ensures { AreLiveBy group.old link.old.parcels.items
-        → AreLiveBy group.new link.new.parcels.items }
+    ensures { AreLiveBy group.old (parcels_of link.old.letters.items)
+        → AreLiveBy group.new (parcels_of link.new.letters.items) }
 {
     live::calls_keep_live();
     let out = group[at].submit(1, Op::Inc(by))?;
-    link.send(alloc, out.mail)?;
+    link.send(alloc, &group[at], &out.mail)?;
     Ok(())
 }
 
-/// Delivers the first parcel on the link, if there is one, to the node that it is for. Live nodes stay live,
-/// whatever is refused and whatever was believed.
+/// Delivers the first letter on the link, if there is one, to the node that it is for. Live nodes stay live,
+/// whatever is refused and whatever was known.
 pub fn deliver_next<B: Replicated>(
     alloc: Global,
     group: &mut [Node<B>],
     link: &mut Link,
 ) -> Result<(), ReplicaError>
-    ensures { AreLiveBy group.old link.old.parcels.items
-        → AreLiveBy group.new link.new.parcels.items }
+    ensures { AreLiveBy group.old (parcels_of link.old.letters.items)
+        → AreLiveBy group.new (parcels_of link.new.letters.items) }
 {
-    match link.parcels.pop_front() {
-        Some(parcel) => deliver(alloc, group, parcel, link),
+    match link.letters.pop_front() {
+        Some(letter) => deliver(alloc, group, letter, link),
         None => Ok(()),
     }
 }
 
-// What is believed of its receiver is what its view has afterwards; and nothing, where it refused the parcel.
+// A letter of another group, or for no node here, is lost.
 fn deliver<B: Replicated>(
     alloc: Global,
     group: &mut [Node<B>],
-    parcel: Parcel,
+    letter: Letter,
     link: &mut Link,
 ) -> Result<(), ReplicaError>
-    ensures { AreLiveBy group.old (parcel ∷ link.old.parcels.items)
-        → AreLiveBy group.new link.new.parcels.items }
+    ensures { AreLiveBy group.old (letter.parcel ∷ parcels_of link.old.letters.items)
+        → AreLiveBy group.new (parcels_of link.new.letters.items) }
 {
     live::parcel_receipts_keep_live();
-    let to = parcel.to;
-    if to as usize >= group.len() {
+    let to = letter.parcel.to;
+    if to as usize >= group.len() || group[to as usize].replicas() != letter.replicas {
         return Ok(());
     }
-    link.believe(to, Counts::zero());
-    let mail = mail_by(&mut group[to as usize], parcel)?;
-    link.believe(to, group[to as usize].view().counts());
-    link.send(alloc, mail)?;
+    link.hear(to, &letter);
+    let mail = mail_by(&mut group[to as usize], letter.parcel)?;
+    link.send(alloc, &group[to as usize], &mail)?;
     Ok(())
 }
 
@@ -152,8 +142,8 @@ fn mail_by<B: Replicated>(node: &mut Node<B>, parcel: Parcel) -> Result<Mail, Re
     Ok(done.mail)
 }
 
-/// A group whose nodes each add to a counter, over such a link, until so many parcels are delivered. Of the
-/// views that it ends with any two are comparable, whatever the link believes.
+/// A group whose nodes each add to a counter, over such a link, until so many letters are delivered. Of the
+/// views that it ends with any two are comparable, whatever the nodes know of each other.
 pub fn count_in_parcels(
     alloc: Global,
     config: Config,

@@ -28,6 +28,7 @@ pub fn restart<D: Disk>(
 {
     laws::restarts_take_calls();
     live::unheard_calls_keep_live();
+    live::parcel_receipts_keep_live();
     match recover(alloc, start, found, disk) {
         Ok(durable) => Ok(durable),
         Err((why, _disk)) => Err(why),

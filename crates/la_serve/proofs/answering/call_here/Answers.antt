@@ -4,7 +4,8 @@ use Rattle.la_io.specs.Streams.{AppendsPrefix}
 use Rattle.la_wire.specs.Calls.{called}
 use Rattle.la_serve.specs.declared.error.NodeFault.TheVariants.{WriteFault}
 use Rattle.la_serve.proofs.Taking.{if_err_cut}
-use Rattle.la_serve.proofs.Saying.{ask_taken, tick_taken}
+use Rattle.la_wire.specs.Messages.{letter_message}
+use Rattle.la_serve.proofs.Saying.{ask_taken, tick_taken, back_taken, known_taken}
 use Rattle.la_serve.proofs.answering.call_here.Goals as goal
 
 pub returns-in_ok-put-in-Ask-clause-ok : goal.returns-in_ok-put-in-Ask-clause-ok
@@ -33,3 +34,24 @@ returns-in_err-put-in-Tick-clause-err g c =
     (tick_taken AppendsPrefix c.args.number c.args.input.now _ _ c.said_again-said.result refl refl _
     c.own-in-Tick.ensures c.in_err-put-in-Tick.ensures.err (ap called (sym c.call.ensures.is ∙ c.in-Tick.is))
     c.said_again-said.ensures)
+
+pub returns-in_ok-put-in-Receive-clause-ok : goal.returns-in_ok-put-in-Receive-clause-ok
+returns-in_ok-put-in-Receive-clause-ok g c =
+    back_taken Appends c.args.number c.args.input.now _ _ c.said_back-said.result refl refl _ c.own-in-Receive.ensures
+    c.in_ok-put-in-Receive.ensures.ok (letter_message c.in-Receive.letter)
+    (ap called (sym c.call.ensures.is ∙ c.in-Receive.is)) (sym c.is_stale.ensures ∙ c.if-is_stale.true)
+    c.said_back-said.ensures
+
+pub returns-in_err-put-in-Receive-clause-err : goal.returns-in_err-put-in-Receive-clause-err
+returns-in_err-put-in-Receive-clause-err g c =
+    let f : IfErr c.from_residual-in_err-put-in-Receive.result (λ e. e ≡ WriteFault) = search rules in
+    if_err_cut _ _ _ _ c.from_residual-in_err-put-in-Receive.result f
+    (back_taken AppendsPrefix c.args.number c.args.input.now _ _ c.said_back-said.result refl refl _
+    c.own-in-Receive.ensures c.in_err-put-in-Receive.ensures.err (letter_message c.in-Receive.letter)
+    (ap called (sym c.call.ensures.is ∙ c.in-Receive.is)) (sym c.is_stale.ensures ∙ c.if-is_stale.true)
+    c.said_back-said.ensures)
+
+pub returns-in-Known-clause-ok : goal.returns-in-Known-clause-ok
+returns-in-Known-clause-ok g c =
+    known_taken c.args.input.now c.args.number _ c.in-Known.field-0
+    (ap called (sym c.call.ensures.is ∙ c.in-Known.is))

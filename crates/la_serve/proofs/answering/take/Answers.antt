@@ -15,9 +15,9 @@ use Rattle.la_serve.proofs.answering.take.Goals as goal
 pub returns-in-Ok-clause-ok : goal.returns-in-Ok-clause-ok
 returns-in-Ok-clause-ok g c =
     let out = rw c.in-Taken.is at c.keep.ensures.outcome in
-    take_taken Appends c.args.number c.args.input.now _ _ (given_of c.in-Taken.given) out.0 out.1 _
+    take_taken Appends c.args.number c.args.input.now _ _ (given_of c.in-Taken.given) out.0 out.1 _ _
     (c.deref.ensures.value
-    ∙ same_text _ _ _ (kept_by c.keep.new.node.durable.machine) _ _ (given_of c.in-Taken.given) c.in-Ok.ensures
+    ∙ same_text _ _ _ _ (kept_by c.keep.new.node.durable.machine) _ _ (given_of c.in-Taken.given) c.in-Ok.ensures
     (c.len-before.ensures.len ∙ ap (λ v. length (updates v)) c.view.ensures) (ap called c.call.ensures.is))
     c.in_ok-write_lines-in-Ok.ensures.ok
 
@@ -26,16 +26,16 @@ returns-in_err-write_lines-in-Ok-clause-err g c =
     let out = rw c.in-Taken.is at c.keep.ensures.outcome in
     let f : IfErr c.from_residual.result (λ e. e ≡ WriteFault) = search rules in
     if_err_cut _ _ _ _ c.from_residual.result f
-    (take_taken AppendsPrefix c.args.number c.args.input.now _ _ (given_of c.in-Taken.given) out.0 out.1 _
+    (take_taken AppendsPrefix c.args.number c.args.input.now _ _ (given_of c.in-Taken.given) out.0 out.1 _ _
     (c.deref.ensures.value
-    ∙ same_text _ _ _ (kept_by c.keep.new.node.durable.machine) _ _ (given_of c.in-Taken.given) c.in-Ok.ensures
+    ∙ same_text _ _ _ _ (kept_by c.keep.new.node.durable.machine) _ _ (given_of c.in-Taken.given) c.in-Ok.ensures
     (c.len-before.ensures.len ∙ ap (λ v. length (updates v)) c.view.ensures) (ap called c.call.ensures.is))
     c.in_err-write_lines-in-Ok.ensures.err)
 
 pub returns-in-Taken-clause-err : goal.returns-in-Taken-clause-err
 returns-in-Taken-clause-err g c =
     let out = rw c.in-Taken.is at c.keep.ensures.outcome in
-    take_taken AppendsPrefix c.args.number c.args.input.now _ _ (given_of c.in-Taken.given) out.0 out.1 _ refl
+    take_taken AppendsPrefix c.args.number c.args.input.now _ _ (given_of c.in-Taken.given) out.0 out.1 _ c.args.server.now.links refl
     (0, Appends-nil (g.W.Write.contents c.args.output.now))
 
 pub returns-clause-ok : goal.returns-clause-ok

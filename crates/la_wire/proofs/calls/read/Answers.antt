@@ -17,3 +17,7 @@ returns-in_ok-read_message-in-Some c = search rules
 pub returns-in-None : goal.returns-in-None
 unfolding call_of
 returns-in-None c = search rules
+
+pub returns-in-None-2 : goal.returns-in-None-2
+unfolding call_of
+returns-in-None-2 c = search rules

@@ -10,7 +10,7 @@ pub returns : goal.returns
 returns g c =
     let nodes = c.args.group.now in
     let any = c.index-group-at.result in
-    submitted nodes c.args.link.now.parcels.items c.send.new.self.parcels.items c.args.at (get_or nodes c.args.at any)
+    submitted nodes c.args.link.now.letters.items c.send.new.self.letters.items c.args.at (get_or nodes c.args.at any)
     c.submit.new.self (slice_get-get_or nodes c.args.at any c.requires) (given_out c.in_ok-out.out) c.send.ensures
     c.calls_keep_live.ensures (op_on 1 (Inc c.args.by)) c.in_ok-out.ensures.step
 
@@ -18,6 +18,6 @@ pub returns-in_err-send : goal.returns-in_err-send
 returns-in_err-send g c =
     let nodes = c.args.group.now in
     let any = c.index-group-at.result in
-    submitted nodes c.args.link.now.parcels.items c.send.new.self.parcels.items c.args.at (get_or nodes c.args.at any)
+    submitted nodes c.args.link.now.letters.items c.send.new.self.letters.items c.args.at (get_or nodes c.args.at any)
     c.submit.new.self (slice_get-get_or nodes c.args.at any c.requires) (given_out c.in_ok-out.out) c.send.ensures
     c.calls_keep_live.ensures (op_on 1 (Inc c.args.by)) c.in_ok-out.ensures.step

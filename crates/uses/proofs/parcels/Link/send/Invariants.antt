@@ -1,15 +1,12 @@
-use Rattle.std.proofs.Common.{List, length, Contains, ◌++◌}
-use Rattle.la_replica.specs.declared.message.Message.{Message}
-use Rattle.la_world.specs.LiveParcels.{AreParcelsAmong}
+use Rattle.std.proofs.Common.{◌≡◌, ◌+◌, ◌≤◌, ◌++◌, length}
+use Rattle.std.specs.VecDeque.{deque_len, deque_capacity}
+use Rattle.std.specs.Vec.Iter.{into_iter_items, into_iter_len}
 use Rattle.uses.proofs.parcels.Link.send.Given as goal
 
--- what is left of the mail, and what went along of it
-abbrev pub invariant-loop-message : goal.invariant-loop-message
-invariant-loop-message l = record {
-  left : (m : Message) → Contains l.messages.items m → Contains l.fn.mail m;
-  along : (network : List Message) → AreParcelsAmong l.fn.self.parcels.items network
-      → AreParcelsAmong l.self.parcels.items (network ++ l.fn.mail);
-}
-
-abbrev pub decreases-loop-message : goal.decreases-loop-message
-decreases-loop-message l = length l.messages.items
+-- what was put and what is left are the letters, for which there is room
+abbrev pub invariant-loop-letter : goal.invariant-loop-letter
+invariant-loop-letter g l =
+    let left = into_iter_items l.letter-iterator in
+    (l.self.letters.items ++ left ≡ l.initial.self.letters.items ++ into_iter_items l.initial.letter-iterator)
+    × (deque_len l.self.letters + length left ≤ deque_capacity l.self.letters)
+    × (into_iter_len l.letter-iterator ≡ length left)
